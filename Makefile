@@ -1,0 +1,33 @@
+# What a person does with this repository. Plain `make` prints the targets.
+RT ?= rt
+PROGRAM := crates/rbg_manager
+CRATES := $(wildcard crates/*)
+
+.PHONY: help run build test check fmt clean
+
+help:
+	@echo 'make run    referees the stored match (crates/rbg_manager/stdin), with no proof'
+	@echo 'make build  proves the program and what it stands on, and leaves it as ./rbg'
+	@echo 'make test   the gate: every proof from nothing, the must-fail edits, each test, each program'
+	@echo 'make check  proves what changed since the last check, lowest crates first'
+	@echo 'make fmt    lays out the sources and the proofs'
+	@echo 'make clean  removes what was built'
+
+run:
+	@cd $(PROGRAM) && $(RT) try < stdin
+
+build:
+	cd $(PROGRAM) && $(RT) run < stdin
+	cp $(PROGRAM)/out/rbg_manager rbg
+
+test:
+	$(RT) ci
+
+check:
+	$(RT) all check
+
+fmt:
+	@for crate in $(CRATES); do (cd $$crate && $(RT) fmt) || exit 1; done
+
+clean:
+	rm -rf $(addsuffix /out,$(CRATES)) rbg

@@ -1,0 +1,11 @@
+//! Moves as they are written: a vertex and a position for each modifier, in order.
+#![tactic(auto)]
+
+mod pair;
+mod pairs;
+
+pub use pair::Pair;
+pub use pairs::{MAX_PAIRS, Move};
+
+#[cfg(test)]
+mod tests;
