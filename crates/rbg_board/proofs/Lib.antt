@@ -1,0 +1,13 @@
+pub mod Tables
+pub mod Numbering
+pub mod Vectors
+pub mod Layouts
+pub mod Choices
+pub mod Neighbours
+pub mod RectangleEdges
+pub mod HexagonEdges
+pub mod CellReads
+pub mod Indexing
+pub mod Wirings
+pub mod GraphEdges
+pub mod EdgeLaws

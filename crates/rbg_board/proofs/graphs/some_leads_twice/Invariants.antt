@@ -1,0 +1,9 @@
+use Rattle.std.proofs.Common.{ℕ, ◌<◌, get_or}
+use Rattle.rbg_board.specs.Cells.{AreDifferent}
+use Rattle.rbg_board.specs.Written.{Written, directions_in}
+use Rattle.rbg_board.specs.Vertices.{written_of}
+use Rattle.rbg_board.proofs.graphs.some_leads_twice.Given as goal
+
+-- the directions of each cell so far differ
+abbrev pub invariant-loop-cell : goal.invariant-loop-cell
+invariant-loop-cell l = (k : ℕ) (d : Written) → k < l.cell-index → AreDifferent (directions_in (get_or (written_of l.cells) k d).edges)

@@ -1,0 +1,12 @@
+use Rattle.std.proofs.Common.{◌≡◌, ◌≤◌}
+use Rattle.rbg_board.specs.Cells.{rows_of}
+use Rattle.rbg_board.specs.declared.board.TheConstants.{MAX_VERTICES}
+use Rattle.rbg_board.proofs.Numbering.{start_of}
+use Rattle.rbg_board.proofs.rows.count_cells.Given as goal
+
+-- the cells of the rows so far
+abbrev pub invariant-loop-row : goal.invariant-loop-row
+invariant-loop-row l = record {
+  counted : l.count ≡ start_of (rows_of l.rows) l.row-index;
+  fits : l.count ≤ MAX_VERTICES;
+}

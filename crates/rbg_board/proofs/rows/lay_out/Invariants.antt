@@ -1,0 +1,14 @@
+use Rattle.std.proofs.Common.{◌≡◌, take}
+use Rattle.std.specs.List.{concat}
+use Rattle.rbg_board.specs.Cells.{rows_of}
+use Rattle.rbg_board.specs.Sites.{cells_above}
+use Rattle.rbg_board.proofs.Layouts.{table_of}
+use Rattle.rbg_board.proofs.rows.lay_out.Given as goal
+
+-- the first pieces and the table of the rows so far, and how long the last of them is
+abbrev pub invariant-loop-r : goal.invariant-loop-r
+invariant-loop-r g l = record {
+  first : l.first.items ≡ concat (take l.r (rows_of l.rows));
+  table : l.table.items ≡ table_of (g.S.Shape.leads l.shape) l.width (rows_of l.rows) l.r;
+  above : l.above ≡ cells_above (rows_of l.rows) l.r;
+}

@@ -1,0 +1,128 @@
+-- Hexagons: rows of cells that first grow and then shrink by one cell each, numbered along the rows.
+use Rattle.std.specs.Prelude.{◌≡◌, ℕ, zero, suc, ◌+◌, ◌<◌, ◌≤◌, ◌⊎◌, List, length, slice_index}
+use Rattle.std.specs.List.{concat}
+use Rattle.rbg_board.specs.Graph.{Graph, IsGraphOf}
+use Rattle.rbg_board.specs.Cells.{Rows, cells_in, IsCell, number_along, HasTwice, AreDifferent}
+use Rattle.rbg_board.specs.declared.error.BoardError.{BoardError}
+use Rattle.rbg_board.specs.declared.error.BoardError.TheVariants.{NoCell, RowLength, TooManyVertices, SameDirection, UnknownVertex, SameVertex, Memory}
+use Rattle.rbg_board.specs.declared.board.TheConstants.{MAX_VERTICES}
+
+-- the corners of the compass, in the order in which their directions are written
+pub data Compass : Type 0 where
+  NorthWest : Compass
+  NorthEast : Compass
+  East : Compass
+  SouthEast : Compass
+  SouthWest : Compass
+  West : Compass
+
+abbrev pub compass_opposite : Compass → Compass
+compass_opposite NorthWest = SouthEast
+compass_opposite NorthEast = SouthWest
+compass_opposite East = West
+compass_opposite SouthEast = NorthWest
+compass_opposite SouthWest = NorthEast
+compass_opposite West = East
+
+-- the direction that leads that way
+abbrev pub compass_direction : List ℕ → Compass → ℕ
+compass_direction directions NorthWest = slice_index directions 0
+compass_direction directions NorthEast = slice_index directions 1
+compass_direction directions East = slice_index directions 2
+compass_direction directions SouthEast = slice_index directions 3
+compass_direction directions SouthWest = slice_index directions 4
+compass_direction directions West = slice_index directions 5
+
+-- the row after r is longer by one cell
+abbrev pub Grows : Rows → ℕ → Type 0
+Grows rows r = cells_in rows (r + 1) ≡ cells_in rows r + 1
+
+-- the row after r is shorter by one cell
+abbrev pub Shrinks : Rows → ℕ → Type 0
+Shrinks rows r = cells_in rows r ≡ cells_in rows (r + 1) + 1
+
+-- South-west of the cell c lies the cell c of a longer next row, and the cell c - 1 of a shorter one.
+abbrev pub SouthWestStep : Rows → ℕ → ℕ → ℕ → ℕ → Type 0
+SouthWestStep rows r c r' c' = (r' ≡ r + 1) × ((Grows rows r × (c' ≡ c)) ⊎ (Shrinks rows r × (c ≡ c' + 1)))
+
+-- South-east of the cell c lies the cell c + 1 of a longer next row, and the cell c of a shorter one.
+abbrev pub SouthEastStep : Rows → ℕ → ℕ → ℕ → ℕ → Type 0
+SouthEastStep rows r c r' c' = (r' ≡ r + 1) × ((Grows rows r × (c' ≡ c + 1)) ⊎ (Shrinks rows r × (c' ≡ c)))
+
+-- one step that way, from the cell c of the row r to the cell c' of the row r'
+abbrev pub CompassStep : Rows → Compass → ℕ → ℕ → ℕ → ℕ → Type 0
+CompassStep rows NorthWest r c r' c' = SouthEastStep rows r' c' r c
+CompassStep rows NorthEast r c r' c' = SouthWestStep rows r' c' r c
+CompassStep rows East r c r' c' = (r' ≡ r) × (c' ≡ c + 1)
+CompassStep rows SouthEast r c r' c' = SouthEastStep rows r c r' c'
+CompassStep rows SouthWest r c r' c' = SouthWestStep rows r c r' c'
+CompassStep rows West r c r' c' = (r' ≡ r) × (c ≡ c' + 1)
+
+-- the vertex u is that of the next cell, that way, from the cell of the vertex v
+pub record IsNextCell (rows : Rows) (way : Compass) (v u : ℕ) : Type 0 where
+  pub row : ℕ
+  pub cell : ℕ
+  pub to_row : ℕ
+  pub to_cell : ℕ
+  pub step : CompassStep rows way row cell to_row to_cell
+  pub is_cell : IsCell rows row cell
+  pub is_to_cell : IsCell rows to_row to_cell
+  pub number : v ≡ number_along rows row cell
+  pub to_number : u ≡ number_along rows to_row to_cell
+
+-- the edges of a hexagon: the direction d leads from the vertex v to the vertex u
+pub record HexagonEdge (directions : List ℕ) (rows : Rows) (v d u : ℕ) : Type 0 where
+  pub way : Compass
+  pub direction : d ≡ compass_direction directions way
+  pub next_cell : IsNextCell rows way v u
+
+-- the board of a hexagon: its first pieces along the rows, and its edges
+abbrev pub IsHexagon : List ℕ → Rows → Graph → Type 0
+IsHexagon directions rows board = IsGraphOf board (concat rows) (HexagonEdge directions rows)
+
+-- no row before r is longer than the row after it
+abbrev pub NoneShrinksBefore : Rows → ℕ → Type 0
+NoneShrinksBefore rows r = (k : ℕ) → k < r → cells_in rows k ≤ cells_in rows (k + 1)
+
+-- the row r fits the rows above it: it is shorter by one cell than the row before it, or longer by one cell where no
+-- earlier row was longer than the row after it
+abbrev pub FitsAbove : Rows → ℕ → Type 0
+FitsAbove rows zero = Unit {0}
+FitsAbove rows (suc r) = Shrinks rows r ⊎ (Grows rows r × NoneShrinksBefore rows r)
+
+-- there is a row, and each row has a cell
+pub record HasCells (rows : Rows) : Type 0 where
+  pub some_row : 0 < length rows
+  pub each_row : (r : ℕ) → r < length rows → 0 < cells_in rows r
+
+-- there is no row, or a row has no cell
+abbrev pub LacksCell : Rows → Type 0
+LacksCell rows = (length rows ≡ 0) ⊎ ((r : ℕ) × (r < length rows) × (cells_in rows r ≡ 0))
+
+-- the rows first grow and then shrink
+abbrev pub GrowsThenShrinks : Rows → Type 0
+GrowsThenShrinks rows = (r : ℕ) → r < length rows → FitsAbove rows r
+
+-- the row r is the first that does not fit the rows above it
+pub record IsFirstMisfit (rows : Rows) (r : ℕ) : Type 0 where
+  pub is_row : r < length rows
+  pub misfits : ¬ FitsAbove rows r
+  pub fits_before : (k : ℕ) → k < r → FitsAbove rows k
+
+-- rows of a hexagon, and six directions, that nothing is wrong with
+pub record MakesHexagon (directions : List ℕ) (rows : Rows) : Type 0 where
+  pub cells : HasCells rows
+  pub grows_then_shrinks : GrowsThenShrinks rows
+  pub fits : length (concat rows) ≤ MAX_VERTICES
+  pub different : AreDifferent directions
+
+-- What a refusal says of the arguments: the fault that it names stands, and none that is looked for earlier does.
+-- Want of memory is met only where no fault stands.
+unfoldable pub HexagonRefusal : List ℕ → Rows → BoardError → Type 0
+HexagonRefusal directions rows NoCell = LacksCell rows
+HexagonRefusal directions rows (RowLength row) = HasCells rows × IsFirstMisfit rows row
+HexagonRefusal directions rows TooManyVertices = HasCells rows × GrowsThenShrinks rows × (MAX_VERTICES < length (concat rows))
+HexagonRefusal directions rows SameDirection = HasCells rows × GrowsThenShrinks rows × (length (concat rows) ≤ MAX_VERTICES) × HasTwice directions
+HexagonRefusal directions rows UnknownVertex = ⊥
+HexagonRefusal directions rows SameVertex = ⊥
+HexagonRefusal directions rows Memory = MakesHexagon directions rows

@@ -1,0 +1,11 @@
+pub mod Graph
+pub mod Table
+pub mod Cells
+pub mod Sites
+pub mod Shapes
+pub mod Rectangle
+pub mod Hexagon
+pub mod Written
+pub mod Vertices
+pub mod Wiring
+pub mod Laws

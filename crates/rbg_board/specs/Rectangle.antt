@@ -1,0 +1,93 @@
+-- Rectangles: rows of cells, all of one length. The cell c of the row r is the vertex r * n + c, where n is that length.
+use Rattle.std.specs.Prelude.{◌≡◌, ◌≢◌, ℕ, ◌+◌, ◌*◌, ◌<◌, ◌≤◌, List, length, slice_index}
+use Rattle.std.specs.List.{concat}
+use Rattle.rbg_board.specs.Graph.{Graph, IsGraphOf}
+use Rattle.rbg_board.specs.Cells.{Rows, cells_in, IsCell, HasTwice, AreDifferent}
+use Rattle.rbg_board.specs.declared.error.BoardError.{BoardError}
+use Rattle.rbg_board.specs.declared.error.BoardError.TheVariants.{NoCell, RowLength, TooManyVertices, SameDirection, UnknownVertex, SameVertex, Memory}
+use Rattle.rbg_board.specs.declared.board.TheConstants.{MAX_VERTICES}
+
+-- the sides of a cell, in the order in which their directions are written
+pub data RectangleSide : Type 0 where
+  Up : RectangleSide
+  Down : RectangleSide
+  Left : RectangleSide
+  Right : RectangleSide
+
+abbrev pub side_opposite : RectangleSide → RectangleSide
+side_opposite Up = Down
+side_opposite Down = Up
+side_opposite Left = Right
+side_opposite Right = Left
+
+-- the direction that leads out of that side
+abbrev pub side_direction : List ℕ → RectangleSide → ℕ
+side_direction directions Up = slice_index directions 0
+side_direction directions Down = slice_index directions 1
+side_direction directions Left = slice_index directions 2
+side_direction directions Right = slice_index directions 3
+
+-- one step out of that side, from the cell c of the row r to the cell c' of the row r'
+abbrev pub SideStep : RectangleSide → ℕ → ℕ → ℕ → ℕ → Type 0
+SideStep Up r c r' c' = (r ≡ r' + 1) × (c' ≡ c)
+SideStep Down r c r' c' = (r' ≡ r + 1) × (c' ≡ c)
+SideStep Left r c r' c' = (r' ≡ r) × (c ≡ c' + 1)
+SideStep Right r c r' c' = (r' ≡ r) × (c' ≡ c + 1)
+
+-- the vertex u is that of the cell beside the cell of the vertex v, on that side
+pub record IsBeside (rows : Rows) (side : RectangleSide) (v u : ℕ) : Type 0 where
+  pub row : ℕ
+  pub cell : ℕ
+  pub to_row : ℕ
+  pub to_cell : ℕ
+  pub step : SideStep side row cell to_row to_cell
+  pub is_cell : IsCell rows row cell
+  pub is_to_cell : IsCell rows to_row to_cell
+  pub number : v ≡ row * cells_in rows 0 + cell
+  pub to_number : u ≡ to_row * cells_in rows 0 + to_cell
+
+-- the edges of a rectangle: the direction d leads from the vertex v to the vertex u
+pub record RectangleEdge (directions : List ℕ) (rows : Rows) (v d u : ℕ) : Type 0 where
+  pub side : RectangleSide
+  pub direction : d ≡ side_direction directions side
+  pub beside : IsBeside rows side v u
+
+-- the board of a rectangle: its first pieces along the rows, and its edges
+abbrev pub IsRectangle : List ℕ → Rows → Graph → Type 0
+IsRectangle directions rows board = IsGraphOf board (concat rows) (RectangleEdge directions rows)
+
+-- every row is as long as the first
+abbrev pub IsEven : Rows → Type 0
+IsEven rows = (r : ℕ) → r < length rows → cells_in rows r ≡ cells_in rows 0
+
+-- the row r is the first that is not as long as row 0
+pub record IsFirstUneven (rows : Rows) (r : ℕ) : Type 0 where
+  pub is_row : r < length rows
+  pub uneven : cells_in rows r ≢ cells_in rows 0
+  pub even_before : (k : ℕ) → k < r → cells_in rows k ≡ cells_in rows 0
+
+-- there is a row, and row 0 has a cell
+abbrev pub HasFirstCell : Rows → Type 0
+HasFirstCell rows = IsCell rows 0 0
+
+-- there is no row, or row 0 has no cell
+abbrev pub LacksFirstCell : Rows → Type 0
+LacksFirstCell rows = cells_in rows 0 ≡ 0
+
+-- rows of a rectangle, and four directions, that nothing is wrong with
+pub record MakesRectangle (directions : List ℕ) (rows : Rows) : Type 0 where
+  pub first_cell : HasFirstCell rows
+  pub even : IsEven rows
+  pub fits : length (concat rows) ≤ MAX_VERTICES
+  pub different : AreDifferent directions
+
+-- What a refusal says of the arguments: the fault that it names stands, and none that is looked for earlier does.
+-- Want of memory is met only where no fault stands.
+unfoldable pub RectangleRefusal : List ℕ → Rows → BoardError → Type 0
+RectangleRefusal directions rows NoCell = LacksFirstCell rows
+RectangleRefusal directions rows (RowLength row) = HasFirstCell rows × IsFirstUneven rows row
+RectangleRefusal directions rows TooManyVertices = HasFirstCell rows × IsEven rows × (MAX_VERTICES < length (concat rows))
+RectangleRefusal directions rows SameDirection = HasFirstCell rows × IsEven rows × (length (concat rows) ≤ MAX_VERTICES) × HasTwice directions
+RectangleRefusal directions rows UnknownVertex = ⊥
+RectangleRefusal directions rows SameVertex = ⊥
+RectangleRefusal directions rows Memory = MakesRectangle directions rows

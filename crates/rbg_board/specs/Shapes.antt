@@ -1,0 +1,124 @@
+-- Where each direction leads from a site of a rectangle and of a hexagon.
+use Rattle.std.specs.Prelude.{ℕ, zero, suc, ◌+◌, ◌-◌, ◌<◌, ◌≤◌, List, [], ◌∷◌, Option, Some, None, IfSome, if◌then◌else◌, ◌==◌, nat_lt, slice_index}
+use Rattle.std.proofs.Common.{arith}
+use Rattle.std.proofs.lemmas.Bool.{cond_both, ltb-true}
+use Rattle.rbg_board.specs.Sites.{IsRow, IsSite, vertex_above, vertex_here, vertex_below}
+use Rattle.rbg_board.specs.declared.rows.Site.{Site}
+
+-- the cell before a cell, if there is one
+abbrev pub cell_before : ℕ → Option ℕ
+cell_before zero = None
+cell_before (suc c) = Some c
+
+-- the vertex at a cell that may be none
+abbrev pub at_cell : (ℕ → Option ℕ) → Option ℕ → Option ℕ
+at_cell vertex None = None
+at_cell vertex (Some c) = vertex c
+
+-- the vertex that stands beside the first direction that is d
+abbrev pub choose : List ℕ → List (Option ℕ) → ℕ → Option ℕ
+choose [] vertices d = None
+choose (k ∷ ks) [] d = None
+choose (k ∷ ks) (vertex ∷ vertices) d = if d == k then vertex else choose ks vertices d
+
+-- the first numbers of a list
+abbrev pub first_four : List ℕ → List ℕ
+first_four xs = slice_index xs 0 ∷ slice_index xs 1 ∷ slice_index xs 2 ∷ slice_index xs 3 ∷ []
+
+abbrev pub first_six : List ℕ → List ℕ
+first_six xs = slice_index xs 0 ∷ slice_index xs 1 ∷ slice_index xs 2 ∷ slice_index xs 3 ∷ slice_index xs 4 ∷ slice_index xs 5 ∷ []
+
+-- the vertices above, below, left and right of a site
+abbrev pub rectangle_vertices : Site → List (Option ℕ)
+rectangle_vertices site = vertex_above site site.cell ∷ vertex_below site site.cell ∷ at_cell (vertex_here site) (cell_before site.cell) ∷ vertex_here site (site.cell + 1) ∷ []
+
+-- where the four directions lead
+unfoldable pub rectangle_leads : List ℕ → Site → ℕ → Option ℕ
+rectangle_leads directions site d = choose (first_four directions) (rectangle_vertices site) d
+
+-- In a row of so many cells above or below a hexagon's site, the cell to the left and the cell to the right. In a longer
+-- row the cell to the left has the number of the site's cell, in a shorter row the one to the right.
+unfoldable pub cell_left : Site → ℕ → Option ℕ
+cell_left site cells = if nat_lt site.here cells then Some site.cell else cell_before site.cell
+
+unfoldable pub cell_right : Site → ℕ → ℕ
+cell_right site cells = if nat_lt site.here cells then site.cell + 1 else site.cell
+
+-- the vertices north-west, north-east, east, south-east, south-west and west of a site
+abbrev pub hexagon_vertices : Site → List (Option ℕ)
+hexagon_vertices site =
+    at_cell (vertex_above site) (cell_left site site.above)
+    ∷ vertex_above site (cell_right site site.above)
+    ∷ vertex_here site (site.cell + 1)
+    ∷ vertex_below site (cell_right site site.below)
+    ∷ at_cell (vertex_below site) (cell_left site site.below)
+    ∷ at_cell (vertex_here site) (cell_before site.cell)
+    ∷ []
+
+-- where the six directions lead
+unfoldable pub hexagon_leads : List ℕ → Site → ℕ → Option ℕ
+hexagon_leads directions site d = choose (first_six directions) (hexagon_vertices site) d
+
+-- a vertex that may be none, and is below a limit if there is one
+abbrev IsBelow : ℕ → Option ℕ → Type 0
+IsBelow limit vertex = IfSome vertex (λ u. u < limit)
+
+abbrev AllBelow : ℕ → List (Option ℕ) → Type 0
+AllBelow limit [] = Unit {0}
+AllBelow limit (vertex ∷ vertices) = IsBelow limit vertex × AllBelow limit vertices
+
+choose_below : (limit : ℕ) (ks : List ℕ) (vertices : List (Option ℕ)) (d : ℕ) → AllBelow limit vertices → IsBelow limit (choose ks vertices d)
+choose_below limit [] vertices d below = tt
+choose_below limit (k ∷ ks) [] d below = tt
+choose_below limit (k ∷ ks) (vertex ∷ vertices) d below = cond_both (d == k) vertex (choose ks vertices d) (IsBelow limit) (λ _. below.0) (λ _. choose_below limit ks vertices d below.1)
+
+-- one of so many vertices from a start on, which end below the limit
+within : (limit start c size : ℕ) → start + size ≤ limit → IsBelow limit (if nat_lt c size then Some (start + c) else None)
+within limit start c size fits = cond_both (nat_lt c size) (Some (start + c)) None (IsBelow limit) (λ test. let below : c < size = ltb-true c size test in omega arith) (λ _. tt)
+
+at_cell_below : (limit : ℕ) (vertex : ℕ → Option ℕ) (cell : Option ℕ) → ((c : ℕ) → IsBelow limit (vertex c)) → IsBelow limit (at_cell vertex cell)
+at_cell_below limit vertex None each = tt
+at_cell_below limit vertex (Some c) each = each c
+
+module _ (site : Site) (limit : ℕ) (row : IsRow site limit) where
+  above_below : (c : ℕ) → IsBelow limit (vertex_above site c)
+  unfolding vertex_above
+  above_below c = within limit (site.start - site.above) c site.above (omega (arith, row.after_above, row.within))
+
+  here_below : (c : ℕ) → IsBelow limit (vertex_here site c)
+  unfolding vertex_here
+  here_below c = within limit site.start c site.here (omega (arith, row.within))
+
+  below_below : (c : ℕ) → IsBelow limit (vertex_below site c)
+  unfolding vertex_below
+  below_below c = within limit (site.start + site.here) c site.below (omega (arith, row.within))
+
+  rectangle_below : AllBelow limit (rectangle_vertices site)
+  rectangle_below = (above_below site.cell, (below_below site.cell, (at_cell_below limit (vertex_here site) (cell_before site.cell) here_below, (here_below (site.cell + 1), tt))))
+
+  hexagon_below : AllBelow limit (hexagon_vertices site)
+  hexagon_below = (
+    at_cell_below limit (vertex_above site) (cell_left site site.above) above_below,
+    (
+      above_below (cell_right site site.above),
+      (
+        here_below (site.cell + 1),
+        (
+          below_below (cell_right site site.below),
+          (
+            at_cell_below limit (vertex_below site) (cell_left site site.below) below_below,
+            (at_cell_below limit (vertex_here site) (cell_before site.cell) here_below, tt),
+          ),
+        ),
+      ),
+    ),
+  )
+
+-- no direction leads past the limit
+pub rectangle_leads_within : (directions : List ℕ) (site : Site) (d limit : ℕ) → IsSite site limit → IfSome (rectangle_leads directions site d) (λ u. u < limit)
+unfolding rectangle_leads
+rectangle_leads_within directions site d limit is_site = choose_below limit (first_four directions) (rectangle_vertices site) d (rectangle_below site limit is_site.row)
+
+pub hexagon_leads_within : (directions : List ℕ) (site : Site) (d limit : ℕ) → IsSite site limit → IfSome (hexagon_leads directions site d) (λ u. u < limit)
+unfolding hexagon_leads
+hexagon_leads_within directions site d limit is_site = choose_below limit (first_six directions) (hexagon_vertices site) d (hexagon_below site limit is_site.row)

@@ -1,0 +1,42 @@
+//! Why a board is refused.
+ghost use Rattle.std.specs.Prelude.{◌≡◌};
+ghost use Rattle.rbg_board.specs.declared.error.BoardError.TheVariants.{Memory};
+
+use std::alloc::{AllocError, AllocFailed};
+use thiserror::Error;
+
+/// Why a generator refuses its arguments. The faults are looked for in the order that the generator tells.
+#[derive(Clone, Copy, Debug, PartialEq, Eq, Error)]
+pub enum BoardError {
+    #[error("the board has no cell")]
+    NoCell,
+    /// The first row, counted from 0, whose length breaks the rule of the board.
+    #[error("row {row} has the wrong length")]
+    RowLength { row: usize },
+    #[error("the board has too many vertices")]
+    TooManyVertices,
+    #[error("one direction leads two ways")]
+    SameDirection,
+    #[error("an edge leads to a vertex that is not there")]
+    UnknownVertex,
+    #[error("two vertices have one name")]
+    SameVertex,
+    #[error("out of memory")]
+    Memory,
+}
+
+impl From<AllocError> for BoardError {
+    ghost from_gives = { λ _ error. error ≡ Memory };
+
+    fn from(_error: AllocError) -> BoardError {
+        BoardError::Memory
+    }
+}
+
+impl<T: Drop> From<AllocFailed<T>> for BoardError {
+    ghost from_gives = { λ _ error. error ≡ Memory };
+
+    fn from(_error: AllocFailed<T>) -> BoardError {
+        BoardError::Memory
+    }
+}

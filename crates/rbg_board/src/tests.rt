@@ -1,0 +1,333 @@
+//! Worked boards, and refusals alone and in pairs.
+use super::*;
+use std::alloc::{AllocError, Global};
+use std::process::Abort;
+use std::test::Fail;
+
+/// Rows of these lengths, whose pieces are numbered along the rows.
+fn rows_of(alloc: Global, lengths: &[u16]) -> Result<Vec<Vec<u16>>, AllocError> {
+    let mut rows = Vec::new(alloc);
+    let mut piece = 0u16;
+    for length in lengths {
+        let mut row = Vec::new(alloc);
+        for _ in 0..*length {
+            row.push(piece)?;
+            piece = piece.wrapping_add(1);
+        }
+        rows.push(row)?;
+    }
+    Ok(rows)
+}
+
+/// The answer of `rectangle` for rows of these lengths.
+fn rectangle_of(alloc: Global, directions: [u16; 4], lengths: &[u16]) -> Result<Board, BoardError> {
+    let rows = rows_of(alloc, lengths)?;
+    rectangle(alloc, directions, &rows)
+}
+
+/// The answer of `hexagon` for rows of these lengths.
+fn hexagon_of(alloc: Global, directions: [u16; 6], lengths: &[u16]) -> Result<Board, BoardError> {
+    let rows = rows_of(alloc, lengths)?;
+    hexagon(alloc, directions, &rows)
+}
+
+/// A cell with these edges.
+fn cell(alloc: Global, name: u32, piece: u16, edges: &[(u16, u32)]) -> Result<Cell, AllocError> {
+    let edges = Vec::from_slice(alloc, edges)?;
+    Ok(Cell { name, piece, edges })
+}
+
+/// So many cells without edges, named from 0 on.
+fn bare_cells(alloc: Global, count: u32) -> Result<Vec<Cell>, AllocError> {
+    let mut cells = Vec::new(alloc);
+    for name in 0..count {
+        cells.push(cell(alloc, name, 0, &[])?)?;
+    }
+    Ok(cells)
+}
+
+/// Where the directions from 0 on lead from a vertex.
+fn assert_leads(rt: &impl Abort, board: &Board, vertex: u16, targets: &[Option<u16>]) {
+    assert!(rt; (vertex as usize) < board.len(), "vertex {vertex}");
+    for (direction, target) in targets.iter().enumerate() {
+        assert!(rt; direction < 64);
+        assert_eq!(rt;
+            board.step(vertex, direction as u16),
+            *target,
+            "vertex {vertex}, direction {direction}"
+        );
+    }
+}
+
+/// The pieces along the rows are those that `rows_of` numbers.
+fn assert_numbered(rt: &impl Abort, board: &Board) {
+    for vertex in 0..board.len() {
+        assert_eq!(rt; board.piece_at_start(vertex as u16) as usize, vertex);
+    }
+}
+
+#[test]
+fn a_rectangle_leads_to_the_four_sides(rt: HostRuntime) -> Result<(), Fail> {
+    let board = rectangle_of(rt.alloc(), [0, 1, 2, 3], &[3, 3])?;
+    assert_eq!(rt; board.len(), 6);
+    assert_numbered(&rt, &board);
+    // up, down, left, right, and a direction that is no one's
+    assert_leads(&rt, &board, 0, &[None, Some(3), None, Some(1), None]);
+    assert_leads(&rt, &board, 1, &[None, Some(4), Some(0), Some(2), None]);
+    assert_leads(&rt, &board, 2, &[None, Some(5), Some(1), None, None]);
+    assert_leads(&rt, &board, 3, &[Some(0), None, None, Some(4), None]);
+    assert_leads(&rt, &board, 5, &[Some(2), None, Some(4), None, None]);
+    Ok(())
+}
+
+#[test]
+fn a_rectangle_of_one_cell_leads_nowhere(rt: HostRuntime) -> Result<(), Fail> {
+    let board = rectangle_of(rt.alloc(), [9, 7, 5, 3], &[1])?;
+    assert_eq!(rt; board.len(), 1);
+    assert_leads(&rt, &board, 0, &[None; 12]);
+    assert!(rt; 0 < board.len());
+    assert_eq!(rt; board.step(0, u16::MAX), None);
+    Ok(())
+}
+
+#[test]
+fn a_hexagon_leads_to_the_six_corners(rt: HostRuntime) -> Result<(), Fail> {
+    let board = hexagon_of(rt.alloc(), [0, 1, 2, 3, 4, 5], &[2, 3, 2])?;
+    assert_eq!(rt; board.len(), 7);
+    assert_numbered(&rt, &board);
+    // north-west, north-east, east, south-east, south-west, west
+    assert_leads(
+        &rt,
+        &board,
+        3,
+        &[Some(0), Some(1), Some(4), Some(6), Some(5), Some(2)],
+    );
+    assert_leads(
+        &rt,
+        &board,
+        2,
+        &[None, Some(0), Some(3), Some(5), None, None],
+    );
+    assert_leads(
+        &rt,
+        &board,
+        0,
+        &[None, None, Some(1), Some(3), Some(2), None],
+    );
+    assert_leads(
+        &rt,
+        &board,
+        6,
+        &[Some(3), Some(4), None, None, None, Some(5)],
+    );
+    Ok(())
+}
+
+#[test]
+fn a_hexagon_may_only_grow_or_only_shrink(rt: HostRuntime) -> Result<(), Fail> {
+    let growing = hexagon_of(rt.alloc(), [0, 1, 2, 3, 4, 5], &[1, 2, 3])?;
+    assert_leads(
+        &rt,
+        &growing,
+        0,
+        &[None, None, None, Some(2), Some(1), None],
+    );
+    assert_leads(
+        &rt,
+        &growing,
+        4,
+        &[Some(1), Some(2), Some(5), None, None, Some(3)],
+    );
+    let shrinking = hexagon_of(rt.alloc(), [0, 1, 2, 3, 4, 5], &[3, 2, 1])?;
+    assert_leads(
+        &rt,
+        &shrinking,
+        1,
+        &[None, None, Some(2), Some(4), Some(3), Some(0)],
+    );
+    assert_leads(
+        &rt,
+        &shrinking,
+        5,
+        &[Some(3), Some(4), None, None, None, None],
+    );
+    Ok(())
+}
+
+#[test]
+fn a_graph_has_the_edges_that_are_written(rt: HostRuntime) -> Result<(), Fail> {
+    let alloc = rt.alloc();
+    let mut cells = Vec::new(alloc);
+    cells.push(cell(alloc, 70, 4, &[(0, 50), (2, 70)])?)?;
+    cells.push(cell(alloc, 50, 6, &[(1, 70)])?)?;
+    cells.push(cell(alloc, 60, 4, &[])?)?;
+    let board = graph(alloc, &cells)?;
+    assert_eq!(rt; board.len(), 3);
+    assert_leads(&rt, &board, 0, &[Some(1), None, Some(0), None]);
+    assert_leads(&rt, &board, 1, &[None, Some(0), None, None]);
+    assert_leads(&rt, &board, 2, &[None, None, None, None]);
+    assert!(rt; 1 < board.len());
+    assert_eq!(rt; board.piece_at_start(1), 6);
+    Ok(())
+}
+
+#[test]
+fn a_board_has_at_most_1024_vertices(rt: HostRuntime) -> Result<(), Fail> {
+    let alloc = rt.alloc();
+    assert_eq!(rt; rectangle_of(alloc, [0, 1, 2, 3], &[32; 32])?.len(), 1024);
+    assert_eq!(rt;
+        rectangle_of(alloc, [0, 1, 2, 3], &[41; 25]).err(),
+        Some(BoardError::TooManyVertices)
+    );
+    assert_eq!(rt;
+        hexagon_of(alloc, [0, 1, 2, 3, 4, 5], &[512, 511])?.len(),
+        1023
+    );
+    assert_eq!(rt;
+        hexagon_of(alloc, [0, 1, 2, 3, 4, 5], &[513, 512]).err(),
+        Some(BoardError::TooManyVertices)
+    );
+    assert_eq!(rt; graph(alloc, &bare_cells(alloc, 1024)?)?.len(), 1024);
+    assert_eq!(rt;
+        graph(alloc, &bare_cells(alloc, 1025)?).err(),
+        Some(BoardError::TooManyVertices)
+    );
+    Ok(())
+}
+
+#[test]
+fn a_rectangle_names_its_first_fault(rt: HostRuntime) -> Result<(), Fail> {
+    let alloc = rt.alloc();
+    let uneven = BoardError::RowLength { row: 1 };
+    for (directions, lengths, error) in [
+        ([0, 1, 2, 3], [].as_slice(), BoardError::NoCell),
+        ([0, 1, 2, 3], [0, 0].as_slice(), BoardError::NoCell),
+        ([0, 1, 2, 3], [0, 1].as_slice(), BoardError::NoCell),
+        ([0, 1, 2, 0], [0, 2000].as_slice(), BoardError::NoCell),
+        ([0, 1, 2, 3], [2, 3, 1].as_slice(), uneven),
+        ([0, 1, 2, 3], [2, 0].as_slice(), uneven),
+        ([0, 1, 2, 3], [2000, 1].as_slice(), uneven),
+        ([0, 1, 1, 3], [2, 1].as_slice(), uneven),
+        ([0, 1, 2, 3], [1025].as_slice(), BoardError::TooManyVertices),
+        ([0, 0, 2, 3], [1025].as_slice(), BoardError::TooManyVertices),
+        ([4, 1, 2, 4], [1].as_slice(), BoardError::SameDirection),
+    ] {
+        assert_eq!(rt;
+            rectangle_of(alloc, directions, lengths).err(),
+            Some(error),
+            "lengths {lengths:?}"
+        );
+    }
+    Ok(())
+}
+
+#[test]
+fn a_hexagon_names_its_first_fault(rt: HostRuntime) -> Result<(), Fail> {
+    let alloc = rt.alloc();
+    let right = [0, 1, 2, 3, 4, 5];
+    let wrong = [0, 1, 2, 3, 1, 5];
+    for (directions, lengths, error) in [
+        (right, [].as_slice(), BoardError::NoCell),
+        (right, [2, 1, 0].as_slice(), BoardError::NoCell),
+        (right, [1, 1, 0].as_slice(), BoardError::NoCell),
+        (right, [2000, 0].as_slice(), BoardError::NoCell),
+        (wrong, [0].as_slice(), BoardError::NoCell),
+        (right, [1, 1].as_slice(), BoardError::RowLength { row: 1 }),
+        (right, [1, 3].as_slice(), BoardError::RowLength { row: 1 }),
+        (
+            right,
+            [2, 1, 2].as_slice(),
+            BoardError::RowLength { row: 2 },
+        ),
+        (
+            right,
+            [2, 3, 2, 3, 9].as_slice(),
+            BoardError::RowLength { row: 3 },
+        ),
+        (
+            right,
+            [2000, 1].as_slice(),
+            BoardError::RowLength { row: 1 },
+        ),
+        (wrong, [1, 1].as_slice(), BoardError::RowLength { row: 1 }),
+        (right, [1025].as_slice(), BoardError::TooManyVertices),
+        (wrong, [1025].as_slice(), BoardError::TooManyVertices),
+        (wrong, [1, 2].as_slice(), BoardError::SameDirection),
+    ] {
+        assert_eq!(rt;
+            hexagon_of(alloc, directions, lengths).err(),
+            Some(error),
+            "lengths {lengths:?}"
+        );
+    }
+    Ok(())
+}
+
+#[test]
+fn a_graph_names_its_first_fault(rt: HostRuntime) -> Result<(), Fail> {
+    let alloc = rt.alloc();
+    let plain: (u32, &[(u16, u32)]) = (1, &[]);
+    let same_name: (u32, &[(u16, u32)]) = (1, &[(0, 1)]);
+    let same_direction: (u32, &[(u16, u32)]) = (2, &[(3, 1), (4, 2), (3, 2)]);
+    let unknown: (u32, &[(u16, u32)]) = (3, &[(0, 9)]);
+    for (written, error) in [
+        ([].as_slice(), BoardError::NoCell),
+        ([plain, same_name].as_slice(), BoardError::SameVertex),
+        (
+            [plain, same_direction].as_slice(),
+            BoardError::SameDirection,
+        ),
+        ([plain, unknown].as_slice(), BoardError::UnknownVertex),
+        (
+            [same_direction, plain, same_name].as_slice(),
+            BoardError::SameVertex,
+        ),
+        (
+            [unknown, plain, same_name].as_slice(),
+            BoardError::SameVertex,
+        ),
+        (
+            [unknown, plain, same_direction].as_slice(),
+            BoardError::SameDirection,
+        ),
+    ] {
+        let mut cells = Vec::new(alloc);
+        for (name, edges) in written {
+            cells.push(cell(alloc, *name, 0, edges)?)?;
+        }
+        assert_eq!(rt; graph(alloc, &cells).err(), Some(error));
+    }
+    let mut crowd = bare_cells(alloc, 1024)?;
+    crowd.push(cell(alloc, 0, 0, &[(0, 9999), (0, 0)])?)?;
+    assert_eq!(rt;
+        graph(alloc, &crowd).err(),
+        Some(BoardError::TooManyVertices)
+    );
+    Ok(())
+}
+
+#[test]
+fn refusals_have_their_texts(rt: HostRuntime) -> Result<(), Fail> {
+    let alloc = rt.alloc();
+    for (error, text) in [
+        (BoardError::NoCell, "the board has no cell"),
+        (
+            BoardError::RowLength { row: 3 },
+            "row 3 has the wrong length",
+        ),
+        (
+            BoardError::TooManyVertices,
+            "the board has too many vertices",
+        ),
+        (BoardError::SameDirection, "one direction leads two ways"),
+        (
+            BoardError::UnknownVertex,
+            "an edge leads to a vertex that is not there",
+        ),
+        (BoardError::SameVertex, "two vertices have one name"),
+        (BoardError::Memory, "out of memory"),
+    ] {
+        assert_eq!(rt; error.to_string(alloc)?.as_str(), text);
+    }
+    Ok(())
+}

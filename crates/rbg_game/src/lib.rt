@@ -1,0 +1,15 @@
+// A game of Regular Boardgames: its rules, its board and the names of its things, with the meaning of a game as definitions.
+#![tactic(auto)]
+
+pub mod arithmetic;
+pub mod examples;
+pub mod game;
+pub mod instruction;
+pub mod laws;
+pub mod limits;
+pub mod rule;
+
+pub use arithmetic::{Arithmetic, Operation, Operator, Relation};
+pub use game::Game;
+pub use instruction::Instruction;
+pub use rule::{Action, Rule};

@@ -1,0 +1,20 @@
+//! Want of memory.
+use std::alloc::{AllocError, AllocFailed};
+use thiserror::Error;
+
+/// The memory that was asked for could not be had.
+#[derive(Clone, Copy, Debug, PartialEq, Eq, Error)]
+#[error("out of memory")]
+pub struct Memory;
+
+impl From<AllocError> for Memory {
+    fn from(_error: AllocError) -> Memory {
+        Memory
+    }
+}
+
+impl<T: Drop> From<AllocFailed<T>> for Memory {
+    fn from(_error: AllocFailed<T>) -> Memory {
+        Memory
+    }
+}

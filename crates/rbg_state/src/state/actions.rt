@@ -1,0 +1,154 @@
+//! What the actions of a game do to a semi-state.
+ghost use Rattle.std.specs.Prelude.{◌≡◌, ℕ, ◌<◌, ◌≤◌, ◌↔◌, false, length, slice_index, IsTrue};
+ghost use Rattle.rbg_game.specs.Expression.{AbstractAction, shift, on, off, assignment, comparison, switch};
+ghost use Rattle.rbg_game.specs.State.{AbstractGame, AbstractState, IsStateOf};
+ghost use Rattle.rbg_game.specs.Positions.{positions_of, IsPatternAt};
+ghost use Rattle.rbg_game.specs.Actions.{Applies};
+ghost use Rattle.rbg_game.specs.Values.{Relates};
+ghost use Rattle.rbg_game.specs.Games.{IsGame, IsActionOf};
+ghost use Rattle.rbg_game.specs.Translation.{arithmetic_of, relation_of};
+ghost use Rattle.rbg_game.specs.Instructions.{Shows, shows_pattern};
+ghost use Rattle.rbg_state.specs.Reads.{ReadsBelow};
+
+use super::SemiState;
+use rbg_board::Board;
+use rbg_game::{Arithmetic, Game, Instruction, Relation};
+
+/// Whether an action could be applied.
+#[derive(Clone, Copy, Debug, PartialEq, Eq)]
+pub enum Applied {
+    Valid,
+    Invalid,
+}
+
+impl SemiState {
+    ghost use Rattle.rbg_state.specs.Answer.{Answers};
+
+    /// Applies the action at a position of the game. An action that is not valid changes nothing.
+    pub fn apply(&mut self, game: &Game, position: u32) -> Applied
+        requires fits { IsStateOf game.now self.old }
+        requires from_one { 0 < position }
+        requires there { position ≤ length (positions_of game.now.rules) }
+        requires no_pattern { ¬ IsPatternAt game.now.rules position }
+        ensures valid { result ≡ Applied.Valid → Applies game.now position self.old self.new }
+        ensures only { (t : AbstractState) → Applies game.now position self.old t → t ≡ self.new }
+        ensures invalid { result ≡ Applied.Invalid → (t : AbstractState) → ¬ Applies game.now position self.old t }
+        ensures unchanged { result ≡ Applied.Invalid → self.new ≡ self.old }
+        ensures fits { IsStateOf game.now self.new }
+    {
+        self.act(game, game.board(), game.action(position))
+    }
+
+    /// Does what an instruction says.
+    fn act(&mut self, game: &Game, board: &Board, instruction: &Instruction) -> Applied
+        requires lawful { IsGame game.now }
+        requires board { board.now ≡ game.now.board }
+        requires fits { IsStateOf game.now self.old }
+        requires named { (a : AbstractAction) → Shows a instruction.now → IsActionOf game.now a }
+        requires no_pattern { shows_pattern instruction.now ≡ false }
+        ensures { (a : AbstractAction) → Shows a instruction.now → Answers game.now a self.old self.new result }
+    {
+        match instruction {
+            Instruction::Shift { direction } => self.shift(board, *direction),
+            Instruction::On { pieces } => self.on(pieces),
+            Instruction::Off { piece } => self.off(*piece),
+            Instruction::Assign { variable, value } => {
+                self.assign(*variable, value, game.bound(*variable))
+            }
+            Instruction::Compare {
+                left,
+                relation,
+                right,
+            } => self.compare(left, *relation, right),
+            Instruction::Switch { player } => self.switch(*player),
+            Instruction::Positive | Instruction::Negative => unreachable!(),
+        }
+    }
+
+    /// Moves along the edge of the current vertex in a direction.
+    fn shift(&mut self, board: &Board, direction: u16) -> Applied
+        requires { self.old.vertex < length board.now.first }
+        ensures { (game : AbstractGame) → game.board ≡ board.now → Answers game (shift direction) self.old self.new result }
+    {
+        match board.step(self.vertex, direction) {
+            Some(vertex) => {
+                self.vertex = vertex;
+                Applied::Valid
+            }
+            None => Applied::Invalid,
+        }
+    }
+
+    /// Tests whether the piece on the current vertex is one of these.
+    fn on(&self, pieces: &[u16]) -> Applied
+        requires { self.now.vertex < length self.now.pieces }
+        ensures { (game : AbstractGame) → Answers game (on pieces.now) self.now self.now result }
+    {
+        if pieces.contains(&self.pieces[self.vertex as usize]) {
+            Applied::Valid
+        } else {
+            Applied::Invalid
+        }
+    }
+
+    /// Puts a piece on the current vertex.
+    fn off(&mut self, piece: u16) -> Applied
+        requires { self.old.vertex < length self.old.pieces }
+        ensures { (game : AbstractGame) → Answers game (off piece) self.old self.new result }
+    {
+        self.pieces[self.vertex as usize] = piece;
+        Applied::Valid
+    }
+
+    /// Gives a variable the value of an expression, if there is one that the variable may hold.
+    fn assign(&mut self, variable: u16, expression: &Arithmetic, bound: u32) -> Applied
+        requires variable { variable < length self.old.values }
+        requires reads { ReadsBelow (length self.old.values) (arithmetic_of expression.now) }
+        ensures { (game : AbstractGame) → slice_index game.bounds variable ≡ bound
+            → Answers game (assignment variable (arithmetic_of expression.now)) self.old self.new result }
+    {
+        let Some(value) = self.evaluate(expression) else {
+            return Applied::Invalid;
+        };
+        if value < 0 || value > i64::from(bound) {
+            return Applied::Invalid;
+        }
+        self.values[variable as usize] = value as u32;
+        Applied::Valid
+    }
+
+    /// Tests whether two expressions have values that stand in a relation.
+    fn compare(&self, left: &Arithmetic, relation: Relation, right: &Arithmetic) -> Applied
+        requires left { ReadsBelow (length self.now.values) (arithmetic_of left.now) }
+        requires right { ReadsBelow (length self.now.values) (arithmetic_of right.now) }
+        ensures { (game : AbstractGame)
+            → Answers game (comparison (arithmetic_of left.now) (relation_of relation) (arithmetic_of right.now)) self.now self.now result }
+    {
+        match (self.evaluate(left), self.evaluate(right)) {
+            (Some(x), Some(y)) if relates(relation, x, y) => Applied::Valid,
+            _ => Applied::Invalid,
+        }
+    }
+
+    /// Makes a player, or the keeper, the current one.
+    fn switch(&mut self, player: u16) -> Applied
+        ensures { (game : AbstractGame) → Answers game (switch player) self.old self.new result }
+    {
+        self.player = player;
+        Applied::Valid
+    }
+}
+
+/// Whether two values stand in a relation.
+fn relates(relation: Relation, x: i64, y: i64) -> bool
+    ensures { IsTrue result ↔ Relates (relation_of relation) x y }
+{
+    match relation {
+        Relation::Equal => x == y,
+        Relation::Different => x != y,
+        Relation::Less => x < y,
+        Relation::AtMost => x <= y,
+        Relation::Greater => x > y,
+        Relation::AtLeast => x >= y,
+    }
+}

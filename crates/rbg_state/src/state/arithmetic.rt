@@ -1,0 +1,54 @@
+//! The arithmetic of a game: whole numbers of 64 bits with a sign, and no value where one does not fit.
+ghost use Rattle.std.specs.Prelude.{◌≡◌, Some, length, All};
+ghost use Rattle.rbg_game.specs.Values.{value_of};
+ghost use Rattle.rbg_game.specs.Translation.{arithmetic_of};
+ghost use Rattle.rbg_state.specs.Reads.{ReadsBelow};
+ghost use Rattle.rbg_state.specs.Evaluation.{result_of, value_after};
+
+use super::SemiState;
+use rbg_game::{Arithmetic, Operation, Operator};
+
+impl SemiState {
+    /// The value of an expression, or none where a part of it does not fit 64 bits or a divisor is 0.
+    #[cycle(evaluate)]
+    #[tactic(auto, using(rbg_game::proofs::Bridge::translation, crate::proofs::Fits::by_conversion))]
+    pub(super) fn evaluate(&self, expression: &Arithmetic) -> Option<i64>
+        requires { ReadsBelow (length self.now.values) (arithmetic_of expression.now) }
+        ensures { result ≡ value_of (arithmetic_of expression.now) self.now }
+    {
+        match expression {
+            Arithmetic::Number(number) => i64::try_from(*number).ok(),
+            Arithmetic::Variable(variable) => Some(i64::from(self.value(*variable))),
+            Arithmetic::PieceCount(piece) => i64::try_from(self.count(*piece)).ok(),
+            Arithmetic::Negated(operand) => operate(Operator::Minus, 0, self.evaluate(operand)?),
+            Arithmetic::Chain { first, rest } => self.continued(self.evaluate(first)?, rest),
+        }
+    }
+
+    /// What operations make of a value, from the left.
+    #[cycle(evaluate)]
+    fn continued(&self, first: i64, operations: &[Operation]) -> Option<i64>
+        requires { All (λ o. ReadsBelow (length self.now.values) (arithmetic_of o.operand)) operations.now }
+        ensures { result ≡ value_after self.now (Some first) operations.now }
+    {
+        let mut value = first;
+        for operation in operations {
+            let operand = self.evaluate(&operation.operand)?;
+            value = operate(operation.operator, value, operand)?;
+        }
+        Some(value)
+    }
+}
+
+/// The result of one operation. Division drops the fraction, toward zero.
+#[tactic(auto, using(crate::proofs::Fits::by_fits, crate::proofs::Fits::by_can_divide))]
+fn operate(operator: Operator, x: i64, y: i64) -> Option<i64>
+    ensures { result ≡ result_of operator x y }
+{
+    match operator {
+        Operator::Plus => x.checked_add(y),
+        Operator::Minus => x.checked_sub(y),
+        Operator::Times => x.checked_mul(y),
+        Operator::Over => x.checked_div(y),
+    }
+}

@@ -1,0 +1,11 @@
+pub mod CursorLemmas
+pub mod CutLemmas
+pub mod InboxLemmas
+pub mod Kept
+pub mod LawLemmas
+pub mod MessageLemmas
+pub mod NumberLemmas
+pub mod OutcomeLemmas
+pub mod PairLemmas
+pub mod ScoreLemmas
+pub mod WordLemmas

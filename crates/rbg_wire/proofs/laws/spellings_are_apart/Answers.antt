@@ -1,0 +1,6 @@
+-- What stands before the first zero byte is the message.
+use Rattle.rbg_wire.proofs.LawLemmas.{apart}
+use Rattle.rbg_wire.proofs.laws.spellings_are_apart.Goals as goal
+
+pub returns : goal.returns
+returns c = apart

@@ -1,0 +1,34 @@
+-- How far a buffer of a stream is read.
+use Rattle.std.specs.Prelude.{◌≡◌, ℕ, ◌+◌, ◌<◌, ◌≤◌, cond, List, [], ◌∷◌, ◌++◌, length, drop, slice_range}
+use Rattle.rbg_wire.specs.declared.cursor.Cursor.{Cursor}
+use Rattle.rbg_wire.specs.declared.cursor.Found.{Found}
+use Rattle.rbg_wire.specs.declared.cursor.Found.TheVariants.{Message, TooLong}
+use Rattle.rbg_wire.specs.Bytes.{LacksByte}
+use Rattle.rbg_wire.specs.Streams.{Item, complete, too_long, incomplete, dropping, Cut, cut}
+
+-- the cursor is one of this buffer: what is looked at behind its start has no zero byte
+pub record IsCursorOf (cursor : Cursor) (bytes : List ℕ) : Type 0 where
+  pub ordered : cursor.start ≤ cursor.looked
+  pub within : cursor.looked ≤ length bytes
+  pub clear : LacksByte 0 (slice_range bytes cursor.start cursor.looked)
+
+-- what the unread bytes complete, and their rest
+abbrev pub unread : ℕ → Cursor → List ℕ → Cut
+unread limit cursor bytes = cut limit (cond cursor.dropping dropping (incomplete [])) (drop cursor.start bytes)
+
+-- the next zero byte behind a start, and what stands before it
+pub record IsEnd (bytes : List ℕ) (start end : ℕ) : Type 0 where
+  pub ordered : start ≤ end
+  pub within : end < length bytes
+  pub parts : drop start bytes ≡ slice_range bytes start end ++ 0 ∷ drop (end + 1) bytes
+  pub clear : LacksByte 0 (slice_range bytes start end)
+
+-- the item that was found in the buffer
+abbrev pub found_item : List ℕ → Found → Item
+found_item bytes (Message from to) = complete (slice_range bytes from to)
+found_item bytes TooLong = too_long
+
+-- it lies in the buffer
+abbrev pub IsWithin : List ℕ → Found → Type 0
+IsWithin bytes (Message from to) = (from ≤ to) × (to ≤ length bytes)
+IsWithin bytes TooLong = Unit {0}

@@ -1,0 +1,11 @@
+pub mod Bytes
+pub mod Cursors
+pub mod Inboxes
+pub mod Laws
+pub mod Messages
+pub mod Numbers
+pub mod Reading
+pub mod Scores
+pub mod Streams
+pub mod Words
+pub mod Writing

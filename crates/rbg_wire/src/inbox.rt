@@ -1,0 +1,79 @@
+//! The stream of one seat: bytes in whatever pieces they come, and the messages that they complete.
+ghost use Rattle.std.specs.Prelude.{◌≡◌, ℕ, ◌+◌, ◌<◌, ◌≤◌, [], OnOk, OnErr, slice_get, drop, vec_len};
+ghost use Rattle.std.specs.Option.{option_map};
+ghost use Rattle.rbg_wire.specs.Streams.{Stream, incomplete, with_bytes};
+
+use crate::cursor::{Cursor, Found};
+use std::alloc::{AllocError, Global};
+use std::marker::Model;
+
+/// What was taken from an inbox.
+#[derive(Clone, Copy, Debug, PartialEq, Eq)]
+pub enum Took<'a> {
+    /// A message: its bytes before its zero byte.
+    Message(&'a [u8]),
+    /// A message has more bytes than the limit. What is left of it, up to its zero byte, is dropped.
+    TooLong,
+}
+
+/// The bytes of one stream, of which the messages are taken in order. Contracts see the limit, the items that
+/// are complete and not taken yet, and the rest.
+#[derive(Debug, Drop)]
+pub struct Inbox {
+    limit: usize,
+    bytes: Vec<u8>,
+    cursor: Cursor,
+}
+
+impl Model for Inbox {
+    ghost use Rattle.rbg_wire.specs.Streams.{Stream};
+    ghost use Rattle.rbg_wire.specs.Cursors.{IsCursorOf, unread};
+
+    ghost Value = { Stream };
+
+    ghost view = { λ inbox.
+        let left = unread inbox.limit inbox.cursor inbox.bytes.items in
+        record { limit = inbox.limit; items = left.items; rest = left.rest } };
+
+    ghost invariant = { λ inbox. IsCursorOf inbox.cursor inbox.bytes.items };
+}
+
+impl Inbox {
+    ghost use Rattle.std.specs.Borrow.{sem};
+    ghost use Rattle.rbg_wire.specs.Inboxes.{item_of, LosesFirst};
+
+    /// An inbox that nothing has come to. A message has at most `limit` bytes.
+    pub fn new(alloc: Global, limit: usize) -> Inbox
+        ensures { result ≡ record { limit = limit; items = []; rest = incomplete [] } }
+    {
+        Inbox {
+            limit,
+            bytes: Vec::new(alloc),
+            cursor: Cursor {
+                start: 0,
+                looked: 0,
+                dropping: false,
+            },
+        }
+    }
+
+    /// Takes the next piece of the stream in. An `Err` changes nothing.
+    pub fn feed(&mut self, piece: &[u8]) -> Result<(), AllocError>
+        ensures ok { OnOk result (self.new ≡ with_bytes self.old piece.now) }
+        ensures err { OnErr result (self.new ≡ self.old) }
+    {
+        self.cursor.drop_read(&mut self.bytes);
+        self.bytes.extend_from_slice(piece)
+    }
+
+    /// Takes the next item, None where none is complete. A message is lent, and not copied.
+    pub fn take(&mut self) -> Option<Took<'_>>
+        ensures item { option_map item_of result ≡ slice_get self.old.items 0 }
+        ensures* after { sem 𝓛 (LosesFirst self.entry) }
+    {
+        match self.cursor.next(&self.bytes, self.limit)? {
+            Found::Message { from, to } => Some(Took::Message(&self.bytes[from..to])),
+            Found::TooLong => Some(Took::TooLong),
+        }
+    }
+}
