@@ -1,8 +1,8 @@
 -- An action belongs directly to one level.
-use Rattle.std.proofs.Common.{◌≡◌, ℕ, zero, suc, List, [], ◌∷◌, length, refl, sym, ap, ◌∙◌, subst, inl, inr, get_or, arith, ◌<◌}
+use Rattle.std.proofs.Common.{◌≡◌, ℕ, zero, suc, List, [], ◌∷◌, length, refl, sym, ap, ◌∙◌, subst, inl, inr, ◌⊎◌, get_or, arith, ◌<◌}
 use Rattle.rbg_game.specs.Expression.{AbstractAction, shift, on, off, assignment, comparison, switch, positive, negative, Expression, act, skip, sequence, fail, choice, star}
-use Rattle.rbg_game.specs.Positions.{HasAction, HasInside, HasOwnAction, positions_of, positions_inside, IsPatternOf, outermost, inside, IsLevel}
-use Rattle.rbg_game.specs.Laws.{OneLevelLaw, OwnWordLaw}
+use Rattle.rbg_game.specs.Positions.{HasAction, HasInside, HasOwnAction, positions_of, positions_inside, IsPatternOf, Level, outermost, inside, IsLevel}
+use Rattle.rbg_game.specs.Laws.{OneLevelLaw, SomeLevelLaw, OwnWordLaw}
 use Rattle.rbg_game.proofs.PositionLemmas.{Among, AllDifferent, AllDifferent_left, AllDifferent_right, AllDifferent_apart, has_position, inside_position, numbered_once, one_stands}
 use Rattle.rbg_game.proofs.PatternLemmas.{own_stands, stands_inside, stays_inside, word_own}
 
@@ -116,3 +116,43 @@ among_at (y ∷ xs) (suc k) x below e = inr (among_at xs k x (omega arith) e)
 
 pub own_word_law : OwnWordLaw
 own_word_law x w word i (k, below, e) = word_own x w word i (among_at w k i below e)
+
+-- A pattern for which P holds at some position has a at i directly in its inside.
+abbrev Held : (ℕ → AbstractAction → Type 0) → ℕ → AbstractAction → Type 0
+Held P i a = (p : ℕ) × (y : Expression) × (P p (positive y) ⊎ P p (negative y)) × HasOwnAction y i a
+
+either_up : {A B C D : Type 0} → (A → C) → (B → D) → A ⊎ B → C ⊎ D
+either_up f g (inl x) = inl (f x)
+either_up f g (inr y) = inr (g y)
+
+held_up : (P Q : ℕ → AbstractAction → Type 0) → ((p : ℕ) (b : AbstractAction) → P p b → Q p b) → (i : ℕ) (a : AbstractAction) → Held P i a → Held Q i a
+held_up P Q up i a held = (held.0, held.1, either_up (up held.0 (positive held.1)) (up held.0 (negative held.1)) held.2, held.3)
+
+held_by : (q : ℕ) (b : AbstractAction) (y : Expression) (i : ℕ) (a : AbstractAction) → HasAction (act q b) q (positive y) ⊎ HasAction (act q b) q (negative y) → ((p : ℕ) (c : AbstractAction) → HasAction y p c → HasAction (act q b) p c) → HasOwnAction y i a ⊎ Held (HasAction y) i a → Held (HasAction (act q b)) i a
+held_by q b y i a stands up (inl own) = (q, y, stands, own)
+held_by q b y i a stands up (inr held) = held_up (HasAction y) (HasAction (act q b)) up i a held
+
+-- Each action of an expression is its own, or is directly in the inside of a pattern of it.
+mutual
+  own_or_held : (x : Expression) (i : ℕ) (a : AbstractAction) → HasAction x i a → HasOwnAction x i a ⊎ Held (HasAction x) i a
+  own_or_held (act q b) i a (inl here) = inl here
+  own_or_held (act q b) i a (inr deep) = inr (held_in q b i a deep)
+  own_or_held skip i a h = absurd h
+  own_or_held (sequence x y) i a (inl h) = either_up (λ own. inl own) (held_up (HasAction x) (HasAction (sequence x y)) (λ p b k. inl k) i a) (own_or_held x i a h)
+  own_or_held (sequence x y) i a (inr h) = either_up (λ own. inr own) (held_up (HasAction y) (HasAction (sequence x y)) (λ p b k. inr k) i a) (own_or_held y i a h)
+  own_or_held fail i a h = absurd h
+  own_or_held (choice x y) i a (inl h) = either_up (λ own. inl own) (held_up (HasAction x) (HasAction (choice x y)) (λ p b k. inl k) i a) (own_or_held x i a h)
+  own_or_held (choice x y) i a (inr h) = either_up (λ own. inr own) (held_up (HasAction y) (HasAction (choice x y)) (λ p b k. inr k) i a) (own_or_held y i a h)
+  own_or_held (star x) i a h = own_or_held x i a h
+
+  held_in : (q : ℕ) (b : AbstractAction) (i : ℕ) (a : AbstractAction) → HasInside b i a → Held (HasAction (act q b)) i a
+  held_in q (positive y) i a k = held_by q (positive y) y i a (inl (inl (refl, refl))) (λ p c h. inr h) (own_or_held y i a k)
+  held_in q (negative y) i a k = held_by q (negative y) y i a (inr (inl (refl, refl))) (λ p c h. inr h) (own_or_held y i a k)
+  held_in q _ i a k = absurd k
+
+pub some_level_law : SomeLevelLaw
+some_level_law rules i a h = level_of (own_or_held rules i a h)
+  where
+    level_of : HasOwnAction rules i a ⊎ Held (HasAction rules) i a → (level : Level) × (x : Expression) × IsLevel rules level x × HasOwnAction x i a
+    level_of (inl own) = (outermost, rules, refl, own)
+    level_of (inr held) = (inside held.0, held.1, held.2, held.3)

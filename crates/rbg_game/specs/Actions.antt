@@ -16,7 +16,7 @@ abbrev mutual
   -- The action takes s to t: it is valid in s, and t is s with its effect.
   --   shift: the current vertex has an edge in that direction, and becomes the edge's end
   --   on: the piece on the current vertex is in the set (never in an empty one)
-  --   off: always valid; the piece stands on the current vertex
+  --   off: always valid; the piece then stands on the current vertex
   --   assignment: the expression has a value from 0 to the variable's bound, and the variable gets it
   --   comparison: both expressions have values, and they stand in the relation
   --   switch: always valid; that player, or the keeper, becomes the current one

@@ -52,7 +52,7 @@ small_sum = game_on one_square (sequence_of (act 1 (switch 1) ∷ choice_of (act
 abbrev pub keeper_for_ever : AbstractGame
 keeper_for_ever = game_on one_square (star (act 1 (switch 0)))
 
--- The semi-state with these pieces and this value of n, where that player stands on vertex 0; and the place after position 1.
+-- The semi-state with these pieces and this value of n, where that player stands on vertex 0; and the place behind the keeper's first switch: white is current, n is 0.
 abbrev pub state_of : (player : ℕ) (pieces : List ℕ) (n : ℕ) → AbstractState
 state_of player pieces n = record { player = player; pieces = pieces; values = 0 ∷ 0 ∷ n ∷ []; vertex = 0 }
 

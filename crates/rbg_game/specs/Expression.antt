@@ -2,7 +2,7 @@
 -- variables and directions are numbers. Each action carries its position, so the same action at two places is two letters.
 use Rattle.std.specs.Prelude.{ℕ, List, fold}
 
--- Arithmetic over whole numbers, variables and counts of pieces. Equal operators group from the left, so each has two operands.
+-- Arithmetic over whole numbers, variables and counts of pieces. Operators of equal rank group from the left, so each has two operands.
 pub data AbstractArithmetic : Type 0 where
   number : ℕ → AbstractArithmetic
   variable : ℕ → AbstractArithmetic

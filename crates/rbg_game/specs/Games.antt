@@ -55,7 +55,8 @@ pub record IsWithinLimits (game : AbstractGame) : Type 0 where
   pub directions : length game.directions ≤ MAX_DIRECTIONS
   pub positions : length (positions_of game.rules) ≤ MAX_POSITIONS
 
--- What every accepted game keeps.
+-- What every accepted game keeps. (The board keeps its own limit. That names differ and how deep patterns nest is for the checks to
+-- say, which make a game of a description.)
 --   numbered: the positions are numbered from 1 in order of text
 --   no_empty_sum: each sum has a part, so each part of the rules has a word
 --   actions: the rules speak of the game's own things

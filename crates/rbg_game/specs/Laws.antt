@@ -6,7 +6,7 @@ use Rattle.rbg_game.specs.Positions.{HasAction, HasOwnAction, IsNumbered, Level,
 use Rattle.rbg_game.specs.Words.{Word}
 use Rattle.rbg_game.specs.State.{AbstractGame, AbstractState, start_of, IsStateOf}
 use Rattle.rbg_game.specs.Actions.{Applies, Run}
-use Rattle.rbg_game.specs.Moves.{AbstractPlace, Legal, IsLegal, Finished, stand_of}
+use Rattle.rbg_game.specs.Moves.{RunPairs, AbstractPlace, Legal, IsLegal, Finished, stand_of}
 use Rattle.rbg_game.specs.Questions.{IsMove}
 use Rattle.rbg_game.specs.Games.{IsGame, HasNoEmptySum}
 
@@ -27,9 +27,17 @@ SumLaw = (parts : List Expression) (w : List ℕ) → Word (choice_of parts) w �
 abbrev pub StarLaw : Type 0
 StarLaw = (x : Expression) (w : List ℕ) → Word (star x) w ↔ ((ws : List (List ℕ)) × All (Word x) ws × (concat ws ≡ w))
 
--- An action belongs directly to one level.
+-- An action belongs directly to at most one level.
 abbrev pub OneLevelLaw : Type 0
 OneLevelLaw = (rules : Expression) → IsNumbered rules → (level level' : Level) (x x' : Expression) → IsLevel rules level x → IsLevel rules level' x' → (i : ℕ) (a a' : AbstractAction) → HasOwnAction x i a → HasOwnAction x' i a' → (level ≡ level') × (x ≡ x')
+
+-- An action of the rules belongs directly to some level.
+abbrev pub SomeLevelLaw : Type 0
+SomeLevelLaw = (rules : Expression) (i : ℕ) (a : AbstractAction) → HasAction rules i a → (level : Level) × (x : Expression) × IsLevel rules level x × HasOwnAction x i a
+
+-- What runs has pairs, and what has pairs runs.
+abbrev pub PairsLaw : Type 0
+PairsLaw = (game : AbstractGame) (w : List ℕ) (s t : AbstractState) → Run game w s t ↔ ((ps : List (ℕ × ℕ)) × RunPairs game w s t ps)
 
 -- The positions of a word are those of its own level's actions.
 abbrev pub OwnWordLaw : Type 0

@@ -6,7 +6,7 @@ use Rattle.rbg_game.specs.State.{AbstractGame, AbstractState}
 use Rattle.rbg_game.specs.Moves.{RunPairs}
 
 -- The kinds of question, asked of a semi-state and of where one stands in the rules: whether these pairs are a move; for some move;
--- for the moves (and whether the answer was cut); which modifiers are reached without one; whether a word of a pattern's inside runs.
+-- for the moves (and whether the answer was cut, which matters only for what is forced); which modifiers are reached without one; whether a word of a pattern's inside runs.
 pub data Question : Type 0 where
   try_move : List (ℕ × ℕ) → Question
   find_move : Question
@@ -37,12 +37,12 @@ pub record IsMove (game : AbstractGame) (s : AbstractState) (f : Start) (ps : Li
   pub follows : Follows game.rules f (before ++ last ∷ [])
   pub runs : RunPairs game (before ++ last ∷ []) s end ps
 
--- m is the whole rest of a word.
+-- m is all that stands behind f in a word.
 abbrev pub Ends : AbstractGame → Start → List ℕ → Type 0
 Ends game (beginning level) m = WordOf game.rules level m
 Ends game (after i) m = (level : Level) × (u : List ℕ) × WordOf game.rules level (u ++ i ∷ m)
 
--- Some word runs from s: a pattern's question is answered by yes.
+-- Some word runs from s: a pattern's question is answered by yes (of a negative pattern that means that it is not valid).
 pub record SomeWordRuns (game : AbstractGame) (s : AbstractState) (f : Start) : Type 0 where
   pub word : List ℕ
   pub end : AbstractState
@@ -99,8 +99,8 @@ IsWide game question s f openings = HasOpenings game question s f (openings + 1)
 abbrev pub IsHeavy : AbstractGame → Question → AbstractState → Start → (openings modifiers : ℕ) → Type 0
 IsHeavy game question s f openings modifiers = IsDeep game question s f modifiers ⊎ IsWide game question s f openings
 
--- The modifiers ps are taken up whatever the order of search: always none; and any, where the answer needs all, that is where it
--- is no, or isn't cut, or is a place. That `try_move` finds no place forces nothing.
+-- The list of modifiers ps is taken up whatever the order of search: the empty list; and where the answer needs all of them (it is
+-- no, or isn't cut, or is a place) every list. Where `try_move` finds no place, none is, not even the empty one.
 abbrev pub IsForcedTo : AbstractGame → Question → AbstractState → Start → List (ℕ × ℕ) → Type 0
 IsForcedTo game (try_move qs) s f ps = IsMove game s f qs
 IsForcedTo game find_move s f ps = (ps ≡ []) ⊎ ((qs : List (ℕ × ℕ)) → ¬ IsMove game s f qs)
@@ -108,7 +108,7 @@ IsForcedTo game (list_moves cut) s f ps = (ps ≡ []) ⊎ (cut ≡ false)
 IsForcedTo game reach s f ps = Unit {0}
 IsForcedTo game pattern s f ps = (ps ≡ []) ⊎ ¬ SomeWordRuns game s f
 
--- An opening that every search takes up which answers the question.
+-- An opening that every search which answers the question takes up.
 pub data Forced (game : AbstractGame) : Question → AbstractState → Start → List Item → Type 0 where
   at : {question : Question} {s : AbstractState} {f : Start} {m : List ℕ} {t : AbstractState} {ps : List (ℕ × ℕ)} → RunsOn game s f m t ps → GoesTo game question s f ps → IsForcedTo game question s f ps → Forced game question s f (items_of ps)
   behind : {question : Question} {s : AbstractState} {f : Start} {m : List ℕ} {t : AbstractState} {ps : List (ℕ × ℕ)} {p : ℕ} {more : List Item} → RunsOn game s f m t ps → GoesTo game question s f ps → IsForcedTo game question s f ps → Follows game.rules f (m ++ p ∷ []) → IsPatternAt game.rules p → Forced game pattern t (beginning (inside p)) more → Forced game question s f (items_of ps ++ pattern_at t.vertex p ∷ more)

@@ -19,7 +19,7 @@ divided x (pos zero) = None
 divided x y = if_fits (int_div x y)
 
 -- The value of an expression in a semi-state, or none: none where any part leaves signed 64 bits, or a divisor is zero. A piece's
--- name is worth the number of vertices that hold it. A leading minus is 0 minus what follows.
+-- name is worth the number of vertices that hold it. A leading minus is 0 minus its factor.
 abbrev pub value_of : AbstractArithmetic → AbstractState → Option ℤ
 value_of (number n) s = if_fits (pos n)
 value_of (variable v) s = if_fits (pos (slice_index s.values v))

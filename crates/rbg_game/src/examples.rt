@@ -35,7 +35,7 @@ pub fn negative_pattern()
     ensures fails { Finished (nothing_right two_squares) (white_on (0 ∷ 0 ∷ [])) }
 {}
 
-/// Division drops the fraction toward zero, and equal operators group from the left.
+/// Division drops the fraction toward zero, and by zero it has no value.
 pub fn division()
     ensures then_times { value_of (product (quotient (number 7) (number 2)) (number 2)) (state_of 1 [] 0) ≡ Some (pos 6) }
     ensures below_zero { value_of (quotient (difference (number 0) (number 7)) (number 2)) (state_of 1 [] 0) ≡ Some (negsuc 2) }
@@ -56,7 +56,7 @@ pub fn counted_pieces()
     ensures others { value_of (piece_count 1) (state_of 1 (0 ∷ 1 ∷ 0 ∷ []) 0) ≡ Some (pos 1) }
 {}
 
-/// An assignment above its bound is valid nowhere: n has the bound 1, so `[$ n=n+1]` applies at 0 and not at 1.
+/// An assignment isn't valid where its value is above the bound: n has the bound 1, so `[$ n=n+1]` applies at 0 and not at 1.
 pub fn bounded_assignment()
     ensures at_zero { Applies counting 2 (state_of 1 (0 ∷ []) 0) (state_of 1 (0 ∷ []) 1) }
     ensures at_one { (t : AbstractState) → ¬ Applies counting 2 (state_of 1 (0 ∷ []) 1) t }

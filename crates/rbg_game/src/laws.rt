@@ -1,5 +1,5 @@
 // Laws of the definitions of a game's meaning. Each function does nothing: its contract is the law.
-ghost use Rattle.rbg_game.specs.Laws.{SequenceLaw, SumLaw, StarLaw, OneLevelLaw, OwnWordLaw, RunLaw, OneRunLaw, PatternLaw, PositiveLaw, NegativeLaw, MoveLaw, OnePlaceLaw, StateLaw, WordLaw};
+ghost use Rattle.rbg_game.specs.Laws.{SequenceLaw, SumLaw, StarLaw, OneLevelLaw, SomeLevelLaw, PairsLaw, OwnWordLaw, RunLaw, OneRunLaw, PatternLaw, PositiveLaw, NegativeLaw, MoveLaw, OnePlaceLaw, StateLaw, WordLaw};
 
 /// The words of a sequence are the joins of one word of each part in order.
 pub fn words_of_sequence()
@@ -16,9 +16,19 @@ pub fn words_of_star()
     ensures { StarLaw }
 {}
 
-/// An action belongs directly to one level: the rules, or the inside of one pattern.
+/// An action belongs directly to at most one level: the rules, or the inside of one pattern.
 pub fn action_belongs_to_one_level()
     ensures { OneLevelLaw }
+{}
+
+/// An action of the rules belongs directly to some level.
+pub fn action_belongs_to_some_level()
+    ensures { SomeLevelLaw }
+{}
+
+/// What runs has pairs, and what has pairs runs.
+pub fn runs_have_pairs()
+    ensures { PairsLaw }
 {}
 
 /// The positions of a word are those of the actions that belong directly to its expression.
