@@ -1,0 +1,31 @@
+-- Calls of macros with parameters, as the code finds them.
+use Rattle.std.proofs.Common.{ℕ, ◌≡◌, ◌+◌, ◌≤◌, true, false, nat_eq, List, [], ◌∷◌, length, drop, map, Some, refl, sym, ap, ◌∙◌, arith, add-one}
+use Rattle.std.proofs.lemmas.Bool.Decides.{nat_tests}
+use Rattle.rbg_macro.specs.declared.macros.Template.{Template}
+use Rattle.rbg_macro.specs.Call.{arguments, Calls, meets, called}
+use Rattle.rbg_macro.specs.Calls.{AreArguments, begins_with_parenthesis}
+use Rattle.rbg_macro.specs.Macro.{Macro, filled}
+use Rattle.rbg_macro.specs.Template.{piece_in, macro_of, IsNamed}
+use Rattle.rbg_macro.specs.Token.{Lexeme}
+
+called_with : (m : Macro) (behind rest : List Lexeme) (lists : List (List Lexeme)) (n : ℕ) → begins_with_parenthesis behind ≡ true → rest ≡ drop 1 behind →
+    AreArguments rest lists n → length lists ≡ m.parameters → called m behind ≡ Calls (filled m.body lists) (drop (n + 1) behind)
+called_with m [] rest lists n opens is found many = cc
+called_with m (t ∷ ts) rest lists n opens is found many =
+    let arguments_are : arguments 0 ts ≡ Some found.found = ap (arguments 0) (sym is) ∙ found.is_found in
+    let size : length (found.found.first ∷ found.found.others) ≡ m.parameters = ap length (sym found.are) ∙ many in
+    let enough : nat_eq (length (found.found.first ∷ found.found.others)) m.parameters ≡ true = grind (arith, nat_tests) in
+    let left : found.found.rest ≡ drop n ts = found.rest ∙ ap (drop n) is in
+    rw (opens, arguments_are, enough, ← found.are, left, add-one) refl
+
+pub call_meets : (macros : List Macro) (t : Lexeme) (template : Template) (behind : List Lexeme) (rest : List Lexeme) (lists : List (List Lexeme)) (n : ℕ) →
+    IsNamed macros t template → (template.parameters ≡ 0 → ⊥) → begins_with_parenthesis behind ≡ true → rest ≡ drop 1 behind →
+    AreArguments rest lists n → length lists ≡ template.parameters →
+    meets macros t behind ≡ Calls (filled (map piece_in template.body.items) lists) (drop (n + 1) behind)
+call_meets macros t template behind rest lists n is some opens is_rest found many =
+    let none : nat_eq template.parameters 0 ≡ false = grind (arith, nat_tests) in
+    rw (is.named, none) (called_with (macro_of is.name template) behind rest lists n opens is_rest found many)
+
+pub call_within : (behind rest : List Lexeme) (lists : List (List Lexeme)) (n : ℕ) → begins_with_parenthesis behind ≡ true → rest ≡ drop 1 behind → AreArguments rest lists n → n + 1 ≤ length behind
+call_within [] rest lists n opens is found = cc
+call_within (t ∷ ts) rest lists n opens is found = omega (arith, found.within, ap length is)

@@ -1,0 +1,125 @@
+-- Chains of joined tokens, as the code makes them.
+use Rattle.std.proofs.Common.{ℕ, ◌≡◌, ◌+◌, ◌-◌, ◌<◌, ◌≤◌, true, false, min, nat_le, List, [], ◌∷◌, ◌++◌, length, get_or, take, drop, map, Some, Err, refl, sym, ap, ◌∙◌, arith, length-append, length-drop}
+use Rattle.std.proofs.Math.Seq.{take-append_seam, drop-append_seam}
+use Rattle.std.proofs.lemmas.Bool.Decides.{nat_tests}
+use Rattle.std.proofs.lemmas.List.{drop-append-le, take-append-le, length-map, drop-map, take-append-drop}
+use Rattle.rbg_macro.specs.declared.error.MacroError.{MacroError}
+use Rattle.rbg_macro.specs.declared.limits.TheConstants.{MAX_JOINED}
+use Rattle.rbg_macro.specs.declared.token.Token.{Token}
+use Rattle.rbg_macro.specs.declared.token.TokenKind.{TokenKind}
+use Rattle.rbg_macro.specs.Joined.{word_at, JoinsNext, JoinsChain, FailsChain, begins_with_tilde}
+use Rattle.rbg_macro.specs.Joining.{joined_from, joined_kind, joined_token}
+use Rattle.rbg_macro.specs.Token.{Lexeme, lexeme_of}
+use Rattle.rbg_macro.proofs.Heads.{two_tokens}
+
+-- a word goes on with one more token
+joins_word : (at : ℕ) (kind k : TokenKind) (word : List ℕ) (right : Lexeme) → Some k ≡ joined_kind kind right.kind → length word + length right.text ≤ MAX_JOINED →
+    joined_token (word_at at kind word) right ≡ Some (word_at at k (word ++ right.text))
+joins_word at kind k word right is short =
+    let fits : nat_le (length word + length right.text) MAX_JOINED ≡ true = grind (arith, nat_tests) in
+    rw (← is, fits) refl
+
+pub next_joined : (texts new : List ℕ) (start len : ℕ) (kind k : TokenKind) (ts : List Token) (d : Token) → start ≤ length texts →
+    begins_with_tilde (map lexeme_of ts) ≡ true → (length ts ≡ 1 → ⊥) → Some k ≡ joined_kind kind (get_or ts 1 d).kind →
+    len ≡ min (length texts - start + length (get_or ts 1 d).text.now) 18446744073709551615 → len ≤ MAX_JOINED →
+    new ≡ texts ++ (get_or ts 1 d).text.now →
+    JoinsNext kind k (drop start texts) (drop start new) (map lexeme_of ts)
+next_joined texts new start len kind k [] d within tilde more is many short added = cc
+next_joined texts new start len kind k (t ∷ []) d within tilde more is many short added = absurd (more refl)
+next_joined texts new start len kind k (t ∷ u ∷ ts) d within tilde more is many short added = record {
+  tilde = lexeme_of t;
+  right = lexeme_of u;
+  tokens = refl;
+  is_tilde = tilde;
+  joins = λ at.
+      let fits : length (drop start texts) + length u.text.now ≤ MAX_JOINED = omega (arith, length-drop start texts) in
+      let whole : drop start new ≡ drop start texts ++ u.text.now = ap (drop start) added ∙ drop-append-le start texts u.text.now within in
+      rw whole (joins_word at kind k (drop start texts) (lexeme_of u) is fits);
+}
+
+-- what joining gives from a word with a `~` behind it
+joined_further : (at : ℕ) (kind k : TokenKind) (word new : List ℕ) (ts : List Lexeme) → JoinsNext kind k word new ts →
+    joined_from (word_at at kind word) ts ≡ joined_from (word_at at k new) (drop 2 ts)
+joined_further at kind k word new ts next =
+    ap (joined_from (word_at at kind word)) next.tokens ∙ rw (next.is_tilde, next.joins at) refl
+
+-- the first tokens as one word, at the end of the texts
+pub record HasJoined (tokens : List Token) (old texts : List ℕ) (start : ℕ) (kind : TokenKind) (count : ℕ) : Type 0 where
+  pub first : Lexeme
+  pub rest : List Lexeme
+  pub begins : map lexeme_of tokens ≡ first ∷ rest
+  pub within : count ≤ length tokens
+  pub some : 0 < count
+  pub at_end : start ≡ length old
+  pub front : take (length old) texts ≡ old
+  pub joins : joined_from first rest ≡ joined_from (word_at first.at kind (drop start texts)) (map lexeme_of (drop count tokens))
+
+pub first_word : (tokens : List Token) (d : Token) (old texts : List ℕ) (start : ℕ) → 0 < length tokens → start ≡ length old →
+    texts ≡ old ++ (get_or tokens 0 d).text.now → HasJoined tokens old texts start (get_or tokens 0 d).kind 1
+first_word [] d old texts start some is added = absurd (omega arith)
+first_word (t ∷ ts) d old texts start some is added = record {
+  first = lexeme_of t;
+  rest = map lexeme_of ts;
+  begins = refl;
+  within = omega arith;
+  some = omega arith;
+  at_end = is;
+  front = rw added (take-append_seam old t.text.now);
+  joins =
+      let word : drop start texts ≡ t.text.now = rw (is, added) (drop-append_seam old t.text.now) in
+      rw word refl;
+}
+
+-- texts that grew
+pub whole_of : (old new : List ℕ) → take (length old) new ≡ old → new ≡ old ++ drop (length old) new
+whole_of old new grown = sym (take-append-drop (length old) new) ∙ ap (λ bs. bs ++ drop (length old) new) grown
+
+pub longer_of : (old new : List ℕ) → take (length old) new ≡ old → length old ≤ length new
+longer_of old new grown = omega (arith, ap length (whole_of old new grown), length-append old (drop (length old) new))
+
+pub front_of_front : (old texts new : List ℕ) → take (length old) texts ≡ old → take (length texts) new ≡ texts → take (length old) new ≡ old
+front_of_front old texts new front grown =
+    ap (take (length old)) (whole_of texts new grown)
+    ∙ take-append-le (length old) texts (drop (length texts) new) (longer_of old texts front) ∙ front
+
+pub one_more_joined : (tokens rest : List Token) (old texts new : List ℕ) (start count : ℕ) (kind k : TokenKind) →
+    HasJoined tokens old texts start kind count → rest ≡ drop count tokens →
+    JoinsNext kind k (drop start texts) (drop start new) (map lexeme_of rest) → take (length texts) new ≡ texts →
+    HasJoined tokens old new start k (count + 2)
+one_more_joined tokens rest old texts new start count kind k so_far is next grown = record {
+  first = so_far.first;
+  rest = so_far.rest;
+  begins = so_far.begins;
+  within = omega (arith, so_far.within, ap length next.tokens, length-map rest lexeme_of, ap length is, length-drop count tokens);
+  some = omega arith;
+  at_end = so_far.at_end;
+  front = front_of_front old texts new so_far.front grown;
+  joins =
+      so_far.joins ∙ ap (λ ts. joined_from (word_at so_far.first.at kind (drop start texts)) (map lexeme_of ts)) (sym is)
+      ∙ joined_further so_far.first.at kind k (drop start texts) (drop start new) (map lexeme_of rest) next
+      ∙ ap (joined_from (word_at so_far.first.at k (drop start new))) (ap (λ ts. drop 2 (map lexeme_of ts)) is ∙ two_tokens tokens count);
+}
+
+pub chain_joined : (tokens rest : List Token) (old texts : List ℕ) (start count : ℕ) (kind : TokenKind) →
+    HasJoined tokens old texts start kind count → rest ≡ drop count tokens → begins_with_tilde (map lexeme_of rest) ≡ false →
+    JoinsChain (map lexeme_of tokens) kind (drop (length old) texts) count
+chain_joined tokens rest old texts start count kind so_far is ends = record {
+  first = so_far.first;
+  rest = so_far.rest;
+  tokens = so_far.begins;
+  joins = so_far.joins ∙ rw (so_far.at_end, drop-map lexeme_of count tokens) refl;
+  some = so_far.some;
+  within = omega (arith, so_far.within, length-map tokens lexeme_of);
+  apart = rw (drop-map lexeme_of count tokens, ← is) ends;
+}
+
+pub chain_fails : (tokens rest : List Token) (old texts : List ℕ) (start count : ℕ) (kind : TokenKind) (e : MacroError) →
+    HasJoined tokens old texts start kind count → rest ≡ drop count tokens →
+    ((at : ℕ) → joined_from (word_at at kind (drop start texts)) (map lexeme_of rest) ≡ Err e) →
+    FailsChain (map lexeme_of tokens) e
+chain_fails tokens rest old texts start count kind e so_far is fails = record {
+  first = so_far.first;
+  rest = so_far.rest;
+  tokens = so_far.begins;
+  fails = so_far.joins ∙ rw (← is) (fails so_far.first.at);
+}

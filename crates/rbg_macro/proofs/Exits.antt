@@ -1,0 +1,13 @@
+-- What a call that failed leaves to its caller.
+use Rattle.rbg_macro.specs.declared.error.MacroError.{MacroError}
+use Rattle.rbg_macro.specs.declared.error.MacroError.TheVariants.{BadDefinition, Twice, ArgumentCount, Depth, TooManyTokens, BadJoin, Memory}
+use Rattle.rbg_macro.specs.Gives.{UnlessMemory}
+
+pub unless_weaker : (P Q : MacroError → Type 0) → ((f : MacroError) → P f → Q f) → (e : MacroError) → UnlessMemory P e → UnlessMemory Q e
+unless_weaker P Q weaker (BadDefinition at) h = weaker (BadDefinition at) h
+unless_weaker P Q weaker (Twice at) h = weaker (Twice at) h
+unless_weaker P Q weaker (ArgumentCount at) h = weaker (ArgumentCount at) h
+unless_weaker P Q weaker (Depth at) h = weaker (Depth at) h
+unless_weaker P Q weaker TooManyTokens h = weaker TooManyTokens h
+unless_weaker P Q weaker (BadJoin at) h = weaker (BadJoin at) h
+unless_weaker P Q weaker Memory h = h

@@ -1,0 +1,18 @@
+-- Where expansion fails.
+use Rattle.std.proofs.Common.{ℕ, ◌≡◌, ◌+◌, ◌-◌, ◌<◌, ◌≤◌, List, ◌∷◌, length, arith}
+use Rattle.rbg_macro.specs.declared.error.MacroError.{MacroError}
+use Rattle.rbg_macro.specs.declared.error.MacroError.TheVariants.{TooManyTokens}
+use Rattle.rbg_macro.specs.declared.limits.TheConstants.{MAX_LEVEL, MAX_READ}
+use Rattle.rbg_macro.specs.Call.{Calls, meets}
+use Rattle.rbg_macro.specs.Calls.{IsNoCall}
+use Rattle.rbg_macro.specs.Expansion.{FailsReading, too_many_read, no_call, in_call}
+use Rattle.rbg_macro.specs.Macro.{Macro}
+use Rattle.rbg_macro.specs.Token.{Lexeme}
+
+pub fails_without_call : (macros : List Macro) (d n k : ℕ) (t : Lexeme) (ts : List Lexeme) (e : MacroError) → IsNoCall macros t ts e → FailsReading macros d n k (t ∷ ts) e
+fails_without_call macros d n k t ts e is = rw is.at_name (no_call d n k t ts is.meets)
+
+pub fails_too_long : (macros : List Macro) (d n k : ℕ) (t : Lexeme) (ts body rest : List Lexeme) → meets macros t ts ≡ Calls body rest → d < MAX_LEVEL →
+    n ≤ MAX_READ → MAX_READ - n < length body → FailsReading macros d n k (t ∷ ts) TooManyTokens
+fails_too_long macros d n k t ts body rest meets not_deep within over =
+    in_call d n k t ts body rest TooManyTokens meets not_deep (too_many_read (d + 1) n k body (omega arith))

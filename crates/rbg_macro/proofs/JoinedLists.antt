@@ -1,0 +1,155 @@
+-- Joined lists, as the code keeps and makes them.
+use Rattle.std.proofs.Common.{ℕ, ◌≡◌, ◌+◌, ◌-◌, ◌<◌, ◌≤◌, true, false, List, [], ◌∷◌, ◌++◌, length, get_or, take, drop, map, Result, Ok, Err, refl, sym, ap, ◌∙◌, arith, append_assoc, add-one, drop-cons, suc, length-drop}
+use Rattle.std.proofs.Math.ListN.{drop_of_length-le}
+use Rattle.std.proofs.lemmas.List.{map-append, append-nil, drop-drop, drop-map, length-map}
+use Rattle.std.specs.List.{All, list_any}
+use Rattle.rbg_macro.specs.declared.error.MacroError.{MacroError}
+use Rattle.rbg_macro.specs.declared.error.MacroError.TheVariants.{BadJoin}
+use Rattle.rbg_macro.specs.declared.joining.JoinedToken.{JoinedToken}
+use Rattle.rbg_macro.specs.declared.joining.JoinedToken.TheVariants.{Single, Joined}
+use Rattle.rbg_macro.specs.declared.token.Token.{Token}
+use Rattle.rbg_macro.specs.declared.token.TokenKind.{TokenKind}
+use Rattle.rbg_macro.specs.Joined.{joined_lexeme, IsJoinedWithin, word_at, JoinsChain, AddsChain, FailsChain, begins_with_tilde}
+use Rattle.rbg_macro.specs.Joining.{joined, joined_from, behind}
+use Rattle.rbg_macro.specs.Kinds.{is_tilde}
+use Rattle.rbg_macro.specs.Token.{Lexeme, lexeme_of}
+use Rattle.rbg_macro.proofs.Chains.{whole_of, longer_of}
+use Rattle.rbg_macro.proofs.Names.{either}
+use Rattle.rbg_macro.proofs.Rests.{rest_of}
+use Rattle.rbg_macro.proofs.Spans.{same_lexeme}
+
+same_joined_token : (texts more : List ℕ) (t : JoinedToken) → IsJoinedWithin texts t → joined_lexeme (texts ++ more) t ≡ joined_lexeme texts t
+same_joined_token texts more (Single t) is = refl
+same_joined_token texts more (Joined s) is = same_lexeme texts more s is
+
+same_joined : (texts more : List ℕ) (ts : List JoinedToken) → All (IsJoinedWithin texts) ts → map (joined_lexeme (texts ++ more)) ts ≡ map (joined_lexeme texts) ts
+same_joined texts more [] all = refl
+same_joined texts more (t ∷ ts) all =
+    let first = same_joined_token texts more t (all 0 t (omega arith)) in
+    let others = same_joined texts more ts (λ k d below. all (suc k) d (omega arith)) in
+    cc
+
+-- the first token of a list that has one
+first_of : (ts : List Token) (d : Token) (first : Lexeme) (rest : List Lexeme) → map lexeme_of ts ≡ first ∷ rest → first.at ≡ (get_or ts 0 d).at
+first_of [] d first rest is = cc
+first_of (t ∷ ts) d first rest is = let same : lexeme_of t ≡ first = cc in ap (λ (l : Lexeme). l.at) (sym same)
+
+pub adds_chain : (texts new_texts : List ℕ) (tokens new_tokens : List JoinedToken) (ts : List Token) (d : Token) (kind : TokenKind) (count start end : ℕ) →
+    All (IsJoinedWithin texts) tokens → take (length texts) new_texts ≡ texts →
+    JoinsChain (map lexeme_of ts) kind (drop (length texts) new_texts) count → start ≡ length texts → end ≡ length new_texts →
+    new_tokens ≡ tokens ++ Joined (record { kind = kind; start = start; end = end; at = (get_or ts 0 d).at }) ∷ [] →
+    AddsChain (map (joined_lexeme texts) tokens) (map (joined_lexeme new_texts) new_tokens) (map lexeme_of ts) count
+adds_chain texts new_texts tokens new_tokens ts d kind count start end all grown chain first last added = record {
+  kind = kind;
+  word = drop (length texts) new_texts;
+  chain = chain;
+  added =
+      let whole = whole_of texts new_texts grown in
+      let longer = longer_of texts new_texts grown in
+      let old : map (joined_lexeme new_texts) tokens ≡ map (joined_lexeme texts) tokens =
+      ap (λ bs. map (joined_lexeme bs) tokens) whole ∙ same_joined texts (drop (length texts) new_texts) tokens all in
+      let word : take (end - start) (drop start new_texts) ≡ drop (length texts) new_texts =
+      rw (first, last) (rest_of new_texts (length texts) longer) in
+      let at : (get_or ts 0 d).at ≡ chain.first.at = sym (first_of ts d chain.first chain.rest chain.tokens) in
+      ap (map (joined_lexeme new_texts)) added ∙ map-append (joined_lexeme new_texts) tokens _
+      ∙ rw (old, word, at) refl;
+}
+
+-- the list with several tokens before it
+abbrev pub behind_all : List Lexeme → Result (List Lexeme) MacroError → Result (List Lexeme) MacroError
+behind_all us (Ok ts) = Ok (us ++ ts)
+behind_all us (Err e) = Err e
+
+behind_one_more : (us : List Lexeme) (t : Lexeme) (read : Result (List Lexeme) MacroError) → behind_all us (behind t read) ≡ behind_all (us ++ t ∷ []) read
+behind_one_more us t (Ok ts) = ap Ok (sym (append_assoc us (t ∷ []) ts))
+behind_one_more us t (Err e) = refl
+
+-- a token that no `~` follows stays
+joined_from-apart : (t : Lexeme) (rest : List Lexeme) → begins_with_tilde rest ≡ false → joined_from t rest ≡ behind t (joined rest)
+joined_from-apart t [] apart = refl
+joined_from-apart t (s ∷ []) apart = rw apart refl
+joined_from-apart t (s ∷ u ∷ ts) apart = rw apart refl
+
+-- a list that doesn't begin with a `~` is joined from its first token on
+joined_first : (t : Lexeme) (rest : List Lexeme) → begins_with_tilde (t ∷ rest) ≡ false → joined (t ∷ rest) ≡ joined_from t rest
+joined_first t rest apart = rw apart refl
+
+-- how far a list was joined, and what is left
+pub record HasJoinedTo (list : List Token) (at : ℕ) (done : List Lexeme) : Type 0 where
+  pub within : at ≤ length list
+  pub apart : begins_with_tilde (map lexeme_of (drop at list)) ≡ false
+  pub goes_on : joined (map lexeme_of list) ≡ behind_all done (joined (map lexeme_of (drop at list)))
+
+pub join_begins : (list : List Token) → begins_with_tilde (map lexeme_of list) ≡ false → HasJoinedTo list 0 []
+join_begins list apart = record { within = omega arith; apart = apart; goes_on = none (joined (map lexeme_of list)) }
+  where
+    none : (read : Result (List Lexeme) MacroError) → read ≡ behind_all [] read
+    none (Ok ts) = refl
+    none (Err e) = refl
+
+pub single_joined : (list rest : List Token) (at : ℕ) (d : Token) (done new : List Lexeme) → HasJoinedTo list at done → at < length list →
+    rest ≡ drop (at + 1) list → begins_with_tilde (map lexeme_of rest) ≡ false → new ≡ done ++ lexeme_of (get_or list at d) ∷ [] →
+    HasJoinedTo list (at + 1) new
+single_joined list rest at d done new so_far below is apart added = record {
+  within = omega arith;
+  apart = rw (← is) apart;
+  goes_on =
+      let t : Lexeme = lexeme_of (get_or list at d) in
+      let begins : map lexeme_of (drop at list) ≡ t ∷ map lexeme_of rest = ap (map lexeme_of) (drop-cons list at d below) ∙ rw (is, add-one) refl in
+      so_far.goes_on
+      ∙ ap (behind_all done) (ap joined begins ∙ joined_first t (map lexeme_of rest) (rw begins at so_far.apart) ∙ joined_from-apart t (map lexeme_of rest) apart)
+      ∙ behind_one_more done t (joined (map lexeme_of rest))
+      ∙ rw (← added, is) refl;
+}
+
+pub chain_added : (list rest : List Token) (at n : ℕ) (done new : List Lexeme) → HasJoinedTo list at done →
+    rest ≡ drop at list → AddsChain done new (map lexeme_of rest) n → HasJoinedTo list (at + n) new
+chain_added list rest at n done new so_far is adds = record {
+  within = omega (arith, so_far.within, adds.chain.within, length-map rest lexeme_of, ap length is, length-drop at list);
+  apart = rw further at adds.chain.apart;
+  goes_on =
+      let ts : List Lexeme = map lexeme_of rest in
+      let w : Lexeme = word_at adds.chain.first.at adds.kind adds.word in
+      so_far.goes_on
+      ∙ ap (behind_all done)
+      (ap (λ us. joined (map lexeme_of us)) (sym is) ∙ ap joined adds.chain.tokens
+      ∙ joined_first adds.chain.first adds.chain.rest (rw (adds.chain.tokens) at clean)
+      ∙ adds.chain.joins ∙ joined_from-apart w (drop n ts) adds.chain.apart)
+      ∙ behind_one_more done w (joined (drop n ts))
+      ∙ rw (← adds.added, further) refl;
+}
+  where
+    further : drop n (map lexeme_of rest) ≡ map lexeme_of (drop (at + n) list)
+    further = drop-map lexeme_of n rest ∙ ap (λ us. map lexeme_of (drop n us)) is ∙ ap (map lexeme_of) (drop-drop n at list)
+
+    clean : begins_with_tilde (map lexeme_of rest) ≡ false
+    clean = rw is so_far.apart
+
+pub join_fails : (list rest : List Token) (at : ℕ) (done : List Lexeme) (e : MacroError) → HasJoinedTo list at done →
+    rest ≡ drop at list → FailsChain (map lexeme_of rest) e → joined (map lexeme_of list) ≡ Err e
+join_fails list rest at done e so_far is fails =
+    let clean : begins_with_tilde (map lexeme_of rest) ≡ false = rw is so_far.apart in
+    so_far.goes_on
+    ∙ ap (behind_all done)
+    (ap (λ us. joined (map lexeme_of us)) (sym is) ∙ ap joined fails.tokens
+    ∙ joined_first fails.first fails.rest (rw (fails.tokens) at clean) ∙ fails.fails)
+
+pub all_joined : (list : List Token) (at : ℕ) (done : List Lexeme) → HasJoinedTo list at done → length list ≤ at → joined (map lexeme_of list) ≡ Ok done
+all_joined list at done so_far all = so_far.goes_on ∙ rw (drop_of_length-le list all) (ap Ok (append-nil done))
+
+-- where a `~` stands first
+pub begins_badly : (list : List Token) (d : Token) → begins_with_tilde (map lexeme_of list) ≡ true → joined (map lexeme_of list) ≡ Err (BadJoin (get_or list 0 d).at)
+begins_badly [] d tilde = cc
+begins_badly (t ∷ ts) d tilde = rw tilde refl
+
+-- a list without a `~` is joined already
+no_tilde_first : (ts : List Token) → list_any (λ t. is_tilde t.kind) ts ≡ false → begins_with_tilde (map lexeme_of ts) ≡ false
+no_tilde_first [] none = refl
+no_tilde_first (t ∷ ts) none = (either (is_tilde t.kind) (list_any (λ u. is_tilde u.kind) ts) none).0
+
+pub joined_already : (ts : List Token) → list_any (λ t. is_tilde t.kind) ts ≡ false → joined (map lexeme_of ts) ≡ Ok (map lexeme_of ts)
+joined_already [] none = refl
+joined_already (t ∷ ts) none =
+    let (first, others) = either (is_tilde t.kind) (list_any (λ u. is_tilde u.kind) ts) none in
+    let rest = joined_already ts others in
+    joined_first (lexeme_of t) (map lexeme_of ts) first ∙ joined_from-apart (lexeme_of t) (map lexeme_of ts) (no_tilde_first ts others) ∙ rw rest refl

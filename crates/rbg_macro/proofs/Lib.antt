@@ -1,0 +1,21 @@
+mod Arguments
+mod CallLemmas
+mod Chains
+mod Defined
+mod Exits
+mod Failing
+mod Filled
+mod Heads
+mod JoinedLists
+mod Names
+pub mod OneExpansion
+pub mod OneFault
+pub mod OneReading
+mod Parts
+mod Reading
+mod Rests
+mod Scan
+mod Sections
+mod Spans
+mod Words
+pub mod ZeroBytes

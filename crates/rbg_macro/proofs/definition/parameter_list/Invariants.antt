@@ -1,0 +1,10 @@
+-- What is listed from here on is listed behind the parameters so far.
+use Rattle.std.proofs.Common.{◌-◌, length}
+use Rattle.rbg_macro.proofs.Heads.{HasListed}
+use Rattle.rbg_macro.proofs.definition.parameter_list.Given as goal
+
+abbrev pub invariant-loop-names : goal.invariant-loop-names
+invariant-loop-names l = HasListed l.end l.tokens l.at l.names.keys
+
+abbrev pub decreases-loop-names : goal.decreases-loop-names
+decreases-loop-names l = length l.tokens - l.at

@@ -1,0 +1,11 @@
+-- What the rest defines comes behind what was defined so far.
+use Rattle.std.proofs.Common.{length, ◌-◌}
+use Rattle.rbg_macro.specs.Defines.{defines_of}
+use Rattle.rbg_macro.proofs.Defined.{HasDefined}
+use Rattle.rbg_macro.proofs.definition.read_definitions.Given as goal
+
+abbrev pub invariant-loop-at : goal.invariant-loop-at
+invariant-loop-at l = HasDefined l.tokens l.at (defines_of l.definitions)
+
+abbrev pub decreases-loop-at : goal.decreases-loop-at
+decreases-loop-at l = length l.tokens - l.at

@@ -1,0 +1,10 @@
+-- What the rest gives comes behind what was joined so far.
+use Rattle.std.proofs.Common.{length, ◌-◌}
+use Rattle.rbg_macro.proofs.JoinedLists.{HasJoinedTo}
+use Rattle.rbg_macro.proofs.joining.join.Given as goal
+
+abbrev pub invariant-loop-at : goal.invariant-loop-at
+invariant-loop-at l = HasJoinedTo l.list l.at l.joined
+
+abbrev pub decreases-loop-at : goal.decreases-loop-at
+decreases-loop-at l = length l.list - l.at

@@ -1,0 +1,23 @@
+-- Definitions as they are kept.
+use Rattle.std.specs.Prelude.{◌≡◌, [], ◌∷◌, ◌++◌, map, Ok}
+use Rattle.rbg_macro.specs.declared.definition.Definitions.{Definitions as KeptDefinitions}
+use Rattle.rbg_macro.specs.declared.definition.SectionBody.{SectionBody}
+use Rattle.rbg_macro.specs.Definition.{Definitions, Defined, A_Section, A_Macro, Part, defined}
+use Rattle.rbg_macro.specs.Token.{SectionTokens, lexeme_of}
+
+abbrev pub section_of : SectionBody → SectionTokens
+section_of s = record { kind = s.kind; at = s.at; tokens = map lexeme_of s.tokens.now }
+
+abbrev pub defines_of : KeptDefinitions → Definitions
+defines_of ds = record { sections = map section_of ds.sections.items; macros = ds.macros }
+
+-- the definitions with one more behind them
+abbrev pub with_one_more : Definitions → Defined → Definitions
+with_one_more ds (A_Section s) = record ds { sections = ds.sections ++ s ∷ [] }
+with_one_more ds (A_Macro m) = record ds { macros = ds.macros ++ m ∷ [] }
+
+-- what the part defines was added
+pub record AddsDefined (old new : Definitions) (part : Part) : Type 0 where
+  pub what : Defined
+  pub defines : defined old.macros part ≡ Ok what
+  pub added : new ≡ with_one_more old what

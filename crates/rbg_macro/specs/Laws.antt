@@ -1,0 +1,42 @@
+-- Laws of texts, their tokens and their expansion. The module `laws` proves each.
+use Rattle.std.specs.Prelude.{ℕ, ◌≡◌, ◌≢◌, List, All}
+use Rattle.rbg_macro.specs.declared.error.MacroError.{MacroError}
+use Rattle.rbg_macro.specs.declared.error.MacroError.TheVariants as macro_errors
+use Rattle.rbg_macro.specs.declared.error.TextError.{TextError}
+use Rattle.rbg_macro.specs.declared.error.TextError.TheVariants as text_errors
+use Rattle.rbg_macro.specs.Expansion.{Expands, HasSections, HasMacroFault}
+use Rattle.rbg_macro.specs.Macro.{Macro}
+use Rattle.rbg_macro.specs.Text.{HasTokens, HasTextFault}
+use Rattle.rbg_macro.specs.Token.{Lexeme, SectionTokens}
+
+-- a text with tokens has no zero byte
+abbrev pub NoZeroByteLaw : Type 0
+NoZeroByteLaw = (text : List ℕ) (ts : List Lexeme) → HasTokens text ts → All (λ byte. byte ≢ 0) text
+
+-- a text has one list of tokens at most
+abbrev pub OneReadingLaw : Type 0
+OneReadingLaw = (text : List ℕ) (a b : List Lexeme) → HasTokens text a → HasTokens text b → a ≡ b
+
+-- a text with tokens is refused only for want of memory
+abbrev pub TokensOrFaultLaw : Type 0
+TokensOrFaultLaw = (text : List ℕ) (ts : List Lexeme) → HasTokens text ts → (e : TextError) → HasTextFault text e → e ≡ text_errors.Memory
+
+-- a text is refused by one error at most besides want of memory
+abbrev pub OneTextErrorLaw : Type 0
+OneTextErrorLaw = (text : List ℕ) (e f : TextError) → HasTextFault text e → HasTextFault text f → e ≢ text_errors.Memory → f ≢ text_errors.Memory → e ≡ f
+
+-- a list expands to one list at most, while one number of tokens is read
+abbrev pub OneListLaw : Type 0
+OneListLaw = (macros : List Macro) (d : ℕ) (ts us : List Lexeme) (n : ℕ) → Expands macros d ts us n → (vs : List Lexeme) (m : ℕ) → Expands macros d ts vs m → (us ≡ vs) × (n ≡ m)
+
+-- tokens have the sections of one expansion at most
+abbrev pub OneExpansionLaw : Type 0
+OneExpansionLaw = (ts : List Lexeme) (a b : List SectionTokens) → HasSections ts a → HasSections ts b → a ≡ b
+
+-- tokens with sections are refused only for want of memory
+abbrev pub SectionsOrFaultLaw : Type 0
+SectionsOrFaultLaw = (ts : List Lexeme) (sections : List SectionTokens) → HasSections ts sections → (e : MacroError) → HasMacroFault ts e → e ≡ macro_errors.Memory
+
+-- tokens are refused by one error at most besides want of memory
+abbrev pub OneMacroErrorLaw : Type 0
+OneMacroErrorLaw = (ts : List Lexeme) (e f : MacroError) → HasMacroFault ts e → HasMacroFault ts f → e ≢ macro_errors.Memory → f ≢ macro_errors.Memory → e ≡ f

@@ -1,0 +1,17 @@
+pub mod Call
+pub mod Calls
+pub mod Defines
+pub mod Definition
+pub mod Expansion
+pub mod Gives
+pub mod Joined
+pub mod Joining
+pub mod Kinds
+pub mod Laws
+pub mod Macro
+pub mod Part
+pub mod Progress
+pub mod Span
+pub mod Template
+pub mod Text
+pub mod Token

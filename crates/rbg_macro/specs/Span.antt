@@ -1,0 +1,23 @@
+-- Tokens and sections that are kept as places in one buffer and one list.
+use Rattle.std.specs.Prelude.{ℕ, List, ◌≤◌, length, slice_range}
+use Rattle.rbg_macro.specs.declared.buffer.Span.{Span}
+use Rattle.rbg_macro.specs.declared.source.SectionSpan.{SectionSpan}
+use Rattle.rbg_macro.specs.Token.{Lexeme, SectionTokens}
+
+-- the token whose bytes stand at a place of the buffer
+abbrev pub lexeme_in : List ℕ → Span → Lexeme
+lexeme_in texts s = record { kind = s.kind; text = slice_range texts s.start s.end; at = s.at }
+
+-- the place is one of the buffer
+pub record IsSpanWithin (texts : List ℕ) (s : Span) : Type 0 where
+  pub ordered : s.start ≤ s.end
+  pub within : s.end ≤ length texts
+
+-- the section whose tokens stand at a place of the list
+abbrev pub section_in : List Lexeme → SectionSpan → SectionTokens
+section_in tokens s = record { kind = s.kind; at = s.at; tokens = slice_range tokens s.start s.end }
+
+-- the place is one of a list of this length
+pub record IsSectionWithin (len : ℕ) (s : SectionSpan) : Type 0 where
+  pub ordered : s.start ≤ s.end
+  pub within : s.end ≤ len

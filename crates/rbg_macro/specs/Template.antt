@@ -1,0 +1,32 @@
+-- Macros as they are kept.
+use Rattle.std.specs.Prelude.{ℕ, ◌≡◌, List, map, Some}
+use Rattle.std.specs.Borrow.{Bor}
+use Rattle.rbg_macro.specs.declared.macros.Piece.{Piece as KeptPiece}
+use Rattle.rbg_macro.specs.declared.macros.Piece.TheVariants as kept
+use Rattle.rbg_macro.specs.declared.macros.Template.{Template}
+use Rattle.rbg_macro.specs.declared.token.Token.{Token}
+use Rattle.rbg_macro.specs.Macro.{Macro, Piece, Word, Place, macro_named}
+use Rattle.rbg_macro.specs.Token.{Lexeme, lexeme_of}
+
+abbrev pub piece_in : KeptPiece → Piece
+piece_in (kept.Word t) = Word (lexeme_of t)
+piece_in (kept.Place k) = Place k
+
+abbrev pub macro_of : List ℕ → Template → Macro
+macro_of name t = record { name = name; parameters = t.parameters; body = map piece_in t.body.items }
+
+abbrev pub macro_in : Bor (List ℕ) × Template → Macro
+macro_in e = macro_of e.0.now e.1
+
+-- the texts that references lead to
+abbrev pub texts_in : List (Bor (List ℕ)) → List (List ℕ)
+texts_in texts = map (λ t. t.now) texts
+
+-- the tokens of lists that references lead to
+abbrev pub lists_in : List (Bor (List Token)) → List (List Lexeme)
+lists_in lists = map (λ l. map lexeme_of l.now) lists
+
+-- the token names a macro with this template
+pub record IsNamed (macros : List Macro) (t : Lexeme) (template : Template) : Type 0 where
+  pub name : List ℕ
+  pub named : macro_named macros t ≡ Some (macro_of name template)

@@ -1,0 +1,21 @@
+-- What contracts see of a token and of a section.
+use Rattle.std.specs.Prelude.{ℕ, List}
+use Rattle.rbg_macro.specs.declared.source.SectionKind.{SectionKind}
+use Rattle.rbg_macro.specs.declared.token.TokenKind.{TokenKind}
+use Rattle.rbg_macro.specs.declared.token.Token.{Token}
+
+-- a token: its kind, its bytes, and the offset where it stands
+pub record Lexeme : Type 0 where
+  pub kind : TokenKind
+  pub text : List ℕ
+  pub at : ℕ
+
+-- a section: its kind, the offset of its `#`, and its tokens
+pub record SectionTokens : Type 0 where
+  pub kind : SectionKind
+  pub at : ℕ
+  pub tokens : List Lexeme
+
+-- a token without where its bytes lie in memory
+abbrev pub lexeme_of : Token → Lexeme
+lexeme_of t = record { kind = t.kind; text = t.text.now; at = t.at }

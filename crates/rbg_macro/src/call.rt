@@ -1,0 +1,146 @@
+// Calls: a macro's name and the arguments in the brackets behind it.
+ghost use Rattle.std.specs.Prelude.{ℕ, ◌≡◌, ◌+◌, ◌<◌, ◌≤◌, ◌^◌, [], ◌∷◌, ◌++◌, List, length, drop, map, None, Some, Ok, Err, IfOk, IfErr, MatchOption, OnOk, IsTrue};
+ghost use Rattle.rbg_macro.specs.Call.{Stays, NoCall, arguments, closing, meets, nesting};
+ghost use Rattle.rbg_macro.specs.Calls.{nesting_of, AreArguments, IsCall, IsNoCall, begins_with_parenthesis};
+ghost use Rattle.rbg_macro.specs.Gives.{UnlessMemory};
+ghost use Rattle.rbg_macro.specs.Macro.{filled, filled_piece};
+ghost use Rattle.rbg_macro.specs.Template.{piece_in, lists_in};
+ghost use Rattle.rbg_macro.specs.Token.{lexeme_of};
+
+use crate::error::MacroError;
+use crate::macros::{Macros, Piece};
+use crate::token::{Token, TokenKind};
+use smallvec::SmallVec;
+use std::alloc::{AllocError, Global};
+
+/// The arguments of a call. Most calls have few.
+pub(crate) type Arguments<'a> = SmallVec<&'a [Token<'a>], 4>;
+
+/// A call of a macro: its body, the arguments, and how many tokens stand behind the macro's name.
+#[derive(Drop)]
+pub(crate) struct Call<'m, 'a> {
+    pub(crate) body: &'m [Piece<'a>],
+    pub(crate) arguments: Arguments<'a>,
+    pub(crate) len: usize,
+}
+
+/// What a token does where some further brackets are open behind a call's own.
+#[derive(Clone, Copy, Debug)]
+enum Effect {
+    /// It belongs to the argument, and leaves so many further brackets open.
+    Within(usize),
+    /// It cuts the arguments apart.
+    Cuts,
+    /// It closes the call.
+    Ends,
+    /// It closes the call's bracket, but isn't `)`.
+    Mismatched,
+}
+
+fn effect_of(kind: TokenKind, further: usize) -> Effect
+    requires { further < 2 ^ 63 }
+    ensures { nesting_of result ≡ nesting kind further }
+{
+    if kind.opens() {
+        return Effect::Within(further + 1);
+    }
+    if kind.closes() {
+        return closing(kind, further);
+    }
+    if further == 0 && kind.is_semicolon() {
+        return Effect::Cuts;
+    }
+    Effect::Within(further)
+}
+
+fn closing(kind: TokenKind, further: usize) -> Effect
+    ensures { nesting_of result ≡ closing kind further }
+{
+    if further > 0 {
+        return Effect::Within(further - 1);
+    }
+    if kind.is_close_parenthesis() {
+        Effect::Ends
+    } else {
+        Effect::Mismatched
+    }
+}
+
+/// The arguments in the tokens behind a call's `(`, and how many tokens these are with the `)`. There
+/// are none if the token that closes the call is missing or isn't `)`.
+fn find_arguments<'a>(
+    alloc: Global,
+    tokens: &'a [Token<'a>],
+) -> Result<Option<(Arguments<'a>, usize)>, AllocError>
+    ensures { IfOk result (λ o. MatchOption o (arguments 0 (map lexeme_of tokens.now) ≡ None) (λ x. AreArguments (map lexeme_of tokens.now) (lists_in x.0.items) x.1)) }
+{
+    let mut found = SmallVec::new(alloc);
+    let mut further = 0;
+    let mut start = 0;
+    let mut at = 0;
+    while at < tokens.len() {
+        match effect_of(tokens[at].kind, further) {
+            Effect::Within(left) => further = left,
+            Effect::Cuts => {
+                found.push(&tokens[start..at])?;
+                start = at + 1;
+            }
+            Effect::Ends => {
+                found.push(&tokens[start..at])?;
+                return Ok(Some((found, at + 1)));
+            }
+            Effect::Mismatched => return Ok(None),
+        }
+        at += 1;
+    }
+    Ok(None)
+}
+
+/// The call that the token begins if it is a macro's name: of a macro without parameters it is the
+/// name alone, else the arguments follow.
+pub(crate) fn find_call<'m, 'a>(
+    alloc: Global,
+    macros: &'m Macros<'a>,
+    name: &Token<'a>,
+    behind: &'a [Token<'a>],
+) -> Result<Option<Call<'m, 'a>>, MacroError>
+    ensures ok { IfOk result (λ o. MatchOption o (meets macros.now (lexeme_of name.now) (map lexeme_of behind.now) ≡ Stays) (IsCall macros.now (lexeme_of name.now) (map lexeme_of behind.now))) }
+    ensures err { IfErr result (UnlessMemory (λ e. IsNoCall macros.now (lexeme_of name.now) (map lexeme_of behind.now) e)) }
+{
+    let Some(template) = macros.get(name) else {
+        return Ok(None);
+    };
+    let body = template.body.as_slice();
+    if template.parameters == 0 {
+        let arguments = SmallVec::new(alloc);
+        return Ok(Some(Call {
+            body,
+            arguments,
+            len: 0,
+        }));
+    }
+    if !begins_with_parenthesis(behind) {
+        return Err(MacroError::ArgumentCount { at: name.at });
+    }
+    let Some((arguments, len)) = find_arguments(alloc, &behind[1..])? else {
+        return Err(MacroError::ArgumentCount { at: name.at });
+    };
+    if arguments.len() != template.parameters {
+        return Err(MacroError::ArgumentCount { at: name.at });
+    }
+    Ok(Some(Call {
+        body,
+        arguments,
+        len: len + 1,
+    }))
+}
+
+/// Whether a `(` stands first.
+fn begins_with_parenthesis(tokens: &[Token<'_>]) -> bool
+    ensures { result ≡ begins_with_parenthesis (map lexeme_of tokens.now) }
+{
+    match tokens.first() {
+        Some(token) => token.kind.is_open_parenthesis(),
+        None => false,
+    }
+}

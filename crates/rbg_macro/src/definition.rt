@@ -1,0 +1,241 @@
+// The sections and macros that tokens define.
+ghost use Rattle.std.specs.Prelude.{ℕ, ◌≡◌, ◌+◌, ◌<◌, ◌≤◌, [], ◌∷◌, ◌++◌, List, length, map, None, Some, Ok, Err, IfOk, IfErr, OnOk};
+ghost use Rattle.std.specs.List.{position_or_len};
+ghost use Rattle.rbg_macro.specs.Defines.{defines_of, AddsDefined};
+ghost use Rattle.rbg_macro.specs.Definition.{expect, behind_equals, AddsParameter, parameter_list, behind_name, section_named, first_at, defined, definitions_of, BeginsDefinition, Part};
+ghost use Rattle.rbg_macro.specs.Gives.{Gives, UnlessMemory};
+ghost use Rattle.rbg_macro.specs.Kinds.{is_name_kind, is_equals, is_hash};
+ghost use Rattle.rbg_macro.specs.Template.{macro_of, texts_in};
+ghost use Rattle.rbg_macro.specs.Token.{Lexeme, lexeme_of};
+
+use crate::error::MacroError;
+use crate::macros::{Macros, Template};
+use crate::source::SectionKind;
+use crate::token::Token;
+use indexmap::IndexSet;
+use std::alloc::Global;
+
+/// A section with its own tokens.
+#[derive(Clone, Copy, Debug)]
+pub(crate) struct SectionBody<'a> {
+    pub(crate) kind: SectionKind,
+    pub(crate) at: usize,
+    pub(crate) tokens: &'a [Token<'a>],
+}
+
+/// The sections in order of the text, and the macros.
+#[derive(Drop)]
+pub(crate) struct Definitions<'a> {
+    pub(crate) sections: Vec<SectionBody<'a>>,
+    pub(crate) macros: Macros<'a>,
+}
+
+/// The next token of a head and what follows it, if the token is a name. A head that ends before is
+/// refused at `end`.
+fn expect_name<'a>(
+    tokens: &'a [Token<'a>],
+    end: usize,
+) -> Result<(Token<'a>, &'a [Token<'a>]), MacroError>
+    ensures { Gives (λ x. (lexeme_of x.0, map lexeme_of x.1.now)) result (expect (λ t. is_name_kind t.kind) end (map lexeme_of tokens.now)) }
+{
+    let Some((token, behind)) = tokens.split_first() else {
+        return Err(MacroError::BadDefinition { at: end });
+    };
+    if !token.kind.is_name() {
+        return Err(MacroError::BadDefinition { at: token.at });
+    }
+    Ok((*token, behind))
+}
+
+/// What follows the next token of a head, if the token is `=`.
+fn expect_equals<'a>(tokens: &'a [Token<'a>], end: usize) -> Result<&'a [Token<'a>], MacroError>
+    ensures { Gives (λ x. map lexeme_of x.now) result (behind_equals end (map lexeme_of tokens.now)) }
+{
+    let Some((token, behind)) = tokens.split_first() else {
+        return Err(MacroError::BadDefinition { at: end });
+    };
+    if !token.kind.is_equals() {
+        return Err(MacroError::BadDefinition { at: token.at });
+    }
+    Ok(behind)
+}
+
+/// A macro's parameters, and what follows them.
+type Parameters<'a> = (IndexSet<&'a [u8]>, &'a [Token<'a>]);
+
+/// Adds the parameter that stands first, and gives the token behind it.
+fn parameter<'a>(
+    names: &mut IndexSet<&'a [u8]>,
+    tokens: &'a [Token<'a>],
+    end: usize,
+) -> Result<Token<'a>, MacroError>
+    ensures ok { IfOk result (λ x. AddsParameter (texts_in names.old.keys) (texts_in names.new.keys) (map lexeme_of tokens.now) (lexeme_of x)) }
+    ensures err { IfErr result (UnlessMemory (λ e. parameter_list end (texts_in names.old.keys) (map lexeme_of tokens.now) ≡ Err e)) }
+{
+    if tokens.is_empty() {
+        return Err(MacroError::BadDefinition { at: end });
+    }
+    let name = tokens[0];
+    if !name.kind.is_name() {
+        return Err(MacroError::BadDefinition { at: name.at });
+    }
+    if names.contains(name.text) {
+        return Err(MacroError::BadDefinition { at: name.at });
+    }
+    names.insert(name.text)?;
+    if tokens.len() == 1 {
+        return Err(MacroError::BadDefinition { at: end });
+    }
+    Ok(tokens[1])
+}
+
+/// The parameters behind a `(`, up to the `)` behind the last one.
+fn parameter_list<'a>(
+    alloc: Global,
+    tokens: &'a [Token<'a>],
+    end: usize,
+) -> Result<Parameters<'a>, MacroError>
+    ensures { Gives (λ x. (texts_in x.0.keys, map lexeme_of x.1.now)) result (parameter_list end [] (map lexeme_of tokens.now)) }
+{
+    let mut names = IndexSet::new(alloc);
+    let mut at = 0;
+    loop {
+        let next = parameter(&mut names, &tokens[at..], end)?;
+        at += 2;
+        if next.kind.is_close_parenthesis() {
+            return Ok((names, &tokens[at..]));
+        }
+        if !next.kind.is_semicolon() {
+            return Err(MacroError::BadDefinition { at: next.at });
+        }
+    }
+}
+
+/// A macro's parameters and its body, behind its name.
+fn behind_name<'a>(
+    alloc: Global,
+    tokens: &'a [Token<'a>],
+    end: usize,
+) -> Result<Parameters<'a>, MacroError>
+    ensures { Gives (λ x. (texts_in x.0.keys, map lexeme_of x.1.now)) result (behind_name end (map lexeme_of tokens.now)) }
+{
+    let Some((token, behind)) = tokens.split_first() else {
+        return Err(MacroError::BadDefinition { at: end });
+    };
+    if token.kind.is_equals() {
+        return Ok((IndexSet::new(alloc), behind));
+    }
+    if !token.kind.is_open_parenthesis() {
+        return Err(MacroError::BadDefinition { at: token.at });
+    }
+    let (names, behind) = parameter_list(alloc, behind, end)?;
+    let body = expect_equals(behind, end)?;
+    Ok((names, body))
+}
+
+/// The section of this name.
+fn section_named(name: &[u8]) -> Option<SectionKind>
+    ensures { result ≡ section_named name.now }
+{
+    if name == b"players".as_slice() {
+        Some(SectionKind::Players)
+    } else if name == b"pieces".as_slice() {
+        Some(SectionKind::Pieces)
+    } else if name == b"variables".as_slice() {
+        Some(SectionKind::Variables)
+    } else if name == b"board".as_slice() {
+        Some(SectionKind::Board)
+    } else if name == b"rules".as_slice() {
+        Some(SectionKind::Rules)
+    } else {
+        None
+    }
+}
+
+impl<'a> Definitions<'a> {
+    fn new(alloc: Global) -> Self
+        ensures { defines_of result ≡ record { sections = []; macros = [] } }
+    {
+        Definitions {
+            sections: Vec::new(alloc),
+            macros: Macros::new(alloc),
+        }
+    }
+}
+
+/// Adds what a part defines: the tokens behind a `#` at this offset, up to the next one.
+fn define<'a>(
+    alloc: Global,
+    definitions: &mut Definitions<'a>,
+    at: usize,
+    tokens: &'a [Token<'a>],
+    end: usize,
+) -> Result<(), MacroError>
+    ensures ok { OnOk result (AddsDefined (defines_of definitions.old) (defines_of definitions.new) (record { at = at; tokens = map lexeme_of tokens.now; end = end })) }
+    ensures err { IfErr result (UnlessMemory (λ e. defined (defines_of definitions.old).macros (record { at = at; tokens = map lexeme_of tokens.now; end = end }) ≡ Err e)) }
+{
+    let (name, behind) = expect_name(tokens, end)?;
+    if let Some(kind) = section_named(name.text) {
+        let tokens = expect_equals(behind, end)?;
+        definitions.sections.push(SectionBody { kind, at, tokens })?;
+        return Ok(());
+    }
+    if definitions.macros.contains(name.text) {
+        return Err(MacroError::Twice { at: name.at });
+    }
+    let (parameters, body) = behind_name(alloc, behind, end)?;
+    let template = Template::new(alloc, &parameters, body)?;
+    definitions.macros.insert(name.text, template)?;
+    Ok(())
+}
+
+/// How many tokens stand before the next `#`.
+fn part_len(tokens: &[Token<'_>]) -> usize
+    ensures within { result ≤ length tokens.now }
+    ensures len { result ≡ position_or_len (λ t. is_hash t.kind) tokens.now }
+{
+    tokens.iter().take_while(|t| !t.kind.is_hash()).count()
+}
+
+/// Refuses a token that stands before the first `#`.
+fn check_begin(tokens: &[Token<'_>]) -> Result<(), MacroError>
+    ensures ok { OnOk result (BeginsDefinition (map lexeme_of tokens.now)) }
+    ensures err { IfErr result (λ e. definitions_of (map lexeme_of tokens.now) ≡ Err e) }
+{
+    match tokens.first() {
+        Some(token) if !token.kind.is_hash() => Err(MacroError::BadDefinition { at: token.at }),
+        _ => Ok(()),
+    }
+}
+
+/// The offset of the first token, if there is one.
+fn first_at(tokens: &[Token<'_>], otherwise: usize) -> usize
+    ensures { result ≡ first_at (map lexeme_of tokens.now) otherwise }
+{
+    match tokens.first() {
+        Some(token) => token.at,
+        None => otherwise,
+    }
+}
+
+/// What the tokens define.
+pub(crate) fn read_definitions<'a>(
+    alloc: Global,
+    tokens: &'a [Token<'a>],
+) -> Result<Definitions<'a>, MacroError>
+    ensures { Gives defines_of result (definitions_of (map lexeme_of tokens.now)) }
+{
+    check_begin(tokens)?;
+    let mut definitions = Definitions::new(alloc);
+    let mut at = 0;
+    while at < tokens.len() {
+        let hash = tokens[at];
+        let behind = &tokens[at + 1..];
+        let len = part_len(behind);
+        let (part, next) = behind.split_at(len);
+        let end = first_at(next, hash.at);
+        define(alloc, &mut definitions, hash.at, part, end)?;
+        at += len + 1;
+    }
+    Ok(definitions)
+}

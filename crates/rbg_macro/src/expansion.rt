@@ -1,0 +1,207 @@
+// Expansion: the sections with their macro calls replaced.
+ghost use Rattle.std.specs.Prelude.{ℕ, ◌≡◌, ◌+◌, ◌*◌, ◌-◌, ◌<◌, ◌≤◌, [], ◌∷◌, ◌++◌, List, length, map, Ok, Err, IfOk, IfErr, OnOk, OnErr, MatchOption};
+ghost use Rattle.std.specs.List.{list_any};
+ghost use Rattle.rbg_macro.specs.Call.{Stays, meets};
+ghost use Rattle.rbg_macro.specs.Expansion.{ExpandsWithin, Fails, FailsReading, FailsAll, HasSections, HasMacroFault};
+ghost use Rattle.rbg_macro.specs.Defines.{section_of};
+ghost use Rattle.rbg_macro.specs.Gives.{UnlessMemory};
+ghost use Rattle.rbg_macro.specs.Kinds.{is_tilde};
+ghost use Rattle.rbg_macro.specs.Progress.{ReadsOn, ReadsJoined, ReadsSection, FailsJoined, GivesWay, IsTooMany, IsWithinLimits};
+ghost use Rattle.rbg_macro.specs.Token.{lexeme_of};
+
+use crate::buffer::TokenBuffer;
+use crate::call::find_call;
+use crate::definition::{SectionBody, read_definitions};
+use crate::error::MacroError;
+use crate::filling::{fill, filled_len};
+use crate::joining::join;
+use crate::limits::{MAX_KEPT, MAX_LEVEL, MAX_READ};
+use crate::macros::Macros;
+use crate::source::{SectionSpan, Source};
+use crate::token::{Token, Tokens};
+use std::alloc::Global;
+
+/// How far an expansion has come: how many tokens were read, and which were kept.
+#[derive(Debug, Drop)]
+struct Progress {
+    read: usize,
+    kept: TokenBuffer,
+}
+
+impl Progress {
+    /// Counts the tokens of a list.
+    fn count(&mut self, len: usize)
+        requires { self.old.read + len ≤ MAX_READ }
+        ensures { self.new ≡ record self.old { read = self.old.read + len } }
+    {
+        self.read += len;
+    }
+
+    /// Keeps a token that stays.
+    fn keep(&mut self, token: &Token<'_>) -> Result<(), MacroError>
+        ensures ok { OnOk result (self.new ≡ record self.old { kept = self.old.kept ++ lexeme_of token.now ∷ [] }) }
+        ensures fits { OnOk result (length self.old.kept < MAX_KEPT) }
+        ensures err { IfErr result (UnlessMemory (λ e. IsTooMany e (MAX_KEPT ≤ length self.old.kept))) }
+    {
+        if self.kept.len() >= MAX_KEPT {
+            return Err(MacroError::TooManyTokens);
+        }
+        self.kept.push(token)?;
+        Ok(())
+    }
+}
+
+/// The body that a call gives way to, with its arguments, and how many tokens the call has behind the
+/// macro's name; none if the token is no macro's name.
+fn body_of_call<'a>(
+    alloc: Global,
+    macros: &Macros<'a>,
+    level: usize,
+    name: &Token<'a>,
+    behind: &'a [Token<'a>],
+    read: usize,
+) -> Result<Option<(Vec<Token<'a>>, usize)>, MacroError>
+    requires { read ≤ MAX_READ }
+    ensures ok { IfOk result (λ o. MatchOption o (meets macros.now (lexeme_of name.now) (map lexeme_of behind.now) ≡ Stays) (λ x. GivesWay macros.now level (lexeme_of name.now) (map lexeme_of behind.now) read (map lexeme_of x.0.items) x.1)) }
+    ensures err { IfErr result (UnlessMemory (λ e. (k : ℕ) → FailsReading macros.now level read k (lexeme_of name.now ∷ map lexeme_of behind.now) e)) }
+{
+    let Some(call) = find_call(alloc, macros, name, behind)? else {
+        return Ok(None);
+    };
+    if level >= MAX_LEVEL {
+        return Err(MacroError::Depth { at: name.at });
+    }
+    let len = call.len;
+    let Some(count) = filled_len(call.body, &call.arguments, MAX_READ - read) else {
+        return Err(MacroError::TooManyTokens);
+    };
+    let filled = fill(alloc, call.body, &call.arguments, count)?;
+    Ok(Some((filled, len)))
+}
+
+/// Whether the list has a `~`. A list without one is joined already.
+fn has_tilde(list: &[Token<'_>]) -> bool
+    ensures { result ≡ list_any (λ t. is_tilde t.kind) list.now }
+{
+    list.iter().any(|t| t.kind.is_tilde())
+}
+
+/// Joins a list that was counted, and reads it.
+#[cycle(expansion)]
+fn read_list<'a>(
+    alloc: Global,
+    macros: &Macros<'a>,
+    level: usize,
+    list: &'a [Token<'a>],
+    progress: &mut Progress,
+) -> Result<(), MacroError>
+    requires level { level ≤ MAX_LEVEL }
+    requires within { IsWithinLimits progress.old }
+    ensures ok { OnOk result (ReadsJoined macros.now level (map lexeme_of list.now) progress.old progress.new) }
+    ensures err { IfErr result (UnlessMemory (FailsJoined macros.now level (map lexeme_of list.now) progress.old)) }
+{
+    if !has_tilde(list) {
+        return read_joined(alloc, macros, level, list, progress);
+    }
+    let joined = join(alloc, list)?;
+    let tokens = joined.tokens(alloc)?;
+    read_joined(alloc, &*macros, level, &tokens, progress)
+}
+
+/// Reads a joined list: keeps the tokens that stay, and expands the calls.
+#[cycle(expansion)]
+fn read_joined<'a>(
+    alloc: Global,
+    macros: &Macros<'a>,
+    level: usize,
+    list: &'a [Token<'a>],
+    progress: &mut Progress,
+) -> Result<(), MacroError>
+    requires level { level ≤ MAX_LEVEL }
+    requires within { IsWithinLimits progress.old }
+    ensures ok { OnOk result (ReadsOn macros.now level (map lexeme_of list.now) progress.old progress.new) }
+    ensures err { IfErr result (UnlessMemory (FailsReading macros.now level progress.old.read (length progress.old.kept) (map lexeme_of list.now))) }
+{
+    let mut at = 0;
+    while at < list.len() {
+        match body_of_call(
+            alloc,
+            macros,
+            level,
+            &list[at],
+            &list[at + 1..],
+            progress.read,
+        )? {
+            None => {
+                progress.keep(&list[at])?;
+                at += 1;
+            }
+            Some((body, len)) => {
+                progress.count(body.len());
+                read_list(alloc, &*macros, level + 1, &body, progress)?;
+                at += len + 1;
+            }
+        }
+    }
+    Ok(())
+}
+
+/// Expands a section, whose tokens are kept behind those of the earlier ones.
+fn read_section<'a>(
+    alloc: Global,
+    macros: &Macros<'a>,
+    section: &SectionBody<'a>,
+    progress: &mut Progress,
+) -> Result<SectionSpan, MacroError>
+    requires { IsWithinLimits progress.old }
+    ensures ok { IfOk result (ReadsSection macros.now (section_of section.now) progress.old progress.new) }
+    ensures err { IfErr result (UnlessMemory (Fails macros.now 0 progress.old.read (length progress.old.kept) (section_of section.now).tokens)) }
+{
+    let tokens = section.tokens;
+    if tokens.len() > MAX_READ - progress.read {
+        return Err(MacroError::TooManyTokens);
+    }
+    let start = progress.kept.len();
+    progress.count(tokens.len());
+    read_list(alloc, macros, 0, tokens, progress)?;
+    Ok(SectionSpan {
+        kind: section.kind,
+        at: section.at,
+        start,
+        end: progress.kept.len(),
+    })
+}
+
+/// Expands the sections one by one.
+fn expand_sections<'a>(
+    alloc: Global,
+    macros: &Macros<'a>,
+    bodies: &[SectionBody<'a>],
+) -> Result<Source, MacroError>
+    ensures ok { IfOk result (ExpandsWithin macros.now (map section_of bodies.now)) }
+    ensures err { IfErr result (UnlessMemory (FailsAll macros.now 0 0 (map section_of bodies.now))) }
+{
+    let mut progress = Progress {
+        read: 0,
+        kept: TokenBuffer::new(alloc),
+    };
+    let mut sections = Vec::with_capacity(alloc, bodies.len())?;
+    for body in bodies {
+        let section = read_section(alloc, macros, body, &mut progress)?;
+        sections.push(section)?;
+    }
+    Ok(Source::new(progress.kept, sections))
+}
+
+/// The sections that the tokens define, expanded: each macro call is replaced by the macro's body with
+/// the call's arguments, and `~` joins the tokens beside it.
+pub fn expand(alloc: Global, tokens: &Tokens<'_>) -> Result<Source, MacroError>
+    ensures sections { IfOk result (HasSections tokens.now) }
+    ensures fault { IfErr result (HasMacroFault tokens.now) }
+{
+    let definitions = read_definitions(alloc, tokens.as_slice())?;
+    expand_sections(alloc, &definitions.macros, &definitions.sections)
+}
+
+#[cfg(test)]
+mod tests;

@@ -1,0 +1,79 @@
+// A macro's body with the arguments of a call put in.
+ghost use Rattle.std.specs.Prelude.{ℕ, ◌≡◌, ◌+◌, ◌<◌, ◌≤◌, ◌++◌, List, [], length, map, slice_get, unwrap_or, MatchOption, IfOk, OnOk};
+ghost use Rattle.rbg_macro.specs.Macro.{filled, filled_piece};
+ghost use Rattle.rbg_macro.specs.Template.{piece_in, lists_in};
+ghost use Rattle.rbg_macro.specs.Token.{lexeme_of};
+
+use crate::macros::Piece;
+use crate::token::Token;
+use std::alloc::{AllocError, Global};
+
+/// The argument with this index, or no tokens.
+fn argument_at<'a>(arguments: &[&'a [Token<'a>]], index: usize) -> &'a [Token<'a>]
+    ensures { map lexeme_of result.now ≡ unwrap_or (slice_get (lists_in arguments.now) index) [] }
+{
+    if index < arguments.len() {
+        return arguments[index];
+    }
+    &[]
+}
+
+/// How many tokens a piece becomes.
+fn piece_len<'a>(piece: &Piece<'a>, arguments: &[&'a [Token<'a>]]) -> usize
+    ensures { result ≡ length (filled_piece (lists_in arguments.now) (piece_in piece.now)) }
+{
+    match piece {
+        Piece::Word(_) => 1,
+        Piece::Place(index) => argument_at(arguments, *index).len(),
+    }
+}
+
+/// How many tokens the body becomes, if there is room for them.
+pub(crate) fn filled_len<'a>(
+    body: &[Piece<'a>],
+    arguments: &[&'a [Token<'a>]],
+    room: usize,
+) -> Option<usize>
+    ensures { MatchOption result (room < length (filled (map piece_in body.now) (lists_in arguments.now))) (λ n. (n ≡ length (filled (map piece_in body.now) (lists_in arguments.now))) × (n ≤ room)) }
+{
+    let mut len = 0;
+    for piece in body {
+        let more = piece_len(piece, arguments);
+        if more > room - len {
+            return None;
+        }
+        len += more;
+    }
+    Some(len)
+}
+
+/// Adds what a piece becomes.
+fn push_piece<'a>(
+    tokens: &mut Vec<Token<'a>>,
+    piece: &Piece<'a>,
+    arguments: &[&'a [Token<'a>]],
+) -> Result<(), AllocError>
+    ensures { OnOk result (map lexeme_of tokens.new.items ≡ map lexeme_of tokens.old.items ++ filled_piece (lists_in arguments.now) (piece_in piece.now)) }
+{
+    match piece {
+        Piece::Word(token) => tokens.push(*token)?,
+        Piece::Place(index) => tokens.extend_from_slice(argument_at(arguments, *index))?,
+    }
+    Ok(())
+}
+
+/// The body with the arguments put in, which make so many tokens.
+pub(crate) fn fill<'a>(
+    alloc: Global,
+    body: &[Piece<'a>],
+    arguments: &[&'a [Token<'a>]],
+    len: usize,
+) -> Result<Vec<Token<'a>>, AllocError>
+    ensures { IfOk result (λ v. map lexeme_of v.items ≡ filled (map piece_in body.now) (lists_in arguments.now)) }
+{
+    let mut tokens = Vec::with_capacity(alloc, len)?;
+    for piece in body {
+        push_piece(&mut tokens, piece, arguments)?;
+    }
+    Ok(tokens)
+}

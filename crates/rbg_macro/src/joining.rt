@@ -1,0 +1,197 @@
+// Joining: each `~` and its two neighbours become one token, from the left.
+ghost use Rattle.std.specs.Prelude.{ℕ, ◌≡◌, ◌+◌, ◌<◌, ◌≤◌, [], ◌∷◌, ◌++◌, List, length, take, drop, map, Ok, Err, IfOk, IfErr, OnOk, IsTrue, ◌↔◌, All};
+ghost use Rattle.rbg_macro.specs.Gives.{Gives, UnlessMemory};
+ghost use Rattle.rbg_macro.specs.Joined.{AddsChain, JoinsNext, JoinsChain, FailsChain, IsJoinedWithin, begins_with_tilde, joined_lexeme, word_at};
+ghost use Rattle.rbg_macro.specs.Joining.{joined, joined_from, joined_kind};
+ghost use Rattle.rbg_macro.specs.Kinds.{is_tilde};
+ghost use Rattle.rbg_macro.specs.Token.{Lexeme, lexeme_of};
+
+use crate::buffer::Span;
+use crate::error::MacroError;
+use crate::limits::MAX_JOINED;
+use crate::token::{Token, TokenKind};
+use std::alloc::{AllocError, Global};
+use std::marker::Model;
+
+/// A token that stayed as it was, or one that was joined, whose bytes stand in a buffer.
+#[derive(Clone, Copy, Debug)]
+pub(crate) enum JoinedToken<'a> {
+    Single(Token<'a>),
+    Joined(Span),
+}
+
+/// A joined list, with the texts of its joined tokens.
+#[derive(Drop)]
+pub(crate) struct JoinedList<'a> {
+    texts: Vec<u8>,
+    tokens: Vec<JoinedToken<'a>>,
+}
+
+impl<'a> Model for JoinedList<'a> {
+    ghost use Rattle.std.specs.Prelude.{List, map, All};
+    ghost use Rattle.rbg_macro.specs.Token.{Lexeme};
+
+    ghost Value = { List Lexeme };
+
+    ghost use Rattle.rbg_macro.specs.Joined.{joined_lexeme, IsJoinedWithin};
+
+    ghost view = { λ j. map (joined_lexeme j.texts.items) j.tokens.items };
+
+    ghost invariant = { λ j. All (IsJoinedWithin j.texts.items) j.tokens.items };
+}
+
+/// The kind of the token that two tokens make together, if they make a name or a number.
+fn joined_kind(left: TokenKind, right: TokenKind) -> Option<TokenKind>
+    ensures { result ≡ joined_kind left right }
+{
+    match (left, right) {
+        (TokenKind::Name, TokenKind::Name | TokenKind::Number) => Some(TokenKind::Name),
+        (TokenKind::Number, TokenKind::Number) => Some(TokenKind::Number),
+        _ => None,
+    }
+}
+
+/// Whether a `~` stands first.
+pub(crate) fn begins_with_tilde(tokens: &[Token<'_>]) -> bool
+    ensures { result ≡ begins_with_tilde (map lexeme_of tokens.now) }
+{
+    match tokens.first() {
+        Some(token) => token.kind.is_tilde(),
+        None => false,
+    }
+}
+
+/// Adds the token behind the `~` that stands first to the word that begins at `start`, and gives the
+/// word's kind.
+fn join_next(
+    texts: &mut Vec<u8>,
+    start: usize,
+    kind: TokenKind,
+    tokens: &[Token<'_>],
+) -> Result<TokenKind, MacroError>
+    requires start { start ≤ length texts.old.items }
+    requires tilde { IsTrue (begins_with_tilde (map lexeme_of tokens.now)) }
+    ensures ok { IfOk result (λ k. JoinsNext kind k (drop start texts.old.items) (drop start texts.new.items) (map lexeme_of tokens.now)) }
+    ensures front { take (length texts.old.items) texts.new.items ≡ texts.old.items }
+    ensures err { IfErr result (UnlessMemory (λ e. (at : ℕ) → joined_from (word_at at kind (drop start texts.old.items)) (map lexeme_of tokens.now) ≡ Err e)) }
+{
+    let at = tokens[0].at;
+    if tokens.len() == 1 {
+        return Err(MacroError::BadJoin { at });
+    }
+    let right = tokens[1];
+    let Some(joined) = joined_kind(kind, right.kind) else {
+        return Err(MacroError::BadJoin { at });
+    };
+    let len = (texts.len() - start).saturating_add(right.text.len());
+    if len > MAX_JOINED {
+        return Err(MacroError::BadJoin { at });
+    }
+    texts.extend_from_slice(right.text)?;
+    Ok(joined)
+}
+
+/// Joins the first token with those that follow behind a `~` each. The word's bytes are added to the
+/// texts; its kind is given, and how many tokens it took.
+fn join_chain(texts: &mut Vec<u8>, tokens: &[Token<'_>]) -> Result<(TokenKind, usize), MacroError>
+    requires { 0 < length tokens.now }
+    ensures ok { IfOk result (λ x. JoinsChain (map lexeme_of tokens.now) x.0 (drop (length texts.old.items) texts.new.items) x.1) }
+    ensures front { take (length texts.old.items) texts.new.items ≡ texts.old.items }
+    ensures err { IfErr result (UnlessMemory (λ e. FailsChain (map lexeme_of tokens.now) e)) }
+{
+    let start = texts.len();
+    let first = tokens[0];
+    texts.extend_from_slice(first.text)?;
+    let mut kind = first.kind;
+    let mut count = 1;
+    while begins_with_tilde(&tokens[count..]) {
+        kind = join_next(texts, start, kind, &tokens[count..])?;
+        count += 2;
+    }
+    Ok((kind, count))
+}
+
+impl<'a> JoinedList<'a> {
+    fn new(alloc: Global) -> Self
+        ensures { result ≡ [] }
+    {
+        JoinedList {
+            texts: Vec::new(alloc),
+            tokens: Vec::new(alloc),
+        }
+    }
+
+    /// Adds a token that stays as it is.
+    fn push(&mut self, token: Token<'a>) -> Result<(), AllocError>
+        ensures { OnOk result (self.new ≡ self.old ++ lexeme_of token.entry ∷ []) }
+    {
+        self.tokens.push(JoinedToken::Single(token))?;
+        Ok(())
+    }
+
+    /// Adds the token that the first ones make together, which follow behind a `~` each, and gives how
+    /// many they are.
+    fn push_chain(&mut self, tokens: &[Token<'_>]) -> Result<usize, MacroError>
+        requires { 0 < length tokens.now }
+        ensures ok { IfOk result (AddsChain self.old self.new (map lexeme_of tokens.now)) }
+        ensures err { IfErr result (UnlessMemory (λ e. FailsChain (map lexeme_of tokens.now) e)) }
+    {
+        let at = tokens[0].at;
+        let start = self.texts.len();
+        let (kind, count) = join_chain(&mut self.texts, tokens)?;
+        let end = self.texts.len();
+        self.tokens.push(JoinedToken::Joined(Span {
+            kind,
+            start,
+            end,
+            at,
+        }))?;
+        Ok(count)
+    }
+
+    /// The tokens of the list, which borrow its texts.
+    pub(crate) fn tokens(&self, alloc: Global) -> Result<Vec<Token<'_>>, AllocError>
+        ensures { IfOk result (λ v. map lexeme_of v.items ≡ self.now) }
+    {
+        let mut tokens = Vec::with_capacity(alloc, self.tokens.len())?;
+        for token in &self.tokens {
+            tokens.push(resolve(token, &self.texts))?;
+        }
+        Ok(tokens)
+    }
+}
+
+/// The token itself, or the one whose bytes stand in the texts.
+fn resolve<'s>(token: &JoinedToken<'s>, texts: &'s [u8]) -> Token<'s>
+    requires { IsJoinedWithin texts.now token.now }
+    ensures { lexeme_of result ≡ joined_lexeme texts.now token.now }
+{
+    match token {
+        JoinedToken::Single(token) => *token,
+        JoinedToken::Joined(span) => Token {
+            kind: span.kind,
+            text: &texts[span.start..span.end],
+            at: span.at,
+        },
+    }
+}
+
+/// The list, joined over its whole length from the left.
+pub(crate) fn join<'a>(alloc: Global, list: &'a [Token<'a>]) -> Result<JoinedList<'a>, MacroError>
+    ensures { Gives (λ j. j) result (joined (map lexeme_of list.now)) }
+{
+    let mut joined = JoinedList::new(alloc);
+    if begins_with_tilde(list) {
+        return Err(MacroError::BadJoin { at: list[0].at });
+    }
+    let mut at = 0;
+    while at < list.len() {
+        if begins_with_tilde(&list[at + 1..]) {
+            at += joined.push_chain(&list[at..])?;
+        } else {
+            joined.push(list[at])?;
+            at += 1;
+        }
+    }
+    Ok(joined)
+}

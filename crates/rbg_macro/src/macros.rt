@@ -1,0 +1,118 @@
+// The macros of a description, by name.
+ghost use Rattle.std.specs.Prelude.{ℕ, ◌≡◌, ◌+◌, ◌<◌, ◌≤◌, [], ◌∷◌, ◌++◌, List, length, map, None, Some, MatchOption, OnOk, IfOk};
+ghost use Rattle.std.specs.Bool.{IsFalse};
+ghost use Rattle.std.specs.List.{list_any};
+ghost use Rattle.std.specs.Str.{bytes_eq};
+ghost use Rattle.rbg_macro.specs.Macro.{macro_named, piece_of, body_of};
+ghost use Rattle.rbg_macro.specs.Template.{macro_of, piece_in, texts_in, IsNamed};
+ghost use Rattle.rbg_macro.specs.Token.{lexeme_of};
+
+use crate::token::Token;
+use indexmap::{IndexMap, IndexSet};
+use std::alloc::{AllocError, Global};
+use std::marker::Model;
+
+/// What a macro's body is made of: its own tokens, and the places where an argument is put.
+#[derive(Clone, Copy, Debug)]
+pub(crate) enum Piece<'a> {
+    Word(Token<'a>),
+    Place(usize),
+}
+
+/// How many parameters a macro has, and its body.
+#[derive(Debug, Drop)]
+pub(crate) struct Template<'a> {
+    pub(crate) parameters: usize,
+    pub(crate) body: Vec<Piece<'a>>,
+}
+
+/// The macros by name, in order of the text.
+#[derive(Drop)]
+pub(crate) struct Macros<'a> {
+    by_name: IndexMap<&'a [u8], Template<'a>>,
+}
+
+impl<'a> Model for Macros<'a> {
+    ghost use Rattle.std.specs.Prelude.{List, map};
+    ghost use Rattle.rbg_macro.specs.Macro.{Macro};
+
+    ghost Value = { List Macro };
+
+    ghost use Rattle.rbg_macro.specs.Template.{macro_in};
+
+    ghost view = { λ m. map macro_in m.by_name.entries };
+}
+
+impl<'a> Template<'a> {
+    /// The template of a macro with these parameters and this body.
+    pub(crate) fn new(
+        alloc: Global,
+        parameters: &IndexSet<&'a [u8]>,
+        tokens: &'a [Token<'a>],
+    ) -> Result<Self, AllocError>
+        ensures parameters { IfOk result (λ t. t.parameters ≡ length (texts_in parameters.now.keys)) }
+        ensures body { IfOk result (λ t. map piece_in t.body.items ≡ body_of (texts_in parameters.now.keys) (map lexeme_of tokens.now)) }
+    {
+        let mut body = Vec::with_capacity(alloc, tokens.len())?;
+        for token in tokens {
+            body.push(word_or_place(parameters, token))?;
+        }
+        Ok(Template {
+            parameters: parameters.len(),
+            body,
+        })
+    }
+}
+
+/// What the token is in the body of a macro with these parameters.
+fn word_or_place<'a>(parameters: &IndexSet<&'a [u8]>, token: &Token<'a>) -> Piece<'a>
+    ensures { piece_in result ≡ piece_of (texts_in parameters.now.keys) (lexeme_of token.now) }
+{
+    if !token.kind.is_name() {
+        return Piece::Word(*token);
+    }
+    match parameters.get_index_of(token.text) {
+        Some(index) => Piece::Place(index),
+        None => Piece::Word(*token),
+    }
+}
+
+impl<'a> Macros<'a> {
+    pub(crate) fn new(alloc: Global) -> Self
+        ensures { result ≡ [] }
+    {
+        Macros {
+            by_name: IndexMap::new(alloc),
+        }
+    }
+
+    /// Whether there is a macro of this name.
+    pub(crate) fn contains(&self, name: &[u8]) -> bool
+        ensures { result ≡ list_any (λ m. bytes_eq name.now m.name) self.now }
+    {
+        self.by_name.contains_key(name)
+    }
+
+    /// Adds a macro of a new name.
+    pub(crate) fn insert(
+        &mut self,
+        name: &'a [u8],
+        template: Template<'a>,
+    ) -> Result<(), AllocError>
+        requires { IsFalse (list_any (λ m. bytes_eq name.now m.name) self.old) }
+        ensures { OnOk result (self.new ≡ self.old ++ macro_of name.now template.entry ∷ []) }
+    {
+        self.by_name.insert(name, template)?;
+        Ok(())
+    }
+
+    /// The macro that the token names.
+    pub(crate) fn get(&self, token: &Token<'_>) -> Option<&Template<'a>>
+        ensures { MatchOption result (macro_named self.now (lexeme_of token.now) ≡ None) (λ t. IsNamed self.now (lexeme_of token.now) t.now) }
+    {
+        if token.kind.is_name() {
+            return self.by_name.get(token.text);
+        }
+        None
+    }
+}

@@ -1,0 +1,144 @@
+// The expanded sections of a description, which own the texts of their tokens.
+ghost use Rattle.std.specs.Prelude.{◌≡◌, ◌<◌, ◌==◌, ◌++◌, [], ◌∷◌, length, slice_get, Some, OnOk, OnErr};
+ghost use Rattle.rbg_macro.specs.Token.{lexeme_of};
+
+use crate::buffer::TokenBuffer;
+use crate::token::Token;
+use std::alloc::AllocError;
+use std::marker::Model;
+
+/// Which section it is.
+#[derive(Clone, Copy, Debug, PartialEq, Eq)]
+pub enum SectionKind {
+    Players,
+    Pieces,
+    Variables,
+    Board,
+    Rules,
+}
+
+/// A section whose tokens stand in a list.
+#[derive(Clone, Copy, Debug)]
+pub(crate) struct SectionSpan {
+    pub(crate) kind: SectionKind,
+    pub(crate) at: usize,
+    pub(crate) start: usize,
+    pub(crate) end: usize,
+}
+
+/// The sections of a description in order of the text, with their macros expanded.
+#[derive(Debug, Drop)]
+pub struct Source {
+    tokens: TokenBuffer,
+    sections: Vec<SectionSpan>,
+}
+
+impl Model for Source {
+    ghost use Rattle.std.specs.Prelude.{List, map, All, length};
+    ghost use Rattle.rbg_macro.specs.Token.{SectionTokens};
+
+    ghost Value = { List SectionTokens };
+
+    ghost use Rattle.rbg_macro.specs.Span.{section_in, IsSectionWithin};
+
+    ghost view = { λ s. map (section_in s.tokens) s.sections.items };
+
+    ghost invariant = { λ s. All (IsSectionWithin (length s.tokens)) s.sections.items };
+}
+
+/// One section of a source.
+#[derive(Debug, Drop)]
+pub struct Section<'a> {
+    tokens: &'a TokenBuffer,
+    span: SectionSpan,
+}
+
+impl<'a> Model for Section<'a> {
+    ghost use Rattle.std.specs.Prelude.{length};
+    ghost use Rattle.rbg_macro.specs.Token.{SectionTokens};
+
+    ghost Value = { SectionTokens };
+
+    ghost use Rattle.rbg_macro.specs.Span.{section_in, IsSectionWithin};
+
+    ghost view = { λ s. section_in s.tokens.now s.span };
+
+    ghost invariant = { λ s. IsSectionWithin (length s.tokens.now) s.span };
+}
+
+impl Source {
+    ghost use Rattle.std.specs.Prelude.{◌≡◌, ◌<◌, ◌==◌, All, Some, length, map, slice_get};
+    ghost use Rattle.rbg_macro.specs.Span.{section_in, IsSectionWithin};
+
+    pub(crate) fn new(tokens: TokenBuffer, sections: Vec<SectionSpan>) -> Self
+        requires { All (IsSectionWithin (length tokens)) sections.items }
+        ensures { result ≡ map (section_in tokens) sections.items }
+    {
+        Source { tokens, sections }
+    }
+
+    /// How many sections there are.
+    pub fn len(&self) -> usize
+        ensures { result ≡ length self.now }
+    {
+        self.sections.len()
+    }
+
+    /// Whether there is no section.
+    pub fn is_empty(&self) -> bool
+        ensures { result ≡ (length self.now == 0) }
+    {
+        self.sections.is_empty()
+    }
+
+    /// The section with this index, in order of the text.
+    pub fn section(&self, index: usize) -> Section<'_>
+        requires { index < length self.now }
+        ensures { slice_get self.now index ≡ Some result }
+    {
+        let sections = self.sections.as_slice();
+        Section {
+            tokens: &self.tokens,
+            span: sections[index],
+        }
+    }
+}
+
+impl<'a> Section<'a> {
+    /// Which section it is.
+    pub fn kind(&self) -> SectionKind
+        ensures { result ≡ self.now.kind }
+    {
+        self.span.kind
+    }
+
+    /// The offset of its `#`.
+    pub fn at(&self) -> usize
+        ensures { result ≡ self.now.at }
+    {
+        self.span.at
+    }
+
+    /// How many tokens it has.
+    pub fn len(&self) -> usize
+        ensures { result ≡ length self.now.tokens }
+    {
+        self.span.end - self.span.start
+    }
+
+    /// Whether it has no token.
+    pub fn is_empty(&self) -> bool
+        ensures { result ≡ (length self.now.tokens == 0) }
+    {
+        self.span.start == self.span.end
+    }
+
+    /// Its token with this index.
+    pub fn token(&self, index: usize) -> Token<'a>
+        requires { index < length self.now.tokens }
+        ensures { slice_get self.now.tokens index ≡ Some (lexeme_of result) }
+    {
+        let span = self.span;
+        self.tokens.token(span.start + index)
+    }
+}

@@ -1,0 +1,210 @@
+// Tokens: what the bytes of a text spell.
+ghost use Rattle.std.specs.Prelude.{◌≡◌, ◌<◌, ◌↔◌, map, length, IsTrue, slice_get, Some, [], ◌++◌, ◌∷◌, IfOk, OnOk};
+ghost use Rattle.rbg_macro.specs.Token.{lexeme_of};
+
+use std::alloc::{AllocError, Global};
+use std::marker::Model;
+
+/// The symbols, each a token of its own.
+#[derive(Clone, Copy, Debug, PartialEq, Eq)]
+pub enum Symbol {
+    /// `->>`
+    DoubleArrow,
+    /// `->`
+    Arrow,
+    /// `==`
+    DoubleEquals,
+    /// `!=`
+    NotEquals,
+    /// `<=`
+    LessOrEqual,
+    /// `>=`
+    GreaterOrEqual,
+    /// `=`
+    Equals,
+    /// `<`
+    LessThan,
+    /// `>`
+    GreaterThan,
+    /// `+`
+    Plus,
+    /// `-`
+    Minus,
+    /// `*`
+    Star,
+    /// `/`
+    Slash,
+    /// `(`
+    OpenParenthesis,
+    /// `)`
+    CloseParenthesis,
+    /// `[`
+    OpenBracket,
+    /// `]`
+    CloseBracket,
+    /// `{`
+    OpenBrace,
+    /// `}`
+    CloseBrace,
+    /// `,`
+    Comma,
+    /// `;`
+    Semicolon,
+    /// `:`
+    Colon,
+    /// `~`
+    Tilde,
+    /// `#`
+    Hash,
+    /// `$`
+    Dollar,
+    /// `?`
+    Question,
+    /// `!`
+    Exclamation,
+}
+
+impl Symbol {
+    ghost use Rattle.std.specs.Prelude.{◌≡◌, length};
+    ghost use Rattle.rbg_macro.specs.Text.{spelling};
+
+    /// How many bytes it has.
+    pub fn len(self) -> usize
+        ensures { result ≡ length (spelling self) }
+    {
+        match self {
+            Symbol::DoubleArrow => 3,
+            Symbol::Arrow
+            | Symbol::DoubleEquals
+            | Symbol::NotEquals
+            | Symbol::LessOrEqual
+            | Symbol::GreaterOrEqual => 2,
+            _ => 1,
+        }
+    }
+}
+
+/// What kind of token it is.
+#[derive(Clone, Copy, Debug, PartialEq, Eq)]
+pub enum TokenKind {
+    /// A letter or `_`, followed by letters, digits or `_`.
+    Name,
+    /// One or more digits.
+    Number,
+    Symbol(Symbol),
+}
+
+impl TokenKind {
+    ghost use Rattle.std.specs.Prelude.{◌≡◌};
+    ghost use Rattle.rbg_macro.specs.Kinds.{is_name_kind, is_hash, is_equals, is_tilde, is_semicolon, is_open_parenthesis, is_close_parenthesis, opens, closes};
+
+    pub(crate) fn is_name(self) -> bool
+        ensures { result ≡ is_name_kind self }
+    {
+        matches!(self, TokenKind::Name)
+    }
+
+    pub(crate) fn is_hash(self) -> bool
+        ensures { result ≡ is_hash self }
+    {
+        matches!(self, TokenKind::Symbol(Symbol::Hash))
+    }
+
+    pub(crate) fn is_equals(self) -> bool
+        ensures { result ≡ is_equals self }
+    {
+        matches!(self, TokenKind::Symbol(Symbol::Equals))
+    }
+
+    pub(crate) fn is_tilde(self) -> bool
+        ensures { result ≡ is_tilde self }
+    {
+        matches!(self, TokenKind::Symbol(Symbol::Tilde))
+    }
+
+    pub(crate) fn is_semicolon(self) -> bool
+        ensures { result ≡ is_semicolon self }
+    {
+        matches!(self, TokenKind::Symbol(Symbol::Semicolon))
+    }
+
+    pub(crate) fn is_open_parenthesis(self) -> bool
+        ensures { result ≡ is_open_parenthesis self }
+    {
+        matches!(self, TokenKind::Symbol(Symbol::OpenParenthesis))
+    }
+
+    pub(crate) fn is_close_parenthesis(self) -> bool
+        ensures { result ≡ is_close_parenthesis self }
+    {
+        matches!(self, TokenKind::Symbol(Symbol::CloseParenthesis))
+    }
+
+    /// Whether it opens brackets: `(`, `[` or `{`.
+    pub(crate) fn opens(self) -> bool
+        ensures { result ≡ opens self }
+    {
+        matches!(
+            self,
+            TokenKind::Symbol(Symbol::OpenParenthesis | Symbol::OpenBracket | Symbol::OpenBrace)
+        )
+    }
+
+    /// Whether it closes brackets: `)`, `]` or `}`.
+    pub(crate) fn closes(self) -> bool
+        ensures { result ≡ closes self }
+    {
+        matches!(
+            self,
+            TokenKind::Symbol(Symbol::CloseParenthesis | Symbol::CloseBracket | Symbol::CloseBrace)
+        )
+    }
+}
+
+/// A token: its kind, its bytes, and the offset of the text where it, or the first token that was
+/// joined into it, stands.
+#[derive(Clone, Copy, Debug)]
+pub struct Token<'a> {
+    pub kind: TokenKind,
+    pub text: &'a [u8],
+    pub at: usize,
+}
+
+impl Token<'_> {
+    /// Whether the token is this symbol.
+    pub fn is(&self, symbol: Symbol) -> bool
+        ensures { IsTrue result ↔ (self.now.kind ≡ TokenKind.Symbol symbol) }
+    {
+        self.kind == TokenKind::Symbol(symbol)
+    }
+}
+
+/// The tokens of a text, which they borrow.
+#[derive(Debug, Drop)]
+pub struct Tokens<'a> {
+    tokens: Vec<Token<'a>>,
+}
+
+impl<'a> Model for Tokens<'a> {
+    ghost use Rattle.std.specs.Prelude.{List, map};
+    ghost use Rattle.rbg_macro.specs.Token.{Lexeme, lexeme_of};
+
+    ghost Value = { List Lexeme };
+
+    ghost view = { λ t. map lexeme_of t.tokens.items };
+}
+
+impl<'a> Tokens<'a> {
+    pub(crate) fn new(tokens: Vec<Token<'a>>) -> Self
+        ensures { result ≡ map lexeme_of tokens.entry.items }
+    {
+        Tokens { tokens }
+    }
+
+    /// The tokens in order of the text.
+    pub fn as_slice(&self) -> &[Token<'a>]
+        ensures { map lexeme_of result.now ≡ self.now }
+    {
+        &self.tokens
+    }
+}
