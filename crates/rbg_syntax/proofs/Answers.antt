@@ -1,0 +1,53 @@
+-- What is answered for one section, from what was read of its tokens.
+use Rattle.std.proofs.Common.{◌≡◌, ℕ, List, [], ◌∷◌, Result, Ok, Err, refl, sym, ◌∙◌}
+use Rattle.rbg_macro.specs.Token.{Lexeme}
+use Rattle.rbg_syntax.specs.declared.error.SyntaxError.{SyntaxError}
+use Rattle.rbg_syntax.specs.declared.error.SyntaxError.TheVariants as errors
+use Rattle.rbg_syntax.specs.Reading.{Fault, misfit, Reading, Gives, Fails, ended_at, whole_at}
+use Rattle.rbg_syntax.specs.Spells.{Reads}
+use Rattle.rbg_syntax.proofs.Readers.{IsReadBy, bind_ok, ok_one}
+use Rattle.rbg_syntax.proofs.Turns.{Fails-from}
+
+ended : {A : Type 0} (x y : A) (ts : List Lexeme) → ended_at x ts ≡ Ok y → (x ≡ y) × (ts ≡ [])
+ended x y [] e = (cc, refl)
+ended x y (t ∷ ts) e = cc
+
+pub ended_at-ok : {A : Type 0} (x : A) (ts : List Lexeme) → ended_at {A = Unit {0}} tt ts ≡ Ok tt → ended_at x ts ≡ Ok x
+ended_at-ok x [] e = refl
+ended_at-ok x (t ∷ ts) e = cc
+
+ended_at-err : {A : Type 0} (x : A) (ts : List Lexeme) (f : Fault) → ended_at {A = Unit {0}} tt ts ≡ Err f → ended_at x ts ≡ Err f
+ended_at-err x [] f e = cc
+ended_at-err x (t ∷ ts) f e = cc
+
+pub Fails-ended_at : {A : Type 0} (x : A) (ts : List Lexeme) (e : SyntaxError) → Fails e (ended_at {A = Unit {0}} tt ts) → Fails e (ended_at x ts)
+Fails-ended_at x ts e h = Fails-from e (ended_at tt ts) (ended_at x ts) (ended_at-err x ts) h
+
+pub ruleset endings = (ended_at-ok, Fails-ended_at)
+
+same_pair : {A : Type 0} (q : A × List Lexeme) (x : A) → q.0 ≡ x → q.1 ≡ [] → ◌≡◌ {A = Reading A} (Ok q) (Ok (x, []))
+same_pair q x e f = λ i. Ok (e i, f i)
+
+err_no_ok : {A : Type 0} (r : Result A Fault) (f : Fault) (x : A) → r ≡ Err f → r ≡ Ok x → ⊥
+err_no_ok r f x e g = cc
+
+module _ {B : Type 0} (least : ℕ) (P : List Lexeme → B → List Lexeme → Type 0) (Follow : List Lexeme → Type 0) (read : List Lexeme → Reading B) (reads : IsReadBy least P Follow read) (follows : Follow []) (ts : List Lexeme) where
+  whole_complete : (y : B) → P ts y [] → whole_at read ts ≡ Ok y
+  unfolding whole_at
+  whole_complete y d = rw (reads.complete ts y [] d follows)
+
+  whole_sound : (y : B) → whole_at read ts ≡ Ok y → P ts y []
+  unfolding whole_at
+  whole_sound y e =
+      let (q, first, last) = bind_ok _ _ _ e in
+      let (value, none) = ended q.0 y q.1 last in
+      reads.sound ts y [] (first ∙ same_pair q y value none)
+
+  -- what was read answers for the section
+  pub Reads-from_gives : {A : Type 0} (view : A → B) (r : Result A SyntaxError) → Gives view r (whole_at read ts) → Reads P view ts r
+  Reads-from_gives view (Ok x) e = (whole_sound (view x) e, λ y d. ok_one y (view x) (sym (whole_complete y d) ∙ e))
+  Reads-from_gives view (Err (errors.Expected at what)) e = λ y d. err_no_ok (whole_at read ts) misfit y e (whole_complete y d)
+  Reads-from_gives view (Err (errors.MissingSection which)) e = e
+  Reads-from_gives view (Err (errors.SectionTwice which)) e = e
+  Reads-from_gives view (Err (errors.TooDeep at)) e = e
+  Reads-from_gives view (Err errors.Memory) e = tt

@@ -1,0 +1,13 @@
+pub mod Answers
+pub mod Combinators
+pub mod Descriptions
+pub mod Digits
+pub mod Fronts
+pub mod OneDescription
+pub mod Plain
+pub mod Readers
+pub mod SectionLists
+pub mod SectionReaders
+pub mod Trees
+pub mod Turns
+pub mod WordReaders

@@ -1,0 +1,109 @@
+-- What the trees of the code stand for, level by level.
+use Rattle.std.proofs.Common.{◌≡◌, ◌∙◌, ℕ, List, [], ◌∷◌, Option, length, map, option_map, rules, refl, arith, Vec, vec_len}
+use Rattle.std.proofs.lemmas.List.{length-map}
+use Rattle.rbg_syntax.specs.Reading.{in_sequence}
+use Rattle.std.specs.declared.alloc.Global.{Global}
+use Rattle.std.specs.declared.boxed.Box.{Box}
+use Rattle.rbg_syntax.specs.Tree.{SpeltExpression, SpeltRule, SpeltAction, no_rules, no_terms, no_factors, rules_after, terms_after, factors_after}
+use Rattle.rbg_syntax.specs.Views.{name_of, number_of, expression_of, action_of, rule_of}
+use Rattle.rbg_syntax.specs.declared.description.Name.{Name}
+use Rattle.rbg_syntax.specs.declared.description.Number.{Number}
+use Rattle.rbg_syntax.specs.declared.expression.Additive.{Additive}
+use Rattle.rbg_syntax.specs.declared.expression.Multiplicative.{Multiplicative}
+use Rattle.rbg_syntax.specs.declared.expression.Expression.{Expression}
+use Rattle.rbg_syntax.specs.declared.expression.Expression as expressions
+use Rattle.rbg_syntax.specs.declared.expression.Term.{Term}
+use Rattle.rbg_syntax.specs.declared.expression.Factor.{Factor}
+use Rattle.rbg_syntax.specs.declared.rule.Relation.{Relation}
+use Rattle.rbg_syntax.specs.declared.rule.Rule.{Rule}
+use Rattle.rbg_syntax.specs.declared.rule.Rule as rules'
+use Rattle.rbg_syntax.specs.declared.rule.Action.{Action}
+use Rattle.rbg_syntax.specs.declared.rule.Action as actions
+
+pub rule_of-Act : (a : Action) → rule_of (rules'.Act a) ≡ SpeltRule.act (action_of a)
+unfolding rule_of action_of
+rule_of-Act a = search (rules, rules'.the_lemmas)
+
+pub rule_of-Then : (v : Vec Rule Global) → rule_of (rules'.Then v) ≡ SpeltRule.sequence (rules_after no_rules (map rule_of v.items))
+unfolding rule_of
+rule_of-Then v = search (rules, rules'.the_lemmas)
+
+pub rule_of-Or : (v : Vec Rule Global) → rule_of (rules'.Or v) ≡ SpeltRule.choice (rules_after no_rules (map rule_of v.items))
+unfolding rule_of
+rule_of-Or v = search (rules, rules'.the_lemmas)
+
+pub rule_of-Star : (b : Box Rule Global) → rule_of (rules'.Star b) ≡ SpeltRule.star (rule_of b.value)
+unfolding rule_of
+rule_of-Star b = search (rules, rules'.the_lemmas)
+
+pub action_of-Shift : (n : Name) → action_of (actions.Shift n) ≡ SpeltAction.shift (name_of n)
+unfolding action_of
+action_of-Shift n = search (rules, actions.the_lemmas)
+
+pub action_of-On : (v : Vec Name Global) → action_of (actions.On v) ≡ SpeltAction.on (map name_of v.items)
+unfolding action_of
+action_of-On v = search (rules, actions.the_lemmas)
+
+pub action_of-Off : (n : Name) → action_of (actions.Off n) ≡ SpeltAction.off (name_of n)
+unfolding action_of
+action_of-Off n = search (rules, actions.the_lemmas)
+
+pub action_of-Assign : (n : Name) (e : Expression) → action_of (actions.Assign n e) ≡ SpeltAction.assign (name_of n) (expression_of e)
+unfolding action_of
+action_of-Assign n e = search (rules, actions.the_lemmas)
+
+pub action_of-Compare : (e : Expression) (r : Relation) (f : Expression) → action_of (actions.Compare e r f) ≡ SpeltAction.compare (expression_of e) r (expression_of f)
+unfolding action_of
+action_of-Compare e r f = search (rules, actions.the_lemmas)
+
+pub action_of-Switch : (at : ℕ) (o : Option Name) → action_of (actions.Switch at o) ≡ SpeltAction.switch at (option_map name_of o)
+unfolding action_of
+action_of-Switch at o = search (rules, actions.the_lemmas)
+
+pub action_of-PositivePattern : (at : ℕ) (b : Box Rule Global) → action_of (actions.PositivePattern at b) ≡ SpeltAction.positive at (rule_of b.value)
+unfolding action_of rule_of
+action_of-PositivePattern at b = search (rules, actions.the_lemmas)
+
+pub action_of-NegativePattern : (at : ℕ) (b : Box Rule Global) → action_of (actions.NegativePattern at b) ≡ SpeltAction.negative at (rule_of b.value)
+unfolding action_of rule_of
+action_of-NegativePattern at b = search (rules, actions.the_lemmas)
+
+-- a term and a factor as their operators and spelt expressions
+abbrev pub term_of : Term → Additive × SpeltExpression
+term_of t = (t.operator, expression_of t.value)
+
+abbrev pub factor_of : Factor → Multiplicative × SpeltExpression
+factor_of f = (f.operator, expression_of f.value)
+
+pub expression_of-Number : (n : Number) → expression_of (expressions.Number n) ≡ SpeltExpression.number (number_of n)
+unfolding expression_of
+expression_of-Number n = search (rules, expressions.the_lemmas)
+
+pub expression_of-Name : (n : Name) → expression_of (expressions.Name n) ≡ SpeltExpression.name (name_of n)
+unfolding expression_of
+expression_of-Name n = search (rules, expressions.the_lemmas)
+
+pub expression_of-Negated : (b : Box Expression Global) → expression_of (expressions.Negated b) ≡ SpeltExpression.negated (expression_of b.value)
+unfolding expression_of
+expression_of-Negated b = search (rules, expressions.the_lemmas)
+
+pub expression_of-Sum : (v : Vec Term Global) → expression_of (expressions.Sum v) ≡ SpeltExpression.sum (terms_after no_terms (map term_of v.items))
+unfolding expression_of
+expression_of-Sum v = search (rules, expressions.the_lemmas)
+
+pub expression_of-Product : (v : Vec Factor Global) → expression_of (expressions.Product v) ≡ SpeltExpression.product (factors_after no_factors (map factor_of v.items))
+unfolding expression_of
+expression_of-Product v = search (rules, expressions.the_lemmas)
+
+-- rules that are one action
+pub ruleset atoms = (rule_of-Act, action_of-Shift, action_of-On, action_of-Off, action_of-Switch)
+
+many_in_sequence : (rs : List SpeltRule) → (length rs ≡ 1 → ⊥) → SpeltRule.sequence (rules_after no_rules rs) ≡ in_sequence rs
+many_in_sequence [] several = refl
+many_in_sequence (r ∷ []) several = absurd (several refl)
+many_in_sequence (r ∷ s ∷ rs) several = refl
+
+pub rule_of-in_sequence : (v : Vec Rule Global) → (vec_len v ≡ 1 → ⊥) → rule_of (rules'.Then v) ≡ in_sequence (map rule_of v.items)
+rule_of-in_sequence v several = rule_of-Then v ∙ many_in_sequence (map rule_of v.items) (λ e. several (omega (arith, e, length-map v.items rule_of, v.ok.0)))
+
+pub ruleset sequences = (rule_of-in_sequence)

@@ -1,0 +1,26 @@
+use Rattle.std.proofs.Common.{rules, ◌≡◌, ◌+◌, ◌<◌, take, true, sym, arith}
+use Rattle.std.proofs.lemmas.List.{take_all}
+use Rattle.rbg_syntax.specs.Sections.{same_kind, count_of}
+use Rattle.rbg_syntax.proofs.SectionLists.{same_kind-same, count_of-take_one, count_of-take_within, one_more_different}
+use Rattle.rbg_syntax.proofs.sections.refuse_twice.Goals as goal
+
+pub returns-then-stands_before-clause-twice : goal.returns-then-stands_before-clause-twice
+returns-then-stands_before-clause-twice c =
+    let s = c.section.result in
+    let kind = c.kind-which.result in
+    let sections = c.args.source.now in
+    let before : 0 < count_of kind (take c.loop-index.index sections) = search rules in
+    let is : same_kind s.kind kind ≡ true = same_kind-same s.kind kind (sym c.kind-which.ensures) in
+    let one = rw is at (count_of-take_one kind sections c.loop-index.index s c.section.ensures) in
+    omega (arith, one, before, count_of-take_within kind sections (c.loop-index.index + 1))
+
+pub loop-index-preserved : goal.loop-index-preserved
+loop-index-preserved c =
+    let s = c.section.result in
+    let sections = c.args.source.now in
+    let not_before : 0 < count_of c.kind-which.result (take c.loop-index.index sections) → ⊥ = λ before. let wrong = c.if-stands_before.ensures.1 before in cc in
+    let none : count_of c.kind-which.result (take c.loop-index.index sections) ≡ 0 = omega (arith, not_before) in
+    one_more_different sections c.loop-index.index s c.section.ensures c.loop-index.invariant (rw c.kind-which.ensures at none)
+
+pub returns-clause-once : goal.returns-clause-once
+returns-clause-once c = let whole = take_all c.loop-index.index c.args.source.now (omega arith) in rw whole at c.loop-index.invariant

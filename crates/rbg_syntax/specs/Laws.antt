@@ -1,0 +1,14 @@
+-- Laws that the definitions have to obey. The module `laws` proves each.
+use Rattle.std.specs.Prelude.{◌≡◌, List}
+use Rattle.rbg_macro.specs.Token.{SectionTokens}
+use Rattle.rbg_syntax.specs.Plain.{IsPlain}
+use Rattle.rbg_syntax.specs.Spells.{SpellsOneWord}
+use Rattle.rbg_syntax.specs.Tree.{SpeltDescription}
+
+-- Sections spell at most one description.
+abbrev pub OneDescriptionLaw : Type 0
+OneDescriptionLaw = (sections : List SectionTokens) (a b : SpeltDescription) → SpellsOneWord sections a → SpellsOneWord sections b → a ≡ b
+
+-- What sections spell is plain.
+abbrev pub PlainLaw : Type 0
+PlainLaw = (sections : List SectionTokens) (d : SpeltDescription) → SpellsOneWord sections d → IsPlain d

@@ -1,0 +1,9 @@
+pub mod Grammar
+pub mod Laws
+pub mod Phrase
+pub mod Plain
+pub mod Reading
+pub mod Sections
+pub mod Spells
+pub mod Tree
+pub mod Views

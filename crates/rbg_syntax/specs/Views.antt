@@ -1,0 +1,96 @@
+-- The spelt tree that a tree of the code stands for.
+use Rattle.std.specs.Prelude.{List, map, option_map}
+use Rattle.std.specs.declared.alloc.Global.{Global}
+use Rattle.std.specs.declared.vec.Vec.{Vec}
+use Rattle.rbg_syntax.specs.Tree.{SpeltName, SpeltNumber, SpeltBounded, SpeltEdge, SpeltVertex, SpeltBoard, SpeltDescription, SpeltExpression, no_terms, no_factors, SpeltRule, no_rules, SpeltAction, terms_after, factors_after, rules_after}
+use Rattle.rbg_syntax.specs.declared.description.Name.{Name}
+use Rattle.rbg_syntax.specs.declared.description.Number.{Number}
+use Rattle.rbg_syntax.specs.declared.description.Bounded.{Bounded}
+use Rattle.rbg_syntax.specs.declared.description.Edge.{Edge}
+use Rattle.rbg_syntax.specs.declared.description.Vertex.{Vertex}
+use Rattle.rbg_syntax.specs.declared.description.Board.{Board}
+use Rattle.rbg_syntax.specs.declared.description.Board.TheVariants.{Rectangle, Hexagon, Graph}
+use Rattle.rbg_syntax.specs.declared.description.Description.{Description}
+use Rattle.rbg_syntax.specs.declared.expression.Additive.{Additive}
+use Rattle.rbg_syntax.specs.declared.expression.Multiplicative.{Multiplicative}
+use Rattle.rbg_syntax.specs.declared.expression.Expression.{Expression, fold-Expression}
+use Rattle.rbg_syntax.specs.declared.expression.Expression.TheOpen.{Expression-F, Term-F, Factor-F}
+use Rattle.rbg_syntax.specs.declared.rule.Rule.{Rule, fold-Rule}
+use Rattle.rbg_syntax.specs.declared.rule.Action.{Action, fold-Action}
+use Rattle.rbg_syntax.specs.declared.rule.Action.TheOpen.{Action-F, Rule-F}
+
+abbrev pub name_of : Name → SpeltName
+name_of n = record { text = n.text.items; at = n.at }
+
+abbrev pub number_of : Number → SpeltNumber
+number_of n = record { value = n.value; at = n.at }
+
+abbrev pub bounded_of : Bounded → SpeltBounded
+bounded_of b = record { name = name_of b.name; bound = number_of b.bound }
+
+abbrev pub names_of : Vec Name Global → List SpeltName
+names_of v = map name_of v.items
+
+abbrev pub bounded_list_of : Vec Bounded Global → List SpeltBounded
+bounded_list_of v = map bounded_of v.items
+
+abbrev pub edge_of : Edge → SpeltEdge
+edge_of e = record { direction = name_of e.direction; target = name_of e.target }
+
+abbrev pub vertex_of : Vertex → SpeltVertex
+vertex_of v = record { name = name_of v.name; piece = name_of v.piece; edges = map edge_of v.edges.items }
+
+abbrev pub board_of : Board → SpeltBoard
+board_of (Rectangle directions rows) = SpeltBoard.rectangle (map name_of directions) (map names_of rows.items)
+board_of (Hexagon directions rows) = SpeltBoard.hexagon (map name_of directions) (map names_of rows.items)
+board_of (Graph vertices) = SpeltBoard.graph (map vertex_of vertices.items)
+
+-- one level of an expression, with each part already seen as its spelt expression
+abbrev pub expression_step : Expression-F SpeltExpression (Multiplicative × SpeltExpression) (Additive × SpeltExpression) → SpeltExpression
+expression_step (Expression-F.Number n) = SpeltExpression.number (number_of n)
+expression_step (Expression-F.Name n) = SpeltExpression.name (name_of n)
+expression_step (Expression-F.Negated e) = SpeltExpression.negated e.value
+expression_step (Expression-F.Sum terms) = SpeltExpression.sum (terms_after no_terms terms.items)
+expression_step (Expression-F.Product factors) = SpeltExpression.product (factors_after no_factors factors.items)
+
+abbrev pub factor_step : Factor-F SpeltExpression (Multiplicative × SpeltExpression) (Additive × SpeltExpression) → Multiplicative × SpeltExpression
+factor_step f = (f.operator, f.value)
+
+abbrev pub term_step : Term-F SpeltExpression (Multiplicative × SpeltExpression) (Additive × SpeltExpression) → Additive × SpeltExpression
+term_step t = (t.operator, t.value)
+
+unfoldable pub expression_of : Expression → SpeltExpression
+expression_of = fold-Expression SpeltExpression (Multiplicative × SpeltExpression) (Additive × SpeltExpression) expression_step factor_step term_step
+
+-- one level of the rules, with each part already seen as what it spells
+abbrev pub action_step : Action-F SpeltAction SpeltRule → SpeltAction
+action_step (Action-F.Shift n) = SpeltAction.shift (name_of n)
+action_step (Action-F.On ns) = SpeltAction.on (map name_of ns.items)
+action_step (Action-F.Off n) = SpeltAction.off (name_of n)
+action_step (Action-F.Assign n e) = SpeltAction.assign (name_of n) (expression_of e)
+action_step (Action-F.Compare e r f) = SpeltAction.compare (expression_of e) r (expression_of f)
+action_step (Action-F.Switch at player) = SpeltAction.switch at (option_map name_of player)
+action_step (Action-F.PositivePattern at r) = SpeltAction.positive at r.value
+action_step (Action-F.NegativePattern at r) = SpeltAction.negative at r.value
+
+abbrev pub rule_step : Rule-F SpeltAction SpeltRule → SpeltRule
+rule_step (Rule-F.Act a) = SpeltRule.act a
+rule_step (Rule-F.Then rs) = SpeltRule.sequence (rules_after no_rules rs.items)
+rule_step (Rule-F.Or rs) = SpeltRule.choice (rules_after no_rules rs.items)
+rule_step (Rule-F.Star r) = SpeltRule.star r.value
+
+unfoldable pub action_of : Action → SpeltAction
+action_of = fold-Action SpeltAction SpeltRule action_step rule_step
+
+unfoldable pub rule_of : Rule → SpeltRule
+rule_of = fold-Rule SpeltAction SpeltRule action_step rule_step
+
+abbrev pub description_of : Description → SpeltDescription
+description_of d =
+    record {
+      players = map bounded_of d.players.items;
+      variables = map bounded_of d.variables.items;
+      pieces = map name_of d.pieces.items;
+      board = board_of d.board;
+      rules = rule_of d.rules;
+    }

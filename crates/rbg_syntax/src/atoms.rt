@@ -1,0 +1,56 @@
+// The readers of the actions that need no arithmetic and hold no rules.
+ghost use Rattle.rbg_syntax.specs.Reading.{Gives, off_at, on_at, open_atom_at};
+ghost use Rattle.rbg_syntax.specs.Views.{rule_of};
+
+use crate::error::{Expectation, SyntaxError};
+use crate::parser::Parser;
+use crate::rule::{Action, Rule};
+use rbg_macro::Symbol;
+use std::alloc::Global;
+
+impl Parser<'_> {
+    /// A shift or a switch.
+    #[tactic(auto, using(crate::proofs::Trees::atoms), unfolding(crate::specs::Reading::open_atom_at))]
+    pub(crate) fn open_atom(&mut self, alloc: Global) -> Result<Rule, SyntaxError>
+        ensures { Gives (λ r. (rule_of r, self.new)) result (open_atom_at self.old) }
+    {
+        if self.next_is_name() {
+            let direction = self.name(alloc)?;
+            return Ok(Rule::Act(Action::Shift(direction)));
+        }
+        if self.next_is(Symbol::Arrow) {
+            let at = self.symbol(Symbol::Arrow, Expectation::Item)?;
+            let player = Some(self.name(alloc)?);
+            return Ok(Rule::Act(Action::Switch { at, player }));
+        }
+        let at = self.symbol(Symbol::DoubleArrow, Expectation::Item)?;
+        Ok(Rule::Act(Action::Switch { at, player: None }))
+    }
+
+    /// An on.
+    #[tactic(auto, using(crate::proofs::Trees::atoms), unfolding(crate::specs::Reading::on_at, crate::specs::Reading::within_at))]
+    pub(crate) fn on(&mut self, alloc: Global) -> Result<Rule, SyntaxError>
+        ensures { Gives (λ r. (rule_of r, self.new)) result (on_at self.old) }
+    {
+        self.symbol(Symbol::OpenBrace, Expectation::Opening)?;
+        let pieces = self.name_list(alloc)?;
+        let what = if pieces.is_empty() {
+            Expectation::Name
+        } else {
+            Expectation::Closing
+        };
+        self.symbol(Symbol::CloseBrace, what)?;
+        Ok(Rule::Act(Action::On(pieces)))
+    }
+
+    /// An off.
+    #[tactic(auto, using(crate::proofs::Trees::atoms), unfolding(crate::specs::Reading::off_at, crate::specs::Reading::within_at))]
+    pub(crate) fn off(&mut self, alloc: Global) -> Result<Rule, SyntaxError>
+        ensures { Gives (λ r. (rule_of r, self.new)) result (off_at self.old) }
+    {
+        self.symbol(Symbol::OpenBracket, Expectation::Opening)?;
+        let piece = self.name(alloc)?;
+        self.symbol(Symbol::CloseBracket, Expectation::Closing)?;
+        Ok(Rule::Act(Action::Off(piece)))
+    }
+}

@@ -1,0 +1,47 @@
+// Arithmetic as it is spelt: sums and products are lists, so a tree is no deeper than its brackets.
+
+use crate::description::{Name, Number};
+
+/// An arithmetic expression.
+#[cycle(expression)]
+#[derive(Debug, PartialEq, Eq, Drop)]
+pub enum Expression {
+    Number(Number),
+    Name(Name),
+    /// 0 minus the expression, as `-x`.
+    Negated(Box<Expression>),
+    /// At least two terms, taken from the left. The first has `Plus`.
+    Sum(Vec<Term>),
+    /// At least two factors, taken from the left. The first has `Times`.
+    Product(Vec<Factor>),
+}
+
+/// A part of a sum.
+#[cycle(expression)]
+#[derive(Debug, PartialEq, Eq, Drop)]
+pub struct Term {
+    pub operator: Additive,
+    pub value: Expression,
+}
+
+/// A part of a product.
+#[cycle(expression)]
+#[derive(Debug, PartialEq, Eq, Drop)]
+pub struct Factor {
+    pub operator: Multiplicative,
+    pub value: Expression,
+}
+
+/// What is done with a term.
+#[derive(Clone, Copy, Debug, PartialEq, Eq)]
+pub enum Additive {
+    Plus,
+    Minus,
+}
+
+/// What is done with a factor.
+#[derive(Clone, Copy, Debug, PartialEq, Eq)]
+pub enum Multiplicative {
+    Times,
+    Over,
+}

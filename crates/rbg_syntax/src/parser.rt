@@ -1,0 +1,196 @@
+// What is left of a section's tokens, and the readers of single tokens.
+ghost use Rattle.std.specs.Prelude.{◌≡◌, [], ◌∷◌, drop, IfErr, IfOk, MatchOption};
+ghost use Rattle.rbg_macro.specs.Token.{lexeme_of};
+ghost use Rattle.rbg_syntax.specs.Phrase.{if_fits, number_of_digits};
+ghost use Rattle.rbg_syntax.specs.Reading.{Gives, Takes, ended_at, front_at, next_is, is_name, is_symbol, name_at, number_at, symbol_at, word_at};
+ghost use Rattle.rbg_syntax.specs.Views.{name_of, number_of};
+
+use crate::description::{Name, Number};
+use crate::error::{Expectation, SyntaxError};
+use rbg_macro::{Section, Symbol, Token, TokenKind};
+use std::alloc::Global;
+use std::marker::Model;
+
+/// What is left of a section's tokens.
+#[derive(Drop)]
+pub(crate) struct Parser<'a> {
+    section: Section<'a>,
+    position: usize,
+}
+
+impl<'a> Model for Parser<'a> {
+    ghost use Rattle.std.specs.Prelude.{List, ◌≤◌, drop, length};
+    ghost use Rattle.rbg_macro.specs.Token.{Lexeme};
+
+    ghost Value = { List Lexeme };
+
+    ghost view = { λ p. drop p.position p.section.tokens };
+
+    ghost invariant = { λ p. p.position ≤ length p.section.tokens };
+}
+
+impl<'a> Parser<'a> {
+    /// All of a section's tokens.
+    pub(crate) fn new(section: Section<'a>) -> Parser<'a>
+        ensures { result ≡ section.entry.tokens }
+    {
+        Parser {
+            section,
+            position: 0,
+        }
+    }
+
+    /// The next token.
+    #[tactic(auto, using(crate::proofs::Fronts::front_from_get, crate::proofs::Fronts::drop_whole))]
+    pub(crate) fn peek(&self) -> Option<Token<'a>>
+        ensures { MatchOption result (self.now ≡ []) (λ t. self.now ≡ lexeme_of t ∷ drop 1 self.now) }
+    {
+        if self.position < self.section.len() {
+            Some(self.section.token(self.position))
+        } else {
+            None
+        }
+    }
+
+    /// Passes the next token, if there is one.
+    #[tactic(auto, using(crate::proofs::Fronts::drop_one_more, crate::proofs::Fronts::drop_past))]
+    pub(crate) fn advance(&mut self)
+        ensures { self.new ≡ drop 1 self.old }
+    {
+        if self.position < self.section.len() {
+            self.position += 1;
+        }
+    }
+
+    /// Whether the next token is this symbol.
+    pub(crate) fn next_is(&self, symbol: Symbol) -> bool
+        ensures { result ≡ next_is (is_symbol symbol) self.now }
+    {
+        match self.peek() {
+            Some(token) => token.is(symbol),
+            None => false,
+        }
+    }
+
+    /// Whether the next token is a name.
+    pub(crate) fn next_is_name(&self) -> bool
+        ensures { result ≡ next_is is_name self.now }
+    {
+        match self.peek() {
+            Some(token) => token.kind == TokenKind::Name,
+            None => false,
+        }
+    }
+
+    /// Passes the next token if it is this symbol.
+    pub(crate) fn takes(&mut self, symbol: Symbol) -> bool
+        ensures { Takes symbol result self.old self.new }
+    {
+        if !self.next_is(symbol) {
+            return false;
+        }
+        self.advance();
+        true
+    }
+
+    /// The next token, where one is needed.
+    fn front(&self, what: Expectation) -> Result<Token<'a>, SyntaxError>
+        ensures { Gives (λ t. (lexeme_of t, drop 1 self.now)) result (front_at self.now) }
+    {
+        match self.peek() {
+            Some(token) => Ok(token),
+            None => Err(SyntaxError::Expected {
+                at: self.section.at(),
+                what,
+            }),
+        }
+    }
+
+    /// Refuses a token that is left.
+    pub(crate) fn end(&self) -> Result<(), SyntaxError>
+        ensures { Gives (λ x. x) result (ended_at tt self.now) }
+    {
+        match self.peek() {
+            Some(token) => Err(SyntaxError::Expected {
+                at: token.at,
+                what: Expectation::End,
+            }),
+            None => Ok(()),
+        }
+    }
+
+    /// Passes the symbol, and says where it stands.
+    #[tactic(auto, unfolding(crate::specs::Reading::symbol_at))]
+    pub(crate) fn symbol(&mut self, symbol: Symbol, what: Expectation) -> Result<usize, SyntaxError>
+        ensures { Gives (λ at. (at, self.new)) result (symbol_at symbol self.old) }
+    {
+        let token = self.front(what)?;
+        if !token.is(symbol) {
+            return Err(SyntaxError::Expected { at: token.at, what });
+        }
+        self.advance();
+        Ok(token.at)
+    }
+
+    /// Passes a name.
+    #[tactic(auto, unfolding(crate::specs::Reading::name_at))]
+    pub(crate) fn name(&mut self, alloc: Global) -> Result<Name, SyntaxError>
+        ensures { Gives (λ n. (name_of n, self.new)) result (name_at self.old) }
+    {
+        let token = self.front(Expectation::Name)?;
+        if token.kind != TokenKind::Name {
+            return Err(SyntaxError::Expected {
+                at: token.at,
+                what: Expectation::Name,
+            });
+        }
+        self.advance();
+        let text = Vec::from_slice(alloc, token.text)?;
+        Ok(Name { text, at: token.at })
+    }
+
+    /// Passes a name that is this word, and says where it stands.
+    #[tactic(auto, unfolding(crate::specs::Reading::word_at))]
+    pub(crate) fn word(&mut self, text: &[u8], what: Expectation) -> Result<usize, SyntaxError>
+        ensures { Gives (λ at. (at, self.new)) result (word_at text.now self.old) }
+    {
+        let token = self.front(what)?;
+        if token.kind != TokenKind::Name || token.text != text {
+            return Err(SyntaxError::Expected { at: token.at, what });
+        }
+        self.advance();
+        Ok(token.at)
+    }
+
+    /// Passes a number.
+    #[tactic(auto, unfolding(crate::specs::Reading::number_at))]
+    pub(crate) fn number(&mut self) -> Result<Number, SyntaxError>
+        ensures { Gives (λ n. (number_of n, self.new)) result (number_at self.old) }
+    {
+        let token = self.front(Expectation::Number)?;
+        if token.kind != TokenKind::Number {
+            return Err(SyntaxError::Expected {
+                at: token.at,
+                what: Expectation::Number,
+            });
+        }
+        self.advance();
+        Ok(Number {
+            value: number_value(token.text),
+            at: token.at,
+        })
+    }
+}
+
+/// The number that decimal digits stand for, where it fits.
+fn number_value(digits: &[u8]) -> Option<u64>
+    ensures { result ≡ if_fits (number_of_digits digits.now) }
+{
+    let mut value: u64 = 0;
+    for digit in digits {
+        value = value
+            .checked_mul(10)?
+            .checked_add(u64::from(digit.saturating_sub(b'0')))?;
+    }
+    Some(value)
+}

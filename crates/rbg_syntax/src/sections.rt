@@ -1,0 +1,46 @@
+// Which sections a source has.
+ghost use Rattle.std.specs.Prelude.{◌≡◌, ◌≤◌, ◌<◌, ◌↔◌, length, slice_get, take, IfErr, IsTrue, OnOk};
+ghost use Rattle.rbg_syntax.specs.Sections.{AreDifferent, IsTwice, count_of, sections_of};
+
+use crate::error::SyntaxError;
+use rbg_macro::{Section, SectionKind, Source};
+
+/// Finds the first section of the kind.
+pub(crate) fn find(source: &Source, kind: SectionKind) -> Option<Section<'_>>
+    ensures { result ≡ slice_get (sections_of kind source.now) 0 }
+{
+    for index in 0..source.len() {
+        let section = source.section(index);
+        if section.kind() == kind {
+            return Some(section);
+        }
+    }
+    None
+}
+
+/// Whether a section of the kind stands among the first `end` sections.
+fn stands_before(source: &Source, kind: SectionKind, end: usize) -> bool
+    requires { end ≤ length source.now }
+    ensures { IsTrue result ↔ (0 < count_of kind (take end source.now)) }
+{
+    for index in 0..end {
+        if source.section(index).kind() == kind {
+            return true;
+        }
+    }
+    false
+}
+
+/// Refuses a section that stands twice.
+pub(crate) fn refuse_twice(source: &Source) -> Result<(), SyntaxError>
+    ensures once { OnOk result (AreDifferent source.now) }
+    ensures twice { IfErr result (IsTwice source.now) }
+{
+    for index in 0..source.len() {
+        let which = source.section(index).kind();
+        if stands_before(source, which, index) {
+            return Err(SyntaxError::SectionTwice { which });
+        }
+    }
+    Ok(())
+}
