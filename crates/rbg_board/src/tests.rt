@@ -31,19 +31,42 @@ fn hexagon_of(alloc: Global, directions: [u16; 6], lengths: &[u16]) -> Result<Bo
     hexagon(alloc, directions, &rows)
 }
 
-/// A cell with these edges.
-fn cell(alloc: Global, name: u32, piece: u16, edges: &[(u16, u32)]) -> Result<Cell, AllocError> {
-    let edges = Vec::from_slice(alloc, edges)?;
-    Ok(Cell { name, piece, edges })
+/// The answer of `graph` for vertices with these names and edges, whose pieces are ten times their places.
+fn graph_of(alloc: Global, vertices: &[(u32, &[(u16, u32)])]) -> Result<Board, BoardError> {
+    let mut cells = Vec::new(alloc);
+    let mut piece = 0u16;
+    for (name, edges) in vertices {
+        let edges = Vec::from_slice(alloc, edges)?;
+        cells.push(Cell {
+            name: *name,
+            piece,
+            edges,
+        })?;
+        piece = piece.wrapping_add(10);
+    }
+    graph(alloc, &cells)
 }
 
-/// So many cells without edges, named from 0 on.
-fn bare_cells(alloc: Global, count: u32) -> Result<Vec<Cell>, AllocError> {
+/// The answer of `graph` for so many vertices, named from 0 on, whose only edges lead to themselves.
+fn loops(alloc: Global, count: u32) -> Result<Board, BoardError> {
     let mut cells = Vec::new(alloc);
     for name in 0..count {
-        cells.push(cell(alloc, name, 0, &[])?)?;
+        let edges = Vec::from_slice(alloc, &[(0, name)])?;
+        cells.push(Cell {
+            name,
+            piece: 0,
+            edges,
+        })?;
     }
-    Ok(cells)
+    graph(alloc, &cells)
+}
+
+/// How many vertices the board of an answer has.
+fn vertices(answer: Result<Board, BoardError>) -> Result<usize, BoardError> {
+    match answer {
+        Ok(board) => Ok(board.len()),
+        Err(error) => Err(error),
+    }
 }
 
 /// Where the directions from 0 on lead from a vertex.
@@ -156,73 +179,76 @@ fn a_hexagon_may_only_grow_or_only_shrink(rt: HostRuntime) -> Result<(), Fail> {
 
 #[test]
 fn a_graph_has_the_edges_that_are_written(rt: HostRuntime) -> Result<(), Fail> {
-    let alloc = rt.alloc();
-    let mut cells = Vec::new(alloc);
-    cells.push(cell(alloc, 70, 4, &[(0, 50), (2, 70)])?)?;
-    cells.push(cell(alloc, 50, 6, &[(1, 70)])?)?;
-    cells.push(cell(alloc, 60, 4, &[])?)?;
-    let board = graph(alloc, &cells)?;
+    let first: (u32, &[(u16, u32)]) = (70, &[(0, 50), (2, 70)]);
+    let second: (u32, &[(u16, u32)]) = (50, &[(1, 70)]);
+    let third: (u32, &[(u16, u32)]) = (60, &[]);
+    let board = graph_of(rt.alloc(), &[first, second, third])?;
     assert_eq!(rt; board.len(), 3);
     assert_leads(&rt, &board, 0, &[Some(1), None, Some(0), None]);
     assert_leads(&rt, &board, 1, &[None, Some(0), None, None]);
     assert_leads(&rt, &board, 2, &[None, None, None, None]);
-    assert!(rt; 1 < board.len());
-    assert_eq!(rt; board.piece_at_start(1), 6);
+    assert_eq!(rt; board.piece_at_start(1), 10);
     Ok(())
 }
 
 #[test]
-fn a_board_has_at_most_1024_vertices(rt: HostRuntime) -> Result<(), Fail> {
+fn a_rectangle_has_at_most_1024_cells(rt: HostRuntime) {
     let alloc = rt.alloc();
-    assert_eq!(rt; rectangle_of(alloc, [0, 1, 2, 3], &[32; 32])?.len(), 1024);
+    let directions = [0, 1, 2, 3];
     assert_eq!(rt;
-        rectangle_of(alloc, [0, 1, 2, 3], &[41; 25]).err(),
-        Some(BoardError::TooManyVertices)
+        vertices(rectangle_of(alloc, directions, &[32; 32])),
+        Ok(1024)
     );
-    assert_eq!(rt;
-        hexagon_of(alloc, [0, 1, 2, 3, 4, 5], &[512, 511])?.len(),
-        1023
-    );
-    assert_eq!(rt;
-        hexagon_of(alloc, [0, 1, 2, 3, 4, 5], &[513, 512]).err(),
-        Some(BoardError::TooManyVertices)
-    );
-    assert_eq!(rt; graph(alloc, &bare_cells(alloc, 1024)?)?.len(), 1024);
-    assert_eq!(rt;
-        graph(alloc, &bare_cells(alloc, 1025)?).err(),
-        Some(BoardError::TooManyVertices)
-    );
-    Ok(())
+    let crowd = rectangle_of(alloc, directions, &[41; 25]);
+    assert_eq!(rt; vertices(crowd), Err(BoardError::TooManyVertices));
 }
 
 #[test]
-fn a_rectangle_names_its_first_fault(rt: HostRuntime) -> Result<(), Fail> {
+fn a_hexagon_has_at_most_1024_cells(rt: HostRuntime) {
     let alloc = rt.alloc();
-    let uneven = BoardError::RowLength { row: 1 };
+    let directions = [0, 1, 2, 3, 4, 5];
+    assert_eq!(rt; vertices(hexagon_of(alloc, directions, &[1024])), Ok(1024));
+    let crowd = hexagon_of(alloc, directions, &[513, 512]);
+    assert_eq!(rt; vertices(crowd), Err(BoardError::TooManyVertices));
+}
+
+#[test]
+fn a_graph_has_at_most_1024_vertices(rt: HostRuntime) {
+    assert_eq!(rt; vertices(loops(rt.alloc(), 1024)), Ok(1024));
+    assert_eq!(rt;
+        vertices(loops(rt.alloc(), 1025)),
+        Err(BoardError::TooManyVertices)
+    );
+}
+
+#[test]
+fn a_rectangle_names_its_first_fault(rt: HostRuntime) {
+    let alloc = rt.alloc();
     for (directions, lengths, error) in [
         ([0, 1, 2, 3], [].as_slice(), BoardError::NoCell),
         ([0, 1, 2, 3], [0, 0].as_slice(), BoardError::NoCell),
         ([0, 1, 2, 3], [0, 1].as_slice(), BoardError::NoCell),
         ([0, 1, 2, 0], [0, 2000].as_slice(), BoardError::NoCell),
-        ([0, 1, 2, 3], [2, 3, 1].as_slice(), uneven),
-        ([0, 1, 2, 3], [2, 0].as_slice(), uneven),
-        ([0, 1, 2, 3], [2000, 1].as_slice(), uneven),
-        ([0, 1, 1, 3], [2, 1].as_slice(), uneven),
+        ([0, 1, 2, 3], [2, 3, 1].as_slice(), misfit(1)),
+        ([0, 1, 2, 3], [2, 0].as_slice(), misfit(1)),
+        ([0, 1, 2, 3], [2000, 1].as_slice(), misfit(1)),
+        ([0, 1, 1, 3], [2, 1].as_slice(), misfit(1)),
         ([0, 1, 2, 3], [1025].as_slice(), BoardError::TooManyVertices),
         ([0, 0, 2, 3], [1025].as_slice(), BoardError::TooManyVertices),
         ([4, 1, 2, 4], [1].as_slice(), BoardError::SameDirection),
     ] {
-        assert_eq!(rt;
-            rectangle_of(alloc, directions, lengths).err(),
-            Some(error),
-            "lengths {lengths:?}"
-        );
+        let answer = rectangle_of(alloc, directions, lengths);
+        assert_eq!(rt; vertices(answer), Err(error), "lengths {lengths:?}");
     }
-    Ok(())
+}
+
+/// The refusal of a row that doesn't fit.
+fn misfit(row: usize) -> BoardError {
+    BoardError::RowLength { row }
 }
 
 #[test]
-fn a_hexagon_names_its_first_fault(rt: HostRuntime) -> Result<(), Fail> {
+fn a_hexagon_names_its_first_fault(rt: HostRuntime) {
     let alloc = rt.alloc();
     let right = [0, 1, 2, 3, 4, 5];
     let wrong = [0, 1, 2, 3, 1, 5];
@@ -232,39 +258,23 @@ fn a_hexagon_names_its_first_fault(rt: HostRuntime) -> Result<(), Fail> {
         (right, [1, 1, 0].as_slice(), BoardError::NoCell),
         (right, [2000, 0].as_slice(), BoardError::NoCell),
         (wrong, [0].as_slice(), BoardError::NoCell),
-        (right, [1, 1].as_slice(), BoardError::RowLength { row: 1 }),
-        (right, [1, 3].as_slice(), BoardError::RowLength { row: 1 }),
-        (
-            right,
-            [2, 1, 2].as_slice(),
-            BoardError::RowLength { row: 2 },
-        ),
-        (
-            right,
-            [2, 3, 2, 3, 9].as_slice(),
-            BoardError::RowLength { row: 3 },
-        ),
-        (
-            right,
-            [2000, 1].as_slice(),
-            BoardError::RowLength { row: 1 },
-        ),
-        (wrong, [1, 1].as_slice(), BoardError::RowLength { row: 1 }),
+        (right, [1, 1].as_slice(), misfit(1)),
+        (right, [1, 3].as_slice(), misfit(1)),
+        (right, [2, 1, 2].as_slice(), misfit(2)),
+        (right, [2, 3, 2, 3, 9].as_slice(), misfit(3)),
+        (right, [2000, 1].as_slice(), misfit(1)),
+        (wrong, [1, 1].as_slice(), misfit(1)),
         (right, [1025].as_slice(), BoardError::TooManyVertices),
         (wrong, [1025].as_slice(), BoardError::TooManyVertices),
         (wrong, [1, 2].as_slice(), BoardError::SameDirection),
     ] {
-        assert_eq!(rt;
-            hexagon_of(alloc, directions, lengths).err(),
-            Some(error),
-            "lengths {lengths:?}"
-        );
+        let answer = hexagon_of(alloc, directions, lengths);
+        assert_eq!(rt; vertices(answer), Err(error), "lengths {lengths:?}");
     }
-    Ok(())
 }
 
 #[test]
-fn a_graph_names_its_first_fault(rt: HostRuntime) -> Result<(), Fail> {
+fn a_graph_names_its_first_fault(rt: HostRuntime) {
     let alloc = rt.alloc();
     let plain: (u32, &[(u16, u32)]) = (1, &[]);
     let same_name: (u32, &[(u16, u32)]) = (1, &[(0, 1)]);
@@ -290,44 +300,20 @@ fn a_graph_names_its_first_fault(rt: HostRuntime) -> Result<(), Fail> {
             [unknown, plain, same_direction].as_slice(),
             BoardError::SameDirection,
         ),
+        (
+            [same_direction; 1025].as_slice(),
+            BoardError::TooManyVertices,
+        ),
+        ([unknown; 1025].as_slice(), BoardError::TooManyVertices),
     ] {
-        let mut cells = Vec::new(alloc);
-        for (name, edges) in written {
-            cells.push(cell(alloc, *name, 0, edges)?)?;
-        }
-        assert_eq!(rt; graph(alloc, &cells).err(), Some(error));
+        assert_eq!(rt; vertices(graph_of(alloc, written)), Err(error));
     }
-    let mut crowd = bare_cells(alloc, 1024)?;
-    crowd.push(cell(alloc, 0, 0, &[(0, 9999), (0, 0)])?)?;
-    assert_eq!(rt;
-        graph(alloc, &crowd).err(),
-        Some(BoardError::TooManyVertices)
-    );
-    Ok(())
 }
 
 #[test]
-fn refusals_have_their_texts(rt: HostRuntime) -> Result<(), Fail> {
+fn a_refusal_says_what_is_wrong(rt: HostRuntime) -> Result<(), Fail> {
     let alloc = rt.alloc();
-    for (error, text) in [
-        (BoardError::NoCell, "the board has no cell"),
-        (
-            BoardError::RowLength { row: 3 },
-            "row 3 has the wrong length",
-        ),
-        (
-            BoardError::TooManyVertices,
-            "the board has too many vertices",
-        ),
-        (BoardError::SameDirection, "one direction leads two ways"),
-        (
-            BoardError::UnknownVertex,
-            "an edge leads to a vertex that is not there",
-        ),
-        (BoardError::SameVertex, "two vertices have one name"),
-        (BoardError::Memory, "out of memory"),
-    ] {
-        assert_eq!(rt; error.to_string(alloc)?.as_str(), text);
-    }
+    let text = BoardError::RowLength { row: 3 }.to_string(alloc)?;
+    assert_eq!(rt; text.as_str(), "row 3 has the wrong length");
     Ok(())
 }
