@@ -1,5 +1,6 @@
 // Laws of the definitions of a game's meaning. Each function does nothing: its contract is the law.
 ghost use Rattle.rbg_game.specs.Laws.{SequenceLaw, SumLaw, StarLaw, OneLevelLaw, SomeLevelLaw, PairsLaw, OwnWordLaw, RunLaw, OneRunLaw, PatternLaw, PositiveLaw, NegativeLaw, MoveLaw, OnePlaceLaw, StateLaw, WordLaw};
+ghost use Rattle.rbg_game.specs.OneGame.{OneGameOfDescriptionLaw, OneGameLaw};
 
 /// The words of a sequence are the joins of one word of each part in order.
 pub fn words_of_sequence()
@@ -79,4 +80,14 @@ pub fn actions_stay_in_the_game()
 /// An expression in which no sum is empty has a word.
 pub fn rules_have_words()
     ensures { WordLaw }
+{}
+
+/// A description is at most one game, but for how the board keeps its ways.
+pub fn descriptions_are_one_game()
+    ensures { OneGameOfDescriptionLaw }
+{}
+
+/// A text is at most one game, but for how the board keeps its ways.
+pub fn texts_are_one_game()
+    ensures { OneGameLaw }
 {}

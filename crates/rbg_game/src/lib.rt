@@ -2,14 +2,20 @@
 #![tactic(auto)]
 
 pub mod arithmetic;
+mod checking;
+mod error;
 pub mod examples;
 pub mod game;
 pub mod instruction;
 pub mod laws;
 pub mod limits;
+mod loading;
 pub mod rule;
 
 pub use arithmetic::{Arithmetic, Operation, Operator, Relation};
+pub use checking::check;
+pub use error::{GameError, LoadError, Thing};
 pub use game::Game;
 pub use instruction::Instruction;
+pub use loading::load;
 pub use rule::{Action, Rule};

@@ -4,6 +4,8 @@ ghost use Rattle.rbg_game.specs.State.{AbstractGame, start_of, IsStateOf};
 
 mod actions;
 mod arithmetic;
+#[cfg(test)]
+mod tests;
 
 use crate::error::Memory;
 pub use actions::Applied;

@@ -1,0 +1,55 @@
+-- A layer that refuses a text leaves it no game.
+use Rattle.std.proofs.Common.{◌≡◌, ◌≢◌, ℕ, List, subst}
+use Rattle.rbg_macro.specs.Token.{Lexeme, SectionTokens}
+use Rattle.rbg_macro.specs.Text.{HasTokens, HasTextFault}
+use Rattle.rbg_macro.specs.Expansion.{HasSections, HasMacroFault}
+use Rattle.rbg_macro.specs.declared.error.TextError.{TextError}
+use Rattle.rbg_macro.specs.declared.error.MacroError.{MacroError}
+use Rattle.rbg_macro.proofs.OneReading.{tokens_once, text_refused_for_memory}
+use Rattle.rbg_macro.proofs.OneExpansion.{sections_once, sections_refused_for_memory}
+use Rattle.rbg_syntax.specs.Tree.{SpeltDescription}
+use Rattle.rbg_syntax.proofs.OneDescription.{one_description}
+use Rattle.rbg_syntax.specs.Spells.{SpellsOneWord, HasFault as HasSyntaxFault}
+use Rattle.rbg_syntax.specs.declared.error.SyntaxError.{SyntaxError}
+use Rattle.rbg_syntax.specs.declared.error.SyntaxError.TheVariants.{Memory as SyntaxMemory}
+use Rattle.rbg_game.specs.State.{AbstractGame}
+use Rattle.rbg_game.specs.Described.{IsGameOf}
+use Rattle.rbg_game.specs.Faults.{HasFault}
+use Rattle.rbg_game.specs.declared.error.GameError.{GameError}
+use Rattle.rbg_game.specs.declared.error.GameError.TheVariants.{Memory as GameMemory}
+use Rattle.rbg_game.specs.declared.error.LoadError.TheVariants as errors
+use Rattle.rbg_game.specs.Loading.{HasSectionsOf, Describes, IsRefused}
+
+-- the sections of a text are no others
+one_source : (text : List ℕ) (a b : List SectionTokens) → HasSectionsOf text a → HasSectionsOf text b → a ≡ b
+one_source text a b x y = sections_once y.tokens a b (subst (λ ts. HasSections ts a) (tokens_once text x.tokens y.tokens x.cut y.cut) x.expanded) y.expanded
+
+-- a text spells one description
+pub one_spelt : (text : List ℕ) (a b : SpeltDescription) → Describes text a → Describes text b → a ≡ b
+one_spelt text a b x y = one_description y.sections a b (subst (λ ss. SpellsOneWord ss a) (one_source text x.sections y.sections x.has y.has) x.spells) y.spells
+
+pub refused_in_text : (text : List ℕ) (e : TextError) → HasTextFault text e → IsRefused text (errors.Text e)
+refused_in_text text e fault = record { fault = fault; no_game = λ other game loads. other (text_refused_for_memory text loads.describes.has.tokens loads.describes.has.cut e fault) }
+
+pub refused_in_macros : (text : List ℕ) (ts : List Lexeme) (e : MacroError) → HasTokens text ts → HasMacroFault ts e → IsRefused text (errors.Macro e)
+refused_in_macros text ts e cut fault =
+    record {
+      fault = (ts, cut, fault);
+      no_game = λ other game loads. other (sections_refused_for_memory ts loads.describes.sections (subst (λ us. HasSections us loads.describes.sections) (tokens_once text loads.describes.has.tokens ts loads.describes.has.cut cut) loads.describes.has.expanded) e fault);
+    }
+
+pub refused_in_syntax : (text : List ℕ) (sections : List SectionTokens) (e : SyntaxError) → HasSectionsOf text sections → HasSyntaxFault sections e
+    → ((d : SpeltDescription) → SpellsOneWord sections d → e ≡ SyntaxMemory) → IsRefused text (errors.Syntax e)
+refused_in_syntax text sections e has fault only =
+    record {
+      fault = (sections, has, fault);
+      no_game = λ other game loads. other (only loads.description (subst (λ ss. SpellsOneWord ss loads.description) (one_source text loads.describes.sections sections loads.describes.has has) loads.describes.spells));
+    }
+
+pub refused_in_checks : (text : List ℕ) (d : SpeltDescription) (e : GameError) → Describes text d → HasFault d e
+    → (e ≢ GameMemory → (game : AbstractGame) → IsGameOf d game → ⊥) → IsRefused text (errors.Game e)
+refused_in_checks text d e describes fault none =
+    record {
+      fault = (d, describes, fault);
+      no_game = λ other game loads. none other game (subst (λ c. IsGameOf c game) (one_spelt text loads.description d loads.describes describes) loads.game_of);
+    }

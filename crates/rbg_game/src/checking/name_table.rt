@@ -1,0 +1,121 @@
+// Tables of names: the things of a description by their numbers, and the number of a name.
+ghost use Rattle.std.specs.Prelude.{◌≡◌, [], ◌∷◌, ◌++◌, length, slice_get, Some, true, Contains, MatchOption, OnOk, OnErr, IfErr, IfOk, string_bytes};
+ghost use Rattle.std.specs.List.{list_all};
+ghost use Rattle.rbg_macro.specs.Text.{is_name, is_name_start, is_name_part};
+ghost use Rattle.rbg_syntax.specs.Views.{name_of};
+ghost use Rattle.rbg_game.specs.Described.{AreLawfulNames};
+ghost use Rattle.rbg_game.specs.Names.{texts};
+ghost use Rattle.rbg_game.specs.NameTables.{IsNoNewName};
+
+use crate::error::GameError;
+use indexmap::IndexSet;
+use rbg_syntax::Name;
+use std::alloc::{AllocError, Global};
+use std::marker::Model;
+
+/// Different names, numbered from 0 in order of text.
+#[derive(Debug, Drop)]
+pub(crate) struct NameTable {
+    names: IndexSet<Vec<u8>>,
+}
+
+impl Model for NameTable {
+    ghost use Rattle.std.specs.Prelude.{ℕ, List};
+
+    ghost Value = { List (List ℕ) };
+
+    ghost use Rattle.rbg_game.specs.NameTables.{bytes_of};
+
+    ghost view = { λ table. bytes_of table.names.keys };
+
+    ghost use Rattle.rbg_game.specs.Described.{AreLawfulNames};
+
+    ghost invariant = { λ table. AreLawfulNames (bytes_of table.names.keys) };
+}
+
+impl NameTable {
+    pub(crate) fn new(alloc: Global) -> NameTable
+        ensures { result ≡ [] }
+    {
+        NameTable {
+            names: IndexSet::new(alloc),
+        }
+    }
+
+    pub(crate) fn len(&self) -> usize
+        ensures count { result ≡ length self.now }
+        ensures lawful { AreLawfulNames self.now }
+    {
+        self.names.len()
+    }
+
+    /// The number of a name, if it is in the table.
+    pub(crate) fn number_of(&self, text: &[u8]) -> Option<usize>
+        ensures { MatchOption result (¬ Contains self.now text.now) (λ n. slice_get self.now n ≡ Some text.now) }
+    {
+        self.names.get_index_of(text)
+    }
+
+    /// Adds a name behind the others.
+    pub(crate) fn insert(&mut self, name: &Name) -> Result<(), GameError>
+        ensures ok { OnOk result (self.new ≡ self.old ++ name.now.text.items ∷ []) }
+        ensures kept { OnErr result (self.new ≡ self.old) }
+        ensures err { IfErr result (IsNoNewName self.old (name_of name.now)) }
+    {
+        if !is_name(&name.text) {
+            return Err(GameError::UnknownName { at: name.at });
+        }
+        if self.number_of(&name.text).is_some() {
+            return Err(GameError::SameName { at: name.at });
+        }
+        self.names.insert(name.text.clone()?)?;
+        Ok(())
+    }
+
+    /// The names in order of their numbers.
+    pub(crate) fn to_names(&self, alloc: Global) -> Result<Vec<String>, AllocError>
+        ensures { IfOk result (λ names. texts names.items ≡ self.now) }
+    {
+        let mut names = Vec::with_capacity(alloc, self.names.len())?;
+        for name in self.names.as_slice() {
+            names.push(name_text(name)?)?;
+        }
+        Ok(names)
+    }
+}
+
+/// The bytes of a name as a text: they are ASCII.
+#[tactic(auto, using(crate::proofs::NameLemmas::name_texts))]
+fn name_text(name: &Vec<u8>) -> Result<String, AllocError>
+    requires { is_name name.now.items ≡ true }
+    ensures { IfOk result (λ text. string_bytes text ≡ name.now.items) }
+{
+    Ok(String::from_utf8(name.clone()?).unwrap())
+}
+
+fn is_name(bytes: &[u8]) -> bool
+    ensures { result ≡ is_name bytes.now }
+{
+    match bytes.first() {
+        Some(first) => is_name_start(*first) && are_name_parts(bytes),
+        None => false,
+    }
+}
+
+fn are_name_parts(bytes: &[u8]) -> bool
+    ensures { result ≡ list_all is_name_part bytes.now }
+{
+    bytes.iter().all(|b| is_name_part(*b))
+}
+
+fn is_name_start(b: u8) -> bool
+    ensures { result ≡ is_name_start b }
+{
+    b.is_ascii_alphabetic() || b == b'_'
+}
+
+fn is_name_part(b: u8) -> bool
+    ensures { result ≡ is_name_part b }
+{
+    is_name_start(b) || b.is_ascii_digit()
+}

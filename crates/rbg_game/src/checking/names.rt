@@ -1,0 +1,129 @@
+// The names of players, variables and pieces by their numbers, and the bounds of the variables.
+ghost use Rattle.std.specs.Prelude.{◌≡◌, ◌≢◌, ◌≤◌, [], ◌∷◌, ◌++◌, map, Some, OnOk, IfOk, IfErr};
+ghost use Rattle.rbg_syntax.specs.Views.{name_of, number_of, bounded_of, description_of};
+ghost use Rattle.rbg_game.specs.Described.{texts_of, holder_names};
+ghost use Rattle.rbg_game.specs.Faults.{IsNoBound};
+ghost use Rattle.rbg_game.specs.NameFaults.{IsHolderFault, HasNameFault, HasHolderFault};
+ghost use Rattle.rbg_game.specs.NamedThings.{AddsBounds, AreThingsOf};
+ghost use Rattle.rbg_game.specs.Refusals.{IsUnlawful};
+
+use crate::checking::name_table::NameTable;
+use crate::error::{GameError, Thing};
+use crate::limits::{MAX_BOUND, MAX_PIECES, MAX_PLAYERS, MAX_VARIABLES};
+use rbg_syntax::{Bounded, Description, Name, Number};
+use std::alloc::Global;
+
+/// The names of a description, and the bounds of its variables.
+#[derive(Debug, Drop)]
+pub(crate) struct Things {
+    pub(crate) players: NameTable,
+    /// The players, and then the other variables.
+    pub(crate) variables: NameTable,
+    pub(crate) bounds: Vec<u32>,
+    pub(crate) pieces: NameTable,
+}
+
+/// Numbers the players, variables and pieces of a description.
+///
+/// The names and bounds are looked at in order of text, players before variables and those before pieces; a name before its bound.
+/// Only then are they counted.
+pub(crate) fn number_things(alloc: Global, description: &Description) -> Result<Things, GameError>
+    ensures things { IfOk result (AreThingsOf (description_of description.now)) }
+    ensures refused { IfErr result (IsUnlawful (description_of description.now)) }
+{
+    let mut variables = NameTable::new(alloc);
+    let mut bounds = Vec::new(alloc);
+    add_holders(&mut variables, &mut bounds, &description.players)?;
+    add_holders(&mut variables, &mut bounds, &description.variables)?;
+    let mut pieces = NameTable::new(alloc);
+    add_names(&mut pieces, &description.pieces)?;
+    let mut players = NameTable::new(alloc);
+    add_players(&mut players, &description.players)?;
+    if players.len() > MAX_PLAYERS {
+        return Err(GameError::TooMany {
+            what: Thing::Players,
+        });
+    }
+    if pieces.len() > MAX_PIECES {
+        return Err(GameError::TooMany {
+            what: Thing::Pieces,
+        });
+    }
+    if variables.len() > MAX_VARIABLES {
+        return Err(GameError::TooMany {
+            what: Thing::Variables,
+        });
+    }
+    Ok(Things {
+        players,
+        variables,
+        bounds,
+        pieces,
+    })
+}
+
+/// Adds names behind those of the table.
+fn add_names(table: &mut NameTable, names: &[Name]) -> Result<(), GameError>
+    ensures names { OnOk result (table.new ≡ table.old ++ texts_of (map name_of names.now)) }
+    ensures fault { IfErr result (HasNameFault table.old (map name_of names.now)) }
+{
+    for name in names {
+        table.insert(name)?;
+    }
+    Ok(())
+}
+
+/// Adds the names of players behind those of the table.
+fn add_players(table: &mut NameTable, players: &[Bounded]) -> Result<(), GameError>
+    ensures names { OnOk result (table.new ≡ table.old ++ holder_names (map bounded_of players.now)) }
+    ensures fault { IfErr result (HasHolderFault table.old (map bounded_of players.now)) }
+{
+    for player in players {
+        table.insert(&player.name)?;
+    }
+    Ok(())
+}
+
+/// Adds the names of players or variables behind those of the table, and their bounds behind the bounds.
+fn add_holders(
+    table: &mut NameTable,
+    bounds: &mut Vec<u32>,
+    holders: &[Bounded],
+) -> Result<(), GameError>
+    ensures names { OnOk result (table.new ≡ table.old ++ holder_names (map bounded_of holders.now)) }
+    ensures bounds { OnOk result (AddsBounds (map bounded_of holders.now) bounds.old.items bounds.new.items) }
+    ensures fault { IfErr result (HasHolderFault table.old (map bounded_of holders.now)) }
+{
+    for holder in holders {
+        add_holder(table, bounds, holder)?;
+    }
+    Ok(())
+}
+
+/// Adds the name of a player or a variable behind those of the table, and its bound behind the bounds.
+fn add_holder(
+    table: &mut NameTable,
+    bounds: &mut Vec<u32>,
+    holder: &Bounded,
+) -> Result<(), GameError>
+    ensures name { OnOk result (table.new ≡ table.old ++ holder.now.name.text.items ∷ []) }
+    ensures bound { OnOk result (AddsBounds (bounded_of holder.now ∷ []) bounds.old.items bounds.new.items) }
+    ensures fault { IfErr result (IsHolderFault table.old (bounded_of holder.now)) }
+{
+    table.insert(&holder.name)?;
+    bounds.push(read_bound(holder.bound)?)?;
+    Ok(())
+}
+
+/// The bound that a number spells.
+fn read_bound(number: Number) -> Result<u32, GameError>
+    ensures bound { IfOk result (λ bound. number.value ≡ Some bound) }
+    ensures limit { IfOk result (λ bound. bound ≤ MAX_BOUND) }
+    ensures which { IfErr result (λ error. error ≡ GameError.Bound number.at) }
+    ensures too_great { IfErr result (λ _. IsNoBound (number_of number)) }
+{
+    match number.value {
+        Some(value) if value <= MAX_BOUND => Ok(value as u32),
+        _ => Err(GameError::Bound { at: number.at }),
+    }
+}

@@ -1,0 +1,154 @@
+// The rules of a description by numbers: names are looked up, and the actions are numbered in order of text.
+ghost use Rattle.std.specs.Prelude.{◌≡◌, ◌≤◌, ◌<◌, IfOk, IfErr, All, map, option_map, length};
+ghost use Rattle.rbg_syntax.specs.Tree.{no_rules, rules_after, sequence};
+ghost use Rattle.rbg_syntax.specs.Views.{name_of, rule_of, action_of as spelt_action_of};
+ghost use Rattle.rbg_syntax.specs.Plain.{IsPlainAction, IsPlainRule, IsPlainWord};
+ghost use Rattle.rbg_game.specs.declared.limits.TheConstants.{MAX_PLAYERS, MAX_PIECES};
+ghost use Rattle.rbg_game.specs.Translation.{action_of, expression_of};
+ghost use Rattle.rbg_game.specs.Naming.{IsNumberOf, EachWith, ActionIs};
+ghost use Rattle.rbg_game.specs.PlainRules.{names_of, IsWithinLimits, IsUnknown, IsSomeUnknown, IsPlayer, IsUnknownPlayer, HasActionFault, HasPartFault, IsPartAt, IsRuleByNumbers, IsRefusedRule};
+
+use super::name_table::NameTable;
+use crate::error::{GameError, Thing};
+use crate::limits::MAX_POSITIONS;
+use crate::rule::{Action, Rule};
+use rbg_syntax::Name;
+use std::alloc::Global;
+
+/// The names that plain rules may use.
+#[derive(Debug, Drop)]
+pub(crate) struct NameTables<'a> {
+    pub(crate) players: &'a NameTable,
+    pub(crate) pieces: &'a NameTable,
+    pub(crate) directions: &'a NameTable,
+}
+
+/// The rules by numbers.
+pub(crate) fn number_rules(
+    alloc: Global,
+    names: &NameTables<'_>,
+    rule: &rbg_syntax::Rule,
+) -> Result<Rule, GameError>
+    requires plain { IsPlainWord (rule_of rule.now) }
+    requires limits { IsWithinLimits (names_of names.now) }
+    ensures rules { IfOk result (λ x. IsRuleByNumbers (names_of names.now) (rule_of rule.now) (expression_of x)) }
+    ensures refused { IfErr result (IsRefusedRule (names_of names.now) (rule_of rule.now)) }
+{
+    match rule {
+        rbg_syntax::Rule::Act(_) => number_part(alloc, names, 1, rule),
+        rbg_syntax::Rule::Then(parts) => number_parts(alloc, names, parts),
+        rbg_syntax::Rule::Or(_) | rbg_syntax::Rule::Star(_) => unreachable!(),
+    }
+}
+
+/// The parts of a word, numbered from 1.
+fn number_parts(
+    alloc: Global,
+    names: &NameTables<'_>,
+    parts: &[rbg_syntax::Rule],
+) -> Result<Rule, GameError>
+    requires plain { All (λ part. IsPlainRule (rule_of part)) parts.now }
+    requires limits { IsWithinLimits (names_of names.now) }
+    ensures rules { IfOk result (λ x. IsRuleByNumbers (names_of names.now) (sequence (rules_after no_rules (map rule_of parts.now))) (expression_of x)) }
+    ensures refused { IfErr result (IsRefusedRule (names_of names.now) (sequence (rules_after no_rules (map rule_of parts.now)))) }
+{
+    let mut rules = Vec::new(alloc);
+    for part in parts {
+        if rules.len() == MAX_POSITIONS {
+            return Err(GameError::TooMany {
+                what: Thing::Positions,
+            });
+        }
+        let position = rules.len() as u32 + 1;
+        rules.push(number_part(alloc, names, position, part)?)?;
+    }
+    Ok(Rule::Then(rules))
+}
+
+/// One part of a word, at its position.
+fn number_part(
+    alloc: Global,
+    names: &NameTables<'_>,
+    position: u32,
+    part: &rbg_syntax::Rule,
+) -> Result<Rule, GameError>
+    requires plain { IsPlainRule (rule_of part.now) }
+    requires limits { IsWithinLimits (names_of names.now) }
+    ensures part { IfOk result (λ x. IsPartAt (names_of names.now) position (rule_of part.now) (expression_of x)) }
+    ensures fault { IfErr result (HasPartFault (names_of names.now) (rule_of part.now)) }
+{
+    match part {
+        rbg_syntax::Rule::Act(action) => {
+            let action = number_action(alloc, names, action)?;
+            Ok(Rule::Act { position, action })
+        }
+        rbg_syntax::Rule::Then(_) | rbg_syntax::Rule::Or(_) | rbg_syntax::Rule::Star(_) => {
+            unreachable!()
+        }
+    }
+}
+
+fn number_action(
+    alloc: Global,
+    names: &NameTables<'_>,
+    action: &rbg_syntax::Action,
+) -> Result<Action, GameError>
+    requires plain { IsPlainAction (spelt_action_of action.now) }
+    requires limits { IsWithinLimits (names_of names.now) }
+    ensures action { IfOk result (λ a. ActionIs (names_of names.now) (spelt_action_of action.now) (action_of a)) }
+    ensures fault { IfErr result (HasActionFault (names_of names.now) (spelt_action_of action.now)) }
+{
+    match action {
+        rbg_syntax::Action::Shift(direction) => Ok(Action::Shift {
+            direction: number_in(names.directions, direction)?,
+        }),
+        rbg_syntax::Action::On(pieces) => Ok(Action::On {
+            pieces: numbers_in(alloc, names.pieces, pieces)?,
+        }),
+        rbg_syntax::Action::Off(piece) => Ok(Action::Off {
+            piece: number_in(names.pieces, piece)?,
+        }),
+        rbg_syntax::Action::Switch { player, .. } => Ok(Action::Switch {
+            player: number_of_player(names.players, player)?,
+        }),
+        rbg_syntax::Action::Assign { .. }
+        | rbg_syntax::Action::Compare { .. }
+        | rbg_syntax::Action::PositivePattern { .. }
+        | rbg_syntax::Action::NegativePattern { .. } => unreachable!(),
+    }
+}
+
+/// The number of a player, from 1 on. None is the keeper.
+fn number_of_player(table: &NameTable, player: &Option<Name>) -> Result<u16, GameError>
+    requires { length table.now ≤ MAX_PLAYERS }
+    ensures number { IfOk result (IsPlayer table.now (option_map name_of player.now)) }
+    ensures fault { IfErr result (IsUnknownPlayer table.now (option_map name_of player.now)) }
+{
+    match player {
+        Some(name) => Ok(number_in(table, name)? + 1),
+        None => Ok(0),
+    }
+}
+
+fn numbers_in(alloc: Global, table: &NameTable, names: &[Name]) -> Result<Vec<u16>, GameError>
+    requires { length table.now ≤ MAX_PIECES }
+    ensures numbers { IfOk result (λ ns. EachWith (IsNumberOf table.now) (map name_of names.now) ns.items) }
+    ensures fault { IfErr result (IsSomeUnknown table.now (map name_of names.now)) }
+{
+    let mut numbers = Vec::new(alloc);
+    for name in names {
+        numbers.push(number_in(table, name)?)?;
+    }
+    Ok(numbers)
+}
+
+fn number_in(table: &NameTable, name: &Name) -> Result<u16, GameError>
+    requires { length table.now ≤ MAX_PIECES }
+    ensures number { IfOk result (IsNumberOf table.now (name_of name.now)) }
+    ensures fault { IfErr result (IsUnknown table.now (name_of name.now)) }
+{
+    match table.number_of(&name.text) {
+        Some(number) => Ok(number as u16),
+        None => Err(GameError::UnknownName { at: name.at }),
+    }
+}

@@ -1,0 +1,104 @@
+// Why a description is no game, and why a text is none.
+ghost use Rattle.std.specs.Prelude.{◌≡◌, ◌↔◌, IsTrue};
+ghost use Rattle.rbg_game.specs.declared.error.GameError.TheVariants as game_errors;
+ghost use Rattle.rbg_game.specs.declared.error.LoadError.TheVariants as load_errors;
+ghost use Rattle.rbg_game.specs.Loading.{IsMemory};
+
+use rbg_board::BoardError;
+use rbg_macro::{MacroError, TextError};
+use rbg_syntax::SyntaxError;
+use std::alloc::{AllocError, AllocFailed};
+use std::fmt;
+use thiserror::Error;
+
+/// Why a description is no game. Offsets are those of the text.
+#[derive(Clone, Copy, Debug, PartialEq, Eq, Error)]
+pub enum GameError {
+    /// The name at this offset is not of the kind that its place needs: a direction, a piece, a player.
+    #[error("the name at byte {at} is unknown")]
+    UnknownName { at: usize },
+    /// The name at this offset stands before.
+    #[error("the name at byte {at} stands twice")]
+    SameName { at: usize },
+    /// The number at this offset is too great.
+    #[error("the number at byte {at} is too great")]
+    Bound { at: usize },
+    /// The switch at this offset stands in a pattern.
+    #[error("the switch at byte {at} stands in a pattern")]
+    SwitchInPattern { at: usize },
+    /// The pattern at this offset stands inside too many others.
+    #[error("the pattern at byte {at} is nested too deep")]
+    PatternTooDeep { at: usize },
+    #[error("there are too many {what}")]
+    TooMany { what: Thing },
+    #[error("out of memory")]
+    Memory,
+    #[error("{error}")]
+    Board { error: BoardError },
+}
+
+/// What there may be too many of.
+#[derive(Clone, Copy, Debug, PartialEq, Eq)]
+pub enum Thing {
+    Players,
+    Pieces,
+    Variables,
+    Directions,
+    Positions,
+}
+
+impl fmt::Display for Thing {
+    fn fmt<W: fmt::Write>(&self, f: &mut fmt::Formatter<W>) -> fmt::Result {
+        match self {
+            Thing::Players => write!(f, "players"),
+            Thing::Pieces => write!(f, "pieces"),
+            Thing::Variables => write!(f, "variables"),
+            Thing::Directions => write!(f, "directions"),
+            Thing::Positions => write!(f, "positions"),
+        }
+    }
+}
+
+impl From<AllocError> for GameError {
+    ghost from_gives = { λ _ error. error ≡ game_errors.Memory };
+
+    fn from(_error: AllocError) -> GameError {
+        GameError::Memory
+    }
+}
+
+impl<T: Drop> From<AllocFailed<T>> for GameError {
+    ghost from_gives = { λ _ error. error ≡ game_errors.Memory };
+
+    fn from(_error: AllocFailed<T>) -> GameError {
+        GameError::Memory
+    }
+}
+
+/// Why a text is no game, by the layer that refuses it.
+#[derive(Clone, Copy, Debug, PartialEq, Eq, Error)]
+pub enum LoadError {
+    #[error("{0}")]
+    Text(TextError),
+    #[error("{0}")]
+    Macro(MacroError),
+    #[error("{0}")]
+    Syntax(SyntaxError),
+    #[error("{0}")]
+    Game(GameError),
+}
+
+impl LoadError {
+    /// Whether memory was wanting, in whatever layer.
+    pub fn is_memory(&self) -> bool
+        ensures { IsTrue result ↔ IsMemory self.now }
+    {
+        matches!(
+            self,
+            LoadError::Text(TextError::Memory)
+                | LoadError::Macro(MacroError::Memory)
+                | LoadError::Syntax(SyntaxError::Memory)
+                | LoadError::Game(GameError::Memory)
+        )
+    }
+}
