@@ -3,9 +3,11 @@
 
 mod pair;
 mod pairs;
+mod place;
 
 pub use pair::Pair;
 pub use pairs::{MAX_PAIRS, Move};
+pub use place::Place;
 
 #[cfg(test)]
 mod tests;

@@ -1,0 +1,104 @@
+-- Events heard in turn: what is said in all, and what the streams have come to.
+use Rattle.std.proofs.Common.{◌≡◌, ℕ, ◌+◌, ◌<◌, true, false, List, [], ◌∷◌, ◌++◌, length, map, take, get_or, Option, Some, None, is_some, Result, Ok, Err, Bool, refl, sym, ap, ◌∙◌, subst, append_assoc}
+use Rattle.std.specs.Result.{is_err, OnOk, OnErr}
+use Rattle.std.proofs.lemmas.Bool.{true≢false, false≢true}
+use Rattle.std.proofs.lemmas.List.{append-nil, map_more, take-map}
+use Rattle.rbg_wire.specs.declared.outcome.Outcome.{Outcome}
+use Rattle.rbg_match.specs.declared.event.Event.{Event}
+use Rattle.rbg_match.specs.Deliveries.{Delivery, delivered}
+use Rattle.rbg_match.specs.PlayingOn.{seats_of}
+use Rattle.rbg_match.specs.Hearing.{AbstractEvent, event_of, Streams, streams_after, hearings_in, hearings_of}
+use Rattle.rbg_match.specs.Transcript.{AnswersAll}
+use Rattle.rbg_match.specs.Transcript as transcript
+use Rattle.rbg_match.specs.Matches.{MatchState, Steps, StepsAll, none, more}
+use Rattle.rbg_match.proofs.Delivering.{delivered-none, length-delivered}
+use Rattle.rbg_match.proofs.Events.{answers-append}
+use Rattle.rbg_match.proofs.Sayings.{said_more}
+use Rattle.rbg_match.proofs.Stepping.{all_after_end}
+
+-- the streams after a list of events
+abbrev pub streams_through : Streams → List AbstractEvent → Streams
+streams_through streams [] = streams
+streams_through streams (event ∷ events) = streams_through (streams_after streams event) events
+
+streams_through-more : (streams : Streams) (events : List AbstractEvent) (event : AbstractEvent) → streams_through streams (events ++ event ∷ []) ≡ streams_after (streams_through streams events) event
+streams_through-more streams [] event = refl
+streams_through-more streams (first ∷ events) event = streams_through-more (streams_after streams first) events event
+
+-- what one more event stands for
+hearings_of-more : (streams : Streams) (events : List AbstractEvent) (event : AbstractEvent) → hearings_of streams (events ++ event ∷ []) ≡ hearings_of streams events ++ hearings_in (streams_through streams events) event
+hearings_of-more streams [] event = append-nil (hearings_in streams event)
+hearings_of-more streams (first ∷ events) event =
+    ap (λ next. hearings_in streams first ++ next) (hearings_of-more (streams_after streams first) events event)
+    ∙ sym (append_assoc (hearings_in streams first) (hearings_of (streams_after streams first) events) (hearings_in (streams_through (streams_after streams first) events) event))
+
+-- Of these events in turn a match has answered all that they stand for. While it goes on, it has heard all of them.
+pub record HasHeard (old : MatchState) (before : List (List ℕ)) (events : List AbstractEvent) (new : MatchState) (after : List (List ℕ)) : Type 0 where
+  pub same_game : new.game ≡ old.game
+  pub same_config : new.config ≡ old.config
+  pub said : List Delivery
+  pub answers : AnswersAll old.game old.config old.play (hearings_of old.streams events) new.play said
+  pub told : after ≡ delivered before said
+  pub hears : new.play.outcome ≡ None → new.streams ≡ streams_through old.streams events
+
+module _ (old : MatchState) (before : List (List ℕ)) (events : List AbstractEvent) (middle : MatchState) (between : List (List ℕ)) (event : AbstractEvent) (new : MatchState) (after : List (List ℕ)) (heard : HasHeard old before events middle between) (step : Steps middle event new between after) where
+  -- what the next event stands for, in a match that goes on
+  next_answers : middle.play.outcome ≡ None → AnswersAll old.game old.config middle.play (hearings_in (streams_through old.streams events) event) new.play step.said
+  next_answers going =
+      let in_game = subst (λ game. AnswersAll game middle.config middle.play (hearings_in middle.streams event) new.play step.said) heard.same_game step.answers in
+      let with_config = subst (λ config. AnswersAll old.game config middle.play (hearings_in middle.streams event) new.play step.said) heard.same_config in_game in
+      subst (λ streams. AnswersAll old.game old.config middle.play (hearings_in streams event) new.play step.said) (heard.hears going) with_config
+
+  one_more_heard : (outcome : Option Outcome) → middle.play.outcome ≡ outcome → HasHeard old before (events ++ event ∷ []) new after
+  one_more_heard None going = record {
+    same_game = step.same_game ∙ heard.same_game;
+    same_config = step.same_config ∙ heard.same_config;
+    said = heard.said ++ step.said;
+    answers = rw (hearings_of-more old.streams events event) (answers-append heard.answers (next_answers going));
+    told = said_more before heard.said step.said heard.told step.told;
+    hears = λ goes_on. step.hears goes_on ∙ ap (λ streams. streams_after streams event) (heard.hears going) ∙ sym (streams_through-more old.streams events event);
+  }
+  one_more_heard (Some outcome) ended =
+      let stays = step.stays outcome ended in
+      let silent = all_after_end old.game old.config middle.play (ap is_some ended) (hearings_in (streams_through old.streams events) event) in
+      let answers : AnswersAll old.game old.config old.play (hearings_of old.streams events ++ hearings_in (streams_through old.streams events) event) middle.play heard.said = rw append-nil at (answers-append heard.answers silent) in
+      record {
+        same_game = step.same_game ∙ heard.same_game;
+        same_config = step.same_config ∙ heard.same_config;
+        said = heard.said;
+        answers = rw (hearings_of-more old.streams events event) (subst (λ (state : MatchState). AnswersAll old.game old.config old.play (hearings_of old.streams events ++ hearings_in (streams_through old.streams events) event) state.play heard.said) (sym stays) answers);
+        told = step.silent outcome ended ∙ heard.told;
+        hears = λ goes_on. absurd (let both : ◌≡◌ {A = Option Outcome} None (Some outcome) = sym goes_on ∙ ap (λ (state : MatchState). state.play.outcome) stays ∙ ended in cc);
+      }
+
+pub all_heard : {old : MatchState} {before : List (List ℕ)} {events : List AbstractEvent} {new : MatchState} {after : List (List ℕ)} → StepsAll old before events new after → HasHeard old before events new after
+all_heard {old} {before} none = record {
+  same_game = refl;
+  same_config = refl;
+  said = [];
+  answers = transcript.none;
+  told = sym (delivered-none before);
+  hears = λ goes_on. refl;
+}
+all_heard {old} {before} (more {events = events} {event = event} {middle = middle} {new = new} {between = between} {after = after} steps step) = one_more_heard old before events middle between event new after (all_heard steps) step middle.play.outcome refl
+
+-- what a call that answers whether it was refused leaves
+pub at_ok : {T E P : Type 0} (result : Result T E) (refused : Bool) → refused ≡ is_err result → refused ≡ false → OnOk result P → P
+at_ok (Ok value) refused test is holds = holds
+at_ok (Err error) refused test is holds = absurd (true≢false (sym test ∙ is))
+
+pub at_err : {T E P : Type 0} (result : Result T E) (refused : Bool) → refused ≡ is_err result → refused ≡ true → OnErr result P → P
+at_err (Ok value) refused test is holds = absurd (false≢true (sym test ∙ is))
+at_err (Err error) refused test is holds = holds
+
+-- the events so far, and one more
+pub one_more_step : {old middle new : MatchState} {before between after : List (List ℕ)} (events : List Event) (done : ℕ) (d : Event) → done < length events → StepsAll old before (map event_of (take done events)) middle between → Steps middle (event_of (get_or events done d)) new between after → StepsAll old before (map event_of (take (done + 1) events)) new after
+one_more_step events done d within steps step = rw (map_more event_of events done d within) (more steps step)
+
+-- the events so far were taken whole
+pub taken_whole : {old middle : MatchState} {before between : List (List ℕ)} (events : List Event) (done : ℕ) (after : List (List ℕ)) → StepsAll old before (map event_of (take done events)) middle between → after ≡ between → StepsAll old before (take done (map event_of events)) middle after
+taken_whole {old} {middle} {before} events done after steps same = rw (take-map event_of done events, same) steps
+
+-- a step keeps an outbox of the match's seats
+pub seats_kept : {middle new : MatchState} {event : AbstractEvent} {between after : List (List ℕ)} → Steps middle event new between after → length between ≡ seats_of middle.game → length after ≡ seats_of new.game
+seats_kept {between = between} step same = ap length step.told ∙ length-delivered between step.said ∙ same ∙ ap seats_of (sym step.same_game)

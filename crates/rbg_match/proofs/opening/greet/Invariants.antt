@@ -1,0 +1,7 @@
+use Rattle.std.proofs.Common.{◌≡◌, take}
+use Rattle.rbg_match.specs.Deliveries.{delivered}
+use Rattle.rbg_match.specs.Transcript.{greetings}
+use Rattle.rbg_match.proofs.opening.greet.Given as goal
+
+abbrev pub invariant-loop-index : goal.invariant-loop-index
+invariant-loop-index l = l.outbox ≡ delivered l.initial.outbox (greetings l.text l.config (take l.index l.game.players))

@@ -1,0 +1,6 @@
+-- So far the walk is on its way.
+use Rattle.rbg_match.proofs.OnItsWay.{IsOnItsWay}
+use Rattle.rbg_match.proofs.walk.walk.Given as goal
+
+abbrev pub invariant-loop-position : goal.invariant-loop-position
+invariant-loop-position l = IsOnItsWay l.game l.place l.position l.state l.pairs.items

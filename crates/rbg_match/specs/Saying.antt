@@ -1,0 +1,14 @@
+-- What a call that queues messages leaves.
+use Rattle.std.specs.Prelude.{◌≡◌, ℕ, ◌<◌, List, [], length, slice_index, slice_index_or, Result, IfOk}
+use Rattle.rbg_match.specs.Deliveries.{Delivery, delivered}
+
+-- Something was said, and stands behind what each seat had. Where the call went well, it is what was to be said. Where it
+-- didn't, what each seat had still stands in front.
+pub record Says {T E : Type 0} (old new : List (List ℕ)) (result : Result T E) (IsToSay : T → List Delivery → Type 0) : Type 0 where
+  pub said : List Delivery
+  pub behind : new ≡ delivered old said
+  pub whole : IfOk result (λ value. IsToSay value said)
+
+-- the marks are the numbers of bytes that the seats have, seat 1 first
+abbrev pub AreMarks : List (List ℕ) → List ℕ → Type 0
+AreMarks outbox marks = (i : ℕ) → i < length outbox → slice_index marks i ≡ length (slice_index_or outbox i [])

@@ -1,0 +1,29 @@
+//! What a match is made with.
+ghost use Rattle.std.specs.Prelude.{IsTrue, ◌↔◌};
+
+/// The longest time that a turn may have, in milliseconds.
+pub const MAX_TURN_MS: u64 = 3_600_000;
+
+/// The most refusals that may be allowed to a seat.
+pub const MAX_REFUSALS: u32 = 100;
+
+/// The time for a turn, and how many refusals a seat is allowed.
+#[derive(Clone, Copy, Debug, PartialEq, Eq)]
+pub struct Config {
+    /// The time for a turn, in milliseconds: 1 to `MAX_TURN_MS`.
+    pub turn_ms: u64,
+    /// The messages of a seat that may be refused before one more ends the match: 0 to `MAX_REFUSALS`.
+    pub refusals: u32,
+}
+
+impl Config {
+    ghost use Rattle.std.specs.Prelude.{IsTrue, ◌↔◌};
+    ghost use Rattle.rbg_match.specs.Config.{IsWithinLimits};
+
+    /// Whether both numbers are within their limits.
+    pub fn is_within_limits(self) -> bool
+        ensures { IsTrue result ↔ IsWithinLimits self }
+    {
+        1 <= self.turn_ms && self.turn_ms <= MAX_TURN_MS && self.refusals <= MAX_REFUSALS
+    }
+}

@@ -1,0 +1,48 @@
+//! Why a match is not made, or not refereed.
+ghost use Rattle.std.specs.Prelude.{◌≡◌};
+ghost use Rattle.rbg_match.specs.declared.error.MatchError.TheVariants.{Memory as OutOfMemory};
+
+use crate::Outbox;
+use rbg_game::LoadError;
+use rbg_state::Memory;
+use thiserror::Error;
+
+/// Why a match is not made.
+#[derive(Clone, Copy, Debug, PartialEq, Eq, Error)]
+pub enum MatchError {
+    /// A number of the config is outside its limits.
+    #[error("a number of the config is outside its limits")]
+    Config,
+    /// The memory that was asked for could not be had.
+    #[error("out of memory")]
+    Memory,
+    /// The action at this position, or a sum or star that it stands in, is not played yet.
+    #[error("the action at position {position} is not played yet")]
+    NotYet { position: u32 },
+}
+
+impl From<Memory> for MatchError {
+    ghost from_gives = { λ _ error. error ≡ OutOfMemory };
+
+    fn from(_memory: Memory) -> MatchError {
+        MatchError::Memory
+    }
+}
+
+/// Why a match is not refereed to its end.
+#[derive(Debug, Drop, Error)]
+pub enum RefereeError {
+    /// The text is no game.
+    #[error("{0}")]
+    Load(LoadError),
+    /// A number of the config is outside its limits.
+    #[error("a number of the config is outside its limits")]
+    Config,
+    /// The memory that was asked for could not be had. So many events were taken whole, and this is the outbox after them;
+    /// it has no seat where the match wasn't made.
+    #[error("out of memory after {done} events")]
+    Memory { done: usize, said: Outbox },
+    /// The action at this position, or a sum or star that it stands in, is not played yet.
+    #[error("the action at position {position} is not played yet")]
+    NotYet { position: u32 },
+}

@@ -1,0 +1,29 @@
+//! What a match hears.
+ghost use Rattle.std.specs.Prelude.{◌≡◌};
+
+/// A piece of a seat's stream, its end, or a moment of the clock. Seats are numbered from 1. Moments are milliseconds.
+#[derive(Clone, Copy, Debug)]
+pub enum Event<'a> {
+    /// The next bytes of a seat's stream have come.
+    Piece { seat: u64, at: u64, bytes: &'a [u8] },
+    /// A seat's stream has ended.
+    Ended { seat: u64, at: u64 },
+    /// It is that moment.
+    Tick { at: u64 },
+}
+
+impl Event<'_> {
+    ghost use Rattle.std.specs.Prelude.{◌≡◌};
+    ghost use Rattle.rbg_match.specs.Hearing.{event_of, moment_of};
+
+    /// The moment that the event brings.
+    pub(crate) fn at(&self) -> u64
+        ensures { result ≡ moment_of (event_of self.now) }
+    {
+        match *self {
+            Event::Piece { at, .. } => at,
+            Event::Ended { at, .. } => at,
+            Event::Tick { at } => at,
+        }
+    }
+}

@@ -1,0 +1,96 @@
+//! How a match opens: each seat is greeted, and play stands at its start.
+ghost use Rattle.std.specs.Prelude.{◌≡◌, ◌≢◌, ℕ, ◌≤◌, ◌<◌, ◌^◌, ◌-◌, length, All, IsTrue, IfOk, IfSome};
+ghost use Rattle.rbg_wire.specs.Messages.{is_name};
+ghost use Rattle.rbg_game.specs.State.{AbstractGame};
+ghost use Rattle.rbg_match.specs.Config.{latest_moment};
+ghost use Rattle.rbg_match.specs.Saying.{Says};
+ghost use Rattle.rbg_match.specs.Play.{play_at_start};
+ghost use Rattle.rbg_match.specs.PlayOf.{play_of};
+ghost use Rattle.rbg_match.specs.Playable.{IsPlayOf};
+ghost use Rattle.rbg_match.specs.PlayingOn.{seats_of};
+ghost use Rattle.rbg_match.specs.Inboxes.{AreNew};
+ghost use Rattle.rbg_match.specs.Transcript.{greeting, greetings};
+
+use crate::play::Play;
+use crate::{Config, Outbox};
+use rbg_game::Game;
+use rbg_moves::Place;
+use rbg_state::Memory;
+use rbg_wire::{Inbox, Message};
+use std::alloc::Global;
+
+/// The most bytes of a seat's message, without its zero byte.
+const MESSAGE_LIMIT: usize = 4096;
+
+/// One seat is greeted.
+fn greet_seat(
+    seat: usize,
+    name: &str,
+    text: &[u8],
+    config: Config,
+    outbox: &mut Outbox,
+) -> Result<(), Memory>
+    requires some { 1 ≤ seat }
+    requires most { seat ≤ length outbox.old }
+    requires name { IsTrue (is_name name.now) }
+    requires no_zero { All (λ byte. byte ≢ 0) text.now }
+    ensures { Says outbox.old outbox.new result (λ _ said. said ≡ greeting text.now config seat name.now) }
+{
+    let who = Message::Who {
+        player: seat as u64,
+        name: name.as_bytes(),
+    };
+    outbox.tell(seat, &who)?;
+    outbox.tell(seat, &Message::Game { text })?;
+    let limits = Message::Limits {
+        turn_ms: config.turn_ms,
+        refusals: u64::from(config.refusals),
+    };
+    outbox.tell(seat, &limits)?;
+    Ok(())
+}
+
+/// Each seat is greeted.
+pub(crate) fn greet(
+    game: &Game,
+    text: &[u8],
+    config: Config,
+    outbox: &mut Outbox,
+) -> Result<(), Memory>
+    requires seats { length outbox.old ≡ seats_of game.now }
+    requires names { All (λ name. IsTrue (is_name name)) game.now.players }
+    requires no_zero { All (λ byte. byte ≢ 0) text.now }
+    ensures { Says outbox.old outbox.new result (λ _ said. said ≡ greetings text.now config game.now.players) }
+{
+    for index in 0..game.players() {
+        let name = game.player_name(index as u16 + 1);
+        greet_seat(index + 1, name, text, config, outbox)?;
+    }
+    Ok(())
+}
+
+/// Where play stands before anything was done.
+pub(crate) fn start(alloc: Global, game: &Game, at: u64) -> Result<Play, Memory>
+    requires { at ≤ latest_moment }
+    ensures play { IfOk result (λ play. play_of play ≡ play_at_start game.now at) }
+    ensures in_game { IfOk result (λ play. IsPlayOf game.now (play_of play)) }
+{
+    Ok(Play {
+        place: Place::start(alloc, game)?,
+        turn_began: at,
+        refusals: vec![in alloc; 0; game.players()]?,
+        made: Vec::new(alloc),
+        outcome: None,
+    })
+}
+
+/// An inbox for each seat, to which nothing has come.
+pub(crate) fn new_inboxes(alloc: Global, seats: usize) -> Result<Vec<Inbox>, Memory>
+    ensures { IfOk result (λ inboxes. AreNew seats inboxes.items) }
+{
+    let mut inboxes = Vec::with_capacity(alloc, seats)?;
+    for _ in 0..seats {
+        inboxes.push(Inbox::new(alloc, MESSAGE_LIMIT))?;
+    }
+    Ok(inboxes)
+}

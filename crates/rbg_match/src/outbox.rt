@@ -1,0 +1,140 @@
+//! The bytes that are queued for the seats.
+ghost use Rattle.std.specs.Prelude.{◌≡◌, ℕ, ◌+◌, ◌-◌, ◌<◌, ◌≤◌, List, [], ◌++◌, length, map, take, replicate, slice_index, slice_index_or, IfOk};
+ghost use Rattle.std.specs.Global.{Vec};
+ghost use Rattle.rbg_wire.specs.Messages.{message_of, HasSpelling};
+ghost use Rattle.rbg_match.specs.Deliveries.{Delivery, delivered, to_seat, to_each, to_others};
+ghost use Rattle.rbg_match.specs.Saying.{Says, AreMarks};
+
+use rbg_wire::{Message, write_message};
+use std::alloc::{AllocError, Global};
+use std::marker::Model;
+
+/// The most seats of a match.
+const MAX_SEATS: usize = 8;
+
+/// All bytes that were queued for each seat since the start. Seats are numbered from 1. Contracts see the list of each
+/// seat's bytes, seat 1 first.
+#[derive(Debug, Drop)]
+pub struct Outbox {
+    queues: Vec<Vec<u8>>,
+}
+
+impl Model for Outbox {
+    ghost use Rattle.std.specs.Prelude.{ℕ, List, map};
+
+    ghost Value = { List (List ℕ) };
+
+    ghost view = { λ o. map (λ queue. queue.items) o.queues.items };
+}
+
+impl Outbox {
+    /// An outbox with nothing in it.
+    pub(crate) fn new(alloc: Global, seats: usize) -> Result<Outbox, AllocError>
+        ensures { IfOk result (λ outbox. outbox ≡ replicate seats []) }
+    {
+        let mut queues = Vec::with_capacity(alloc, seats)?;
+        for _ in 0..seats {
+            queues.push(Vec::new(alloc))?;
+        }
+        Ok(Outbox { queues })
+    }
+
+    /// The outbox of no seat.
+    pub(crate) fn of_nobody(alloc: Global) -> Outbox
+        ensures { result ≡ [] }
+    {
+        Outbox {
+            queues: Vec::new(alloc),
+        }
+    }
+
+    /// The number of seats.
+    pub fn seats(&self) -> usize
+        ensures { result ≡ length self.now }
+    {
+        self.queues.len()
+    }
+
+    /// All that was queued for a seat since the start. It must be one of the seats.
+    pub fn bytes(&self, seat: usize) -> &[u8]
+        requires is_seat { 1 ≤ seat }
+        requires is_there { seat ≤ length self.now }
+        ensures { result.now ≡ slice_index_or self.now (seat - 1) [] }
+    {
+        self.queues[seat - 1].as_slice()
+    }
+
+    /// Queues a message for a seat. An `Err` changes nothing.
+    pub(crate) fn tell(&mut self, seat: usize, message: &Message<'_>) -> Result<(), AllocError>
+        requires is_seat { 1 ≤ seat }
+        requires is_there { seat ≤ length self.old }
+        requires spelled { HasSpelling (message_of message.now) }
+        ensures { Says self.old self.new result (λ _ said. said ≡ to_seat seat (message_of message.now)) }
+    {
+        write_message(message, &mut self.queues[seat - 1])
+    }
+
+    /// Queues a message for each seat.
+    pub(crate) fn tell_each(&mut self, message: &Message<'_>) -> Result<(), AllocError>
+        requires { HasSpelling (message_of message.now) }
+        ensures { Says self.old self.new result (λ _ said. said ≡ to_each (length self.old) (message_of message.now)) }
+    {
+        for index in 0..self.seats() {
+            self.tell(index + 1, message)?;
+        }
+        Ok(())
+    }
+
+    /// Queues a message for each seat but one.
+    pub(crate) fn tell_others(
+        &mut self,
+        one: usize,
+        message: &Message<'_>,
+    ) -> Result<(), AllocError>
+        requires { HasSpelling (message_of message.now) }
+        ensures { Says self.old self.new result (λ _ said. said ≡ to_others (length self.old) one (message_of message.now)) }
+    {
+        for index in 0..self.seats() {
+            if index + 1 != one {
+                self.tell(index + 1, message)?;
+            }
+        }
+        Ok(())
+    }
+
+    /// How many bytes each seat has, for `cut_back`.
+    pub(crate) fn marks(&self) -> [usize; MAX_SEATS]
+        requires { length self.now ≤ 8 }
+        ensures { AreMarks self.now result }
+    {
+        lengths(&self.queues)
+    }
+
+    /// Takes back all but what each seat had where the marks were taken.
+    pub(crate) fn cut_back(&mut self, marks: &[usize; MAX_SEATS])
+        requires { length self.old ≤ 8 }
+        ensures { (before : List (List ℕ)) (said : List Delivery) → self.old ≡ delivered before said → AreMarks before marks.now → self.new ≡ before }
+    {
+        cut(&mut self.queues, marks);
+    }
+}
+
+fn lengths(queues: &[Vec<u8>]) -> [usize; MAX_SEATS]
+    requires { length queues.now ≤ 8 }
+    ensures { (i : ℕ) (d : Vec ℕ) → i < length queues.now → slice_index result i ≡ length (slice_index_or queues.now i d).items }
+{
+    let mut marks = [0; MAX_SEATS];
+    for (index, queue) in queues.iter().enumerate() {
+        marks[index] = queue.len();
+    }
+    marks
+}
+
+fn cut(queues: &mut [Vec<u8>], marks: &[usize; MAX_SEATS])
+    requires { length queues.old ≤ 8 }
+    ensures { (i : ℕ) (d : Vec ℕ) → i < length queues.old → (slice_index_or queues.new i d).items ≡ take (slice_index marks.now i) (slice_index_or queues.old i d).items }
+{
+    for index in 0..queues.len() {
+        queues[index].truncate(marks[index]);
+    }
+}

@@ -1,0 +1,114 @@
+//! The walk along rules of one word: from a place they go on in one way, so at most one move is legal.
+ghost use Rattle.std.specs.Prelude.{◌≡◌, ◌≤◌, length, Err, IfNone, IfOk, IfSome};
+ghost use Rattle.rbg_game.specs.Moves.{AbstractPlace, Finished, Legal};
+ghost use Rattle.rbg_wire.specs.Messages.{ArePairs};
+ghost use Rattle.rbg_match.specs.OneWord.{IsOneWord};
+ghost use Rattle.rbg_match.specs.OnlyMove.{IsOnlyMove, IsPlaceAfter};
+ghost use Rattle.rbg_match.specs.PlaceOf.{IsPlaceOf};
+ghost use Rattle.rbg_match.specs.Walking.{IsTooDeep, Tells};
+
+use arrayvec::ArrayVec;
+use rbg_game::{Game, Instruction};
+use rbg_moves::{MAX_PAIRS, Move, Pair, Place};
+use rbg_state::{Applied, Memory};
+
+mod one_word;
+
+pub(crate) use one_word::first_not_played;
+
+/// Why a question has no answer.
+#[derive(Clone, Copy, Debug, PartialEq, Eq)]
+pub(crate) enum Over {
+    /// 200 modifiers were valid before a switch.
+    Deep,
+    /// The memory that was asked for could not be had.
+    Memory,
+}
+
+impl From<Memory> for Over {
+    ghost use Rattle.std.specs.Prelude.{◌≡◌};
+    ghost use Rattle.rbg_match.specs.declared.walk.Over.TheVariants as over;
+
+    ghost from_gives = { λ _ e. e ≡ over.Memory };
+
+    fn from(_error: Memory) -> Over {
+        Over::Memory
+    }
+}
+
+/// Where the rules lead from a place.
+#[derive(Debug, Drop)]
+enum Walked {
+    /// To a switch, which ends the one legal move.
+    Moved(Move, Place),
+    /// To an action that is not valid, or to their end: nothing is legal.
+    Stuck,
+    /// Through 200 modifiers, none of them a switch.
+    Deep,
+}
+
+/// A legal move at a place, and the place after it; None where play is finished.
+pub(crate) fn find_move(game: &Game, place: &Place) -> Result<Option<(Move, Place)>, Over>
+    requires one_word { IsOneWord game.now.rules }
+    requires place { IsPlaceOf game.now place.now }
+    ensures found { IfOk result (λ answer. IfSome answer (λ found. IsOnlyMove game.now place.now found.0 found.1)) }
+    ensures in_game { IfOk result (λ answer. IfSome answer (λ found. IsPlaceOf game.now found.1)) }
+    ensures spelled { IfOk result (λ answer. IfSome answer (λ found. ArePairs found.0 × (length found.0 ≤ 200))) }
+    ensures finished { IfOk result (λ answer. IfNone answer (Finished game.now place.now)) }
+    ensures deep { result ≡ Err Over.Deep → IsTooDeep game.now place.now }
+{
+    match walk(game, place)? {
+        Walked::Moved(pairs, to) => Ok(Some((pairs, to))),
+        Walked::Stuck => Ok(None),
+        Walked::Deep => Err(Over::Deep),
+    }
+}
+
+/// The place after the move of these pairs; None where it is not legal.
+pub(crate) fn try_move(game: &Game, place: &Place, pairs: &Move) -> Result<Option<Place>, Memory>
+    requires one_word { IsOneWord game.now.rules }
+    requires place { IsPlaceOf game.now place.now }
+    ensures legal { IfOk result (λ answer. IfSome answer (IsPlaceAfter game.now place.now pairs.now)) }
+    ensures in_game { IfOk result (λ answer. IfSome answer (IsPlaceOf game.now)) }
+    ensures illegal { IfOk result (λ answer. IfNone answer ((to : AbstractPlace) → ¬ Legal game.now place.now pairs.now to)) }
+{
+    let asked = pairs.as_slice();
+    match walk(game, place)? {
+        Walked::Moved(legal, to) => Ok((legal.as_slice() == asked).then_some(to)),
+        Walked::Stuck | Walked::Deep => Ok(None),
+    }
+}
+
+/// Follows the rules from a place to the first switch.
+fn walk(game: &Game, place: &Place) -> Result<Walked, Memory>
+    requires one_word { IsOneWord game.now.rules }
+    requires place { IsPlaceOf game.now place.now }
+    ensures { IfOk result (Tells game.now place.now) }
+{
+    let mut state = place.state.try_clone()?;
+    let mut pairs: ArrayVec<Pair, MAX_PAIRS> = ArrayVec::new();
+    let end = game.positions() as u32 + 1;
+    for position in place.after.unwrap_or(0) + 1..end {
+        let vertex = u32::from(state.vertex());
+        match state.apply(game, position) {
+            Applied::Valid => {}
+            Applied::Invalid => return Ok(Walked::Stuck),
+        }
+        match game.action(position) {
+            Instruction::Switch { .. } => {
+                pairs.push(Pair { vertex, position });
+                let after = Some(position);
+                let pairs = Move::from_pairs(pairs.as_slice()).unwrap();
+                return Ok(Walked::Moved(pairs, Place { state, after }));
+            }
+            Instruction::Off { .. } => {
+                pairs.push(Pair { vertex, position });
+                if pairs.is_full() {
+                    return Ok(Walked::Deep);
+                }
+            }
+            _ => {}
+        }
+    }
+    Ok(Walked::Stuck)
+}

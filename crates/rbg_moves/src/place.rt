@@ -1,0 +1,36 @@
+//! Where play stands in a game.
+ghost use Rattle.std.specs.Prelude.{◌≡◌, IfOk, None};
+ghost use Rattle.rbg_game.specs.State.{start_of, IsStateOf};
+
+use rbg_game::Game;
+use rbg_state::{Memory, SemiState};
+use std::alloc::Global;
+use std::marker::Model;
+
+/// A semi-state, and the position of the last action; none at the beginning of the rules.
+#[derive(Debug, Drop)]
+pub struct Place {
+    pub state: SemiState,
+    pub after: Option<u32>,
+}
+
+impl Model for Place {
+    ghost use Rattle.rbg_game.specs.Moves.{AbstractPlace};
+
+    ghost Value = { AbstractPlace };
+
+    ghost view = { λ p. record { state = p.state; last = p.after } };
+}
+
+impl Place {
+    /// The place where play begins.
+    pub fn start(alloc: Global, game: &Game) -> Result<Place, Memory>
+        ensures start { IfOk result (λ place. place ≡ record { state = start_of game.now; last = None }) }
+        ensures fits { IfOk result (λ place. IsStateOf game.now place.state) }
+    {
+        Ok(Place {
+            state: SemiState::start(alloc, game)?,
+            after: None,
+        })
+    }
+}
