@@ -1,12 +1,12 @@
 -- Tokens whose bytes stand in a buffer that grows.
-use Rattle.std.proofs.Common.{ℕ, ◌≡◌, ◌+◌, ◌-◌, ◌<◌, ◌≤◌, List, [], ◌∷◌, ◌++◌, length, get_or, take, drop, map, Some, slice_get, refl, sym, ap, ◌∙◌, arith, length-append, length-drop, suc}
+use Rattle.std.proofs.Common.{ℕ, ◌≡◌, ◌+◌, ◌-◌, ◌<◌, ◌≤◌, List, [], ◌∷◌, ◌++◌, length, get_or, take, drop, map, Some, slice_get, refl, sym, subst, ap, ◌∙◌, arith, length-append, length-drop, suc}
 use Rattle.std.specs.List.{All, slice_range}
 use Rattle.std.proofs.Math.Seq.{take-length, drop-append_seam}
-use Rattle.std.proofs.lemmas.List.{take-append-le, drop-append-le, map-append, length-take, get_or-take, get_or-drop}
+use Rattle.std.proofs.lemmas.List.{take-append-le, drop-append-le, map-append, length-take, take-append-drop, get_or-take, get_or-drop}
 use Rattle.std.proofs.lemmas.Option.{get_or_from_slice_get, slice_get_read}
 use Rattle.rbg_macro.specs.declared.buffer.Span.{Span}
 use Rattle.rbg_macro.specs.declared.token.Token.{Token}
-use Rattle.rbg_macro.specs.Span.{lexeme_in, IsSpanWithin}
+use Rattle.rbg_macro.specs.Span.{lexeme_in, IsSpanWithin, StandsAt}
 use Rattle.rbg_macro.specs.Token.{Lexeme, lexeme_of}
 
 -- a part of a front is a part of the whole
@@ -27,27 +27,33 @@ same_lexemes texts more (s ∷ spans) all =
     let others = same_lexemes texts more spans (λ k d below. all (suc k) d (omega arith)) in
     cc
 
+-- a list is what it begins with and what was added
+grown_from : (old new : List ℕ) → take (length old) new ≡ old → new ≡ old ++ drop (length old) new
+grown_from old new front = sym (take-append-drop (length old) new) ∙ ap (λ (l : List ℕ). l ++ drop (length old) new) front
+
 -- what was added at the end of a list
 pub slice_of_end : {X : Type 0} (xs more : List X) → slice_range (xs ++ more) (length xs) (length (xs ++ more)) ≡ more
 slice_of_end xs more =
     let size : length (xs ++ more) - length xs ≡ length more = omega (arith, length-append xs more) in
     rw (drop-append_seam xs more, size) (take-length more)
 
--- the token at the end of the buffer is the one whose text was added
-added_lexeme : (texts : List ℕ) (t : Token) → lexeme_in (texts ++ t.text.now) (record { kind = t.kind; start = length texts; end = length (texts ++ t.text.now); at = t.at }) ≡ lexeme_of t
-added_lexeme texts t =
-    ap (λ (bytes : List ℕ). record { kind = t.kind; text = bytes; at = t.at }) (slice_of_end texts t.text.now)
-
+-- a token whose bytes stand in a buffer that begins with the earlier one comes behind the tokens so far
 pub pushed : (texts new_texts : List ℕ) (spans new_spans : List Span) (start end : ℕ) (t : Token) →
-    All (IsSpanWithin texts) spans → new_texts ≡ texts ++ t.text.now →
-    start ≡ length texts → end ≡ length new_texts →
+    All (IsSpanWithin texts) spans → take (length texts) new_texts ≡ texts →
+    StandsAt new_texts t.text.now start → end ≡ start + length t.text.now →
     new_spans ≡ spans ++ record { kind = t.kind; start = start; end = end; at = t.at } ∷ [] →
     map (lexeme_in new_texts) new_spans ≡ map (lexeme_in texts) spans ++ lexeme_of t ∷ []
-pushed texts new_texts spans new_spans start end t all grown first last added =
-    rw (added, last, first, grown)
-    (map-append (lexeme_in (texts ++ t.text.now)) spans _
-    ∙ ap (λ (l : List Lexeme). l ++ lexeme_in (texts ++ t.text.now) (record { kind = t.kind; start = length texts; end = length (texts ++ t.text.now); at = t.at }) ∷ []) (same_lexemes texts t.text.now spans all)
-    ∙ ap (λ (l : Lexeme). map (lexeme_in texts) spans ++ l ∷ []) (added_lexeme texts t))
+pushed texts new_texts spans new_spans start end t all front stands last added =
+    let s : Span = record { kind = t.kind; start = start; end = end; at = t.at } in
+    let earlier : map (lexeme_in new_texts) spans ≡ map (lexeme_in texts) spans =
+    subst (λ (bytes : List ℕ). map (lexeme_in bytes) spans ≡ map (lexeme_in texts) spans) (sym (grown_from texts new_texts front)) (same_lexemes texts (drop (length texts) new_texts) spans all) in
+    let text : slice_range new_texts start end ≡ t.text.now = rw last stands.same in
+    let one : lexeme_in new_texts s ≡ lexeme_of t =
+    ap (λ (bytes : List ℕ). record { kind = t.kind; text = bytes; at = t.at }) text in
+    rw added
+    (map-append (lexeme_in new_texts) spans (s ∷ [])
+    ∙ ap (λ (l : List Lexeme). l ++ lexeme_in new_texts s ∷ []) earlier
+    ∙ ap (λ (l : Lexeme). map (lexeme_in texts) spans ++ l ∷ []) one)
 
 -- an element of a part is one of the whole
 pub get_in_range : {X : Type 0} (xs : List X) (a b i : ℕ) (x : X) → slice_get xs (a + i) ≡ Some x → i < length (slice_range xs a b) → slice_get (slice_range xs a b) i ≡ Some x

@@ -85,14 +85,16 @@ pub record HasSections (ts : List Lexeme) (sections : List SectionTokens) : Type
   pub defined : definitions_of ts ≡ Ok definitions
   pub expanded : ExpandsWithin definitions.macros definitions.sections sections
 
--- a head is faulty, or no head is and this is the first fault of the sections; want of memory may come anywhere
+-- no head is faulty, and this is the first fault of the sections
 pub record HasExpansionFault (ts : List Lexeme) (e : MacroError) : Type 0 where
   pub definitions : Definitions
   pub defined : definitions_of ts ≡ Ok definitions
   pub fails : FailsAll definitions.macros 0 0 definitions.sections e
 
+-- a head is faulty, or the expansion is
 abbrev pub HasFault : List Lexeme → MacroError → Type 0
 HasFault ts e = (definitions_of ts ≡ Err e) ⊎ HasExpansionFault ts e
 
+-- want of memory may come anywhere
 abbrev pub HasMacroFault : List Lexeme → MacroError → Type 0
 HasMacroFault ts = UnlessMemory (HasFault ts)

@@ -1,5 +1,5 @@
 -- Tokens and sections that are kept as places in one buffer and one list.
-use Rattle.std.specs.Prelude.{ℕ, List, ◌≤◌, length, slice_range}
+use Rattle.std.specs.Prelude.{ℕ, List, ◌≡◌, ◌+◌, ◌≤◌, length, slice_range}
 use Rattle.rbg_macro.specs.declared.buffer.Span.{Span}
 use Rattle.rbg_macro.specs.declared.source.SectionSpan.{SectionSpan}
 use Rattle.rbg_macro.specs.Token.{Lexeme, SectionTokens}
@@ -12,6 +12,11 @@ lexeme_in texts s = record { kind = s.kind; text = slice_range texts s.start s.e
 pub record IsSpanWithin (texts : List ℕ) (s : Span) : Type 0 where
   pub ordered : s.start ≤ s.end
   pub within : s.end ≤ length texts
+
+-- these bytes stand at this place of the buffer
+pub record StandsAt (texts bytes : List ℕ) (start : ℕ) : Type 0 where
+  pub within : start + length bytes ≤ length texts
+  pub same : slice_range texts start (start + length bytes) ≡ bytes
 
 -- the section whose tokens stand at a place of the list
 abbrev pub section_in : List Lexeme → SectionSpan → SectionTokens

@@ -1,5 +1,6 @@
-// A list of tokens that owns their texts, in one buffer.
-ghost use Rattle.std.specs.Prelude.{◌≡◌, ◌<◌, [], ◌∷◌, ◌++◌, length, slice_get, Some, OnOk, OnErr};
+// A list of tokens that owns their texts, in one buffer that begins with the whole text they came from.
+ghost use Rattle.std.specs.Prelude.{◌≡◌, ◌<◌, ◌↔◌, [], ◌∷◌, ◌++◌, length, take, slice_get, Some, IfOk, OnOk, OnErr, IsTrue};
+ghost use Rattle.rbg_macro.specs.Span.{StandsAt};
 ghost use Rattle.rbg_macro.specs.Token.{lexeme_of};
 
 use crate::token::{Token, TokenKind};
@@ -15,7 +16,7 @@ pub(crate) struct Span {
     pub(crate) at: usize,
 }
 
-/// Tokens that own their texts.
+/// Tokens that own their texts. Those that stand in the text as they are share its one copy.
 #[derive(Debug, Drop)]
 pub(crate) struct TokenBuffer {
     texts: Vec<u8>,
@@ -36,13 +37,14 @@ impl Model for TokenBuffer {
 }
 
 impl TokenBuffer {
-    pub(crate) fn new(alloc: Global) -> Self
-        ensures { result ≡ [] }
+    /// No tokens yet, with a copy of the text that they come from.
+    pub(crate) fn with_text(alloc: Global, text: &[u8]) -> Result<Self, AllocError>
+        ensures { IfOk result (λ b. b ≡ []) }
     {
-        TokenBuffer {
-            texts: Vec::new(alloc),
+        Ok(TokenBuffer {
+            texts: text.to_vec(alloc)?,
             spans: Vec::new(alloc),
-        }
+        })
     }
 
     pub(crate) fn len(&self) -> usize
@@ -51,16 +53,16 @@ impl TokenBuffer {
         self.spans.len()
     }
 
-    /// Adds a token at the end, with a copy of its text.
+    /// Adds a token at the end. Its bytes are copied only if they don't stand at the token's offset, as
+    /// those of a joined token.
     pub(crate) fn push(&mut self, token: &Token<'_>) -> Result<(), AllocError>
         ensures { OnOk result (self.new ≡ self.old ++ lexeme_of token.now ∷ []) }
     {
-        let start = self.texts.len();
-        self.texts.extend_from_slice(token.text)?;
+        let start = place(&mut self.texts, token.at, token.text)?;
         self.spans.push(Span {
             kind: token.kind,
             start,
-            end: self.texts.len(),
+            end: start + token.text.len(),
             at: token.at,
         })?;
         Ok(())
@@ -79,4 +81,28 @@ impl TokenBuffer {
             at: span.at,
         }
     }
+}
+
+/// Where some bytes stand in the texts: at the offset `at` if they are found there, else they are added at
+/// the end.
+fn place(texts: &mut Vec<u8>, at: usize, bytes: &[u8]) -> Result<usize, AllocError>
+    ensures ok { IfOk result (StandsAt texts.new.items bytes.now) }
+    ensures front { take (length texts.old.items) texts.new.items ≡ texts.old.items }
+{
+    if stands_at(texts, at, bytes) {
+        return Ok(at);
+    }
+    let start = texts.len();
+    texts.extend_from_slice(bytes)?;
+    Ok(start)
+}
+
+/// Whether the bytes stand at this offset of the texts.
+fn stands_at(texts: &[u8], at: usize, bytes: &[u8]) -> bool
+    ensures { IsTrue result ↔ StandsAt texts.now bytes.now at }
+{
+    let Some(end) = at.checked_add(bytes.len()) else {
+        return false;
+    };
+    texts.get(at..end) == Some(bytes)
 }

@@ -172,9 +172,11 @@ fn read_section<'a>(
     })
 }
 
-/// Expands the sections one by one.
+/// Expands the sections one by one. Where a token that is kept stands in the text, its bytes are copied
+/// only with the text.
 fn expand_sections<'a>(
     alloc: Global,
+    text: &[u8],
     macros: &Macros<'a>,
     bodies: &[SectionBody<'a>],
 ) -> Result<Source, MacroError>
@@ -183,7 +185,7 @@ fn expand_sections<'a>(
 {
     let mut progress = Progress {
         read: 0,
-        kept: TokenBuffer::new(alloc),
+        kept: TokenBuffer::with_text(alloc, text)?,
     };
     let mut sections = Vec::with_capacity(alloc, bodies.len())?;
     for body in bodies {
@@ -200,7 +202,12 @@ pub fn expand(alloc: Global, tokens: &Tokens<'_>) -> Result<Source, MacroError>
     ensures fault { IfErr result (HasMacroFault tokens.now) }
 {
     let definitions = read_definitions(alloc, tokens.as_slice())?;
-    expand_sections(alloc, &definitions.macros, &definitions.sections)
+    expand_sections(
+        alloc,
+        tokens.text(),
+        &definitions.macros,
+        &definitions.sections,
+    )
 }
 
 #[cfg(test)]

@@ -45,7 +45,7 @@ pub fn tokens(alloc: Global, text: &[u8]) -> Result<Tokens<'_>, TextError>
             Part::BadByte => return Err(TextError::BadByte { at }),
         }
     }
-    Ok(Tokens::new(tokens))
+    Ok(Tokens::new(text, tokens))
 }
 
 /// What stands at the front.

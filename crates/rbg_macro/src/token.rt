@@ -182,6 +182,7 @@ impl Token<'_> {
 /// The tokens of a text, which they borrow.
 #[derive(Debug, Drop)]
 pub struct Tokens<'a> {
+    text: &'a [u8],
     tokens: Vec<Token<'a>>,
 }
 
@@ -195,10 +196,15 @@ impl<'a> Model for Tokens<'a> {
 }
 
 impl<'a> Tokens<'a> {
-    pub(crate) fn new(tokens: Vec<Token<'a>>) -> Self
+    pub(crate) fn new(text: &'a [u8], tokens: Vec<Token<'a>>) -> Self
         ensures { result ≡ map lexeme_of tokens.entry.items }
     {
-        Tokens { tokens }
+        Tokens { text, tokens }
+    }
+
+    /// The text that they were cut from. It saves copies, and no contract rests on it.
+    pub(crate) fn text(&self) -> &'a [u8] {
+        self.text
     }
 
     /// The tokens in order of the text.

@@ -73,6 +73,7 @@ impl Match {
     ) -> Result<(Match, Outbox), MatchError>
         requires { Loads text.now game }
         ensures opens { IfOk result (λ made. Opens game text.now config now made.0 made.1) }
+        ensures seats { IfOk result (λ made. length made.1 ≡ seats_of made.0.game) }
         ensures config { IsErrOf result MatchError.Config ↔ (¬ IsWithinLimits config) }
         ensures not_yet { (position : ℕ) → IsErrOf result (MatchError.NotYet position) ↔ (IsWithinLimits config × IsFirstNotPlayed game.rules position) }
     {
@@ -92,6 +93,7 @@ impl Match {
         ensures ok { OnOk result (Steps self.old (event_of event.entry) self.new outbox.old outbox.new) }
         ensures err { OnErr result ((outbox.new ≡ outbox.old) × (self.new.failed ≡ true) × (self.new.game ≡ self.old.game)) }
         ensures failed { self.old.failed ≡ true → IsErr result }
+        ensures seats { length outbox.new ≡ length outbox.old }
     {
         if self.failed {
             return Err(Memory);

@@ -1,5 +1,7 @@
-use Rattle.std.proofs.Common.{refl}
+use Rattle.std.proofs.Common.{rules, ◌≡◌, refl}
+use Rattle.rbg_match.specs.Hearing.{counted_first}
 use Rattle.rbg_match.proofs.FirstPosition.{refused_there, refused_nowhere, ok_is_no_refusal, memory_is_another_refusal}
+use Rattle.rbg_match.proofs.WholeMatch.{seats_of_opened}
 use Rattle.rbg_match.proofs.matches.Match.new.Goals as goal
 
 pub returns-in-Some-clause-not_yet : goal.returns-in-Some-clause-not_yet
@@ -10,3 +12,8 @@ returns-in_err-open-clause-not_yet c = λ position. refused_nowhere c.args.game.
 
 pub returns-clause-not_yet : goal.returns-clause-not_yet
 returns-clause-not_yet c = λ position. refused_nowhere c.args.game.rules c.args.config _ position (c.in_default.ensures.none.0 refl) (ok_is_no_refusal c.in_ok-open.field-0 position)
+
+pub returns-clause-seats : goal.returns-clause-seats
+returns-clause-seats c =
+    let at : c.min.result ≡ counted_first c.args.now = search rules in
+    seats_of_opened c.args.game c.args.text.now c.args.config c.args.now c.in_ok-open.field-0.0 c.in_ok-open.field-0.1 (c.in_ok-open.ensures c.args.now at)

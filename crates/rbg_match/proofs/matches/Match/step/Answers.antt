@@ -11,3 +11,6 @@ pub cut_back-requires : goal.cut_back-requires
 cut_back-requires c =
     let same = length-says c.hear_event-heard.ensures.says ∙ (rw (← c.self.view_is) at c.requires) in
     omega (arith, same, c.self.invariant.playable.accepted.limits.players)
+
+pub returns-else-is_err-clause-seats : goal.returns-else-is_err-clause-seats
+returns-else-is_err-clause-seats c = length-says c.hear_event-heard.ensures.says
