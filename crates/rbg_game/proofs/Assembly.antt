@@ -10,18 +10,18 @@ use Rattle.rbg_game.specs.declared.checking.names.Things.{Things}
 use Rattle.rbg_game.specs.declared.error.GameError.{GameError}
 use Rattle.rbg_game.specs.declared.error.GameError.TheVariants as errors
 use Rattle.rbg_game.specs.declared.error.Thing.{Thing}
-use Rattle.rbg_game.specs.declared.limits.TheConstants.{MAX_BOUND}
+use Rattle.rbg_rules.specs.declared.limits.TheConstants.{MAX_BOUND}
 use Rattle.rbg_game.specs.BoardNaming.{MakesBoard, BoardFaultStands, IsBoardRefusal}
 use Rattle.rbg_game.specs.Described.{NamedBoard as BoardByNames, BoardIs, texts_of, holder_names, holders_of, AreBounds, board_in, most_patterns_nested, IsGameOf}
-use Rattle.rbg_game.specs.Expression.{Expression}
+use Rattle.rbg_rules.specs.Expression.{Expression}
 use Rattle.rbg_game.specs.Faults.{Purpose, as_direction, as_piece, as_player, HasSpeltAction, HasUnknownName, in_rules, serving, board_directions, HasTooMany, HasFault}
 use Rattle.rbg_game.specs.GameByNumbers.{game_by_numbers}
-use Rattle.rbg_game.specs.Games.{IsGame, IsWithinLimits}
+use Rattle.rbg_rules.specs.Games.{IsGame, IsWithinLimits}
 use Rattle.rbg_game.specs.NamedThings.{AreThingsOf}
 use Rattle.rbg_game.specs.Naming.{Names, names_in, RuleIs}
 use Rattle.rbg_game.specs.PlainRules.{names_for, HasUnknownUse, HasRuleFault, IsRuleByNumbers, IsRefusedRule}
 use Rattle.rbg_game.specs.Refusals.{IsUnlawful}
-use Rattle.rbg_game.specs.State.{AbstractGame}
+use Rattle.rbg_rules.specs.State.{AbstractGame}
 use Rattle.rbg_game.proofs.Entries.{EachWith-length}
 use Rattle.rbg_game.proofs.NamedRectangles.{has_board_fault}
 

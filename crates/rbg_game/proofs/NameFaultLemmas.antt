@@ -9,7 +9,7 @@ use Rattle.std.proofs.lemmas.Option.{slice_get_within}
 use Rattle.rbg_syntax.specs.Tree.{SpeltName, SpeltBounded}
 use Rattle.rbg_game.specs.declared.error.GameError.{GameError}
 use Rattle.rbg_game.specs.declared.error.GameError.TheVariants.{UnknownName, SameName, Bound, SwitchInPattern, PatternTooDeep, TooMany, Memory, Board}
-use Rattle.rbg_game.specs.declared.limits.TheConstants.{MAX_BOUND}
+use Rattle.rbg_rules.specs.declared.limits.TheConstants.{MAX_BOUND}
 use Rattle.rbg_game.specs.Described.{texts_of, holder_names}
 use Rattle.rbg_game.specs.Faults.{StandsAgain}
 use Rattle.rbg_game.specs.NameFaults.{IsHolderFault, StandsBehind, HasNameFault, HasHolderFault}

@@ -4,7 +4,7 @@ use Rattle.std.specs.List.{concat}
 use Rattle.std.proofs.lemmas.List.{length-map, get_or-map, length-append}
 use Rattle.std.proofs.lemmas.List.Elements.{All-contains}
 use Rattle.std.proofs.lemmas.Option.{slice_get_within, slice_get-get_or}
-use Rattle.rbg_macro.specs.Text.{is_name}
+use Rattle.rbg_base.specs.Names.{is_name}
 use Rattle.rbg_game.specs.NameTables.{IsNoNewName}
 use Rattle.rbg_syntax.specs.Tree.{SpeltName, SpeltBoard, rectangle, hexagon, graph, SpeltDescription}
 use Rattle.rbg_board.specs.Graph.{Graph, IsClosed}

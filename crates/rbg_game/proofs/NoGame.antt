@@ -4,13 +4,13 @@ use Rattle.std.specs.Prelude.{slice_get, Contains, IsTrue, All}
 use Rattle.std.proofs.lemmas.Bool.{false≢true}
 use Rattle.std.proofs.lemmas.List.{map-append, length-map}
 use Rattle.std.proofs.lemmas.List.Elements.{All-contains, Contains-append_left, Contains-append_right}
-use Rattle.rbg_macro.specs.Text.{is_name}
+use Rattle.rbg_base.specs.Names.{is_name}
 use Rattle.rbg_syntax.specs.Tree.{SpeltName, SpeltBounded, SpeltDescription}
 use Rattle.rbg_game.specs.declared.error.GameError.{GameError}
 use Rattle.rbg_game.specs.declared.error.GameError.TheVariants.{UnknownName, SameName, Bound, SwitchInPattern, PatternTooDeep, TooMany, Memory, Board}
 use Rattle.rbg_game.specs.declared.error.Thing.TheVariants.{Players, Pieces, Variables}
-use Rattle.rbg_game.specs.declared.limits.TheConstants.{MAX_PLAYERS, MAX_PIECES, MAX_VARIABLES, MAX_BOUND}
-use Rattle.rbg_game.specs.State.{AbstractGame}
+use Rattle.rbg_rules.specs.declared.limits.TheConstants.{MAX_PLAYERS, MAX_PIECES, MAX_VARIABLES, MAX_BOUND}
+use Rattle.rbg_rules.specs.State.{AbstractGame}
 use Rattle.rbg_game.specs.Described.{texts_of, holder_names, holders_of, AreBounds, AreLawfulNames, IsGameOf}
 use Rattle.rbg_game.specs.Faults.{StandsAgain, names_of_holders, holder, piece, no_name, HasFault}
 use Rattle.rbg_game.specs.NameFaults.{HasNoName, StandsBehind, HasGreatBound, HasNameFault, HasHolderFault}

@@ -3,7 +3,7 @@ use Rattle.std.proofs.Common.{◌≡◌, ℕ, List, ◌++◌, Some, sym, ◌∙�
 use Rattle.std.proofs.lemmas.Option.{same_Some}
 use Rattle.std.proofs.lemmas.List.{map-append}
 use Rattle.rbg_syntax.specs.Tree.{SpeltBounded, SpeltDescription}
-use Rattle.rbg_game.specs.State.{AbstractGame}
+use Rattle.rbg_rules.specs.State.{AbstractGame}
 use Rattle.rbg_game.specs.Naming.{Names, names_in, AreDifferentNames, RuleIs}
 use Rattle.rbg_game.specs.Described.{board_in, holder_names, holders_of, AreBounds, IsGameOf}
 use Rattle.rbg_game.specs.OneGame.{OneGameOfDescriptionLaw, OneGameLaw}

@@ -3,8 +3,8 @@
 use Rattle.std.proofs.Common.{◌≡◌, ℕ, zero, suc, ◌+◌, List, [], ◌∷◌, ◌++◌, inl, inr, Some, None, length, refl, sym, ap, ◌∙◌, subst}
 use Rattle.std.proofs.lemmas.Option.{same_Some}
 use Rattle.rbg_syntax.specs.Tree.{SpeltExpression, SpeltTerms, no_terms, more_terms, SpeltFactors, no_factors, more_factors, SpeltRule, SpeltRules, no_rules, more_rules, SpeltAction}
-use Rattle.rbg_game.specs.Expression.{AbstractArithmetic, number, variable, piece_count, negated, AbstractAction, shift, on, off, assignment, comparison, switch, positive, negative, Expression, act, sequence, choice, star}
-use Rattle.rbg_game.specs.Positions.{positions_of, positions_inside, count_from, IsNumbered}
+use Rattle.rbg_rules.specs.Expression.{AbstractArithmetic, number, variable, piece_count, negated, AbstractAction, shift, on, off, assignment, comparison, switch, positive, negative, Expression, act, sequence, choice, star}
+use Rattle.rbg_rules.specs.Positions.{positions_of, positions_inside, count_from, IsNumbered}
 use Rattle.rbg_game.specs.Naming.{Names, IsNumberOf, AreDifferentNames, added, multiplied, relation_named, ArithmeticIs, SumIs, ProductIs, ActionIs, RuleIs, SequenceIs, ChoiceIs}
 use Rattle.rbg_game.proofs.BoardNaming.{contains_at}
 use Rattle.rbg_game.proofs.OneGameLists.{each_with_one}

@@ -9,15 +9,15 @@ use Rattle.rbg_syntax.specs.Tree.{SpeltName, SpeltRule, SpeltRules, no_rules, mo
 use Rattle.rbg_syntax.specs.Plain.{IsPlainAction, IsPlainRule, ArePlainRules, IsPlainWord}
 use Rattle.rbg_game.specs.declared.error.GameError.{GameError}
 use Rattle.rbg_game.specs.declared.error.GameError.TheVariants as errors
-use Rattle.rbg_game.specs.declared.limits.TheConstants.{MAX_POSITIONS}
+use Rattle.rbg_rules.specs.declared.limits.TheConstants.{MAX_POSITIONS}
 use Rattle.rbg_game.specs.Described.{NestsWithin, InsideNestsWithin}
-use Rattle.rbg_game.specs.Expression.{AbstractAction, shift, on, off, switch, positive, negative, Expression, act, skip, sequence, sequence_of}
+use Rattle.rbg_rules.specs.Expression.{AbstractAction, shift, on, off, switch, positive, negative, Expression, act, skip, sequence, sequence_of}
 use Rattle.rbg_game.specs.Faults.{Purpose, Uses, shifts, stands_on, puts, gives_turn, HasSpeltAction, this, in_sequence, in_choice, in_star, in_positive, in_negative, SomeHasSpeltAction, earlier, last, actions_in, actions_in_all, actions_of}
-use Rattle.rbg_game.specs.Games.{HasNoEmptySum, HasNoEmptySumInside, IsActionOf}
+use Rattle.rbg_rules.specs.Games.{HasNoEmptySum, HasNoEmptySumInside, IsActionOf}
 use Rattle.rbg_game.specs.Naming.{Names, IsNumberOf, EachWith, ActionIs, RuleIs, SequenceIs}
 use Rattle.rbg_game.specs.PlainRules.{names_for, HasUnknownInRule, HasPartFault, HasRuleFault, IsPartAt, IsRuleByNumbers, IsRefusedRule}
-use Rattle.rbg_game.specs.Positions.{HasAction, HasInside, positions_of, positions_inside, count_from, IsNumbered}
-use Rattle.rbg_game.specs.State.{AbstractGame}
+use Rattle.rbg_rules.specs.Positions.{HasAction, HasInside, positions_of, positions_inside, count_from, IsNumbered}
+use Rattle.rbg_rules.specs.State.{AbstractGame}
 use Rattle.rbg_game.proofs.NameLemmas.{Contains-from_slice_get}
 
 -- The game has as many players, pieces and directions as there are names.

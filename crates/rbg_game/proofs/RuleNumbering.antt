@@ -18,17 +18,17 @@ use Rattle.rbg_syntax.proofs.Trees.{rule_of-Act, rule_of-Then, action_of-Shift, 
 use Rattle.rbg_game.specs.declared.error.GameError.{GameError}
 use Rattle.rbg_game.specs.declared.error.GameError.TheVariants as errors
 use Rattle.rbg_game.specs.declared.error.Thing.TheVariants as things
-use Rattle.rbg_game.specs.declared.limits.TheConstants.{MAX_POSITIONS}
-use Rattle.rbg_game.specs.declared.rule.Action.{Action}
-use Rattle.rbg_game.specs.declared.rule.Rule.{Rule}
-use Rattle.rbg_game.specs.declared.rule.Action.TheVariants.{Shift, On, Off, Switch}
-use Rattle.rbg_game.specs.declared.rule.Rule.TheVariants.{Act, Then}
-use Rattle.rbg_game.specs.Expression.{switch}
+use Rattle.rbg_rules.specs.declared.limits.TheConstants.{MAX_POSITIONS}
+use Rattle.rbg_rules.specs.declared.rule.Action.{Action}
+use Rattle.rbg_rules.specs.declared.rule.Rule.{Rule}
+use Rattle.rbg_rules.specs.declared.rule.Action.TheVariants.{Shift, On, Off, Switch}
+use Rattle.rbg_rules.specs.declared.rule.Rule.TheVariants.{Act, Then}
+use Rattle.rbg_rules.specs.Expression.{switch}
 use Rattle.rbg_game.specs.Faults.{Purpose, as_direction, as_piece, as_player, Uses, shifts, stands_on, puts, gives_turn, this}
 use Rattle.rbg_game.specs.Naming.{Names, IsNumberOf, EachWith, ActionIs}
 use Rattle.rbg_game.specs.PlainRules.{names_for, IsUnknown, IsSomeUnknown, IsPlayer, IsUnknownPlayer, HasActionFault, HasPartFault, IsPartAt, IsRuleByNumbers, IsRefusedRule}
-use Rattle.rbg_game.specs.Translation.{action_of, expression_of}
-use Rattle.rbg_game.proofs.Bridge.{expression_of-Then, action_of-Shift as number_of-Shift, action_of-On as number_of-On, action_of-Off as number_of-Off, action_of-Switch as number_of-Switch, expression_of-Act}
+use Rattle.rbg_rules.specs.Translation.{action_of, expression_of}
+use Rattle.rbg_rules.proofs.Bridge.{expression_of-Then, action_of-Shift as number_of-Shift, action_of-On as number_of-On, action_of-Off as number_of-Off, action_of-Switch as number_of-Switch, expression_of-Act}
 
 -- What is made of one more item of a list.
 pub map-take_more : {A B : Type 0} (f : A → B) (xs : List A) (i : ℕ) (x : A) → i < length xs → x ≡ get_or xs i x → map f (take (i + 1) xs) ≡ map f (take i xs) ++ f x ∷ []

@@ -1,6 +1,6 @@
 -- A board by the numbers of its names: what the numbering gives, and why a board is refused.
 use Rattle.std.specs.Prelude.{◌≡◌, ℕ, ◌<◌, ◌≤◌, ◌⊎◌, List, [], ◌∷◌, ◌++◌, Some, false, length, slice_get, Contains, All}
-use Rattle.rbg_macro.specs.Text.{is_name}
+use Rattle.rbg_base.specs.Names.{is_name}
 use Rattle.rbg_syntax.specs.Tree.{SpeltName, SpeltBoard, rectangle, hexagon, graph}
 use Rattle.rbg_board.specs.Graph.{Graph, IsClosed}
 use Rattle.rbg_board.specs.Cells.{AreDifferent}
@@ -8,7 +8,7 @@ use Rattle.rbg_board.specs.declared.error.BoardError.{BoardError}
 use Rattle.rbg_board.specs.declared.error.BoardError.TheVariants as board_errors
 use Rattle.rbg_game.specs.declared.error.GameError.{GameError}
 use Rattle.rbg_game.specs.declared.error.GameError.TheVariants as errors
-use Rattle.rbg_game.specs.declared.limits.TheConstants.{MAX_DIRECTIONS}
+use Rattle.rbg_rules.specs.declared.limits.TheConstants.{MAX_DIRECTIONS}
 use Rattle.rbg_game.specs.Naming.{IsNumberOf, EachWith}
 use Rattle.rbg_game.specs.Described.{texts_of, NamedBoard, BoardIs, AreNames}
 use Rattle.rbg_game.specs.Faults.{board_directions, board_pieces, HasRectangleFault}

@@ -1,11 +1,11 @@
 -- Which game a description is.
 use Rattle.std.specs.Prelude.{◌≡◌, ℕ, suc, ◌<◌, List, [], ◌∷◌, ◌++◌, Some, map, slice_get, Contains, flat_map, All, IsTrue}
 use Rattle.std.specs.List.{concat}
-use Rattle.rbg_macro.specs.Text.{is_name}
+use Rattle.rbg_base.specs.Names.{is_name}
 use Rattle.rbg_syntax.specs.Tree.{SpeltName, SpeltBounded, SpeltEdge, SpeltVertex, SpeltBoard, rectangle, hexagon, graph, SpeltDescription}
-use Rattle.rbg_game.specs.Expression.{AbstractAction, positive, negative, Expression, act, skip, sequence, fail, choice, star}
-use Rattle.rbg_game.specs.State.{AbstractGame}
-use Rattle.rbg_game.specs.Games.{IsGame}
+use Rattle.rbg_rules.specs.Expression.{AbstractAction, positive, negative, Expression, act, skip, sequence, fail, choice, star}
+use Rattle.rbg_rules.specs.State.{AbstractGame}
+use Rattle.rbg_rules.specs.Games.{IsGame}
 use Rattle.rbg_game.specs.Naming.{names_in, IsNumberOf, AreDifferentNames, EachWith, RuleIs}
 use Rattle.rbg_board.specs.Graph.{Graph, IsGraphOf}
 use Rattle.rbg_board.specs.Rectangle.{RectangleEdge, MakesRectangle}

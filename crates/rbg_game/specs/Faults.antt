@@ -1,6 +1,6 @@
 -- What is wrong with a description: the fault that an error names stands at its place.
 use Rattle.std.specs.Prelude.{◌≡◌, ◌≢◌, ℕ, suc, ◌+◌, ◌<◌, ◌↔◌, ◌⊎◌, List, false, Some, map, length, slice_get, slice_index, Contains, flat_map}
-use Rattle.rbg_macro.specs.Text.{is_name}
+use Rattle.rbg_base.specs.Names.{is_name}
 use Rattle.rbg_syntax.specs.Tree.{SpeltName, SpeltNumber, SpeltBounded, SpeltRule, SpeltRules, no_rules, more_rules, SpeltAction, SpeltBoard, rectangle, hexagon, graph, SpeltDescription}
 use Rattle.rbg_board.specs.Rectangle.{RectangleRefusal}
 use Rattle.rbg_board.specs.declared.error.BoardError.{BoardError}
@@ -9,7 +9,7 @@ use Rattle.rbg_game.specs.declared.error.GameError.{GameError}
 use Rattle.rbg_game.specs.declared.error.GameError.TheVariants as errors
 use Rattle.rbg_game.specs.declared.error.Thing.{Thing}
 use Rattle.rbg_game.specs.declared.error.Thing.TheVariants as things
-use Rattle.rbg_game.specs.declared.limits.TheConstants.{MAX_PLAYERS, MAX_PIECES, MAX_VARIABLES, MAX_BOUND, MAX_POSITIONS}
+use Rattle.rbg_rules.specs.declared.limits.TheConstants.{MAX_PLAYERS, MAX_PIECES, MAX_VARIABLES, MAX_BOUND, MAX_POSITIONS}
 use Rattle.rbg_game.specs.Naming.{IsNumberOf, EachWith}
 use Rattle.rbg_game.specs.Described.{texts_of, holder_names, holders_of}
 

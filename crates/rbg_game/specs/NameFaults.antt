@@ -1,6 +1,6 @@
 -- What can be wrong with names that are added behind others, and with their bounds.
 use Rattle.std.specs.Prelude.{◌≡◌, ℕ, List, false, Some, ◌++◌, map, take, slice_get, Contains}
-use Rattle.rbg_macro.specs.Text.{is_name}
+use Rattle.rbg_base.specs.Names.{is_name}
 use Rattle.rbg_syntax.specs.Tree.{SpeltName, SpeltBounded}
 use Rattle.rbg_game.specs.Described.{texts_of}
 use Rattle.rbg_game.specs.Faults.{IsNoBound}

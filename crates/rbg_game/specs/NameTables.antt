@@ -1,7 +1,7 @@
 -- Names by their bytes, and why a name is not added to others.
 use Rattle.std.specs.Prelude.{◌≡◌, ℕ, List, Vec, map, false, Contains}
 use Rattle.std.specs.Global.{Global}
-use Rattle.rbg_macro.specs.Text.{is_name}
+use Rattle.rbg_base.specs.Names.{is_name}
 use Rattle.rbg_syntax.specs.Tree.{SpeltName}
 use Rattle.rbg_game.specs.declared.error.GameError.{GameError}
 use Rattle.rbg_game.specs.declared.error.GameError.TheVariants as errors

@@ -2,7 +2,7 @@
 use Rattle.std.specs.Prelude.{◌≡◌, ℕ, ◌≤◌, List, [], ◌++◌, length, All}
 use Rattle.rbg_syntax.specs.Tree.{SpeltBounded, SpeltDescription}
 use Rattle.rbg_game.specs.Described.{texts_of, holder_names, holders_of, AreBounds, AreLawfulNames}
-use Rattle.rbg_game.specs.declared.limits.TheConstants.{MAX_PLAYERS, MAX_PIECES, MAX_VARIABLES, MAX_BOUND}
+use Rattle.rbg_rules.specs.declared.limits.TheConstants.{MAX_PLAYERS, MAX_PIECES, MAX_VARIABLES, MAX_BOUND}
 use Rattle.rbg_game.specs.declared.checking.names.Things.{Things}
 
 -- The bounds of the players or variables stand behind the others, and none is too great.

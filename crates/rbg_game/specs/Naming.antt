@@ -8,8 +8,8 @@ use Rattle.rbg_syntax.specs.declared.expression.Multiplicative.{Multiplicative}
 use Rattle.rbg_syntax.specs.declared.expression.Multiplicative.TheVariants.{Times, Over}
 use Rattle.rbg_syntax.specs.declared.rule.Relation.{Relation}
 use Rattle.rbg_syntax.specs.declared.rule.Relation.TheVariants.{Equal, NotEqual, Less, LessOrEqual, Greater, GreaterOrEqual}
-use Rattle.rbg_game.specs.Expression.{AbstractArithmetic, number, variable, piece_count, negated, sum, difference, product, quotient, AbstractRelation, equal, different, less, at_most, greater, at_least, AbstractAction, shift, on, off, assignment, comparison, switch, positive, negative, Expression, act, skip, sequence, fail, choice, star}
-use Rattle.rbg_game.specs.State.{AbstractGame}
+use Rattle.rbg_rules.specs.Expression.{AbstractArithmetic, number, variable, piece_count, negated, sum, difference, product, quotient, AbstractRelation, equal, different, less, at_most, greater, at_least, AbstractAction, shift, on, off, assignment, comparison, switch, positive, negative, Expression, act, skip, sequence, fail, choice, star}
+use Rattle.rbg_rules.specs.State.{AbstractGame}
 
 -- the names of a game's things, each list in order of the numbers
 pub record Names : Type 0 where

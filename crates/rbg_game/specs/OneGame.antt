@@ -2,7 +2,7 @@
 use Rattle.std.specs.Prelude.{◌≡◌, ℕ, List}
 use Rattle.rbg_board.specs.Graph.{next}
 use Rattle.rbg_syntax.specs.Tree.{SpeltDescription}
-use Rattle.rbg_game.specs.State.{AbstractGame}
+use Rattle.rbg_rules.specs.State.{AbstractGame}
 use Rattle.rbg_game.specs.Described.{IsGameOf}
 use Rattle.rbg_game.specs.Loading.{Loads}
 

@@ -5,14 +5,14 @@ use Rattle.rbg_game.specs.declared.checking.rules.NameTables.{NameTables}
 use Rattle.rbg_game.specs.declared.error.GameError.{GameError}
 use Rattle.rbg_game.specs.declared.error.GameError.TheVariants as errors
 use Rattle.rbg_game.specs.declared.error.Thing.TheVariants as things
-use Rattle.rbg_game.specs.declared.limits.TheConstants.{MAX_PLAYERS, MAX_PIECES, MAX_DIRECTIONS, MAX_POSITIONS}
+use Rattle.rbg_rules.specs.declared.limits.TheConstants.{MAX_PLAYERS, MAX_PIECES, MAX_DIRECTIONS, MAX_POSITIONS}
 use Rattle.rbg_game.specs.Described.{NestsWithin}
-use Rattle.rbg_game.specs.Expression.{AbstractAction, Expression, act}
+use Rattle.rbg_rules.specs.Expression.{AbstractAction, Expression, act}
 use Rattle.rbg_game.specs.Faults.{Purpose, as_direction, as_piece, as_player, Uses, HasSpeltAction, actions_in}
-use Rattle.rbg_game.specs.Games.{HasNoEmptySum, IsActionOf}
+use Rattle.rbg_rules.specs.Games.{HasNoEmptySum, IsActionOf}
 use Rattle.rbg_game.specs.Naming.{Names, IsNumberOf, ActionIs, RuleIs}
-use Rattle.rbg_game.specs.Positions.{HasAction, positions_of, IsNumbered, IsLevel, inside}
-use Rattle.rbg_game.specs.State.{AbstractGame}
+use Rattle.rbg_rules.specs.Positions.{HasAction, positions_of, IsNumbered, IsLevel, inside}
+use Rattle.rbg_rules.specs.State.{AbstractGame}
 
 -- The names in the tables. Plain rules use no variables.
 abbrev pub names_of : NameTables → Names

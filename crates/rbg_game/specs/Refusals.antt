@@ -1,7 +1,7 @@
 -- Why a description is no game.
 use Rattle.std.specs.Prelude.{◌≢◌}
 use Rattle.rbg_syntax.specs.Tree.{SpeltDescription}
-use Rattle.rbg_game.specs.State.{AbstractGame}
+use Rattle.rbg_rules.specs.State.{AbstractGame}
 use Rattle.rbg_game.specs.Described.{IsGameOf}
 use Rattle.rbg_game.specs.Faults.{HasFault}
 use Rattle.rbg_game.specs.declared.error.GameError.{GameError}

@@ -5,9 +5,9 @@ ghost use Rattle.rbg_syntax.specs.Views.{description_of};
 ghost use Rattle.rbg_game.specs.Described.{IsGameOf};
 ghost use Rattle.rbg_game.specs.Faults.{HasFault};
 ghost use Rattle.rbg_game.specs.GameByNumbers.{game_by_numbers};
-ghost use Rattle.rbg_game.specs.Games.{IsGame};
-ghost use Rattle.rbg_game.specs.State.{AbstractGame};
-ghost use Rattle.rbg_game.specs.Translation.{expression_of};
+ghost use Rattle.rbg_rules.specs.Games.{IsGame};
+ghost use Rattle.rbg_rules.specs.State.{AbstractGame};
+ghost use Rattle.rbg_rules.specs.Translation.{expression_of};
 
 mod boards;
 mod name_table;
@@ -17,8 +17,8 @@ mod rules;
 mod tests;
 
 use crate::error::GameError;
-use crate::game::{Game, Parts};
-use crate::rule::Rule;
+use rbg_rules::{Game, Parts};
+use rbg_rules::Rule;
 use boards::{NamedBoard, make_board};
 use names::{Things, number_things};
 use rbg_syntax::Description;

@@ -1,21 +1,12 @@
-// A game of Regular Boardgames: its rules, its board and the names of its things, with the meaning of a game as definitions.
+//! Which game a description is: names, boards and rules by numbers, the checks, and `load` from a text to its game.
 #![tactic(auto)]
 
-pub mod arithmetic;
 mod checking;
 mod error;
-pub mod examples;
-pub mod game;
-pub mod instruction;
 pub mod laws;
-pub mod limits;
 mod loading;
-pub mod rule;
 
-pub use arithmetic::{Arithmetic, Operation, Operator, Relation};
 pub use checking::check;
 pub use error::{GameError, LoadError, Thing};
-pub use game::Game;
-pub use instruction::Instruction;
 pub use loading::load;
-pub use rule::{Action, Rule};
+pub use rbg_rules::{Action, Arithmetic, Game, Instruction, Operation, Operator, Relation, Rule, limits};

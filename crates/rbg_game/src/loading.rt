@@ -6,7 +6,7 @@ ghost use Rattle.rbg_game.specs.Loading.{HasSectionsOf, Describes, Loads, IsRefu
 
 use crate::checking::check;
 use crate::error::LoadError;
-use crate::game::Game;
+use rbg_rules::Game;
 use rbg_macro::{Source, expand, tokens};
 use rbg_syntax::{Description, parse};
 use std::alloc::Global;

@@ -1,6 +1,7 @@
 -- What the bytes of a text spell: blanks, comments and tokens, each token the longest that stands there.
 use Rattle.std.specs.Prelude.{ℕ, ◌≡◌, ◌≢◌, ◌+◌, ◌<◌, ◌≤◌, Bool, false, ◌&&◌, ◌||◌, ◌==◌, not, List, [], ◌∷◌, ◌++◌, length, Result, Ok, Err, IsTrue, codes}
 use Rattle.std.specs.List.{list_all}
+use Rattle.rbg_base.specs.Names.{is_name}
 use Rattle.std.specs.Char.{is_ascii_alphabetic, is_ascii_digit}
 use Rattle.rbg_macro.specs.declared.error.TextError.{TextError}
 use Rattle.rbg_macro.specs.declared.error.TextError.TheVariants.{TooLong, ZeroByte, BadByte, Memory}
@@ -10,18 +11,6 @@ use Rattle.rbg_macro.specs.declared.token.TokenKind.{TokenKind}
 use Rattle.rbg_macro.specs.declared.token.TokenKind.TheVariants.{Name, Number, Symbol as A_Symbol}
 use Rattle.rbg_macro.specs.declared.limits.TheConstants.{MAX_TEXT}
 use Rattle.rbg_macro.specs.Token.{Lexeme}
-
--- a name begins with a letter or `_`
-abbrev pub is_name_start : ℕ → Bool
-is_name_start b = is_ascii_alphabetic b || b == 95
-
--- and goes on with letters, digits and `_`
-abbrev pub is_name_part : ℕ → Bool
-is_name_part b = is_name_start b || is_ascii_digit b
-
-abbrev pub is_name : List ℕ → Bool
-is_name [] = false
-is_name (b ∷ bs) = is_name_start b && list_all is_name_part bs
 
 -- a number is one or more digits
 abbrev pub is_number : List ℕ → Bool

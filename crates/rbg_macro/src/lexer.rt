@@ -2,12 +2,14 @@
 ghost use Rattle.std.specs.Prelude.{ℕ, ◌≡◌, ◌<◌, ◌≤◌, ◌↔◌, ◌++◌, length, IfOk, IfErr, IfSome, IfNone, IsTrue, MatchOption, ◌≢◌, [], ◌∷◌};
 ghost use Rattle.std.specs.List.{prefix_len};
 ghost use Rattle.std.specs.Char.{is_ascii_digit};
-ghost use Rattle.rbg_macro.specs.Text.{HasTokens, HasTextFault, is_name_start, is_name_part, is_blank, is_comment_byte, spelling};
+ghost use Rattle.rbg_macro.specs.Text.{HasTokens, HasTextFault, is_blank, is_comment_byte, spelling};
+ghost use Rattle.rbg_base.specs.Names.{is_name_start, is_name_part};
 ghost use Rattle.rbg_macro.specs.Part.{IsPart, BeginsComment, BeginsNoSymbol, IsLongestSymbol};
 
 use crate::error::TextError;
 use crate::limits::MAX_TEXT;
 use crate::token::{Symbol, Token, TokenKind, Tokens};
+use rbg_base::{is_name_part, is_name_start};
 use std::alloc::Global;
 
 /// What stands at the front of some bytes, with its length.
@@ -79,18 +81,6 @@ fn is_blank(b: u8) -> bool
     ensures { result ≡ is_blank b }
 {
     matches!(b, b' ' | b'\t' | b'\r' | b'\n')
-}
-
-fn is_name_start(b: u8) -> bool
-    ensures { result ≡ is_name_start b }
-{
-    b.is_ascii_alphabetic() || b == b'_'
-}
-
-fn is_name_part(b: u8) -> bool
-    ensures { result ≡ is_name_part b }
-{
-    is_name_start(b) || b.is_ascii_digit()
 }
 
 fn is_comment_byte(b: u8) -> bool

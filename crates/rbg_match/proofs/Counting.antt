@@ -1,6 +1,6 @@
 -- Lists that count upwards by one.
 use Rattle.std.proofs.Common.{◌≡◌, ℕ, zero, suc, ◌+◌, ◌<◌, List, [], ◌∷◌, ◌++◌, length, refl, sym, ap, ◌∙◌, arith, get_or, add-zero, zero-add}
-use Rattle.rbg_game.specs.Positions.{count_from}
+use Rattle.rbg_rules.specs.Positions.{count_from}
 
 pub length-count_from : (first many : ℕ) → length (count_from first many) ≡ many
 length-count_from first zero = refl

@@ -3,7 +3,7 @@ use Rattle.std.proofs.Common.{◌≡◌, ℕ, zero, suc, ◌+◌, ◌<◌, List,
 use Rattle.std.proofs.lemmas.List.{append-nil}
 use Rattle.std.proofs.lemmas.List.Concat.{flat_map-append}
 use Rattle.std.proofs.lemmas.Bool.{eq-eqb, ne_eqb}
-use Rattle.rbg_game.specs.Positions.{count_from}
+use Rattle.rbg_rules.specs.Positions.{count_from}
 use Rattle.rbg_wire.specs.Messages.{AbstractMessage, spelling}
 use Rattle.rbg_match.specs.Deliveries.{Delivery, to_seat, to_each, to_others, bytes_for, queued, delivered_from, delivered}
 

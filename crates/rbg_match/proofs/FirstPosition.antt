@@ -3,8 +3,8 @@ use Rattle.std.proofs.Common.{◌≡◌, ℕ, ◌+◌, inl, inr, length, sym, ap
 use Rattle.std.specs.Prelude.{◌↔◌}
 use Rattle.std.specs.Result.{IsErrOf, IsErrAnd}
 use Rattle.std.proofs.lemmas.Result.{err_from_is_err_and}
-use Rattle.rbg_game.specs.Expression.{Expression, act, skip, sequence, fail, choice, star}
-use Rattle.rbg_game.specs.Positions.{positions_of}
+use Rattle.rbg_rules.specs.Expression.{Expression, act, skip, sequence, fail, choice, star}
+use Rattle.rbg_rules.specs.Positions.{positions_of}
 use Rattle.rbg_match.specs.declared.config.Config.{Config}
 use Rattle.rbg_match.specs.declared.error.MatchError.{MatchError}
 use Rattle.rbg_match.specs.declared.error.MatchError.TheVariants.{Memory, NotYet}

@@ -1,10 +1,10 @@
 -- What follows from a place in rules of one word: the positions after the last one, as far as one likes.
 use Rattle.std.proofs.Common.{◌≡◌, ℕ, suc, ◌+◌, ◌-◌, ◌≤◌, List, [], ◌∷◌, ◌++◌, length, refl, sym, ap, ◌∙◌, subst, arith, inl, inr, Option, Some, None, unwrap_or, add-one}
 use Rattle.std.proofs.lemmas.List.{length_push}
-use Rattle.rbg_game.specs.Expression.{Expression, positive, negative}
-use Rattle.rbg_game.specs.Positions.{positions_of, count_from, IsNumbered, Level, outermost, inside}
-use Rattle.rbg_game.specs.Words.{Word, WordOf, Follows}
-use Rattle.rbg_game.specs.Moves.{stand_of}
+use Rattle.rbg_rules.specs.Expression.{Expression, positive, negative}
+use Rattle.rbg_rules.specs.Positions.{positions_of, count_from, IsNumbered, Level, outermost, inside}
+use Rattle.rbg_rules.specs.Words.{Word, WordOf, Follows}
+use Rattle.rbg_rules.specs.Moves.{stand_of}
 use Rattle.rbg_match.specs.OneWord.{IsOneWord}
 use Rattle.rbg_match.specs.PlaceOf.{IsLastOf}
 use Rattle.rbg_match.proofs.Counting.{IsCutAt, count_from_parts, count_from-append}

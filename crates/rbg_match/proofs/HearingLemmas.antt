@@ -7,7 +7,7 @@ use Rattle.rbg_wire.specs.declared.outcome.Outcome.TheVariants.{Time, Gone}
 use Rattle.rbg_wire.specs.Messages.{end_message}
 use Rattle.rbg_wire.specs.Reading.{SpellsMove, SpellsTooMany}
 use Rattle.rbg_wire.specs.Streams.{Item, complete}
-use Rattle.rbg_game.specs.State.{AbstractGame}
+use Rattle.rbg_rules.specs.State.{AbstractGame}
 use Rattle.rbg_match.specs.declared.config.Config.{Config}
 use Rattle.rbg_match.specs.Deliveries.{Delivery, to_each, to_others}
 use Rattle.rbg_match.specs.Play.{AbstractPlay, mover_of, due_of, ended}

@@ -2,8 +2,8 @@
 use Rattle.std.proofs.Common.{◌≡◌, ℕ, List, ◌++◌, subst}
 use Rattle.rbg_wire.specs.declared.message.Reason.TheVariants.{NotLegal}
 use Rattle.rbg_wire.specs.Messages.{move_message}
-use Rattle.rbg_game.specs.State.{AbstractGame}
-use Rattle.rbg_game.specs.Moves.{AbstractPlace, Legal}
+use Rattle.rbg_rules.specs.State.{AbstractGame}
+use Rattle.rbg_rules.specs.Moves.{AbstractPlace, Legal}
 use Rattle.rbg_match.specs.declared.config.Config.{Config}
 use Rattle.rbg_match.specs.Deliveries.{Delivery, to_each}
 use Rattle.rbg_match.specs.Play.{AbstractPlay, mover_of, moved}

@@ -1,11 +1,11 @@
 -- Runs in a game of one word: each position has one result.
 use Rattle.std.proofs.Common.{◌≡◌, ℕ, List, [], ◌∷◌, ◌++◌, refl, sym, ap, ◌∙◌, subst, Bool, true, false}
-use Rattle.rbg_game.specs.Positions.{is_modifier, IsNumbered}
-use Rattle.rbg_game.specs.State.{AbstractGame, AbstractState}
-use Rattle.rbg_game.specs.Actions.{Applies}
-use Rattle.rbg_game.specs.Moves.{RunPairs, stay, modify, pass}
-use Rattle.rbg_game.proofs.PositionLemmas.{one_stands}
-use Rattle.rbg_game.proofs.MoveLemmas.{Applies_one}
+use Rattle.rbg_rules.specs.Positions.{is_modifier, IsNumbered}
+use Rattle.rbg_rules.specs.State.{AbstractGame, AbstractState}
+use Rattle.rbg_rules.specs.Actions.{Applies}
+use Rattle.rbg_rules.specs.Moves.{RunPairs, stay, modify, pass}
+use Rattle.rbg_rules.proofs.PositionLemmas.{one_stands}
+use Rattle.rbg_rules.proofs.MoveLemmas.{Applies_one}
 
 -- the pair, if the action leaves one, in front of the further ones
 abbrev pub with_pair : Bool → ℕ × ℕ → List (ℕ × ℕ) → List (ℕ × ℕ)

@@ -1,9 +1,9 @@
 -- Rules of one word: their word, where one stands in them, and the one action at each position.
 use Rattle.std.proofs.Common.{◌≡◌, ℕ, ◌+◌, ◌<◌, ◌≤◌, List, [], ◌∷◌, ◌++◌, length, refl, sym, ap, ◌∙◌, subst, arith, inl, inr, length-append}
 use Rattle.std.proofs.lemmas.Bool.{cases_lt}
-use Rattle.rbg_game.specs.Expression.{AbstractAction, shift, on, off, assignment, comparison, switch, positive, negative, Expression, act, skip, sequence, fail, choice, star}
-use Rattle.rbg_game.specs.Positions.{positions_of, count_from, HasAction, HasInside, IsNumbered, IsPatternAt}
-use Rattle.rbg_game.specs.Words.{Word}
+use Rattle.rbg_rules.specs.Expression.{AbstractAction, shift, on, off, assignment, comparison, switch, positive, negative, Expression, act, skip, sequence, fail, choice, star}
+use Rattle.rbg_rules.specs.Positions.{positions_of, count_from, HasAction, HasInside, IsNumbered, IsPatternAt}
+use Rattle.rbg_rules.specs.Words.{Word}
 use Rattle.rbg_match.specs.OneWord.{IsPlayed, IsOneWord}
 use Rattle.rbg_match.proofs.Counting.{count_from_parts}
 

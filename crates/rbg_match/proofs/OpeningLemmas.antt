@@ -1,7 +1,7 @@
 -- What the parts of an opened match make.
 use Rattle.std.proofs.Common.{◌≡◌, ℕ, zero, suc, false, List, [], ◌∷◌, ◌++◌, replicate, refl, ap, ◌∙◌, subst}
 use Rattle.rbg_wire.specs.Streams.{Stream, incomplete}
-use Rattle.rbg_game.specs.State.{AbstractGame}
+use Rattle.rbg_rules.specs.State.{AbstractGame}
 use Rattle.rbg_match.specs.declared.config.Config.{Config}
 use Rattle.rbg_match.specs.Config.{IsWithinLimits, message_limit}
 use Rattle.rbg_match.specs.Deliveries.{Delivery, delivered, queued}

@@ -3,8 +3,8 @@ use Rattle.std.proofs.Common.{◌≡◌, ℕ, ◌+◌, ◌<◌, ◌≤◌, List,
 use Rattle.std.specs.Prelude.{fold}
 use Rattle.std.proofs.lemmas.List.{take_all, take-append-drop}
 use Rattle.std.proofs.lemmas.List.Sums.{fold_more, fold-append}
-use Rattle.rbg_game.specs.Expression.{Expression, act, skip, sequence, fail, choice, star, sequence_of}
-use Rattle.rbg_game.specs.Positions.{positions_of}
+use Rattle.rbg_rules.specs.Expression.{Expression, act, skip, sequence, fail, choice, star, sequence_of}
+use Rattle.rbg_rules.specs.Positions.{positions_of}
 use Rattle.rbg_match.specs.OneWord.{IsOneWord, FirstOther}
 
 -- These parts of a sequence are one word of so many actions.

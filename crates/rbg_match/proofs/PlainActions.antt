@@ -2,14 +2,14 @@
 use Rattle.std.proofs.Common.{◌≡◌, ◌≢◌, ℕ, false, refl, subst, ◌⊎◌, inl, inr}
 use Rattle.std.specs.Prelude.{Vec}
 use Rattle.std.specs.Global.{Global}
-use Rattle.rbg_game.specs.Positions.{HasAction, is_modifier}
-use Rattle.rbg_game.specs.declared.rule.Action.{Action, Shift, On, Off, Assign, Compare, Switch, Positive', Negative'}
-use Rattle.rbg_game.proofs.Bridge.{action_of-Shift, action_of-On, action_of-Off, action_of-Switch, action_of-Assign, action_of-Compare, action_of-Positive, action_of-Negative}
-use Rattle.rbg_game.specs.Translation.{action_of}
-use Rattle.rbg_game.specs.declared.instruction.Instruction.{Instruction}
-use Rattle.rbg_game.specs.declared.instruction.Instruction.TheVariants as instructions
-use Rattle.rbg_game.specs.Instructions.{Stands}
-use Rattle.rbg_game.specs.Expression.{AbstractAction, Expression, shift, on}
+use Rattle.rbg_rules.specs.Positions.{HasAction, is_modifier}
+use Rattle.rbg_rules.specs.declared.rule.Action.{Action, Shift, On, Off, Assign, Compare, Switch, Positive', Negative'}
+use Rattle.rbg_rules.proofs.Bridge.{action_of-Shift, action_of-On, action_of-Off, action_of-Switch, action_of-Assign, action_of-Compare, action_of-Positive, action_of-Negative}
+use Rattle.rbg_rules.specs.Translation.{action_of}
+use Rattle.rbg_rules.specs.declared.instruction.Instruction.{Instruction}
+use Rattle.rbg_rules.specs.declared.instruction.Instruction.TheVariants as instructions
+use Rattle.rbg_rules.specs.Instructions.{Stands}
+use Rattle.rbg_rules.specs.Expression.{AbstractAction, Expression, shift, on}
 use Rattle.rbg_match.specs.OneWord.{IsPlayed, IsOneWord}
 use Rattle.rbg_match.proofs.OneWordRules.{action_is_played}
 

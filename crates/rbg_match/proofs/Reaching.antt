@@ -1,18 +1,18 @@
 -- How far one comes from a place in a game of one word before the first switch, and what that says of its legal moves.
 use Rattle.std.proofs.Common.{◌≡◌, ℕ, suc, ◌+◌, ◌-◌, ◌<◌, ◌≤◌, List, [], ◌∷◌, ◌++◌, length, refl, sym, ap, ◌∙◌, subst, arith, Bool, true, false, inl, inr, get_or, length-append, Some}
 use Rattle.std.proofs.lemmas.Bool.{cases_lt}
-use Rattle.rbg_game.specs.Expression.{AbstractAction, switch}
-use Rattle.rbg_game.specs.Positions.{positions_of, count_from, HasAction, is_modifier, IsSwitchAt, HasNoSwitch, IsNumbered}
-use Rattle.rbg_game.specs.State.{AbstractGame, AbstractState}
-use Rattle.rbg_game.specs.Actions.{Applies}
-use Rattle.rbg_game.specs.Words.{Follows}
-use Rattle.rbg_game.specs.Moves.{RunPairs, stay, modify, pass, AbstractPlace, stand_of, Legal, Finished}
+use Rattle.rbg_rules.specs.Expression.{AbstractAction, switch}
+use Rattle.rbg_rules.specs.Positions.{positions_of, count_from, HasAction, is_modifier, IsSwitchAt, HasNoSwitch, IsNumbered}
+use Rattle.rbg_rules.specs.State.{AbstractGame, AbstractState}
+use Rattle.rbg_rules.specs.Actions.{Applies}
+use Rattle.rbg_rules.specs.Words.{Follows}
+use Rattle.rbg_rules.specs.Moves.{RunPairs, stay, modify, pass, AbstractPlace, stand_of, Legal, Finished}
 use Rattle.rbg_match.specs.OneWord.{IsOneWord}
 use Rattle.rbg_match.specs.PlaceOf.{IsLastOf}
 use Rattle.rbg_match.specs.OnlyMove.{IsOnlyMove}
 use Rattle.rbg_match.proofs.Counting.{length-count_from, get_or-count_from, count_from_more, count_from-append}
-use Rattle.rbg_game.proofs.PositionLemmas.{one_stands}
-use Rattle.rbg_game.proofs.PlaceLemmas.{RunPairs_join}
+use Rattle.rbg_rules.proofs.PositionLemmas.{one_stands}
+use Rattle.rbg_rules.proofs.PlaceLemmas.{RunPairs_join}
 use Rattle.rbg_match.proofs.OneWordRules.{counts_from_1, action_in_range}
 use Rattle.rbg_match.proofs.Following.{next_after, IsFrontTo, follows_to, front_follows}
 use Rattle.rbg_match.proofs.OneRun.{goes_on, first_step, no_step, applies_once, with_pair}

@@ -4,11 +4,11 @@ use Rattle.std.specs.Prelude.{Vec, Box}
 use Rattle.std.specs.Global.{Global}
 use Rattle.std.proofs.lemmas.List.{length-map}
 use Rattle.std.proofs.Math.ListN.{get_or-map}
-use Rattle.rbg_game.specs.declared.rule.Rule.{Rule, Then, Or, Star}
-use Rattle.rbg_game.specs.Expression.{Expression, choice, fail, sequence_of}
-use Rattle.rbg_game.specs.Translation.{expression_of}
-use Rattle.rbg_game.proofs.Bridge.{expression_of-Then, expression_of-Or, expression_of-Star}
-use Rattle.rbg_game.specs.Positions.{positions_of}
+use Rattle.rbg_rules.specs.declared.rule.Rule.{Rule, Then, Or, Star}
+use Rattle.rbg_rules.specs.Expression.{Expression, choice, fail, sequence_of}
+use Rattle.rbg_rules.specs.Translation.{expression_of}
+use Rattle.rbg_rules.proofs.Bridge.{expression_of-Then, expression_of-Or, expression_of-Star}
+use Rattle.rbg_rules.specs.Positions.{positions_of}
 use Rattle.rbg_match.specs.OneWord.{FirstOther, IsOneWord}
 use Rattle.rbg_match.proofs.Parts.{IsCounted, counted_more, counted_all, other_at, positions_within}
 

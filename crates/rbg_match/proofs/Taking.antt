@@ -3,7 +3,7 @@ use Rattle.std.proofs.Common.{◌≡◌, ℕ, List, [], ◌∷◌, ◌++◌, map
 use Rattle.std.proofs.lemmas.List.{map-append, append-nil}
 use Rattle.std.proofs.lemmas.Option.{none-some}
 use Rattle.rbg_wire.specs.Streams.{Item, Stream, without_first}
-use Rattle.rbg_game.specs.State.{AbstractGame}
+use Rattle.rbg_rules.specs.State.{AbstractGame}
 use Rattle.rbg_match.specs.declared.config.Config.{Config}
 use Rattle.rbg_match.specs.Deliveries.{Delivery, delivered}
 use Rattle.rbg_match.specs.Play.{AbstractPlay}

@@ -1,8 +1,8 @@
 -- A move that is asked for, where at most one is legal.
 use Rattle.std.proofs.Common.{◌≡◌, ℕ, ◌≤◌, ◌⊎◌, List, length, Bool, true, false, refl, sym, subst, arith, inl, inr, IfSome, IfNone}
 use Rattle.std.specs.Bool.{Decides, then_some}
-use Rattle.rbg_game.specs.State.{AbstractGame}
-use Rattle.rbg_game.specs.Moves.{AbstractPlace, Legal}
+use Rattle.rbg_rules.specs.State.{AbstractGame}
+use Rattle.rbg_rules.specs.Moves.{AbstractPlace, Legal}
 use Rattle.rbg_match.specs.OnlyMove.{IsOnlyMove, IsPlaceAfter}
 use Rattle.rbg_match.specs.Walking.{Tells}
 use Rattle.rbg_match.specs.declared.walk.Walked.{Walked}

@@ -7,8 +7,8 @@ use Rattle.rbg_wire.specs.declared.outcome.Outcome.TheVariants.{Time, Refusals, 
 use Rattle.rbg_wire.specs.Messages.{move_message, refusal_message, end_message}
 use Rattle.rbg_wire.specs.Reading.{SpellsMove}
 use Rattle.rbg_wire.specs.Streams.{Item, complete, too_long}
-use Rattle.rbg_game.specs.State.{AbstractGame}
-use Rattle.rbg_game.specs.Moves.{AbstractPlace, Legal}
+use Rattle.rbg_rules.specs.State.{AbstractGame}
+use Rattle.rbg_rules.specs.Moves.{AbstractPlace, Legal}
 use Rattle.rbg_match.specs.Heavy.{IsHeavyToTry}
 use Rattle.rbg_match.specs.declared.config.Config.{Config}
 use Rattle.rbg_match.specs.Deliveries.{Delivery, to_seat, to_each, to_others}

@@ -6,9 +6,9 @@ use Rattle.std.specs.Coded.{Coded, coded_ℕ, coded_bool, coded_list, coded_opti
 use Rattle.rbg_wire.specs.declared.outcome.Outcome.{Outcome}
 use Rattle.rbg_wire.specs.declared.outcome.Outcome.TheVariants.{Finished, Time, Refusals, Gone, Heavy}
 use Rattle.rbg_wire.specs.Streams.{Rest, incomplete, dropping}
-use Rattle.rbg_game.specs.State.{AbstractGame, AbstractState}
-use Rattle.rbg_game.specs.Moves.{AbstractPlace}
-use Rattle.rbg_game.specs.Codes.{coded_game}
+use Rattle.rbg_rules.specs.State.{AbstractGame, AbstractState}
+use Rattle.rbg_rules.specs.Moves.{AbstractPlace}
+use Rattle.rbg_rules.specs.Codes.{coded_game}
 use Rattle.rbg_match.specs.declared.made.Made.{Made}
 use Rattle.rbg_match.specs.Play.{AbstractPlay}
 use Rattle.rbg_match.specs.Hearing.{Streams}

@@ -1,7 +1,7 @@
 -- What is said to the seats, and the bytes that each seat has then. Seats are numbered from 1, as players are.
 use Rattle.std.specs.Prelude.{ℕ, zero, suc, ◌==◌, List, [], ◌∷◌, ◌++◌, map, if◌then◌else◌}
 use Rattle.std.specs.List.{flat_map}
-use Rattle.rbg_game.specs.Positions.{count_from}
+use Rattle.rbg_rules.specs.Positions.{count_from}
 use Rattle.rbg_wire.specs.Messages.{AbstractMessage, spelling}
 
 -- a message to a seat

@@ -1,8 +1,8 @@
 -- The limits on the questions that a match asks.
 use Rattle.std.specs.Prelude.{ℕ, List}
-use Rattle.rbg_game.specs.State.{AbstractGame}
-use Rattle.rbg_game.specs.Moves.{AbstractPlace, stand_of}
-use Rattle.rbg_game.specs.Questions.{Question, find_move, try_move, IsHeavy}
+use Rattle.rbg_rules.specs.State.{AbstractGame}
+use Rattle.rbg_rules.specs.Moves.{AbstractPlace, stand_of}
+use Rattle.rbg_rules.specs.Questions.{Question, find_move, try_move, IsHeavy}
 
 -- a question has at most so many different openings
 abbrev pub most_openings : ℕ

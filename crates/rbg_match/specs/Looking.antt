@@ -1,8 +1,8 @@
 -- One look at play, as it goes on.
 use Rattle.std.specs.Prelude.{◌≡◌, ℕ, ◌<◌, ◌≤◌, List, length}
 use Rattle.rbg_wire.specs.Messages.{move_message}
-use Rattle.rbg_game.specs.State.{AbstractGame}
-use Rattle.rbg_game.specs.Moves.{AbstractPlace, Legal}
+use Rattle.rbg_rules.specs.State.{AbstractGame}
+use Rattle.rbg_rules.specs.Moves.{AbstractPlace, Legal}
 use Rattle.rbg_match.specs.declared.playing_on.Looked.{Looked}
 use Rattle.rbg_match.specs.declared.playing_on.Looked.TheVariants.{KeeperMoved, Settled}
 use Rattle.rbg_match.specs.Config.{keeper_moves_in_a_row}

@@ -1,7 +1,7 @@
 -- The games that the match plays: their rules are one sequence of shifts, ons, offs and switches, so they have one word.
 use Rattle.std.specs.Prelude.{◌≡◌, ℕ, ◌+◌, ◌⊎◌, length}
-use Rattle.rbg_game.specs.Expression.{AbstractAction, shift, on, off, switch, Expression, act, skip, sequence}
-use Rattle.rbg_game.specs.Positions.{positions_of}
+use Rattle.rbg_rules.specs.Expression.{AbstractAction, shift, on, off, switch, Expression, act, skip, sequence}
+use Rattle.rbg_rules.specs.Positions.{positions_of}
 
 -- The actions of such rules: shifts, ons, offs and switches.
 abbrev pub IsPlayed : AbstractAction → Type 0

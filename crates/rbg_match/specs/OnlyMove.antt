@@ -1,7 +1,7 @@
 -- A place with one legal move.
 use Rattle.std.specs.Prelude.{◌≡◌, ℕ, List}
-use Rattle.rbg_game.specs.State.{AbstractGame}
-use Rattle.rbg_game.specs.Moves.{AbstractPlace, Legal}
+use Rattle.rbg_rules.specs.State.{AbstractGame}
+use Rattle.rbg_rules.specs.Moves.{AbstractPlace, Legal}
 
 -- At the first place the move of these pairs is legal and leads to the second one, and no other move is legal.
 pub record IsOnlyMove (game : AbstractGame) (from : AbstractPlace) (ps : List (ℕ × ℕ)) (to : AbstractPlace) : Type 0 where

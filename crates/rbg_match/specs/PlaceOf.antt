@@ -1,9 +1,9 @@
 -- The places of a game.
 use Rattle.std.specs.Prelude.{ℕ, ◌<◌, ◌≤◌, length, Option, Some, None}
-use Rattle.rbg_game.specs.Positions.{positions_of}
-use Rattle.rbg_game.specs.Expression.{Expression}
-use Rattle.rbg_game.specs.State.{AbstractGame, IsStateOf}
-use Rattle.rbg_game.specs.Moves.{AbstractPlace}
+use Rattle.rbg_rules.specs.Positions.{positions_of}
+use Rattle.rbg_rules.specs.Expression.{Expression}
+use Rattle.rbg_rules.specs.State.{AbstractGame, IsStateOf}
+use Rattle.rbg_rules.specs.Moves.{AbstractPlace}
 
 -- The position, if there is one, is one of the rules.
 abbrev pub IsLastOf : Expression → Option ℕ → Type 0

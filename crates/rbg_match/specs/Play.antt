@@ -1,8 +1,8 @@
 -- The state of play: where play stands, apart from streams and the clock.
 use Rattle.std.specs.Prelude.{ℕ, ◌+◌, ◌-◌, List, [], ◌∷◌, ◌++◌, length, take, replicate, slice_index, slice_set, Option, Some, None}
 use Rattle.rbg_wire.specs.declared.outcome.Outcome.{Outcome}
-use Rattle.rbg_game.specs.State.{AbstractGame, start_of}
-use Rattle.rbg_game.specs.Moves.{AbstractPlace}
+use Rattle.rbg_rules.specs.State.{AbstractGame, start_of}
+use Rattle.rbg_rules.specs.Moves.{AbstractPlace}
 use Rattle.rbg_match.specs.declared.config.Config.{Config}
 use Rattle.rbg_match.specs.declared.made.Made.{Made}
 

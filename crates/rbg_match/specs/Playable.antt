@@ -1,7 +1,7 @@
 -- What the match asks of a game and keeps of the state of play.
 use Rattle.std.specs.Prelude.{◌≡◌, ℕ, ◌≤◌, List, length, None, Bool, false, All}
-use Rattle.rbg_game.specs.State.{AbstractGame}
-use Rattle.rbg_game.specs.Games.{IsGame}
+use Rattle.rbg_rules.specs.State.{AbstractGame}
+use Rattle.rbg_rules.specs.Games.{IsGame}
 use Rattle.rbg_wire.specs.Streams.{Stream}
 use Rattle.rbg_match.specs.declared.config.Config.{Config}
 use Rattle.rbg_match.specs.Config.{IsWithinLimits, latest_moment}

@@ -2,9 +2,9 @@
 use Rattle.std.specs.Prelude.{◌≡◌, ◌≢◌, ℕ, suc, ◌<◌, ◌≤◌, List, [], ◌++◌, length}
 use Rattle.rbg_wire.specs.declared.outcome.Outcome.TheVariants.{Finished, Heavy}
 use Rattle.rbg_wire.specs.Messages.{move_message, end_message}
-use Rattle.rbg_game.specs.State.{AbstractGame}
-use Rattle.rbg_game.specs.Moves.{AbstractPlace, Legal}
-use Rattle.rbg_game.specs.Moves as moves
+use Rattle.rbg_rules.specs.State.{AbstractGame}
+use Rattle.rbg_rules.specs.Moves.{AbstractPlace, Legal}
+use Rattle.rbg_rules.specs.Moves as moves
 use Rattle.rbg_match.specs.Heavy.{IsHeavyToFind}
 use Rattle.rbg_match.specs.Config.{keeper_moves_in_a_row}
 use Rattle.rbg_match.specs.Deliveries.{Delivery, to_each}

@@ -1,8 +1,8 @@
 -- What the walk from a place finds.
 use Rattle.std.specs.Prelude.{ℕ, ◌<◌, ◌≤◌, List, length}
-use Rattle.rbg_game.specs.State.{AbstractGame}
-use Rattle.rbg_game.specs.Moves.{AbstractPlace, stand_of, Legal, Finished}
-use Rattle.rbg_game.specs.Questions.{find_move, IsDeep}
+use Rattle.rbg_rules.specs.State.{AbstractGame}
+use Rattle.rbg_rules.specs.Moves.{AbstractPlace, stand_of, Legal, Finished}
+use Rattle.rbg_rules.specs.Questions.{find_move, IsDeep}
 use Rattle.rbg_wire.specs.Messages.{ArePairs}
 use Rattle.rbg_match.specs.PlaceOf.{IsPlaceOf}
 use Rattle.rbg_match.specs.OnlyMove.{IsOnlyMove}

@@ -2,7 +2,7 @@
 ghost use Rattle.std.specs.Prelude.{◌≡◌, ◌≢◌, ℕ, ◌+◌, ◌<◌, ◌≤◌, None, All, length};
 ghost use Rattle.rbg_wire.specs.Messages.{ArePairs, end_message};
 ghost use Rattle.rbg_wire.specs.Inboxes.{item_of};
-ghost use Rattle.rbg_game.specs.State.{AbstractGame};
+ghost use Rattle.rbg_rules.specs.State.{AbstractGame};
 ghost use Rattle.rbg_match.specs.Config.{IsWithinLimits, latest_moment};
 ghost use Rattle.rbg_match.specs.Saying.{Says};
 ghost use Rattle.rbg_match.specs.Play.{mover_of};
@@ -17,7 +17,7 @@ use crate::play::Play;
 use crate::playing_on::{end, leave, make, play_on};
 use crate::walk::try_move;
 use crate::{Config, Outbox};
-use rbg_game::Game;
+use rbg_rules::Game;
 use rbg_moves::Move;
 use rbg_state::Memory;
 use rbg_wire::{Message, Outcome, Reason, Took, WireError, read_move};

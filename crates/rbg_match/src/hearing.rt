@@ -15,7 +15,7 @@ use crate::answering::answer;
 use crate::heard::Heard;
 use crate::play::Play;
 use crate::{Config, Event, Outbox};
-use rbg_game::Game;
+use rbg_rules::Game;
 use rbg_state::Memory;
 use rbg_wire::Inbox;
 

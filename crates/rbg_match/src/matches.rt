@@ -13,7 +13,7 @@ use crate::play::Play;
 use crate::playing_on::play_on;
 use crate::walk::first_not_played;
 use crate::{Config, Event, Made, MatchError, Outbox};
-use rbg_game::Game;
+use rbg_rules::Game;
 use rbg_moves::Place;
 use rbg_state::Memory;
 use rbg_wire::{Inbox, Outcome};

@@ -1,7 +1,7 @@
 //! How a match opens: each seat is greeted, and play stands at its start.
 ghost use Rattle.std.specs.Prelude.{◌≡◌, ◌≢◌, ℕ, ◌≤◌, ◌<◌, ◌^◌, ◌-◌, length, All, IsTrue, IfOk, IfSome};
-ghost use Rattle.rbg_wire.specs.Messages.{is_name};
-ghost use Rattle.rbg_game.specs.State.{AbstractGame};
+ghost use Rattle.rbg_base.specs.Names.{is_name};
+ghost use Rattle.rbg_rules.specs.State.{AbstractGame};
 ghost use Rattle.rbg_match.specs.Config.{latest_moment};
 ghost use Rattle.rbg_match.specs.Saying.{Says};
 ghost use Rattle.rbg_match.specs.Play.{play_at_start};
@@ -13,7 +13,7 @@ ghost use Rattle.rbg_match.specs.Transcript.{greeting, greetings};
 
 use crate::play::Play;
 use crate::{Config, Outbox};
-use rbg_game::Game;
+use rbg_rules::Game;
 use rbg_moves::Place;
 use rbg_state::Memory;
 use rbg_wire::{Inbox, Message};

@@ -2,7 +2,7 @@
 ghost use Rattle.std.specs.Prelude.{◌≡◌, ◌<◌, ◌≤◌, length, take};
 
 use crate::Made;
-use rbg_game::Game;
+use rbg_rules::Game;
 use rbg_moves::Place;
 use rbg_wire::{Outcome, Scores};
 

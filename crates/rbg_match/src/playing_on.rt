@@ -14,7 +14,7 @@ ghost use Rattle.rbg_match.specs.Looking.{LooksAt};
 use crate::play::Play;
 use crate::walk::{Over, find_move};
 use crate::{Made, Outbox};
-use rbg_game::Game;
+use rbg_rules::Game;
 use rbg_moves::{Move, Place};
 use rbg_state::Memory;
 use rbg_wire::{Message, Outcome, Scores};

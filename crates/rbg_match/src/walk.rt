@@ -1,6 +1,6 @@
 //! The walk along rules of one word: from a place they go on in one way, so at most one move is legal.
 ghost use Rattle.std.specs.Prelude.{◌≡◌, ◌≤◌, length, Err, IfNone, IfOk, IfSome};
-ghost use Rattle.rbg_game.specs.Moves.{AbstractPlace, Finished, Legal};
+ghost use Rattle.rbg_rules.specs.Moves.{AbstractPlace, Finished, Legal};
 ghost use Rattle.rbg_wire.specs.Messages.{ArePairs};
 ghost use Rattle.rbg_match.specs.OneWord.{IsOneWord};
 ghost use Rattle.rbg_match.specs.OnlyMove.{IsOnlyMove, IsPlaceAfter};
@@ -8,7 +8,7 @@ ghost use Rattle.rbg_match.specs.PlaceOf.{IsPlaceOf};
 ghost use Rattle.rbg_match.specs.Walking.{IsTooDeep, Tells};
 
 use arrayvec::ArrayVec;
-use rbg_game::{Game, Instruction};
+use rbg_rules::{Game, Instruction};
 use rbg_moves::{MAX_PAIRS, Move, Pair, Place};
 use rbg_state::{Applied, Memory};
 

@@ -1,13 +1,7 @@
-//! Moves as they are written: a vertex and a position for each modifier, in order.
+//! Places of play, and the moves that lead from one to the next.
 #![tactic(auto)]
 
-mod pair;
-mod pairs;
 mod place;
 
-pub use pair::Pair;
-pub use pairs::{MAX_PAIRS, Move};
 pub use place::Place;
-
-#[cfg(test)]
-mod tests;
+pub use rbg_pairs::{MAX_PAIRS, Move, Pair};

@@ -1,8 +1,8 @@
 //! Where play stands in a game.
 ghost use Rattle.std.specs.Prelude.{◌≡◌, IfOk, None};
-ghost use Rattle.rbg_game.specs.State.{start_of, IsStateOf};
+ghost use Rattle.rbg_rules.specs.State.{start_of, IsStateOf};
 
-use rbg_game::Game;
+use rbg_rules::Game;
 use rbg_state::{Memory, SemiState};
 use std::alloc::Global;
 use std::marker::Model;
@@ -15,7 +15,7 @@ pub struct Place {
 }
 
 impl Model for Place {
-    ghost use Rattle.rbg_game.specs.Moves.{AbstractPlace};
+    ghost use Rattle.rbg_rules.specs.Moves.{AbstractPlace};
 
     ghost Value = { AbstractPlace };
 

@@ -1,18 +1,18 @@
 -- An action is applied in one way.
 use Rattle.std.proofs.Common.{◌≡◌, ℕ, Bool, true, false, subst, sym, refl}
 use Rattle.std.specs.Prelude.{IsTrue}
-use Rattle.rbg_game.specs.Expression.{AbstractAction, shift, on, off, assignment, comparison, switch, Expression}
-use Rattle.rbg_game.specs.Positions.{HasAction, IsPatternAt}
-use Rattle.rbg_game.specs.State.{AbstractGame, AbstractState, IsStateOf}
-use Rattle.rbg_game.specs.Actions.{Applies}
-use Rattle.rbg_game.specs.Games.{IsGame}
-use Rattle.rbg_game.specs.Translation.{arithmetic_of, relation_of}
-use Rattle.rbg_game.specs.Instructions.{Shows, Stands, shows_pattern}
-use Rattle.rbg_game.specs.declared.instruction.Instruction.{Instruction}
-use Rattle.rbg_game.specs.declared.instruction.Instruction.TheVariants.{Shift, On, Off, Assign, Compare, Switch, Positive, Negative}
-use Rattle.rbg_game.proofs.MoveLemmas.{applied_acts, Applies_one}
-use Rattle.rbg_game.proofs.StateLemmas.{state_law}
-use Rattle.rbg_game.proofs.InstructionLemmas.{pattern_stands}
+use Rattle.rbg_rules.specs.Expression.{AbstractAction, shift, on, off, assignment, comparison, switch, Expression}
+use Rattle.rbg_rules.specs.Positions.{HasAction, IsPatternAt}
+use Rattle.rbg_rules.specs.State.{AbstractGame, AbstractState, IsStateOf}
+use Rattle.rbg_rules.specs.Actions.{Applies}
+use Rattle.rbg_rules.specs.Games.{IsGame}
+use Rattle.rbg_rules.specs.Translation.{arithmetic_of, relation_of}
+use Rattle.rbg_rules.specs.Instructions.{Shows, Stands, shows_pattern}
+use Rattle.rbg_rules.specs.declared.instruction.Instruction.{Instruction}
+use Rattle.rbg_rules.specs.declared.instruction.Instruction.TheVariants.{Shift, On, Off, Assign, Compare, Switch, Positive, Negative}
+use Rattle.rbg_rules.proofs.MoveLemmas.{applied_acts, Applies_one}
+use Rattle.rbg_rules.proofs.StateLemmas.{state_law}
+use Rattle.rbg_rules.proofs.InstructionLemmas.{pattern_stands}
 use Rattle.rbg_state.specs.Answer.{Answers}
 use Rattle.rbg_state.specs.declared.state.actions.Applied.{Applied}
 use Rattle.rbg_state.specs.declared.state.actions.Applied.TheVariants.{Valid, Invalid}

@@ -3,16 +3,16 @@ use Rattle.std.proofs.Common.{◌≡◌, ℕ, zero, suc, ◌+◌, ◌<◌, List,
 use Rattle.std.proofs.lemmas.List.Sums.{fold_more}
 use Rattle.std.specs.Prelude.{Vec, Box}
 use Rattle.std.specs.Global.{Global}
-use Rattle.rbg_game.specs.Expression.{AbstractArithmetic}
-use Rattle.rbg_game.specs.Values.{on_values, value_of}
-use Rattle.rbg_game.specs.State.{AbstractState}
-use Rattle.rbg_game.specs.Translation.{arithmetic_of, operation_of, operated, changed}
-use Rattle.rbg_game.specs.declared.arithmetic.Arithmetic.{Arithmetic}
-use Rattle.rbg_game.specs.declared.arithmetic.Arithmetic.TheVariants.{Chain}
-use Rattle.rbg_game.specs.declared.arithmetic.Operation.{Operation}
-use Rattle.rbg_game.specs.declared.arithmetic.Operator.{Operator}
-use Rattle.rbg_game.specs.declared.arithmetic.Operator.TheVariants.{Plus, Minus, Times, Over}
-use Rattle.rbg_game.proofs.Bridge.{arithmetic_of-Chain}
+use Rattle.rbg_rules.specs.Expression.{AbstractArithmetic}
+use Rattle.rbg_rules.specs.Values.{on_values, value_of}
+use Rattle.rbg_rules.specs.State.{AbstractState}
+use Rattle.rbg_rules.specs.Translation.{arithmetic_of, operation_of, operated, changed}
+use Rattle.rbg_rules.specs.declared.arithmetic.Arithmetic.{Arithmetic}
+use Rattle.rbg_rules.specs.declared.arithmetic.Arithmetic.TheVariants.{Chain}
+use Rattle.rbg_rules.specs.declared.arithmetic.Operation.{Operation}
+use Rattle.rbg_rules.specs.declared.arithmetic.Operator.{Operator}
+use Rattle.rbg_rules.specs.declared.arithmetic.Operator.TheVariants.{Plus, Minus, Times, Over}
+use Rattle.rbg_rules.proofs.Bridge.{arithmetic_of-Chain}
 use Rattle.rbg_state.proofs.Reading.{operation_of_is}
 use Rattle.rbg_state.specs.Evaluation.{result_of, value_after}
 

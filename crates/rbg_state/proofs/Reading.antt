@@ -4,16 +4,16 @@ use Rattle.std.proofs.lemmas.List.Elements.{All-cons}
 use Rattle.std.specs.List.{All}
 use Rattle.std.specs.Prelude.{Vec, Box}
 use Rattle.std.specs.Global.{Global}
-use Rattle.rbg_game.specs.Expression.{AbstractArithmetic, number, variable, piece_count, negated, sum, difference, product, quotient}
-use Rattle.rbg_game.specs.State.{AbstractGame}
-use Rattle.rbg_game.specs.Games.{HasNamesOf}
-use Rattle.rbg_game.specs.Translation.{arithmetic_of, operation_of, operated, changed}
-use Rattle.rbg_game.specs.declared.arithmetic.Arithmetic.{Arithmetic}
-use Rattle.rbg_game.specs.declared.arithmetic.Arithmetic.TheVariants.{Negated, Chain}
-use Rattle.rbg_game.specs.declared.arithmetic.Operation.{Operation}
-use Rattle.rbg_game.specs.declared.arithmetic.Operator.{Operator}
-use Rattle.rbg_game.specs.declared.arithmetic.Operator.TheVariants.{Plus, Minus, Times, Over}
-use Rattle.rbg_game.proofs.Bridge.{arithmetic_of-Negated, arithmetic_of-Chain, operation_of_out}
+use Rattle.rbg_rules.specs.Expression.{AbstractArithmetic, number, variable, piece_count, negated, sum, difference, product, quotient}
+use Rattle.rbg_rules.specs.State.{AbstractGame}
+use Rattle.rbg_rules.specs.Games.{HasNamesOf}
+use Rattle.rbg_rules.specs.Translation.{arithmetic_of, operation_of, operated, changed}
+use Rattle.rbg_rules.specs.declared.arithmetic.Arithmetic.{Arithmetic}
+use Rattle.rbg_rules.specs.declared.arithmetic.Arithmetic.TheVariants.{Negated, Chain}
+use Rattle.rbg_rules.specs.declared.arithmetic.Operation.{Operation}
+use Rattle.rbg_rules.specs.declared.arithmetic.Operator.{Operator}
+use Rattle.rbg_rules.specs.declared.arithmetic.Operator.TheVariants.{Plus, Minus, Times, Over}
+use Rattle.rbg_rules.proofs.Bridge.{arithmetic_of-Negated, arithmetic_of-Chain, operation_of_out}
 use Rattle.rbg_state.specs.Reads.{ReadsBelow}
 
 -- arithmetic of a game reads the game's variables

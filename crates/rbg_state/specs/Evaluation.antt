@@ -1,11 +1,11 @@
 -- What the operations of a chain make of a value, one after another.
 use Rattle.std.specs.Prelude.{ℤ, ◌+ℤ◌, ◌-ℤ◌, ◌*ℤ◌, Option, List, fold}
-use Rattle.rbg_game.specs.State.{AbstractState}
-use Rattle.rbg_game.specs.Values.{if_fits, on_values, divided, value_of}
-use Rattle.rbg_game.specs.Translation.{arithmetic_of}
-use Rattle.rbg_game.specs.declared.arithmetic.Operation.{Operation}
-use Rattle.rbg_game.specs.declared.arithmetic.Operator.{Operator}
-use Rattle.rbg_game.specs.declared.arithmetic.Operator.TheVariants.{Plus, Minus, Times, Over}
+use Rattle.rbg_rules.specs.State.{AbstractState}
+use Rattle.rbg_rules.specs.Values.{if_fits, on_values, divided, value_of}
+use Rattle.rbg_rules.specs.Translation.{arithmetic_of}
+use Rattle.rbg_rules.specs.declared.arithmetic.Operation.{Operation}
+use Rattle.rbg_rules.specs.declared.arithmetic.Operator.{Operator}
+use Rattle.rbg_rules.specs.declared.arithmetic.Operator.TheVariants.{Plus, Minus, Times, Over}
 
 -- the sum, the difference, the product or the quotient of two values, if it has one
 abbrev pub result_of : Operator → ℤ → ℤ → Option ℤ

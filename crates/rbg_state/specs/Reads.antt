@@ -1,6 +1,6 @@
 -- Which variables arithmetic reads.
 use Rattle.std.specs.Prelude.{ℕ, ◌<◌}
-use Rattle.rbg_game.specs.Expression.{AbstractArithmetic, number, variable, piece_count, negated, sum, difference, product, quotient}
+use Rattle.rbg_rules.specs.Expression.{AbstractArithmetic, number, variable, piece_count, negated, sum, difference, product, quotient}
 
 -- every variable that the expression reads is one of the first so many
 abbrev pub ReadsBelow : ℕ → AbstractArithmetic → Type 0

@@ -1,6 +1,6 @@
 //! A semi-state: who is to act, what stands on each vertex, what each variable holds, and the current vertex.
 ghost use Rattle.std.specs.Prelude.{◌≡◌, ℕ, ◌+◌, ◌-◌, ◌<◌, ◌≤◌, ◌==◌, length, count_by, slice_get, IfOk};
-ghost use Rattle.rbg_game.specs.State.{AbstractGame, start_of, IsStateOf};
+ghost use Rattle.rbg_rules.specs.State.{AbstractGame, start_of, IsStateOf};
 
 mod actions;
 mod arithmetic;
@@ -10,7 +10,7 @@ mod tests;
 use crate::error::Memory;
 pub use actions::Applied;
 use rbg_board::Board;
-use rbg_game::Game;
+use rbg_rules::Game;
 use std::alloc::Global;
 use std::marker::Model;
 
@@ -26,7 +26,7 @@ pub struct SemiState {
 }
 
 impl Model for SemiState {
-    ghost use Rattle.rbg_game.specs.State.{AbstractState};
+    ghost use Rattle.rbg_rules.specs.State.{AbstractState};
 
     ghost Value = { AbstractState };
 

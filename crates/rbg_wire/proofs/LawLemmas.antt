@@ -10,7 +10,8 @@ use Rattle.rbg_wire.specs.declared.outcome.Outcome.{Outcome}
 use Rattle.rbg_wire.specs.declared.outcome.Outcome.TheVariants.{Finished, Time, Refusals, Gone, Heavy}
 use Rattle.rbg_wire.specs.Bytes.{LacksByte}
 use Rattle.rbg_wire.specs.Laws.{SpellingsAreApart, item_for, ItemsAreTexts, SpellingsAreItems, TooLongComesOnce, RestsStayShort}
-use Rattle.rbg_wire.specs.Messages.{AbstractMessage, who_message, game_message, limits_message, move_message, refusal_message, end_message, HasSpelling, message_text, spelling, outcome_text, OutcomeHasSpelling, pairs_text, pair_text, IsShortPair, is_name, is_name_part, is_name_start, reason_number}
+use Rattle.rbg_wire.specs.Messages.{AbstractMessage, who_message, game_message, limits_message, move_message, refusal_message, end_message, HasSpelling, message_text, spelling, outcome_text, OutcomeHasSpelling, pairs_text, pair_text, IsShortPair, reason_number}
+use Rattle.rbg_base.specs.Names.{is_name, is_name_part, is_name_start}
 use Rattle.rbg_wire.specs.Streams.{complete, too_long, Rest, incomplete, dropping, behind, cut, IsRest, next_byte}
 use Rattle.rbg_wire.proofs.CutLemmas.{cut-append, cut-none, cut-message, cut-too_long, cut-dropping, cut-dropped, next_kept, next_too_long, next_dropped}
 use Rattle.rbg_wire.proofs.MessageLemmas.{one_message, reason_number-small}

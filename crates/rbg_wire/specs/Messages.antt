@@ -1,7 +1,7 @@
 -- Messages: which bytes spell which message. Each message has one spelling.
-use Rattle.std.specs.Prelude.{◌≢◌, ℕ, ◌<◌, ◌≤◌, ◌^◌, Bool, false, ◌&&◌, ◌||◌, ◌==◌, IsTrue, List, [], ◌∷◌, ◌++◌, length, codes, decimal, All}
-use Rattle.std.specs.Char.{is_ascii_alphabetic, is_ascii_alphanumeric}
-use Rattle.std.specs.List.{flat_map, list_all}
+use Rattle.std.specs.Prelude.{◌≢◌, ℕ, ◌<◌, ◌≤◌, ◌^◌, IsTrue, List, [], ◌∷◌, ◌++◌, length, codes, decimal, All}
+use Rattle.std.specs.List.{flat_map}
+use Rattle.rbg_base.specs.Names.{is_name}
 use Rattle.rbg_wire.specs.declared.message.Reason.{Reason}
 use Rattle.rbg_wire.specs.declared.message.Reason.TheVariants.{Unreadable, OutOfTurn, NotLegal, MoveTooLong}
 use Rattle.rbg_wire.specs.declared.message.Message.{Message}
@@ -62,17 +62,6 @@ message_text (end_message outcome) = outcome_text outcome
 -- the bytes that spell a message on a stream
 unfoldable pub spelling : AbstractMessage → List ℕ
 spelling message = message_text message ++ 0 ∷ []
-
--- a name of the language: a letter or `_`, followed by letters, digits or `_`
-abbrev pub is_name_start : ℕ → Bool
-is_name_start byte = is_ascii_alphabetic byte || byte == 95
-
-abbrev pub is_name_part : ℕ → Bool
-is_name_part byte = is_ascii_alphanumeric byte || byte == 95
-
-abbrev pub is_name : List ℕ → Bool
-is_name [] = false
-is_name (byte ∷ bytes) = is_name_start byte && list_all is_name_part bytes
 
 -- in pairs a number has at most nine digits
 abbrev pub IsShortPair : ℕ × ℕ → Type 0

@@ -9,7 +9,6 @@ mod inbox;
 pub mod laws;
 mod message;
 mod moves;
-mod names;
 mod numbers;
 mod outcome;
 mod outcomes;

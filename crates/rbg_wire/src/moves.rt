@@ -7,7 +7,7 @@ ghost use Rattle.rbg_wire.specs.Words.{words_left};
 use crate::WireError;
 use crate::numbers::short_number;
 use crate::words::Words;
-use rbg_moves::{Move, Pair};
+use rbg_pairs::{Move, Pair};
 
 /// The move that the message tells, all of it: `M<pairs>`.
 pub fn read_move(text: &[u8]) -> Result<Move, WireError>

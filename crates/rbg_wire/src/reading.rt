@@ -6,11 +6,11 @@ ghost use Rattle.rbg_wire.specs.Reading.{SpellsMessage, SpellsMove, SpellsTooMan
 
 use crate::bytes::first_place;
 use crate::moves::pairs_of;
-use crate::names::is_name;
 use crate::numbers::number;
 use crate::outcomes::outcome_behind;
 use crate::words::cut_at_space;
 use crate::{Message, Reason, WireError};
+use rbg_base::is_name;
 
 /// The message that the text tells, all of it: the bytes before a zero byte.
 pub fn read_message(text: &[u8]) -> Result<Message<'_>, WireError>

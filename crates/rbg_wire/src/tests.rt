@@ -1,6 +1,6 @@
 //! Worked examples of messages and streams, and the calls that allocate with ample memory.
 use super::*;
-use rbg_moves::{MAX_PAIRS, Move};
+use rbg_pairs::{MAX_PAIRS, Move};
 use std::alloc::Global;
 use std::test::Fail;
 

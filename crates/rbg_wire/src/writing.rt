@@ -6,7 +6,7 @@ ghost use Rattle.rbg_wire.specs.Writing.{Appends};
 
 use crate::{Message, Outcome};
 use itoa::Buffer;
-use rbg_moves::Pair;
+use rbg_pairs::Pair;
 use std::alloc::AllocError;
 
 /// Appends the message's spelling, with its zero byte. An `Err` changes nothing.

@@ -9,7 +9,7 @@ ghost use Rattle.rbg_game.specs.BoardNaming.{MakesBoard, CellsRefusal, Direction
 
 use crate::checking::name_table::NameTable;
 use crate::error::GameError;
-use crate::limits::{MAX_DIRECTIONS, MAX_PIECES};
+use rbg_rules::limits::{MAX_DIRECTIONS, MAX_PIECES};
 use rbg_board::{Board, BoardError, rectangle};
 use rbg_syntax::Name;
 use std::alloc::Global;

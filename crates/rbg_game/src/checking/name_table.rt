@@ -1,14 +1,14 @@
 // Tables of names: the things of a description by their numbers, and the number of a name.
 ghost use Rattle.std.specs.Prelude.{◌≡◌, [], ◌∷◌, ◌++◌, length, slice_get, Some, true, Contains, MatchOption, OnOk, OnErr, IfErr, IfOk, string_bytes};
-ghost use Rattle.std.specs.List.{list_all};
-ghost use Rattle.rbg_macro.specs.Text.{is_name, is_name_start, is_name_part};
+ghost use Rattle.rbg_base.specs.Names.{is_name};
 ghost use Rattle.rbg_syntax.specs.Views.{name_of};
 ghost use Rattle.rbg_game.specs.Described.{AreLawfulNames};
-ghost use Rattle.rbg_game.specs.Names.{texts};
+ghost use Rattle.rbg_rules.specs.Names.{texts};
 ghost use Rattle.rbg_game.specs.NameTables.{IsNoNewName};
 
 use crate::error::GameError;
 use indexmap::IndexSet;
+use rbg_base::is_name;
 use rbg_syntax::Name;
 use std::alloc::{AllocError, Global};
 use std::marker::Model;
@@ -93,29 +93,3 @@ fn name_text(name: &Vec<u8>) -> Result<String, AllocError>
     Ok(String::from_utf8(name.clone()?).unwrap())
 }
 
-fn is_name(bytes: &[u8]) -> bool
-    ensures { result ≡ is_name bytes.now }
-{
-    match bytes.first() {
-        Some(first) => is_name_start(*first) && are_name_parts(bytes),
-        None => false,
-    }
-}
-
-fn are_name_parts(bytes: &[u8]) -> bool
-    ensures { result ≡ list_all is_name_part bytes.now }
-{
-    bytes.iter().all(|b| is_name_part(*b))
-}
-
-fn is_name_start(b: u8) -> bool
-    ensures { result ≡ is_name_start b }
-{
-    b.is_ascii_alphabetic() || b == b'_'
-}
-
-fn is_name_part(b: u8) -> bool
-    ensures { result ≡ is_name_part b }
-{
-    is_name_start(b) || b.is_ascii_digit()
-}

@@ -9,7 +9,7 @@ ghost use Rattle.rbg_game.specs.Refusals.{IsUnlawful};
 
 use crate::checking::name_table::NameTable;
 use crate::error::{GameError, Thing};
-use crate::limits::{MAX_BOUND, MAX_PIECES, MAX_PLAYERS, MAX_VARIABLES};
+use rbg_rules::limits::{MAX_BOUND, MAX_PIECES, MAX_PLAYERS, MAX_VARIABLES};
 use rbg_syntax::{Bounded, Description, Name, Number};
 use std::alloc::Global;
 

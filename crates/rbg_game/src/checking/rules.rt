@@ -3,15 +3,15 @@ ghost use Rattle.std.specs.Prelude.{◌≡◌, ◌≤◌, ◌<◌, IfOk, IfErr, 
 ghost use Rattle.rbg_syntax.specs.Tree.{no_rules, rules_after, sequence};
 ghost use Rattle.rbg_syntax.specs.Views.{name_of, rule_of, action_of as spelt_action_of};
 ghost use Rattle.rbg_syntax.specs.Plain.{IsPlainAction, IsPlainRule, IsPlainWord};
-ghost use Rattle.rbg_game.specs.declared.limits.TheConstants.{MAX_PLAYERS, MAX_PIECES};
-ghost use Rattle.rbg_game.specs.Translation.{action_of, expression_of};
+ghost use Rattle.rbg_rules.specs.declared.limits.TheConstants.{MAX_PLAYERS, MAX_PIECES};
+ghost use Rattle.rbg_rules.specs.Translation.{action_of, expression_of};
 ghost use Rattle.rbg_game.specs.Naming.{IsNumberOf, EachWith, ActionIs};
 ghost use Rattle.rbg_game.specs.PlainRules.{names_of, IsWithinLimits, IsUnknown, IsSomeUnknown, IsPlayer, IsUnknownPlayer, HasActionFault, HasPartFault, IsPartAt, IsRuleByNumbers, IsRefusedRule};
 
 use super::name_table::NameTable;
 use crate::error::{GameError, Thing};
-use crate::limits::MAX_POSITIONS;
-use crate::rule::{Action, Rule};
+use rbg_rules::limits::MAX_POSITIONS;
+use rbg_rules::{Action, Rule};
 use rbg_syntax::Name;
 use std::alloc::Global;
 

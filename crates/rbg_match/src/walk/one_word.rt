@@ -1,10 +1,10 @@
 //! Whether the rules of a game are one word.
 ghost use Rattle.std.specs.Prelude.{◌≡◌, ◌≤◌, ◌+◌, ◌↔◌, ℕ, length, IfErr, IfOk, IfSome, IsNone, IsTrue};
-ghost use Rattle.rbg_game.specs.Positions.{positions_of};
-ghost use Rattle.rbg_game.specs.Translation.{action_of, expression_of};
+ghost use Rattle.rbg_rules.specs.Positions.{positions_of};
+ghost use Rattle.rbg_rules.specs.Translation.{action_of, expression_of};
 ghost use Rattle.rbg_match.specs.OneWord.{FirstOther, IsOneWord, IsPlayed};
 
-use rbg_game::{Action, Game, Rule};
+use rbg_rules::{Action, Game, Rule};
 
 /// None where the rules are one sequence of shifts, ons, offs and switches. Else the number of the first action that is
 /// none of these, or that stands in a sum or a star.

@@ -1,18 +1,18 @@
 //! What the actions of a game do to a semi-state.
 ghost use Rattle.std.specs.Prelude.{◌≡◌, ℕ, ◌<◌, ◌≤◌, ◌↔◌, false, length, slice_index, IsTrue};
-ghost use Rattle.rbg_game.specs.Expression.{AbstractAction, shift, on, off, assignment, comparison, switch};
-ghost use Rattle.rbg_game.specs.State.{AbstractGame, AbstractState, IsStateOf};
-ghost use Rattle.rbg_game.specs.Positions.{positions_of, IsPatternAt};
-ghost use Rattle.rbg_game.specs.Actions.{Applies};
-ghost use Rattle.rbg_game.specs.Values.{Relates};
-ghost use Rattle.rbg_game.specs.Games.{IsGame, IsActionOf};
-ghost use Rattle.rbg_game.specs.Translation.{arithmetic_of, relation_of};
-ghost use Rattle.rbg_game.specs.Instructions.{Shows, shows_pattern};
+ghost use Rattle.rbg_rules.specs.Expression.{AbstractAction, shift, on, off, assignment, comparison, switch};
+ghost use Rattle.rbg_rules.specs.State.{AbstractGame, AbstractState, IsStateOf};
+ghost use Rattle.rbg_rules.specs.Positions.{positions_of, IsPatternAt};
+ghost use Rattle.rbg_rules.specs.Actions.{Applies};
+ghost use Rattle.rbg_rules.specs.Values.{Relates};
+ghost use Rattle.rbg_rules.specs.Games.{IsGame, IsActionOf};
+ghost use Rattle.rbg_rules.specs.Translation.{arithmetic_of, relation_of};
+ghost use Rattle.rbg_rules.specs.Instructions.{Shows, shows_pattern};
 ghost use Rattle.rbg_state.specs.Reads.{ReadsBelow};
 
 use super::SemiState;
 use rbg_board::Board;
-use rbg_game::{Arithmetic, Game, Instruction, Relation};
+use rbg_rules::{Arithmetic, Game, Instruction, Relation};
 
 /// Whether an action could be applied.
 #[derive(Clone, Copy, Debug, PartialEq, Eq)]

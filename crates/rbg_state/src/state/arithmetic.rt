@@ -1,17 +1,17 @@
 //! The arithmetic of a game: whole numbers of 64 bits with a sign, and no value where one does not fit.
 ghost use Rattle.std.specs.Prelude.{◌≡◌, Some, length, All};
-ghost use Rattle.rbg_game.specs.Values.{value_of};
-ghost use Rattle.rbg_game.specs.Translation.{arithmetic_of};
+ghost use Rattle.rbg_rules.specs.Values.{value_of};
+ghost use Rattle.rbg_rules.specs.Translation.{arithmetic_of};
 ghost use Rattle.rbg_state.specs.Reads.{ReadsBelow};
 ghost use Rattle.rbg_state.specs.Evaluation.{result_of, value_after};
 
 use super::SemiState;
-use rbg_game::{Arithmetic, Operation, Operator};
+use rbg_rules::{Arithmetic, Operation, Operator};
 
 impl SemiState {
     /// The value of an expression, or none where a part of it does not fit 64 bits or a divisor is 0.
     #[cycle(evaluate)]
-    #[tactic(auto, using(rbg_game::proofs::Bridge::translation, crate::proofs::Fits::by_conversion))]
+    #[tactic(auto, using(rbg_rules::proofs::Bridge::translation, crate::proofs::Fits::by_conversion))]
     pub(super) fn evaluate(&self, expression: &Arithmetic) -> Option<i64>
         requires { ReadsBelow (length self.now.values) (arithmetic_of expression.now) }
         ensures { result ≡ value_of (arithmetic_of expression.now) self.now }

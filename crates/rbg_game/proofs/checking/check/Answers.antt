@@ -4,8 +4,8 @@ use Rattle.rbg_syntax.specs.Views.{description_of}
 use Rattle.rbg_game.specs.declared.error.GameError.TheVariants.{Memory}
 use Rattle.rbg_game.specs.Described.{IsGameOf}
 use Rattle.rbg_game.specs.Faults.{HasFault}
-use Rattle.rbg_game.specs.State.{AbstractGame}
-use Rattle.rbg_game.specs.Translation.{expression_of}
+use Rattle.rbg_rules.specs.State.{AbstractGame}
+use Rattle.rbg_rules.specs.Translation.{expression_of}
 use Rattle.rbg_game.proofs.NameFaultLemmas.{passed_on}
 use Rattle.rbg_game.proofs.NoGame.{memory_unlawful}
 use Rattle.rbg_game.proofs.Assembly.{board_unlawful, rules_unlawful, game_made}

@@ -1,9 +1,9 @@
 -- Each step of the walk, by what is known on its way.
 use Rattle.std.proofs.Common.{◌≡◌, ℕ, ◌+◌, ◌<◌, ◌≤◌, length, List, [], ◌∷◌, ◌++◌, refl, sym, ap, ◌∙◌, subst, arith, Option, IfSome}
-use Rattle.rbg_game.specs.Instructions.{Stands}
-use Rattle.rbg_game.specs.Expression.{off, switch}
-use Rattle.rbg_game.specs.Positions.{HasAction}
-use Rattle.rbg_game.specs.Moves.{AbstractPlace}
+use Rattle.rbg_rules.specs.Instructions.{Stands}
+use Rattle.rbg_rules.specs.Expression.{off, switch}
+use Rattle.rbg_rules.specs.Positions.{HasAction}
+use Rattle.rbg_rules.specs.Moves.{AbstractPlace}
 use Rattle.rbg_wire.specs.Messages.{IsShortPair}
 use Rattle.rbg_match.proofs.OneWordRules.{no_pattern}
 use Rattle.rbg_match.proofs.PlainActions.{stands_plain}

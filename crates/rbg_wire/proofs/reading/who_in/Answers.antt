@@ -1,6 +1,6 @@
 -- The number stands before the first space, and the name behind it.
 use Rattle.std.proofs.Common.{◌≡◌, true, false, decimal, ap, sym, ◌∙◌}
-use Rattle.rbg_wire.specs.Messages.{is_name}
+use Rattle.rbg_base.specs.Names.{is_name}
 use Rattle.rbg_wire.proofs.MessageLemmas.{no_who, spells_who, same_parts, no_parts, number_lacks_space, with_number}
 use Rattle.rbg_wire.proofs.reading.who_in.Goals as goal
 

@@ -3,9 +3,9 @@ use Rattle.std.proofs.lemmas.Result.{IfOk-weaker, IfErr-weaker}
 use Rattle.rbg_syntax.specs.Plain.{IsPlainWord}
 use Rattle.rbg_syntax.specs.Views.{rule_of}
 use Rattle.rbg_syntax.proofs.Trees.{rule_of-Or, rule_of-Star}
-use Rattle.rbg_game.specs.declared.rule.Rule.{Rule}
+use Rattle.rbg_rules.specs.declared.rule.Rule.{Rule}
 use Rattle.rbg_game.specs.PlainRules.{names_of, HasPartFault, IsPartAt, IsRuleByNumbers, IsRefusedRule}
-use Rattle.rbg_game.specs.Translation.{expression_of}
+use Rattle.rbg_rules.specs.Translation.{expression_of}
 use Rattle.rbg_game.proofs.PlainRuleLemmas.{made_alone, fault_alone, refused_by_fault}
 use Rattle.rbg_game.proofs.RuleNumbering.{plain_part, is_then, parts_are_plain}
 use Rattle.rbg_game.proofs.checking.rules.number_rules.Goals as goal

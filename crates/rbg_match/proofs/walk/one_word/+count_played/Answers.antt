@@ -1,10 +1,10 @@
 -- What the parts of a rule count.
 use Rattle.std.proofs.Common.{◌≡◌, ℕ, ◌+◌, ◌≤◌, ◌↔◌, Bool, true, false, IsTrue, length, rules, refl, sym, ap, subst, arith}
 use Rattle.std.proofs.lemmas.List.{get_or_read}
-use Rattle.rbg_game.specs.declared.rule.Rule.{the_lemmas}
-use Rattle.rbg_game.specs.Positions.{positions_of}
-use Rattle.rbg_game.specs.Translation.{action_of, expression_of}
-use Rattle.rbg_game.proofs.Bridge.{expression_of-Act}
+use Rattle.rbg_rules.specs.declared.rule.Rule.{the_lemmas}
+use Rattle.rbg_rules.specs.Positions.{positions_of}
+use Rattle.rbg_rules.specs.Translation.{action_of, expression_of}
+use Rattle.rbg_rules.proofs.Bridge.{expression_of-Act}
 use Rattle.rbg_match.proofs.OneWordRules.{positions_of_played}
 use Rattle.rbg_match.proofs.RuleParts.{part_within, part_counted, part_other, all_counted, other_rule}
 use Rattle.rbg_match.proofs.walk.one_word.+count_played.Goals as goal

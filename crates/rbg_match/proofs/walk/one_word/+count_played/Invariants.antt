@@ -1,5 +1,5 @@
 use Rattle.std.proofs.Common.{take, map}
-use Rattle.rbg_game.specs.Translation.{expression_of}
+use Rattle.rbg_rules.specs.Translation.{expression_of}
 use Rattle.rbg_match.proofs.Parts.{IsCounted}
 use Rattle.rbg_match.proofs.walk.one_word.+count_played.Given as goal
 

@@ -1,8 +1,8 @@
 use Rattle.std.proofs.Common.{◌+◌, Some, length, refl, arith, rules}
 use Rattle.std.proofs.lemmas.Int.{to_z-of_z}
 use Rattle.std.proofs.lemmas.Option.{get_or_from_slice_get}
-use Rattle.rbg_game.specs.declared.arithmetic.Arithmetic.TheViews.{the_lemmas}
-use Rattle.rbg_game.proofs.Bridge.{arithmetic_of-Variable}
+use Rattle.rbg_rules.specs.declared.arithmetic.Arithmetic.TheViews.{the_lemmas}
+use Rattle.rbg_rules.proofs.Bridge.{arithmetic_of-Variable}
 use Rattle.rbg_state.specs.Evaluation.{value_after}
 use Rattle.rbg_state.proofs.Fits.{fits-of_below}
 use Rattle.rbg_state.proofs.Reading.{reads_of-Negated, reads_of-Chain, operand_reads}

@@ -1,7 +1,7 @@
 use Rattle.std.proofs.Common.{sym, ◌∙◌, refl}
 use Rattle.std.proofs.lemmas.Option.{get_or_from_slice_get}
-use Rattle.rbg_game.specs.Expression.{assignment, comparison}
-use Rattle.rbg_game.specs.Translation.{arithmetic_of, relation_of}
+use Rattle.rbg_rules.specs.Expression.{assignment, comparison}
+use Rattle.rbg_rules.specs.Translation.{arithmetic_of, relation_of}
 use Rattle.rbg_state.proofs.Reading.{reads_variables}
 use Rattle.rbg_state.proofs.state.SemiState.act.Goals as goal
 

@@ -1,7 +1,7 @@
 use Rattle.std.proofs.Common.{rules, ◌≡◌, ◌∙◌, ap, sym, true, false, ℕ, Some, is_some, slice_get, ◌++◌, ◌∷◌, [], List}
 use Rattle.std.specs.List.{Contains}
 use Rattle.std.proofs.lemmas.List.Elements.{same_from_all_zip}
-use Rattle.rbg_macro.specs.Text.{is_name}
+use Rattle.rbg_base.specs.Names.{is_name}
 use Rattle.rbg_game.specs.NameTables.{bytes_of}
 use Rattle.rbg_game.proofs.NameLemmas.{key_goes_last, AreLawfulNames-push, none_from_is_some}
 use Rattle.rbg_game.proofs.checking.name_table.NameTable.insert.Goals as goal

@@ -1,0 +1,2 @@
+-- What every layer shares.
+pub mod Names

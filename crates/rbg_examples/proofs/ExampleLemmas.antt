@@ -1,0 +1,120 @@
+-- Steps of the proofs about small games.
+use Rattle.std.proofs.Common.{◌≡◌, ℕ, suc, List, [], ◌∷◌, ◌++◌, refl, sym, ap, ◌∙◌, subst, ◌⊎◌, inl, inr, arith}
+use Rattle.std.specs.Prelude.{All}
+use Rattle.rbg_rules.specs.Expression.{AbstractAction, switch, Expression, act, sequence_of}
+use Rattle.rbg_rules.specs.Positions.{HasAction, HasOwnAction, IsNumbered, IsSwitchAt, outermost}
+use Rattle.rbg_rules.specs.Words.{Word, Follows, after}
+use Rattle.rbg_rules.specs.State.{AbstractGame, AbstractState}
+use Rattle.rbg_rules.specs.Actions.{Applies}
+use Rattle.rbg_rules.specs.Moves.{RunPairs, stay, modify, pass, AbstractPlace, Legal}
+use Rattle.rbg_rules.specs.Laws.{IsJoinOfWords}
+use Rattle.rbg_rules.proofs.PositionLemmas.{Among, Among_right, one_stands}
+use Rattle.rbg_rules.proofs.PatternLemmas.{word_own}
+use Rattle.rbg_rules.proofs.LevelLemmas.{one_level_law}
+use Rattle.rbg_rules.proofs.PlaceLemmas.{RunPairs-append, one_switch}
+use Rattle.rbg_rules.proofs.WordLemmas.{sequence_law}
+
+-- What holds of all elements holds of one that is among them.
+pub all_among : (P : ℕ → Type 0) (xs : List ℕ) → All P xs → (x : ℕ) → Among x xs → P x
+all_among P [] all x h = absurd h
+all_among P (y ∷ xs) all x (inl e) = subst P (sym e) (all 0 0 (omega arith))
+all_among P (y ∷ xs) all x (inr h) = all_among P xs (λ k d below. all (suc k) d (omega arith)) x h
+
+-- Where another action stands there is no switch.
+pub no_switch_at : (rules : Expression) → IsNumbered rules → (p : ℕ) (a : AbstractAction) → HasAction rules p a → ((n : ℕ) → ¬ (a ≡ switch n)) → ¬ IsSwitchAt rules p
+no_switch_at rules numbered p a here other switches = other switches.player (one_stands rules numbered p a (switch switches.player) here switches.stands)
+
+-- The pairs of a move end with the switch's.
+pub record LastPair (ps : List (ℕ × ℕ)) (last : ℕ) : Type 0 where
+  pub before : List (ℕ × ℕ)
+  pub vertex : ℕ
+  pub joined : ps ≡ before ++ (vertex, last) ∷ []
+
+pub last_pair : (game : AbstractGame) → IsNumbered game.rules → {from to : AbstractPlace} {ps : List (ℕ × ℕ)} (legal : Legal game from ps to) → LastPair ps legal.last
+last_pair game numbered legal =
+    let cut = RunPairs-append legal.before (legal.last ∷ []) legal.runs in
+    let end = one_switch numbered legal.switches cut.second in
+    record { before = cut.before; vertex = cut.middle.vertex; joined = cut.joined ∙ ap (λ (qs : List (ℕ × ℕ)). cut.before ++ qs) end.pairs }
+
+-- The position of a pair is one of the run's.
+pub PairAmong : ℕ → ℕ → List (ℕ × ℕ) → Type 0
+PairAmong v p [] = ⊥
+PairAmong v p (q ∷ qs) = (q ≡ (v, p)) ⊎ PairAmong v p qs
+
+pub pair_first : (v p : ℕ) (qs : List (ℕ × ℕ)) → PairAmong v p ((v, p) ∷ qs)
+unfolding PairAmong
+pair_first v p qs = inl refl
+
+pub pair_later : (v p : ℕ) (q : ℕ × ℕ) (qs : List (ℕ × ℕ)) → PairAmong v p qs → PairAmong v p (q ∷ qs)
+unfolding PairAmong
+pair_later v p q qs h = inr h
+
+pub pair_position : {game : AbstractGame} {w : List ℕ} {s t : AbstractState} {ps : List (ℕ × ℕ)} → RunPairs game w s t ps → (v p : ℕ) → PairAmong v p ps → Among p w
+unfolding PairAmong
+pair_position stay v p h = absurd h
+pair_position (modify applied modifies run) v p (inl e) = inl (sym (ap (λ (q : ℕ × ℕ). q.1) e))
+pair_position (modify applied modifies run) v p (inr h) = inr (pair_position run v p h)
+pair_position (pass applied quiet run) v p h = inr (pair_position run v p h)
+
+-- What follows an own action of the rules goes on in a word of the rules.
+pub record GoesOn (rules : Expression) (i : ℕ) (m : List ℕ) : Type 0 where
+  pub front : List ℕ
+  pub back : List ℕ
+  pub word : Word rules (front ++ i ∷ (m ++ back))
+
+pub goes_on : (rules : Expression) → IsNumbered rules → (i : ℕ) (a : AbstractAction) → HasOwnAction rules i a → (m : List ℕ) → Follows rules (after i) m → GoesOn rules i m
+goes_on rules numbered i a own m (level, u, z, of_level) =
+    let here : Among i (u ++ i ∷ (m ++ z)) = Among_right i u (i ∷ (m ++ z)) (inl refl) in
+    let other = word_own of_level.expression (u ++ i ∷ (m ++ z)) of_level.is_word i here in
+    let same = one_level_law rules numbered level outermost of_level.expression rules of_level.is_level refl i other.0 a other.1 own in
+    record { front = u; back = z; word = subst (λ (x : Expression). Word x (u ++ i ∷ (m ++ z))) same.1 of_level.is_word }
+
+-- An action and then the word of the others.
+pub record BeginsWith (p : ℕ) (parts : List Expression) (w : List ℕ) : Type 0 where
+  pub tail : List ℕ
+  pub is : w ≡ p ∷ tail
+  pub others : IsJoinOfWords parts tail
+
+pub begins_with : (p : ℕ) (a : AbstractAction) (parts : List Expression) (w : List ℕ) → IsJoinOfWords (act p a ∷ parts) w → BeginsWith p parts w
+begins_with p a parts w (u, v, first, others, e) = record { tail = v; is = e ∙ ap (λ (z : List ℕ). z ++ v) first; others = others }
+
+pub sequence_word : (parts : List Expression) (w : List ℕ) → IsJoinOfWords parts w → Word (sequence_of parts) w
+sequence_word parts w join = (sequence_law parts w).1 join
+
+pub join_word : (parts : List Expression) (w : List ℕ) → Word (sequence_of parts) w → IsJoinOfWords parts w
+join_word parts w word = (sequence_law parts w).0 word
+
+-- An action that opens a word and stands nowhere else in it is at its front.
+pub at_front : (i : ℕ) (u r w : List ℕ) → u ++ i ∷ r ≡ i ∷ w → ¬ Among i w → r ≡ w
+at_front i [] r w e once = cc
+at_front i (x ∷ u) r w e once =
+    let tails : u ++ i ∷ r ≡ w = cc in
+    absurd (once (subst (Among i) tails (Among_right i u (i ∷ r) (inl refl))))
+
+-- A sequence of single actions has one word.
+abbrev pub acts : List (ℕ × AbstractAction) → List Expression
+acts [] = []
+acts (q ∷ qs) = act q.0 q.1 ∷ acts qs
+
+abbrev pub places : List (ℕ × AbstractAction) → List ℕ
+places [] = []
+places (q ∷ qs) = q.0 ∷ places qs
+
+acts_join : (qs : List (ℕ × AbstractAction)) → IsJoinOfWords (acts qs) (places qs)
+acts_join [] = refl
+acts_join (q ∷ qs) = (q.0 ∷ [], places qs, refl, acts_join qs, refl)
+
+acts_joined : (qs : List (ℕ × AbstractAction)) (w : List ℕ) → IsJoinOfWords (acts qs) w → w ≡ places qs
+acts_joined [] w e = e
+acts_joined (q ∷ qs) w (u, v, first, others, e) = e ∙ ap (λ (z : List ℕ). z ++ v) first ∙ ap (λ (z : List ℕ). q.0 ∷ z) (acts_joined qs v others)
+
+pub acts_word : (qs : List (ℕ × AbstractAction)) → Word (sequence_of (acts qs)) (places qs)
+acts_word qs = sequence_word (acts qs) (places qs) (acts_join qs)
+
+pub only_word : (qs : List (ℕ × AbstractAction)) (w : List ℕ) → Word (sequence_of (acts qs)) w → w ≡ places qs
+only_word qs w word = acts_joined qs w (join_word (acts qs) w word)
+
+-- A run that isn't empty begins with what its first position does.
+pub first_applies : {game : AbstractGame} {p : ℕ} {w : List ℕ} {s t : AbstractState} {ps : List (ℕ × ℕ)} → RunPairs game (p ∷ w) s t ps → (middle : AbstractState) × Applies game p s middle
+first_applies (modify {middle} applied modifies run) = (middle, applied)
+first_applies (pass {middle} applied quiet run) = (middle, applied)

@@ -1,0 +1,3 @@
+-- Lemmas for the examples.
+pub mod ExampleLemmas
+pub mod WithoutEnd

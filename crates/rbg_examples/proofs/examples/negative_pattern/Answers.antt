@@ -1,0 +1,121 @@
+use Rattle.std.proofs.Common.{◌≡◌, ℕ, List, [], ◌∷◌, ◌++◌, refl, inl, inr, subst, arith}
+use Rattle.std.specs.Prelude.{Some}
+use Rattle.std.proofs.lemmas.List.Elements.{All-cons, All-nil}
+use Rattle.rbg_board.specs.Graph.{Graph, next}
+use Rattle.rbg_rules.specs.Expression.{AbstractAction, shift, on, off, negative, switch, act, Expression, sequence_of}
+use Rattle.rbg_rules.specs.Positions.{HasAction, IsNumbered, IsSwitchAt, HasNoSwitch, outermost}
+use Rattle.rbg_rules.specs.Words.{Word}
+use Rattle.rbg_rules.specs.State.{AbstractState}
+use Rattle.rbg_rules.specs.Actions.{Applies, Runs, ActsIn, rest, step}
+use Rattle.rbg_rules.specs.Moves.{RunPairs, stay, modify, pass}
+use Rattle.rbg_examples.specs.ExampleGames.{nothing_right, one_square, two_squares, state_of}
+use Rattle.rbg_rules.proofs.PositionLemmas.{Among}
+use Rattle.rbg_rules.proofs.MoveLemmas.{applied_acts}
+use Rattle.rbg_examples.proofs.ExampleLemmas.{no_switch_at, goes_on, at_front, first_applies, acts_word, only_word}
+use Rattle.rbg_examples.proofs.examples.negative_pattern.Goals as goal
+
+abbrev right_off : Expression
+right_off = sequence_of (act 3 (shift 3) ∷ act 4 (off 1) ∷ act 5 (on (1 ∷ [])) ∷ [])
+
+abbrev inner : List (ℕ × AbstractAction)
+inner = (3, shift 3) ∷ (4, off 1) ∷ (5, on (1 ∷ [])) ∷ []
+
+abbrev actions : List (ℕ × AbstractAction)
+actions = (1, switch 1) ∷ (2, negative right_off) ∷ (6, off 1) ∷ (7, switch 2) ∷ []
+
+module _ (board : Graph) where
+  numbered : IsNumbered (nothing_right board).rules
+  numbered = record { in_order = refl }
+
+  looks : HasAction (nothing_right board).rules 2 (negative right_off)
+  looks = inl (inl (inr (inl (refl, refl))))
+
+  puts : HasAction (nothing_right board).rules 6 (off 1)
+  puts = inl (inr (inl (refl, refl)))
+
+  ends : HasAction (nothing_right board).rules 7 (switch 2)
+  ends = inr (inl (refl, refl))
+
+  not : (p : ℕ) (w : List ℕ) → ¬ IsSwitchAt (nothing_right board).rules p → HasNoSwitch (nothing_right board).rules w → HasNoSwitch (nothing_right board).rules (p ∷ w)
+  not p w here others = All-cons (λ q. ¬ IsSwitchAt (nothing_right board).rules q) p w here others
+
+no_edge : (v : ℕ) → ¬ (next one_square 0 3 ≡ Some v)
+unfolding next
+no_edge v e = cc
+
+-- On one square there is nothing to the right, so the pattern's first action is valid nowhere.
+no_right : (t : AbstractState) → ¬ ActsIn (nothing_right one_square) right_off 3 (state_of 1 (0 ∷ []) 0) t
+no_right t (inl (inl (inl none))) = absurd none
+no_right t (inl (inl (inr (_, (v, leads, _))))) = no_edge v leads
+no_right t (inl (inr (e, _))) = cc
+no_right t (inr (e, _)) = cc
+
+nothing : (w : List ℕ) (end : AbstractState) → Word right_off w → ¬ Runs (ActsIn (nothing_right one_square) right_off) w (state_of 1 (0 ∷ []) 0) end
+nothing w end word run = first_fails (subst (λ (v : List ℕ). Runs (ActsIn (nothing_right one_square) right_off) v (state_of 1 (0 ∷ []) 0) end) (only_word inner w word) run)
+  where
+    first_fails : ¬ Runs (ActsIn (nothing_right one_square) right_off) (3 ∷ 4 ∷ 5 ∷ []) (state_of 1 (0 ∷ []) 0) end
+    first_fails (step {middle} first later) = no_right middle first
+
+abbrev before_move : AbstractState
+before_move = state_of 1 (0 ∷ []) 0
+
+abbrev after_off : AbstractState
+after_off = state_of 1 (1 ∷ []) 0
+
+pub returns-clause-holds : goal.returns-clause-holds
+returns-clause-holds c = (
+  record { state = state_of 2 (1 ∷ []) 0; last = Some 7 },
+  record {
+    before = 2 ∷ 6 ∷ [];
+    last = 7;
+    follows = (outermost, [], [], record { expression = (nothing_right one_square).rules; is_level = refl; is_word = acts_word actions });
+    runs = pass {middle = before_move} (record { action = negative right_off; stands = looks one_square; acts = ((λ (w, end, word, run). nothing w end word run), refl) }) refl (modify {middle = after_off} (record { action = off 1; stands = puts one_square; acts = refl }) refl (modify (record { action = switch 2; stands = ends one_square; acts = refl }) refl stay));
+    switches = record { player = 2; stands = ends one_square };
+    none_before = not one_square 2 (6 ∷ []) (no_switch_at (nothing_right one_square).rules (numbered one_square) 2 (negative right_off) (looks one_square) (λ n e. cc)) (not one_square 6 [] (no_switch_at (nothing_right one_square).rules (numbered one_square) 6 (off 1) (puts one_square) (λ n e. cc)) (All-nil (λ p. ¬ IsSwitchAt (nothing_right one_square).rules p)));
+    stands = refl;
+  },
+)
+
+-- On two squares the inside runs: one step to the right, w put there, and found there.
+abbrev start : AbstractState
+start = state_of 1 (0 ∷ 0 ∷ []) 0
+
+abbrev at_second : AbstractState
+at_second = record { player = 1; pieces = 0 ∷ 0 ∷ []; values = 0 ∷ 0 ∷ 0 ∷ []; vertex = 1 }
+
+abbrev with_piece : AbstractState
+with_piece = record { player = 1; pieces = 0 ∷ 1 ∷ []; values = 0 ∷ 0 ∷ 0 ∷ []; vertex = 1 }
+
+runs_right : Runs (ActsIn (nothing_right two_squares) right_off) (3 ∷ 4 ∷ 5 ∷ []) start with_piece
+unfolding next
+runs_right = step {middle = at_second} (inl (inl (inr (refl, (1, refl, refl))))) (step {middle = with_piece} (inl (inr (refl, refl))) (step {middle = with_piece} (inr (refl, ((0, omega arith, refl), refl))) rest))
+
+stopped : (t : AbstractState) → ¬ Applies (nothing_right two_squares) 2 start t
+stopped t applied = (applied_acts (nothing_right two_squares) (numbered two_squares) 2 (negative right_off) (looks two_squares) applied).0 (3 ∷ 4 ∷ 5 ∷ [], with_piece, acts_word inner, runs_right)
+
+-- Each move of white begins with the pattern.
+begins : (before : List ℕ) (last : ℕ) (end : AbstractState) (ps : List (ℕ × ℕ)) (back : List ℕ) → (before ++ last ∷ []) ++ back ≡ 2 ∷ 6 ∷ 7 ∷ [] → ¬ RunPairs (nothing_right two_squares) (before ++ last ∷ []) start end ps
+begins [] last end ps back e run =
+    let first : last ≡ 2 = cc in
+    let applies = first_applies (subst (λ (p : ℕ). RunPairs (nothing_right two_squares) (p ∷ []) start end ps) first run) in
+    stopped applies.0 applies.1
+begins (p ∷ before) last end ps back e run =
+    let first : p ≡ 2 = cc in
+    let applies = first_applies (subst (λ (q : ℕ). RunPairs (nothing_right two_squares) (q ∷ (before ++ last ∷ [])) start end ps) first run) in
+    stopped applies.0 applies.1
+
+no_one : Among 1 (2 ∷ 6 ∷ 7 ∷ []) → ⊥
+no_one (inl e) = cc
+no_one (inr (inl e)) = cc
+no_one (inr (inr (inl e))) = cc
+no_one (inr (inr (inr e))) = absurd e
+
+pub returns-clause-fails : goal.returns-clause-fails
+returns-clause-fails c = record {
+  no_move = λ ps to legal.
+      let m : List ℕ = legal.before ++ legal.last ∷ [] in
+      let on_from = goes_on (nothing_right two_squares).rules (numbered two_squares) 1 (switch 1) (inl (inl (inl (inr (refl, refl))))) m legal.follows in
+      let only = only_word actions (on_from.front ++ 1 ∷ (m ++ on_from.back)) on_from.word in
+      let rest : m ++ on_from.back ≡ 2 ∷ 6 ∷ 7 ∷ [] = at_front 1 on_from.front (m ++ on_from.back) (2 ∷ 6 ∷ 7 ∷ []) only no_one in
+      begins legal.before legal.last to.state ps on_from.back rest legal.runs;
+}

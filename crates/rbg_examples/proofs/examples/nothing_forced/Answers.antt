@@ -1,0 +1,24 @@
+use Rattle.std.proofs.Common.{◌≡◌, ℕ, List, [], ◌∷◌, ◌++◌, refl, inl, inr, sym, ap, ◌∙◌, subst}
+use Rattle.rbg_rules.specs.Expression.{off}
+use Rattle.rbg_rules.specs.Positions.{IsNumbered, IsSwitchAt}
+use Rattle.rbg_rules.specs.Words.{after}
+use Rattle.rbg_rules.specs.Questions.{at, behind, IsMove}
+use Rattle.rbg_examples.specs.ExampleGames.{star_of_offs, state_of}
+use Rattle.rbg_rules.proofs.PlaceLemmas.{RunPairs-append, one_switch, snoc_same}
+use Rattle.rbg_examples.proofs.ExampleLemmas.{no_switch_at}
+use Rattle.rbg_examples.proofs.examples.nothing_forced.Goals as goal
+
+numbered : IsNumbered star_of_offs.rules
+numbered = record { in_order = refl }
+
+no_move : ¬ IsMove star_of_offs (state_of 1 (0 ∷ []) 0) (after 1) ((0, 2) ∷ [])
+no_move move =
+    let cut = RunPairs-append move.before (move.last ∷ []) move.runs in
+    let end = one_switch numbered move.switches cut.second in
+    let joined : (0, 2) ∷ [] ≡ cut.before ++ (cut.middle.vertex, move.last) ∷ [] = cut.joined ∙ ap (λ (qs : List (ℕ × ℕ)). cut.before ++ qs) end.pairs in
+    let same = snoc_same [] cut.before (0, 2) (cut.middle.vertex, move.last) joined in
+    no_switch_at star_of_offs.rules numbered 2 (off 0) (inl (inr (inl (refl, refl)))) (λ n e. cc) (subst (IsSwitchAt star_of_offs.rules) (sym (ap (λ (q : ℕ × ℕ). q.1) same.1)) move.switches)
+
+pub returns : goal.returns
+returns c o (at runs goes forced) = no_move forced
+returns c o (behind runs goes forced follows pattern more) = no_move forced

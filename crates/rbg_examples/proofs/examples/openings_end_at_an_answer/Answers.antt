@@ -1,0 +1,54 @@
+use Rattle.std.proofs.Common.{◌≡◌, ℕ, List, [], ◌∷◌, refl, inl, inr}
+use Rattle.std.proofs.lemmas.List.Elements.{All-nil}
+use Rattle.rbg_rules.specs.Expression.{positive, negative, Expression}
+use Rattle.rbg_rules.specs.Positions.{HasAction, IsSwitchAt, IsPatternAt, outermost}
+use Rattle.rbg_rules.specs.Words.{after, done}
+use Rattle.rbg_rules.specs.Moves.{stay}
+use Rattle.rbg_rules.specs.Questions.{at, behind, AnswersBehind, GoesTo, find_move}
+use Rattle.rbg_examples.specs.ExampleGames.{star_of_offs, state_of}
+use Rattle.rbg_examples.proofs.examples.openings_end_at_an_answer.Goals as goal
+
+-- The switch to black stands behind no modifier.
+answer : AnswersBehind star_of_offs find_move (state_of 1 (0 ∷ []) 0) (after 1) []
+answer = (
+  [],
+  state_of 1 (0 ∷ []) 0,
+  3,
+  record {
+    no_switch = All-nil (λ p. ¬ IsSwitchAt star_of_offs.rules p);
+    follows = (outermost, [], 3 ∷ [], record { expression = star_of_offs.rules; is_level = refl; is_word = (1 ∷ [], 3 ∷ [], (1 ∷ [], [], ([], 1 ∷ [], refl, refl, refl), done, refl), refl, refl) });
+    runs = stay;
+  },
+  (outermost, [], [], record { expression = star_of_offs.rules; is_level = refl; is_word = (1 ∷ [], 3 ∷ [], (1 ∷ [], [], ([], 1 ∷ [], refl, refl, refl), done, refl), refl, refl) }),
+  record { player = 2; stands = inr (inl (refl, refl)) },
+)
+
+stops : (ps : List (ℕ × ℕ)) → GoesTo star_of_offs find_move (state_of 1 (0 ∷ []) 0) (after 1) ps → ps ≡ []
+stops [] goes = refl
+stops (q ∷ ps) goes = absurd (goes [] (q ∷ ps, (λ e. cc), refl) answer)
+
+-- The rules have no pattern.
+no_pattern : (p : ℕ) → ¬ IsPatternAt star_of_offs.rules p
+no_pattern p pattern = elim pattern.stands [ inl h ↦ no_positive pattern.inside_it h | inr h ↦ no_negative pattern.inside_it h ]
+  where
+    no_positive : (x : Expression) → ¬ HasAction star_of_offs.rules p (positive x)
+    no_positive x (inl (inl (inl none))) = absurd none
+    no_positive x (inl (inl (inr (inl (_, e))))) = cc
+    no_positive x (inl (inl (inr (inr none)))) = absurd none
+    no_positive x (inl (inr (inl (_, e)))) = cc
+    no_positive x (inl (inr (inr none))) = absurd none
+    no_positive x (inr (inl (_, e))) = cc
+    no_positive x (inr (inr none)) = absurd none
+
+    no_negative : (x : Expression) → ¬ HasAction star_of_offs.rules p (negative x)
+    no_negative x (inl (inl (inl none))) = absurd none
+    no_negative x (inl (inl (inr (inl (_, e))))) = cc
+    no_negative x (inl (inl (inr (inr none)))) = absurd none
+    no_negative x (inl (inr (inl (_, e)))) = cc
+    no_negative x (inl (inr (inr none))) = absurd none
+    no_negative x (inr (inl (_, e))) = cc
+    no_negative x (inr (inr none)) = absurd none
+
+pub returns : goal.returns
+returns c o (at {ps} runs goes) = rw (stops ps goes)
+returns c o (behind {p} runs goes follows pattern more) = absurd (no_pattern p pattern)

@@ -1,0 +1,91 @@
+use Rattle.std.proofs.Common.{◌≡◌, ℕ, List, [], ◌∷◌, ◌++◌, refl, inl, inr, sym, ap, ◌∙◌, subst, true, false, ◌≢◌}
+use Rattle.std.proofs.lemmas.List.Elements.{All-cons, All-nil}
+use Rattle.rbg_board.specs.Graph.{next}
+use Rattle.rbg_rules.specs.Expression.{AbstractAction, shift, on, off, positive, negative, switch, act, Expression, sequence_of}
+use Rattle.rbg_rules.specs.Positions.{HasAction, IsNumbered, IsSwitchAt, HasNoSwitch, outermost, inside, IsLevel, is_modifier}
+use Rattle.rbg_rules.specs.Words.{beginning, WordOf, Word}
+use Rattle.rbg_rules.specs.State.{AbstractState}
+use Rattle.rbg_rules.specs.Moves.{RunPairs, stay, modify, pass}
+use Rattle.rbg_rules.specs.Questions.{at, behind, AnswersBehind, GoesTo, pattern}
+use Rattle.rbg_examples.specs.ExampleGames.{looking_right, state_of}
+use Rattle.rbg_examples.proofs.ExampleLemmas.{no_switch_at, acts_word, only_word}
+use Rattle.rbg_rules.proofs.PositionLemmas.{one_stands}
+use Rattle.rbg_examples.proofs.examples.openings_in_a_pattern.Goals as goal
+
+numbered : IsNumbered looking_right.rules
+numbered = record { in_order = refl }
+
+abbrev right_off : Expression
+right_off = sequence_of (act 3 (shift 3) ∷ act 4 (off 1) ∷ [])
+
+abbrev inner : List (ℕ × AbstractAction)
+inner = (3, shift 3) ∷ (4, off 1) ∷ []
+
+abbrev actions : List (ℕ × AbstractAction)
+actions = (1, switch 1) ∷ (2, positive right_off) ∷ (5, shift 3) ∷ (6, on (0 ∷ [])) ∷ (7, off 1) ∷ (8, switch 2) ∷ []
+
+looks : HasAction looking_right.rules 2 (positive right_off)
+looks = inl (inl (inl (inl (inr (inl (refl, refl))))))
+
+steps : HasAction looking_right.rules 3 (shift 3)
+steps = inl (inl (inl (inl (inr (inr (inl (inr (inl (refl, refl)))))))))
+
+puts : HasAction looking_right.rules 4 (off 1)
+puts = inl (inl (inl (inl (inr (inr (inr (inl (refl, refl))))))))
+
+no_switch : HasNoSwitch looking_right.rules (3 ∷ 4 ∷ [])
+no_switch = All-cons (λ p. ¬ IsSwitchAt looking_right.rules p) 3 (4 ∷ []) (no_switch_at looking_right.rules numbered 3 (shift 3) steps (λ n e. cc)) (All-cons (λ p. ¬ IsSwitchAt looking_right.rules p) 4 [] (no_switch_at looking_right.rules numbered 4 (off 1) puts (λ n e. cc)) (All-nil (λ p. ¬ IsSwitchAt looking_right.rules p)))
+
+abbrev first : AbstractState
+first = state_of 1 (0 ∷ 0 ∷ []) 0
+
+abbrev second : AbstractState
+second = record { player = 1; pieces = 0 ∷ 0 ∷ []; values = 0 ∷ 0 ∷ 0 ∷ []; vertex = 1 }
+
+abbrev after_off : AbstractState
+after_off = record { player = 1; pieces = 0 ∷ 1 ∷ []; values = 0 ∷ 0 ∷ 0 ∷ []; vertex = 1 }
+
+runs_inside : RunPairs looking_right (3 ∷ 4 ∷ []) first after_off ((1, 4) ∷ [])
+unfolding next
+runs_inside = pass {middle = second} (record { action = shift 3; stands = steps; acts = (1, refl, refl) }) refl (modify {middle = after_off} (record { action = off 1; stands = puts; acts = refl }) refl stay)
+
+-- The inside of the pattern at position 2 is the one written there, with one word.
+inside_is : (x : Expression) → IsLevel looking_right.rules (inside 2) x → x ≡ right_off
+inside_is x (inl h) = let same = one_stands looking_right.rules numbered 2 (positive x) (positive right_off) h looks in cc
+inside_is x (inr h) = let same = one_stands looking_right.rules numbered 2 (negative x) (positive right_off) h looks in absurd cc
+
+inside_word : (w : List ℕ) → WordOf looking_right.rules (inside 2) w → w ≡ 3 ∷ 4 ∷ []
+inside_word w of_level = only_word inner w (subst (λ (x : Expression). Word x w) (inside_is of_level.expression of_level.is_level) of_level.is_word)
+
+-- .. and no run of it is without a modifier.
+some_pair : (t : AbstractState) → ¬ RunPairs looking_right (3 ∷ 4 ∷ []) first t []
+some_pair t (pass applied quiet (pass applied' quiet' stay)) =
+    let same : applied'.action ≡ off 1 = one_stands looking_right.rules numbered 4 applied'.action (off 1) applied'.stands puts in
+    not_both (sym (ap is_modifier same) ∙ quiet')
+  where
+    not_both : true ≡ false → ⊥
+    not_both e = cc
+
+only_nothing : (qs more : List (ℕ × ℕ)) → more ≢ [] → ¬ ([] ≡ qs ++ more)
+only_nothing [] more some e = some (sym e)
+only_nothing (q ∷ qs) more some e = cc
+
+front : (qs more : List (ℕ × ℕ)) → more ≢ [] → (1, 4) ∷ [] ≡ qs ++ more → qs ≡ []
+front [] more some e = refl
+front (q ∷ qs) more some e = let tails : [] ≡ qs ++ more = cc in absurd (only_nothing qs more some tails)
+
+no_answer : ¬ AnswersBehind looking_right pattern first (beginning (inside 2)) []
+no_answer (m, t, runs, ends) = some_pair t (subst (λ (w : List ℕ). RunPairs looking_right w first t []) (inside_word m ends) runs.runs)
+
+goes_inside : GoesTo looking_right pattern first (beginning (inside 2)) ((1, 4) ∷ [])
+goes_inside qs (more, some, e) answer = no_answer (subst (λ (ps : List (ℕ × ℕ)). AnswersBehind looking_right pattern first (beginning (inside 2)) ps) (front qs more some e) answer)
+
+pub returns : goal.returns
+returns c = behind {m = []} {t = first} {ps = []} {p = 2}
+    (record { no_switch = All-nil (λ p. ¬ IsSwitchAt looking_right.rules p); follows = (outermost, [], 2 ∷ 5 ∷ 6 ∷ 7 ∷ 8 ∷ [], record { expression = looking_right.rules; is_level = refl; is_word = acts_word actions }); runs = stay })
+    (λ qs (more, some, e). absurd (only_nothing qs more some e))
+    (outermost, [], 5 ∷ 6 ∷ 7 ∷ 8 ∷ [], record { expression = looking_right.rules; is_level = refl; is_word = acts_word actions })
+    (record { inside_it = right_off; stands = inl looks })
+    (at {m = 3 ∷ 4 ∷ []} {t = after_off} {ps = (1, 4) ∷ []}
+    (record { no_switch = no_switch; follows = ([], record { expression = right_off; is_level = inl looks; is_word = acts_word inner }); runs = runs_inside })
+    goes_inside)

@@ -1,0 +1,2 @@
+-- The games of the examples.
+pub mod ExampleGames

@@ -1,0 +1,4 @@
+//! Small facts of small games, each proved: what the definitions of a game's meaning say.
+#![tactic(auto)]
+
+pub mod examples;

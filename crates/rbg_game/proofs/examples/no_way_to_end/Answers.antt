@@ -1,5 +1,0 @@
-use Rattle.rbg_game.proofs.WithoutEnd.{no_switch_follows}
-use Rattle.rbg_game.proofs.examples.no_way_to_end.Goals as goal
-
-pub returns : goal.returns
-returns c = record { no_move = λ ps to legal. no_switch_follows legal.before legal.last legal.follows legal.switches }

@@ -1,5 +1,0 @@
-use Rattle.rbg_game.proofs.StateLemmas.{state_law}
-use Rattle.rbg_game.proofs.laws.actions_stay_in_the_game.Goals as goal
-
-pub returns : goal.returns
-returns c = state_law

@@ -1,5 +1,0 @@
-use Rattle.rbg_game.proofs.PlaceLemmas.{move_law}
-use Rattle.rbg_game.proofs.laws.moves_and_the_end.Goals as goal
-
-pub returns : goal.returns
-returns c = move_law

@@ -1,5 +1,0 @@
-use Rattle.rbg_game.proofs.PlaceLemmas.{one_place_law}
-use Rattle.rbg_game.proofs.laws.pairs_reach_one_place.Goals as goal
-
-pub returns : goal.returns
-returns c = one_place_law

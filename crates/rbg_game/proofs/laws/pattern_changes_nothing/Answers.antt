@@ -1,5 +1,0 @@
-use Rattle.rbg_game.proofs.MoveLemmas.{pattern_law}
-use Rattle.rbg_game.proofs.laws.pattern_changes_nothing.Goals as goal
-
-pub returns : goal.returns
-returns c = pattern_law

@@ -1,5 +1,0 @@
-use Rattle.rbg_game.proofs.MoveLemmas.{positive_law}
-use Rattle.rbg_game.proofs.laws.positive_pattern_runs.Goals as goal
-
-pub returns : goal.returns
-returns c = positive_law

@@ -1,5 +1,0 @@
-use Rattle.rbg_game.proofs.StateLemmas.{word_law}
-use Rattle.rbg_game.proofs.laws.rules_have_words.Goals as goal
-
-pub returns : goal.returns
-returns c = word_law

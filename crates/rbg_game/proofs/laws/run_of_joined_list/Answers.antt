@@ -1,5 +1,0 @@
-use Rattle.rbg_game.proofs.MoveLemmas.{run_law}
-use Rattle.rbg_game.proofs.laws.run_of_joined_list.Goals as goal
-
-pub returns : goal.returns
-returns c = run_law

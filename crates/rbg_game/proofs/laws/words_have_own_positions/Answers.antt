@@ -1,5 +1,0 @@
-use Rattle.rbg_game.proofs.LevelLemmas.{own_word_law}
-use Rattle.rbg_game.proofs.laws.words_have_own_positions.Goals as goal
-
-pub returns : goal.returns
-returns c = own_word_law

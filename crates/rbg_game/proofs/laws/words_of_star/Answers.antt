@@ -1,5 +1,0 @@
-use Rattle.rbg_game.proofs.WordLemmas.{star_law}
-use Rattle.rbg_game.proofs.laws.words_of_star.Goals as goal
-
-pub returns : goal.returns
-returns c = star_law

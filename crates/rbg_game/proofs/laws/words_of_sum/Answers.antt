@@ -1,5 +1,0 @@
-use Rattle.rbg_game.proofs.WordLemmas.{sum_law}
-use Rattle.rbg_game.proofs.laws.words_of_sum.Goals as goal
-
-pub returns : goal.returns
-returns c = sum_law

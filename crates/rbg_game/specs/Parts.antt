@@ -1,8 +1,0 @@
--- The game that checked parts make.
-use Rattle.rbg_game.specs.declared.game.Parts.{Parts}
-use Rattle.rbg_game.specs.State.{AbstractGame}
-use Rattle.rbg_game.specs.Names.{texts}
-use Rattle.rbg_game.specs.Translation.{expression_of}
-
-abbrev pub game_of_parts : Parts → AbstractGame
-game_of_parts parts = record { players = texts parts.players.items; pieces = texts parts.pieces.items; variables = texts parts.variables.items; bounds = parts.bounds.items; directions = texts parts.directions.items; board = parts.board; rules = expression_of parts.rules }

@@ -1,0 +1,12 @@
+-- Lemmas on the definitions of specs/, by topic.
+pub mod ListLemmas
+pub mod RunLemmas
+pub mod PositionLemmas
+pub mod PatternLemmas
+pub mod LevelLemmas
+pub mod WordLemmas
+pub mod MoveLemmas
+pub mod PlaceLemmas
+pub mod StateLemmas
+pub mod Bridge
+pub mod InstructionLemmas

@@ -1,0 +1,18 @@
+-- The meaning of a game, by topic. "Paper" marks what is defined as in Regular Boardgames (AAAI 2019), "own" what this project
+-- chose.
+pub mod Expression
+pub mod Positions
+pub mod Words
+pub mod State
+pub mod Values
+pub mod Actions
+pub mod Moves
+pub mod Questions
+pub mod Games
+pub mod Laws
+pub mod Translation
+pub mod Instructions
+pub mod Names
+pub mod Codes
+pub mod Kept
+pub mod Parts

@@ -1,0 +1,172 @@
+// A checked game: the names of its things with their numbers, its board, its rules and the table of its actions.
+ghost use Rattle.std.specs.Prelude.{◌≡◌, ◌<◌, ◌≤◌, ◌+◌, ◌-◌, IfOk, IsTrue, ◌↔◌, length, slice_get, Some, string_bytes};
+ghost use Rattle.rbg_rules.specs.Games.{IsGame};
+ghost use Rattle.rbg_rules.specs.Instructions.{Stands};
+ghost use Rattle.rbg_rules.specs.Translation.{expression_of};
+ghost use Rattle.rbg_rules.specs.Positions.{positions_of, IsPatternAt};
+ghost use Rattle.rbg_rules.specs.Names.{texts};
+
+use crate::instruction::{Instruction, list_instructions};
+use crate::rule::Rule;
+use rbg_board::Board;
+use std::alloc::{AllocError, Global};
+use std::marker::Model;
+
+/// The parts of a game: names in order of their numbers.
+#[derive(Debug, Drop)]
+pub struct Parts {
+    pub players: Vec<String>,
+    pub pieces: Vec<String>,
+    /// The players in order, and then the other variables.
+    pub variables: Vec<String>,
+    pub bounds: Vec<u32>,
+    pub directions: Vec<String>,
+    pub board: Board,
+    pub rules: Rule,
+}
+
+/// A game that was checked: its rules speak of its own players, pieces, variables and directions, and their actions are numbered.
+#[derive(Debug, Drop)]
+pub struct Game {
+    players: Vec<String>,
+    pieces: Vec<String>,
+    variables: Vec<String>,
+    bounds: Vec<u32>,
+    directions: Vec<String>,
+    board: Board,
+    rules: Rule,
+    /// What stands at each position, from position 1 on.
+    table: Vec<Instruction>,
+}
+
+impl Model for Game {
+    ghost use Rattle.rbg_rules.specs.State.{AbstractGame};
+
+    ghost Value = { AbstractGame };
+
+    ghost use Rattle.rbg_rules.specs.Codes.{coded_game};
+
+    ghost coded = { coded_game };
+
+    ghost use Rattle.rbg_rules.specs.Names.{texts};
+    ghost use Rattle.rbg_rules.specs.Translation.{expression_of};
+
+    ghost view = { λ g. record { players = texts g.players.items; pieces = texts g.pieces.items; variables = texts g.variables.items; bounds = g.bounds.items; directions = texts g.directions.items; board = g.board; rules = expression_of g.rules } };
+
+    ghost use Rattle.rbg_rules.specs.Kept.{IsKept};
+
+    ghost invariant = { λ g. IsKept (texts g.players.items) (texts g.pieces.items) (texts g.variables.items) g.bounds.items (texts g.directions.items) g.board (expression_of g.rules) g.table.items };
+}
+
+impl Game {
+    ghost use Rattle.rbg_rules.specs.Parts.{game_of_parts};
+
+    /// The game of parts that were checked.
+    pub fn new(alloc: Global, parts: Parts) -> Result<Game, AllocError>
+        requires { IsGame (game_of_parts parts) }
+        ensures { IfOk result (λ game. game ≡ game_of_parts parts) }
+    {
+        let mut table = Vec::new(alloc);
+        list_instructions(alloc, &parts.rules, &mut table)?;
+        Ok(Game {
+            players: parts.players,
+            pieces: parts.pieces,
+            variables: parts.variables,
+            bounds: parts.bounds,
+            directions: parts.directions,
+            board: parts.board,
+            rules: parts.rules,
+            table,
+        })
+    }
+
+    /// How many players there are. They are numbered from 1 in order of text; the keeper is 0.
+    pub fn players(&self) -> usize
+        ensures count { result ≡ length self.now.players }
+        ensures lawful { IsGame self.now }
+    {
+        self.players.len()
+    }
+
+    /// The name of a player.
+    pub fn player_name(&self, player: u16) -> &str
+        requires from_one { 0 < player }
+        requires there { player ≤ length self.now.players }
+        ensures { slice_get self.now.players (player - 1) ≡ Some result.now }
+    {
+        self.players[player as usize - 1].as_str()
+    }
+
+    /// How many pieces there are. They are numbered from 0 in order of text.
+    pub fn pieces(&self) -> usize
+        ensures count { result ≡ length self.now.pieces }
+        ensures lawful { IsGame self.now }
+    {
+        self.pieces.len()
+    }
+
+    /// How many variables there are, numbered from 0: the players' scores in order, and then the others.
+    pub fn variables(&self) -> usize
+        ensures count { result ≡ length self.now.variables }
+        ensures lawful { IsGame self.now }
+    {
+        self.variables.len()
+    }
+
+    /// The greatest value of a variable.
+    pub fn bound(&self, variable: u16) -> u32
+        requires { variable < length self.now.variables }
+        ensures { slice_get self.now.bounds variable ≡ Some result }
+    {
+        self.bounds[variable as usize]
+    }
+
+    /// How many directions there are, numbered from 0.
+    pub fn directions(&self) -> usize
+        ensures count { result ≡ length self.now.directions }
+        ensures lawful { IsGame self.now }
+    {
+        self.directions.len()
+    }
+
+    pub fn board(&self) -> &Board
+        ensures board { result.now ≡ self.now.board }
+        ensures lawful { IsGame self.now }
+    {
+        &self.board
+    }
+
+    /// How many positions there are. They are numbered from 1.
+    pub fn positions(&self) -> usize
+        ensures count { result ≡ length (positions_of self.now.rules) }
+        ensures lawful { IsGame self.now }
+    {
+        self.table.len()
+    }
+
+    /// What stands at a position.
+    pub fn action(&self, position: u32) -> &Instruction
+        requires from_one { 0 < position }
+        requires there { position ≤ length (positions_of self.now.rules) }
+        ensures { Stands self.now.rules position result.now }
+    {
+        &self.table[position as usize - 1]
+    }
+
+    /// Whether a pattern stands at a position.
+    pub fn is_pattern(&self, position: u32) -> bool
+        requires from_one { 0 < position }
+        requires there { position ≤ length (positions_of self.now.rules) }
+        ensures { IsTrue result ↔ IsPatternAt self.now.rules position }
+    {
+        self.table[position as usize - 1].is_pattern()
+    }
+
+    /// The tree of the rules.
+    pub fn rules(&self) -> &Rule
+        ensures rules { expression_of result.now ≡ self.now.rules }
+        ensures lawful { IsGame self.now }
+    {
+        &self.rules
+    }
+}

@@ -1,0 +1,14 @@
+//! The checked rules of a game, its board and the names of its things, with the meaning of a game as definitions.
+#![tactic(auto)]
+
+pub mod arithmetic;
+pub mod game;
+pub mod instruction;
+pub mod laws;
+pub mod limits;
+pub mod rule;
+
+pub use arithmetic::{Arithmetic, Operation, Operator, Relation};
+pub use game::{Game, Parts};
+pub use instruction::Instruction;
+pub use rule::{Action, Rule};
