@@ -12,8 +12,6 @@ mod parser;
 mod rule;
 mod sections;
 mod source;
-#[cfg(test)]
-mod tests;
 mod words;
 
 pub use description::{Board, Bounded, Description, Edge, Name, Number, Vertex};
