@@ -70,7 +70,7 @@ fn vertices(answer: Result<Board, BoardError>) -> Result<usize, BoardError> {
 }
 
 /// Where the directions from 0 on lead from a vertex.
-fn assert_leads(rt: &impl Abort, board: &Board, vertex: u16, targets: &[Option<u16>]) {
+fn assert_leads(rt: &impl Abort, board: &Board, vertex: u32, targets: &[Option<u32>]) {
     assert!(rt; (vertex as usize) < board.len(), "vertex {vertex}");
     for (direction, target) in targets.iter().enumerate() {
         assert!(rt; direction < 64);
@@ -85,7 +85,7 @@ fn assert_leads(rt: &impl Abort, board: &Board, vertex: u16, targets: &[Option<u
 /// The pieces along the rows are those that `rows_of` numbers.
 fn assert_numbered(rt: &impl Abort, board: &Board) {
     for vertex in 0..board.len() {
-        assert_eq!(rt; board.piece_at_start(vertex as u16) as usize, vertex);
+        assert_eq!(rt; board.piece_at_start(vertex as u32) as usize, vertex);
     }
 }
 
@@ -185,10 +185,10 @@ fn a_graph_has_the_edges_that_are_written(rt: HostRuntime) -> Result<(), Fail> {
 }
 
 /// How many vertices a board may have.
-const MOST: u16 = 1024;
+const MOST: u16 = 4096;
 
 #[test]
-fn a_board_has_at_most_so_many_vertices(rt: HostRuntime) {
+fn a_board_has_at_most_4096_vertices(rt: HostRuntime) {
     let alloc = rt.alloc();
     let half = MOST / 2;
     let four = [0, 1, 2, 3];
