@@ -37,8 +37,8 @@ fn shown(alloc: Global, game: &Game) -> Result<String, Fail> {
     }
     let board = game.board();
     for vertex in 0..board.len() {
-        let piece = board.piece_at_start(vertex as u16);
-        let right = board.step(vertex as u16, 3);
+        let piece = board.piece_at_start(vertex as u32);
+        let right = board.step(vertex as u32, 3);
         write!(text, " {piece} {right:?}")?;
     }
     for position in 1..=game.positions() {
