@@ -6,22 +6,22 @@ ghost use Rattle.rbg_wire.specs.Writing.{Appends};
 
 use crate::{Message, Outcome};
 use itoa::Buffer;
+use rbg_base::Memory;
 use rbg_pairs::Pair;
-use std::alloc::AllocError;
 
-/// Appends the message's spelling, with its zero byte. An `Err` changes nothing.
-pub fn write_message(message: &Message<'_>, out: &mut Vec<u8>) -> Result<(), AllocError>
+/// Appends the message with its zero byte. On an error the bytes are unchanged.
+pub fn write_message(message: &Message<'_>, out: &mut Vec<u8>) -> Result<(), Memory>
     requires { HasSpelling (message_of message.now) }
     ensures ok { OnOk result (out.new.items ≡ out.old.items ++ spelling (message_of message.now)) }
     ensures err { OnErr result (out.new.items ≡ out.old.items) }
 {
     let len = out.len();
     let written = put_message(message, out);
-    whole(written, len, out)
+    all_or_nothing(written, len, out)
 }
 
-/// Appends the number's digits. An `Err` changes nothing.
-pub fn write_number(number: u64, out: &mut Vec<u8>) -> Result<(), AllocError>
+/// Appends the digits of the number. On an error the bytes are unchanged.
+pub fn write_number(number: u64, out: &mut Vec<u8>) -> Result<(), Memory>
     ensures ok { OnOk result (out.new.items ≡ out.old.items ++ decimal number) }
     ensures err { OnErr result (out.new.items ≡ out.old.items) }
 {
@@ -29,30 +29,30 @@ pub fn write_number(number: u64, out: &mut Vec<u8>) -> Result<(), AllocError>
     out.extend_from_slice(buffer.format(number).as_bytes())
 }
 
-/// Appends the pairs, as in a message of a move. An `Err` changes nothing.
-pub fn write_pairs(pairs: &[Pair], out: &mut Vec<u8>) -> Result<(), AllocError>
+/// Appends the pairs, as in a message of a move. On an error the bytes are unchanged.
+pub fn write_pairs(pairs: &[Pair], out: &mut Vec<u8>) -> Result<(), Memory>
     requires { ArePairs pairs.now }
     ensures ok { OnOk result (out.new.items ≡ out.old.items ++ pairs_text pairs.now) }
     ensures err { OnErr result (out.new.items ≡ out.old.items) }
 {
     let len = out.len();
     let written = put_pairs(pairs, out);
-    whole(written, len, out)
+    all_or_nothing(written, len, out)
 }
 
-/// Appends the text of the message that tells the outcome. An `Err` changes nothing.
-pub fn write_outcome(outcome: &Outcome, out: &mut Vec<u8>) -> Result<(), AllocError>
+/// Appends the outcome, as in its message. On an error the bytes are unchanged.
+pub fn write_outcome(outcome: &Outcome, out: &mut Vec<u8>) -> Result<(), Memory>
     requires { OutcomeHasSpelling outcome.now }
     ensures ok { OnOk result (out.new.items ≡ out.old.items ++ outcome_text outcome.now) }
     ensures err { OnErr result (out.new.items ≡ out.old.items) }
 {
     let len = out.len();
     let written = put_outcome(outcome, out);
-    whole(written, len, out)
+    all_or_nothing(written, len, out)
 }
 
-// Where the writing failed, the bytes become those that were there before.
-fn whole(written: Result<(), AllocError>, len: usize, out: &mut Vec<u8>) -> Result<(), AllocError>
+// Takes back what was written, if the writing failed.
+fn all_or_nothing(written: Result<(), Memory>, len: usize, out: &mut Vec<u8>) -> Result<(), Memory>
     ensures same { result ≡ written }
     ensures ok { OnOk written (out.new.items ≡ out.old.items) }
     ensures err { OnErr written (out.new.items ≡ take len out.old.items) }
@@ -64,7 +64,7 @@ fn whole(written: Result<(), AllocError>, len: usize, out: &mut Vec<u8>) -> Resu
 }
 
 #[tactic(auto, unfolding(crate::specs::Messages::spelling))]
-fn put_message(message: &Message<'_>, out: &mut Vec<u8>) -> Result<(), AllocError>
+fn put_message(message: &Message<'_>, out: &mut Vec<u8>) -> Result<(), Memory>
     ensures { Appends out.old.items out.new.items (spelling (message_of message.now)) result }
 {
     put_text(message, out)?;
@@ -73,7 +73,7 @@ fn put_message(message: &Message<'_>, out: &mut Vec<u8>) -> Result<(), AllocErro
 }
 
 #[tactic(auto, unfolding(crate::specs::Messages::message_text))]
-fn put_text(message: &Message<'_>, out: &mut Vec<u8>) -> Result<(), AllocError>
+fn put_text(message: &Message<'_>, out: &mut Vec<u8>) -> Result<(), Memory>
     ensures { Appends out.old.items out.new.items (message_text (message_of message.now)) result }
 {
     match message {
@@ -96,7 +96,7 @@ fn put_text(message: &Message<'_>, out: &mut Vec<u8>) -> Result<(), AllocError>
 }
 
 #[tactic(auto, unfolding(crate::specs::Messages::outcome_text))]
-fn put_outcome(outcome: &Outcome, out: &mut Vec<u8>) -> Result<(), AllocError>
+fn put_outcome(outcome: &Outcome, out: &mut Vec<u8>) -> Result<(), Memory>
     ensures { Appends out.old.items out.new.items (outcome_text outcome.now) result }
 {
     match outcome {
@@ -111,7 +111,7 @@ fn put_outcome(outcome: &Outcome, out: &mut Vec<u8>) -> Result<(), AllocError>
     }
 }
 
-fn put_scores(scores: &[u64], out: &mut Vec<u8>) -> Result<(), AllocError>
+fn put_scores(scores: &[u64], out: &mut Vec<u8>) -> Result<(), Memory>
     ensures { Appends out.old.items out.new.items (flat_map (λ score. codes " " ++ decimal score) scores.now) result }
 {
     for score in scores {
@@ -121,7 +121,7 @@ fn put_scores(scores: &[u64], out: &mut Vec<u8>) -> Result<(), AllocError>
 }
 
 #[tactic(auto, unfolding(crate::specs::Messages::pairs_text))]
-fn put_pairs(pairs: &[Pair], out: &mut Vec<u8>) -> Result<(), AllocError>
+fn put_pairs(pairs: &[Pair], out: &mut Vec<u8>) -> Result<(), Memory>
     ensures { Appends out.old.items out.new.items (pairs_text pairs.now) result }
 {
     let Some((first, others)) = pairs.split_first() else {
@@ -131,7 +131,7 @@ fn put_pairs(pairs: &[Pair], out: &mut Vec<u8>) -> Result<(), AllocError>
     put_more_pairs(others, out)
 }
 
-fn put_more_pairs(pairs: &[Pair], out: &mut Vec<u8>) -> Result<(), AllocError>
+fn put_more_pairs(pairs: &[Pair], out: &mut Vec<u8>) -> Result<(), Memory>
     ensures { Appends out.old.items out.new.items (flat_map (λ p. codes " " ++ pair_text p) pairs.now) result }
 {
     for pair in pairs {
@@ -140,23 +140,23 @@ fn put_more_pairs(pairs: &[Pair], out: &mut Vec<u8>) -> Result<(), AllocError>
     Ok(())
 }
 
-fn put_pair(head: &[u8], pair: Pair, out: &mut Vec<u8>) -> Result<(), AllocError>
+fn put_pair(head: &[u8], pair: Pair, out: &mut Vec<u8>) -> Result<(), Memory>
     ensures { Appends out.old.items out.new.items (head.now ++ pair_text pair) result }
 {
     put_number(head, u64::from(pair.vertex), out)?;
     put_number(b" ", u64::from(pair.position), out)
 }
 
-// A head, and the digits of a number behind it.
-fn put_number(head: &[u8], number: u64, out: &mut Vec<u8>) -> Result<(), AllocError>
+// Appends a head, and then the digits of a number.
+fn put_number(head: &[u8], number: u64, out: &mut Vec<u8>) -> Result<(), Memory>
     ensures { Appends out.old.items out.new.items (head.now ++ decimal number) result }
 {
     let mut buffer = Buffer::new();
     put_bytes(head, buffer.format(number).as_bytes(), out)
 }
 
-// A head, and bytes behind it.
-fn put_bytes(head: &[u8], bytes: &[u8], out: &mut Vec<u8>) -> Result<(), AllocError>
+// Appends a head, and then bytes.
+fn put_bytes(head: &[u8], bytes: &[u8], out: &mut Vec<u8>) -> Result<(), Memory>
     ensures { Appends out.old.items out.new.items (head.now ++ bytes.now) result }
 {
     out.extend_from_slice(head)?;

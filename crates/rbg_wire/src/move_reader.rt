@@ -1,34 +1,48 @@
-//! The calls that read the pairs of a move. They take no memory.
+//! The calls that read the pairs of a move. They allocate nothing.
 ghost use Rattle.std.specs.Prelude.{◌≡◌, ℕ, ◌<◌, ◌≤◌, ◌↔◌, List, [], ◌∷◌, length, decimal, Ok, IfOk, IfErr, IfSome, IfNone, IsErrOf};
+ghost use Rattle.rbg_pairs.specs.Move.{most_pairs};
 ghost use Rattle.rbg_wire.specs.Messages.{IsShortPair};
 ghost use Rattle.rbg_wire.specs.Reading.{SpellsPairs, SpellsMove, SpellsTooMany, ReadsPairs, ArePairWords};
 ghost use Rattle.rbg_wire.specs.Words.{words_left};
 
 use crate::WireError;
-use crate::numbers::short_number;
+use crate::number_reader::short_number;
 use crate::words::Words;
 use rbg_pairs::{Move, Pair};
 
-/// The move that the message tells, all of it: `M<pairs>`.
+/// The move of which the whole text is the message: `M<pairs>`.
+///
+/// Returns `TooManyPairs` if the text is the message of more than 200 pairs, and `Malformed` if it is the message of no
+/// move.
 pub fn read_move(text: &[u8]) -> Result<Move, WireError>
-    // What is read is spelled so.
-    ensures found { IfOk result (λ pairs. SpellsMove text.now pairs × (length pairs ≤ 200)) }
-    // What is spelled so is read, if it isn't too much.
-    ensures only { (pairs : List (ℕ × ℕ)) → SpellsMove text.now pairs → length pairs ≤ 200 → result ≡ Ok pairs }
+    // The text is the message of the move that is returned.
+    ensures found { IfOk result (λ pairs. SpellsMove text.now pairs × (length pairs ≤ most_pairs)) }
+    // The move is returned whose message the text is.
+    ensures only { (pairs : List (ℕ × ℕ))
+        → SpellsMove text.now pairs
+        → length pairs ≤ most_pairs
+        → result ≡ Ok pairs }
     ensures too_many { IsErrOf result WireError.TooManyPairs ↔ SpellsTooMany (SpellsMove text.now) }
-    ensures malformed { IsErrOf result WireError.Malformed ↔ ((pairs : List (ℕ × ℕ)) → SpellsMove text.now pairs → ⊥) }
+    ensures malformed { IsErrOf result WireError.Malformed
+        ↔ ((pairs : List (ℕ × ℕ)) → SpellsMove text.now pairs → ⊥) }
 {
     move_of(text)
 }
 
-/// The pairs that the text spells, all of it, as in a message of a move.
+/// The pairs of which the whole text is the spelling, as in a message of a move.
+///
+/// Returns `TooManyPairs` if the text is the spelling of more than 200 pairs, and `Malformed` if it is that of no pairs.
 pub fn read_pairs(text: &[u8]) -> Result<Move, WireError>
-    // What is read is spelled so.
-    ensures found { IfOk result (λ pairs. SpellsPairs text.now pairs × (length pairs ≤ 200)) }
-    // What is spelled so is read, if it isn't too much.
-    ensures only { (pairs : List (ℕ × ℕ)) → SpellsPairs text.now pairs → length pairs ≤ 200 → result ≡ Ok pairs }
+    // The text is the spelling of the pairs that are returned.
+    ensures found { IfOk result (λ pairs. SpellsPairs text.now pairs × (length pairs ≤ most_pairs)) }
+    // The pairs are returned whose spelling the text is.
+    ensures only { (pairs : List (ℕ × ℕ))
+        → SpellsPairs text.now pairs
+        → length pairs ≤ most_pairs
+        → result ≡ Ok pairs }
     ensures too_many { IsErrOf result WireError.TooManyPairs ↔ SpellsTooMany (SpellsPairs text.now) }
-    ensures malformed { IsErrOf result WireError.Malformed ↔ ((pairs : List (ℕ × ℕ)) → SpellsPairs text.now pairs → ⊥) }
+    ensures malformed { IsErrOf result WireError.Malformed
+        ↔ ((pairs : List (ℕ × ℕ)) → SpellsPairs text.now pairs → ⊥) }
 {
     pairs_of(text)
 }
@@ -45,7 +59,7 @@ fn move_of(text: &[u8]) -> Result<Move, WireError>
     pairs_of(pairs)
 }
 
-// All pairs are read before they are counted.
+// Text that is malformed after the 200th pair is malformed, so all pairs are read.
 pub(crate) fn pairs_of(text: &[u8]) -> Result<Move, WireError>
     ensures { ReadsPairs (SpellsPairs text.now) result }
 {
@@ -68,12 +82,14 @@ pub(crate) fn pairs_of(text: &[u8]) -> Result<Move, WireError>
     Ok(pairs)
 }
 
-// The pair of the next two words, None where no word is left.
+// The pair of the next two words, or None if no word is left.
 #[tactic(auto, using(crate::proofs::PairLemmas::second_no_number))]
 fn next_pair(words: &mut Words<'_>) -> Result<Option<Pair>, WireError>
-    ensures found { IfOk result (λ found. IfSome found (λ p. IsShortPair p × (words_left words.old ≡ decimal p.0 ∷ decimal p.1 ∷ words_left words.new))) }
+    ensures found { IfOk result (λ found. IfSome found (λ p.
+        IsShortPair p × (words_left words.old ≡ decimal p.0 ∷ decimal p.1 ∷ words_left words.new))) }
     ensures end { IfOk result (λ found. IfNone found (words_left words.old ≡ [])) }
-    ensures none { IfErr result (λ e. (e ≡ WireError.Malformed) × ((pairs : List (ℕ × ℕ)) → ArePairWords (words_left words.old) pairs → ⊥)) }
+    ensures none { IfErr result (λ e.
+        (e ≡ WireError.Malformed) × ((pairs : List (ℕ × ℕ)) → ArePairWords (words_left words.old) pairs → ⊥)) }
 {
     let Some(vertex) = words.next() else {
         return Ok(None);

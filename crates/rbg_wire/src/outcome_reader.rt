@@ -1,18 +1,22 @@
-//! The call that reads an outcome. It takes no memory.
+//! The call that reads an outcome. It allocates nothing.
 ghost use Rattle.std.specs.Prelude.{◌≡◌, ℕ, ◌^◌, ◌<◌, List, ◌∷◌, Ok, IfOk, IfErr, IfSome, IfNone};
 ghost use Rattle.rbg_wire.specs.declared.outcome.Outcome.{Outcome as AnyOutcome};
 ghost use Rattle.rbg_wire.specs.Reading.{SpellsOutcome, SpellsPlayer, SpellsScores};
+ghost use Rattle.rbg_wire.specs.Messages.{end_letter};
+ghost use Rattle.rbg_wire.specs.Words.{space};
 
-use crate::bytes::behind;
-use crate::numbers::number;
+use crate::bytes::after_byte;
 use crate::words::Words;
 use crate::{MAX_SCORES, Outcome, Scores, WireError};
+use rbg_base::number_of_decimal;
 
-/// The outcome that the text tells, all of it: the text of an `E` message.
+/// The outcome of which the whole text is the message, without its zero byte.
+///
+/// Returns `Malformed` if the text is the message of no outcome.
 pub fn read_outcome(text: &[u8]) -> Result<Outcome, WireError>
-    // What is read is spelled so.
+    // The text is that of the outcome that is returned.
     ensures found { IfOk result (SpellsOutcome text.now) }
-    // What is spelled so is read.
+    // The outcome is returned whose text this is.
     ensures only { (outcome : AnyOutcome) → SpellsOutcome text.now outcome → result ≡ Ok outcome }
     ensures err { IfErr result (λ e. e ≡ WireError.Malformed) }
 {
@@ -23,13 +27,13 @@ fn outcome_in(text: &[u8]) -> Option<Outcome>
     ensures found { IfSome result (SpellsOutcome text.now) }
     ensures none { IfNone result ((outcome : AnyOutcome) → SpellsOutcome text.now outcome → ⊥) }
 {
-    outcome_behind(behind(b'E', text)?)
+    outcome_after_letter(after_byte(b'E', text)?)
 }
 
-// The outcome that the text tells behind its letter: 69 is `E`.
-pub(crate) fn outcome_behind(text: &[u8]) -> Option<Outcome>
-    ensures found { IfSome result (SpellsOutcome (69 ∷ text.now)) }
-    ensures none { IfNone result ((outcome : AnyOutcome) → SpellsOutcome (69 ∷ text.now) outcome → ⊥) }
+// The outcome whose text this is after its letter.
+pub(crate) fn outcome_after_letter(text: &[u8]) -> Option<Outcome>
+    ensures found { IfSome result (SpellsOutcome (end_letter ∷ text.now)) }
+    ensures none { IfNone result ((outcome : AnyOutcome) → SpellsOutcome (end_letter ∷ text.now) outcome → ⊥) }
 {
     let (kind, fields) = text.split_first()?;
     match kind {
@@ -60,24 +64,24 @@ fn player_in(fields: &[u8]) -> Option<u64>
     ensures found { IfSome result (SpellsPlayer fields.now) }
     ensures none { IfNone result ((player : ℕ) → SpellsPlayer fields.now player → ⊥) }
 {
-    number(behind(b' ', fields)?)
+    number_of_decimal(after_byte(b' ', fields)?)
 }
 
 fn scores_in(fields: &[u8]) -> Option<Scores>
     ensures found { IfSome result (SpellsScores fields.now) }
     ensures none { IfNone result ((scores : List ℕ) → SpellsScores fields.now scores → ⊥) }
 {
-    scores_behind(behind(b' ', fields)?)
+    scores_after_space(after_byte(b' ', fields)?)
 }
 
-// The scores that the text tells behind its first space, which is 32.
-fn scores_behind(text: &[u8]) -> Option<Scores>
-    ensures found { IfSome result (SpellsScores (32 ∷ text.now)) }
-    ensures none { IfNone result ((scores : List ℕ) → SpellsScores (32 ∷ text.now) scores → ⊥) }
+// The scores whose text this is after its first space.
+fn scores_after_space(text: &[u8]) -> Option<Scores>
+    ensures found { IfSome result (SpellsScores (space ∷ text.now)) }
+    ensures none { IfNone result ((scores : List ℕ) → SpellsScores (space ∷ text.now) scores → ⊥) }
 {
     let mut scores = Scores::new();
     for word in Words::of(text) {
-        let score = number(word)?;
+        let score = number_of_decimal(word)?;
         if scores.len() == MAX_SCORES {
             return None;
         }

@@ -1,6 +1,6 @@
 -- The text has no zero byte.
 use Rattle.rbg_wire.proofs.MessageLemmas.{no_game, spells_game, first_stands}
-use Rattle.rbg_wire.proofs.reading.game_in.Goals as goal
+use Rattle.rbg_wire.proofs.message_reader.game_in.Goals as goal
 
 pub returns-in-None-clause-found : goal.returns-in-None-clause-found
 returns-in-None-clause-found c = (spells_game _ c.in-None.ensures.none, tt)

@@ -1,7 +1,7 @@
--- One number stands before the first space, and the other behind it.
+-- One number is before the first space, and the other after it.
 use Rattle.std.proofs.Common.{◌++◌, ◌∷◌, decimal, ap, ◌∙◌}
 use Rattle.rbg_wire.proofs.MessageLemmas.{no_limits, spells_limits, same_parts, no_parts, number_lacks_space, with_number}
-use Rattle.rbg_wire.proofs.reading.limits_in.Goals as goal
+use Rattle.rbg_wire.proofs.message_reader.limits_in.Goals as goal
 
 pub returns-in_err-turn_ms-clause-none : goal.returns-in_err-turn_ms-clause-none
 returns-in_err-turn_ms-clause-none c =
@@ -28,7 +28,7 @@ returns-clause-found c =
     let refusals = c.in_ok-refusals.ensures.found in (
       spells_limits _ _ _ (record {
         has = (turn.0, refusals.0);
-        is = with_number _ _ _ _ found.1 turn.1 ∙ ap (λ behind. decimal c.in_ok-turn_ms-2.turn_ms ++ 32 ∷ behind) refusals.1;
+        is = with_number _ _ _ _ found.1 turn.1 ∙ ap (λ others. decimal c.in_ok-turn_ms-2.turn_ms ++ 32 ∷ others) refusals.1;
       }),
       tt,
     )

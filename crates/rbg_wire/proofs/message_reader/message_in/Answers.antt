@@ -1,7 +1,7 @@
 -- A message of a move has its letter, and any other has another one.
 use Rattle.std.proofs.lemmas.Result.{err_from_is_err_and}
 use Rattle.rbg_wire.proofs.MessageLemmas.{no_empty_message, reads_pairs_err, reads_pairs_ok}
-use Rattle.rbg_wire.proofs.reading.message_in.Goals as goal
+use Rattle.rbg_wire.proofs.message_reader.message_in.Goals as goal
 
 pub returns-in_default : goal.returns-in_default
 returns-in_default c = no_empty_message _ c.in_default.ensures.cases

@@ -1,6 +1,6 @@
--- The clauses, from the one answer of each text.
+-- The clauses, from the one result for each text.
 use Rattle.rbg_wire.proofs.MessageLemmas.{message_only, message_too_many}
-use Rattle.rbg_wire.proofs.reading.read_message.Goals as goal
+use Rattle.rbg_wire.proofs.message_reader.read_message.Goals as goal
 
 pub returns-clause-only : goal.returns-clause-only
 returns-clause-only c = message_only _ _ c.message_in.ensures

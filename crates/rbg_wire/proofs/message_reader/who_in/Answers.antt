@@ -1,8 +1,8 @@
--- The number stands before the first space, and the name behind it.
+-- The number is before the first space, and the name after it.
 use Rattle.std.proofs.Common.{◌≡◌, true, false, decimal, ap, sym, ◌∙◌}
 use Rattle.rbg_base.specs.Names.{is_name}
 use Rattle.rbg_wire.proofs.MessageLemmas.{no_who, spells_who, same_parts, no_parts, number_lacks_space, with_number}
-use Rattle.rbg_wire.proofs.reading.who_in.Goals as goal
+use Rattle.rbg_wire.proofs.message_reader.who_in.Goals as goal
 
 pub returns-in_err-player-clause-none : goal.returns-in_err-player-clause-none
 returns-in_err-player-clause-none c =

@@ -1,6 +1,6 @@
 -- A message of a move begins with its letter.
 use Rattle.rbg_wire.proofs.PairLemmas.{empty_no_move, other_no_move, reads_move}
-use Rattle.rbg_wire.proofs.moves.move_of.Goals as goal
+use Rattle.rbg_wire.proofs.move_reader.move_of.Goals as goal
 
 pub returns-in_default : goal.returns-in_default
 returns-in_default c = empty_no_move _ c.in_default.ensures.cases

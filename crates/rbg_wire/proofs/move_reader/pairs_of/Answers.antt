@@ -4,7 +4,7 @@ use Rattle.std.proofs.lemmas.Result.{err_from_is_err_and}
 use Rattle.rbg_wire.specs.Reading.{ArePairWords}
 use Rattle.rbg_wire.proofs.PairLemmas.{HasRead-first, HasRead-push, HasRead-full, HasRead-spelled, HasRead-too_many, HasRead-none, reads_nothing, one_spelled, words_from_spelled}
 use Rattle.rbg_wire.proofs.WordLemmas.{some_word}
-use Rattle.rbg_wire.proofs.moves.pairs_of.Goals as goal
+use Rattle.rbg_wire.proofs.move_reader.pairs_of.Goals as goal
 
 pub returns-in_err-first : goal.returns-in_err-first
 returns-in_err-first c =

@@ -2,7 +2,7 @@
 use Rattle.std.proofs.Common.{length}
 use Rattle.rbg_wire.specs.Words.{words_left}
 use Rattle.rbg_wire.proofs.PairLemmas.{HasRead}
-use Rattle.rbg_wire.proofs.moves.pairs_of.Given as goal
+use Rattle.rbg_wire.proofs.move_reader.pairs_of.Given as goal
 
 abbrev pub invariant-loop-pair : goal.invariant-loop-pair
 invariant-loop-pair l = HasRead l.text l.pairs l.too_many (words_left l.words)

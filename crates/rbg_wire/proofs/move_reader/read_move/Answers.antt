@@ -1,7 +1,7 @@
--- The clauses, from the one answer of each text.
+-- The clauses, from the one result for each text.
 use Rattle.rbg_wire.specs.Reading.{SpellsMove}
 use Rattle.rbg_wire.proofs.PairLemmas.{one_move, reads_found, reads_only, reads_too_many, reads_malformed}
-use Rattle.rbg_wire.proofs.moves.read_move.Goals as goal
+use Rattle.rbg_wire.proofs.move_reader.read_move.Goals as goal
 
 pub returns : goal.returns
 returns c = record {

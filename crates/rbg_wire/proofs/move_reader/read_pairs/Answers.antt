@@ -1,7 +1,7 @@
--- The clauses, from the one answer of each text.
+-- The clauses, from the one result for each text.
 use Rattle.rbg_wire.specs.Reading.{SpellsPairs}
 use Rattle.rbg_wire.proofs.PairLemmas.{one_spelled, reads_found, reads_only, reads_too_many, reads_malformed}
-use Rattle.rbg_wire.proofs.moves.read_pairs.Goals as goal
+use Rattle.rbg_wire.proofs.move_reader.read_pairs.Goals as goal
 
 pub returns : goal.returns
 returns c = record {

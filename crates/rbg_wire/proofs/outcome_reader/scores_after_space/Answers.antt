@@ -2,7 +2,7 @@
 use Rattle.std.proofs.Common.{◌<◌, ◌∷◌, length, ◌∙◌, sym, ap, arith}
 use Rattle.rbg_wire.specs.Words.{words_left}
 use Rattle.rbg_wire.proofs.ScoreLemmas.{HasScores-first, HasScores-push, HasScores-full, HasScores-none, HasScores-spelled}
-use Rattle.rbg_wire.proofs.outcomes.scores_behind.Goals as goal
+use Rattle.rbg_wire.proofs.outcome_reader.scores_after_space.Goals as goal
 
 pub loop-word-init : goal.loop-word-init
 loop-word-init c =

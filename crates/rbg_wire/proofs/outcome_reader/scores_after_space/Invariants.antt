@@ -1,7 +1,7 @@
 -- All scores so far are known.
 use Rattle.rbg_wire.specs.Words.{words_left}
 use Rattle.rbg_wire.proofs.ScoreLemmas.{HasScores}
-use Rattle.rbg_wire.proofs.outcomes.scores_behind.Given as goal
+use Rattle.rbg_wire.proofs.outcome_reader.scores_after_space.Given as goal
 
 abbrev pub invariant-loop-word : goal.invariant-loop-word
 invariant-loop-word l =
