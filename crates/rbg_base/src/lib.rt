@@ -1,5 +1,5 @@
-//! What every layer shares: names of the language, the numbers by which things are told apart, the relations of
-//! arithmetic, and the error of a refused allocation.
+//! What every layer shares: names of the language, decimal numbers, the numbers of the things of a game, the relations
+//! of arithmetic, and the error for a refused allocation.
 #![tactic(auto)]
 
 mod decimal;

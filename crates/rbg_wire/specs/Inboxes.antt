@@ -14,4 +14,5 @@ item_of TooLong = too_long
 
 -- once the item is no longer borrowed, the stream is without its first item
 abbrev pub LosesFirst : MutBor Stream → Fml
-LosesFirst inbox = follows_so the_row the_row inbox.ghost_name none (λ _ _. ⊤) (λ after. after ≡ without_first inbox.now)
+LosesFirst inbox =
+    follows_so the_row the_row inbox.ghost_name none (λ _ _. ⊤) (λ after. after ≡ without_first inbox.now)

@@ -5,8 +5,8 @@ use Rattle.rbg_wire.specs.Bytes.{LacksByte}
 use Rattle.rbg_wire.specs.Messages.{AbstractMessage, HasSpelling, message_text, spelling}
 use Rattle.rbg_wire.specs.Streams.{Item, complete, too_long, Rest, incomplete, dropping, after_items, cut, IsRest}
 
--- No spelling is the beginning of another. So two messages with the same spelling are equal, and a stream is the spelling
--- of at most one list of messages.
+-- No spelling is the beginning of another. So two messages with the same spelling are equal, and a stream is the
+-- spelling of at most one list of messages.
 abbrev pub SpellingsAreApart : Type 0
 SpellingsAreApart =
     (a b : AbstractMessage) (x y : List ℕ)

@@ -26,8 +26,8 @@ pub(crate) enum Found {
 }
 
 impl Cursor {
-    /// Drops the bytes that were read from the buffer, once they are half of it or more. So at most one byte is moved for
-    /// each byte that is dropped.
+    /// Drops the bytes that were read from the buffer, once they are half of it or more. So at most one byte is moved
+    /// for each byte that is dropped.
     pub(crate) fn drop_read(&mut self, bytes: &mut Vec<u8>)
         requires { IsCursorOf self.old bytes.old.items }
         ensures cursor { IsCursorOf self.new bytes.new.items }

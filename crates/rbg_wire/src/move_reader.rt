@@ -31,7 +31,8 @@ pub fn read_move(text: &[u8]) -> Result<Move, WireError>
 
 /// The pairs of which the whole text is the spelling, as in a message of a move.
 ///
-/// Returns `TooManyPairs` if the text is the spelling of more than 200 pairs, and `Malformed` if it is that of no pairs.
+/// Returns `TooManyPairs` if the text is the spelling of more than 200 pairs, and `Malformed` if it is that of no
+/// pairs.
 pub fn read_pairs(text: &[u8]) -> Result<Move, WireError>
     // The text is the spelling of the pairs that are returned.
     ensures found { IfOk result (λ pairs. SpellsPairs text.now pairs × (length pairs ≤ most_pairs)) }

@@ -27,7 +27,8 @@ impl Model for Scores {
 
     ghost inverse = { λ scores. record { places = padded_scores scores; len = length scores } };
 
-    ghost inverse_ok = { λ s h i. record { places = padded_scores-take s.places s.len h i; len = length-scores s.places s.len h i } };
+    ghost inverse_ok = { λ s h i.
+        record { places = padded_scores-take s.places s.len h i; len = length-scores s.places s.len h i } };
 }
 
 impl Scores {
