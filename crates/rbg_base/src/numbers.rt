@@ -1,4 +1,4 @@
-//! The numbers by which the things of a game are told apart.
+//! The numbers of the things of a game.
 
 /// A player, numbered from 1 in order of the text. The keeper is 0.
 pub type Player = u16;

@@ -1,6 +1,6 @@
 //! The relation of a comparison.
 
-/// How the two sides of a comparison must stand to each other.
+/// How the two sides of a comparison relate.
 #[derive(Clone, Copy, Debug, PartialEq, Eq)]
 pub enum Relation {
     /// `==`

@@ -149,7 +149,7 @@ fn wire(alloc: Global, cells: &[Cell], index: &HashMap<u32, Vertex>) -> Result<B
 
 /// The board of a graph that is written out. The cells are its vertices, in order.
 ///
-/// The faults are looked for in this order: `NoCell`, `TooManyVertices`, `SameVertex`, `SameDirection`, `UnknownVertex`.
+/// It looks for the faults in this order: `NoCell`, `TooManyVertices`, `SameVertex`, `SameDirection`, `UnknownVertex`.
 #[tactic(auto, unfolding(crate::specs::Written::GraphRefusal))]
 pub fn graph(alloc: Global, cells: &[Cell]) -> Result<Board, BoardError>
     ensures lawful { OnOk result (MakesGraph (written_of cells.now)) }

@@ -109,7 +109,7 @@ fn first_misfit(rows: &[Vec<Piece>]) -> Option<usize>
 /// The board of a hexagon: rows from top to bottom that grow and then shrink by one cell each, with the directions
 /// north-west, north-east, east, south-east, south-west and west.
 ///
-/// The faults are looked for in this order: `NoCell`, `RowLength`, `TooManyVertices`, `SameDirection`.
+/// It looks for the faults in this order: `NoCell`, `RowLength`, `TooManyVertices`, `SameDirection`.
 #[tactic(auto, unfolding(crate::specs::Hexagon::HexagonRefusal))]
 pub fn hexagon(
     alloc: Global,

@@ -55,7 +55,7 @@ fn first_uneven(rows: &[Vec<Piece>]) -> Option<usize>
 
 /// The board of a rectangle: rows from top to bottom, all of one length, with the directions up, down, left and right.
 ///
-/// The faults are looked for in this order: `NoCell`, `RowLength`, `TooManyVertices`, `SameDirection`.
+/// It looks for the faults in this order: `NoCell`, `RowLength`, `TooManyVertices`, `SameDirection`.
 #[tactic(auto, unfolding(crate::specs::Rectangle::RectangleRefusal))]
 pub fn rectangle(
     alloc: Global,

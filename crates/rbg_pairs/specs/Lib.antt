@@ -1,1 +1,2 @@
+-- Moves as they are written.
 pub mod Move

@@ -1,6 +1,10 @@
 -- How long a move may be.
 use Rattle.std.specs.Prelude.{ℕ, ◌<◌, ◌≤◌}
 
+-- the most pairs that a move has
+abbrev pub most_pairs : ℕ
+most_pairs = 200
+
 -- a move has 1 to 200 pairs
 abbrev pub IsMoveLength : ℕ → Type 0
-IsMoveLength n = (0 < n) × (n ≤ 200)
+IsMoveLength n = (0 < n) × (n ≤ most_pairs)

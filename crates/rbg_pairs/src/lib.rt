@@ -1,8 +1,10 @@
 //! Moves as they are written: a vertex and a position for each modifier, in order.
 #![tactic(auto)]
 
+mod error;
 mod moves;
 mod pair;
 
+pub use error::MoveLengthError;
 pub use moves::{MAX_PAIRS, Move};
 pub use pair::Pair;

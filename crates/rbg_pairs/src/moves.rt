@@ -1,8 +1,8 @@
 //! A move: a list of pairs that is neither empty nor too long.
-ghost use Rattle.std.specs.Prelude.{◌≡◌, ℕ, ◌+◌, ◌<◌, ◌≤◌, ◌==◌, ◌↔◌, List, [], ◌∷◌, ◌++◌, length, IsSome, IfSome, slice_get, Some};
-ghost use Rattle.rbg_pairs.specs.Move.{IsMoveLength};
+ghost use Rattle.std.specs.Prelude.{◌≡◌, ℕ, ◌+◌, ◌<◌, ◌≤◌, ◌==◌, ◌↔◌, List, [], ◌∷◌, ◌++◌, length, slice_get, Some};
+ghost use Rattle.rbg_pairs.specs.Move.{most_pairs, IsMoveLength};
 
-use crate::Pair;
+use crate::{MoveLengthError, Pair};
 use arrayvec::ArrayVec;
 use std::marker::Model;
 use std::slice;
@@ -10,7 +10,7 @@ use std::slice;
 /// The most pairs that a move has.
 pub const MAX_PAIRS: usize = 200;
 
-/// The pairs of a move, 1 to 200, in order. They lie in the value itself. Contracts see the list.
+/// The pairs of a move, 1 to 200, in order. They are stored in the value itself. Contracts see the list.
 #[derive(Clone, Debug, Drop, PartialEq, Eq, PartialOrd, Ord, Hash)]
 pub struct Move {
     pairs: ArrayVec<Pair, MAX_PAIRS>,
@@ -39,21 +39,9 @@ impl Move {
         Move { pairs }
     }
 
-    /// The move of these pairs, or None where they are none or more than 200.
-    pub fn from_pairs(pairs: &[Pair]) -> Option<Move>
-        ensures length { IsSome result ↔ IsMoveLength (length pairs.now) }
-        ensures pairs { IfSome result (λ m. m ≡ pairs.now) }
-    {
-        if pairs.is_empty() {
-            return None;
-        }
-        let pairs = ArrayVec::try_from(pairs).ok()?;
-        Some(Move { pairs })
-    }
-
     /// Appends a pair. There must be room.
     pub fn push(&mut self, pair: Pair)
-        requires { length self.old < 200 }
+        requires { length self.old < most_pairs }
         ensures { self.new ≡ self.old ++ pair ∷ [] }
     {
         self.pairs.push(pair);
@@ -67,10 +55,10 @@ impl Move {
         self.pairs.len()
     }
 
-    /// Whether no further pair has room.
+    /// Whether there is no room for another pair.
     pub fn is_full(&self) -> bool
-        ensures value { result ≡ (length self.now == 200) }
-        ensures fits { length self.now ≤ 200 }
+        ensures value { result ≡ (length self.now == most_pairs) }
+        ensures fits { length self.now ≤ most_pairs }
     {
         self.pairs.is_full()
     }
@@ -88,5 +76,26 @@ impl Move {
         ensures range { IsMoveLength (length result.now) }
     {
         self.pairs.as_slice()
+    }
+}
+
+/// The move of these pairs, if they are 1 to 200.
+impl TryFrom<&[Pair]> for Move {
+    type Error = MoveLengthError;
+
+    ghost use Rattle.std.specs.Prelude.{length};
+    ghost use Rattle.std.specs.Result.{OkIff};
+    ghost use Rattle.rbg_pairs.specs.Move.{IsMoveLength};
+
+    ghost try_from_gives = { λ pairs result. OkIff result (IsMoveLength (length pairs.now)) pairs.now };
+
+    fn try_from(pairs: &[Pair]) -> Result<Move, MoveLengthError> {
+        if pairs.is_empty() {
+            return Err(MoveLengthError);
+        }
+        match ArrayVec::try_from(pairs) {
+            Ok(pairs) => Ok(Move { pairs }),
+            Err(_) => Err(MoveLengthError),
+        }
     }
 }

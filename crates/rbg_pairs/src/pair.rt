@@ -1,15 +1,16 @@
 //! One modifier of a move.
 ghost use Rattle.std.specs.Prelude.{ℕ, ◌^◌, ◌<◌};
 
+use rbg_base::{Position, Vertex};
 use std::marker::Model;
 
-/// Where a modifier was applied, and its position in the rules. Contracts see the two numbers.
+/// A modifier and the vertex on which it is applied. Contracts see the two numbers.
 #[derive(Clone, Copy, Debug, Default, PartialEq, Eq, PartialOrd, Ord, Hash)]
 pub struct Pair {
-    /// The vertex on which the modifier was applied.
-    pub vertex: u32,
-    /// The position of the modifier, numbered from 1 in order of text.
-    pub position: u32,
+    /// The vertex on which the modifier is applied.
+    pub vertex: Vertex,
+    /// The position of the modifier in the rules.
+    pub position: Position,
 }
 
 impl Model for Pair {

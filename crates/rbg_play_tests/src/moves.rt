@@ -17,9 +17,9 @@ fn moves_have_1_to_200_pairs(rt: HostRuntime) -> Result<(), Fail> {
     let pairs = vec![in rt.alloc(); pair(7, 9); 201]?;
     for (count, is_move) in [(0, false), (1, true), (2, true), (200, true), (201, false)] {
         assert!(rt; count <= pairs.len());
-        let found = Move::from_pairs(&pairs[..count]);
-        assert_eq!(rt; found.is_some(), is_move, "at {count}");
-        if let Some(found) = found {
+        let found = Move::try_from(&pairs[..count]);
+        assert_eq!(rt; found.is_ok(), is_move, "at {count}");
+        if let Ok(found) = found {
             assert_eq!(rt; found.len(), count);
             assert_eq!(rt; found.is_full(), count == MAX_PAIRS);
             assert_eq!(rt; found.first(), pair(7, 9));

@@ -8,13 +8,13 @@ use Rattle.std.proofs.lemmas.List.Elements.{All-append, All-take, All-drop}
 use Rattle.rbg_wire.specs.declared.cursor.Cursor.{Cursor}
 use Rattle.rbg_wire.specs.Bytes.{LacksByte, IsFirstPlace}
 use Rattle.rbg_wire.specs.Cursors.{IsCursorOf, IsEnd, unread}
-use Rattle.rbg_wire.specs.Streams.{complete, too_long, Rest, incomplete, dropping, behind, cut}
+use Rattle.rbg_wire.specs.Streams.{complete, too_long, Rest, incomplete, dropping, after_items, cut}
 use Rattle.rbg_wire.proofs.CutLemmas.{cut-append, cut-none, cut-room, cut-message, cut-too_long, cut-dropping, cut-dropped}
 
 pub drop_from : (bytes : List ℕ) (start looked : ℕ) → start ≤ looked → drop (looked - start) (drop start bytes) ≡ drop looked bytes
 drop_from bytes start looked ordered = let sum : start + (looked - start) ≡ looked = omega arith in drop-drop (looked - start) start bytes ∙ ap (λ n. drop n bytes) sum
 
--- what is behind a start is what was looked at, and the others
+-- the bytes after a start are those that were looked at, and the others
 pub looked_parts : (bytes : List ℕ) (start looked : ℕ) → start ≤ looked → drop start bytes ≡ slice_range bytes start looked ++ drop looked bytes
 looked_parts bytes start looked ordered =
     sym (take-append-drop (looked - start) (drop start bytes)) ∙ ap (λ r. slice_range bytes start looked ++ r) (drop_from bytes start looked ordered)
@@ -24,7 +24,7 @@ range_more bytes start looked at ordered =
     let sum : (looked + at) - start ≡ (looked - start) + at = omega arith in
     ap (λ n. take n (drop start bytes)) sum ∙ (take-add (looked - start) at (drop start bytes) ∙ ap (λ r. slice_range bytes start looked ++ take at r) (drop_from bytes start looked ordered))
 
--- where the first zero byte behind what was looked at stands, the first one behind the start does
+-- the first zero byte after the bytes that were looked at is the first one after the start
 pub looked_end : (cursor : Cursor) (bytes : List ℕ) (at : ℕ) → IsCursorOf cursor bytes → IsFirstPlace 0 (drop cursor.looked bytes) at → IsEnd bytes cursor.start (cursor.looked + at)
 looked_end cursor bytes at h place =
     let more = range_more bytes cursor.start cursor.looked at h.ordered in
@@ -42,7 +42,7 @@ looked_end cursor bytes at h place =
       clear = subst (LacksByte 0) (sym more) (All-append (λ other. other ≢ 0) seen (take at left) h.clear place.first);
     }
 
--- where no zero byte is left, none stands behind the start
+-- where no zero byte is left, none is after the start
 pub looked_none : (cursor : Cursor) (bytes : List ℕ) → IsCursorOf cursor bytes → LacksByte 0 (drop cursor.looked bytes) → LacksByte 0 (drop cursor.start bytes)
 looked_none cursor bytes h lacks = subst (LacksByte 0) (sym (looked_parts bytes cursor.start cursor.looked h.ordered)) (All-append (λ other. other ≢ 0) (slice_range bytes cursor.start cursor.looked) (drop cursor.looked bytes) h.clear lacks)
 
@@ -57,7 +57,7 @@ cursor_at_all bytes start d ordered lacks = record {
 pub cursor_at_end : (bytes : List ℕ) (start end : ℕ) (d : Bool) → IsEnd bytes start end → IsCursorOf (record { start = start; looked = end; dropping = d }) bytes
 cursor_at_end bytes start end d h = record { ordered = h.ordered; within = omega (arith, h.within); clear = h.clear }
 
--- dropping goes on to the end of the bytes, or ends behind a zero byte
+-- dropping goes on to the end of the bytes, or ends after a zero byte
 pub skipped_all : (limit : ℕ) (bytes : List ℕ) (start end : ℕ) → LacksByte 0 (drop start bytes) → length bytes ≤ end → cut limit dropping (drop end bytes) ≡ cut limit dropping (drop start bytes)
 skipped_all limit bytes start end lacks past = ap (cut limit dropping) (drop_all end bytes past) ∙ (cut-none limit dropping ∙ sym (cut-dropping limit (drop start bytes) lacks))
 
@@ -84,7 +84,7 @@ cursor_too_long bytes limit cursor h over = record {
   clear = subst (LacksByte 0) (sym (range_later bytes cursor.start (limit + 1) cursor.looked (omega (arith, h.ordered)))) (All-drop (λ other. other ≢ 0) (limit + 1) (slice_range bytes cursor.start cursor.looked) h.clear);
 }
 
-pub passed_too_long : (bytes : List ℕ) (limit : ℕ) (cursor : Cursor) → IsCursorOf cursor bytes → limit < cursor.looked - cursor.start → cut limit (incomplete []) (drop cursor.start bytes) ≡ behind (too_long ∷ []) (cut limit dropping (drop (cursor.start + (limit + 1)) bytes))
+pub passed_too_long : (bytes : List ℕ) (limit : ℕ) (cursor : Cursor) → IsCursorOf cursor bytes → limit < cursor.looked - cursor.start → cut limit (incomplete []) (drop cursor.start bytes) ≡ after_items (too_long ∷ []) (cut limit dropping (drop (cursor.start + (limit + 1)) bytes))
 passed_too_long bytes limit cursor h over =
     let text = slice_range bytes cursor.start (cursor.start + (limit + 1)) in
     let rest = drop (cursor.start + (limit + 1)) bytes in
@@ -93,14 +93,14 @@ passed_too_long bytes limit cursor h over =
     let long : length text ≡ limit + 1 = length-between bytes cursor.start (cursor.start + (limit + 1)) (omega (arith, h.ordered, h.within)) ∙ omega arith in
     ap (cut limit (incomplete [])) (looked_parts bytes cursor.start (cursor.start + (limit + 1)) (omega arith))
     ∙ (cut-append limit (incomplete []) text rest
-    ∙ ap (λ c. behind c.items (cut limit c.rest rest)) (cut-too_long limit [] text lacks (omega arith) (omega (arith, long))))
+    ∙ ap (λ c. after_items c.items (cut limit c.rest rest)) (cut-too_long limit [] text lacks (omega arith) (omega (arith, long))))
 
-pub passed_message : (bytes : List ℕ) (limit start end : ℕ) → IsEnd bytes start end → end - start ≤ limit → cut limit (incomplete []) (drop start bytes) ≡ behind (complete (slice_range bytes start end) ∷ []) (cut limit (incomplete []) (drop (end + 1) bytes))
+pub passed_message : (bytes : List ℕ) (limit start end : ℕ) → IsEnd bytes start end → end - start ≤ limit → cut limit (incomplete []) (drop start bytes) ≡ after_items (complete (slice_range bytes start end) ∷ []) (cut limit (incomplete []) (drop (end + 1) bytes))
 passed_message bytes limit start end h fits =
     ap (cut limit (incomplete [])) h.parts
     ∙ cut-message limit (slice_range bytes start end) (drop (end + 1) bytes) h.clear (omega (arith, length-between bytes start end (omega (arith, h.within))))
 
--- where no zero byte stands and the limit isn't passed, nothing is complete
+-- without a zero byte and within the limit nothing is complete
 pub nothing_complete : (bytes : List ℕ) (limit start : ℕ) → LacksByte 0 (drop start bytes) → length bytes - start ≤ limit → (cut limit (incomplete []) (drop start bytes)).items ≡ []
 nothing_complete bytes limit start lacks room = ap (λ c. c.items) (cut-room limit [] (drop start bytes) lacks (omega (arith, length-drop start bytes)))
 
@@ -110,7 +110,7 @@ nothing_left limit cursor bytes none =
     let rest : Rest = cond cursor.dropping dropping (incomplete []) in
     ap (λ c. c.items) (ap (cut limit rest) none ∙ cut-none limit rest)
 
--- more bytes behind the buffer
+-- more bytes after the buffer
 pub range-append : (bytes piece : List ℕ) (start end : ℕ) → start ≤ end → end ≤ length bytes → slice_range (bytes ++ piece) start end ≡ slice_range bytes start end
 range-append bytes piece start end ordered within =
     ap (take (end - start)) (drop-append-le start bytes piece (omega arith)) ∙ take-append-le (end - start) (drop start bytes) piece (omega (arith, length-drop start bytes))
@@ -122,7 +122,7 @@ cursor-append cursor bytes piece h = record {
   clear = subst (LacksByte 0) (sym (range-append bytes piece cursor.start cursor.looked h.ordered h.within)) h.clear;
 }
 
-pub unread-append : (limit : ℕ) (cursor : Cursor) (bytes piece : List ℕ) → IsCursorOf cursor bytes → unread limit cursor (bytes ++ piece) ≡ behind (unread limit cursor bytes).items (cut limit (unread limit cursor bytes).rest piece)
+pub unread-append : (limit : ℕ) (cursor : Cursor) (bytes piece : List ℕ) → IsCursorOf cursor bytes → unread limit cursor (bytes ++ piece) ≡ after_items (unread limit cursor bytes).items (cut limit (unread limit cursor bytes).rest piece)
 unread-append limit cursor bytes piece h =
     let rest : Rest = cond cursor.dropping dropping (incomplete []) in
     ap (cut limit rest) (drop-append-le cursor.start bytes piece (omega (arith, h.ordered, h.within))) ∙ cut-append limit rest (drop cursor.start bytes) piece

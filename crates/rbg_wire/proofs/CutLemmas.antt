@@ -4,21 +4,21 @@ use Rattle.std.proofs.lemmas.Bool.{cases_lt, lt-ltb, le-ltb}
 use Rattle.std.proofs.lemmas.List.Elements.{All-head, All-tail}
 use Rattle.std.proofs.lemmas.List.{nil_from_length}
 use Rattle.rbg_wire.specs.Bytes.{LacksByte}
-use Rattle.rbg_wire.specs.Streams.{Item, complete, too_long, Rest, incomplete, dropping, Cut, next_byte, behind, cut}
+use Rattle.rbg_wire.specs.Streams.{Item, complete, too_long, Rest, incomplete, dropping, Cut, next_byte, after_items, cut}
 use Rattle.rbg_wire.proofs.WordLemmas.{different_byte}
 
-pub behind-behind : (items more : List Item) (c : Cut) → behind (items ++ more) c ≡ behind items (behind more c)
-behind-behind items more c = λ i. record { items = append_assoc items more c.items i; rest = c.rest }
+pub after_items-after_items : (items more : List Item) (c : Cut) → after_items (items ++ more) c ≡ after_items items (after_items more c)
+after_items-after_items items more c = λ i. record { items = append_assoc items more c.items i; rest = c.rest }
 
--- What bytes complete behind others is what they complete behind the rest of those.
-pub cut-append : (limit : ℕ) (rest : Rest) (a b : List ℕ) → cut limit rest (a ++ b) ≡ behind (cut limit rest a).items (cut limit (cut limit rest a).rest b)
+-- What bytes complete after others is what they complete after the rest of those.
+pub cut-append : (limit : ℕ) (rest : Rest) (a b : List ℕ) → cut limit rest (a ++ b) ≡ after_items (cut limit rest a).items (cut limit (cut limit rest a).rest b)
 unfolding cut
 cut-append limit rest [] b = refl
 cut-append limit rest (byte ∷ a) b =
     let first = next_byte limit rest byte in
-    ap (behind first.items) (cut-append limit first.rest a b) ∙ sym (behind-behind first.items (cut limit first.rest a).items (cut limit (cut limit first.rest a).rest b))
+    ap (after_items first.items) (cut-append limit first.rest a b) ∙ sym (after_items-after_items first.items (cut limit first.rest a).items (cut limit (cut limit first.rest a).rest b))
 
--- one byte behind a message that is begun
+-- one byte after a message that is begun
 pub next_kept : (limit : ℕ) (bytes : List ℕ) (byte : ℕ) → byte ≢ 0 → length bytes < limit → next_byte limit (incomplete bytes) byte ≡ record { items = []; rest = incomplete (bytes ++ byte ∷ []) }
 next_kept limit bytes byte some room = rw (different_byte 0 byte some, lt-ltb (length bytes) limit room) refl
 
@@ -28,10 +28,10 @@ next_too_long limit bytes byte some full = rw (different_byte 0 byte some, le-lt
 pub next_dropped : (limit : ℕ) (byte : ℕ) → byte ≢ 0 → next_byte limit dropping byte ≡ record { items = []; rest = dropping }
 next_dropped limit byte some = rw (different_byte 0 byte some) refl
 
--- a byte, and the bytes behind it
-cut-step : (limit : ℕ) (rest : Rest) (byte : ℕ) (bytes : List ℕ) (first : Cut) → next_byte limit rest byte ≡ first → cut limit rest (byte ∷ bytes) ≡ behind first.items (cut limit first.rest bytes)
+-- a byte, and the bytes after it
+cut-step : (limit : ℕ) (rest : Rest) (byte : ℕ) (bytes : List ℕ) (first : Cut) → next_byte limit rest byte ≡ first → cut limit rest (byte ∷ bytes) ≡ after_items first.items (cut limit first.rest bytes)
 unfolding cut
-cut-step limit rest byte bytes first same = ap (λ f. behind f.items (cut limit f.rest bytes)) same
+cut-step limit rest byte bytes first same = ap (λ f. after_items f.items (cut limit f.rest bytes)) same
 
 pub cut-none : (limit : ℕ) (rest : Rest) → cut limit rest [] ≡ record { items = []; rest = rest }
 unfolding cut
@@ -47,10 +47,10 @@ cut-room limit bytes (byte ∷ text) lacks room =
     ∙ ap (λ b. record { items = []; rest = incomplete b }) (append_assoc bytes (byte ∷ []) text))
 
 -- a zero byte completes the message before it
-pub cut-message : (limit : ℕ) (text rest : List ℕ) → LacksByte 0 text → length text ≤ limit → cut limit (incomplete []) (text ++ 0 ∷ rest) ≡ behind (complete text ∷ []) (cut limit (incomplete []) rest)
+pub cut-message : (limit : ℕ) (text rest : List ℕ) → LacksByte 0 text → length text ≤ limit → cut limit (incomplete []) (text ++ 0 ∷ rest) ≡ after_items (complete text ∷ []) (cut limit (incomplete []) rest)
 cut-message limit text rest lacks room =
     cut-append limit (incomplete []) text (0 ∷ rest)
-    ∙ (ap (λ c. behind c.items (cut limit c.rest (0 ∷ rest))) (cut-room limit [] text lacks (omega arith))
+    ∙ (ap (λ c. after_items c.items (cut limit c.rest (0 ∷ rest))) (cut-room limit [] text lacks (omega arith))
     ∙ cut-step limit (incomplete text) 0 rest (record { items = complete text ∷ []; rest = incomplete [] }) refl)
 
 -- one byte too much
@@ -64,7 +64,7 @@ cut-too_long limit bytes (byte ∷ text) lacks fits whole =
           ∙ cut-too_long limit (bytes ++ byte ∷ []) text more (omega (arith, length-append bytes (byte ∷ []))) (omega (arith, length-append bytes (byte ∷ [])))
       | inr full ↦ (let last : text ≡ [] = nil_from_length text (omega arith) in
           cut-step limit (incomplete bytes) byte text _ (next_too_long limit bytes byte some full)
-          ∙ ap (λ b. behind (too_long ∷ []) (cut limit dropping b)) last ∙ ap (behind (too_long ∷ [])) (cut-none limit dropping))
+          ∙ ap (λ b. after_items (too_long ∷ []) (cut limit dropping b)) last ∙ ap (after_items (too_long ∷ [])) (cut-none limit dropping))
     ]
 
 -- what is dropped completes nothing
@@ -78,5 +78,5 @@ cut-dropping limit (byte ∷ text) lacks =
 pub cut-dropped : (limit : ℕ) (text rest : List ℕ) → LacksByte 0 text → cut limit dropping (text ++ 0 ∷ rest) ≡ cut limit (incomplete []) rest
 cut-dropped limit text rest lacks =
     cut-append limit dropping text (0 ∷ rest)
-    ∙ (ap (λ c. behind c.items (cut limit c.rest (0 ∷ rest))) (cut-dropping limit text lacks)
+    ∙ (ap (λ c. after_items c.items (cut limit c.rest (0 ∷ rest))) (cut-dropping limit text lacks)
     ∙ cut-step limit dropping 0 rest (record { items = []; rest = incomplete [] }) refl)

@@ -1,6 +1,6 @@
 -- The laws of messages and streams.
-use Rattle.std.proofs.Common.{◌≡◌, ◌≢◌, ℕ, ◌+◌, ◌<◌, ◌≤◌, ◌^◌, Bool, true, false, List, [], ◌∷◌, ◌++◌, length, take, drop, decimal, codes, All, ap, sym, ◌∙◌, refl, subst, arith, append_assoc, inl, inr}
-use Rattle.std.specs.Prelude.{nat_le, IsTrue, ◌&&◌}
+use Rattle.std.proofs.Common.{◌≡◌, ◌≢◌, ℕ, ◌+◌, ◌<◌, ◌≤◌, ◌^◌, true, false, List, [], ◌∷◌, ◌++◌, length, take, drop, decimal, codes, All, ap, sym, ◌∙◌, refl, subst, arith, append_assoc, inl, inr}
+use Rattle.std.specs.Prelude.{nat_le, IsTrue}
 use Rattle.std.specs.List.{flat_map, list_all}
 use Rattle.std.proofs.lemmas.Bool.{cases_lt}
 use Rattle.std.proofs.lemmas.Grind.{common_steps}
@@ -12,12 +12,13 @@ use Rattle.rbg_wire.specs.Bytes.{LacksByte}
 use Rattle.rbg_wire.specs.Laws.{SpellingsAreApart, item_for, ItemsAreTexts, SpellingsAreItems, TooLongComesOnce, RestsStayShort}
 use Rattle.rbg_wire.specs.Messages.{AbstractMessage, who_message, game_message, limits_message, move_message, refusal_message, end_message, HasSpelling, message_text, spelling, outcome_text, OutcomeHasSpelling, pairs_text, pair_text, IsShortPair, reason_number}
 use Rattle.rbg_base.specs.Names.{is_name, is_name_part, is_name_start}
-use Rattle.rbg_wire.specs.Streams.{complete, too_long, Rest, incomplete, dropping, behind, cut, IsRest, next_byte}
+use Rattle.rbg_wire.specs.Streams.{complete, too_long, Rest, incomplete, dropping, after_items, cut, IsRest, next_byte}
 use Rattle.rbg_wire.proofs.CutLemmas.{cut-append, cut-none, cut-message, cut-too_long, cut-dropping, cut-dropped, next_kept, next_too_long, next_dropped}
 use Rattle.rbg_wire.proofs.MessageLemmas.{one_message, reason_number-small}
+use Rattle.std.proofs.lemmas.Bool.{and_parts}
 use Rattle.rbg_wire.proofs.NumberLemmas.{lacks_byte-decimal}
 
--- A text of many bytes is what is one byte too long, and more.
+-- A text of more bytes than the limit is too long after one byte more than the limit.
 over : (limit : ℕ) (text : List ℕ) → LacksByte 0 text → limit < length text → cut limit (incomplete []) (take (limit + 1) text) ≡ record { items = too_long ∷ []; rest = dropping }
 over limit text lacks long =
     cut-too_long limit [] (take (limit + 1) text) (All-take (λ other. other ≢ 0) (limit + 1) text lacks) (omega arith) (omega (arith, length-take-le (limit + 1) text (omega arith)))
@@ -27,17 +28,17 @@ too_long_once limit text lacks long =
     let back = drop (limit + 1) text in
     ap (cut limit (incomplete [])) (sym (take-append-drop (limit + 1) text))
     ∙ (cut-append limit (incomplete []) (take (limit + 1) text) back
-    ∙ (ap (λ c. behind c.items (cut limit c.rest back)) (over limit text lacks long)
-    ∙ ap (behind (too_long ∷ [])) (cut-dropping limit back (All-drop (λ other. other ≢ 0) (limit + 1) text lacks))))
+    ∙ (ap (λ c. after_items c.items (cut limit c.rest back)) (over limit text lacks long)
+    ∙ ap (after_items (too_long ∷ [])) (cut-dropping limit back (All-drop (λ other. other ≢ 0) (limit + 1) text lacks))))
 
 -- a text with more bytes than the limit, with its zero byte
-too_long_whole : (limit : ℕ) (text rest : List ℕ) → LacksByte 0 text → limit < length text → cut limit (incomplete []) (text ++ 0 ∷ rest) ≡ behind (too_long ∷ []) (cut limit (incomplete []) rest)
+too_long_whole : (limit : ℕ) (text rest : List ℕ) → LacksByte 0 text → limit < length text → cut limit (incomplete []) (text ++ 0 ∷ rest) ≡ after_items (too_long ∷ []) (cut limit (incomplete []) rest)
 too_long_whole limit text rest lacks long =
     cut-append limit (incomplete []) text (0 ∷ rest)
-    ∙ (ap (λ c. behind c.items (cut limit c.rest (0 ∷ rest))) (too_long_once limit text lacks long)
-    ∙ ap (behind (too_long ∷ [])) (cut-dropped limit [] rest (All-nil (λ other. other ≢ 0))))
+    ∙ (ap (λ c. after_items c.items (cut limit c.rest (0 ∷ rest))) (too_long_once limit text lacks long)
+    ∙ ap (after_items (too_long ∷ [])) (cut-dropped limit [] rest (All-nil (λ other. other ≢ 0))))
 
-one_item : (limit : ℕ) (text rest : List ℕ) → LacksByte 0 text → cut limit (incomplete []) (text ++ 0 ∷ rest) ≡ behind (item_for limit text ∷ []) (cut limit (incomplete []) rest)
+one_item : (limit : ℕ) (text rest : List ℕ) → LacksByte 0 text → cut limit (incomplete []) (text ++ 0 ∷ rest) ≡ after_items (item_for limit text ∷ []) (cut limit (incomplete []) rest)
 one_item limit text rest lacks = elim (cases_lt limit (length text)) [
   | inl long ↦ (let test : nat_le (length text) limit ≡ false = grind (arith, common_steps) in rw test (too_long_whole limit text rest lacks long))
   | inr fits ↦ (let test : nat_le (length text) limit ≡ true = grind (arith, common_steps) in rw test (cut-message limit text rest lacks fits))
@@ -48,9 +49,9 @@ texts limit [] lack = cut-none limit (incomplete [])
 texts limit (text ∷ more) lack =
     ap (cut limit (incomplete [])) (append_assoc text (0 ∷ []) (flat_map (λ t. t ++ 0 ∷ []) more))
     ∙ (one_item limit text (flat_map (λ t. t ++ 0 ∷ []) more) (All-head (LacksByte 0) text more lack)
-    ∙ ap (behind (item_for limit text ∷ [])) (texts limit more (All-tail (LacksByte 0) text more lack)))
+    ∙ ap (after_items (item_for limit text ∷ [])) (texts limit more (All-tail (LacksByte 0) text more lack)))
 
--- one byte behind a rest
+-- one byte after a rest
 rest_more : (limit : ℕ) (rest : Rest) (byte : ℕ) → IsRest limit rest → IsRest limit (next_byte limit rest byte).rest
 rest_more limit (incomplete bytes) byte h = elim (cases_lt 0 byte) [
   | inl above ↦ (let some : byte ≢ 0 = λ zero. absurd (omega arith) in elim (cases_lt (length bytes) limit) [
@@ -114,10 +115,6 @@ outcome_some (Gone player) h = kind_some 51 player (λ e. absurd (omega arith)) 
 outcome_some Heavy h = lacks-cons 69 (52 ∷ []) (λ e. absurd (omega arith)) (lacks-cons 52 [] (λ e. absurd (omega arith)) (All-nil (λ other. other ≢ 0)))
 
 -- no byte of a name is zero
-both : (a b : Bool) → (a && b) ≡ true → (a ≡ true) × (b ≡ true)
-both true b h = (refl, h)
-both false b h = let apart : false ≡ true = h in cc
-
 part_some : (byte : ℕ) → is_name_part byte ≡ true → byte ≢ 0
 part_some byte h zero = let apart : false ≡ true = subst (λ b. is_name_part b ≡ true) zero h in cc
 
@@ -127,13 +124,13 @@ start_some byte h zero = let apart : false ≡ true = subst (λ b. is_name_start
 parts_some : (bytes : List ℕ) → list_all is_name_part bytes ≡ true → LacksByte 0 bytes
 parts_some [] h = All-nil (λ other. other ≢ 0)
 parts_some (byte ∷ bytes) h =
-    let tests = both (is_name_part byte) (list_all is_name_part bytes) h in
+    let tests = and_parts (is_name_part byte) (list_all is_name_part bytes) h in
     lacks-cons byte bytes (part_some byte tests.0) (parts_some bytes tests.1)
 
 name_some : (name : List ℕ) → IsTrue (is_name name) → LacksByte 0 name
 name_some [] h = All-nil (λ other. other ≢ 0)
 name_some (byte ∷ bytes) h =
-    let tests = both (is_name_start byte) (list_all is_name_part bytes) h in
+    let tests = and_parts (is_name_start byte) (list_all is_name_part bytes) h in
     lacks-cons byte bytes (start_some byte tests.0) (parts_some bytes tests.1)
 
 pub message_some : (message : AbstractMessage) → HasSpelling message → LacksByte 0 (message_text message)
@@ -149,7 +146,7 @@ message_some (move_message pairs) h = lacks-cons 77 (pairs_text pairs) (λ e. ab
 message_some (refusal_message reason) h = lacks-cons 82 (decimal (reason_number reason)) (λ e. absurd (omega arith)) (digits_some (reason_number reason) (omega (arith, (reason_number-small reason).1)))
 message_some (end_message outcome) h = outcome_some outcome h
 
--- what stands before the first zero byte
+-- the text before the first zero byte
 same_front : (a b x y : List ℕ) → LacksByte 0 a → LacksByte 0 b → a ++ 0 ∷ x ≡ b ++ 0 ∷ y → (a ≡ b) × (x ≡ y)
 same_front [] [] x y h k same = let parts : 0 ∷ x ≡ 0 ∷ y = same in (refl, cc)
 same_front [] (c ∷ b) x y h k same = let parts : 0 ∷ x ≡ c ∷ (b ++ 0 ∷ y) = same in absurd (All-head (λ other. other ≢ 0) c b k (cc))
@@ -175,4 +172,4 @@ spelled_items limit [] has fit = cut-none limit (incomplete [])
 spelled_items limit (message ∷ messages) has fit =
     ap (cut limit (incomplete [])) (spelling-append message (flat_map spelling messages))
     ∙ (cut-message limit (message_text message) (flat_map spelling messages) (message_some message (All-head HasSpelling message messages has)) (All-head (λ m. length (message_text m) ≤ limit) message messages fit)
-    ∙ ap (behind (complete (message_text message) ∷ [])) (spelled_items limit messages (All-tail HasSpelling message messages has) (All-tail (λ m. length (message_text m) ≤ limit) message messages fit)))
+    ∙ ap (after_items (complete (message_text message) ∷ [])) (spelled_items limit messages (All-tail HasSpelling message messages has) (All-tail (λ m. length (message_text m) ≤ limit) message messages fit)))

@@ -1,3 +1,4 @@
+-- What the proofs of this crate share.
 pub mod CursorLemmas
 pub mod CutLemmas
 pub mod InboxLemmas

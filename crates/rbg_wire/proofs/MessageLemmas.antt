@@ -1,4 +1,4 @@
--- Messages and the text that tells them.
+-- Messages and their texts.
 use Rattle.std.proofs.Common.{◌≡◌, ◌≢◌, ℕ, ◌+◌, ◌<◌, ◌≤◌, ◌^◌, List, [], ◌∷◌, ◌++◌, length, take, drop, subst, decimal, codes, ap, sym, ◌∙◌, refl, arith, append_assoc, cond, Result, Ok, Err, ◌↔◌, IsErrOf, IsOkAnd}
 use Rattle.std.specs.Prelude.{◌==◌}
 use Rattle.rbg_wire.specs.declared.error.WireError.{WireError}
@@ -17,7 +17,7 @@ use Rattle.rbg_wire.specs.Reading.{SpellsMessage, SpellsMove, SpellsPairs, Spell
 use Rattle.rbg_wire.proofs.NumberLemmas.{lacks_byte-decimal}
 use Rattle.rbg_wire.proofs.OutcomeLemmas.{outcome_text-kind, one_outcome}
 use Rattle.rbg_wire.proofs.PairLemmas.{one_spelled, SpellsMove-pairs}
-use Rattle.rbg_wire.proofs.WordLemmas.{words_behind, same_words, some_word}
+use Rattle.rbg_wire.proofs.WordLemmas.{words_after, same_words, some_word}
 
 who_text : (player : ℕ) (name : List ℕ) → message_text (who_message player name) ≡ 87 ∷ (decimal player ++ 32 ∷ name)
 unfolding message_text
@@ -43,7 +43,7 @@ end_text : (outcome : Outcome) → message_text (end_message outcome) ≡ outcom
 unfolding message_text
 end_text outcome = refl
 
--- A message that is spelled so has the letter and the fields of its kind.
+-- A message with this text has the letter and the fields of its kind.
 pub message_cases : (P : AbstractMessage → Type 0) (letter : ℕ) (rest : List ℕ)
     → ((player : ℕ) (name : List ℕ) → letter ≡ 87 → SpellsWho rest player name → P (who_message player name))
     → ((text : List ℕ) → letter ≡ 71 → LacksByte 0 text → rest ≡ text → P (game_message text))
@@ -76,7 +76,7 @@ message_cases P letter rest who game limits move refusal end (end_message outcom
     let is : letter ≡ 69 = cc in
     end outcome is (record { has = h.has; is = ap (λ l. l ∷ rest) (sym is) ∙ (h.is ∙ end_text outcome) })
 
--- and what has the letter and the fields of a kind is spelled so
+-- and the letter and the fields of a kind are the text of a message
 pub spells_who : (rest : List ℕ) (player : ℕ) (name : List ℕ) → SpellsWho rest player name → SpellsMessage (87 ∷ rest) (who_message player name)
 spells_who rest player name h = record { has = h.has; is = ap (λ t. 87 ∷ t) h.is ∙ sym (who_text player name) }
 
@@ -110,7 +110,7 @@ no_empty_message text none message h =
     let counted : length text ≡ length parts.1 + 1 = ap length (h.is ∙ parts.2) ∙ omega arith in
     absurd (omega arith)
 
--- A message with a kind's letter has that kind's fields, or the text tells none.
+-- A text with the letter of a kind has the fields of that kind, or is the text of no message.
 pub no_who : (rest : List ℕ) → ((player : ℕ) (name : List ℕ) → SpellsWho rest player name → ⊥) → (message : AbstractMessage) → SpellsMessage (87 ∷ rest) message → ⊥
 no_who rest none = message_cases (λ _. ⊥) 87 rest (λ player name e h. none player name h) (λ text e l h. absurd (omega arith)) (λ t r e h. absurd (omega arith)) (λ ps e h. absurd (omega arith)) (λ r e h. absurd (omega arith)) (λ o e h. absurd (omega arith))
 
@@ -132,11 +132,11 @@ no_end rest none = message_cases (λ _. ⊥) 69 rest (λ player name e h. absurd
 pub no_letter : (letter : ℕ) (rest : List ℕ) → letter ≢ 87 → letter ≢ 71 → letter ≢ 76 → letter ≢ 77 → letter ≢ 82 → letter ≢ 69 → (message : AbstractMessage) → SpellsMessage (letter ∷ rest) message → ⊥
 no_letter letter rest who game limits move refusal end = message_cases (λ _. ⊥) letter rest (λ player name e h. who e) (λ text e l h. game e) (λ t r e h. limits e) (λ ps e h. move e) (λ r e h. refusal e) (λ o e h. end e)
 
--- a byte that stands in a text isn't lacking
+-- a text does not lack a byte that occurs in it
 pub first_stands : (byte : ℕ) (text : List ℕ) (at : ℕ) → IsFirstPlace byte text at → LacksByte byte text → ⊥
 first_stands byte text at place lacks =
-    let behind = subst (LacksByte byte) place.parts lacks in
-    let later = All-drop (λ other. other ≢ byte) (length (take at text)) (take at text ++ byte ∷ drop (at + 1) text) behind in
+    let others = subst (LacksByte byte) place.parts lacks in
+    let later = All-drop (λ other. other ≢ byte) (length (take at text)) (take at text ++ byte ∷ drop (at + 1) text) others in
     let here = subst (LacksByte byte) (drop-append_seam (take at text) (byte ∷ drop (at + 1) text)) later in
     All-head (λ other. other ≢ byte) byte (drop (at + 1) text) here refl
 
@@ -150,15 +150,15 @@ reason_number-small MoveTooLong = (omega arith, omega arith)
 pub same_reason : (text : List ℕ) (n : ℕ) (reason : Reason) → n < 2 ^ 64 → text ≡ decimal n → text ≡ decimal (reason_number reason) → n ≡ reason_number reason
 same_reason text n reason small is spelled = decimal_injective n (reason_number reason) small (omega (arith, (reason_number-small reason).1)) (sym is ∙ spelled)
 
--- The parts before and behind the first space are those of the text that is spelled.
+-- The parts before and after the first space are those of the text that is spelled.
 pub same_parts : (text word rest a b : List ℕ) → words_of text ≡ word ∷ words_of rest → LacksByte 32 a → text ≡ a ++ 32 ∷ b → (word ≡ a) × (rest ≡ b)
 same_parts text word rest a b cut lacks is =
-    let same : word ∷ words_of rest ≡ a ∷ words_of b = sym cut ∙ (ap words_of is ∙ words_behind a b lacks) in
+    let same : word ∷ words_of rest ≡ a ∷ words_of b = sym cut ∙ (ap words_of is ∙ words_after a b lacks) in
     (cc, same_words rest b cc)
 
 pub no_parts : (text a b : List ℕ) → words_of text ≡ text ∷ [] → LacksByte 32 a → text ≡ a ++ 32 ∷ b → ⊥
 no_parts text a b whole lacks is =
-    let same : text ∷ [] ≡ a ∷ words_of b = sym whole ∙ (ap words_of is ∙ words_behind a b lacks) in
+    let same : text ∷ [] ≡ a ∷ words_of b = sym whole ∙ (ap words_of is ∙ words_after a b lacks) in
     some_word b (cc)
 
 pub number_lacks_space : (n : ℕ) → n < 2 ^ 64 → LacksByte 32 (decimal n)
@@ -167,7 +167,7 @@ number_lacks_space n small = lacks_byte-decimal 32 n (omega arith) small
 pub with_number : (text word rest : List ℕ) (n : ℕ) → text ≡ word ++ 32 ∷ rest → word ≡ decimal n → text ≡ decimal n ++ 32 ∷ rest
 with_number text word rest n parts is = parts ∙ ap (λ w. w ++ 32 ∷ rest) is
 
--- what reading pairs answers, as what reading the message does
+-- what reading pairs returns, as what reading the message returns
 pub reads_pairs_err : (text rest : List ℕ) (e : WireError) (answer : Result Message WireError) → text ≡ 77 ∷ rest → answer ≡ Err e → ReadsPairs (SpellsPairs rest) (Err e) → ReadsMessage text answer
 reads_pairs_err text rest TooManyPairs answer parts same h = rw same (record { pairs = h.pairs; spelled = SpellsMove-pairs text rest h.pairs parts h.spelled; more = h.more })
 reads_pairs_err text rest Malformed answer parts same h = rw same (λ message spelled. no_move rest h message (record { has = spelled.has; is = sym parts ∙ spelled.is }))
@@ -178,14 +178,14 @@ reads_pairs_ok text rest pairs parts h = let spelled = spells_move rest pairs h.
 -- fields of one kind
 same_who : (rest : List ℕ) (p q : ℕ) (m n : List ℕ) → SpellsWho rest p m → SpellsWho rest q n → who_message p m ≡ who_message q n
 same_who rest p q m n h k =
-    let words = ap words_of h.is ∙ words_behind (decimal p) m (number_lacks_space p h.has.0) in
+    let words = ap words_of h.is ∙ words_after (decimal p) m (number_lacks_space p h.has.0) in
     let parts = same_parts rest (decimal p) m (decimal q) n words (number_lacks_space q k.has.0) k.is in
     let number : p ≡ q = decimal_injective p q h.has.0 k.has.0 parts.0 in
     λ i. who_message (number i) (parts.1 i)
 
 same_limits : (rest : List ℕ) (a b c d : ℕ) → SpellsLimits rest a b → SpellsLimits rest c d → limits_message a b ≡ limits_message c d
 same_limits rest a b c d h k =
-    let words = ap words_of h.is ∙ words_behind (decimal a) (decimal b) (number_lacks_space a h.has.0) in
+    let words = ap words_of h.is ∙ words_after (decimal a) (decimal b) (number_lacks_space a h.has.0) in
     let parts = same_parts rest (decimal a) (decimal b) (decimal c) (decimal d) words (number_lacks_space c k.has.0) k.is in
     let turn : a ≡ c = decimal_injective a c h.has.0 k.has.0 parts.0 in
     let refusals : b ≡ d = decimal_injective b d h.has.1 k.has.1 parts.1 in
@@ -207,8 +207,8 @@ same_refusal rest a b h k =
     let number : reason_number a ≡ reason_number b = same_reason rest (reason_number a) b (omega (arith, (reason_number-small a).1)) h k in
     ap refusal_message (sym (reason_of-reason_number a) ∙ (ap reason_of number ∙ reason_of-reason_number b))
 
-one_message_behind : (letter : ℕ) (rest : List ℕ) (a b : AbstractMessage) → SpellsMessage (letter ∷ rest) a → SpellsMessage (letter ∷ rest) b → a ≡ b
-one_message_behind letter rest a b h k = message_cases (λ m. m ≡ b) letter rest
+one_message_after : (letter : ℕ) (rest : List ℕ) (a b : AbstractMessage) → SpellsMessage (letter ∷ rest) a → SpellsMessage (letter ∷ rest) b → a ≡ b
+one_message_after letter rest a b h k = message_cases (λ m. m ≡ b) letter rest
     (λ p m is first. message_cases (λ o. who_message p m ≡ o) letter rest
     (λ q n e second. same_who rest p q m n first second)
     (λ text e l h. absurd (omega arith))
@@ -259,14 +259,14 @@ one_message_behind letter rest a b h k = message_cases (λ m. m ≡ b) letter re
     b k)
     a h
 
--- A text tells one message.
+-- A text is that of one message.
 pub one_message : (text : List ℕ) (a b : AbstractMessage) → SpellsMessage text a → SpellsMessage text b → a ≡ b
 one_message text a b h k =
     let parts = message_text-letter a in
     let text_is : text ≡ parts.0 ∷ parts.1 = h.is ∙ parts.2 in
-    one_message_behind parts.0 parts.1 a b (record { has = h.has; is = sym parts.2 }) (record { has = k.has; is = sym text_is ∙ k.is })
+    one_message_after parts.0 parts.1 a b (record { has = h.has; is = sym parts.2 }) (record { has = k.has; is = sym text_is ∙ k.is })
 
--- the clauses of the call, from its answer
+-- the clauses of the call, from its result
 pub message_only : (text : List ℕ) (answer : Result Message WireError) → ReadsMessage text answer → (message : AbstractMessage) → SpellsMessage text message → HasFewPairs message → IsOkAnd answer (λ m. message_of m ≡ message)
 message_only text (Ok m) h message spelled few = one_message text (message_of m) message h.0 spelled
 message_only text (Err TooManyPairs) h message spelled few =

@@ -1,4 +1,4 @@
--- Outcomes and the text that tells them.
+-- Outcomes and their texts.
 use Rattle.std.proofs.Common.{◌≡◌, ℕ, ◌+◌, List, [], ◌∷◌, ◌++◌, length, decimal, codes, Option, Some, None, IfSome, IfNone, ap, sym, ◌∙◌, refl, arith}
 use Rattle.std.specs.List.{flat_map}
 use Rattle.std.proofs.lemmas.Fmt.{decimal_injective}
@@ -28,7 +28,7 @@ pub spells_heavy : (fields : List ℕ) → fields ≡ [] → SpellsOutcome (69 �
 unfolding outcome_text
 spells_heavy fields none = record { has = tt; is = ap (λ f. 69 ∷ 52 ∷ f) none }
 
--- An outcome that is spelled so has one of the five kinds, and the fields of its kind.
+-- An outcome with this text has one of the five kinds, and the fields of its kind.
 pub outcome_cases : (P : Outcome → Type 0) (text : List ℕ) (kind : ℕ) (fields : List ℕ) → text ≡ kind ∷ fields
     → ((scores : List ℕ) → kind ≡ 48 → SpellsScores fields scores → P (Finished scores))
     → ((player : ℕ) → kind ≡ 49 → SpellsPlayer fields player → P (Time player))
@@ -88,10 +88,10 @@ letter_of_outcome text none outcome h = let parts = outcome_text-kind outcome in
 pub same_player : (fields : List ℕ) (p q : ℕ) → SpellsPlayer fields p → SpellsPlayer fields q → p ≡ q
 same_player fields p q h k = let same : 32 ∷ decimal p ≡ 32 ∷ decimal q = sym h.is ∙ k.is in decimal_injective p q h.small k.small cc
 
-pub spelled_behind : (text : List ℕ) (kind is : ℕ) (fields : List ℕ) (outcome : Outcome) → text ≡ kind ∷ fields → kind ≡ is → SpellsOutcome (69 ∷ is ∷ fields) outcome → SpellsOutcome (69 ∷ text) outcome
-spelled_behind text kind is fields outcome parts same h = record { has = h.has; is = ap (λ t. 69 ∷ t) parts ∙ (ap (λ k. 69 ∷ k ∷ fields) same ∙ h.is) }
+pub spelled_after : (text : List ℕ) (kind is : ℕ) (fields : List ℕ) (outcome : Outcome) → text ≡ kind ∷ fields → kind ≡ is → SpellsOutcome (69 ∷ is ∷ fields) outcome → SpellsOutcome (69 ∷ text) outcome
+spelled_after text kind is fields outcome parts same h = record { has = h.has; is = ap (λ t. 69 ∷ t) parts ∙ (ap (λ k. 69 ∷ k ∷ fields) same ∙ h.is) }
 
--- a text tells one outcome
+-- a text is that of one outcome
 pub one_outcome : (text : List ℕ) (a b : Outcome) → SpellsOutcome text a → SpellsOutcome text b → a ≡ b
 unfolding outcome_text
 one_outcome text (Finished scores) b h k =

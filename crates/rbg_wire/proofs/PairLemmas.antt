@@ -91,7 +91,7 @@ same_from_words (p ∷ ps) (q ∷ qs) h k same =
 pub same_pairs : (words : List (List ℕ)) (ps qs : List (ℕ × ℕ)) → ArePairWords words ps → ArePairWords words qs → ps ≡ qs
 same_pairs words ps qs h k = same_from_words ps qs h.short k.short (sym h.are ∙ k.are)
 
--- behind the words of some pairs stand those of others
+-- the words of pairs are followed by those of others
 pub rest_are_pairs : (all : List (ℕ × ℕ)) (left : List (List ℕ)) (qs : List (ℕ × ℕ)) → All IsShortPair qs → pair_words qs ≡ pair_words all ++ left → (rest : List (ℕ × ℕ)) × ArePairWords left rest
 rest_are_pairs [] left qs short same = (qs, record { short = short; are = sym same })
 rest_are_pairs (a ∷ all) left [] short same = let apart : [] ≡ decimal a.0 ∷ decimal a.1 ∷ (pair_words all ++ left) = same in cc
@@ -147,7 +147,7 @@ HasRead-full text pairs too_many left after p h full short next = record {
   stands = stands_full too_many pairs h.all p full h.stands;
 }
 
--- where no word is left, what was read is the answer
+-- where no word is left, the result is what was read
 pub HasRead-spelled : (text : List ℕ) (pairs : List (ℕ × ℕ)) → HasRead text pairs false [] → SpellsPairs text pairs × (length pairs ≤ 200)
 HasRead-spelled text pairs h =
     let spelled : SpellsPairs text h.all = spelled_from_words text h.all (record { short = h.short; are = h.words ∙ append-nil (pair_words h.all) }) in
@@ -171,7 +171,7 @@ HasRead-none text pairs too_many left h none qs spelled =
 pub one_spelled : (text : List ℕ) (ps qs : List (ℕ × ℕ)) → SpellsPairs text ps → SpellsPairs text qs → ps ≡ qs
 one_spelled text ps qs h k = same_pairs (words_of text) ps qs (words_from_spelled text ps h) (words_from_spelled text qs k)
 
--- The clauses of a call that reads pairs, from its answer.
+-- The clauses of a call that reads pairs, from its result.
 module _ (Spells : List (ℕ × ℕ) → Type 0) (one : (ps qs : List (ℕ × ℕ)) → Spells ps → Spells qs → ps ≡ qs) where
   pub reads_found : (answer : Result (List (ℕ × ℕ)) WireError) → ReadsPairs Spells answer → IfOk answer (λ pairs. Spells pairs × (length pairs ≤ 200))
   reads_found (Ok found) h = h
@@ -222,7 +222,7 @@ other_no_move text rest letter parts other pairs h =
 pub one_move : (text : List ℕ) (ps qs : List (ℕ × ℕ)) → SpellsMove text ps → SpellsMove text qs → ps ≡ qs
 one_move text ps qs h k = one_spelled (pairs_text ps) ps qs (record { are = h.are; is = refl }) (SpellsMove-letter text (pairs_text ps) qs (SpellsMove-first text ps h) k)
 
--- what reading the pairs behind the letter answers
+-- what reading the pairs after the letter returns
 pub reads_move : (text rest : List ℕ) (answer : Result (List (ℕ × ℕ)) WireError) → text ≡ 77 ∷ rest → ReadsPairs (SpellsPairs rest) answer → ReadsPairs (SpellsMove text) answer
 reads_move text rest (Ok pairs) parts h = (SpellsMove-pairs text rest pairs parts h.0, h.1)
 reads_move text rest (Err TooManyPairs) parts h = record { pairs = h.pairs; spelled = SpellsMove-pairs text rest h.pairs parts h.spelled; more = h.more }

@@ -22,7 +22,7 @@ spaced_scores : (scores : List ℕ) → flat_map (λ score. codes " " ++ decimal
 spaced_scores [] = refl
 spaced_scores (score ∷ scores) = ap (λ more. 32 ∷ (decimal score ++ more)) (spaced_scores scores)
 
--- the words behind the first space are the scores' digits
+-- the words after the first space are the scores' digits
 words_of-scores : (score : ℕ) (scores : List ℕ) → AreSmall (score ∷ scores) → words_of (decimal score ++ flat_map (λ s. codes " " ++ decimal s) scores) ≡ map decimal (score ∷ scores)
 words_of-scores score scores small =
     let lack = scores_lack_space (score ∷ scores) small in
@@ -72,21 +72,21 @@ HasScores-full text scores word left h full others spelled =
     sym (length-map others decimal) ∙ (ap length same ∙ (length-append (map decimal scores) (word ∷ left) ∙ omega (arith, length-map scores decimal))) in
     absurd (omega (arith, spelled.has.1))
 
--- behind the words of some scores stands no word that is no number
-no_number_behind : (scores others : List ℕ) (word : List ℕ) (left : List (List ℕ)) → ((n : ℕ) → n < 2 ^ 64 → word ≡ decimal n → ⊥) → AreSmall others → map decimal others ≡ map decimal scores ++ word ∷ left → ⊥
-no_number_behind scores [] word left none small same = let counted : 0 ≡ length (map decimal scores) + (length left + 1) = ap length same ∙ length-append (map decimal scores) (word ∷ left) ∙ omega arith in absurd (omega arith)
-no_number_behind [] (other ∷ others) word left none small same =
+-- the words of scores are all numbers
+no_number_after : (scores others : List ℕ) (word : List ℕ) (left : List (List ℕ)) → ((n : ℕ) → n < 2 ^ 64 → word ≡ decimal n → ⊥) → AreSmall others → map decimal others ≡ map decimal scores ++ word ∷ left → ⊥
+no_number_after scores [] word left none small same = let counted : 0 ≡ length (map decimal scores) + (length left + 1) = ap length same ∙ length-append (map decimal scores) (word ∷ left) ∙ omega arith in absurd (omega arith)
+no_number_after [] (other ∷ others) word left none small same =
     let parts : decimal other ∷ map decimal others ≡ word ∷ left = same in
     none other (All-head (λ s. s < 2 ^ 64) other others small) cc
-no_number_behind (score ∷ scores) (other ∷ others) word left none small same =
+no_number_after (score ∷ scores) (other ∷ others) word left none small same =
     let parts : decimal other ∷ map decimal others ≡ decimal score ∷ (map decimal scores ++ word ∷ left) = same in
-    no_number_behind scores others word left none (All-tail (λ s. s < 2 ^ 64) other others small) cc
+    no_number_after scores others word left none (All-tail (λ s. s < 2 ^ 64) other others small) cc
 
 pub HasScores-none : (text : List ℕ) (scores : List ℕ) (word : List ℕ) (left : List (List ℕ)) → HasScores text scores (word ∷ left) → ((n : ℕ) → n < 2 ^ 64 → word ≡ decimal n → ⊥) → (others : List ℕ) → SpellsScores (32 ∷ text) others → ⊥
 HasScores-none text scores word left h none others spelled =
-    no_number_behind scores others word left none spelled.has.2 (sym (words_from_scores text others spelled) ∙ h.words)
+    no_number_after scores others word left none spelled.has.2 (sym (words_from_scores text others spelled) ∙ h.words)
 
--- a text tells one list of scores
+-- a text is the spelling of one list of scores
 same_digits : (ss ts : List ℕ) → AreSmall ss → AreSmall ts → map decimal ss ≡ map decimal ts → ss ≡ ts
 same_digits [] [] h k same = refl
 same_digits [] (t ∷ ts) h k same = let apart : [] ≡ decimal t ∷ map decimal ts = same in cc

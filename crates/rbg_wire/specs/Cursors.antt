@@ -1,4 +1,4 @@
--- How far a buffer of a stream is read.
+-- How much of the buffer of a stream is read.
 use Rattle.std.specs.Prelude.{◌≡◌, ℕ, ◌+◌, ◌<◌, ◌≤◌, cond, List, [], ◌∷◌, ◌++◌, length, drop, slice_range}
 use Rattle.rbg_wire.specs.declared.cursor.Cursor.{Cursor}
 use Rattle.rbg_wire.specs.declared.cursor.Found.{Found}
@@ -6,7 +6,7 @@ use Rattle.rbg_wire.specs.declared.cursor.Found.TheVariants.{Message, TooLong}
 use Rattle.rbg_wire.specs.Bytes.{LacksByte}
 use Rattle.rbg_wire.specs.Streams.{Item, complete, too_long, incomplete, dropping, Cut, cut}
 
--- the cursor is one of this buffer: what is looked at behind its start has no zero byte
+-- the cursor is one of this buffer: the bytes that it has looked at are not zero
 pub record IsCursorOf (cursor : Cursor) (bytes : List ℕ) : Type 0 where
   pub ordered : cursor.start ≤ cursor.looked
   pub within : cursor.looked ≤ length bytes
@@ -16,7 +16,7 @@ pub record IsCursorOf (cursor : Cursor) (bytes : List ℕ) : Type 0 where
 abbrev pub unread : ℕ → Cursor → List ℕ → Cut
 unread limit cursor bytes = cut limit (cond cursor.dropping dropping (incomplete [])) (drop cursor.start bytes)
 
--- the next zero byte behind a start, and what stands before it
+-- the index of the first zero byte after a start
 pub record IsEnd (bytes : List ℕ) (start end : ℕ) : Type 0 where
   pub ordered : start ≤ end
   pub within : end < length bytes
@@ -28,7 +28,7 @@ abbrev pub found_item : List ℕ → Found → Item
 found_item bytes (Message from to) = complete (slice_range bytes from to)
 found_item bytes TooLong = too_long
 
--- it lies in the buffer
+-- it is within the buffer
 abbrev pub IsWithin : List ℕ → Found → Type 0
 IsWithin bytes (Message from to) = (from ≤ to) × (to ≤ length bytes)
 IsWithin bytes TooLong = Unit {0}

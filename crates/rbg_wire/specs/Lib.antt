@@ -1,9 +1,10 @@
+-- Messages and streams.
 pub mod Bytes
 pub mod Cursors
 pub mod Inboxes
 pub mod Laws
+pub mod Limits
 pub mod Messages
-pub mod Numbers
 pub mod Reading
 pub mod Scores
 pub mod Streams

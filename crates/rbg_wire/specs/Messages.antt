@@ -2,6 +2,7 @@
 use Rattle.std.specs.Prelude.{◌≢◌, ℕ, ◌<◌, ◌≤◌, ◌^◌, IsTrue, List, [], ◌∷◌, ◌++◌, length, codes, decimal, All}
 use Rattle.std.specs.List.{flat_map}
 use Rattle.rbg_base.specs.Names.{is_name}
+use Rattle.rbg_wire.specs.Limits.{most_scores}
 use Rattle.rbg_wire.specs.declared.message.Reason.{Reason}
 use Rattle.rbg_wire.specs.declared.message.Reason.TheVariants.{Unreadable, OutOfTurn, NotLegal, MoveTooLong}
 use Rattle.rbg_wire.specs.declared.message.Message.{Message}
@@ -9,7 +10,7 @@ use Rattle.rbg_wire.specs.declared.message.Message.TheVariants.{Who, Game, Limit
 use Rattle.rbg_wire.specs.declared.outcome.Outcome.{Outcome}
 use Rattle.rbg_wire.specs.declared.outcome.Outcome.TheVariants.{Finished, Time, Refusals, Gone, Heavy}
 
--- a message, apart from where its name, text and pairs lie in memory
+-- a message, apart from where its name, text and pairs are in memory
 pub data AbstractMessage : Type 0 where
   who_message : (player : ℕ) (name : List ℕ) → AbstractMessage
   game_message : (text : List ℕ) → AbstractMessage
@@ -26,7 +27,7 @@ message_of (Moved pairs) = move_message pairs
 message_of (Refused reason) = refusal_message reason
 message_of (Ended outcome) = end_message outcome
 
--- a number is spelled by its decimal digits, with no zero in front and no sign: std's `decimal`
+-- A number is spelled in decimal digits, with no leading zero and no sign: std's `decimal`.
 
 -- a vertex and a position, with a space between them
 abbrev pub pair_text : ℕ × ℕ → List ℕ
@@ -50,6 +51,22 @@ reason_number OutOfTurn = 2
 reason_number NotLegal = 3
 reason_number MoveTooLong = 4
 
+-- the letters with which messages begin: `W`, `G`, `L`, `M` and `E`
+abbrev pub who_letter : ℕ
+who_letter = 87
+
+abbrev pub game_letter : ℕ
+game_letter = 71
+
+abbrev pub limits_letter : ℕ
+limits_letter = 76
+
+abbrev pub move_letter : ℕ
+move_letter = 77
+
+abbrev pub end_letter : ℕ
+end_letter = 69
+
 -- the bytes of a message before its zero byte
 unfoldable pub message_text : AbstractMessage → List ℕ
 message_text (who_message player name) = codes "W" ++ decimal player ++ codes " " ++ name
@@ -59,22 +76,29 @@ message_text (move_message pairs) = codes "M" ++ pairs_text pairs
 message_text (refusal_message reason) = codes "R" ++ decimal (reason_number reason)
 message_text (end_message outcome) = outcome_text outcome
 
--- the bytes that spell a message on a stream
+-- the bytes of a message on a stream
 unfoldable pub spelling : AbstractMessage → List ℕ
 spelling message = message_text message ++ 0 ∷ []
 
--- in pairs a number has at most nine digits
-abbrev pub IsShortPair : ℕ × ℕ → Type 0
-IsShortPair p = (p.0 < 10 ^ 9) × (p.1 < 10 ^ 9)
+-- the most digits of a vertex or a position in a message
+abbrev pub most_pair_digits : ℕ
+most_pair_digits = 9
 
--- pairs that have a spelling: at least one, and no number of them has more than nine digits
+-- a vertex and a position with few digits
+abbrev pub IsShortPair : ℕ × ℕ → Type 0
+IsShortPair p = (p.0 < 10 ^ most_pair_digits) × (p.1 < 10 ^ most_pair_digits)
+
+-- pairs that have a spelling: at least one, of short numbers
 pub record ArePairs (pairs : List (ℕ × ℕ)) : Type 0 where
   pub some : 0 < length pairs
   pub short : All IsShortPair pairs
 
--- an outcome that has a spelling: 1 to 8 scores, and a number is at most the greatest u64
+-- an outcome that has a spelling: 1 to 8 scores, and numbers below 2 ^ 64
 abbrev pub OutcomeHasSpelling : Outcome → Type 0
-OutcomeHasSpelling (Finished scores) = (0 < length scores) × (length scores ≤ 8) × All (λ score. score < 2 ^ 64) scores
+OutcomeHasSpelling (Finished scores) =
+    (0 < length scores)
+    × (length scores ≤ most_scores)
+    × All (λ score. score < 2 ^ 64) scores
 OutcomeHasSpelling (Time player) = player < 2 ^ 64
 OutcomeHasSpelling (Refusals player) = player < 2 ^ 64
 OutcomeHasSpelling (Gone player) = player < 2 ^ 64

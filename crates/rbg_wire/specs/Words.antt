@@ -4,9 +4,13 @@ use Rattle.std.specs.List.{slice_split}
 use Rattle.std.specs.Option.{option_map_or}
 use Rattle.rbg_wire.specs.declared.words.Words.{Words}
 
--- the parts between the spaces: a text with no space is one word, and each space begins a new word, which may be empty
+-- the byte of a space
+abbrev pub space : ℕ
+space = 32
+
+-- the parts between the spaces, which may be empty: a text without a space is one word
 abbrev pub words_of : List ℕ → List (List ℕ)
-words_of text = slice_split (λ byte. byte == 32) text
+words_of text = slice_split (λ byte. byte == space) text
 
 -- the words that are still to come
 abbrev pub words_left : Words → List (List ℕ)

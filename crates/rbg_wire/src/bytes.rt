@@ -1,8 +1,8 @@
-//! Where a byte stands in a text.
+//! Where a byte occurs in a text.
 ghost use Rattle.std.specs.Prelude.{◌≡◌, ℕ, List, ◌∷◌, IfSome, IfNone};
 ghost use Rattle.rbg_wire.specs.Bytes.{LacksByte, IsFirstPlace};
 
-/// The first place of the byte in the text.
+/// The index at which the byte occurs first.
 pub(crate) fn first_place(byte: u8, text: &[u8]) -> Option<usize>
     ensures found { IfSome result (IsFirstPlace byte text.now) }
     ensures none { IfNone result (LacksByte byte text.now) }
@@ -10,8 +10,8 @@ pub(crate) fn first_place(byte: u8, text: &[u8]) -> Option<usize>
     text.iter().position(|other| *other == byte)
 }
 
-/// What stands behind the byte, where the text begins with it.
-pub(crate) fn behind(byte: u8, text: &[u8]) -> Option<&[u8]>
+/// The text after the byte, if the text begins with it.
+pub(crate) fn after_byte(byte: u8, text: &[u8]) -> Option<&[u8]>
     ensures found { IfSome result (λ rest. text.now ≡ byte ∷ rest.now) }
     ensures none { IfNone result ((rest : List ℕ) → text.now ≡ byte ∷ rest → ⊥) }
 {

@@ -1,20 +1,20 @@
-//! How far the buffer of a stream is read.
+//! How much of the buffer of a stream is read.
 ghost use Rattle.std.specs.Prelude.{◌≡◌, ℕ, ◌+◌, ◌<◌, ◌≤◌, not, true, false, [], ◌∷◌, ◌++◌, length, drop, vec_len, IfSome, IfNone};
 ghost use Rattle.std.specs.Bool.{OnFalse};
 ghost use Rattle.rbg_wire.specs.Bytes.{LacksByte};
-ghost use Rattle.rbg_wire.specs.Streams.{behind};
+ghost use Rattle.rbg_wire.specs.Streams.{after_items};
 ghost use Rattle.rbg_wire.specs.Cursors.{IsCursorOf, IsEnd, IsWithin, unread, found_item};
 
 use crate::bytes::first_place;
 
-/// How far a buffer is read.
+/// How much of a buffer is read.
 #[derive(Clone, Copy, Debug)]
 pub(crate) struct Cursor {
-    // Where what isn't taken yet begins.
+    // The index of the first byte that is not taken.
     pub(crate) start: usize,
-    // From `start` up to here no byte is zero.
+    // No byte from `start` up to here is zero.
     pub(crate) looked: usize,
-    // What begins at `start` belongs to a message that is too long.
+    // Whether the bytes at `start` belong to a message that is too long.
     pub(crate) dropping: bool,
 }
 
@@ -26,12 +26,13 @@ pub(crate) enum Found {
 }
 
 impl Cursor {
-    /// Drops from the buffer what was read, once that is half of it or more. So for each byte that is dropped
-    /// at most one is moved.
+    /// Drops the bytes that were read from the buffer, once they are half of it or more. So at most one byte is moved
+    /// for each byte that is dropped.
     pub(crate) fn drop_read(&mut self, bytes: &mut Vec<u8>)
         requires { IsCursorOf self.old bytes.old.items }
         ensures cursor { IsCursorOf self.new bytes.new.items }
-        ensures same { (limit : ℕ) → unread limit self.new bytes.new.items ≡ unread limit self.old bytes.old.items }
+        ensures same { (limit : ℕ)
+            → unread limit self.new bytes.new.items ≡ unread limit self.old bytes.old.items }
     {
         if self.start < bytes.len() - self.start {
             return;
@@ -41,13 +42,17 @@ impl Cursor {
         self.start = 0;
     }
 
-    /// Passes the next item of the buffer, if one is complete there.
+    /// The next item of the buffer, if one is complete. The cursor moves past it.
     pub(crate) fn next(&mut self, bytes: &[u8], limit: usize) -> Option<Found>
         requires { IsCursorOf self.old bytes.now }
         ensures cursor { IsCursorOf self.new bytes.now }
-        ensures found { IfSome result (λ found. unread limit self.old bytes.now ≡ behind (found_item bytes.now found ∷ []) (unread limit self.new bytes.now)) }
+        ensures found { IfSome result (λ found.
+            unread limit self.old bytes.now
+            ≡ after_items (found_item bytes.now found ∷ []) (unread limit self.new bytes.now)) }
         ensures within { IfSome result (λ found. IsWithin bytes.now found) }
-        ensures none { IfNone result ((unread limit self.new bytes.now ≡ unread limit self.old bytes.now) × ((unread limit self.old bytes.now).items ≡ [])) }
+        ensures none { IfNone result (
+            (unread limit self.new bytes.now ≡ unread limit self.old bytes.now)
+            × ((unread limit self.old bytes.now).items ≡ [])) }
     {
         if self.dropping && !self.skip(bytes) {
             return None;
@@ -55,14 +60,18 @@ impl Cursor {
         self.next_item(bytes, limit)
     }
 
-    // The same, where nothing is to be dropped.
+    // The same, if nothing is to be dropped.
     fn next_item(&mut self, bytes: &[u8], limit: usize) -> Option<Found>
         requires cursor { IsCursorOf self.old bytes.now }
         requires kept { self.old.dropping ≡ false }
         ensures cursor { IsCursorOf self.new bytes.now }
-        ensures found { IfSome result (λ found. unread limit self.old bytes.now ≡ behind (found_item bytes.now found ∷ []) (unread limit self.new bytes.now)) }
+        ensures found { IfSome result (λ found.
+            unread limit self.old bytes.now
+            ≡ after_items (found_item bytes.now found ∷ []) (unread limit self.new bytes.now)) }
         ensures within { IfSome result (λ found. IsWithin bytes.now found) }
-        ensures none { IfNone result ((unread limit self.new bytes.now ≡ unread limit self.old bytes.now) × ((unread limit self.old bytes.now).items ≡ [])) }
+        ensures none { IfNone result (
+            (unread limit self.new bytes.now ≡ unread limit self.old bytes.now)
+            × ((unread limit self.old bytes.now).items ≡ [])) }
     {
         let end = self.look(bytes);
         if self.looked - self.start > limit {
@@ -77,7 +86,7 @@ impl Cursor {
         Some(Found::Message { from, to })
     }
 
-    // Drops what is left of a message that was too long. Answers whether its end has come.
+    // Drops the rest of a message that is too long. Returns whether its end has come.
     fn skip(&mut self, bytes: &[u8]) -> bool
         requires cursor { IsCursorOf self.old bytes.now }
         requires dropping { self.old.dropping ≡ true }
@@ -100,14 +109,15 @@ impl Cursor {
         }
     }
 
-    // Looks for the next zero byte.
+    // The index of the next zero byte.
     fn look(&mut self, bytes: &[u8]) -> Option<usize>
         requires { IsCursorOf self.old bytes.now }
         ensures start { self.new.start ≡ self.old.start }
         ensures dropping { self.new.dropping ≡ self.old.dropping }
         ensures cursor { IsCursorOf self.new bytes.now }
         ensures found { IfSome result (λ end. (self.new.looked ≡ end) × IsEnd bytes.now self.new.start end) }
-        ensures none { IfNone result ((self.new.looked ≡ length bytes.now) × LacksByte 0 (drop self.new.start bytes.now)) }
+        ensures none { IfNone result (
+            (self.new.looked ≡ length bytes.now) × LacksByte 0 (drop self.new.start bytes.now)) }
     {
         match first_place(0, &bytes[self.looked..]) {
             None => {

@@ -1,14 +1,14 @@
-//! Why a text is not read.
+//! Why a text is refused.
 
 use thiserror::Error;
 
-/// What is wrong with a text that should be a message or a field of one.
+/// Why a text is not a message, or not a field of one.
 #[derive(Clone, Copy, Debug, PartialEq, Eq, Error)]
 pub enum WireError {
-    /// The text is not of the grammar.
+    /// The text does not follow the grammar.
     #[error("not of the grammar")]
     Malformed,
-    /// The text is of the grammar, and has more than 200 pairs.
+    /// The text follows the grammar, but has more than 200 pairs.
     #[error("more than 200 pairs")]
     TooManyPairs,
 }

@@ -1,23 +1,24 @@
-//! The stream of one seat: bytes in whatever pieces they come, and the messages that they complete.
+//! The stream of one seat: bytes that come in pieces, and the messages that they complete.
 ghost use Rattle.std.specs.Prelude.{◌≡◌, ℕ, ◌+◌, ◌<◌, ◌≤◌, [], OnOk, OnErr, slice_get, drop, vec_len};
 ghost use Rattle.std.specs.Option.{option_map};
 ghost use Rattle.rbg_wire.specs.Streams.{Stream, incomplete, with_bytes};
 
 use crate::cursor::{Cursor, Found};
-use std::alloc::{AllocError, Global};
+use rbg_base::Memory;
+use std::alloc::Global;
 use std::marker::Model;
 
-/// What was taken from an inbox.
+/// An item of a stream.
 #[derive(Clone, Copy, Debug, PartialEq, Eq)]
 pub enum Took<'a> {
-    /// A message: its bytes before its zero byte.
+    /// A message, without its zero byte.
     Message(&'a [u8]),
-    /// A message has more bytes than the limit. What is left of it, up to its zero byte, is dropped.
+    /// A message has more bytes than the limit. The rest of it, up to its zero byte, is dropped.
     TooLong,
 }
 
-/// The bytes of one stream, of which the messages are taken in order. Contracts see the limit, the items that
-/// are complete and not taken yet, and the rest.
+/// The bytes of one stream, from which the messages are taken in order. Contracts see the limit, the items that are
+/// complete and not taken yet, and the rest.
 #[derive(Debug, Drop)]
 pub struct Inbox {
     limit: usize,
@@ -42,7 +43,7 @@ impl Inbox {
     ghost use Rattle.std.specs.Borrow.{sem};
     ghost use Rattle.rbg_wire.specs.Inboxes.{item_of, LosesFirst};
 
-    /// An inbox that nothing has come to. A message has at most `limit` bytes.
+    /// An empty inbox. A message has at most `limit` bytes.
     pub fn new(alloc: Global, limit: usize) -> Inbox
         ensures { result ≡ record { limit = limit; items = []; rest = incomplete [] } }
     {
@@ -57,8 +58,8 @@ impl Inbox {
         }
     }
 
-    /// Takes the next piece of the stream in. An `Err` changes nothing.
-    pub fn feed(&mut self, piece: &[u8]) -> Result<(), AllocError>
+    /// Adds the next piece of the stream. On an error the inbox is unchanged.
+    pub fn feed(&mut self, piece: &[u8]) -> Result<(), Memory>
         ensures ok { OnOk result (self.new ≡ with_bytes self.old piece.now) }
         ensures err { OnErr result (self.new ≡ self.old) }
     {
@@ -66,7 +67,7 @@ impl Inbox {
         self.bytes.extend_from_slice(piece)
     }
 
-    /// Takes the next item, None where none is complete. A message is lent, and not copied.
+    /// Takes the next item, or returns None if none is complete. A message is borrowed and not copied.
     pub fn take(&mut self) -> Option<Took<'_>>
         ensures item { option_map item_of result ≡ slice_get self.old.items 0 }
         ensures* after { sem 𝓛 (LosesFirst self.entry) }

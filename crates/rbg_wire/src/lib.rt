@@ -1,5 +1,5 @@
-//! Messages and streams: which bytes spell which message, and which messages a stream of bytes holds,
-//! in whatever pieces it comes.
+//! Messages and streams: which bytes spell which message, and which messages a stream of bytes contains, however it is
+//! cut into pieces.
 #![tactic(auto)]
 
 mod bytes;
@@ -8,22 +8,22 @@ mod error;
 mod inbox;
 pub mod laws;
 mod message;
-mod moves;
-mod numbers;
+mod message_reader;
+mod message_writer;
+mod move_reader;
+mod number_reader;
 mod outcome;
-mod outcomes;
-mod reading;
+mod outcome_reader;
 mod scores;
 mod words;
-mod writing;
 
 pub use error::WireError;
 pub use inbox::{Inbox, Took};
 pub use message::{Message, Reason};
-pub use moves::{read_move, read_pairs};
-pub use numbers::read_number;
+pub use message_reader::read_message;
+pub use message_writer::{write_message, write_number, write_outcome, write_pairs};
+pub use move_reader::{read_move, read_pairs};
+pub use number_reader::read_number;
 pub use outcome::Outcome;
-pub use outcomes::read_outcome;
-pub use reading::read_message;
+pub use outcome_reader::read_outcome;
 pub use scores::{MAX_SCORES, Scores};
-pub use writing::{write_message, write_number, write_outcome, write_pairs};

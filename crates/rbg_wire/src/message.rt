@@ -1,4 +1,4 @@
-//! Messages, and the reasons of refusals.
+//! Messages, and the reasons for refusals.
 ghost use Rattle.std.specs.Prelude.{◌≡◌};
 
 use crate::Outcome;
@@ -7,7 +7,7 @@ use rbg_pairs::Move;
 /// Why a seat's message is refused.
 #[derive(Clone, Copy, Debug, PartialEq, Eq)]
 pub enum Reason {
-    /// 1: the message is too long, or not of the grammar of a move.
+    /// 1: the message is too long, or is not the message of a move.
     Unreadable,
     /// 2: the seat is not the mover.
     OutOfTurn,
@@ -20,7 +20,7 @@ pub enum Reason {
 impl Reason {
     ghost use Rattle.rbg_wire.specs.Messages.{reason_number};
 
-    /// The number by which messages name the reason.
+    /// The number of the reason in a message.
     pub fn number(self) -> u64
         ensures { result ≡ reason_number self }
     {
@@ -36,8 +36,8 @@ impl Reason {
 /// A message. It borrows its name and its text.
 #[derive(Clone, Debug, Drop, PartialEq, Eq)]
 pub enum Message<'a> {
-    /// `W<number> <name>`: the seat's player, by number and name. A name is a letter or `_`, followed by
-    /// letters, digits or `_`.
+    /// `W<number> <name>`: the player of the seat, by number and name. A name is a letter or `_`, followed by letters,
+    /// digits or `_`.
     Who { player: u64, name: &'a [u8] },
     /// `G<description>`: the text of the game, byte for byte. It has no zero byte.
     Game { text: &'a [u8] },

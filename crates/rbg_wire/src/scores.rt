@@ -1,5 +1,6 @@
-//! The scores of an outcome, which lie in the value itself.
+//! The scores of an outcome, which are stored in the value itself.
 ghost use Rattle.std.specs.Prelude.{◌≡◌, ℕ, ◌+◌, ◌<◌, ◌≤◌, ◌==◌, List, [], ◌∷◌, ◌++◌, length};
+ghost use Rattle.rbg_wire.specs.Limits.{most_scores};
 
 use std::marker::Model;
 
@@ -9,7 +10,7 @@ pub const MAX_SCORES: usize = 8;
 /// Up to 8 scores, in order of players. Contracts see the list.
 #[derive(Clone, Copy, Debug, PartialEq, Eq)]
 pub struct Scores {
-    // The places from `len` on hold 0.
+    // The entries from `len` on are 0.
     places: [u64; MAX_SCORES],
     len: usize,
 }
@@ -26,7 +27,8 @@ impl Model for Scores {
 
     ghost inverse = { λ scores. record { places = padded_scores scores; len = length scores } };
 
-    ghost inverse_ok = { λ s h i. record { places = padded_scores-take s.places s.len h i; len = length-scores s.places s.len h i } };
+    ghost inverse_ok = { λ s h i.
+        record { places = padded_scores-take s.places s.len h i; len = length-scores s.places s.len h i } };
 }
 
 impl Scores {
@@ -42,7 +44,7 @@ impl Scores {
 
     /// Appends the next player's score. There must be room.
     pub fn push(&mut self, score: u64)
-        requires { length self.old < 8 }
+        requires { length self.old < most_scores }
         ensures { self.new ≡ self.old ++ score ∷ [] }
     {
         self.places[self.len] = score;
@@ -52,12 +54,12 @@ impl Scores {
     /// The number of scores.
     pub fn len(&self) -> usize
         ensures count { result ≡ length self.now }
-        ensures fits { result ≤ 8 }
+        ensures fits { result ≤ most_scores }
     {
         self.as_slice().len()
     }
 
-    /// Whether there is none.
+    /// Whether there is no score.
     pub fn is_empty(&self) -> bool
         ensures { result ≡ (length self.now == 0) }
     {
@@ -67,7 +69,7 @@ impl Scores {
     /// The scores, in order of players.
     pub fn as_slice(&self) -> &[u64]
         ensures scores { result.now ≡ self.now }
-        ensures fits { length result.now ≤ 8 }
+        ensures fits { length result.now ≤ most_scores }
     {
         &self.places[..self.len]
     }

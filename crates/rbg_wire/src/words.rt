@@ -1,14 +1,14 @@
 //! The words of a text, between its spaces.
 ghost use Rattle.std.specs.Prelude.{◌≡◌, ℕ, [], ◌∷◌, ◌++◌, IfSome, IfNone};
 ghost use Rattle.std.specs.Iterator.{YieldsFirstBy, item_count};
-ghost use Rattle.rbg_wire.specs.Words.{words_of, words_left};
+ghost use Rattle.rbg_wire.specs.Words.{space, words_of, words_left};
 
 use crate::bytes::first_place;
 
-/// The words of a text, which it borrows. A text without a space is one word.
+/// The words of a text, borrowed from it. A text without a space is one word.
 #[derive(Drop)]
 pub(crate) struct Words<'a> {
-    // What follows the last space that was passed.
+    // The text after the words that were returned, or None after the last one.
     left: Option<&'a [u8]>,
 }
 
@@ -42,9 +42,10 @@ impl<'a> Iterator for Words<'a> {
     }
 }
 
-// What stands before the first space and behind it.
+// The text before the first space, and the text after it.
 pub(crate) fn cut_at_space(text: &[u8]) -> Option<(&[u8], &[u8])>
-    ensures found { IfSome result (λ parts. (words_of text.now ≡ parts.0.now ∷ words_of parts.1.now) × (text.now ≡ parts.0.now ++ 32 ∷ parts.1.now)) }
+    ensures found { IfSome result (λ parts.
+        (words_of text.now ≡ parts.0.now ∷ words_of parts.1.now) × (text.now ≡ parts.0.now ++ space ∷ parts.1.now)) }
     ensures none { IfNone result (words_of text.now ≡ text.now ∷ []) }
 {
     let at = first_place(b' ', text)?;

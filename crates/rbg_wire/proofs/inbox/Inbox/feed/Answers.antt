@@ -1,4 +1,4 @@
--- The piece stands behind the bytes that are kept.
+-- The piece follows the bytes that are kept.
 use Rattle.rbg_wire.proofs.InboxLemmas.{on_ok_when, fed}
 use Rattle.rbg_wire.proofs.inbox.Inbox.feed.Goals as goal
 

@@ -1,0 +1,7 @@
+-- A text is that of one outcome at most.
+use Rattle.std.proofs.Common.{refl}
+use Rattle.rbg_wire.proofs.OutcomeLemmas.{outcome_only}
+use Rattle.rbg_wire.proofs.outcome_reader.read_outcome.Goals as goal
+
+pub returns-clause-only : goal.returns-clause-only
+returns-clause-only c outcome spelled = rw (c.ok_or.ensures.value, outcome_only _ _ c.outcome_in.ensures.found c.outcome_in.ensures.none outcome spelled) refl

@@ -1,7 +1,0 @@
--- The text so far is that of the scores so far.
-use Rattle.std.proofs.Common.{◌≡◌, ◌++◌, codes, decimal, take}
-use Rattle.std.specs.List.{flat_map}
-use Rattle.rbg_wire.proofs.writing.put_scores.Given as goal
-
-abbrev pub invariant-loop-score : goal.invariant-loop-score
-invariant-loop-score l = l.out.items ≡ l.fn.out.items ++ flat_map (λ score. codes " " ++ decimal score) (take l.score-index l.scores)

@@ -1,0 +1,109 @@
+//! The call that reads a message. It allocates nothing.
+ghost use Rattle.std.specs.Prelude.{◌≡◌, ◌≢◌, ℕ, ◌↔◌, List, ◌∷◌, decimal, IfOk, IfSome, IfNone, IsErrOf, IsOkAnd};
+ghost use Rattle.rbg_wire.specs.declared.message.Reason.{Reason as AnyReason};
+ghost use Rattle.rbg_wire.specs.Messages.{AbstractMessage, message_of, reason_number, who_letter, game_letter, limits_letter, move_letter};
+ghost use Rattle.rbg_wire.specs.Reading.{SpellsMessage, SpellsMove, SpellsTooMany, HasFewPairs, ReadsMessage, SpellsAfterLetter};
+
+use crate::bytes::first_place;
+use crate::move_reader::pairs_of;
+use crate::outcome_reader::outcome_after_letter;
+use crate::words::cut_at_space;
+use crate::{Message, Reason, WireError};
+use rbg_base::{is_name, number_of_decimal};
+
+/// The message of which the whole text is the spelling, without its zero byte.
+///
+/// Returns `TooManyPairs` if the text is the message of a move of more than 200 pairs, and `Malformed` if it is no
+/// message.
+pub fn read_message(text: &[u8]) -> Result<Message<'_>, WireError>
+    // The text is that of the message that is returned.
+    ensures found { IfOk result (λ m. SpellsMessage text.now (message_of m) × HasFewPairs (message_of m)) }
+    // The message is returned whose text this is.
+    ensures only { (message : AbstractMessage)
+        → SpellsMessage text.now message
+        → HasFewPairs message
+        → IsOkAnd result (λ m. message_of m ≡ message) }
+    ensures too_many { IsErrOf result WireError.TooManyPairs ↔ SpellsTooMany (SpellsMove text.now) }
+    ensures malformed { IsErrOf result WireError.Malformed
+        ↔ ((message : AbstractMessage) → SpellsMessage text.now message → ⊥) }
+{
+    message_in(text)
+}
+
+fn message_in(text: &[u8]) -> Result<Message<'_>, WireError>
+    ensures { ReadsMessage text.now result }
+{
+    let Some((letter, rest)) = text.split_first() else {
+        return Err(WireError::Malformed);
+    };
+    if *letter == b'M' {
+        let pairs = pairs_of(rest)?;
+        return Ok(Message::Moved { pairs });
+    }
+    other_message(*letter, rest).ok_or(WireError::Malformed)
+}
+
+// Any message but one of a move, by its letter and the text after it.
+fn other_message(letter: u8, text: &[u8]) -> Option<Message<'_>>
+    requires { letter ≢ move_letter }
+    ensures found { IfSome result (λ m. SpellsAfterLetter letter text.now (message_of m)) }
+    ensures none { IfNone result ((message : AbstractMessage) → SpellsMessage (letter ∷ text.now) message → ⊥) }
+{
+    match letter {
+        b'W' => who_in(text),
+        b'G' => game_in(text),
+        b'L' => limits_in(text),
+        b'R' => Some(Message::Refused {
+            reason: reason_in(text)?,
+        }),
+        b'E' => Some(Message::Ended {
+            outcome: outcome_after_letter(text)?,
+        }),
+        _ => None,
+    }
+}
+
+fn who_in(text: &[u8]) -> Option<Message<'_>>
+    ensures found { IfSome result (λ m. SpellsAfterLetter who_letter text.now (message_of m)) }
+    ensures none { IfNone result ((message : AbstractMessage) → SpellsMessage (who_letter ∷ text.now) message → ⊥) }
+{
+    let (player, name) = cut_at_space(text)?;
+    let player = number_of_decimal(player)?;
+    if !is_name(name) {
+        return None;
+    }
+    Some(Message::Who { player, name })
+}
+
+fn game_in(text: &[u8]) -> Option<Message<'_>>
+    ensures found { IfSome result (λ m. SpellsAfterLetter game_letter text.now (message_of m)) }
+    ensures none { IfNone result ((message : AbstractMessage) → SpellsMessage (game_letter ∷ text.now) message → ⊥) }
+{
+    match first_place(0, text) {
+        None => Some(Message::Game { text }),
+        Some(_) => None,
+    }
+}
+
+fn limits_in(text: &[u8]) -> Option<Message<'_>>
+    ensures found { IfSome result (λ m. SpellsAfterLetter limits_letter text.now (message_of m)) }
+    ensures none { IfNone result ((message : AbstractMessage) → SpellsMessage (limits_letter ∷ text.now) message → ⊥) }
+{
+    let (turn_ms, refusals) = cut_at_space(text)?;
+    let turn_ms = number_of_decimal(turn_ms)?;
+    let refusals = number_of_decimal(refusals)?;
+    Some(Message::Limits { turn_ms, refusals })
+}
+
+fn reason_in(text: &[u8]) -> Option<Reason>
+    ensures found { IfSome result (λ reason. text.now ≡ decimal (reason_number reason)) }
+    ensures none { IfNone result ((reason : AnyReason) → text.now ≡ decimal (reason_number reason) → ⊥) }
+{
+    match number_of_decimal(text)? {
+        1 => Some(Reason::Unreadable),
+        2 => Some(Reason::OutOfTurn),
+        3 => Some(Reason::NotLegal),
+        4 => Some(Reason::MoveTooLong),
+        _ => None,
+    }
+}

@@ -1,0 +1,34 @@
+//! The calls that read a number: decimal digits, with no sign and no leading zero.
+ghost use Rattle.std.specs.Prelude.{◌≡◌, ℕ, ◌<◌, ◌^◌, Ok, IfOk, IfErr, IfSome, IfNone, decimal};
+ghost use Rattle.rbg_wire.specs.Messages.{most_pair_digits};
+
+use crate::WireError;
+use rbg_base::number_of_decimal;
+
+/// The most digits of a vertex or a position in a message.
+const MAX_PAIR_DIGITS: usize = 9;
+
+/// The number of which the whole text is the decimal form: `0`, or a digit 1 to 9 followed by digits.
+///
+/// Returns `Malformed` if the text is not the decimal form of a number below 2^64.
+pub fn read_number(text: &[u8]) -> Result<u64, WireError>
+    // The text is the decimal form of the number that is returned.
+    ensures found { IfOk result (λ n. text.now ≡ decimal n) }
+    // The number is returned whose decimal form the text is.
+    ensures only { (n : ℕ) → n < 2 ^ 64 → text.now ≡ decimal n → result ≡ Ok n }
+    ensures err { IfErr result (λ e. e ≡ WireError.Malformed) }
+{
+    number_of_decimal(text).ok_or(WireError::Malformed)
+}
+
+/// A vertex or a position: a number of at most nine digits.
+pub(crate) fn short_number(text: &[u8]) -> Option<u32>
+    ensures found { IfSome result (λ n. (n < 10 ^ most_pair_digits) × (text.now ≡ decimal n)) }
+    ensures none { IfNone result ((n : ℕ) → n < 10 ^ most_pair_digits → text.now ≡ decimal n → ⊥) }
+{
+    if text.len() > MAX_PAIR_DIGITS {
+        return None;
+    }
+    let found = number_of_decimal(text)?;
+    Some(found as u32)
+}
