@@ -1,3 +1,4 @@
+-- Lemmas.
 mod Arguments
 mod CallLemmas
 mod Chains
@@ -17,7 +18,7 @@ mod Rests
 mod Scan
 mod Sections
 mod Spans
-mod SpeltExpansions
-mod SpeltTokens
+pub mod SpeltExpansions
+pub mod SpeltTokens
 mod Words
 pub mod ZeroBytes

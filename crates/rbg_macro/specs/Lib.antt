@@ -1,3 +1,4 @@
+-- The definitions that contracts cite.
 pub mod Call
 pub mod Calls
 pub mod Defines
@@ -8,6 +9,7 @@ pub mod Joined
 pub mod Joining
 pub mod Kinds
 pub mod Laws
+pub mod Limits
 pub mod Macro
 pub mod Part
 pub mod Progress

@@ -1,4 +1,4 @@
--- Tokens and sections that are kept as places in one buffer and one list.
+-- Tokens and sections as places in a buffer and in a list.
 use Rattle.std.specs.Prelude.{ℕ, List, ◌≡◌, ◌+◌, ◌≤◌, length, slice_range}
 use Rattle.rbg_macro.specs.declared.buffer.Span.{Span}
 use Rattle.rbg_macro.specs.declared.source.SectionSpan.{SectionSpan}

@@ -1,10 +1,15 @@
--- What spells a token of each kind.
+-- The spelling of a token of each kind.
 use Rattle.std.specs.Prelude.{ℕ, ◌≡◌, All, Bool, false, ◌&&◌, List, [], ◌∷◌, IsTrue, codes}
 use Rattle.std.specs.List.{list_all}
 use Rattle.std.specs.Char.{is_ascii_digit}
 use Rattle.rbg_base.specs.Names.{is_name}
 use Rattle.rbg_macro.specs.declared.token.Symbol.{Symbol}
-use Rattle.rbg_macro.specs.declared.token.Symbol.TheVariants.{DoubleArrow, Arrow, DoubleEquals, NotEquals, LessOrEqual, GreaterOrEqual, Equals, LessThan, GreaterThan, Plus, Minus, Star, Slash, OpenParenthesis, CloseParenthesis, OpenBracket, CloseBracket, OpenBrace, CloseBrace, Comma, Colon, Semicolon, Tilde, Hash, Dollar, Question, Exclamation}
+use Rattle.rbg_macro.specs.declared.token.Symbol.TheVariants.{DoubleArrow, Arrow, DoubleEquals, NotEquals, LessOrEqual}
+use Rattle.rbg_macro.specs.declared.token.Symbol.TheVariants.{GreaterOrEqual, Equals, LessThan, GreaterThan, Plus}
+use Rattle.rbg_macro.specs.declared.token.Symbol.TheVariants.{Minus, Star, Slash, OpenParenthesis, CloseParenthesis}
+use Rattle.rbg_macro.specs.declared.token.Symbol.TheVariants.{OpenBracket, CloseBracket, OpenBrace, CloseBrace, Comma}
+use Rattle.rbg_macro.specs.declared.token.Symbol.TheVariants.{Colon, Semicolon, Tilde, Hash, Dollar, Question}
+use Rattle.rbg_macro.specs.declared.token.Symbol.TheVariants.{Exclamation}
 use Rattle.rbg_macro.specs.declared.token.TokenKind.{TokenKind}
 use Rattle.rbg_macro.specs.declared.token.TokenKind.TheVariants.{Name, Number, Symbol as A_Symbol}
 use Rattle.rbg_macro.specs.Token.{Lexeme, SectionTokens}

@@ -6,10 +6,10 @@ ghost use Rattle.rbg_macro.specs.Token.{lexeme_of};
 
 use crate::buffer::TokenBuffer;
 use crate::token::{Token, TokenKind};
-use std::alloc::AllocError;
+use std::fmt;
 use std::marker::Model;
 
-/// Which section it is.
+/// The kind of a section.
 #[derive(Clone, Copy, Debug, PartialEq, Eq)]
 pub enum SectionKind {
     Players,
@@ -19,7 +19,20 @@ pub enum SectionKind {
     Rules,
 }
 
-/// A section whose tokens stand in a list.
+/// The name of the section, as in the text.
+impl fmt::Display for SectionKind {
+    fn fmt<W: fmt::Write>(&self, f: &mut fmt::Formatter<W>) -> fmt::Result {
+        match self {
+            SectionKind::Players => write!(f, "players"),
+            SectionKind::Pieces => write!(f, "pieces"),
+            SectionKind::Variables => write!(f, "variables"),
+            SectionKind::Board => write!(f, "board"),
+            SectionKind::Rules => write!(f, "rules"),
+        }
+    }
+}
+
+/// Where the tokens of a section are in a list of tokens.
 #[derive(Clone, Copy, Debug)]
 pub(crate) struct SectionSpan {
     pub(crate) kind: SectionKind,
@@ -79,7 +92,7 @@ impl Source {
         Source { tokens, sections }
     }
 
-    /// How many sections there are.
+    /// The number of sections.
     pub fn len(&self) -> usize
         ensures { result ≡ length self.now }
     {
@@ -107,7 +120,7 @@ impl Source {
 }
 
 impl<'a> Section<'a> {
-    /// Which section it is.
+    /// The kind of the section.
     pub fn kind(&self) -> SectionKind
         ensures { result ≡ self.now.kind }
     {
@@ -121,7 +134,7 @@ impl<'a> Section<'a> {
         self.span.at
     }
 
-    /// How many tokens it has.
+    /// The number of its tokens.
     pub fn len(&self) -> usize
         ensures { result ≡ length self.now.tokens }
     {

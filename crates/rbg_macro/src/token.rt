@@ -66,7 +66,7 @@ impl Symbol {
     ghost use Rattle.std.specs.Prelude.{◌≡◌, length};
     ghost use Rattle.rbg_macro.specs.Spelling.{spelling};
 
-    /// How many bytes it has.
+    /// The number of its bytes.
     pub fn len(self) -> usize
         ensures { result ≡ length (spelling self) }
     {
@@ -82,7 +82,7 @@ impl Symbol {
     }
 }
 
-/// What kind of token it is.
+/// The kind of a token.
 #[derive(Clone, Copy, Debug, PartialEq, Eq)]
 pub enum TokenKind {
     /// A letter or `_`, followed by letters, digits or `_`.
@@ -94,7 +94,8 @@ pub enum TokenKind {
 
 impl TokenKind {
     ghost use Rattle.std.specs.Prelude.{◌≡◌};
-    ghost use Rattle.rbg_macro.specs.Kinds.{is_name_kind, is_hash, is_equals, is_tilde, is_semicolon, is_open_parenthesis, is_close_parenthesis, opens, closes};
+    ghost use Rattle.rbg_macro.specs.Kinds.{is_name_kind, is_hash, is_equals, is_tilde, is_semicolon};
+    ghost use Rattle.rbg_macro.specs.Kinds.{is_open_parenthesis, is_close_parenthesis, opens, closes};
 
     pub(crate) fn is_name(self) -> bool
         ensures { result ≡ is_name_kind self }
