@@ -1,3 +1,4 @@
+-- Lemmas.
 mod Arguments
 mod CallLemmas
 mod Chains
@@ -17,5 +18,7 @@ mod Rests
 mod Scan
 mod Sections
 mod Spans
+pub mod SpeltExpansions
+pub mod SpeltTokens
 mod Words
 pub mod ZeroBytes

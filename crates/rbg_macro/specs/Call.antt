@@ -1,4 +1,4 @@
--- Calls: the arguments in the brackets behind a macro's name.
+-- Calls of macros: what a call is, its arguments, and what replaces it.
 use Rattle.std.specs.Prelude.{ℕ, ◌+◌, List, [], ◌∷◌, length, nat_eq, Option, None, Some, cond, zero, suc}
 use Rattle.std.specs.Option.{option_map}
 use Rattle.rbg_macro.specs.declared.token.TokenKind.{TokenKind}
@@ -6,8 +6,8 @@ use Rattle.rbg_macro.specs.Kinds.{opens, closes, is_semicolon, is_open_parenthes
 use Rattle.rbg_macro.specs.Macro.{Macro, filled, macro_named}
 use Rattle.rbg_macro.specs.Token.{Lexeme}
 
--- the tokens of a call from some place on: the rest of one argument, the arguments behind it, and what stands
--- behind the closing bracket
+-- the tokens of a call from some place on: the rest of one argument, the arguments after it, and what stands
+-- after the closing bracket
 pub record Arguments : Type 0 where
   pub first : List Lexeme
   pub others : List (List Lexeme)
@@ -21,8 +21,8 @@ with_token t a = record a { first = t ∷ a.first }
 abbrev pub with_argument : Arguments → Arguments
 with_argument a = record { first = []; others = a.first ∷ a.others; rest = a.rest }
 
--- what a token does where some further brackets are open: it belongs to the argument and leaves so many open, or it
--- cuts the arguments apart, or it closes the call, or it closes the call's bracket by another one
+-- what a token does where some further brackets are open: it belongs to the argument and leaves that many open, or it
+-- separates two arguments, or it closes the call, or it closes the call's bracket by another one
 pub data Nesting : Type 0 where
   Within : ℕ → Nesting
   Cuts : Nesting
@@ -52,13 +52,13 @@ arguments_by Cuts t ts go_on = option_map with_argument (go_on 0)
 arguments_by Ends t ts go_on = Some (record { first = []; others = []; rest = ts })
 arguments_by Mismatched t ts go_on = None
 
--- The arguments in the tokens behind a call's `(`, where a number of further brackets are open. There are none where
+-- The arguments in the tokens after a call's `(`, where a number of further brackets are open. There are none where
 -- the token that closes the call is missing or isn't `)`.
 abbrev pub arguments : ℕ → List Lexeme → Option Arguments
 arguments further [] = None
 arguments further (t ∷ ts) = arguments_by (nesting t.kind further) t ts (λ n. arguments n ts)
 
--- what reading meets at a token: it stays, or is a call that gives way to tokens, with what stands behind the call,
+-- what reading meets at a token: it stays, or is a call that is replaced by tokens, with what comes after the call,
 -- or is a macro's name that no lawful call follows
 pub data Meets : Type 0 where
   Stays : Meets
@@ -76,7 +76,7 @@ abbrev pub called : Macro → List Lexeme → Meets
 called m [] = NoCall
 called m (t ∷ ts) = cond (is_open_parenthesis t.kind) (with_arguments m (arguments 0 ts)) NoCall
 
--- a macro without parameters gives way to its body, whatever follows its name
+-- a macro without parameters is replaced by its body, whatever follows its name
 abbrev pub met : Option Macro → List Lexeme → Meets
 met None ts = Stays
 met (Some m) ts = cond (nat_eq m.parameters 0) (Calls (filled m.body []) ts) (called m ts)

@@ -1,4 +1,4 @@
--- Calls as the code finds them.
+-- Calls and arguments as the code represents them.
 use Rattle.std.specs.Prelude.{ℕ, [], Bool, false, ◌≡◌, ◌≤◌, List, ◌∷◌, length, drop, map, Some}
 use Rattle.rbg_macro.specs.declared.call.Call.{Call}
 use Rattle.rbg_macro.specs.declared.call.Effect.{Effect}
@@ -27,7 +27,8 @@ pub record AreArguments (ts : List Lexeme) (lists : List (List Lexeme)) (n : ℕ
 
 -- a call that reading meets at a token
 pub record IsCall (macros : List Macro) (t : Lexeme) (ts : List Lexeme) (call : Call) : Type 0 where
-  pub meets : meets macros t ts ≡ Calls (filled (map piece_in call.body.now) (lists_in call.arguments.items)) (drop call.len ts)
+  pub meets : meets macros t ts ≡ Calls (filled (map piece_in call.body.now) (lists_in call.arguments.items))
+      (drop call.len ts)
   pub within : call.len ≤ length ts
 
 -- no lawful call follows the macro's name

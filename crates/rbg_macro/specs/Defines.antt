@@ -1,4 +1,4 @@
--- Definitions as they are kept.
+-- Sections and macros as the code represents them while it reads definitions.
 use Rattle.std.specs.Prelude.{◌≡◌, [], ◌∷◌, ◌++◌, map, Ok}
 use Rattle.rbg_macro.specs.declared.definition.Definitions.{Definitions as KeptDefinitions}
 use Rattle.rbg_macro.specs.declared.definition.SectionBody.{SectionBody}
@@ -11,7 +11,7 @@ section_of s = record { kind = s.kind; at = s.at; tokens = map lexeme_of s.token
 abbrev pub defines_of : KeptDefinitions → Definitions
 defines_of ds = record { sections = map section_of ds.sections.items; macros = ds.macros }
 
--- the definitions with one more behind them
+-- the definitions with one more at the end
 abbrev pub with_one_more : Definitions → Defined → Definitions
 with_one_more ds (A_Section s) = record ds { sections = ds.sections ++ s ∷ [] }
 with_one_more ds (A_Macro m) = record ds { macros = ds.macros ++ m ∷ [] }

@@ -1,25 +1,23 @@
 -- Definitions: the sections and macros that tokens define, and the first fault in a head.
-use Rattle.std.specs.Prelude.{ℕ, ◌≡◌, IsTrue, Bool, ◌&&◌, not, List, [], ◌∷◌, ◌++◌, take, drop, Option, None, Some, Result, Ok, Err, cond, codes, length}
+use Rattle.std.specs.Prelude.{ℕ, ◌≡◌, IsTrue, Bool, ◌&&◌, not, List, [], ◌∷◌, ◌++◌, take, drop, Option, None, Some}
+use Rattle.std.specs.Prelude.{Result, Ok, Err, cond, codes, length}
 use Rattle.std.specs.List.{list_any, position_or_len}
 use Rattle.std.specs.Str.{bytes_eq}
 use Rattle.rbg_macro.specs.declared.error.MacroError.{MacroError}
 use Rattle.rbg_macro.specs.declared.error.MacroError.TheVariants.{BadDefinition, Twice}
 use Rattle.rbg_macro.specs.declared.source.SectionKind.{SectionKind}
 use Rattle.rbg_macro.specs.declared.source.SectionKind.TheVariants.{Players, Pieces, Variables, Board, Rules}
-use Rattle.rbg_macro.specs.Kinds.{is_name_kind, is_hash, is_equals, is_semicolon, is_open_parenthesis, is_close_parenthesis}
+use Rattle.rbg_macro.specs.Gives.{◌>>=◌}
+use Rattle.rbg_macro.specs.Kinds.{is_name_kind, is_hash, is_equals, is_semicolon, is_open_parenthesis}
+use Rattle.rbg_macro.specs.Kinds.{is_close_parenthesis}
 use Rattle.rbg_macro.specs.Macro.{Macro, body_of}
 use Rattle.rbg_macro.specs.Token.{Lexeme, SectionTokens}
-
-infixl 10 ◌>>=◌
-abbrev pub ◌>>=◌ : {A B : Type 0} → Result A MacroError → (A → Result B MacroError) → Result B MacroError
-(Ok x) >>= f = f x
-(Err e) >>= f = Err e
 
 -- the tokens from one `#` up to the next
 pub record Part : Type 0 where
   -- the offset of the `#`
   pub at : ℕ
-  -- what stands behind it
+  -- what comes after it
   pub tokens : List Lexeme
   -- where a head is refused that these tokens leave unfinished: at the next `#`, or at its own if the text ended
   pub end : ℕ
@@ -57,14 +55,14 @@ behind_equals end ts = expect (λ e. is_equals e.kind) end ts >>= λ found. Ok f
 abbrev pub is_new_name : List (List ℕ) → Lexeme → Bool
 is_new_name earlier t = is_name_kind t.kind && not (list_any (bytes_eq t.text) earlier)
 
--- a parameter stands first, behind the earlier ones, with one more token behind it
+-- a parameter stands first, after the earlier ones, with one more token after it
 pub record AddsParameter (earlier parameters : List (List ℕ)) (ts : List Lexeme) (next : Lexeme) : Type 0 where
   pub parameter : Lexeme
   pub tokens : ts ≡ parameter ∷ next ∷ drop 2 ts
   pub new : IsTrue (is_new_name earlier parameter)
   pub added : parameters ≡ earlier ++ parameter.text ∷ []
 
--- parameters behind `(`: names with `;` between them and `)` behind the last
+-- parameters after `(`: names with `;` between them and `)` after the last
 abbrev pub parameter_list : ℕ → List (List ℕ) → List Lexeme → Result (List (List ℕ) × List Lexeme) MacroError
 parameter_list end earlier [] = Err (BadDefinition end)
 parameter_list end earlier (p ∷ []) = cond (is_new_name earlier p) (Err (BadDefinition end)) (Err (BadDefinition p.at))
@@ -74,7 +72,7 @@ parameter_list end earlier (p ∷ t ∷ ts) =
     (cond (is_semicolon t.kind) (parameter_list end (earlier ++ p.text ∷ []) ts) (Err (BadDefinition t.at))))
     (Err (BadDefinition p.at))
 
--- a macro's parameters and body, behind its name: `=` and the body, or parameters in parentheses before these
+-- a macro's parameters and body, after its name: `=` and the body, or parameters in parentheses before these
 abbrev pub behind_name : ℕ → List Lexeme → Result (List (List ℕ) × List Lexeme) MacroError
 behind_name end [] = Err (BadDefinition end)
 behind_name end (t ∷ ts) =
@@ -108,7 +106,8 @@ defined_as earlier part name ts None =
 
 abbrev pub defined : List Macro → Part → Result Defined MacroError
 defined earlier part =
-    expect (λ t. is_name_kind t.kind) part.end part.tokens >>= λ found. defined_as earlier part found.0 found.1 (section_named found.0.text)
+    expect (λ t. is_name_kind t.kind) part.end part.tokens >>= λ found. defined_as earlier part found.0 found.1
+    (section_named found.0.text)
 
 -- the sections with their own tokens in order of the text, and all macros
 pub record Definitions : Type 0 where
@@ -119,12 +118,13 @@ abbrev pub with_section : SectionTokens → Result Definitions MacroError → Re
 with_section s (Ok ds) = Ok (record ds { sections = s ∷ ds.sections })
 with_section s (Err e) = Err e
 
-abbrev pub with_defined : List Macro → Result Defined MacroError → (List Macro → Result Definitions MacroError) → Result Definitions MacroError
+abbrev pub with_defined : List Macro → Result Defined MacroError →
+    (List Macro → Result Definitions MacroError) → Result Definitions MacroError
 with_defined earlier (Ok (A_Section s)) go_on = with_section s (go_on earlier)
 with_defined earlier (Ok (A_Macro m)) go_on = go_on (earlier ++ m ∷ [])
 with_defined earlier (Err e) go_on = Err e
 
--- what the parts define, read in order behind these macros
+-- what the parts define, read in order after these macros
 abbrev pub definitions : List Macro → List Part → Result Definitions MacroError
 definitions earlier [] = Ok (record { sections = []; macros = earlier })
 definitions earlier (p ∷ ps) = with_defined earlier (defined earlier p) (λ macros. definitions macros ps)

@@ -1,9 +1,16 @@
--- What a function returned, beside what a definition says that it is.
+-- What a function returns, compared with what a definition gives, and steps of a definition that may fail.
 use Rattle.std.specs.Prelude.{◌≡◌, Result, Ok, Err}
 use Rattle.rbg_macro.specs.declared.error.MacroError.{MacroError}
-use Rattle.rbg_macro.specs.declared.error.MacroError.TheVariants.{BadDefinition, Twice, ArgumentCount, Depth, TooManyTokens, BadJoin, Memory}
+use Rattle.rbg_macro.specs.declared.error.MacroError.TheVariants.{BadDefinition, Twice, ArgumentCount, Depth}
+use Rattle.rbg_macro.specs.declared.error.MacroError.TheVariants.{TooManyTokens, BadJoin, Memory}
 
--- want of memory may come anywhere; of any other error this holds
+-- the next step reads what a step before it gave; the first error is the error of all
+infixl 10 ◌>>=◌
+abbrev pub ◌>>=◌ : {A B E : Type 0} → Result A E → (A → Result B E) → Result B E
+(Ok x) >>= f = f x
+(Err e) >>= f = Err e
+
+-- memory may run out anywhere; of any other error this holds
 abbrev pub UnlessMemory : (MacroError → Type 0) → MacroError → Type 0
 UnlessMemory P (BadDefinition at) = P (BadDefinition at)
 UnlessMemory P (Twice at) = P (Twice at)

@@ -1,4 +1,4 @@
--- A joined list as it is kept: tokens that stayed, and joined tokens whose bytes stand in one buffer.
+-- Joined lists as the code represents them: single tokens, and joined tokens whose bytes are in one buffer.
 use Rattle.std.specs.Prelude.{ℕ, ◌≡◌, ◌<◌, ◌≤◌, Bool, false, List, [], ◌∷◌, ◌++◌, length, drop, Some, Err, IsTrue}
 use Rattle.std.specs.Bool.{IsFalse}
 use Rattle.rbg_macro.specs.declared.error.MacroError.{MacroError}
@@ -27,7 +27,7 @@ begins_with_tilde (t ∷ ts) = is_tilde t.kind
 abbrev pub word_at : ℕ → TokenKind → List ℕ → Lexeme
 word_at at kind word = record { kind = kind; text = word; at = at }
 
--- the word goes on with the token behind the `~` that stands first
+-- the word goes on with the token after the `~` that stands first
 pub record JoinsNext (kind new_kind : TokenKind) (word new_word : List ℕ) (ts : List Lexeme) : Type 0 where
   pub tilde : Lexeme
   pub right : Lexeme

@@ -2,19 +2,19 @@
 use Rattle.std.specs.Prelude.{ℕ, ◌+◌, List, [], ◌∷◌, ◌++◌, length, nat_le, Option, None, Some, Result, Ok, Err, cond}
 use Rattle.rbg_macro.specs.declared.error.MacroError.{MacroError}
 use Rattle.rbg_macro.specs.declared.error.MacroError.TheVariants.{BadJoin}
-use Rattle.rbg_macro.specs.declared.limits.TheConstants.{MAX_JOINED}
+use Rattle.rbg_macro.specs.Limits.{longest_joined}
 use Rattle.rbg_macro.specs.declared.token.TokenKind.{TokenKind}
 use Rattle.rbg_macro.specs.declared.token.TokenKind.TheVariants.{Name, Number, Symbol as A_Symbol}
 use Rattle.rbg_macro.specs.Kinds.{is_tilde}
 use Rattle.rbg_macro.specs.Token.{Lexeme}
 
--- behind a name a name or a number makes a name
+-- after a name a name or a number makes a name
 abbrev pub joined_to_name : TokenKind → Option TokenKind
 joined_to_name Name = Some Name
 joined_to_name Number = Some Name
 joined_to_name (A_Symbol s) = None
 
--- behind a number only a number makes a number, and nothing makes a name
+-- after a number only a number makes a number, and nothing makes a name
 abbrev pub joined_to_number : TokenKind → Option TokenKind
 joined_to_number Name = None
 joined_to_number Number = Some Number
@@ -26,11 +26,11 @@ joined_kind Name right = joined_to_name right
 joined_kind Number right = joined_to_number right
 joined_kind (A_Symbol s) right = None
 
--- a token of that kind with the two texts together, unless they are too long; it stands where the left one does
+-- a token of that kind with the two texts together, unless they are too long; it is at the place of the left one
 abbrev pub with_kind : Lexeme → Lexeme → Option TokenKind → Option Lexeme
 with_kind left right None = None
 with_kind left right (Some kind) =
-    cond (nat_le (length left.text + length right.text) MAX_JOINED)
+    cond (nat_le (length left.text + length right.text) longest_joined)
     (Some (record { kind = kind; text = left.text ++ right.text; at = left.at }))
     None
 
@@ -47,7 +47,7 @@ abbrev pub join_at : ℕ → Option Lexeme → (Lexeme → Result (List Lexeme) 
 join_at at None goes_on = Err (BadJoin at)
 join_at at (Some t) goes_on = goes_on t
 
--- A token followed by others, joined. It stays where no `~` follows it. Else it and the token behind the `~`
+-- A token followed by others, joined. It stays where no `~` follows it. Else it and the token after the `~`
 -- become one token, which is then followed by what is left; where they can't, the fault stands at the `~`.
 abbrev pub joined_from : Lexeme → List Lexeme → Result (List Lexeme) MacroError
 joined_from t [] = Ok (t ∷ [])

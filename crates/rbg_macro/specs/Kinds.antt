@@ -1,6 +1,8 @@
 -- Tests on the kinds of tokens.
 use Rattle.std.specs.Prelude.{Bool, true, false}
-use Rattle.rbg_macro.specs.declared.token.Symbol.TheVariants.{Equals, OpenParenthesis, CloseParenthesis, OpenBracket, CloseBracket, OpenBrace, CloseBrace, Semicolon, Tilde, Hash}
+use Rattle.rbg_macro.specs.declared.token.Symbol.TheVariants.{Equals, OpenParenthesis, CloseParenthesis, OpenBracket}
+use Rattle.rbg_macro.specs.declared.token.Symbol.TheVariants.{CloseBracket, OpenBrace, CloseBrace, Semicolon, Tilde}
+use Rattle.rbg_macro.specs.declared.token.Symbol.TheVariants.{Hash}
 use Rattle.rbg_macro.specs.declared.token.TokenKind.{TokenKind}
 use Rattle.rbg_macro.specs.declared.token.TokenKind.TheVariants.{Name, Symbol as A_Symbol}
 

@@ -4,8 +4,11 @@ use Rattle.rbg_macro.specs.declared.error.MacroError.{MacroError}
 use Rattle.rbg_macro.specs.declared.error.MacroError.TheVariants as macro_errors
 use Rattle.rbg_macro.specs.declared.error.TextError.{TextError}
 use Rattle.rbg_macro.specs.declared.error.TextError.TheVariants as text_errors
+use Rattle.rbg_macro.specs.declared.limits.TheConstants.{MAX_JOINED, MAX_KEPT, MAX_LEVEL, MAX_READ, MAX_TEXT}
+use Rattle.rbg_macro.specs.Limits.{deepest_level, longest_joined, longest_text, most_kept, most_read}
 use Rattle.rbg_macro.specs.Expansion.{Expands, HasSections, HasMacroFault}
 use Rattle.rbg_macro.specs.Macro.{Macro}
+use Rattle.rbg_macro.specs.Spelling.{AreLexemes}
 use Rattle.rbg_macro.specs.Text.{HasTokens, HasTextFault}
 use Rattle.rbg_macro.specs.Token.{Lexeme, SectionTokens}
 
@@ -13,30 +16,49 @@ use Rattle.rbg_macro.specs.Token.{Lexeme, SectionTokens}
 abbrev pub NoZeroByteLaw : Type 0
 NoZeroByteLaw = (text : List ℕ) (ts : List Lexeme) → HasTokens text ts → All (λ byte. byte ≢ 0) text
 
--- a text has one list of tokens at most
+-- a text has at most one list of tokens
 abbrev pub OneReadingLaw : Type 0
 OneReadingLaw = (text : List ℕ) (a b : List Lexeme) → HasTokens text a → HasTokens text b → a ≡ b
 
--- a text with tokens is refused only for want of memory
+-- a text with tokens has no error besides out of memory
 abbrev pub TokensOrFaultLaw : Type 0
-TokensOrFaultLaw = (text : List ℕ) (ts : List Lexeme) → HasTokens text ts → (e : TextError) → HasTextFault text e → e ≡ text_errors.Memory
+TokensOrFaultLaw = (text : List ℕ) (ts : List Lexeme) → HasTokens text ts → (e : TextError) →
+    HasTextFault text e → e ≡ text_errors.Memory
 
--- a text is refused by one error at most besides want of memory
+-- a text has at most one error besides out of memory
 abbrev pub OneTextErrorLaw : Type 0
-OneTextErrorLaw = (text : List ℕ) (e f : TextError) → HasTextFault text e → HasTextFault text f → e ≢ text_errors.Memory → f ≢ text_errors.Memory → e ≡ f
+OneTextErrorLaw = (text : List ℕ) (e f : TextError) → HasTextFault text e → HasTextFault text f →
+    e ≢ text_errors.Memory → f ≢ text_errors.Memory → e ≡ f
 
 -- a list expands to one list at most, while one number of tokens is read
 abbrev pub OneListLaw : Type 0
-OneListLaw = (macros : List Macro) (d : ℕ) (ts us : List Lexeme) (n : ℕ) → Expands macros d ts us n → (vs : List Lexeme) (m : ℕ) → Expands macros d ts vs m → (us ≡ vs) × (n ≡ m)
+OneListLaw = (macros : List Macro) (d : ℕ) (ts us : List Lexeme) (n : ℕ) → Expands macros d ts us n →
+    (vs : List Lexeme) (m : ℕ) → Expands macros d ts vs m → (us ≡ vs) × (n ≡ m)
 
 -- tokens have the sections of one expansion at most
 abbrev pub OneExpansionLaw : Type 0
 OneExpansionLaw = (ts : List Lexeme) (a b : List SectionTokens) → HasSections ts a → HasSections ts b → a ≡ b
 
--- tokens with sections are refused only for want of memory
+-- tokens with sections have no error besides out of memory
 abbrev pub SectionsOrFaultLaw : Type 0
-SectionsOrFaultLaw = (ts : List Lexeme) (sections : List SectionTokens) → HasSections ts sections → (e : MacroError) → HasMacroFault ts e → e ≡ macro_errors.Memory
+SectionsOrFaultLaw = (ts : List Lexeme) (sections : List SectionTokens) → HasSections ts sections →
+    (e : MacroError) → HasMacroFault ts e → e ≡ macro_errors.Memory
 
--- tokens are refused by one error at most besides want of memory
+-- tokens have at most one error besides out of memory
 abbrev pub OneMacroErrorLaw : Type 0
-OneMacroErrorLaw = (ts : List Lexeme) (e f : MacroError) → HasMacroFault ts e → HasMacroFault ts f → e ≢ macro_errors.Memory → f ≢ macro_errors.Memory → e ≡ f
+OneMacroErrorLaw = (ts : List Lexeme) (e f : MacroError) → HasMacroFault ts e → HasMacroFault ts f →
+    e ≢ macro_errors.Memory → f ≢ macro_errors.Memory → e ≡ f
+
+-- every token of a text's sections spells a token of its kind: the text of a name token is a name
+abbrev pub SpeltTokensLaw : Type 0
+SpeltTokensLaw =
+    (text : List ℕ) (ts : List Lexeme) (sections : List SectionTokens) →
+    HasTokens text ts → HasSections ts sections → All AreLexemes sections
+
+-- the limits of the code are those of the definitions
+pub record LimitsLaw : Type 0 where
+  pub text : MAX_TEXT ≡ longest_text
+  pub kept : MAX_KEPT ≡ most_kept
+  pub read : MAX_READ ≡ most_read
+  pub level : MAX_LEVEL ≡ deepest_level
+  pub joined : MAX_JOINED ≡ longest_joined

@@ -1,3 +1,4 @@
+-- The definitions that contracts cite.
 pub mod Call
 pub mod Calls
 pub mod Defines
@@ -8,10 +9,12 @@ pub mod Joined
 pub mod Joining
 pub mod Kinds
 pub mod Laws
+pub mod Limits
 pub mod Macro
 pub mod Part
 pub mod Progress
 pub mod Span
+pub mod Spelling
 pub mod Template
 pub mod Text
 pub mod Token

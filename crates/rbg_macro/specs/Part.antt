@@ -1,4 +1,4 @@
--- What stands at the front of some bytes, as the scanner says it.
+-- What some bytes begin with, as the scanner returns it: a blank, a comment, a token or a fault.
 use Rattle.std.specs.Prelude.{ℕ, ◌≡◌, ◌+◌, ◌<◌, ◌≤◌, List, ◌∷◌, ◌++◌, length, take, drop, Result, Err}
 use Rattle.rbg_macro.specs.declared.error.TextError.{TextError}
 use Rattle.rbg_macro.specs.declared.error.TextError.TheVariants as text_errors
@@ -6,7 +6,8 @@ use Rattle.rbg_macro.specs.declared.lexer.Part.{Part}
 use Rattle.rbg_macro.specs.declared.lexer.Part.TheVariants.{Skipped, Token, ZeroByte, BadByte}
 use Rattle.rbg_macro.specs.declared.token.Symbol.{Symbol}
 use Rattle.rbg_macro.specs.declared.token.TokenKind.{TokenKind}
-use Rattle.rbg_macro.specs.Text.{Lexes, behind_token, spelling}
+use Rattle.rbg_macro.specs.Text.{Lexes, behind_token}
+use Rattle.rbg_macro.specs.Spelling.{spelling}
 use Rattle.rbg_macro.specs.Token.{Lexeme}
 
 -- two slashes stand at the front
@@ -16,17 +17,20 @@ BeginsComment bytes = (line : List ℕ) × (bytes ≡ 47 ∷ 47 ∷ line)
 -- the symbol stands at the front, and no longer one does
 pub record IsLongestSymbol (bytes : List ℕ) (symbol : Symbol) : Type 0 where
   pub stands : spelling symbol ++ drop (length (spelling symbol)) bytes ≡ bytes
-  pub longest : (other : Symbol) (rest : List ℕ) → spelling other ++ rest ≡ bytes → length (spelling other) ≤ length (spelling symbol)
+  pub longest : (other : Symbol) (rest : List ℕ) → spelling other ++ rest ≡ bytes →
+      length (spelling other) ≤ length (spelling symbol)
 
 -- no symbol of more than n bytes stands at the front
 abbrev pub BeginsNoSymbol : List ℕ → ℕ → Type 0
-BeginsNoSymbol bytes n = (symbol : Symbol) (rest : List ℕ) → n < length (spelling symbol) → spelling symbol ++ rest ≡ bytes → ⊥
+BeginsNoSymbol bytes n = (symbol : Symbol) (rest : List ℕ) → n < length (spelling symbol) →
+    spelling symbol ++ rest ≡ bytes → ⊥
 
 -- the first n bytes are a blank or a comment
 pub record Skips (bytes : List ℕ) (n : ℕ) : Type 0 where
   pub some : 0 < n
   pub within : n ≤ length bytes
-  pub reads : (at : ℕ) (read : Result (List Lexeme) TextError) → Lexes (at + n) (drop n bytes) read → Lexes at bytes read
+  pub reads : (at : ℕ) (read : Result (List Lexeme) TextError) → Lexes (at + n) (drop n bytes) read →
+      Lexes at bytes read
 
 -- the first n bytes are a token
 pub record Takes (kind : TokenKind) (bytes : List ℕ) (n : ℕ) : Type 0 where

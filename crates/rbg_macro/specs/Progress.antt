@@ -1,9 +1,9 @@
--- How an expansion goes on.
+-- The state of an expansion: how many tokens were read, and which were kept.
 use Rattle.std.specs.Prelude.{ℕ, ◌≡◌, ◌+◌, ◌<◌, ◌≤◌, List, ◌++◌, length, drop, Ok, Err}
 use Rattle.rbg_macro.specs.declared.error.MacroError.{MacroError}
 use Rattle.rbg_macro.specs.declared.error.MacroError.TheVariants.{TooManyTokens}
 use Rattle.rbg_macro.specs.declared.expansion.Progress.{Progress}
-use Rattle.rbg_macro.specs.declared.limits.TheConstants.{MAX_KEPT, MAX_LEVEL, MAX_READ}
+use Rattle.rbg_macro.specs.Limits.{most_kept, deepest_level, most_read}
 use Rattle.rbg_macro.specs.declared.source.SectionSpan.{SectionSpan}
 use Rattle.rbg_macro.specs.Call.{Calls, meets}
 use Rattle.rbg_macro.specs.Expansion.{Expands, Reads, FailsReading}
@@ -13,8 +13,8 @@ use Rattle.rbg_macro.specs.Token.{Lexeme, SectionTokens}
 
 -- no more tokens were read and kept than the limits allow
 pub record IsWithinLimits (p : Progress) : Type 0 where
-  pub read : p.read ≤ MAX_READ
-  pub kept : length p.kept ≤ MAX_KEPT
+  pub read : p.read ≤ most_read
+  pub kept : length p.kept ≤ most_kept
 
 -- a joined list of level d was read from the old progress to the new one
 pub record ReadsOn (macros : List Macro) (d : ℕ) (js : List Lexeme) (old new : Progress) : Type 0 where
@@ -34,14 +34,16 @@ pub record ReadsJoined (macros : List Macro) (d : ℕ) (ts : List Lexeme) (old n
 -- the first fault of such a list
 pub data FailsJoined (macros : List Macro) (d : ℕ) (ts : List Lexeme) (old : Progress) (e : MacroError) : Type 0 where
   no_join : joined ts ≡ Err e → FailsJoined macros d ts old e
-  reading : (js : List Lexeme) → joined ts ≡ Ok js → FailsReading macros d old.read (length old.kept) js e → FailsJoined macros d ts old e
+  reading : (js : List Lexeme) → joined ts ≡ Ok js → FailsReading macros d old.read (length old.kept) js e →
+      FailsJoined macros d ts old e
 
 -- the token and what follows it are a call that may be expanded, whose body is counted within the limit
-pub record GivesWay (macros : List Macro) (d : ℕ) (t : Lexeme) (ts : List Lexeme) (read : ℕ) (body : List Lexeme) (n : ℕ) : Type 0 where
+pub record GivesWay (macros : List Macro) (d : ℕ) (t : Lexeme) (ts : List Lexeme) (read : ℕ)
+    (body : List Lexeme) (n : ℕ) : Type 0 where
   pub meets : meets macros t ts ≡ Calls body (drop n ts)
   pub within : n ≤ length ts
-  pub not_deep : d < MAX_LEVEL
-  pub counted : read + length body ≤ MAX_READ
+  pub not_deep : d < deepest_level
+  pub counted : read + length body ≤ most_read
 
 -- there are too many tokens
 pub record IsTooMany (e : MacroError) (P : Type 0) : Type 0 where
@@ -49,7 +51,8 @@ pub record IsTooMany (e : MacroError) (P : Type 0) : Type 0 where
   pub holds : P
 
 -- a section was expanded, and its tokens stand at this place
-pub record ReadsSection (macros : List Macro) (s : SectionTokens) (old new : Progress) (span : SectionSpan) : Type 0 where
+pub record ReadsSection (macros : List Macro) (s : SectionTokens) (old new : Progress)
+    (span : SectionSpan) : Type 0 where
   pub added : List Lexeme
   pub spent : ℕ
   pub expands : Expands macros 0 s.tokens added spent

@@ -1,4 +1,4 @@
--- Macros as they are kept.
+-- Macros and their bodies as the code represents them.
 use Rattle.std.specs.Prelude.{ℕ, ◌≡◌, List, map, Some}
 use Rattle.std.specs.Borrow.{Bor}
 use Rattle.rbg_macro.specs.declared.macros.Piece.{Piece as KeptPiece}

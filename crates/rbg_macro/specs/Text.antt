@@ -1,57 +1,13 @@
--- What the bytes of a text spell: blanks, comments and tokens, each token the longest that stands there.
-use Rattle.std.specs.Prelude.{ℕ, ◌≡◌, ◌≢◌, ◌+◌, ◌<◌, ◌≤◌, Bool, false, ◌&&◌, ◌||◌, ◌==◌, not, List, [], ◌∷◌, ◌++◌, length, Result, Ok, Err, IsTrue, codes}
+-- What the bytes of a text spell: blanks, comments and tokens. Each token is the longest at its place.
+use Rattle.std.specs.Prelude.{ℕ, ◌≡◌, ◌≢◌, ◌+◌, ◌<◌, ◌≤◌, Bool, false, ◌&&◌, ◌||◌, ◌==◌, not, List, [], ◌∷◌, ◌++◌}
+use Rattle.std.specs.Prelude.{length, Result, Ok, Err, IsTrue, codes}
 use Rattle.std.specs.List.{list_all}
-use Rattle.rbg_base.specs.Names.{is_name}
-use Rattle.std.specs.Char.{is_ascii_alphabetic, is_ascii_digit}
 use Rattle.rbg_macro.specs.declared.error.TextError.{TextError}
 use Rattle.rbg_macro.specs.declared.error.TextError.TheVariants.{TooLong, ZeroByte, BadByte, Memory}
-use Rattle.rbg_macro.specs.declared.token.Symbol.{Symbol}
-use Rattle.rbg_macro.specs.declared.token.Symbol.TheVariants.{DoubleArrow, Arrow, DoubleEquals, NotEquals, LessOrEqual, GreaterOrEqual, Equals, LessThan, GreaterThan, Plus, Minus, Star, Slash, OpenParenthesis, CloseParenthesis, OpenBracket, CloseBracket, OpenBrace, CloseBrace, Comma, Semicolon, Colon, Tilde, Hash, Dollar, Question, Exclamation}
 use Rattle.rbg_macro.specs.declared.token.TokenKind.{TokenKind}
-use Rattle.rbg_macro.specs.declared.token.TokenKind.TheVariants.{Name, Number, Symbol as A_Symbol}
-use Rattle.rbg_macro.specs.declared.limits.TheConstants.{MAX_TEXT}
+use Rattle.rbg_macro.specs.Limits.{longest_text}
+use Rattle.rbg_macro.specs.Spelling.{Spells}
 use Rattle.rbg_macro.specs.Token.{Lexeme}
-
--- a number is one or more digits
-abbrev pub is_number : List ℕ → Bool
-is_number [] = false
-is_number (b ∷ bs) = is_ascii_digit b && list_all is_ascii_digit bs
-
--- the bytes of each symbol
-abbrev pub spelling : Symbol → List ℕ
-spelling DoubleArrow = codes "->>"
-spelling Arrow = codes "->"
-spelling DoubleEquals = codes "=="
-spelling NotEquals = codes "!="
-spelling LessOrEqual = codes "<="
-spelling GreaterOrEqual = codes ">="
-spelling Equals = codes "="
-spelling LessThan = codes "<"
-spelling GreaterThan = codes ">"
-spelling Plus = codes "+"
-spelling Minus = codes "-"
-spelling Star = codes "*"
-spelling Slash = codes "/"
-spelling OpenParenthesis = codes "("
-spelling CloseParenthesis = codes ")"
-spelling OpenBracket = codes "["
-spelling CloseBracket = codes "]"
-spelling OpenBrace = codes "{"
-spelling CloseBrace = codes "}"
-spelling Comma = codes ","
-spelling Semicolon = codes ";"
-spelling Colon = codes ":"
-spelling Tilde = codes "~"
-spelling Hash = codes "#"
-spelling Dollar = codes "$"
-spelling Question = codes "?"
-spelling Exclamation = codes "!"
-
--- the word is a token of this kind
-abbrev pub Spells : TokenKind → List ℕ → Type 0
-Spells Name word = IsTrue (is_name word)
-Spells Number word = IsTrue (is_number word)
-Spells (A_Symbol s) word = word ≡ spelling s
 
 -- space, tab, carriage return and line feed
 abbrev pub is_blank : ℕ → Bool
@@ -74,7 +30,8 @@ IsLineEnd (b ∷ bs) = b ≡ 10
 -- of the bytes `word ++ rest` the word is the longest front that is a token, and no comment begins there
 pub record IsToken (kind : TokenKind) (word rest : List ℕ) : Type 0 where
   pub spelt : Spells kind word
-  pub longest : (k : TokenKind) (longer after : List ℕ) → Spells k longer → longer ++ after ≡ word ++ rest → length longer ≤ length word
+  pub longest : (k : TokenKind) (longer after : List ℕ) → Spells k longer → longer ++ after ≡ word ++ rest →
+      length longer ≤ length word
   pub no_comment : (line : List ℕ) → word ++ rest ≡ codes "//" ++ line → ⊥
 
 -- no front of the bytes is a token
@@ -92,7 +49,8 @@ pub data Lexes : ℕ → List ℕ → Result (List Lexeme) TextError → Type 0 
   blank : (at b : ℕ) (rest : List ℕ) (read : Result (List Lexeme) TextError) →
       IsTrue (is_blank b) → Lexes (at + 1) rest read → Lexes at (b ∷ rest) read
   comment : (at : ℕ) (bytes word line rest : List ℕ) (read : Result (List Lexeme) TextError) →
-      bytes ≡ word ++ rest → IsComment word line → IsLineEnd rest → Lexes (at + length word) rest read → Lexes at bytes read
+      bytes ≡ word ++ rest → IsComment word line → IsLineEnd rest → Lexes (at + length word) rest read →
+      Lexes at bytes read
   token : (at : ℕ) (kind : TokenKind) (bytes word rest : List ℕ) (read all : Result (List Lexeme) TextError) →
       bytes ≡ word ++ rest → IsToken kind word rest → Lexes (at + length word) rest read →
       all ≡ behind_token (record { kind = kind; text = word; at = at }) read → Lexes at bytes all
@@ -104,17 +62,17 @@ pub data Lexes : ℕ → List ℕ → Result (List Lexeme) TextError → Type 0 
 
 -- the text isn't too long, and these are its tokens
 pub record HasTokens (text : List ℕ) (ts : List Lexeme) : Type 0 where
-  pub fits : length text ≤ MAX_TEXT
+  pub fits : length text ≤ longest_text
   pub read : Lexes 0 text (Ok ts)
 
 -- the text isn't too long, and this is its first fault
 pub record HasFirstFault (text : List ℕ) (e : TextError) : Type 0 where
-  pub fits : length text ≤ MAX_TEXT
+  pub fits : length text ≤ longest_text
   pub read : Lexes 0 text (Err e)
 
--- the text is too long, or has this first fault; want of memory may come at any text
+-- the text is too long, or has this first fault; memory may run out at any text
 abbrev pub HasTextFault : List ℕ → TextError → Type 0
-HasTextFault text TooLong = MAX_TEXT < length text
+HasTextFault text TooLong = longest_text < length text
 HasTextFault text ZeroByte = HasFirstFault text ZeroByte
 HasTextFault text (BadByte at) = HasFirstFault text (BadByte at)
 HasTextFault text Memory = Unit {0}

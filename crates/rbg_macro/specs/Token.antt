@@ -1,4 +1,4 @@
--- What contracts see of a token and of a section.
+-- A token and a section as contracts see them.
 use Rattle.std.specs.Prelude.{ℕ, List}
 use Rattle.rbg_macro.specs.declared.source.SectionKind.{SectionKind}
 use Rattle.rbg_macro.specs.declared.token.TokenKind.{TokenKind}

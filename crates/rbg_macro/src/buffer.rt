@@ -1,13 +1,15 @@
-// A list of tokens that owns their texts, in one buffer that begins with the whole text they came from.
-ghost use Rattle.std.specs.Prelude.{◌≡◌, ◌<◌, ◌↔◌, [], ◌∷◌, ◌++◌, length, take, slice_get, Some, IfOk, OnOk, OnErr, IsTrue};
+//! A list of tokens that owns their texts, in one buffer that begins with the whole text they came from.
+ghost use Rattle.std.specs.Prelude.{◌≡◌, ◌<◌, ◌↔◌, [], ◌∷◌, ◌++◌, length, take, slice_get, Some, IfOk, OnOk, OnErr};
+ghost use Rattle.std.specs.Prelude.{IsTrue};
 ghost use Rattle.rbg_macro.specs.Span.{StandsAt};
 ghost use Rattle.rbg_macro.specs.Token.{lexeme_of};
 
 use crate::token::{Token, TokenKind};
-use std::alloc::{AllocError, Global};
+use rbg_base::Memory;
+use std::alloc::Global;
 use std::marker::Model;
 
-/// A token whose bytes stand in a buffer.
+/// A token whose bytes are in a buffer.
 #[derive(Clone, Copy, Debug)]
 pub(crate) struct Span {
     pub(crate) kind: TokenKind,
@@ -16,7 +18,7 @@ pub(crate) struct Span {
     pub(crate) at: usize,
 }
 
-/// Tokens that own their texts. Those that stand in the text as they are share its one copy.
+/// Tokens that own their texts. Tokens of the text share its one copy.
 #[derive(Debug, Drop)]
 pub(crate) struct TokenBuffer {
     texts: Vec<u8>,
@@ -38,7 +40,7 @@ impl Model for TokenBuffer {
 
 impl TokenBuffer {
     /// No tokens yet, with a copy of the text that they come from.
-    pub(crate) fn with_text(alloc: Global, text: &[u8]) -> Result<Self, AllocError>
+    pub(crate) fn with_text(alloc: Global, text: &[u8]) -> Result<Self, Memory>
         ensures { IfOk result (λ b. b ≡ []) }
     {
         Ok(TokenBuffer {
@@ -53,9 +55,9 @@ impl TokenBuffer {
         self.spans.len()
     }
 
-    /// Adds a token at the end. Its bytes are copied only if they don't stand at the token's offset, as
-    /// those of a joined token.
-    pub(crate) fn push(&mut self, token: &Token<'_>) -> Result<(), AllocError>
+    /// Adds a token at the end. Its bytes are copied only if they aren't found at the token's offset, as those of a joined
+    /// token.
+    pub(crate) fn push(&mut self, token: &Token<'_>) -> Result<(), Memory>
         ensures { OnOk result (self.new ≡ self.old ++ lexeme_of token.now ∷ []) }
     {
         let start = place(&mut self.texts, token.at, token.text)?;
@@ -83,9 +85,8 @@ impl TokenBuffer {
     }
 }
 
-/// Where some bytes stand in the texts: at the offset `at` if they are found there, else they are added at
-/// the end.
-fn place(texts: &mut Vec<u8>, at: usize, bytes: &[u8]) -> Result<usize, AllocError>
+/// The place of some bytes in the texts: the offset `at` if they are found there. Otherwise they are added at the end.
+fn place(texts: &mut Vec<u8>, at: usize, bytes: &[u8]) -> Result<usize, Memory>
     ensures ok { IfOk result (StandsAt texts.new.items bytes.now) }
     ensures front { take (length texts.old.items) texts.new.items ≡ texts.old.items }
 {
@@ -97,7 +98,7 @@ fn place(texts: &mut Vec<u8>, at: usize, bytes: &[u8]) -> Result<usize, AllocErr
     Ok(start)
 }
 
-/// Whether the bytes stand at this offset of the texts.
+/// Whether the bytes are at this offset of the texts.
 fn stands_at(texts: &[u8], at: usize, bytes: &[u8]) -> bool
     ensures { IsTrue result ↔ StandsAt texts.now bytes.now at }
 {

@@ -1,5 +1,6 @@
-// Calls: a macro's name and the arguments in the brackets behind it.
-ghost use Rattle.std.specs.Prelude.{ℕ, ◌≡◌, ◌+◌, ◌<◌, ◌≤◌, ◌^◌, [], ◌∷◌, ◌++◌, List, length, drop, map, None, Some, Ok, Err, IfOk, IfErr, MatchOption, OnOk, IsTrue};
+//! Calls of macros: a macro's name, and the arguments in parentheses after it.
+ghost use Rattle.std.specs.Prelude.{ℕ, ◌≡◌, ◌+◌, ◌<◌, ◌≤◌, ◌^◌, [], ◌∷◌, ◌++◌, List, length, drop, map, None, Some, Ok};
+ghost use Rattle.std.specs.Prelude.{Err, IfOk, IfErr, MatchOption, OnOk, IsTrue};
 ghost use Rattle.rbg_macro.specs.Call.{Stays, NoCall, arguments, closing, meets, nesting};
 ghost use Rattle.rbg_macro.specs.Calls.{nesting_of, AreArguments, IsCall, IsNoCall, begins_with_parenthesis};
 ghost use Rattle.rbg_macro.specs.Gives.{UnlessMemory};
@@ -10,13 +11,14 @@ ghost use Rattle.rbg_macro.specs.Token.{lexeme_of};
 use crate::error::MacroError;
 use crate::macros::{Macros, Piece};
 use crate::token::{Token, TokenKind};
+use rbg_base::Memory;
 use smallvec::SmallVec;
-use std::alloc::{AllocError, Global};
+use std::alloc::Global;
 
 /// The arguments of a call. Most calls have few.
 pub(crate) type Arguments<'a> = SmallVec<&'a [Token<'a>], 4>;
 
-/// A call of a macro: its body, the arguments, and how many tokens stand behind the macro's name.
+/// A call of a macro: the macro's body, the arguments, and the number of tokens of the call after the macro's name.
 #[derive(Drop)]
 pub(crate) struct Call<'m, 'a> {
     pub(crate) body: &'m [Piece<'a>],
@@ -24,12 +26,12 @@ pub(crate) struct Call<'m, 'a> {
     pub(crate) len: usize,
 }
 
-/// What a token does where some further brackets are open behind a call's own.
+/// What a token does where a number of brackets are open inside the call's own.
 #[derive(Clone, Copy, Debug)]
 enum Effect {
-    /// It belongs to the argument, and leaves so many further brackets open.
+    /// It belongs to the argument, and leaves this number of inner brackets open.
     Within(usize),
-    /// It cuts the arguments apart.
+    /// It separates two arguments.
     Cuts,
     /// It closes the call.
     Ends,
@@ -66,13 +68,14 @@ fn closing(kind: TokenKind, further: usize) -> Effect
     }
 }
 
-/// The arguments in the tokens behind a call's `(`, and how many tokens these are with the `)`. There
-/// are none if the token that closes the call is missing or isn't `)`.
+/// The arguments in the tokens after a call's `(`, and the number of their tokens together with the `)`. Returns `None`
+/// if the token that closes the call is missing or isn't `)`.
 fn find_arguments<'a>(
     alloc: Global,
     tokens: &'a [Token<'a>],
-) -> Result<Option<(Arguments<'a>, usize)>, AllocError>
-    ensures { IfOk result (λ o. MatchOption o (arguments 0 (map lexeme_of tokens.now) ≡ None) (λ x. AreArguments (map lexeme_of tokens.now) (lists_in x.0.items) x.1)) }
+) -> Result<Option<(Arguments<'a>, usize)>, Memory>
+    ensures { IfOk result (λ o. MatchOption o (arguments 0 (map lexeme_of tokens.now) ≡ None)
+        (λ x. AreArguments (map lexeme_of tokens.now) (lists_in x.0.items) x.1)) }
 {
     let mut found = SmallVec::new(alloc);
     let mut further = 0;
@@ -104,8 +107,11 @@ pub(crate) fn find_call<'m, 'a>(
     name: &Token<'a>,
     behind: &'a [Token<'a>],
 ) -> Result<Option<Call<'m, 'a>>, MacroError>
-    ensures ok { IfOk result (λ o. MatchOption o (meets macros.now (lexeme_of name.now) (map lexeme_of behind.now) ≡ Stays) (IsCall macros.now (lexeme_of name.now) (map lexeme_of behind.now))) }
-    ensures err { IfErr result (UnlessMemory (λ e. IsNoCall macros.now (lexeme_of name.now) (map lexeme_of behind.now) e)) }
+    ensures ok { IfOk result (λ o. MatchOption o
+        (meets macros.now (lexeme_of name.now) (map lexeme_of behind.now) ≡ Stays)
+        (IsCall macros.now (lexeme_of name.now) (map lexeme_of behind.now))) }
+    ensures err { IfErr result (UnlessMemory (λ e. IsNoCall macros.now (lexeme_of name.now)
+        (map lexeme_of behind.now) e)) }
 {
     let Some(template) = macros.get(name) else {
         return Ok(None);
@@ -135,7 +141,7 @@ pub(crate) fn find_call<'m, 'a>(
     }))
 }
 
-/// Whether a `(` stands first.
+/// Whether the first token is `(`.
 fn begins_with_parenthesis(tokens: &[Token<'_>]) -> bool
     ensures { result ≡ begins_with_parenthesis (map lexeme_of tokens.now) }
 {

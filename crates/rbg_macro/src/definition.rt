@@ -1,8 +1,10 @@
-// The sections and macros that tokens define.
-ghost use Rattle.std.specs.Prelude.{ℕ, ◌≡◌, ◌+◌, ◌<◌, ◌≤◌, [], ◌∷◌, ◌++◌, List, length, map, None, Some, Ok, Err, IfOk, IfErr, OnOk};
+//! Reads the definitions of sections and macros.
+ghost use Rattle.std.specs.Prelude.{ℕ, ◌≡◌, ◌+◌, ◌<◌, ◌≤◌, [], ◌∷◌, ◌++◌, List, length, map, None, Some, Ok, Err, IfOk};
+ghost use Rattle.std.specs.Prelude.{IfErr, OnOk};
 ghost use Rattle.std.specs.List.{position_or_len};
 ghost use Rattle.rbg_macro.specs.Defines.{defines_of, AddsDefined};
-ghost use Rattle.rbg_macro.specs.Definition.{expect, behind_equals, AddsParameter, parameter_list, behind_name, section_named, first_at, defined, definitions_of, BeginsDefinition, Part};
+ghost use Rattle.rbg_macro.specs.Definition.{expect, behind_equals, AddsParameter, parameter_list, behind_name};
+ghost use Rattle.rbg_macro.specs.Definition.{section_named, first_at, defined, definitions_of, BeginsDefinition, Part};
 ghost use Rattle.rbg_macro.specs.Gives.{Gives, UnlessMemory};
 ghost use Rattle.rbg_macro.specs.Kinds.{is_name_kind, is_equals, is_hash};
 ghost use Rattle.rbg_macro.specs.Template.{macro_of, texts_in};
@@ -36,7 +38,8 @@ fn expect_name<'a>(
     tokens: &'a [Token<'a>],
     end: usize,
 ) -> Result<(Token<'a>, &'a [Token<'a>]), MacroError>
-    ensures { Gives (λ x. (lexeme_of x.0, map lexeme_of x.1.now)) result (expect (λ t. is_name_kind t.kind) end (map lexeme_of tokens.now)) }
+    ensures { Gives (λ x. (lexeme_of x.0, map lexeme_of x.1.now)) result
+        (expect (λ t. is_name_kind t.kind) end (map lexeme_of tokens.now)) }
 {
     let Some((token, behind)) = tokens.split_first() else {
         return Err(MacroError::BadDefinition { at: end });
@@ -63,14 +66,16 @@ fn expect_equals<'a>(tokens: &'a [Token<'a>], end: usize) -> Result<&'a [Token<'
 /// A macro's parameters, and what follows them.
 type Parameters<'a> = (IndexSet<&'a [u8]>, &'a [Token<'a>]);
 
-/// Adds the parameter that stands first, and gives the token behind it.
+/// Adds the parameter that is the first token, and returns the token after it.
 fn parameter<'a>(
     names: &mut IndexSet<&'a [u8]>,
     tokens: &'a [Token<'a>],
     end: usize,
 ) -> Result<Token<'a>, MacroError>
-    ensures ok { IfOk result (λ x. AddsParameter (texts_in names.old.keys) (texts_in names.new.keys) (map lexeme_of tokens.now) (lexeme_of x)) }
-    ensures err { IfErr result (UnlessMemory (λ e. parameter_list end (texts_in names.old.keys) (map lexeme_of tokens.now) ≡ Err e)) }
+    ensures ok { IfOk result (λ x. AddsParameter (texts_in names.old.keys) (texts_in names.new.keys)
+        (map lexeme_of tokens.now) (lexeme_of x)) }
+    ensures err { IfErr result (UnlessMemory (λ e. parameter_list end (texts_in names.old.keys)
+        (map lexeme_of tokens.now) ≡ Err e)) }
 {
     if tokens.is_empty() {
         return Err(MacroError::BadDefinition { at: end });
@@ -89,13 +94,14 @@ fn parameter<'a>(
     Ok(tokens[1])
 }
 
-/// The parameters behind a `(`, up to the `)` behind the last one.
+/// The parameters after a `(`, up to the `)` after the last one.
 fn parameter_list<'a>(
     alloc: Global,
     tokens: &'a [Token<'a>],
     end: usize,
 ) -> Result<Parameters<'a>, MacroError>
-    ensures { Gives (λ x. (texts_in x.0.keys, map lexeme_of x.1.now)) result (parameter_list end [] (map lexeme_of tokens.now)) }
+    ensures { Gives (λ x. (texts_in x.0.keys, map lexeme_of x.1.now)) result
+        (parameter_list end [] (map lexeme_of tokens.now)) }
 {
     let mut names = IndexSet::new(alloc);
     let mut at = 0;
@@ -111,13 +117,14 @@ fn parameter_list<'a>(
     }
 }
 
-/// A macro's parameters and its body, behind its name.
+/// A macro's parameters and its body, which follow its name.
 fn behind_name<'a>(
     alloc: Global,
     tokens: &'a [Token<'a>],
     end: usize,
 ) -> Result<Parameters<'a>, MacroError>
-    ensures { Gives (λ x. (texts_in x.0.keys, map lexeme_of x.1.now)) result (behind_name end (map lexeme_of tokens.now)) }
+    ensures { Gives (λ x. (texts_in x.0.keys, map lexeme_of x.1.now)) result
+        (behind_name end (map lexeme_of tokens.now)) }
 {
     let Some((token, behind)) = tokens.split_first() else {
         return Err(MacroError::BadDefinition { at: end });
@@ -163,7 +170,7 @@ impl<'a> Definitions<'a> {
     }
 }
 
-/// Adds what a part defines: the tokens behind a `#` at this offset, up to the next one.
+/// Adds what a part defines. Its tokens are those after the `#` at the offset `at`, up to the next `#`.
 fn define<'a>(
     alloc: Global,
     definitions: &mut Definitions<'a>,
@@ -171,8 +178,10 @@ fn define<'a>(
     tokens: &'a [Token<'a>],
     end: usize,
 ) -> Result<(), MacroError>
-    ensures ok { OnOk result (AddsDefined (defines_of definitions.old) (defines_of definitions.new) (record { at = at; tokens = map lexeme_of tokens.now; end = end })) }
-    ensures err { IfErr result (UnlessMemory (λ e. defined (defines_of definitions.old).macros (record { at = at; tokens = map lexeme_of tokens.now; end = end }) ≡ Err e)) }
+    ensures ok { OnOk result (AddsDefined (defines_of definitions.old) (defines_of definitions.new)
+        (record { at = at; tokens = map lexeme_of tokens.now; end = end })) }
+    ensures err { IfErr result (UnlessMemory (λ e. defined (defines_of definitions.old).macros
+        (record { at = at; tokens = map lexeme_of tokens.now; end = end }) ≡ Err e)) }
 {
     let (name, behind) = expect_name(tokens, end)?;
     if let Some(kind) = section_named(name.text) {
@@ -197,7 +206,7 @@ fn part_len(tokens: &[Token<'_>]) -> usize
     tokens.iter().take_while(|t| !t.kind.is_hash()).count()
 }
 
-/// Refuses a token that stands before the first `#`.
+/// Refuses a token before the first `#`.
 fn check_begin(tokens: &[Token<'_>]) -> Result<(), MacroError>
     ensures ok { OnOk result (BeginsDefinition (map lexeme_of tokens.now)) }
     ensures err { IfErr result (λ e. definitions_of (map lexeme_of tokens.now) ≡ Err e) }

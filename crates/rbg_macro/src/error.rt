@@ -1,9 +1,10 @@
-// Why a text has no tokens, and why tokens have no expansion.
+//! Why a text has no tokens, and why tokens have no expansion.
 ghost use Rattle.std.specs.Prelude.{◌≡◌};
 ghost use Rattle.rbg_macro.specs.declared.error.TextError.TheVariants as text_errors;
 ghost use Rattle.rbg_macro.specs.declared.error.MacroError.TheVariants as macro_errors;
 
-use std::alloc::{AllocError, AllocFailed};
+use rbg_base::Memory;
+use std::alloc::AllocFailed;
 use thiserror::Error;
 
 /// Why a text has no tokens.
@@ -12,7 +13,7 @@ pub enum TextError {
     /// The text has more than `MAX_TEXT` bytes.
     #[error("the text is too long")]
     TooLong,
-    /// A zero byte stands where the tokens before it end, or in a comment.
+    /// There is a zero byte, between tokens or in a comment.
     #[error("the text has a zero byte")]
     ZeroByte,
     /// The byte at this offset begins no token.
@@ -29,13 +30,13 @@ pub enum MacroError {
     #[error("the definition's head is wrong at byte {at}")]
     BadDefinition { at: usize },
     /// A second macro has the name at this offset.
-    #[error("the macro named at byte {at} is defined before")]
+    #[error("the macro at byte {at} is already defined")]
     Twice { at: usize },
     /// What follows the macro's name at this offset is no call with the macro's number of arguments.
-    #[error("the macro named at byte {at} hasn't its number of arguments")]
+    #[error("wrong number of arguments for the macro at byte {at}")]
     ArgumentCount { at: usize },
     /// The macro named at this offset would be expanded below the last level.
-    #[error("the macro named at byte {at} is nested too deep")]
+    #[error("the macro at byte {at} is nested too deep")]
     Depth { at: usize },
     /// More tokens are read or kept than the limits allow.
     #[error("the expansion has too many tokens")]
@@ -47,10 +48,10 @@ pub enum MacroError {
     Memory,
 }
 
-impl From<AllocError> for TextError {
+impl From<Memory> for TextError {
     ghost from_gives = { λ _ e. e ≡ text_errors.Memory };
 
-    fn from(_error: AllocError) -> TextError {
+    fn from(_error: Memory) -> TextError {
         TextError::Memory
     }
 }
@@ -63,10 +64,10 @@ impl<T: Drop> From<AllocFailed<T>> for TextError {
     }
 }
 
-impl From<AllocError> for MacroError {
+impl From<Memory> for MacroError {
     ghost from_gives = { λ _ e. e ≡ macro_errors.Memory };
 
-    fn from(_error: AllocError) -> MacroError {
+    fn from(_error: Memory) -> MacroError {
         MacroError::Memory
     }
 }

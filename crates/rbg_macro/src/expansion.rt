@@ -1,12 +1,15 @@
-// Expansion: the sections with their macro calls replaced.
-ghost use Rattle.std.specs.Prelude.{ℕ, ◌≡◌, ◌+◌, ◌*◌, ◌-◌, ◌<◌, ◌≤◌, [], ◌∷◌, ◌++◌, List, length, map, Ok, Err, IfOk, IfErr, OnOk, OnErr, MatchOption};
+//! Expansion: the sections, with the calls of macros replaced.
+ghost use Rattle.std.specs.Prelude.{All, ℕ, ◌≡◌, ◌+◌, ◌*◌, ◌-◌, ◌<◌, ◌≤◌, [], ◌∷◌, ◌++◌, List, length, map, Ok, Err};
+ghost use Rattle.std.specs.Prelude.{IfOk, IfErr, OnOk, OnErr, MatchOption};
 ghost use Rattle.std.specs.List.{list_any};
 ghost use Rattle.rbg_macro.specs.Call.{Stays, meets};
 ghost use Rattle.rbg_macro.specs.Expansion.{ExpandsWithin, Fails, FailsReading, FailsAll, HasSections, HasMacroFault};
 ghost use Rattle.rbg_macro.specs.Defines.{section_of};
 ghost use Rattle.rbg_macro.specs.Gives.{UnlessMemory};
 ghost use Rattle.rbg_macro.specs.Kinds.{is_tilde};
-ghost use Rattle.rbg_macro.specs.Progress.{ReadsOn, ReadsJoined, ReadsSection, FailsJoined, GivesWay, IsTooMany, IsWithinLimits};
+ghost use Rattle.rbg_macro.specs.Progress.{ReadsOn, ReadsJoined, ReadsSection, FailsJoined, GivesWay, IsTooMany};
+ghost use Rattle.rbg_macro.specs.Progress.{IsWithinLimits};
+ghost use Rattle.rbg_macro.specs.Span.{section_in, IsSectionWithin};
 ghost use Rattle.rbg_macro.specs.Token.{lexeme_of};
 
 use crate::buffer::TokenBuffer;
@@ -51,8 +54,8 @@ impl Progress {
     }
 }
 
-/// The body that a call gives way to, with its arguments, and how many tokens the call has behind the
-/// macro's name; none if the token is no macro's name.
+/// The tokens that replace a call, and the number of tokens of the call after the macro's name. Returns `None` if the
+/// token isn't the name of a macro.
 fn body_of_call<'a>(
     alloc: Global,
     macros: &Macros<'a>,
@@ -62,8 +65,12 @@ fn body_of_call<'a>(
     read: usize,
 ) -> Result<Option<(Vec<Token<'a>>, usize)>, MacroError>
     requires { read ≤ MAX_READ }
-    ensures ok { IfOk result (λ o. MatchOption o (meets macros.now (lexeme_of name.now) (map lexeme_of behind.now) ≡ Stays) (λ x. GivesWay macros.now level (lexeme_of name.now) (map lexeme_of behind.now) read (map lexeme_of x.0.items) x.1)) }
-    ensures err { IfErr result (UnlessMemory (λ e. (k : ℕ) → FailsReading macros.now level read k (lexeme_of name.now ∷ map lexeme_of behind.now) e)) }
+    ensures ok { IfOk result (λ o. MatchOption o
+        (meets macros.now (lexeme_of name.now) (map lexeme_of behind.now) ≡ Stays)
+        (λ x. GivesWay macros.now level (lexeme_of name.now) (map lexeme_of behind.now) read
+        (map lexeme_of x.0.items) x.1)) }
+    ensures err { IfErr result (UnlessMemory (λ e. (k : ℕ) →
+        FailsReading macros.now level read k (lexeme_of name.now ∷ map lexeme_of behind.now) e)) }
 {
     let Some(call) = find_call(alloc, macros, name, behind)? else {
         return Ok(None);
@@ -120,7 +127,8 @@ fn read_joined<'a>(
     requires level { level ≤ MAX_LEVEL }
     requires within { IsWithinLimits progress.old }
     ensures ok { OnOk result (ReadsOn macros.now level (map lexeme_of list.now) progress.old progress.new) }
-    ensures err { IfErr result (UnlessMemory (FailsReading macros.now level progress.old.read (length progress.old.kept) (map lexeme_of list.now))) }
+    ensures err { IfErr result (UnlessMemory (FailsReading macros.now level progress.old.read
+        (length progress.old.kept) (map lexeme_of list.now))) }
 {
     let mut at = 0;
     while at < list.len() {
@@ -146,7 +154,7 @@ fn read_joined<'a>(
     Ok(())
 }
 
-/// Expands a section, whose tokens are kept behind those of the earlier ones.
+/// Expands a section. Its tokens are kept after those of the earlier sections.
 fn read_section<'a>(
     alloc: Global,
     macros: &Macros<'a>,
@@ -155,7 +163,8 @@ fn read_section<'a>(
 ) -> Result<SectionSpan, MacroError>
     requires { IsWithinLimits progress.old }
     ensures ok { IfOk result (ReadsSection macros.now (section_of section.now) progress.old progress.new) }
-    ensures err { IfErr result (UnlessMemory (Fails macros.now 0 progress.old.read (length progress.old.kept) (section_of section.now).tokens)) }
+    ensures err { IfErr result (UnlessMemory (Fails macros.now 0 progress.old.read (length progress.old.kept)
+        (section_of section.now).tokens)) }
 {
     let tokens = section.tokens;
     if tokens.len() > MAX_READ - progress.read {
@@ -172,15 +181,17 @@ fn read_section<'a>(
     })
 }
 
-/// Expands the sections one by one. Where a token that is kept stands in the text, its bytes are copied
-/// only with the text.
+/// Expands the sections one by one, and returns the tokens that were kept and where each section's tokens are among
+/// them. The bytes of a token that is in the text are not copied a second time.
 fn expand_sections<'a>(
     alloc: Global,
     text: &[u8],
     macros: &Macros<'a>,
     bodies: &[SectionBody<'a>],
-) -> Result<Source, MacroError>
-    ensures ok { IfOk result (ExpandsWithin macros.now (map section_of bodies.now)) }
+) -> Result<(TokenBuffer, Vec<SectionSpan>), MacroError>
+    ensures within { IfOk result (λ x. All (IsSectionWithin (length x.0)) x.1.items) }
+    ensures ok { IfOk result (λ x. ExpandsWithin macros.now (map section_of bodies.now)
+        (map (section_in x.0) x.1.items)) }
     ensures err { IfErr result (UnlessMemory (FailsAll macros.now 0 0 (map section_of bodies.now))) }
 {
     let mut progress = Progress {
@@ -192,7 +203,7 @@ fn expand_sections<'a>(
         let section = read_section(alloc, macros, body, &mut progress)?;
         sections.push(section)?;
     }
-    Ok(Source::new(progress.kept, sections))
+    Ok((progress.kept, sections))
 }
 
 /// The sections that the tokens define, expanded: each macro call is replaced by the macro's body with
@@ -202,10 +213,11 @@ pub fn expand(alloc: Global, tokens: &Tokens<'_>) -> Result<Source, MacroError>
     ensures fault { IfErr result (HasMacroFault tokens.now) }
 {
     let definitions = read_definitions(alloc, tokens.as_slice())?;
-    expand_sections(
+    let (kept, sections) = expand_sections(
         alloc,
         tokens.text(),
         &definitions.macros,
         &definitions.sections,
-    )
+    )?;
+    Ok(Source::new(kept, sections))
 }

@@ -1,12 +1,14 @@
-// A macro's body with the arguments of a call put in.
-ghost use Rattle.std.specs.Prelude.{ℕ, ◌≡◌, ◌+◌, ◌<◌, ◌≤◌, ◌++◌, List, [], length, map, slice_get, unwrap_or, MatchOption, IfOk, OnOk};
+//! Fills a macro's body with the arguments of a call.
+ghost use Rattle.std.specs.Prelude.{ℕ, ◌≡◌, ◌+◌, ◌<◌, ◌≤◌, ◌++◌, List, [], length, map, slice_get, unwrap_or};
+ghost use Rattle.std.specs.Prelude.{MatchOption, IfOk, OnOk};
 ghost use Rattle.rbg_macro.specs.Macro.{filled, filled_piece};
 ghost use Rattle.rbg_macro.specs.Template.{piece_in, lists_in};
 ghost use Rattle.rbg_macro.specs.Token.{lexeme_of};
 
 use crate::macros::Piece;
 use crate::token::Token;
-use std::alloc::{AllocError, Global};
+use rbg_base::Memory;
+use std::alloc::Global;
 
 /// The argument with this index, or no tokens.
 fn argument_at<'a>(arguments: &[&'a [Token<'a>]], index: usize) -> &'a [Token<'a>]
@@ -34,7 +36,8 @@ pub(crate) fn filled_len<'a>(
     arguments: &[&'a [Token<'a>]],
     room: usize,
 ) -> Option<usize>
-    ensures { MatchOption result (room < length (filled (map piece_in body.now) (lists_in arguments.now))) (λ n. (n ≡ length (filled (map piece_in body.now) (lists_in arguments.now))) × (n ≤ room)) }
+    ensures { MatchOption result (room < length (filled (map piece_in body.now) (lists_in arguments.now)))
+        (λ n. (n ≡ length (filled (map piece_in body.now) (lists_in arguments.now))) × (n ≤ room)) }
 {
     let mut len = 0;
     for piece in body {
@@ -52,8 +55,9 @@ fn push_piece<'a>(
     tokens: &mut Vec<Token<'a>>,
     piece: &Piece<'a>,
     arguments: &[&'a [Token<'a>]],
-) -> Result<(), AllocError>
-    ensures { OnOk result (map lexeme_of tokens.new.items ≡ map lexeme_of tokens.old.items ++ filled_piece (lists_in arguments.now) (piece_in piece.now)) }
+) -> Result<(), Memory>
+    ensures { OnOk result (map lexeme_of tokens.new.items ≡ map lexeme_of tokens.old.items ++ filled_piece
+        (lists_in arguments.now) (piece_in piece.now)) }
 {
     match piece {
         Piece::Word(token) => tokens.push(*token)?,
@@ -62,13 +66,13 @@ fn push_piece<'a>(
     Ok(())
 }
 
-/// The body with the arguments put in, which make so many tokens.
+/// The body with the arguments put in, which has `len` tokens.
 pub(crate) fn fill<'a>(
     alloc: Global,
     body: &[Piece<'a>],
     arguments: &[&'a [Token<'a>]],
     len: usize,
-) -> Result<Vec<Token<'a>>, AllocError>
+) -> Result<Vec<Token<'a>>, Memory>
     ensures { IfOk result (λ v. map lexeme_of v.items ≡ filled (map piece_in body.now) (lists_in arguments.now)) }
 {
     let mut tokens = Vec::with_capacity(alloc, len)?;

@@ -1,7 +1,9 @@
-// Joining: each `~` and its two neighbours become one token, from the left.
-ghost use Rattle.std.specs.Prelude.{ℕ, ◌≡◌, ◌+◌, ◌<◌, ◌≤◌, [], ◌∷◌, ◌++◌, List, length, take, drop, map, Ok, Err, IfOk, IfErr, OnOk, IsTrue, ◌↔◌, All};
+//! Joining: each `~` and its two neighbours become one token, from the left.
+ghost use Rattle.std.specs.Prelude.{ℕ, ◌≡◌, ◌+◌, ◌<◌, ◌≤◌, [], ◌∷◌, ◌++◌, List, length, take, drop, map, Ok, Err, IfOk};
+ghost use Rattle.std.specs.Prelude.{IfErr, OnOk, IsTrue, ◌↔◌, All};
 ghost use Rattle.rbg_macro.specs.Gives.{Gives, UnlessMemory};
-ghost use Rattle.rbg_macro.specs.Joined.{AddsChain, JoinsNext, JoinsChain, FailsChain, IsJoinedWithin, begins_with_tilde, joined_lexeme, word_at};
+ghost use Rattle.rbg_macro.specs.Joined.{AddsChain, JoinsNext, JoinsChain, FailsChain, IsJoinedWithin};
+ghost use Rattle.rbg_macro.specs.Joined.{begins_with_tilde, joined_lexeme, word_at};
 ghost use Rattle.rbg_macro.specs.Joining.{joined, joined_from, joined_kind};
 ghost use Rattle.rbg_macro.specs.Kinds.{is_tilde};
 ghost use Rattle.rbg_macro.specs.Token.{Lexeme, lexeme_of};
@@ -10,7 +12,8 @@ use crate::buffer::Span;
 use crate::error::MacroError;
 use crate::limits::MAX_JOINED;
 use crate::token::{Token, TokenKind};
-use std::alloc::{AllocError, Global};
+use rbg_base::Memory;
+use std::alloc::Global;
 use std::marker::Model;
 
 /// A token that stayed as it was, or one that was joined, whose bytes stand in a buffer.
@@ -51,7 +54,7 @@ fn joined_kind(left: TokenKind, right: TokenKind) -> Option<TokenKind>
     }
 }
 
-/// Whether a `~` stands first.
+/// Whether the first token is `~`.
 pub(crate) fn begins_with_tilde(tokens: &[Token<'_>]) -> bool
     ensures { result ≡ begins_with_tilde (map lexeme_of tokens.now) }
 {
@@ -61,8 +64,7 @@ pub(crate) fn begins_with_tilde(tokens: &[Token<'_>]) -> bool
     }
 }
 
-/// Adds the token behind the `~` that stands first to the word that begins at `start`, and gives the
-/// word's kind.
+/// Adds the second token to the word that begins at `start`, and returns the word's kind. The first token is `~`.
 fn join_next(
     texts: &mut Vec<u8>,
     start: usize,
@@ -71,9 +73,11 @@ fn join_next(
 ) -> Result<TokenKind, MacroError>
     requires start { start ≤ length texts.old.items }
     requires tilde { IsTrue (begins_with_tilde (map lexeme_of tokens.now)) }
-    ensures ok { IfOk result (λ k. JoinsNext kind k (drop start texts.old.items) (drop start texts.new.items) (map lexeme_of tokens.now)) }
+    ensures ok { IfOk result (λ k. JoinsNext kind k (drop start texts.old.items) (drop start texts.new.items)
+        (map lexeme_of tokens.now)) }
     ensures front { take (length texts.old.items) texts.new.items ≡ texts.old.items }
-    ensures err { IfErr result (UnlessMemory (λ e. (at : ℕ) → joined_from (word_at at kind (drop start texts.old.items)) (map lexeme_of tokens.now) ≡ Err e)) }
+    ensures err { IfErr result (UnlessMemory (λ e. (at : ℕ) →
+        joined_from (word_at at kind (drop start texts.old.items)) (map lexeme_of tokens.now) ≡ Err e)) }
 {
     let at = tokens[0].at;
     if tokens.len() == 1 {
@@ -91,11 +95,12 @@ fn join_next(
     Ok(joined)
 }
 
-/// Joins the first token with those that follow behind a `~` each. The word's bytes are added to the
-/// texts; its kind is given, and how many tokens it took.
+/// Joins the first token with those that follow, each after a `~`. Adds the word's bytes to the texts, and returns its
+/// kind and the number of tokens that it took.
 fn join_chain(texts: &mut Vec<u8>, tokens: &[Token<'_>]) -> Result<(TokenKind, usize), MacroError>
     requires { 0 < length tokens.now }
-    ensures ok { IfOk result (λ x. JoinsChain (map lexeme_of tokens.now) x.0 (drop (length texts.old.items) texts.new.items) x.1) }
+    ensures ok { IfOk result (λ x. JoinsChain (map lexeme_of tokens.now) x.0
+        (drop (length texts.old.items) texts.new.items) x.1) }
     ensures front { take (length texts.old.items) texts.new.items ≡ texts.old.items }
     ensures err { IfErr result (UnlessMemory (λ e. FailsChain (map lexeme_of tokens.now) e)) }
 {
@@ -122,15 +127,15 @@ impl<'a> JoinedList<'a> {
     }
 
     /// Adds a token that stays as it is.
-    fn push(&mut self, token: Token<'a>) -> Result<(), AllocError>
+    fn push(&mut self, token: Token<'a>) -> Result<(), Memory>
         ensures { OnOk result (self.new ≡ self.old ++ lexeme_of token.entry ∷ []) }
     {
         self.tokens.push(JoinedToken::Single(token))?;
         Ok(())
     }
 
-    /// Adds the token that the first ones make together, which follow behind a `~` each, and gives how
-    /// many they are.
+    /// Adds the token that the first tokens make together, where each but the first follows a `~`, and returns the
+    /// number of tokens that it took.
     fn push_chain(&mut self, tokens: &[Token<'_>]) -> Result<usize, MacroError>
         requires { 0 < length tokens.now }
         ensures ok { IfOk result (AddsChain self.old self.new (map lexeme_of tokens.now)) }
@@ -150,7 +155,7 @@ impl<'a> JoinedList<'a> {
     }
 
     /// The tokens of the list, which borrow its texts.
-    pub(crate) fn tokens(&self, alloc: Global) -> Result<Vec<Token<'_>>, AllocError>
+    pub(crate) fn tokens(&self, alloc: Global) -> Result<Vec<Token<'_>>, Memory>
         ensures { IfOk result (λ v. map lexeme_of v.items ≡ self.now) }
     {
         let mut tokens = Vec::with_capacity(alloc, self.tokens.len())?;

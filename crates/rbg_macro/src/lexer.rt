@@ -1,8 +1,10 @@
-// Cuts a text into its tokens.
-ghost use Rattle.std.specs.Prelude.{ℕ, ◌≡◌, ◌<◌, ◌≤◌, ◌↔◌, ◌++◌, length, IfOk, IfErr, IfSome, IfNone, IsTrue, MatchOption, ◌≢◌, [], ◌∷◌};
+//! Cuts a text into its tokens.
+ghost use Rattle.std.specs.Prelude.{ℕ, ◌≡◌, ◌<◌, ◌≤◌, ◌↔◌, ◌++◌, length, IfOk, IfErr, IfSome, IfNone, IsTrue};
+ghost use Rattle.std.specs.Prelude.{MatchOption, ◌≢◌, [], ◌∷◌};
 ghost use Rattle.std.specs.List.{prefix_len};
 ghost use Rattle.std.specs.Char.{is_ascii_digit};
-ghost use Rattle.rbg_macro.specs.Text.{HasTokens, HasTextFault, is_blank, is_comment_byte, spelling};
+ghost use Rattle.rbg_macro.specs.Text.{HasTokens, HasTextFault, is_blank, is_comment_byte};
+ghost use Rattle.rbg_macro.specs.Spelling.{spelling};
 ghost use Rattle.rbg_base.specs.Names.{is_name_start, is_name_part};
 ghost use Rattle.rbg_macro.specs.Part.{IsPart, BeginsComment, BeginsNoSymbol, IsLongestSymbol};
 
@@ -12,7 +14,7 @@ use crate::token::{Symbol, Token, TokenKind, Tokens};
 use rbg_base::{is_name_part, is_name_start};
 use std::alloc::Global;
 
-/// What stands at the front of some bytes, with its length.
+/// What some bytes begin with, and its length.
 #[derive(Clone, Copy, Debug)]
 enum Part {
     /// A blank or a comment.
@@ -23,8 +25,8 @@ enum Part {
     BadByte,
 }
 
-/// The tokens of a text, which borrow it. A text that is too long is refused first; else the first
-/// zero byte or byte that begins no token decides.
+/// The tokens of a text, which borrow it. A text that is too long is refused first. Otherwise the error is that of the
+/// first zero byte, or of the first byte that begins no token.
 pub fn tokens(alloc: Global, text: &[u8]) -> Result<Tokens<'_>, TextError>
     ensures tokens { IfOk result (HasTokens text.now) }
     ensures fault { IfErr result (HasTextFault text.now) }
@@ -50,7 +52,7 @@ pub fn tokens(alloc: Global, text: &[u8]) -> Result<Tokens<'_>, TextError>
     Ok(Tokens::new(text, tokens))
 }
 
-/// What stands at the front.
+/// What the bytes begin with.
 fn first_part(bytes: &[u8]) -> Part
     requires { 0 < length bytes.now }
     ensures { IsPart bytes.now result }
@@ -89,14 +91,14 @@ fn is_comment_byte(b: u8) -> bool
     b != b'\n' && b != 0
 }
 
-/// Whether `//` stands at the front.
+/// Whether the bytes begin with `//`.
 fn begins_comment(bytes: &[u8]) -> bool
     ensures { IsTrue result ↔ BeginsComment bytes.now }
 {
     matches!(bytes, [b'/', b'/', ..])
 }
 
-/// The comment whose line goes on with these bytes behind its `//`.
+/// The comment that these bytes continue after its `//`.
 fn comment_part(line: &[u8]) -> Part
     ensures { IsPart (47 ∷ 47 ∷ line.now) result }
 {

@@ -1,4 +1,4 @@
-// The limits on texts and expansions.
+//! The limits on texts and expansions.
 
 /// The greatest length of a text, in bytes.
 pub const MAX_TEXT: usize = 262_144;

@@ -1,5 +1,6 @@
-// The macros of a description, by name.
-ghost use Rattle.std.specs.Prelude.{ℕ, ◌≡◌, ◌+◌, ◌<◌, ◌≤◌, [], ◌∷◌, ◌++◌, List, length, map, None, Some, MatchOption, OnOk, IfOk};
+//! The table of macros, by name, and their bodies as templates.
+ghost use Rattle.std.specs.Prelude.{ℕ, ◌≡◌, ◌+◌, ◌<◌, ◌≤◌, [], ◌∷◌, ◌++◌, List, length, map, None, Some, MatchOption};
+ghost use Rattle.std.specs.Prelude.{OnOk, IfOk};
 ghost use Rattle.std.specs.Bool.{IsFalse};
 ghost use Rattle.std.specs.List.{list_any};
 ghost use Rattle.std.specs.Str.{bytes_eq};
@@ -9,7 +10,8 @@ ghost use Rattle.rbg_macro.specs.Token.{lexeme_of};
 
 use crate::token::Token;
 use indexmap::{IndexMap, IndexSet};
-use std::alloc::{AllocError, Global};
+use rbg_base::Memory;
+use std::alloc::Global;
 use std::marker::Model;
 
 /// What a macro's body is made of: its own tokens, and the places where an argument is put.
@@ -49,9 +51,10 @@ impl<'a> Template<'a> {
         alloc: Global,
         parameters: &IndexSet<&'a [u8]>,
         tokens: &'a [Token<'a>],
-    ) -> Result<Self, AllocError>
+    ) -> Result<Self, Memory>
         ensures parameters { IfOk result (λ t. t.parameters ≡ length (texts_in parameters.now.keys)) }
-        ensures body { IfOk result (λ t. map piece_in t.body.items ≡ body_of (texts_in parameters.now.keys) (map lexeme_of tokens.now)) }
+        ensures body { IfOk result (λ t. map piece_in t.body.items ≡ body_of (texts_in parameters.now.keys)
+            (map lexeme_of tokens.now)) }
     {
         let mut body = Vec::with_capacity(alloc, tokens.len())?;
         for token in tokens {
@@ -94,11 +97,7 @@ impl<'a> Macros<'a> {
     }
 
     /// Adds a macro of a new name.
-    pub(crate) fn insert(
-        &mut self,
-        name: &'a [u8],
-        template: Template<'a>,
-    ) -> Result<(), AllocError>
+    pub(crate) fn insert(&mut self, name: &'a [u8], template: Template<'a>) -> Result<(), Memory>
         requires { IsFalse (list_any (λ m. bytes_eq name.now m.name) self.old) }
         ensures { OnOk result (self.new ≡ self.old ++ macro_of name.now template.entry ∷ []) }
     {
@@ -108,7 +107,8 @@ impl<'a> Macros<'a> {
 
     /// The macro that the token names.
     pub(crate) fn get(&self, token: &Token<'_>) -> Option<&Template<'a>>
-        ensures { MatchOption result (macro_named self.now (lexeme_of token.now) ≡ None) (λ t. IsNamed self.now (lexeme_of token.now) t.now) }
+        ensures { MatchOption result (macro_named self.now (lexeme_of token.now) ≡ None)
+            (λ t. IsNamed self.now (lexeme_of token.now) t.now) }
     {
         if token.kind.is_name() {
             return self.by_name.get(token.text);

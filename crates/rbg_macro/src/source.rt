@@ -1,13 +1,15 @@
-// The expanded sections of a description, which own the texts of their tokens.
-ghost use Rattle.std.specs.Prelude.{◌≡◌, ◌<◌, ◌==◌, ◌++◌, [], ◌∷◌, length, slice_get, Some, OnOk, OnErr};
+//! The expanded sections of a description, which own the texts of their tokens.
+ghost use Rattle.std.specs.Prelude.{◌≡◌, ◌<◌, ◌==◌, IsTrue, Some, length, slice_get};
+ghost use Rattle.rbg_base.specs.Names.{is_name};
+ghost use Rattle.rbg_macro.specs.Spelling.{is_number};
 ghost use Rattle.rbg_macro.specs.Token.{lexeme_of};
 
 use crate::buffer::TokenBuffer;
-use crate::token::Token;
-use std::alloc::AllocError;
+use crate::token::{Token, TokenKind};
+use std::fmt;
 use std::marker::Model;
 
-/// Which section it is.
+/// The kind of a section.
 #[derive(Clone, Copy, Debug, PartialEq, Eq)]
 pub enum SectionKind {
     Players,
@@ -17,7 +19,20 @@ pub enum SectionKind {
     Rules,
 }
 
-/// A section whose tokens stand in a list.
+/// The name of the section, as in the text.
+impl fmt::Display for SectionKind {
+    fn fmt<W: fmt::Write>(&self, f: &mut fmt::Formatter<W>) -> fmt::Result {
+        match self {
+            SectionKind::Players => write!(f, "players"),
+            SectionKind::Pieces => write!(f, "pieces"),
+            SectionKind::Variables => write!(f, "variables"),
+            SectionKind::Board => write!(f, "board"),
+            SectionKind::Rules => write!(f, "rules"),
+        }
+    }
+}
+
+/// Where the tokens of a section are in a list of tokens.
 #[derive(Clone, Copy, Debug)]
 pub(crate) struct SectionSpan {
     pub(crate) kind: SectionKind,
@@ -39,11 +54,11 @@ impl Model for Source {
 
     ghost Value = { List SectionTokens };
 
-    ghost use Rattle.rbg_macro.specs.Span.{section_in, IsSectionWithin};
+    ghost use Rattle.rbg_macro.specs.Span.{section_in, IsSectionIn};
 
     ghost view = { λ s. map (section_in s.tokens) s.sections.items };
 
-    ghost invariant = { λ s. All (IsSectionWithin (length s.tokens)) s.sections.items };
+    ghost invariant = { λ s. All (IsSectionIn s.tokens) s.sections.items };
 }
 
 /// One section of a source.
@@ -59,25 +74,25 @@ impl<'a> Model for Section<'a> {
 
     ghost Value = { SectionTokens };
 
-    ghost use Rattle.rbg_macro.specs.Span.{section_in, IsSectionWithin};
+    ghost use Rattle.rbg_macro.specs.Span.{section_in, IsSectionIn};
 
     ghost view = { λ s. section_in s.tokens.now s.span };
 
-    ghost invariant = { λ s. IsSectionWithin (length s.tokens.now) s.span };
+    ghost invariant = { λ s. IsSectionIn s.tokens.now s.span };
 }
 
 impl Source {
     ghost use Rattle.std.specs.Prelude.{◌≡◌, ◌<◌, ◌==◌, All, Some, length, map, slice_get};
-    ghost use Rattle.rbg_macro.specs.Span.{section_in, IsSectionWithin};
+    ghost use Rattle.rbg_macro.specs.Span.{section_in, IsSectionIn};
 
     pub(crate) fn new(tokens: TokenBuffer, sections: Vec<SectionSpan>) -> Self
-        requires { All (IsSectionWithin (length tokens)) sections.items }
+        requires { All (IsSectionIn tokens) sections.items }
         ensures { result ≡ map (section_in tokens) sections.items }
     {
         Source { tokens, sections }
     }
 
-    /// How many sections there are.
+    /// The number of sections.
     pub fn len(&self) -> usize
         ensures { result ≡ length self.now }
     {
@@ -105,7 +120,7 @@ impl Source {
 }
 
 impl<'a> Section<'a> {
-    /// Which section it is.
+    /// The kind of the section.
     pub fn kind(&self) -> SectionKind
         ensures { result ≡ self.now.kind }
     {
@@ -119,7 +134,7 @@ impl<'a> Section<'a> {
         self.span.at
     }
 
-    /// How many tokens it has.
+    /// The number of its tokens.
     pub fn len(&self) -> usize
         ensures { result ≡ length self.now.tokens }
     {
@@ -133,10 +148,12 @@ impl<'a> Section<'a> {
         self.span.start == self.span.end
     }
 
-    /// Its token with this index.
+    /// The token with this index.
     pub fn token(&self, index: usize) -> Token<'a>
         requires { index < length self.now.tokens }
-        ensures { slice_get self.now.tokens index ≡ Some (lexeme_of result) }
+        ensures token { slice_get self.now.tokens index ≡ Some (lexeme_of result) }
+        ensures name { result.kind ≡ TokenKind.Name → IsTrue (is_name result.text.now) }
+        ensures number { result.kind ≡ TokenKind.Number → IsTrue (is_number result.text.now) }
     {
         let span = self.span;
         self.tokens.token(span.start + index)

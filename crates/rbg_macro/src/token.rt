@@ -1,8 +1,6 @@
-// Tokens: what the bytes of a text spell.
-ghost use Rattle.std.specs.Prelude.{◌≡◌, ◌<◌, ◌↔◌, map, length, IsTrue, slice_get, Some, [], ◌++◌, ◌∷◌, IfOk, OnOk};
-ghost use Rattle.rbg_macro.specs.Token.{lexeme_of};
+//! Tokens of a text, and their kinds.
+ghost use Rattle.std.specs.Prelude.{◌≡◌, ◌↔◌, IsTrue};
 
-use std::alloc::{AllocError, Global};
 use std::marker::Model;
 
 /// The symbols, each a token of its own.
@@ -66,9 +64,9 @@ pub enum Symbol {
 
 impl Symbol {
     ghost use Rattle.std.specs.Prelude.{◌≡◌, length};
-    ghost use Rattle.rbg_macro.specs.Text.{spelling};
+    ghost use Rattle.rbg_macro.specs.Spelling.{spelling};
 
-    /// How many bytes it has.
+    /// The number of its bytes.
     pub fn len(self) -> usize
         ensures { result ≡ length (spelling self) }
     {
@@ -84,7 +82,7 @@ impl Symbol {
     }
 }
 
-/// What kind of token it is.
+/// The kind of a token.
 #[derive(Clone, Copy, Debug, PartialEq, Eq)]
 pub enum TokenKind {
     /// A letter or `_`, followed by letters, digits or `_`.
@@ -96,7 +94,8 @@ pub enum TokenKind {
 
 impl TokenKind {
     ghost use Rattle.std.specs.Prelude.{◌≡◌};
-    ghost use Rattle.rbg_macro.specs.Kinds.{is_name_kind, is_hash, is_equals, is_tilde, is_semicolon, is_open_parenthesis, is_close_parenthesis, opens, closes};
+    ghost use Rattle.rbg_macro.specs.Kinds.{is_name_kind, is_hash, is_equals, is_tilde, is_semicolon};
+    ghost use Rattle.rbg_macro.specs.Kinds.{is_open_parenthesis, is_close_parenthesis, opens, closes};
 
     pub(crate) fn is_name(self) -> bool
         ensures { result ≡ is_name_kind self }
@@ -161,8 +160,8 @@ impl TokenKind {
     }
 }
 
-/// A token: its kind, its bytes, and the offset of the text where it, or the first token that was
-/// joined into it, stands.
+/// A token: its kind, its bytes, and its offset in the text. The offset of a joined token is that of the first token
+/// that was joined into it.
 #[derive(Clone, Copy, Debug)]
 pub struct Token<'a> {
     pub kind: TokenKind,
@@ -193,10 +192,20 @@ impl<'a> Model for Tokens<'a> {
     ghost Value = { List Lexeme };
 
     ghost view = { λ t. map lexeme_of t.tokens.items };
+
+    ghost use Rattle.std.specs.Prelude.{All};
+    ghost use Rattle.rbg_macro.specs.Spelling.{IsLexeme};
+
+    ghost invariant = { λ t. All IsLexeme (map lexeme_of t.tokens.items) };
 }
 
 impl<'a> Tokens<'a> {
+    ghost use Rattle.std.specs.Prelude.{All, map};
+    ghost use Rattle.rbg_macro.specs.Spelling.{IsLexeme};
+    ghost use Rattle.rbg_macro.specs.Token.{lexeme_of};
+
     pub(crate) fn new(text: &'a [u8], tokens: Vec<Token<'a>>) -> Self
+        requires { All IsLexeme (map lexeme_of tokens.items) }
         ensures { result ≡ map lexeme_of tokens.entry.items }
     {
         Tokens { text, tokens }
@@ -209,7 +218,8 @@ impl<'a> Tokens<'a> {
 
     /// The tokens in order of the text.
     pub fn as_slice(&self) -> &[Token<'a>]
-        ensures { map lexeme_of result.now ≡ self.now }
+        ensures tokens { map lexeme_of result.now ≡ self.now }
+        ensures spelt { All IsLexeme self.now }
     {
         &self.tokens
     }
