@@ -2,11 +2,17 @@
 RT ?= rt
 PROGRAM := crates/rbg_manager
 CRATES := $(wildcard crates/*)
+# The programs with a stored run, and the crates with tests.
+STORED := $(patsubst crates/%/stdin,%,$(wildcard crates/*/stdin))
+TESTED := $(sort $(foreach file,$(shell grep -rl --include='*.rt' '^ *#\[test\]' crates),$(word 2,$(subst /, ,$(file)))))
+# How long a test may take without the proof: its build checks each step.
+SECONDS := 600
 
-.PHONY: help run build test check fmt clean
+.PHONY: help run try build test check fmt clean
 
 help:
 	@echo 'make run    referees the stored match (crates/rbg_manager/stdin), with no proof'
+	@echo 'make try    runs every stored run and every test, with no proof; make -j4 try runs four at once'
 	@echo 'make build  proves the program and what it stands on, and leaves it as ./rbg'
 	@echo 'make test   the gate: every proof from nothing, the must-fail edits, each test, each program'
 	@echo 'make check  proves what changed since the last check, lowest crates first'
@@ -15,6 +21,14 @@ help:
 
 run:
 	@cd $(PROGRAM) && $(RT) try < stdin
+
+try: $(STORED:%=try-run-%) $(TESTED:%=try-test-%)
+
+try-run-%:
+	@cd crates/$* && printed=$$(mktemp) && $(RT) try --seconds $(SECONDS) < stdin > $$printed && diff stdout $$printed && rm $$printed
+
+try-test-%:
+	@cd crates/$* && $(RT) try --test --seconds $(SECONDS)
 
 build:
 	cd $(PROGRAM) && $(RT) run < stdin

@@ -4,16 +4,10 @@
 //! what each seat was sent.
 #![tactic(auto)]
 
-mod input;
-mod printed;
-mod program;
-mod refusal;
-mod script;
-
-use crate::input::{Input, read_input};
-use crate::program::{Files, run};
+use rbg_program::{Fault, Files, Input, read_input, report, run};
 use std::alloc::{AllocError, Global};
 use std::fs::File;
+use std::io::ErrorKind;
 use std::process::ExitCode;
 use std::{env, io};
 
@@ -32,28 +26,36 @@ impl Files for SystemFiles<'_> {
     }
 }
 
-fn main(rt: HostRuntime) -> ExitCode {
-    let mut words = Vec::new(rt.alloc());
-    match env::args(&rt) {
+/// The words of the command line, without the program's name.
+fn words(rt: &HostRuntime) -> Result<Vec<String>, Fault> {
+    match env::args(rt) {
         Ok(args) => {
+            let mut words = Vec::new(rt.alloc());
             for word in args.skip(1) {
-                if words.push(word).is_err() {
-                    return ExitCode::from(4);
-                }
+                words.push(word)?;
             }
+            Ok(words)
         }
-        Err(_) => return ExitCode::from(64),
+        Err(error) if error.kind() == ErrorKind::OutOfMemory => Err(Fault::Memory(AllocError)),
+        Err(_) => Err(Fault::CommandLine),
     }
-    let mut files = SystemFiles { rt: &rt };
-    let mut output = io::writer(&rt);
-    ExitCode::from(run(
-        rt.alloc(),
-        words.as_slice(),
-        &mut files,
-        &mut rt.stdin(),
-        &mut output,
-    ))
 }
 
-#[cfg(test)]
-mod tests;
+/// Runs the program on the system's files and streams, and gives its status.
+fn run_on_system(rt: &HostRuntime, words: &[String]) -> u8 {
+    let mut files = SystemFiles { rt };
+    run(
+        rt.alloc(),
+        words,
+        &mut files,
+        &mut rt.stdin(),
+        &mut io::writer(rt),
+    )
+}
+
+fn main(rt: HostRuntime) -> ExitCode {
+    ExitCode::from(match words(&rt) {
+        Ok(words) => run_on_system(&rt, words.as_slice()),
+        Err(fault) => report(&mut io::writer(&rt), &Err(fault)),
+    })
+}

@@ -6,4 +6,6 @@ mod matches;
 #[cfg(test)]
 mod messages;
 #[cfg(test)]
+mod programs;
+#[cfg(test)]
 mod streams;

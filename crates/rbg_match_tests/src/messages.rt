@@ -6,29 +6,94 @@ use rbg_wire::{
 };
 use std::test::Fail;
 
+/// Texts that are messages.
+const MESSAGES: [&[u8]; 19] = [
+    b"W1 white",
+    b"W18446744073709551615 _9",
+    b"G",
+    b"G#players = white(100)\n\xff",
+    b"L1000 3",
+    b"L0 18446744073709551615",
+    b"M0 1",
+    b"M0 3 0 4 0 5",
+    b"M999999999 123456789",
+    b"R1",
+    b"R2",
+    b"R3",
+    b"R4",
+    b"E0 7",
+    b"E0 1 2 3 4 5 6 7 18446744073709551615",
+    b"E1 1",
+    b"E2 2",
+    b"E3 10",
+    b"E4",
+];
+
+/// Texts that are neither messages nor moves.
+const NO_MESSAGES: [&[u8]; 38] = [
+    b"",
+    b"W",
+    b"W1",
+    b"W1 ",
+    b"W01 white",
+    b"W1  white",
+    b"W1 9white",
+    b"W1 white ",
+    b"W1 wh-te",
+    b"W18446744073709551616 white",
+    b"G#\0",
+    b"L",
+    b"L1",
+    b"L1 ",
+    b"L 1 2",
+    b"L1 2 3",
+    b"L1 02",
+    b"L+1 2",
+    b"R",
+    b"R0",
+    b"R5",
+    b"R01",
+    b"R1 ",
+    b"E",
+    b"E0",
+    b"E0 ",
+    b"E01",
+    b"E0 1 ",
+    b"E0 1  2",
+    b"E0 1 2 3 4 5 6 7 8 9",
+    b"E1",
+    b"E1 ",
+    b"E1 1 2",
+    b"E11",
+    b"E4 ",
+    b"E5",
+    b"H1",
+    b"m0 1",
+];
+
+/// Texts that are nearly moves.
+const NO_MOVES: [&[u8]; 16] = [
+    b"M",
+    b"M0",
+    b"M0 ",
+    b"M0 3 0",
+    b"M00 3 0 4 0 5",
+    b"M0 03",
+    b"M0  3",
+    b"M 0 3",
+    b"M0 3 ",
+    b"M+0 3",
+    b"M0 -3",
+    b"M0,3",
+    b"M1234567890 3",
+    b"M0 1000000000",
+    b"M0 3\0",
+    b"0 3",
+];
+
 #[test]
 fn each_message_is_read_and_written(rt: HostRuntime) -> Result<(), Fail> {
-    for text in [
-        b"W1 white".as_slice(),
-        b"W18446744073709551615 _9".as_slice(),
-        b"G".as_slice(),
-        b"G#players = white(100)\n\xff".as_slice(),
-        b"L1000 3".as_slice(),
-        b"L0 18446744073709551615".as_slice(),
-        b"M0 1".as_slice(),
-        b"M0 3 0 4 0 5".as_slice(),
-        b"M999999999 123456789".as_slice(),
-        b"R1".as_slice(),
-        b"R2".as_slice(),
-        b"R3".as_slice(),
-        b"R4".as_slice(),
-        b"E0 7".as_slice(),
-        b"E0 1 2 3 4 5 6 7 18446744073709551615".as_slice(),
-        b"E1 1".as_slice(),
-        b"E2 2".as_slice(),
-        b"E3 10".as_slice(),
-        b"E4".as_slice(),
-    ] {
+    for text in MESSAGES {
         let message = read_message(text)?;
         let mut out = Vec::new(rt.alloc());
         write_message(&message, &mut out)?;
@@ -41,66 +106,10 @@ fn each_message_is_read_and_written(rt: HostRuntime) -> Result<(), Fail> {
 
 #[test]
 fn other_texts_are_no_messages(rt: HostRuntime) {
-    for text in [
-        b"".as_slice(),
-        b"W".as_slice(),
-        b"W1".as_slice(),
-        b"W1 ".as_slice(),
-        b"W01 white".as_slice(),
-        b"W1  white".as_slice(),
-        b"W1 9white".as_slice(),
-        b"W1 white ".as_slice(),
-        b"W1 wh-te".as_slice(),
-        b"W18446744073709551616 white".as_slice(),
-        b"G#\0".as_slice(),
-        b"L".as_slice(),
-        b"L1".as_slice(),
-        b"L1 ".as_slice(),
-        b"L 1 2".as_slice(),
-        b"L1 2 3".as_slice(),
-        b"L1 02".as_slice(),
-        b"L+1 2".as_slice(),
-        b"R".as_slice(),
-        b"R0".as_slice(),
-        b"R5".as_slice(),
-        b"R01".as_slice(),
-        b"R1 ".as_slice(),
-        b"E".as_slice(),
-        b"E0".as_slice(),
-        b"E0 ".as_slice(),
-        b"E01".as_slice(),
-        b"E0 1 ".as_slice(),
-        b"E0 1  2".as_slice(),
-        b"E0 1 2 3 4 5 6 7 8 9".as_slice(),
-        b"E1".as_slice(),
-        b"E1 ".as_slice(),
-        b"E1 1 2".as_slice(),
-        b"E11".as_slice(),
-        b"E4 ".as_slice(),
-        b"E5".as_slice(),
-        b"H1".as_slice(),
-        b"m0 1".as_slice(),
-    ] {
+    for text in NO_MESSAGES {
         assert_eq!(rt; read_message(text), Err(WireError::Malformed), "{text:?}");
     }
-    for text in [
-        b"M".as_slice(),
-        b"M0".as_slice(),
-        b"M0 ".as_slice(),
-        b"M0 3 0".as_slice(),
-        b"M00 3 0 4 0 5".as_slice(),
-        b"M0 03".as_slice(),
-        b"M0  3".as_slice(),
-        b"M 0 3".as_slice(),
-        b"M0 3 ".as_slice(),
-        b"M+0 3".as_slice(),
-        b"M0 -3".as_slice(),
-        b"M0,3".as_slice(),
-        b"M1234567890 3".as_slice(),
-        b"M0 1000000000".as_slice(),
-        b"M0 3\0".as_slice(),
-        b"0 3".as_slice(),
-    ] {
+    for text in NO_MOVES {
         assert_eq!(rt; read_move(text), Err(WireError::Malformed), "{text:?}");
         assert_eq!(rt; read_message(text), Err(WireError::Malformed), "{text:?}");
     }

@@ -210,61 +210,76 @@ fn a_board_has_at_most_4096_vertices(rt: HostRuntime) {
     }
 }
 
-/// The refusal of a row that doesn't fit.
-fn misfit(row: usize) -> BoardError {
-    BoardError::RowLength { row }
-}
+/// Directions and lengths of rows that are no rectangle, and why.
+const RECTANGLES: [([u16; 4], &[u16], BoardError); 11] = [
+    ([0, 1, 2, 3], &[], BoardError::NoCell),
+    ([0, 1, 2, 3], &[0, 0], BoardError::NoCell),
+    ([0, 1, 2, 3], &[0, 1], BoardError::NoCell),
+    ([0, 1, 2, 0], &[0, 2000], BoardError::NoCell),
+    ([0, 1, 2, 3], &[2, 3, 1], BoardError::RowLength { row: 1 }),
+    ([0, 1, 2, 3], &[2, 0], BoardError::RowLength { row: 1 }),
+    ([0, 1, 2, 3], &[2000, 1], BoardError::RowLength { row: 1 }),
+    ([0, 1, 1, 3], &[2, 1], BoardError::RowLength { row: 1 }),
+    ([0, 1, 2, 3], &[MOST + 1], BoardError::TooManyVertices),
+    ([0, 0, 2, 3], &[MOST + 1], BoardError::TooManyVertices),
+    ([4, 1, 2, 4], &[1], BoardError::SameDirection),
+];
 
 #[test]
 fn a_rectangle_names_its_first_fault(rt: HostRuntime) {
     let alloc = rt.alloc();
-    for (directions, lengths, error) in [
-        ([0, 1, 2, 3], [].as_slice(), BoardError::NoCell),
-        ([0, 1, 2, 3], [0, 0].as_slice(), BoardError::NoCell),
-        ([0, 1, 2, 3], [0, 1].as_slice(), BoardError::NoCell),
-        ([0, 1, 2, 0], [0, 2000].as_slice(), BoardError::NoCell),
-        ([0, 1, 2, 3], [2, 3, 1].as_slice(), misfit(1)),
-        ([0, 1, 2, 3], [2, 0].as_slice(), misfit(1)),
-        ([0, 1, 2, 3], [2000, 1].as_slice(), misfit(1)),
-        ([0, 1, 1, 3], [2, 1].as_slice(), misfit(1)),
-        (
-            [0, 1, 2, 3],
-            [MOST + 1].as_slice(),
-            BoardError::TooManyVertices,
-        ),
-        (
-            [0, 0, 2, 3],
-            [MOST + 1].as_slice(),
-            BoardError::TooManyVertices,
-        ),
-        ([4, 1, 2, 4], [1].as_slice(), BoardError::SameDirection),
-    ] {
+    for (directions, lengths, error) in RECTANGLES {
         let answer = rectangle_of(alloc, directions, lengths);
         assert_eq!(rt; vertices(answer), Err(error), "lengths {lengths:?}");
     }
 }
 
+/// Directions and lengths of rows that are no hexagon, and why.
+const HEXAGONS: [([u16; 6], &[u16], BoardError); 14] = [
+    ([0, 1, 2, 3, 4, 5], &[], BoardError::NoCell),
+    ([0, 1, 2, 3, 4, 5], &[2, 1, 0], BoardError::NoCell),
+    ([0, 1, 2, 3, 4, 5], &[1, 1, 0], BoardError::NoCell),
+    ([0, 1, 2, 3, 4, 5], &[2000, 0], BoardError::NoCell),
+    ([0, 1, 2, 3, 1, 5], &[0], BoardError::NoCell),
+    (
+        [0, 1, 2, 3, 4, 5],
+        &[1, 1],
+        BoardError::RowLength { row: 1 },
+    ),
+    (
+        [0, 1, 2, 3, 4, 5],
+        &[1, 3],
+        BoardError::RowLength { row: 1 },
+    ),
+    (
+        [0, 1, 2, 3, 4, 5],
+        &[2, 1, 2],
+        BoardError::RowLength { row: 2 },
+    ),
+    (
+        [0, 1, 2, 3, 4, 5],
+        &[2, 3, 2, 3, 9],
+        BoardError::RowLength { row: 3 },
+    ),
+    (
+        [0, 1, 2, 3, 4, 5],
+        &[2000, 1],
+        BoardError::RowLength { row: 1 },
+    ),
+    (
+        [0, 1, 2, 3, 1, 5],
+        &[1, 1],
+        BoardError::RowLength { row: 1 },
+    ),
+    ([0, 1, 2, 3, 4, 5], &[MOST + 1], BoardError::TooManyVertices),
+    ([0, 1, 2, 3, 1, 5], &[MOST + 1], BoardError::TooManyVertices),
+    ([0, 1, 2, 3, 1, 5], &[1, 2], BoardError::SameDirection),
+];
+
 #[test]
 fn a_hexagon_names_its_first_fault(rt: HostRuntime) {
     let alloc = rt.alloc();
-    let right = [0, 1, 2, 3, 4, 5];
-    let wrong = [0, 1, 2, 3, 1, 5];
-    for (directions, lengths, error) in [
-        (right, [].as_slice(), BoardError::NoCell),
-        (right, [2, 1, 0].as_slice(), BoardError::NoCell),
-        (right, [1, 1, 0].as_slice(), BoardError::NoCell),
-        (right, [2000, 0].as_slice(), BoardError::NoCell),
-        (wrong, [0].as_slice(), BoardError::NoCell),
-        (right, [1, 1].as_slice(), misfit(1)),
-        (right, [1, 3].as_slice(), misfit(1)),
-        (right, [2, 1, 2].as_slice(), misfit(2)),
-        (right, [2, 3, 2, 3, 9].as_slice(), misfit(3)),
-        (right, [2000, 1].as_slice(), misfit(1)),
-        (wrong, [1, 1].as_slice(), misfit(1)),
-        (right, [MOST + 1].as_slice(), BoardError::TooManyVertices),
-        (wrong, [MOST + 1].as_slice(), BoardError::TooManyVertices),
-        (wrong, [1, 2].as_slice(), BoardError::SameDirection),
-    ] {
+    for (directions, lengths, error) in HEXAGONS {
         let answer = hexagon_of(alloc, directions, lengths);
         assert_eq!(rt; vertices(answer), Err(error), "lengths {lengths:?}");
     }

@@ -365,48 +365,91 @@ fn the_first_token_that_does_not_fit_is_named(rt: HostRuntime) -> Result<(), Fai
     Ok(())
 }
 
+/// Texts, each with the first of its faults.
+const FAULTS: [(&str, SyntaxError); 12] = [
+    (
+        "#rules=#players=#players=#rules=",
+        SyntaxError::SectionTwice {
+            which: SectionKind::Players,
+        },
+    ),
+    (
+        "#variables=#variables=",
+        SyntaxError::SectionTwice {
+            which: SectionKind::Variables,
+        },
+    ),
+    (
+        "",
+        SyntaxError::MissingSection {
+            which: SectionKind::Players,
+        },
+    ),
+    (
+        "#rules=#board=#pieces=",
+        SyntaxError::MissingSection {
+            which: SectionKind::Players,
+        },
+    ),
+    (
+        "#rules=#board=#players=",
+        SyntaxError::MissingSection {
+            which: SectionKind::Pieces,
+        },
+    ),
+    (
+        "#rules=#pieces=#players=",
+        SyntaxError::MissingSection {
+            which: SectionKind::Board,
+        },
+    ),
+    (
+        "#variables=#board=#pieces=#players=",
+        SyntaxError::MissingSection {
+            which: SectionKind::Rules,
+        },
+    ),
+    (
+        "#rules=#board=#variables=#pieces=#players=",
+        SyntaxError::Expected {
+            at: 33,
+            what: Expectation::Name,
+        },
+    ),
+    (
+        "#rules=#board=#variables=#pieces=#players=p(1)",
+        SyntaxError::Expected {
+            at: 25,
+            what: Expectation::Name,
+        },
+    ),
+    (
+        "#rules=#board=#variables=#pieces=e#players=p(1)",
+        SyntaxError::Expected {
+            at: 14,
+            what: Expectation::Name,
+        },
+    ),
+    (
+        "#rules=#board=#variables=v(1)#pieces=e#players=p(1)",
+        SyntaxError::Expected {
+            at: 14,
+            what: Expectation::Name,
+        },
+    ),
+    (
+        "#rules=#board=#pieces=e#players=p(1)",
+        SyntaxError::Expected {
+            at: 7,
+            what: Expectation::Generator,
+        },
+    ),
+];
+
 #[test]
 fn the_first_fault_decides(rt: HostRuntime) -> Result<(), Fail> {
-    let alloc = rt.alloc();
-    let twice = |which| SyntaxError::SectionTwice { which };
-    let missing = |which| SyntaxError::MissingSection { which };
-    let expected = |at, what| SyntaxError::Expected { at, what };
-    for (text, want) in [
-        (
-            "#rules=#players=#players=#rules=",
-            twice(SectionKind::Players),
-        ),
-        ("#variables=#variables=", twice(SectionKind::Variables)),
-        ("", missing(SectionKind::Players)),
-        ("#rules=#board=#pieces=", missing(SectionKind::Players)),
-        ("#rules=#board=#players=", missing(SectionKind::Pieces)),
-        ("#rules=#pieces=#players=", missing(SectionKind::Board)),
-        (
-            "#variables=#board=#pieces=#players=",
-            missing(SectionKind::Rules),
-        ),
-        (
-            "#rules=#board=#variables=#pieces=#players=",
-            expected(33, Expectation::Name),
-        ),
-        (
-            "#rules=#board=#variables=#pieces=#players=p(1)",
-            expected(25, Expectation::Name),
-        ),
-        (
-            "#rules=#board=#variables=#pieces=e#players=p(1)",
-            expected(14, Expectation::Name),
-        ),
-        (
-            "#rules=#board=#variables=v(1)#pieces=e#players=p(1)",
-            expected(14, Expectation::Name),
-        ),
-        (
-            "#rules=#board=#pieces=e#players=p(1)",
-            expected(7, Expectation::Generator),
-        ),
-    ] {
-        let error = parsed(alloc, text)?.err();
+    for (text, want) in FAULTS {
+        let error = parsed(rt.alloc(), text)?.err();
         assert_eq!(rt; error, Some(want), "{text}");
     }
     Ok(())

@@ -3,13 +3,16 @@
 use std::alloc::{AllocError, Global};
 use std::io::{ErrorKind, Read};
 
-/// A reading ends as a fault of the device after so many reads.
+/// The most bytes of standard input.
+pub const MAX_INPUT: usize = 16_777_216;
+
+/// A reading ends as a fault of the device after this many reads.
 const MAX_READS: u32 = 20_000_000;
 
 /// How many bytes are asked for at once.
 const CHUNK: usize = 65_536;
 
-/// What came of a reading.
+/// What a reading gives.
 #[derive(Debug, Drop)]
 pub enum Input {
     /// All the bytes that there are.

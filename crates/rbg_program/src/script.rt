@@ -3,30 +3,20 @@
 use hex::FromHexError;
 use rbg_match::{Config, Event};
 use rbg_wire::read_number;
-use std::alloc::{AllocError, AllocFailed, Global};
+use std::alloc::{AllocError, Global};
+use thiserror::Error;
 
 /// Why a script is not taken.
-#[derive(Clone, Copy, Debug, PartialEq, Eq)]
+#[derive(Clone, Copy, Debug, PartialEq, Eq, Error)]
 pub enum ScriptError {
     /// The first line that is not of the form, numbered from 1. A config outside its limits is line 1.
+    #[error("line {0} of the script is not of its form")]
     Line(usize),
-    /// No memory.
-    Memory,
+    #[error("out of memory")]
+    Memory(#[from(alloc)] AllocError),
 }
 
-impl From<AllocError> for ScriptError {
-    fn from(_: AllocError) -> ScriptError {
-        ScriptError::Memory
-    }
-}
-
-impl<T: Drop> From<AllocFailed<T>> for ScriptError {
-    fn from(_: AllocFailed<T>) -> ScriptError {
-        ScriptError::Memory
-    }
-}
-
-/// What a line below the config stands for.
+/// An event as a line of the script gives it.
 #[derive(Debug, Drop)]
 enum Line {
     Piece { seat: u64, at: u64, bytes: Vec<u8> },
@@ -148,14 +138,14 @@ fn read_end_line(fields: &[u8]) -> Option<Line> {
     Some(Line::Ended { seat, at })
 }
 
-/// Two numbers, each with a space behind it, and what is left.
+/// Two numbers, each with a space after it, and what is left.
 fn read_seat_and_moment(fields: &[u8]) -> Option<(u64, u64, &[u8])> {
     let (seat, fields) = read_field(fields)?;
     let (at, rest) = read_field(fields)?;
     Some((seat, at, rest))
 }
 
-/// A number with a space behind it, and what is left.
+/// A number with a space after it, and what is left.
 fn read_field(fields: &[u8]) -> Option<(u64, &[u8])> {
     let end = fields.iter().position(|byte| *byte == b' ')?;
     let number = read_number(&fields[..end]).ok()?;

@@ -1,0 +1,192 @@
+//! Cases, and how they are read from lines.
+
+use std::alloc::{AllocError, Global};
+use std::{mem, str};
+use thiserror::Error;
+
+/// Why a list of cases is not read.
+#[derive(Clone, Copy, Debug, PartialEq, Eq, Error)]
+pub enum CasesError {
+    /// The first line that is not of its form, numbered from 1; 0 where the input can't be read.
+    #[error("cases {0}")]
+    Line(usize),
+    #[error("memory")]
+    Memory(#[from(alloc)] AllocError),
+}
+
+/// Bytes with a name.
+#[derive(Debug, Drop)]
+pub struct Text<'a> {
+    pub name: &'a [u8],
+    pub bytes: Vec<u8>,
+}
+
+/// One run of the program: its words, its files and its standard input.
+#[derive(Debug, Drop)]
+pub struct Case<'a> {
+    pub name: &'a [u8],
+    /// How many of the lines are shown, from the end.
+    pub shown: usize,
+    pub words: Vec<String>,
+    pub files: Vec<Text<'a>>,
+    pub input: Vec<u8>,
+}
+
+/// What the bytes are of that lines add.
+#[derive(Clone, Copy, Debug)]
+enum Target<'a> {
+    Nothing,
+    Text { name: &'a [u8] },
+    Input,
+    File { name: &'a [u8] },
+}
+
+/// What was read so far: texts and cases, and the bytes of the part that is being read.
+#[derive(Debug, Drop)]
+struct Reader<'a> {
+    texts: Vec<Text<'a>>,
+    cases: Vec<Case<'a>>,
+    target: Target<'a>,
+    bytes: Vec<u8>,
+}
+
+/// Reads the cases of a list.
+pub fn read_cases(alloc: Global, bytes: &[u8]) -> Result<Vec<Case<'_>>, CasesError> {
+    let mut reader = Reader {
+        texts: Vec::new(alloc),
+        cases: Vec::new(alloc),
+        target: Target::Nothing,
+        bytes: Vec::new(alloc),
+    };
+    for (index, line) in bytes.split(|byte| *byte == b'\n').enumerate() {
+        if !reader.read_line(alloc, line)? {
+            return Err(CasesError::Line(index.saturating_add(1)));
+        }
+    }
+    reader.end_part(alloc)?;
+    Ok(reader.cases)
+}
+
+impl<'a> Reader<'a> {
+    /// Reads a line. False where it is not of its form.
+    fn read_line(&mut self, alloc: Global, line: &'a [u8]) -> Result<bool, AllocError> {
+        match line.split_first() {
+            None | Some((b';', _)) => {}
+            Some((b'|', text)) => {
+                self.bytes.extend_from_slice(text)?;
+                self.bytes.push(b'\n')?;
+            }
+            Some((b'+', text)) => self.bytes.extend_from_slice(text)?,
+            Some((b'*', text)) => return self.add_repeated(text),
+            Some((b'=', name)) => return self.add_text(name),
+            Some((b'%', digits)) => return self.add_hex(alloc, digits),
+            Some(_) => return self.read_head(alloc, line),
+        }
+        Ok(true)
+    }
+
+    /// Reads the line with which a text, a case or a part of a case begins.
+    fn read_head(&mut self, alloc: Global, line: &'a [u8]) -> Result<bool, AllocError> {
+        if let Some(words) = line.strip_prefix(b"words ") {
+            return self.add_words(alloc, words);
+        }
+        if let Some(count) = line.strip_prefix(b"last ") {
+            return Ok(self.show_last(count));
+        }
+        self.end_part(alloc)?;
+        if let Some(name) = line.strip_prefix(b"case ") {
+            self.cases.push(Case {
+                name,
+                shown: usize::MAX,
+                words: Vec::new(alloc),
+                files: Vec::new(alloc),
+                input: Vec::new(alloc),
+            })?;
+            self.target = Target::Input;
+        } else if let Some(name) = line.strip_prefix(b"text ") {
+            self.target = Target::Text { name };
+        } else if let Some(name) = line.strip_prefix(b"file ") {
+            self.target = Target::File { name };
+        } else {
+            return Ok(false);
+        }
+        Ok(true)
+    }
+
+    /// Gives the bytes of the part that was read to the text or the case that it belongs to.
+    fn end_part(&mut self, alloc: Global) -> Result<(), AllocError> {
+        let bytes = mem::replace(&mut self.bytes, Vec::new(alloc));
+        match (self.target, self.cases.last_mut()) {
+            (Target::Text { name }, _) => self.texts.push(Text { name, bytes })?,
+            (Target::Input, Some(case)) => case.input = bytes,
+            (Target::File { name }, Some(case)) => case.files.push(Text { name, bytes })?,
+            _ => {}
+        }
+        Ok(())
+    }
+
+    fn add_words(&mut self, alloc: Global, words: &[u8]) -> Result<bool, AllocError> {
+        let Some(case) = self.cases.last_mut() else {
+            return Ok(false);
+        };
+        let Ok(words) = str::from_utf8(words) else {
+            return Ok(false);
+        };
+        for word in words.split(' ') {
+            case.words.push(word.to_string(alloc)?)?;
+        }
+        Ok(true)
+    }
+
+    /// Shows no more lines of the case than the number says.
+    fn show_last(&mut self, count: &[u8]) -> bool {
+        match (self.cases.last_mut(), read_count(count)) {
+            (Some(case), Some(count)) => {
+                case.shown = count;
+                true
+            }
+            _ => false,
+        }
+    }
+
+    /// `<count> <text>`: adds the text that many times.
+    fn add_repeated(&mut self, fields: &[u8]) -> Result<bool, AllocError> {
+        let Some(end) = fields.iter().position(|byte| *byte == b' ') else {
+            return Ok(false);
+        };
+        let Some(count) = read_count(&fields[..end]) else {
+            return Ok(false);
+        };
+        for _ in 0..count {
+            self.bytes.extend_from_slice(&fields[end + 1..])?;
+        }
+        Ok(true)
+    }
+
+    /// Adds the bytes of a text.
+    fn add_text(&mut self, name: &[u8]) -> Result<bool, AllocError> {
+        match self.texts.iter().find(|text| text.name == name) {
+            Some(text) => {
+                self.bytes.extend_from_slice(text.bytes.as_slice())?;
+                Ok(true)
+            }
+            None => Ok(false),
+        }
+    }
+
+    /// Adds the bytes that hexadecimal digits spell.
+    fn add_hex(&mut self, alloc: Global, digits: &[u8]) -> Result<bool, AllocError> {
+        match hex::decode(alloc, digits) {
+            Ok(bytes) => {
+                self.bytes.extend_from_slice(bytes.as_slice())?;
+                Ok(true)
+            }
+            Err(hex::FromHexError::OutOfMemory) => Err(AllocError),
+            Err(_) => Ok(false),
+        }
+    }
+}
+
+fn read_count(digits: &[u8]) -> Option<usize> {
+    str::from_utf8(digits).ok()?.parse().ok()
+}

@@ -1,0 +1,112 @@
+//! Runs the program `rbg` on many cases and prints what each of them prints, and its status.
+//!
+//! Standard input is a list of cases, read line by line:
+//!
+//! | Line | Meaning |
+//! |---|---|
+//! | `case NAME` | a case begins; what follows is its standard input |
+//! | `words WORD ..` | the words of the case's command line, with single spaces between them |
+//! | `last COUNT` | of what the case prints only this many lines are shown, the last ones |
+//! | `file NAME` | a file of the case begins; what follows is its bytes |
+//! | `text NAME` | a text begins, which later lines can use; what follows is its bytes |
+//! | `\|TEXT` | adds the text and a line feed |
+//! | `+TEXT` | adds the text |
+//! | `*COUNT TEXT` | adds the text that many times |
+//! | `=NAME` | adds the bytes of a text that stands before |
+//! | `%HEX` | adds these bytes |
+//! | `;TEXT`, or nothing | nothing |
+//!
+//! For each case a line `case NAME` is printed, then what the program prints, then `status STATUS`. Where a line is
+//! not of this form, `cases LINE` is printed, and no case is run.
+#![tactic(auto)]
+
+mod cases;
+
+use crate::cases::{Case, CasesError, Text, read_cases};
+use rbg_program::{Files, Input, MAX_INPUT, read_input, run};
+use std::alloc::{AllocError, Global};
+use std::io::{self, Write};
+use std::process::ExitCode;
+
+/// The files of a case.
+#[derive(Drop)]
+struct CaseFiles<'a> {
+    files: &'a [Text<'a>],
+}
+
+impl Files for CaseFiles<'_> {
+    fn read_file(&mut self, alloc: Global, name: &str, limit: usize) -> Result<Input, AllocError> {
+        match self.files.iter().find(|file| file.name == name.as_bytes()) {
+            Some(file) => read_input(alloc, &mut file.bytes.as_slice(), limit),
+            None => Ok(Input::Device),
+        }
+    }
+}
+
+/// The last lines of a text, at most `count` of them.
+fn last_lines(text: &[u8], count: usize) -> &[u8] {
+    let mut left = count;
+    for (index, byte) in text.iter().enumerate().rev() {
+        if *byte == b'\n' {
+            if left == 0 {
+                return &text[index + 1..];
+            }
+            left -= 1;
+        }
+    }
+    text
+}
+
+/// Runs a case and adds its lines to the output.
+fn run_case(alloc: Global, case: &Case<'_>, output: &mut Vec<u8>) -> Result<(), AllocError> {
+    output.extend_from_slice(b"case ")?;
+    output.extend_from_slice(case.name)?;
+    output.push(b'\n')?;
+    let mut files = CaseFiles {
+        files: case.files.as_slice(),
+    };
+    let mut input = case.input.as_slice();
+    let mut printed = Vec::new(alloc);
+    let status = run(
+        alloc,
+        case.words.as_slice(),
+        &mut files,
+        &mut input,
+        &mut printed,
+    );
+    output.extend_from_slice(last_lines(printed.as_slice(), case.shown))?;
+    let line = format!(in alloc; "status {status}\n")?;
+    output.extend_from_slice(line.as_bytes())
+}
+
+/// Runs the cases that standard input lists, and gives their lines.
+fn run_cases(alloc: Global, bytes: &[u8]) -> Result<Vec<u8>, CasesError> {
+    let cases = read_cases(alloc, bytes)?;
+    let mut output = Vec::new(alloc);
+    for case in &cases {
+        run_case(alloc, case, &mut output)?;
+    }
+    Ok(output)
+}
+
+/// Writes the lines of the cases, or why there are none, and says whether all went well.
+fn write_cases<W: Write>(output: &mut W, lines: &Result<Vec<u8>, CasesError>) -> io::Result<bool> {
+    match lines {
+        Ok(lines) => output.write_all(lines.as_slice())?,
+        Err(error) => writeln!(output, "{error}")?,
+    }
+    output.flush()?;
+    Ok(lines.is_ok())
+}
+
+fn main(rt: HostRuntime) -> ExitCode {
+    let lines = match read_input(rt.alloc(), &mut rt.stdin(), MAX_INPUT) {
+        Ok(Input::Whole(bytes)) => run_cases(rt.alloc(), bytes.as_slice()),
+        Ok(_) => Err(CasesError::Line(0)),
+        Err(error) => Err(CasesError::Memory(error)),
+    };
+    match write_cases(&mut io::writer(&rt), &lines) {
+        Ok(true) => ExitCode::SUCCESS,
+        _ => ExitCode::FAILURE,
+    }
+}

@@ -1,0 +1,111 @@
+//! A refused description as it is printed: the layer, the number and the name of the refusal, and its place or thing.
+
+use rbg_board::BoardError;
+use rbg_game::{GameError, LoadError};
+use rbg_macro::{MacroError, SectionKind, TextError};
+use rbg_syntax::{Expectation, SyntaxError};
+use std::fmt::{self, Formatter};
+
+/// A refusal. Its text is `<layer> <number> <name>`, and then the place or thing where there is one.
+#[derive(Clone, Copy, Debug)]
+pub struct Refusal(pub LoadError);
+
+impl fmt::Display for Refusal {
+    fn fmt<W: fmt::Write>(&self, f: &mut Formatter<W>) -> fmt::Result {
+        match &self.0 {
+            LoadError::Text(error) => write_text(f, error),
+            LoadError::Macro(error) => write_macro(f, error),
+            LoadError::Syntax(error) => write_syntax(f, error),
+            LoadError::Game(error) => write_game(f, error),
+        }
+    }
+}
+
+fn write_text<W: fmt::Write>(f: &mut Formatter<W>, error: &TextError) -> fmt::Result {
+    match error {
+        TextError::TooLong => write!(f, "text 1 TooLong"),
+        TextError::ZeroByte => write!(f, "text 2 ZeroByte"),
+        TextError::BadByte { at } => write!(f, "text 3 BadByte {at}"),
+        TextError::Memory => write!(f, "text Memory"),
+    }
+}
+
+fn write_macro<W: fmt::Write>(f: &mut Formatter<W>, error: &MacroError) -> fmt::Result {
+    match error {
+        MacroError::BadDefinition { at } => write!(f, "macro 1 BadDefinition {at}"),
+        MacroError::Twice { at } => write!(f, "macro 2 Twice {at}"),
+        MacroError::ArgumentCount { at } => write!(f, "macro 3 ArgumentCount {at}"),
+        MacroError::Depth { at } => write!(f, "macro 4 Depth {at}"),
+        MacroError::TooManyTokens => write!(f, "macro 5 TooManyTokens"),
+        MacroError::BadJoin { at } => write!(f, "macro 6 BadJoin {at}"),
+        MacroError::Memory => write!(f, "macro Memory"),
+    }
+}
+
+fn write_syntax<W: fmt::Write>(f: &mut Formatter<W>, error: &SyntaxError) -> fmt::Result {
+    match error {
+        SyntaxError::Expected { at, what } => {
+            write!(f, "syntax 1 Expected {at} {}", expectation_name(*what))
+        }
+        SyntaxError::MissingSection { which } => {
+            write!(f, "syntax 2 MissingSection {}", section_name(*which))
+        }
+        SyntaxError::SectionTwice { which } => {
+            write!(f, "syntax 3 SectionTwice {}", section_name(*which))
+        }
+        SyntaxError::TooDeep { at } => write!(f, "syntax 4 TooDeep {at}"),
+        SyntaxError::Memory => write!(f, "syntax Memory"),
+    }
+}
+
+fn write_game<W: fmt::Write>(f: &mut Formatter<W>, error: &GameError) -> fmt::Result {
+    match error {
+        GameError::UnknownName { at } => write!(f, "game 1 UnknownName {at}"),
+        GameError::SameName { at } => write!(f, "game 2 SameName {at}"),
+        GameError::Bound { at } => write!(f, "game 3 Bound {at}"),
+        GameError::SwitchInPattern { at } => write!(f, "game 4 SwitchInPattern {at}"),
+        GameError::PatternTooDeep { at } => write!(f, "game 5 PatternTooDeep {at}"),
+        GameError::TooMany { what } => write!(f, "game 6 TooMany {what}"),
+        GameError::Memory => write!(f, "game Memory"),
+        GameError::Board { error } => write_board(f, error),
+    }
+}
+
+fn write_board<W: fmt::Write>(f: &mut Formatter<W>, error: &BoardError) -> fmt::Result {
+    match error {
+        BoardError::NoCell => write!(f, "board 1 NoCell"),
+        BoardError::RowLength { row } => write!(f, "board 2 RowLength {row}"),
+        BoardError::TooManyVertices => write!(f, "board 3 TooManyVertices"),
+        BoardError::SameDirection => write!(f, "board 4 SameDirection"),
+        BoardError::UnknownVertex => write!(f, "board 5 UnknownVertex"),
+        BoardError::SameVertex => write!(f, "board 6 SameVertex"),
+        BoardError::Memory => write!(f, "board Memory"),
+    }
+}
+
+fn section_name(section: SectionKind) -> &'static str {
+    match section {
+        SectionKind::Players => "players",
+        SectionKind::Pieces => "pieces",
+        SectionKind::Variables => "variables",
+        SectionKind::Board => "board",
+        SectionKind::Rules => "rules",
+    }
+}
+
+fn expectation_name(what: Expectation) -> &'static str {
+    match what {
+        Expectation::Name => "Name",
+        Expectation::Number => "Number",
+        Expectation::Opening => "Opening",
+        Expectation::Closing => "Closing",
+        Expectation::Equals => "Equals",
+        Expectation::Comma => "Comma",
+        Expectation::Colon => "Colon",
+        Expectation::Item => "Item",
+        Expectation::Factor => "Factor",
+        Expectation::Relation => "Relation",
+        Expectation::Generator => "Generator",
+        Expectation::End => "End",
+    }
+}
