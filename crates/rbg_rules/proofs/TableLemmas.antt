@@ -1,21 +1,16 @@
 -- The table has the action that stands at each position of the rules.
-use Rattle.std.proofs.Common.{◌≡◌, ℕ, zero, suc, ◌+◌, ◌-◌, ◌<◌, ◌≤◌, List, [], ◌∷◌, ◌++◌, length, map, fold, get_or, refl, sym, ap, ◌∙◌, subst, inl, inr, Bool, true, false, Option, Some, None, arith}
-use Rattle.std.specs.Prelude.{Box, Vec, slice_get, IsTrue, ◌↔◌, if◌then◌else◌, All}
-use Rattle.std.specs.Global.{Global}
-use Rattle.std.proofs.lemmas.Option.{slice_get-get_or}
+use Rattle.std.proofs.Common.{◌≡◌, ℕ, zero, suc, ◌+◌, ◌-◌, ◌<◌, ◌≤◌, List, [], ◌∷◌, length, map, fold, get_or, refl, sym, ap, ◌∙◌, subst, inl, inr, Bool, true, false, Option, Some, None, arith}
+use Rattle.std.specs.Prelude.{IsTrue, ◌↔◌, if◌then◌else◌}
 use Rattle.std.proofs.lemmas.Bool.Decides.{leb_tells}
-use Rattle.std.proofs.Math.Nat.{le-max_left, le-max_right, max-le}
 use Rattle.rbg_rules.specs.declared.rule.Action.{Action}
 use Rattle.rbg_rules.specs.declared.rule.Action.TheVariants.{Shift, On, Off, Assign, Compare, Switch, Positive, Negative}
 use Rattle.rbg_rules.specs.declared.rule.Rule.{Rule}
 use Rattle.rbg_rules.specs.declared.rule.Rule.TheOpen.{Rule-F}
-use Rattle.rbg_rules.specs.declared.rule.Rule.TheViews.{roll-Rule, out-Rule}
-use Rattle.rbg_rules.specs.declared.rule.Rule.TheVariants.{Act, outs-Act, Pattern, outs-Pattern, Then, outs-Then, Or, outs-Or, Star, outs-Star}
-use Rattle.rbg_rules.specs.declared.rule.Rule.TheFolds.{fold_out-Rule, fold-roll-Rule, ind-Rule, map-Rule}
-use Rattle.rbg_rules.specs.Expression.{AbstractAction, shift, on, off, assignment, comparison, switch, positive, negative, Expression, act, skip, sequence, fail, choice, star, sequence_of, choice_of}
+use Rattle.rbg_rules.specs.declared.rule.Rule.TheFolds.{ind-Rule, map-Rule}
+use Rattle.rbg_rules.specs.Expression.{AbstractAction, shift, on, off, assignment, comparison, switch, positive, negative, Expression, act, skip, sequence, fail, choice, star}
 use Rattle.rbg_rules.specs.Positions.{HasAction, HasInside, positions_of, positions_inside, count_from, IsNumbered, is_pattern, IsPatternAt}
-use Rattle.rbg_rules.specs.Translation.{arithmetic_of, relation_of, action_of, shows_pattern, action_at, act_of, pattern_of, rule_step, expression_of}
-use Rattle.rbg_rules.specs.Table.{Stands, greatest, last_step, last_position, IsWithin}
+use Rattle.rbg_rules.specs.Translation.{arithmetic_of, relation_of, action_of, shows_pattern, action_at, act_of, pattern_of, expression_of}
+use Rattle.rbg_rules.specs.Table.{Stands}
 use Rattle.rbg_rules.proofs.TreeLemmas.{layer_of, rolled, trees, action_there}
 use Rattle.rbg_rules.proofs.PositionLemmas.{Among, Among_cases, one_stands}
 

@@ -1,22 +1,21 @@
 -- Trees of rules with a table of actions: what a position stands for, and that more actions change nothing.
-use Rattle.std.proofs.Common.{◌≡◌, ℕ, zero, suc, ◌+◌, ◌-◌, ◌<◌, ◌≤◌, List, [], ◌∷◌, ◌++◌, length, map, fold, get_or, refl, sym, ap, ◌∙◌, subst, inl, inr, Bool, true, false, Option, Some, None, arith}
-use Rattle.std.specs.Prelude.{Box, Vec, slice_get, IsTrue, ◌↔◌, if◌then◌else◌, All}
+use Rattle.std.proofs.Common.{◌≡◌, ℕ, zero, suc, ◌-◌, ◌<◌, ◌≤◌, List, [], ◌∷◌, ◌++◌, length, map, fold, get_or, refl, sym, ap, ◌∙◌, subst, ◌⊎◌, inl, inr, Bool, true, false, Option, Some, None, arith}
+use Rattle.std.specs.Prelude.{Box, Vec, slice_get, if◌then◌else◌, All}
 use Rattle.std.specs.Global.{Global}
-use Rattle.std.proofs.lemmas.Option.{slice_get-get_or}
-use Rattle.std.proofs.lemmas.Bool.Decides.{leb_tells}
+use Rattle.std.proofs.lemmas.Option.{slice_get-get_or, slice_get_within}
+use Rattle.std.proofs.lemmas.List.Elements.{All-cons}
 use Rattle.std.proofs.Math.Nat.{le-max_left, le-max_right, max-le}
 use Rattle.rbg_rules.specs.declared.rule.Action.{Action}
-use Rattle.rbg_rules.specs.declared.rule.Action.TheVariants.{Shift, On, Off, Assign, Compare, Switch, Positive, Negative}
+use Rattle.rbg_rules.specs.declared.rule.Action.TheVariants.{Positive, Negative}
 use Rattle.rbg_rules.specs.declared.rule.Rule.{Rule}
 use Rattle.rbg_rules.specs.declared.rule.Rule.TheOpen.{Rule-F}
 use Rattle.rbg_rules.specs.declared.rule.Rule.TheViews.{roll-Rule, out-Rule}
 use Rattle.rbg_rules.specs.declared.rule.Rule.TheVariants.{Act, outs-Act, Pattern, outs-Pattern, Then, outs-Then, Or, outs-Or, Star, outs-Star}
 use Rattle.rbg_rules.specs.declared.rule.Rule.TheFolds.{fold_out-Rule, fold-roll-Rule, ind-Rule, map-Rule}
-use Rattle.rbg_rules.specs.Expression.{AbstractAction, shift, on, off, assignment, comparison, switch, positive, negative, Expression, act, skip, sequence, fail, choice, star, sequence_of, choice_of}
-use Rattle.rbg_rules.specs.Positions.{HasAction, HasInside, positions_of, positions_inside, count_from, IsNumbered, is_pattern, IsPatternAt}
-use Rattle.rbg_rules.specs.Translation.{arithmetic_of, relation_of, action_of, shows_pattern, action_at, act_of, pattern_of, rule_step, expression_of}
+use Rattle.rbg_rules.specs.Expression.{Expression, act, skip, sequence, fail, choice, star, sequence_of, choice_of}
+use Rattle.rbg_rules.specs.Translation.{action_of, shows_pattern, action_at, act_of, pattern_of, rule_step, expression_of}
 use Rattle.rbg_rules.specs.Games.{HasNoEmptySum, HasNoEmptySumInside}
-use Rattle.rbg_rules.specs.Table.{ greatest, last_step, last_position, IsWithin}
+use Rattle.rbg_rules.specs.Table.{greatest, last_step, last_position, IsWithin}
 use Rattle.rbg_rules.proofs.Bridge.{expression_of-Act, expression_of-Pattern}
 
 -- One layer of a tree, as an expression.
@@ -62,7 +61,7 @@ pub record IsPatternIn (actions : List Action) (p : ℕ) (inside : Box Rule Glob
 is_there : (actions : List Action) (p : ℕ) (a d : Action) → action_at actions p ≡ Some a → (0 < p) × (p ≤ length actions) × (a ≡ get_or actions (p - 1) d)
 is_there actions zero a d at = absurd (cc at)
 is_there actions (suc k) a d at =
-    let below : k < length actions = slice_get-below actions k a at in
+    let below : k < length actions = slice_get_within actions k a at in
     let same : Some a ≡ Some (get_or actions (suc k - 1) d) = sym at ∙ action_there actions (suc k) d (omega arith) (omega (arith, below)) in
     (omega arith, omega (arith, below), cc same)
 
@@ -114,29 +113,23 @@ pattern_in actions p inside d none =
 sequence_parts : (first : Expression) (parts : List Expression) → HasNoEmptySum (fold sequence first parts) → HasNoEmptySum first × All HasNoEmptySum parts
 sequence_parts first [] none = (none, (λ k d h. absurd (omega arith)))
 sequence_parts first (x ∷ parts) none =
-    let ((in_first, in_x), all) = sequence_parts (sequence first x) parts none in
-    (in_first, All-cons in_x all)
+    let (two, all) = sequence_parts (sequence first x) parts none in
+    (two.0, All-cons HasNoEmptySum x parts two.1 all)
+
+no_choice_is_fail : (x y : Expression) → ¬ (choice x y ≡ fail)
+no_choice_is_fail x y e = cc
+
+first_choice : (first x : Expression) (parts : List Expression) → HasNoEmptySum (fold choice (choice first x) parts) → ((first ≡ fail) ⊎ HasNoEmptySum first) × HasNoEmptySum x
+first_choice first x [] none = none
+first_choice first x (y ∷ parts) none =
+    let kept = first_choice (choice first x) y parts none in
+    elim kept.0 [ inl none_first ↦ absurd (no_choice_is_fail first x none_first) | inr two ↦ two ]
 
 choice_parts : (first : Expression) (parts : List Expression) → HasNoEmptySum (fold choice first parts) → All HasNoEmptySum parts
 choice_parts first [] none = λ k d h. absurd (omega arith)
-choice_parts first (x ∷ parts) none = All-cons (last_part first x parts none) (choice_parts (choice first x) parts none)
-  where
-    last_part : (first x : Expression) (parts : List Expression) → HasNoEmptySum (fold choice (choice first x) parts) → HasNoEmptySum x
-    last_part first x [] none = none.1
-    last_part first x (y ∷ parts) none = elim (first_kept (choice first x) y parts none) [
-      | inl none_first ↦ absurd (not_fail first x none_first)
-      | inr kept ↦ kept.1
-    ]
-
-    not_fail : (x y : Expression) → ¬ (choice x y ≡ fail)
-    not_fail x y e = cc
-
-    first_kept : (first x : Expression) (parts : List Expression) → HasNoEmptySum (fold choice (choice first x) parts) → (first ≡ fail) ⊎ HasNoEmptySum first
-    first_kept first x [] none = none.0
-    first_kept first x (y ∷ parts) none = elim (first_kept (choice first x) y parts none) [
-      | inl none_first ↦ absurd (not_fail first x none_first)
-      | inr kept ↦ kept.0
-    ]
+choice_parts first (x ∷ parts) none =
+    let kept = first_choice first x parts none in
+    All-cons HasNoEmptySum x parts kept.1 (choice_parts (choice first x) parts none)
 
 pub none_in_sequence : (parts : List Expression) → HasNoEmptySum (sequence_of parts) → All HasNoEmptySum parts
 none_in_sequence parts none = (sequence_parts skip parts none).1
