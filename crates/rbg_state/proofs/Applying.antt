@@ -6,26 +6,26 @@ use Rattle.rbg_rules.specs.Positions.{HasAction, IsPatternAt}
 use Rattle.rbg_rules.specs.State.{AbstractGame, AbstractState, IsStateOf}
 use Rattle.rbg_rules.specs.Actions.{Applies}
 use Rattle.rbg_rules.specs.Games.{IsGame}
-use Rattle.rbg_rules.specs.Translation.{arithmetic_of, relation_of}
-use Rattle.rbg_rules.specs.Instructions.{Shows, Stands, shows_pattern}
-use Rattle.rbg_rules.specs.declared.instruction.Instruction.{Instruction}
-use Rattle.rbg_rules.specs.declared.instruction.Instruction.TheVariants.{Shift, On, Off, Assign, Compare, Switch, Positive, Negative}
+use Rattle.rbg_rules.specs.Translation.{arithmetic_of, relation_of, shows_pattern}
+use Rattle.rbg_rules.specs.Table.{Shows, Stands}
+use Rattle.rbg_rules.specs.declared.rule.Action.{Action}
+use Rattle.rbg_rules.specs.declared.rule.Action.TheVariants.{Shift, On, Off, Assign, Compare, Switch, Positive, Negative}
 use Rattle.rbg_rules.proofs.MoveLemmas.{applied_acts, Applies_one}
 use Rattle.rbg_rules.proofs.StateLemmas.{state_law}
-use Rattle.rbg_rules.proofs.InstructionLemmas.{pattern_stands}
+use Rattle.rbg_rules.proofs.TableLemmas.{pattern_stands}
 use Rattle.rbg_state.specs.Answer.{Answers}
 use Rattle.rbg_state.specs.History.{History, capacity_of, changed_to, IsAfter}
 use Rattle.rbg_state.proofs.Histories.{after_nothing, after_change, capacity_after_change}
 use Rattle.rbg_state.specs.declared.state.actions.Applied.{Applied}
 use Rattle.rbg_state.specs.declared.state.actions.Applied.TheVariants.{Valid, Invalid}
 
--- the action that an instruction shows, where it is no pattern
-record ShownAction (rules : Expression) (p : ℕ) (i : Instruction) : Type 0 where
+-- the action that an action of the program shows, where it is no pattern
+record ShownAction (rules : Expression) (p : ℕ) (i : Action) : Type 0 where
   action : AbstractAction
   stands : HasAction rules p action
   shown : Shows action i
 
-shown_action : (rules : Expression) (p : ℕ) (i : Instruction) → shows_pattern i ≡ false → Stands rules p i → ShownAction rules p i
+shown_action : (rules : Expression) (p : ℕ) (i : Action) → shows_pattern i ≡ false → Stands rules p i → ShownAction rules p i
 shown_action rules p (Shift d) plain stands = record { action = shift d; stands = stands; shown = refl }
 shown_action rules p (On pieces) plain stands = record { action = on pieces.items; stands = stands; shown = refl }
 shown_action rules p (Off x) plain stands = record { action = off x; stands = stands; shown = refl }
@@ -64,7 +64,7 @@ pub record IsAnswered (game : AbstractGame) (p : ℕ) (h k : History) (answer : 
   pub fits : IsStateOf game k.state
   pub step : IsStep h k
 
-module _ (game : AbstractGame) (lawful : IsGame game) (p : ℕ) (i : Instruction) (stands : Stands game.rules p i) (no_pattern : ¬ IsPatternAt game.rules p) (h k : History) (room : 0 < h.room) where
+module _ (game : AbstractGame) (lawful : IsGame game) (p : ℕ) (i : Action) (stands : Stands game.rules p i) (no_pattern : ¬ IsPatternAt game.rules p) (h k : History) (room : 0 < h.room) where
   answered_by : (answer : Applied) → ShownAction game.rules p i → IsStateOf game h.state → ((a : AbstractAction) → Shows a i → Answers game a h k answer) → IsAnswered game p h k answer
   answered_by Valid here fits answers =
       let (acts, written) = answers here.action here.shown in

@@ -1,7 +1,6 @@
 //! Changes of a semi-state, and names for the states between them.
 
-use crate::Vertex;
-use rbg_base::{Piece, Player, Variable};
+use rbg_base::{Piece, Player, Variable, Vertex};
 use std::marker::Model;
 
 /// A change of one part of a semi-state.

@@ -9,6 +9,3 @@ mod state;
 pub use change::Mark;
 pub use rbg_base::Memory;
 pub use state::{Applied, SemiState};
-
-/// A vertex of the board, numbered from 0.
-type Vertex = u16;

@@ -1,8 +1,7 @@
 //! The piece on each vertex of a board, with a running count for each piece.
 ghost use Rattle.std.specs.Prelude.{◌≡◌, ◌+◌, ◌<◌, ◌^◌, ◌==◌, ◌++◌, [], ◌∷◌, Some, All, length, count_by, slice_get, slice_set, IfOk};
 
-use crate::{Memory, Vertex};
-use rbg_base::Piece;
+use rbg_base::{Memory, Piece, Vertex};
 use rbg_board::Board;
 use rbg_rules::limits::MAX_PIECES;
 use std::alloc::Global;

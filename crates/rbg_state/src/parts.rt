@@ -5,8 +5,7 @@ ghost use Rattle.rbg_state.specs.Changes.{set, IsChangeWithin};
 
 use crate::change::Change;
 use crate::occupancy::Occupancy;
-use crate::{Memory, Vertex};
-use rbg_base::{Piece, Player, Variable};
+use rbg_base::{Memory, Piece, Player, Variable, Vertex};
 use rbg_rules::Game;
 use std::alloc::Global;
 use std::marker::Model;

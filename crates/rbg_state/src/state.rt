@@ -10,9 +10,8 @@ mod arithmetic;
 
 use crate::change::{Change, Mark};
 use crate::parts::Parts;
-use crate::{Memory, Vertex};
+use rbg_base::{Memory, Piece, Player, Variable, Vertex};
 pub use actions::Applied;
-use rbg_base::{Piece, Player, Variable};
 use rbg_rules::Game;
 use std::alloc::Global;
 use std::marker::Model;

@@ -6,8 +6,8 @@ ghost use Rattle.rbg_rules.specs.Positions.{positions_of, IsPatternAt};
 ghost use Rattle.rbg_rules.specs.Actions.{Applies};
 ghost use Rattle.rbg_rules.specs.Values.{Relates};
 ghost use Rattle.rbg_rules.specs.Games.{IsGame, IsActionOf};
-ghost use Rattle.rbg_rules.specs.Translation.{arithmetic_of, relation_of};
-ghost use Rattle.rbg_rules.specs.Instructions.{Shows, shows_pattern};
+ghost use Rattle.rbg_rules.specs.Translation.{arithmetic_of, relation_of, shows_pattern};
+ghost use Rattle.rbg_rules.specs.Table.{Shows};
 ghost use Rattle.rbg_state.specs.History.{capacity_of, IsAfter};
 ghost use Rattle.rbg_state.specs.Reads.{ReadsBelow};
 
@@ -16,7 +16,7 @@ use crate::change::Change;
 use rbg_base::{Direction, Piece, Player, Position, Variable};
 use rbg_board::Board;
 use rbg_rules::limits::MAX_PIECES;
-use rbg_rules::{Arithmetic, Game, Instruction, Relation};
+use rbg_rules::{Action, Arithmetic, Game, Relation};
 
 /// Whether an action could be applied.
 #[derive(Clone, Copy, Debug, PartialEq, Eq)]
@@ -48,7 +48,7 @@ impl SemiState {
     }
 
     /// Does what an action says.
-    fn act(&mut self, game: &Game, board: &Board, action: &Instruction) -> Applied
+    fn act(&mut self, game: &Game, board: &Board, action: &Action) -> Applied
         requires lawful { IsGame game.now }
         requires board { board.now ≡ game.now.board }
         requires fits { IsStateOf game.now self.old.state }
@@ -58,19 +58,19 @@ impl SemiState {
         ensures { (a : AbstractAction) → Shows a action.now → Answers game.now a self.old self.new result }
     {
         match action {
-            Instruction::Shift { direction } => self.shift(board, *direction),
-            Instruction::On { pieces } => self.on(pieces),
-            Instruction::Off { piece } => self.off(*piece),
-            Instruction::Assign { variable, value } => {
+            Action::Shift { direction } => self.shift(board, *direction),
+            Action::On { pieces } => self.on(pieces),
+            Action::Off { piece } => self.off(*piece),
+            Action::Assign { variable, value } => {
                 self.assign(*variable, value, game.bound(*variable))
             }
-            Instruction::Compare {
+            Action::Compare {
                 left,
                 relation,
                 right,
             } => self.compare(left, *relation, right),
-            Instruction::Switch { player } => self.switch(*player),
-            Instruction::Positive | Instruction::Negative => unreachable!(),
+            Action::Switch { player } => self.switch(*player),
+            Action::Positive | Action::Negative => unreachable!(),
         }
     }
 
