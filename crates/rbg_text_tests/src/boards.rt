@@ -19,19 +19,19 @@ fn rows_of(alloc: Global, lengths: &[u16]) -> Result<Vec<Vec<u16>>, AllocError> 
     Ok(rows)
 }
 
-/// The answer of `rectangle` for rows of these lengths.
+/// What `rectangle` returns for rows of these lengths.
 fn rectangle_of(alloc: Global, directions: [u16; 4], lengths: &[u16]) -> Result<Board, BoardError> {
     let rows = rows_of(alloc, lengths)?;
     rectangle(alloc, directions, &rows)
 }
 
-/// The answer of `hexagon` for rows of these lengths.
+/// What `hexagon` returns for rows of these lengths.
 fn hexagon_of(alloc: Global, directions: [u16; 6], lengths: &[u16]) -> Result<Board, BoardError> {
     let rows = rows_of(alloc, lengths)?;
     hexagon(alloc, directions, &rows)
 }
 
-/// The answer of `graph` for vertices with these names and edges, whose pieces are ten times their places.
+/// What `graph` returns for vertices with these names and edges. The pieces are 0, 10, 20 and so on.
 fn graph_of(alloc: Global, vertices: &[(u32, &[(u16, u32)])]) -> Result<Board, BoardError> {
     let mut cells = Vec::new(alloc);
     let mut piece = 0u16;
@@ -47,7 +47,7 @@ fn graph_of(alloc: Global, vertices: &[(u32, &[(u16, u32)])]) -> Result<Board, B
     graph(alloc, &cells)
 }
 
-/// The answer of `graph` for so many vertices, named from 0 on, whose only edges lead to themselves.
+/// What `graph` returns for `count` vertices, named from 0 on, each with one edge to itself.
 fn loops(alloc: Global, count: u32) -> Result<Board, BoardError> {
     let mut cells = Vec::new(alloc);
     for name in 0..count {
@@ -61,7 +61,7 @@ fn loops(alloc: Global, count: u32) -> Result<Board, BoardError> {
     graph(alloc, &cells)
 }
 
-/// How many vertices the board of an answer has.
+/// The number of vertices of the board that was made.
 fn vertices(answer: Result<Board, BoardError>) -> Result<usize, BoardError> {
     match answer {
         Ok(board) => Ok(board.len()),

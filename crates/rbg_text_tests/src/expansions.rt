@@ -32,7 +32,7 @@ fn expanded(alloc: Global, text: &str) -> Result<String, Fail> {
     }
 }
 
-/// How many tokens the sections of a text have together.
+/// The number of tokens in all sections of a text.
 fn kept(alloc: Global, text: &str) -> Result<Result<usize, MacroError>, Fail> {
     let tokens = tokens(alloc, text.as_bytes())?;
     let source = match expand(alloc, &tokens) {
@@ -144,7 +144,7 @@ fn texts_expand_or_are_refused(rt: HostRuntime) -> Result<(), Fail> {
     Ok(())
 }
 
-/// As many macros: each one's body is the next one's name, and the last one's is `x`.
+/// `count` macros: the body of each is the name of the next, and the last body is `x`.
 fn chain(alloc: Global, count: usize) -> Result<String, Fail> {
     let mut text = String::new(alloc);
     write!(text, "#rules = m1\n")?;
@@ -156,7 +156,8 @@ fn chain(alloc: Global, count: usize) -> Result<String, Fail> {
     Ok(text)
 }
 
-/// Macros of which each is twice the one before, with the first one's body, and the last one's call.
+/// Macros `a0` to `a<last>`, and rules that call the last. The body of `a0` is given; each of the others is twice the
+/// one before.
 fn doubling(alloc: Global, first: &str, last: usize) -> Result<String, Fail> {
     let mut text = String::new(alloc);
     write!(text, "#z = #a0 = {first}\n")?;

@@ -48,7 +48,7 @@ fn shown(alloc: Global, game: &Game) -> Result<String, Fail> {
     Ok(text)
 }
 
-/// What `load` answers for a text.
+/// What `load` returns for a text.
 fn answer(alloc: Global, text: &str) -> Result<String, Fail> {
     match load(alloc, text.as_bytes()) {
         Ok(game) => shown(alloc, &game),
