@@ -4,17 +4,18 @@ use Rattle.std.proofs.lemmas.Option.{same_Some}
 use Rattle.std.proofs.lemmas.List.{map-append}
 use Rattle.rbg_syntax.specs.Tree.{SpeltBounded, SpeltDescription}
 use Rattle.rbg_rules.specs.State.{AbstractGame}
-use Rattle.rbg_game.specs.Naming.{Names, names_in, AreDifferentNames, RuleIs}
-use Rattle.rbg_game.specs.Described.{board_in, holder_names, holders_of, AreBounds, IsGameOf}
+use Rattle.rbg_game.specs.Descriptions.{Names, names_in, AreDifferentNames, RuleIs}
+use Rattle.rbg_game.specs.Descriptions.{board_in, holder_names, holders_of, AreBounds, IsGameOf}
 use Rattle.rbg_game.specs.OneGame.{OneGameOfDescriptionLaw, OneGameLaw}
 use Rattle.rbg_game.proofs.LoadingLemmas.{one_spelt}
-use Rattle.rbg_game.proofs.OneGameLists.{each_with_one, front_differs}
+use Rattle.rbg_game.proofs.Lists.{AllZip-once}
+use Rattle.rbg_game.proofs.OneGameLists.{front_differs}
 use Rattle.rbg_game.proofs.OneGameRules.{HasDifferentNames, numbered_rule_once}
 use Rattle.rbg_game.proofs.OneGameBoards.{IsSameBoard, board_once, board_directions_differ}
 
 bounds_once : (holders : List SpeltBounded) (a b : List ℕ) → AreBounds holders a → AreBounds holders b → a ≡ b
 bounds_once =
-    each_with_one (λ (holder : SpeltBounded) (bound : ℕ). holder.bound.value ≡ Some bound) (λ (holder : SpeltBounded) (bound : ℕ). holder.bound.value ≡ Some bound) (λ holder m n is_m is_n. same_Some m n (sym is_m ∙ is_n))
+    AllZip-once (λ (holder : SpeltBounded) (bound : ℕ). holder.bound.value ≡ Some bound) (λ (holder : SpeltBounded) (bound : ℕ). holder.bound.value ≡ Some bound) (λ holder m n is_m is_n. same_Some m n (sym is_m ∙ is_n))
 
 -- the players are the first of the variables
 players_differ : (d : SpeltDescription) (game : AbstractGame) → IsGameOf d game → AreDifferentNames game.players

@@ -1,15 +1,16 @@
 -- What is spelt as a board is at most one, by its names, its first pieces and where each direction leads.
 use Rattle.std.proofs.Common.{◌≡◌, ℕ, ◌↔◌, List, [], ◌∷◌, Option, Some, None, map, refl, sym, ◌∙◌, subst}
-use Rattle.std.specs.List.{concat}
+use Rattle.std.specs.List.{AllZip, concat}
 use Rattle.rbg_board.specs.Graph.{Graph, next, IsGraphOf}
 use Rattle.rbg_board.specs.Rectangle.{RectangleEdge}
 use Rattle.rbg_board.specs.Hexagon.{HexagonEdge}
 use Rattle.rbg_board.specs.Written.{Written, pieces_of, WrittenEdge}
 use Rattle.rbg_syntax.specs.Tree.{SpeltName, SpeltEdge, SpeltVertex, SpeltBoard, rectangle, hexagon, graph}
-use Rattle.rbg_game.specs.Naming.{IsNumberOf, AreDifferentNames, EachWith}
-use Rattle.rbg_game.specs.Described.{NamedBoard, IsRectangleBoard, IsHexagonBoard, EdgeIs, VertexIs, directions_named, IsGraphBoard, BoardIs}
-use Rattle.rbg_game.proofs.BoardNaming.{rows_once}
-use Rattle.rbg_game.proofs.OneGameLists.{each_with_one, first_use_once}
+use Rattle.rbg_game.specs.Descriptions.{IsNumberOf, AreDifferentNames}
+use Rattle.rbg_game.specs.Descriptions.{NamedBoard, IsRectangleBoard, IsHexagonBoard, EdgeIs, VertexIs, directions_named, IsGraphBoard, BoardIs}
+use Rattle.rbg_game.proofs.BoardNames.{rows_once}
+use Rattle.rbg_game.proofs.Lists.{AllZip-once}
+use Rattle.rbg_game.proofs.OneGameLists.{first_use_once}
 
 -- The boards have the same directions, the same first pieces and the same ways.
 pub record IsSameBoard (a b : NamedBoard) : Type 0 where
@@ -32,8 +33,8 @@ boards_once : (a b : NamedBoard) (first : List ℕ) (Edge : ℕ → ℕ → ℕ 
 boards_once a b first Edge same left right =
     record { directions = same; first = left.first_pieces ∙ sym right.first_pieces; ways = ways_once a.board b.board first Edge left right }
 
-cells_once : (a b : NamedBoard) (rows : List (List SpeltName)) (left right : List (List ℕ)) → AreDifferentNames a.pieces → a.pieces ≡ b.pieces → EachWith (EachWith (IsNumberOf a.pieces)) rows left → EachWith (EachWith (IsNumberOf b.pieces)) rows right → left ≡ right
-cells_once a b rows left right differ same is_left is_right = rows_once a.pieces differ rows left right is_left (subst (λ pieces. EachWith (EachWith (IsNumberOf pieces)) rows right) (sym same) is_right)
+cells_once : (a b : NamedBoard) (rows : List (List SpeltName)) (left right : List (List ℕ)) → AreDifferentNames a.pieces → a.pieces ≡ b.pieces → AllZip (AllZip (IsNumberOf a.pieces)) rows left → AllZip (AllZip (IsNumberOf b.pieces)) rows right → left ≡ right
+cells_once a b rows left right differ same is_left is_right = rows_once a.pieces differ rows left right is_left (subst (λ pieces. AllZip (AllZip (IsNumberOf pieces)) rows right) (sym same) is_right)
 
 rectangle_once : (a b : NamedBoard) (names : List SpeltName) (rows : List (List SpeltName)) → AreDifferentNames a.pieces → a.pieces ≡ b.pieces → IsRectangleBoard a names rows → IsRectangleBoard b names rows → IsSameBoard a b
 rectangle_once a b names rows differ same left right =
@@ -69,7 +70,7 @@ vertex_once : (a b : NamedBoard) (vertices : List (List ℕ)) → HasOneNumberin
 vertex_once a b vertices one vertex w z left right =
     let name : w.name ≡ z.name = one.vertices_differ.one_number w.name z.name vertex.name.text left.name right.name in
     let piece : w.piece ≡ z.piece = number_once a.pieces b.pieces vertex.piece w.piece z.piece one.pieces_differ one.same_pieces left.piece right.piece in
-    let edges : w.edges ≡ z.edges = each_with_one (EdgeIs a vertices) (EdgeIs b vertices) (edge_once a b vertices one) vertex.edges w.edges z.edges left.edges right.edges in
+    let edges : w.edges ≡ z.edges = AllZip-once (EdgeIs a vertices) (EdgeIs b vertices) (edge_once a b vertices one) vertex.edges w.edges z.edges left.edges right.edges in
     λ i. record { name = name i; piece = piece i; edges = edges i }
 
 graph_once : (a b : NamedBoard) (vertices : List SpeltVertex) → AreDifferentNames a.pieces → a.pieces ≡ b.pieces → IsGraphBoard a vertices → IsGraphBoard b vertices → IsSameBoard a b
@@ -78,7 +79,7 @@ graph_once a b vertices differ same left right =
     let directions : a.directions ≡ b.directions = first_use_once (directions_named vertices) a.directions b.directions left.directions right.directions in
     let one : HasOneNumbering a b names =
     record { vertices_differ = left.differ; pieces_differ = differ; directions_differ = left.directions.differ; same_pieces = same; same_directions = directions } in
-    let written : left.written ≡ right.written = each_with_one (VertexIs a names) (VertexIs b names) (vertex_once a b names one) vertices left.written right.written left.named right.named in
+    let written : left.written ≡ right.written = AllZip-once (VertexIs a names) (VertexIs b names) (vertex_once a b names one) vertices left.written right.written left.named right.named in
     boards_once a b (pieces_of left.written) (WrittenEdge left.written) directions left.board (subst (λ ws. IsGraphOf b.board (pieces_of ws) (WrittenEdge ws)) (sym written) right.board)
 
 -- At most one board is spelt, where the pieces have different names.

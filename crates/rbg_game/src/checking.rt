@@ -1,13 +1,13 @@
-// The checks of a description: its names by their numbers, then its board, then its rules.
+//! The checks of a description: its names by their numbers, then its board, then its rules.
 ghost use Rattle.std.specs.Prelude.{◌≡◌, ◌≢◌, IfOk, IfErr};
 ghost use Rattle.rbg_syntax.specs.Plain.{IsPlain};
 ghost use Rattle.rbg_syntax.specs.Views.{description_of};
-ghost use Rattle.rbg_game.specs.Described.{IsGameOf};
-ghost use Rattle.rbg_game.specs.Faults.{HasFault};
-ghost use Rattle.rbg_game.specs.GameByNumbers.{game_by_numbers};
 ghost use Rattle.rbg_rules.specs.Games.{IsGame};
 ghost use Rattle.rbg_rules.specs.State.{AbstractGame};
 ghost use Rattle.rbg_rules.specs.Translation.{expression_of};
+ghost use Rattle.rbg_game.specs.Descriptions.{IsGameOf};
+ghost use Rattle.rbg_game.specs.Faults.{HasFault};
+ghost use Rattle.rbg_game.specs.internal.Things.{game_by_numbers};
 
 mod boards;
 mod name_table;
@@ -17,10 +17,9 @@ mod rules;
 mod tests;
 
 use crate::error::GameError;
-use rbg_rules::{Game, Parts};
-use rbg_rules::Rule;
 use boards::{NamedBoard, make_board};
 use names::{Things, number_things};
+use rbg_rules::{Game, Parts, Rule};
 use rbg_syntax::Description;
 use rules::{NameTables, number_rules};
 use std::alloc::{AllocError, Global};
@@ -33,9 +32,10 @@ pub fn check(alloc: Global, description: &Description) -> Result<Game, GameError
     requires { IsPlain (description_of description.now) }
     ensures game { IfOk result (IsGameOf (description_of description.now)) }
 
-    // The fault that an error names stands, and but for want of memory no game is the description's.
+    // The fault that an error names stands, and unless memory ran out no game is the description's.
     ensures fault { IfErr result (HasFault (description_of description.now)) }
-    ensures refused { IfErr result (λ error. error ≢ GameError.Memory → (game : AbstractGame) → ¬ IsGameOf (description_of description.now) game) }
+    ensures refused { IfErr result
+        (λ e. e ≢ GameError.Memory → (game : AbstractGame) → ¬ IsGameOf (description_of description.now) game) }
 {
     let things = number_things(alloc, description)?;
     let board = make_board(alloc, &things.pieces, &description.board)?;

@@ -1,5 +1,5 @@
 //! Laws of descriptions and texts. Each function does nothing: its contract is the law.
-ghost use Rattle.rbg_game.specs.OneGame.{OneGameOfDescriptionLaw, OneGameLaw};
+ghost use Rattle.rbg_game.specs.OneGame.{OneGameOfDescriptionLaw, OneGameLaw, NoGameWithFaultLaw};
 
 /// A description is at most one game, but for how the board keeps its ways.
 pub fn descriptions_are_one_game()
@@ -9,4 +9,9 @@ pub fn descriptions_are_one_game()
 /// A text is at most one game, but for how the board keeps its ways.
 pub fn texts_are_one_game()
     ensures { OneGameLaw }
+{}
+
+/// A description with a fault is no game.
+pub fn faults_leave_no_game()
+    ensures { NoGameWithFaultLaw }
 {}

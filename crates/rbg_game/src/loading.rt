@@ -6,8 +6,8 @@ ghost use Rattle.rbg_game.specs.Loading.{HasSectionsOf, Describes, Loads, IsRefu
 
 use crate::checking::check;
 use crate::error::LoadError;
-use rbg_rules::Game;
 use rbg_macro::{Source, expand, tokens};
+use rbg_rules::Game;
 use rbg_syntax::{Description, parse};
 use std::alloc::Global;
 

@@ -4,8 +4,8 @@ ghost use Rattle.rbg_syntax.specs.Plain.{IsPlain};
 ghost use Rattle.rbg_syntax.specs.Views.{description_of};
 
 use crate::checking::check;
-use rbg_rules::Game;
 use rbg_macro::{expand, tokens};
+use rbg_rules::Game;
 use rbg_syntax::{Bounded, Description, Name, Number, parse};
 use std::alloc::{AllocError, Global};
 use std::process::Abort;

@@ -3,7 +3,7 @@ use Rattle.std.proofs.lemmas.Result.{err_from_is_err_and}
 use Rattle.rbg_syntax.specs.Plain.{IsPlainRule}
 use Rattle.rbg_syntax.specs.Views.{rule_of}
 use Rattle.rbg_syntax.proofs.Trees.{rule_of-Then, rule_of-Or, rule_of-Star}
-use Rattle.rbg_game.specs.PlainRules.{names_of}
+use Rattle.rbg_game.specs.internal.PlainRules.{names_of}
 use Rattle.rbg_game.proofs.RuleNumbering.{plain_action, part_fault, part_made}
 use Rattle.rbg_game.proofs.checking.rules.number_part.Goals as goal
 

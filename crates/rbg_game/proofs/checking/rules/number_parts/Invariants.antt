@@ -1,7 +1,7 @@
 use Rattle.std.proofs.Common.{◌≡◌, ◌≤◌, map, take, vec_len}
 use Rattle.rbg_syntax.specs.Views.{rule_of}
 use Rattle.rbg_rules.specs.declared.limits.TheConstants.{MAX_POSITIONS}
-use Rattle.rbg_game.specs.PlainRules.{names_of}
+use Rattle.rbg_game.specs.internal.PlainRules.{names_of}
 use Rattle.rbg_rules.specs.Translation.{expression_of}
 use Rattle.rbg_game.proofs.PlainRuleLemmas.{AreSoFar}
 use Rattle.rbg_game.proofs.checking.rules.number_parts.Given as goal

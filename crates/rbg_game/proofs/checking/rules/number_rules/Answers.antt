@@ -1,12 +1,12 @@
 use Rattle.std.proofs.Common.{◌∙◌, ap, subst, inl, inr}
-use Rattle.std.proofs.lemmas.Result.{IfOk-weaker, IfErr-weaker}
+use Rattle.std.proofs.lemmas.Result.{IfOk-weaker}
 use Rattle.rbg_syntax.specs.Plain.{IsPlainWord}
 use Rattle.rbg_syntax.specs.Views.{rule_of}
 use Rattle.rbg_syntax.proofs.Trees.{rule_of-Or, rule_of-Star}
 use Rattle.rbg_rules.specs.declared.rule.Rule.{Rule}
-use Rattle.rbg_game.specs.PlainRules.{names_of, HasPartFault, IsPartAt, IsRuleByNumbers, IsRefusedRule}
+use Rattle.rbg_game.specs.internal.PlainRules.{names_of, IsPartAt, IsRuleByNumbers}
 use Rattle.rbg_rules.specs.Translation.{expression_of}
-use Rattle.rbg_game.proofs.PlainRuleLemmas.{made_alone, fault_alone, refused_by_fault}
+use Rattle.rbg_game.proofs.PlainRuleLemmas.{made_alone}
 use Rattle.rbg_game.proofs.RuleNumbering.{plain_part, is_then, parts_are_plain}
 use Rattle.rbg_game.proofs.checking.rules.number_rules.Goals as goal
 
@@ -28,13 +28,8 @@ returns-in-Act-clause-rules c =
     IfOk-weaker c.number_part.result (λ (x : Rule). IsPartAt (names_of c.args.names.now) 1 (rule_of c.args.rule.now) (expression_of x)) (λ (x : Rule). IsRuleByNumbers (names_of c.args.names.now) (rule_of c.args.rule.now) (expression_of x))
     (λ x part. made_alone (names_of c.args.names.now) (rule_of c.args.rule.now) (expression_of x) c.requires.plain part) c.number_part.ensures.part
 
-pub returns-in-Act-clause-refused : goal.returns-in-Act-clause-refused
-returns-in-Act-clause-refused c =
-    IfErr-weaker c.number_part.result (HasPartFault (names_of c.args.names.now) (rule_of c.args.rule.now)) (IsRefusedRule (names_of c.args.names.now) (rule_of c.args.rule.now))
-    (λ e fault. refused_by_fault (names_of c.args.names.now) (rule_of c.args.rule.now) e c.requires.plain (fault_alone (names_of c.args.names.now) (rule_of c.args.rule.now) e fault)) c.number_part.ensures.fault
-
 pub returns-in-Then-clause-rules : goal.returns-in-Then-clause-rules
 returns-in-Then-clause-rules c = rw (is_then c.args.rule.now c.in-Then.parts c.deref.result.now c.in-Then.is c.deref.ensures.value) c.number_parts.ensures.rules
 
-pub returns-in-Then-clause-refused : goal.returns-in-Then-clause-refused
-returns-in-Then-clause-refused c = rw (is_then c.args.rule.now c.in-Then.parts c.deref.result.now c.in-Then.is c.deref.ensures.value) c.number_parts.ensures.refused
+pub returns-in-Then-clause-fault : goal.returns-in-Then-clause-fault
+returns-in-Then-clause-fault c = rw (is_then c.args.rule.now c.in-Then.parts c.deref.result.now c.in-Then.is c.deref.ensures.value) c.number_parts.ensures.fault

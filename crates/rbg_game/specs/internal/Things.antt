@@ -1,14 +1,17 @@
--- The players, variables and pieces of a description, by their numbers.
+-- The players, variables and pieces of a description by their numbers, and the game that is made of them.
 use Rattle.std.specs.Prelude.{◌≡◌, ℕ, ◌≤◌, List, [], ◌++◌, length, All}
 use Rattle.rbg_syntax.specs.Tree.{SpeltBounded, SpeltDescription}
-use Rattle.rbg_game.specs.Described.{texts_of, holder_names, holders_of, AreBounds, AreLawfulNames}
+use Rattle.rbg_rules.specs.Expression.{Expression}
+use Rattle.rbg_rules.specs.State.{AbstractGame}
 use Rattle.rbg_rules.specs.declared.limits.TheConstants.{MAX_PLAYERS, MAX_PIECES, MAX_VARIABLES, MAX_BOUND}
+use Rattle.rbg_game.specs.declared.checking.boards.NamedBoard.{NamedBoard}
 use Rattle.rbg_game.specs.declared.checking.names.Things.{Things}
+use Rattle.rbg_game.specs.Descriptions.{texts_of, holder_names, holders_of, AreBounds, AreLawfulNames}
 
--- The bounds of the players or variables stand behind the others, and none is too great.
+-- The bounds of the players or variables stand after the others, and none is too great.
 pub record AddsBounds (holders : List SpeltBounded) (old new : List ℕ) : Type 0 where
   pub added : List ℕ
-  pub behind : new ≡ old ++ added
+  pub after : new ≡ old ++ added
   pub bounds : AreBounds holders added
   pub limit : All (λ bound. bound ≤ MAX_BOUND) added
 
@@ -23,3 +26,16 @@ pub record AreThingsOf (d : SpeltDescription) (things : Things) : Type 0 where
   pub player_limit : length things.players ≤ MAX_PLAYERS
   pub piece_limit : length things.pieces ≤ MAX_PIECES
   pub variable_limit : length things.variables ≤ MAX_VARIABLES
+
+-- the game of its parts
+abbrev pub game_by_numbers : Things → NamedBoard → Expression → AbstractGame
+game_by_numbers things named rules =
+    record {
+      players = things.players;
+      pieces = things.pieces;
+      variables = things.variables;
+      bounds = things.bounds.items;
+      directions = named.directions;
+      board = named.board;
+      rules = rules;
+    }
