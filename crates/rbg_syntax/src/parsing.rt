@@ -1,15 +1,17 @@
 // The reader of a whole description.
 ghost use Rattle.std.specs.Prelude.{◌≡◌, codes, slice_get, IfErr, IfOk};
 ghost use Rattle.rbg_macro.specs.declared.token.Symbol.TheVariants.{Comma};
+ghost use Rattle.rbg_syntax.specs.Descriptions.{description_of};
 ghost use Rattle.rbg_syntax.specs.Plain.{IsPlain};
 ghost use Rattle.rbg_syntax.specs.Reading.{Gives, bounded_at, generated_at, name_at, one_word_at, rectangle_at, separated_at, whole_at};
 ghost use Rattle.rbg_syntax.specs.Sections.{IsMissing, sections_of};
 ghost use Rattle.rbg_syntax.specs.Spells.{HasFault, IsAnswer, SpellsOneWord};
 ghost use Rattle.rbg_syntax.specs.Tree.{SpeltDescription};
-ghost use Rattle.rbg_syntax.specs.Views.{board_of, bounded_list_of, description_of, names_of, rule_of};
+ghost use Rattle.rbg_syntax.specs.Views.{board_of, bounded_list_of, names_of, rule_of};
 
-use crate::description::{Board, Bounded, Description, Name};
+use crate::description::{Board, Bounded, Description};
 use crate::error::{Expectation, SyntaxError};
+use crate::names::Name;
 use crate::parser::Parser;
 use crate::rule::Rule;
 use crate::sections::{find, refuse_twice};

@@ -1,13 +1,15 @@
-use Rattle.std.proofs.Common.{map, sym, ap, ◌∙◌, Ok, Err}
+use Rattle.std.proofs.Common.{[], map, sym, ap, ◌∙◌, Ok, Err}
 use Rattle.rbg_macro.specs.declared.source.SectionKind.TheVariants.{Players, Pieces, Variables, Board, Rules}
 use Rattle.rbg_syntax.specs.Grammar.{ArePlayers, ArePieces, AreOneWord}
 use Rattle.rbg_syntax.specs.Sections.{sections_of}
 use Rattle.rbg_syntax.specs.Spells.{HasSection, IsRectangular}
 use Rattle.rbg_syntax.specs.Views.{board_of, bounded_list_of, bounded_of, names_of, rule_of}
 use Rattle.rbg_syntax.proofs.Descriptions.{has_section, spelt_here, err_only, err_fault, players_reads, pieces_reads, board_reads, rules_reads}
+use Rattle.rbg_syntax.proofs.FormedTrees.{some_separated, rectangular_directions, rules_formed}
 use Rattle.rbg_syntax.proofs.Plain.{spelt_plain}
 use Rattle.rbg_syntax.proofs.SectionLists.{none_first}
-use Rattle.rbg_syntax.proofs.source.parse.Goals as goal
+use Rattle.rbg_syntax.proofs.Wider.{word_wider}
+use Rattle.rbg_syntax.proofs.parsing.parse.Goals as goal
 
 pub returns-in_err-players-2-clause-only : goal.returns-in_err-players-2-clause-only
 returns-in_err-players-2-clause-only c d s =
@@ -78,6 +80,21 @@ returns-in-Some-clause-fault c =
     let all = c.args.source.now in
     let has : HasSection all Variables c.in-Some.variables.tokens = has_section all Variables c.in-Some.variables c.in_ok-refuse_twice.ensures.once (sym c.in-Some.ensures) in
     record { kind = Variables; ts = c.in-Some.variables.tokens; has = has; spells_nothing = λ s. s }
+
+pub invariant_of-result : goal.invariant_of-result
+invariant_of-result c =
+    let players = players_reads bounded_list_of c.in_ok-players.players.tokens (Ok c.in_ok-players-2.players) c.in_ok-players-2.ensures in
+    let pieces = pieces_reads names_of c.in_ok-pieces.pieces.tokens (Ok c.in_ok-pieces-2.pieces) c.in_ok-pieces-2.ensures in
+    let board = board_reads board_of c.in_ok-board.board.tokens (Ok c.in_ok-board-2.board) c.in_ok-board-2.ensures in
+    let rules = rules_reads rule_of c.in_ok-rules.rules.tokens (Ok c.in_ok-rules-2.rules) c.in_ok-rules-2.ensures in
+    record {
+      whole = record {
+        some_player = some_separated players.0;
+        some_piece = some_separated pieces.0;
+        directions = rectangular_directions board.0;
+        formed = rules_formed 1 c.in_ok-rules.rules.tokens _ [] (word_wider 0 rules.0);
+      };
+    }
 
 pub returns-clause-found : goal.returns-clause-found
 returns-clause-found c =
