@@ -1,7 +1,7 @@
 -- The game that is made of names, a board and rules by numbers is the description's; what is wrong with the board or the rules is wrong
 -- with the description.
 use Rattle.std.proofs.Common.{◌≡◌, ℕ, ◌≤◌, List, [], ◌++◌, length, take, refl, sym, ap, ◌∙◌, subst, arith}
-use Rattle.std.specs.Prelude.{All, Contains}
+use Rattle.std.specs.Prelude.{All}
 use Rattle.std.proofs.Math.Seq.{take-append_seam}
 use Rattle.std.proofs.lemmas.List.{map-append, length-map}
 use Rattle.std.proofs.lemmas.Slice.Zip.{AllZip-long}
@@ -9,7 +9,6 @@ use Rattle.rbg_syntax.specs.Plain.{IsPlain, HasRectangle}
 use Rattle.rbg_syntax.specs.Tree.{SpeltBounded, SpeltBoard, rectangle, hexagon, graph, SpeltName, SpeltDescription}
 use Rattle.rbg_rules.specs.Expression.{Expression}
 use Rattle.rbg_rules.specs.Games.{IsGame, IsWithinLimits}
-use Rattle.rbg_rules.specs.State.{AbstractGame}
 use Rattle.rbg_rules.specs.declared.limits.TheConstants.{MAX_BOUND}
 use Rattle.rbg_game.specs.declared.checking.boards.NamedBoard.{NamedBoard}
 use Rattle.rbg_game.specs.declared.checking.names.Things.{Things}

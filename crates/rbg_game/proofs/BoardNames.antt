@@ -1,9 +1,8 @@
 -- Names by their numbers, in rows of cells and in lists.
-use Rattle.std.proofs.Common.{◌≡◌, ℕ, zero, suc, ◌+◌, ◌<◌, inl, inr, List, [], ◌∷◌, ◌++◌, Some, length, get_or, take, map, flat_map, slice_get, Contains, All, refl, sym, ap, ◌∙◌, subst, arith}
+use Rattle.std.proofs.Common.{◌≡◌, ℕ, ◌<◌, inl, inr, List, [], ◌∷◌, Some, length, get_or, flat_map, Contains, All, ap, ◌∙◌, arith}
 use Rattle.std.specs.List.{AllZip, concat}
-use Rattle.std.proofs.lemmas.List.{map-append, take_more, length-map, get_or-map}
-use Rattle.std.proofs.lemmas.List.Elements.{All-nil, All-cons, All-append, Contains-append_left, Contains-append_right, Contains-append_cases}
-use Rattle.std.proofs.lemmas.Option.{slice_get_within, get_or_from_slice_get}
+use Rattle.std.proofs.lemmas.List.Elements.{All-nil, All-cons, All-append, Contains-append_cases}
+use Rattle.std.proofs.lemmas.Option.{slice_get_within}
 use Rattle.rbg_syntax.specs.Tree.{SpeltName}
 use Rattle.rbg_game.specs.Descriptions.{IsNumberOf, AreDifferentNames}
 use Rattle.rbg_game.proofs.Lists.{Contains-from_get, AllZip-at, AllZip-once}

@@ -1,15 +1,13 @@
 -- A description with a fault is no game.
-use Rattle.std.proofs.Common.{◌≡◌, ◌≢◌, ◌↔◌, ℕ, suc, ◌+◌, ◌<◌, ◌≤◌, List, [], ◌∷◌, ◌++◌, Some, None, true, false, inl, inr, length, get_or, map, flat_map}
+use Rattle.std.proofs.Common.{◌≡◌, ◌≢◌, ◌↔◌, ℕ, suc, ◌<◌, ◌≤◌, List, [], ◌∷◌, ◌++◌, Some, None, false, inl, inr, length, get_or, map}
 use Rattle.std.proofs.Common.{refl, sym, ap, ◌∙◌, subst, arith}
 use Rattle.std.specs.Prelude.{slice_get, slice_index, Contains, IsTrue, All}
-use Rattle.std.specs.List.{AllZip, concat}
 use Rattle.std.proofs.lemmas.Bool.{false≢true}
 use Rattle.std.proofs.lemmas.List.{length-append, length-map, map-append}
 use Rattle.std.proofs.lemmas.Option.{slice_get-get_or}
 use Rattle.std.proofs.lemmas.List.Elements.{All-contains, Contains-append_cases}
 use Rattle.rbg_base.specs.Names.{is_name}
 use Rattle.rbg_board.specs.Rectangle.{MakesRectangle, RectangleRefusal}
-use Rattle.rbg_board.specs.Written.{Written}
 use Rattle.rbg_board.specs.declared.error.BoardError.{BoardError}
 use Rattle.rbg_board.specs.declared.error.BoardError.TheVariants as board_errors
 use Rattle.rbg_syntax.specs.Tree.{SpeltName, SpeltBounded, SpeltEdge, SpeltVertex, SpeltBoard, rectangle, hexagon, graph}
@@ -26,7 +24,7 @@ use Rattle.rbg_game.specs.Descriptions.{holder_names, holders_of, AreBounds, IsG
 use Rattle.rbg_game.specs.Faults.{HasUnknown, HasNoName, StandsAgain, HasGreatBound, HaveOneName, HasRectangleFault, HasBoardFault, unknown_piece, no_direction, no_rectangle, board_memory}
 use Rattle.rbg_game.specs.Faults.{Purpose, as_direction, as_piece, as_player, names_for, Uses, shifts, stands_on, puts, gives_turn, HasSpeltAction, this, in_sequence, in_choice, in_star, in_positive, in_negative, SomeHasSpeltAction, earlier, last, actions_in, actions_in_all, actions_of}
 use Rattle.rbg_game.specs.Faults.{HasRuleFault, unknown_use, many_positions, rule_memory, board_directions, board_pieces, names_of_holders, names_spelt}
-use Rattle.rbg_game.specs.Faults.{HasFault, no_name, same_holder, same_piece, great_bound, many_players, many_pieces, many_variables, in_board, in_rules, memory}
+use Rattle.rbg_game.specs.Faults.{no_name, same_holder, same_piece, great_bound, many_players, many_pieces, many_variables, in_board, in_rules, memory}
 use Rattle.rbg_game.specs.OneGame.{NoGameWithFaultLaw}
 use Rattle.rbg_game.proofs.Lists.{Contains-one, Contains-from_get, get_from-Contains, slice_get-map_at, Contains-map, map_entry, fellow}
 use Rattle.rbg_game.proofs.NameFaults.{texts_of-names}
@@ -150,7 +148,7 @@ use_fails names _ _ _ at b (gives_turn {n = n}) h (k, is, e) = one_fails names.p
 
 mutual
   -- a rule by numbers has as many positions as actions are spelt
-  positions_spelt : (names : Names) (r : SpeltRule) (x : Expression) → RuleIs names r x → length (positions_of x) ≡ actions_in r
+  pub positions_spelt : (names : Names) (r : SpeltRule) (x : Expression) → RuleIs names r x → length (positions_of x) ≡ actions_in r
   positions_spelt names (SpeltRule.act s) x (p, b, is, e) = ap (λ y. length (positions_of y)) e ∙ positions_spelt_inside names s b is
   positions_spelt names (SpeltRule.sequence rs) x is = positions_in_sequence names rs x is
   positions_spelt names (SpeltRule.choice rs) x is = positions_in_choice names rs x is

@@ -10,9 +10,9 @@ use Rattle.rbg_base.specs.Names.{is_name}
 use Rattle.rbg_syntax.specs.Tree.{SpeltName, SpeltBounded, SpeltDescription}
 use Rattle.rbg_rules.specs.declared.limits.TheConstants.{MAX_BOUND}
 use Rattle.rbg_game.specs.declared.error.GameError.{GameError}
-use Rattle.rbg_game.specs.declared.error.GameError.TheVariants.{UnknownName, SameName, Bound, Memory}
+use Rattle.rbg_game.specs.declared.error.GameError.TheVariants.{UnknownName, SameName}
 use Rattle.rbg_game.specs.Descriptions.{texts_of, holder_names, holders_of}
-use Rattle.rbg_game.specs.Faults.{HasUnknown, HasNoName, StandsAgain, HasGreatBound, names_of_holders, HasFault}
+use Rattle.rbg_game.specs.Faults.{StandsAgain, HasGreatBound, names_of_holders, HasFault}
 use Rattle.rbg_game.specs.Faults.{no_name as no_name_in, same_holder, same_piece, great_bound, memory}
 use Rattle.rbg_game.specs.internal.NameTables.{HasLookUpFault, not_there, no_memory as look_up_memory, StandsBehind, HasNameFault, no_name, same_name, no_memory, HasHolderFault, by_name, by_bound}
 use Rattle.rbg_game.specs.internal.Things.{AddsBounds}

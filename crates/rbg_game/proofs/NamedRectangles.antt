@@ -1,18 +1,19 @@
 -- Rectangles by the numbers of their names: the directions, the board, and what is wrong with it.
-use Rattle.std.proofs.Common.{◌≡◌, ◌≢◌, ◌↔◌, ℕ, zero, suc, ◌+◌, ◌*◌, ◌<◌, ◌≤◌, inl, inr, List, [], ◌∷◌, ◌++◌, Some, length, get_or, map, flat_map, slice_get, slice_index, Contains, All, refl, sym, ap, ◌∙◌, subst, arith}
+use Rattle.std.proofs.Common.{◌≡◌, ◌≢◌, ◌↔◌, ℕ, ◌+◌, ◌*◌, ◌<◌, ◌≤◌, inl, inr, List, [], ◌∷◌, ◌++◌, Some, length, get_or, map, flat_map, slice_get, slice_index, Contains, All, refl, sym, ap, ◌∙◌, subst, arith}
 use Rattle.std.specs.List.{AllZip, concat}
 use Rattle.std.proofs.lemmas.List.{length-map, get_or-map, length-append}
 use Rattle.std.proofs.lemmas.Option.{slice_get_within, slice_get-get_or}
 use Rattle.std.proofs.lemmas.Slice.Zip.{AllZip-long}
 use Rattle.rbg_syntax.specs.Tree.{SpeltName, rectangle}
 use Rattle.rbg_syntax.specs.Views.{name_of}
-use Rattle.rbg_syntax.specs.declared.description.Name.{Name}
-use Rattle.rbg_board.specs.Graph.{Graph, IsClosed}
-use Rattle.rbg_board.specs.Cells.{Rows, cells_in, IsCell, AreDifferent}
+use Rattle.rbg_syntax.specs.declared.names.Name.{Name}
+use Rattle.rbg_board.specs.Graph.{Graph, HasWidth, IsClosed}
+use Rattle.rbg_board.specs.Cells.{Rows, cells_in, IsCell, AreDifferent, width_of}
 use Rattle.rbg_board.specs.Rectangle.{IsBeside, IsEven, IsRectangle, MakesRectangle, RectangleRefusal}
 use Rattle.rbg_board.specs.declared.error.BoardError.{BoardError}
 use Rattle.rbg_board.specs.declared.error.BoardError.TheVariants as board_errors
-use Rattle.rbg_board.proofs.Numbering.{start_of, start-suc, number-lt, row_of_cell}
+use Rattle.rbg_board.proofs.Numbering.{number-lt, row_of_cell}
+use Rattle.rbg_board.proofs.RectangleEdges.{even_start}
 use Rattle.rbg_game.specs.declared.error.GameError.{GameError}
 use Rattle.rbg_game.specs.declared.error.GameError.TheVariants as errors
 use Rattle.rbg_game.specs.Descriptions.{IsNumberOf, texts_of, AreDifferentNames, AreLawfulNames}
@@ -112,11 +113,6 @@ numbers_agree table names numbers differ named i j i_within j_within =
 
 -- The board.
 
--- in even rows the rows begin at the multiples of their length
-even_start : (rows : Rows) (r : ℕ) → IsEven rows → r ≤ length rows → start_of rows r ≡ r * cells_in rows 0
-even_start rows zero even within = omega arith
-even_start rows (suc r) even within = omega (arith, start-suc rows r, even r (omega arith), even_start rows r even (omega arith))
-
 is_vertex : (rows : Rows) (r c : ℕ) → IsEven rows → IsCell rows r c → r * cells_in rows 0 + c < length (concat rows)
 is_vertex rows r c even is_cell = omega (arith, number-lt rows r c is_cell, even_start rows r even (omega (arith, row_of_cell rows r c is_cell)))
 
@@ -133,8 +129,8 @@ rectangle_closed directions rows board makes is =
           omega (arith, beside.to_number, is_vertex rows beside.to_row beside.to_cell makes.even beside.is_to_cell);
     }
 
-pub rectangle_made : (pieces : List (List ℕ)) (names : List SpeltName) (rows : List (List SpeltName)) (cells : List (List ℕ)) (numbers : List ℕ) (table : List (List ℕ)) (board : Graph) → length names ≡ 4 → AllZip (AllZip (IsNumberOf pieces)) rows cells → NumbersDirections names numbers table → AreLawfulNames table → MakesRectangle numbers cells → IsRectangle numbers cells board → MakesBoard pieces (rectangle names rows) table board
-rectangle_made pieces names rows cells numbers table board four named numbered lawful makes is =
+pub rectangle_made : (pieces : List (List ℕ)) (names : List SpeltName) (rows : List (List SpeltName)) (cells : List (List ℕ)) (numbers : List ℕ) (table : List (List ℕ)) (board : Graph) → length names ≡ 4 → AllZip (AllZip (IsNumberOf pieces)) rows cells → NumbersDirections names numbers table → AreLawfulNames table → MakesRectangle numbers cells → IsRectangle numbers cells board → HasWidth (width_of numbers) board → MakesBoard pieces (rectangle names rows) table board
+rectangle_made pieces names rows cells numbers table board four named numbered lawful makes is wide =
     let in_order = numbered.in_order makes.different in
     let first : 0 * cells_in cells 0 + 0 < length (concat cells) = is_vertex cells 0 0 makes.even makes.first_cell in
     let size : length board.first ≡ length (concat cells) = ap length is.first_pieces in
@@ -147,6 +143,7 @@ rectangle_made pieces names rows cells numbers table board four named numbered l
         differ = lawful.differ;
         makes = subst (λ ds. MakesRectangle ds cells) in_order.0 makes;
         board = subst (λ ds. IsRectangle ds cells board) in_order.0 is;
+        width = subst (λ ds. HasWidth (width_of ds) board) in_order.0 wide;
       };
       names = lawful.names;
       few = omega arith;

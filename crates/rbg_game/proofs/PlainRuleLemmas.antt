@@ -188,7 +188,7 @@ count_from-push first (suc many) =
     let f : suc first + many ≡ first + suc many = omega arith in
     ap (count_from first) e ∙ ap (λ (l : List ℕ). first ∷ l) (count_from-push (suc first) many) ∙ ap (λ (n : ℕ). first ∷ (count_from (suc first) many ++ n ∷ [])) f
 
-length-count_from : (first many : ℕ) → length (count_from first many) ≡ many
+pub length-count_from : (first many : ℕ) → length (count_from first many) ≡ many
 length-count_from first zero = refl
 length-count_from first (suc many) = ap suc (length-count_from (suc first) many)
 

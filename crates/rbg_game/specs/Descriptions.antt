@@ -3,22 +3,28 @@ use Rattle.std.specs.Prelude.{◌≡◌, ℕ, suc, ◌+◌, ◌<◌, ◌^◌, �
 use Rattle.std.specs.Prelude.{map, slice_get, Contains, flat_map, All, IsTrue}
 use Rattle.std.specs.List.{AllZip, concat}
 use Rattle.rbg_base.specs.Names.{is_name}
-use Rattle.rbg_board.specs.Graph.{Graph, IsGraphOf}
+use Rattle.rbg_board.specs.Cells.{width_of}
+use Rattle.rbg_board.specs.Graph.{Graph, HasWidth, IsGraphOf}
 use Rattle.rbg_board.specs.Rectangle.{RectangleEdge, MakesRectangle}
 use Rattle.rbg_board.specs.Hexagon.{HexagonEdge, MakesHexagon}
-use Rattle.rbg_board.specs.Written.{Written, pieces_of, WrittenEdge, MakesGraph}
-use Rattle.rbg_syntax.specs.Tree.{SpeltName, SpeltBounded, SpeltEdge, SpeltVertex, SpeltBoard, rectangle, hexagon, graph}
-use Rattle.rbg_syntax.specs.Tree.{SpeltExpression, SpeltTerms, no_terms, more_terms, SpeltFactors, no_factors, more_factors}
+use Rattle.rbg_board.specs.Written.{Written, pieces_of, directions_of, WrittenEdge, MakesGraph}
+use Rattle.rbg_syntax.specs.Tree.{SpeltName, SpeltBounded, SpeltEdge, SpeltVertex}
+use Rattle.rbg_syntax.specs.Tree.{SpeltBoard, rectangle, hexagon, graph}
+use Rattle.rbg_syntax.specs.Tree.{SpeltExpression, SpeltTerms, no_terms, more_terms}
+use Rattle.rbg_syntax.specs.Tree.{SpeltFactors, no_factors, more_factors}
 use Rattle.rbg_syntax.specs.Tree.{SpeltRule, SpeltRules, no_rules, more_rules, SpeltAction, SpeltDescription}
 use Rattle.rbg_syntax.specs.declared.expression.Additive.{Additive}
 use Rattle.rbg_syntax.specs.declared.expression.Additive.TheVariants.{Plus, Minus}
 use Rattle.rbg_syntax.specs.declared.expression.Multiplicative.{Multiplicative}
 use Rattle.rbg_syntax.specs.declared.expression.Multiplicative.TheVariants.{Times, Over}
-use Rattle.rbg_syntax.specs.declared.rule.Relation.{Relation}
-use Rattle.rbg_syntax.specs.declared.rule.Relation.TheVariants.{Equal, NotEqual, Less, LessOrEqual, Greater, GreaterOrEqual}
-use Rattle.rbg_rules.specs.Expression.{AbstractArithmetic, number, variable, piece_count, negated, sum, difference, product, quotient}
+use Rattle.rbg_base.specs.declared.relation.Relation.{Relation}
+use Rattle.rbg_base.specs.declared.relation.Relation.TheVariants.{Equal, NotEqual, Less}
+use Rattle.rbg_base.specs.declared.relation.Relation.TheVariants.{LessOrEqual, Greater, GreaterOrEqual}
+use Rattle.rbg_rules.specs.Expression.{AbstractArithmetic, number, variable, piece_count, negated}
+use Rattle.rbg_rules.specs.Expression.{sum, difference, product, quotient}
 use Rattle.rbg_rules.specs.Expression.{AbstractRelation, equal, different, less, at_most, greater, at_least}
-use Rattle.rbg_rules.specs.Expression.{AbstractAction, shift, on, off, assignment, comparison, switch, positive, negative}
+use Rattle.rbg_rules.specs.Expression.{AbstractAction, shift, on, off, assignment, comparison, switch}
+use Rattle.rbg_rules.specs.Expression.{positive, negative}
 use Rattle.rbg_rules.specs.Expression.{Expression, act, skip, sequence, fail, choice, star}
 use Rattle.rbg_rules.specs.Games.{IsGame}
 use Rattle.rbg_rules.specs.State.{AbstractGame}
@@ -58,8 +64,8 @@ pub record AreLawfulNames (list : List (List ℕ)) : Type 0 where
 abbrev pub texts_of : List SpeltName → List (List ℕ)
 texts_of names = map (λ name. name.text) names
 
--- Rules by numbers. Positions are not counted here: that the actions are numbered in order of text is a statement of its own
--- (IsNumbered).
+-- Rules by numbers. Positions are not counted here: that the actions are numbered in order of text is a statement of
+-- its own (IsNumbered).
 
 abbrev pub added : Additive → AbstractArithmetic → AbstractArithmetic → AbstractArithmetic
 added Plus b c = sum b c
@@ -78,8 +84,8 @@ relation_named Greater = greater
 relation_named GreaterOrEqual = at_least
 
 abbrev mutual
-  -- What an arithmetic expression is. A number fits signed 64 bits. A name is a variable if there is one of that name, and
-  -- else a piece.
+  -- What an arithmetic expression is. A number fits signed 64 bits. A name is a variable if there is one of that name,
+  -- and else a piece.
   pub ArithmeticIs : Names → SpeltExpression → AbstractArithmetic → Type 0
   ArithmeticIs names (SpeltExpression.number n) a =
       (value : ℕ)
@@ -194,8 +200,8 @@ pub record NamedBoard : Type 0 where
 abbrev pub board_in : AbstractGame → NamedBoard
 board_in game = record { directions = game.directions; pieces = game.pieces; board = game.board }
 
--- The board is the rectangle of these rows: its directions are the four names in order, all different, and its cells the
--- pieces named.
+-- The board is the rectangle of these rows: its directions are the four names in order, all different, and its cells
+-- the pieces named. It keeps a way, or none, for each of its vertices and each direction.
 pub record IsRectangleBoard (b : NamedBoard) (names : List SpeltName) (rows : List (List SpeltName)) : Type 0 where
   pub cells : List (List ℕ)
   pub named : AllZip (AllZip (IsNumberOf b.pieces)) rows cells
@@ -203,6 +209,7 @@ pub record IsRectangleBoard (b : NamedBoard) (names : List SpeltName) (rows : Li
   pub differ : AreDifferentNames b.directions
   pub makes : MakesRectangle (0 ∷ 1 ∷ 2 ∷ 3 ∷ []) cells
   pub board : IsGraphOf b.board (concat cells) (RectangleEdge (0 ∷ 1 ∷ 2 ∷ 3 ∷ []) cells)
+  pub width : HasWidth 4 b.board
 
 -- The same of a hexagon and its six names.
 pub record IsHexagonBoard (b : NamedBoard) (names : List SpeltName) (rows : List (List SpeltName)) : Type 0 where
@@ -212,6 +219,7 @@ pub record IsHexagonBoard (b : NamedBoard) (names : List SpeltName) (rows : List
   pub differ : AreDifferentNames b.directions
   pub makes : MakesHexagon (0 ∷ 1 ∷ 2 ∷ 3 ∷ 4 ∷ 5 ∷ []) cells
   pub board : IsGraphOf b.board (concat cells) (HexagonEdge (0 ∷ 1 ∷ 2 ∷ 3 ∷ 4 ∷ 5 ∷ []) cells)
+  pub width : HasWidth 6 b.board
 
 -- an edge by numbers: its direction's, and that of the vertex to which it leads
 abbrev pub EdgeIs : NamedBoard → (vertices : List (List ℕ)) → SpeltEdge → ℕ × ℕ → Type 0
@@ -248,6 +256,7 @@ pub record IsGraphBoard (b : NamedBoard) (vertices : List SpeltVertex) : Type 0 
   pub directions : IsOrderOfFirstUse (directions_named vertices) b.directions
   pub makes : MakesGraph written
   pub board : IsGraphOf b.board (pieces_of written) (WrittenEdge written)
+  pub width : HasWidth (width_of (directions_of written)) b.board
 
 -- What a board is.
 abbrev pub BoardIs : NamedBoard → SpeltBoard → Type 0
@@ -272,7 +281,8 @@ AreBounds = AllZip (λ holder bound. holder.bound.value ≡ Some bound)
 -- The game is that of the description.
 --   players, variables, pieces: the names in order of text; a player is a variable too
 --   bounds: the numbers of the players and variables
---   lawful_variables, lawful_pieces, direction_names: names of the language; no two variables and no two pieces have one name
+--   lawful_variables, lawful_pieces: names of the language, and no name twice
+--   direction_names: names of the language
 --   board, rules: by numbers, with the actions numbered in order of text (which every game keeps)
 --   nesting: no pattern stands inside 8 others
 --   lawful: what every game keeps, the limits among it

@@ -1,5 +1,5 @@
 -- Why a description is no game: the fault that an error names, at its place.
-use Rattle.std.specs.Prelude.{◌≡◌, ◌≢◌, ℕ, suc, ◌+◌, ◌<◌, ◌↔◌, List, [], ◌∷◌, ◌++◌, false, Some, None}
+use Rattle.std.specs.Prelude.{◌≡◌, ◌≢◌, ℕ, suc, ◌+◌, ◌<◌, ◌↔◌, List, [], ◌∷◌, ◌++◌, false, Some}
 use Rattle.std.specs.Prelude.{map, length, slice_get, slice_index, Contains, flat_map}
 use Rattle.std.specs.List.{AllZip}
 use Rattle.rbg_base.specs.Names.{is_name}
@@ -8,7 +8,8 @@ use Rattle.rbg_board.specs.declared.error.BoardError.{BoardError}
 use Rattle.rbg_board.specs.declared.error.BoardError.TheVariants as board_errors
 use Rattle.rbg_syntax.specs.Tree.{SpeltName, SpeltNumber, SpeltBounded, SpeltBoard, rectangle, hexagon, graph}
 use Rattle.rbg_syntax.specs.Tree.{SpeltRule, SpeltRules, no_rules, more_rules, SpeltAction, SpeltDescription}
-use Rattle.rbg_rules.specs.declared.limits.TheConstants.{MAX_PLAYERS, MAX_PIECES, MAX_VARIABLES, MAX_BOUND, MAX_POSITIONS}
+use Rattle.rbg_rules.specs.declared.limits.TheConstants.{MAX_PLAYERS, MAX_PIECES, MAX_VARIABLES}
+use Rattle.rbg_rules.specs.declared.limits.TheConstants.{MAX_BOUND, MAX_POSITIONS}
 use Rattle.rbg_game.specs.declared.error.GameError.{GameError}
 use Rattle.rbg_game.specs.declared.error.GameError.TheVariants.{UnknownName, SameName, Bound, TooMany, Memory, Board}
 use Rattle.rbg_game.specs.declared.error.Thing.TheVariants.{Players, Pieces, Variables, Positions}
@@ -200,9 +201,9 @@ names_spelt d =
       directions = texts_of (board_directions d.board);
     }
 
--- The fault that an error names stands in the description. Memory is no fault of the description, and may run out with any.
--- (Said of the descriptions that are read so far: their rules have no pattern and no arithmetic, and their boards, rectangles,
--- have four directions.)
+-- The description has the fault that an error names. Memory is no fault of the description, and may run out with any.
+-- (Said of the descriptions that are read so far: their rules have no pattern and no arithmetic, and their boards,
+-- rectangles, have four directions.)
 pub data HasFault (d : SpeltDescription) : GameError → Type 0 where
   no_name : {at : ℕ}
       → HasNoName (names_of_holders d ++ d.pieces) at

@@ -10,7 +10,7 @@ use Rattle.rbg_rules.specs.declared.limits.TheConstants.{MAX_DIRECTIONS}
 use Rattle.rbg_game.specs.declared.error.GameError.{GameError}
 use Rattle.rbg_game.specs.declared.error.GameError.TheVariants as errors
 use Rattle.rbg_game.specs.Faults.{HasNoName}
-use Rattle.rbg_game.specs.Descriptions.{IsNumberOf, texts_of, NamedBoard, BoardIs, AreNames}
+use Rattle.rbg_game.specs.Descriptions.{IsNumberOf, texts_of, BoardIs, AreNames}
 
 -- The board with these names of directions is the one that is spelt, and has what every game asks of its board.
 pub record MakesBoard

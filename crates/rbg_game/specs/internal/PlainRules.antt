@@ -1,10 +1,14 @@
 -- What the rules are by numbers, where they are one word of plain actions.
-use Rattle.std.specs.Prelude.{◌≡◌, ℕ, ◌+◌, ◌≤◌, List, [], ◌∷◌, Option, Some, None, length}
+use Rattle.std.specs.Prelude.{◌≡◌, ℕ, ◌+◌, ◌≤◌, List, [], ◌∷◌, ◌++◌, Option, Some, None, false, length}
 use Rattle.rbg_syntax.specs.Tree.{SpeltName, SpeltRule, SpeltAction}
-use Rattle.rbg_rules.specs.Expression.{AbstractAction, Expression, act}
+use Rattle.rbg_rules.specs.Expression.{AbstractAction, Expression, act, skip}
 use Rattle.rbg_rules.specs.Games.{HasNoEmptySum, IsActionOf}
 use Rattle.rbg_rules.specs.Positions.{HasAction, positions_of, IsNumbered, IsLevel, inside}
 use Rattle.rbg_rules.specs.State.{AbstractGame}
+use Rattle.rbg_rules.specs.Translation.{action_of, shows_pattern, expression_of}
+use Rattle.rbg_rules.specs.declared.rule.Action.{Action}
+use Rattle.rbg_rules.specs.declared.rule.Rule.{Rule}
+use Rattle.rbg_rules.specs.declared.rule.Rule.TheVariants.{Act}
 use Rattle.rbg_rules.specs.declared.limits.TheConstants.{MAX_PLAYERS, MAX_PIECES, MAX_DIRECTIONS, MAX_POSITIONS}
 use Rattle.rbg_game.specs.declared.checking.rules.NameTables.{NameTables}
 use Rattle.rbg_game.specs.declared.error.GameError.{GameError}
@@ -77,3 +81,18 @@ pub record IsRuleByNumbers (names : Names) (rule : SpeltRule) (x : Expression) :
   pub actions : HasActionsOf names x
   pub no_pattern : (p : ℕ) (y : Expression) → ¬ IsLevel x (inside p) y
   pub nesting : (limit : ℕ) → NestsWithin limit x
+
+-- The part's action is added to the table, and x is its position.
+pub record AddsPart (names : Names) (part : SpeltRule) (old new : List Action) (x : Rule) : Type 0 where
+  pub spelt : SpeltAction
+  pub action : Action
+  pub is_action : part ≡ SpeltRule.act spelt
+  pub named : ActionIs names spelt (action_of action skip)
+  pub no_pattern : shows_pattern action ≡ false
+  pub added : new ≡ old ++ action ∷ []
+  pub tree : x ≡ Act (length new)
+
+-- The tree with the actions of its positions is the rules by numbers, and there is one action for each position.
+pub record AreRulesByNumbers (names : Names) (rule : SpeltRule) (actions : List Action) (tree : Rule) : Type 0 where
+  pub by_numbers : IsRuleByNumbers names rule (expression_of actions tree)
+  pub count : length actions ≡ length (positions_of (expression_of actions tree))

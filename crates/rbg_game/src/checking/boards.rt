@@ -106,8 +106,8 @@ fn make_rectangle(
     }
 }
 
-/// The board of a description, with its pieces by their numbers. Faults are looked for in this order: an unknown piece of a cell, a
-/// direction whose name is none of the language, and then what the board itself is refused for.
+/// The board of a description, with its pieces by their numbers. Faults are looked for in this order: an unknown piece of
+/// a cell, a direction whose name is none of the language, and then what the board itself is refused for.
 pub(crate) fn make_board(
     alloc: Global,
     pieces: &NameTable,
@@ -123,92 +123,5 @@ pub(crate) fn make_board(
             make_rectangle(alloc, pieces, directions, rows)
         }
         rbg_syntax::Board::Hexagon { .. } | rbg_syntax::Board::Graph { .. } => unreachable!(),
-    }
-}
-
-#[cfg(test)]
-mod tests {
-    use super::*;
-    use std::test::Fail;
-
-    fn name(alloc: Global, text: &[u8], at: usize) -> Result<Name, Fail> {
-        let text = text.to_vec(alloc)?;
-        Ok(Name { text, at })
-    }
-
-    fn names(alloc: Global, right: &[u8]) -> Result<[Name; 4], Fail> {
-        Ok([
-            name(alloc, b"up", 0)?,
-            name(alloc, b"down", 3)?,
-            name(alloc, b"left", 8)?,
-            name(alloc, right, 13)?,
-        ])
-    }
-
-    fn pieces(alloc: Global) -> Result<NameTable, Fail>
-        ensures { IfOk result (λ pieces. length pieces ≤ MAX_PIECES) }
-    {
-        let mut pieces = NameTable::new(alloc);
-        pieces.insert(&name(alloc, b"empty", 0)?)?;
-        pieces.insert(&name(alloc, b"stone", 6)?)?;
-        Ok(pieces)
-    }
-
-    // [first, stone] [empty]
-    fn uneven_rows(alloc: Global, first: &[u8]) -> Result<Vec<Vec<Name>>, Fail> {
-        let mut top = Vec::new(alloc);
-        top.push(name(alloc, first, 20)?)?;
-        top.push(name(alloc, b"stone", 26)?)?;
-        let mut bottom = Vec::new(alloc);
-        bottom.push(name(alloc, b"empty", 34)?)?;
-        let mut rows = Vec::new(alloc);
-        rows.push(top)?;
-        rows.push(bottom)?;
-        Ok(rows)
-    }
-
-    // The fault of rows of two cells and of one.
-    fn fault(alloc: Global, right: &[u8], first: &[u8]) -> Result<Option<GameError>, Fail> {
-        let pieces = pieces(alloc)?;
-        let directions = names(alloc, right)?;
-        let rows = uneven_rows(alloc, first)?;
-        let board = rbg_syntax::Board::Rectangle { directions, rows };
-        Ok(make_board(alloc, &pieces, &board).err())
-    }
-
-    #[test]
-    fn a_row_of_two_cells(rt: HostRuntime) -> Result<(), Fail> {
-        let alloc = rt.alloc();
-        let pieces = pieces(alloc)?;
-        let mut rows = uneven_rows(alloc, b"empty")?;
-        let _ = rows.pop();
-        let directions = names(alloc, b"right")?;
-        let board = rbg_syntax::Board::Rectangle { directions, rows };
-        let made = make_board(alloc, &pieces, &board)?;
-        assert_eq!(rt; made.directions.number_of(b"right"), Some(3));
-        assert_eq!(rt; made.board.len(), 2);
-        assert_eq!(rt; made.board.piece_at_start(1), 1);
-        assert_eq!(rt; made.board.step(0, 3), Some(1));
-        assert_eq!(rt; made.board.step(0, 2), None);
-        Ok(())
-    }
-
-    #[test]
-    fn faults_are_looked_for_in_order(rt: HostRuntime) -> Result<(), Fail> {
-        let alloc = rt.alloc();
-        assert_eq!(rt;
-            fault(alloc, b"4", b"none")?,
-            Some(GameError::UnknownName { at: 20 })
-        );
-        assert_eq!(rt;
-            fault(alloc, b"4", b"stone")?,
-            Some(GameError::UnknownName { at: 13 })
-        );
-        let error = BoardError::RowLength { row: 1 };
-        assert_eq!(rt;
-            fault(alloc, b"up", b"stone")?,
-            Some(GameError::Board { error })
-        );
-        Ok(())
     }
 }

@@ -1,6 +1,7 @@
 //! The names of players, variables and pieces by their numbers, and the bounds of the variables.
 ghost use Rattle.std.specs.Prelude.{◌≡◌, ◌≤◌, [], ◌∷◌, ◌++◌, map, Some, OnOk, IfOk, IfErr};
-ghost use Rattle.rbg_syntax.specs.Views.{name_of, number_of, bounded_of, description_of};
+ghost use Rattle.rbg_syntax.specs.Views.{name_of, number_of, bounded_of};
+ghost use Rattle.rbg_syntax.specs.Descriptions.{description_of_parts};
 ghost use Rattle.rbg_game.specs.Descriptions.{texts_of, holder_names};
 ghost use Rattle.rbg_game.specs.Faults.{IsNoBound, HasFault};
 ghost use Rattle.rbg_game.specs.internal.NameTables.{HasNameFault, HasHolderFault};
@@ -9,7 +10,7 @@ ghost use Rattle.rbg_game.specs.internal.Things.{AddsBounds, AreThingsOf};
 use crate::checking::name_table::NameTable;
 use crate::error::{GameError, Thing};
 use rbg_rules::limits::{MAX_BOUND, MAX_PIECES, MAX_PLAYERS, MAX_VARIABLES};
-use rbg_syntax::{Bounded, Description, Name, Number};
+use rbg_syntax::{Bounded, DescriptionParts, Name, Number};
 use std::alloc::Global;
 
 /// The names of a description, and the bounds of its variables.
@@ -24,11 +25,14 @@ pub(crate) struct Things {
 
 /// Numbers the players, variables and pieces of a description.
 ///
-/// The names and bounds are checked in order of text: players, then variables, then pieces, and a name before its bound. Then they
-/// are counted.
-pub(crate) fn number_things(alloc: Global, description: &Description) -> Result<Things, GameError>
-    ensures things { IfOk result (AreThingsOf (description_of description.now)) }
-    ensures fault { IfErr result (HasFault (description_of description.now)) }
+/// The names and bounds are checked in order of text: players, then variables, then pieces, and a name before its bound.
+/// Then they are counted.
+pub(crate) fn number_things(
+    alloc: Global,
+    description: &DescriptionParts,
+) -> Result<Things, GameError>
+    ensures things { IfOk result (AreThingsOf (description_of_parts description.now)) }
+    ensures fault { IfErr result (HasFault (description_of_parts description.now)) }
 {
     let mut variables = NameTable::new(alloc);
     let mut bounds = Vec::new(alloc);

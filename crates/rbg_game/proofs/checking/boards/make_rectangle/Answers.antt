@@ -24,7 +24,7 @@ returns-in-Ok-clause-board c =
     let four : length (map name_of c.args.names.now) ≡ 4 = omega (arith, length-map c.args.names.now name_of) in
     let makes = subst (λ cells. MakesRectangle numbers (rows_of cells)) c.deref.ensures.value c.in-Ok.ensures.lawful in
     let is = subst (λ cells. IsRectangle numbers (rows_of cells) board) c.deref.ensures.value c.in-Ok.ensures.board in
-    rectangle_made c.args.pieces.now (map name_of c.args.names.now) (map names_of c.args.rows.now) (rows_of c.in_ok-cells.cells.items) numbers c.in_ok-numbers.directions board four c.in_ok-cells.ensures.numbers c.in_ok-numbers.ensures.numbers c.len-2.ensures.lawful makes is
+    rectangle_made c.args.pieces.now (map name_of c.args.names.now) (map names_of c.args.rows.now) (rows_of c.in_ok-cells.cells.items) numbers c.in_ok-numbers.directions board four c.in_ok-cells.ensures.numbers c.in_ok-numbers.ensures.numbers c.len-2.ensures.lawful makes is c.in-Ok.ensures.width
 
 pub returns-clause-fault : goal.returns-clause-fault
 returns-clause-fault c =

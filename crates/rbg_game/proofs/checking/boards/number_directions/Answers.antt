@@ -1,7 +1,7 @@
 use Rattle.std.proofs.Common.{List, [], ◌∷◌, get_or, map, subst, sym, arith}
 use Rattle.std.proofs.lemmas.Result.{err_from_is_err_and}
 use Rattle.rbg_syntax.specs.Views.{name_of}
-use Rattle.rbg_syntax.specs.declared.description.Name.{Name}
+use Rattle.rbg_syntax.specs.declared.names.Name.{Name}
 use Rattle.rbg_game.specs.internal.Boards.{Joins, NumbersDirections}
 use Rattle.rbg_game.proofs.NamedRectangles.{direction_fault_at, four_elements, four_numbers}
 use Rattle.rbg_game.proofs.checking.boards.number_directions.Goals as goal

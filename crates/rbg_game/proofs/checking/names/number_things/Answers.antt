@@ -1,8 +1,9 @@
 use Rattle.std.proofs.Common.{◌≡◌, List, ℕ, [], ◌++◌, map, length, sym, ap, ◌∙◌, subst, refl, arith}
 use Rattle.std.proofs.lemmas.List.{length-map, map-append}
-use Rattle.rbg_syntax.specs.Views.{name_of, bounded_of, description_of}
+use Rattle.rbg_syntax.specs.Descriptions.{description_of_parts}
+use Rattle.rbg_syntax.specs.Views.{name_of, bounded_of}
 use Rattle.rbg_syntax.specs.Tree.{SpeltBounded, SpeltName, SpeltDescription}
-use Rattle.rbg_syntax.specs.declared.description.Name.{Name}
+use Rattle.rbg_syntax.specs.declared.names.Name.{Name}
 use Rattle.rbg_syntax.specs.declared.description.Bounded.{Bounded}
 use Rattle.rbg_game.specs.declared.error.GameError.{GameError}
 use Rattle.rbg_game.specs.Descriptions.{texts_of, holder_names, holders_of}
@@ -41,14 +42,14 @@ bounds_of_given given holders same first old begins new h =
 
 pub returns-in_err-add_holders-clause-fault : goal.returns-in_err-add_holders-clause-fault
 returns-in_err-add_holders-clause-fault c =
-    let d = description_of c.args.description.now in
+    let d = description_of_parts c.args.description.now in
     let error = c.in_err-add_holders.field-0.0 in
     let fault = holders_given c.new-variables.result [] c.new-variables.ensures (map bounded_of c.deref.result.now) d.players (ap (map bounded_of) c.deref.ensures.value) error c.in_err-add_holders.ensures.fault in
     passed_on c.from_residual.result error (HasFault d) c.from_residual.ensures.1 (players_fault d error fault)
 
 pub returns-in_err-add_holders-2-clause-fault : goal.returns-in_err-add_holders-2-clause-fault
 returns-in_err-add_holders-2-clause-fault c =
-    let d = description_of c.args.description.now in
+    let d = description_of_parts c.args.description.now in
     let error = c.in_err-add_holders-2.field-0.0 in
     let players : c.add_holders.new.table ≡ holder_names d.players =
     names_behind c.new-variables.result c.add_holders.new.table c.new-variables.ensures (holder_names (map bounded_of c.deref.result.now)) (holder_names d.players)
@@ -58,21 +59,21 @@ returns-in_err-add_holders-2-clause-fault c =
 
 pub returns-in_err-add_names-clause-fault : goal.returns-in_err-add_names-clause-fault
 returns-in_err-add_names-clause-fault c =
-    let d = description_of c.args.description.now in
+    let d = description_of_parts c.args.description.now in
     let error = c.in_err-add_names.field-0.0 in
     let fault = names_given c.new-pieces.result [] c.new-pieces.ensures (map name_of c.deref-3.result.now) d.pieces (ap (map name_of) c.deref-3.ensures.value) error c.in_err-add_names.ensures.fault in
     passed_on c.from_residual-in_err-add_names.result error (HasFault d) c.from_residual-in_err-add_names.ensures.1 (pieces_fault d error fault)
 
 pub returns-in_err-add_players-clause-fault : goal.returns-in_err-add_players-clause-fault
 returns-in_err-add_players-clause-fault c =
-    let d = description_of c.args.description.now in
+    let d = description_of_parts c.args.description.now in
     let error = c.in_err-add_players.field-0.0 in
     let fault = holders_given c.new-players.result [] c.new-players.ensures (map bounded_of c.deref-4.result.now) d.players (ap (map bounded_of) c.deref-4.ensures.value) error c.in_err-add_players.ensures.fault in
     passed_on c.from_residual-in_err-add_players.result error (HasFault d) c.from_residual-in_err-add_players.ensures.1 (players_fault d error fault)
 
 pub returns-then-len-gt-MAX_PLAYERS-clause-fault : goal.returns-then-len-gt-MAX_PLAYERS-clause-fault
 returns-then-len-gt-MAX_PLAYERS-clause-fault c =
-    let d = description_of c.args.description.now in
+    let d = description_of_parts c.args.description.now in
     let are : c.add_players.new.table ≡ holder_names d.players =
     names_behind c.new-players.result c.add_players.new.table c.new-players.ensures (holder_names (map bounded_of c.deref-4.result.now)) (holder_names d.players)
     (ap (λ (l : List Bounded). holder_names (map bounded_of l)) c.deref-4.ensures.value) c.in_ok-add_players.ensures.names in
@@ -80,7 +81,7 @@ returns-then-len-gt-MAX_PLAYERS-clause-fault c =
 
 pub returns-then-len-gt-MAX_PIECES-clause-fault : goal.returns-then-len-gt-MAX_PIECES-clause-fault
 returns-then-len-gt-MAX_PIECES-clause-fault c =
-    let d = description_of c.args.description.now in
+    let d = description_of_parts c.args.description.now in
     let are : c.add_names.new.table ≡ texts_of d.pieces =
     names_behind c.new-pieces.result c.add_names.new.table c.new-pieces.ensures (texts_of (map name_of c.deref-3.result.now)) (texts_of d.pieces)
     (ap (λ (l : List Name). texts_of (map name_of l)) c.deref-3.ensures.value) c.in_ok-add_names.ensures.names in
@@ -88,7 +89,7 @@ returns-then-len-gt-MAX_PIECES-clause-fault c =
 
 pub returns-then-len-gt-MAX_VARIABLES-clause-fault : goal.returns-then-len-gt-MAX_VARIABLES-clause-fault
 returns-then-len-gt-MAX_VARIABLES-clause-fault c =
-    let d = description_of c.args.description.now in
+    let d = description_of_parts c.args.description.now in
     let players : c.add_holders.new.table ≡ holder_names d.players =
     names_behind c.new-variables.result c.add_holders.new.table c.new-variables.ensures (holder_names (map bounded_of c.deref.result.now)) (holder_names d.players)
     (ap (λ (l : List Bounded). holder_names (map bounded_of l)) c.deref.ensures.value) c.in_ok-add_holders.ensures.names in
@@ -98,7 +99,7 @@ returns-then-len-gt-MAX_VARIABLES-clause-fault c =
 
 pub returns-clause-things : goal.returns-clause-things
 returns-clause-things c =
-    let d = description_of c.args.description.now in
+    let d = description_of_parts c.args.description.now in
     let players : c.add_holders.new.table ≡ holder_names d.players =
     names_behind c.new-variables.result c.add_holders.new.table c.new-variables.ensures (holder_names (map bounded_of c.deref.result.now)) (holder_names d.players)
     (ap (λ (l : List Bounded). holder_names (map bounded_of l)) c.deref.ensures.value) c.in_ok-add_holders.ensures.names in

@@ -1,4 +1,3 @@
-use Rattle.std.proofs.Common.{[], ◌∷◌}
 use Rattle.rbg_syntax.specs.Views.{name_of}
 use Rattle.rbg_game.proofs.NameFaults.{unknown_alone}
 use Rattle.rbg_game.proofs.checking.name_table.NameTable.find.Goals as goal
