@@ -13,8 +13,6 @@ mod boards;
 mod name_table;
 mod names;
 mod rules;
-#[cfg(test)]
-mod tests;
 
 use crate::error::GameError;
 use rbg_rules::{Game, Parts};

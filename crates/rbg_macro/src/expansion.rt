@@ -209,6 +209,3 @@ pub fn expand(alloc: Global, tokens: &Tokens<'_>) -> Result<Source, MacroError>
         &definitions.sections,
     )
 }
-
-#[cfg(test)]
-mod tests;

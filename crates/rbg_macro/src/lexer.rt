@@ -188,6 +188,3 @@ fn short_symbol(b: u8) -> Option<Symbol>
     };
     Some(symbol)
 }
-
-#[cfg(test)]
-mod tests;

@@ -13,8 +13,6 @@ mod parser;
 mod parsing;
 mod rule;
 mod sections;
-#[cfg(test)]
-mod tests;
 mod words;
 
 pub use description::{Board, Bounded, Description, DescriptionParts, Edge, Vertex};

@@ -1,5 +1,5 @@
-//! Worked boards, and refusals alone and in pairs.
-use super::*;
+//! Boards with their edges, and what is refused first.
+use rbg_board::{Board, BoardError, Cell, graph, hexagon, rectangle};
 use std::alloc::{AllocError, Global};
 use std::process::Abort;
 use std::test::Fail;
@@ -70,7 +70,7 @@ fn vertices(answer: Result<Board, BoardError>) -> Result<usize, BoardError> {
 }
 
 /// Where the directions from 0 on lead from a vertex.
-fn assert_leads(rt: &impl Abort, board: &Board, vertex: u16, targets: &[Option<u16>]) {
+fn assert_leads(rt: &impl Abort, board: &Board, vertex: u32, targets: &[Option<u32>]) {
     assert!(rt; (vertex as usize) < board.len(), "vertex {vertex}");
     for (direction, target) in targets.iter().enumerate() {
         assert!(rt; direction < 64);
@@ -85,7 +85,7 @@ fn assert_leads(rt: &impl Abort, board: &Board, vertex: u16, targets: &[Option<u
 /// The pieces along the rows are those that `rows_of` numbers.
 fn assert_numbered(rt: &impl Abort, board: &Board) {
     for vertex in 0..board.len() {
-        assert_eq!(rt; board.piece_at_start(vertex as u16) as usize, vertex);
+        assert_eq!(rt; board.piece_at_start(vertex as u32) as usize, vertex);
     }
 }
 
@@ -100,16 +100,9 @@ fn a_rectangle_leads_to_the_four_sides(rt: HostRuntime) -> Result<(), Fail> {
     assert_leads(&rt, &board, 2, &[None, Some(5), Some(1), None, None]);
     assert_leads(&rt, &board, 3, &[Some(0), None, None, Some(4), None]);
     assert_leads(&rt, &board, 5, &[Some(2), None, Some(4), None, None]);
-    Ok(())
-}
-
-#[test]
-fn a_rectangle_of_one_cell_leads_nowhere(rt: HostRuntime) -> Result<(), Fail> {
-    let board = rectangle_of(rt.alloc(), [9, 7, 5, 3], &[1])?;
-    assert_eq!(rt; board.len(), 1);
-    assert_leads(&rt, &board, 0, &[None; 12]);
-    assert!(rt; 0 < board.len());
-    assert_eq!(rt; board.step(0, u16::MAX), None);
+    let single = rectangle_of(rt.alloc(), [9, 7, 5, 3], &[1])?;
+    assert_eq!(rt; single.len(), 1);
+    assert_leads(&rt, &single, 0, &[None; 12]);
     Ok(())
 }
 
@@ -191,34 +184,35 @@ fn a_graph_has_the_edges_that_are_written(rt: HostRuntime) -> Result<(), Fail> {
     Ok(())
 }
 
-#[test]
-fn a_rectangle_has_at_most_1024_cells(rt: HostRuntime) {
-    let alloc = rt.alloc();
-    let directions = [0, 1, 2, 3];
-    assert_eq!(rt;
-        vertices(rectangle_of(alloc, directions, &[32; 32])),
-        Ok(1024)
-    );
-    let crowd = rectangle_of(alloc, directions, &[41; 25]);
-    assert_eq!(rt; vertices(crowd), Err(BoardError::TooManyVertices));
-}
+/// How many vertices a board may have.
+const MOST: u16 = 4096;
 
 #[test]
-fn a_hexagon_has_at_most_1024_cells(rt: HostRuntime) {
+fn a_board_has_at_most_4096_vertices(rt: HostRuntime) {
     let alloc = rt.alloc();
-    let directions = [0, 1, 2, 3, 4, 5];
-    assert_eq!(rt; vertices(hexagon_of(alloc, directions, &[1024])), Ok(1024));
-    let crowd = hexagon_of(alloc, directions, &[513, 512]);
-    assert_eq!(rt; vertices(crowd), Err(BoardError::TooManyVertices));
+    let half = MOST / 2;
+    let four = [0, 1, 2, 3];
+    let six = [0, 1, 2, 3, 4, 5];
+    for (answer, is_board) in [
+        (rectangle_of(alloc, four, &[half, half]), true),
+        (rectangle_of(alloc, four, &[MOST + 1]), false),
+        (hexagon_of(alloc, six, &[MOST]), true),
+        (hexagon_of(alloc, six, &[half + 1, half]), false),
+        (loops(alloc, MOST as u32), true),
+        (loops(alloc, MOST as u32 + 1), false),
+    ] {
+        let want = if is_board {
+            Ok(MOST as usize)
+        } else {
+            Err(BoardError::TooManyVertices)
+        };
+        assert_eq!(rt; vertices(answer), want);
+    }
 }
 
-#[test]
-fn a_graph_has_at_most_1024_vertices(rt: HostRuntime) {
-    assert_eq!(rt; vertices(loops(rt.alloc(), 1024)), Ok(1024));
-    assert_eq!(rt;
-        vertices(loops(rt.alloc(), 1025)),
-        Err(BoardError::TooManyVertices)
-    );
+/// The refusal of a row that doesn't fit.
+fn misfit(row: usize) -> BoardError {
+    BoardError::RowLength { row }
 }
 
 #[test]
@@ -233,18 +227,21 @@ fn a_rectangle_names_its_first_fault(rt: HostRuntime) {
         ([0, 1, 2, 3], [2, 0].as_slice(), misfit(1)),
         ([0, 1, 2, 3], [2000, 1].as_slice(), misfit(1)),
         ([0, 1, 1, 3], [2, 1].as_slice(), misfit(1)),
-        ([0, 1, 2, 3], [1025].as_slice(), BoardError::TooManyVertices),
-        ([0, 0, 2, 3], [1025].as_slice(), BoardError::TooManyVertices),
+        (
+            [0, 1, 2, 3],
+            [MOST + 1].as_slice(),
+            BoardError::TooManyVertices,
+        ),
+        (
+            [0, 0, 2, 3],
+            [MOST + 1].as_slice(),
+            BoardError::TooManyVertices,
+        ),
         ([4, 1, 2, 4], [1].as_slice(), BoardError::SameDirection),
     ] {
         let answer = rectangle_of(alloc, directions, lengths);
         assert_eq!(rt; vertices(answer), Err(error), "lengths {lengths:?}");
     }
-}
-
-/// The refusal of a row that doesn't fit.
-fn misfit(row: usize) -> BoardError {
-    BoardError::RowLength { row }
 }
 
 #[test]
@@ -264,8 +261,8 @@ fn a_hexagon_names_its_first_fault(rt: HostRuntime) {
         (right, [2, 3, 2, 3, 9].as_slice(), misfit(3)),
         (right, [2000, 1].as_slice(), misfit(1)),
         (wrong, [1, 1].as_slice(), misfit(1)),
-        (right, [1025].as_slice(), BoardError::TooManyVertices),
-        (wrong, [1025].as_slice(), BoardError::TooManyVertices),
+        (right, [MOST + 1].as_slice(), BoardError::TooManyVertices),
+        (wrong, [MOST + 1].as_slice(), BoardError::TooManyVertices),
         (wrong, [1, 2].as_slice(), BoardError::SameDirection),
     ] {
         let answer = hexagon_of(alloc, directions, lengths);
@@ -301,19 +298,14 @@ fn a_graph_names_its_first_fault(rt: HostRuntime) {
             BoardError::SameDirection,
         ),
         (
-            [same_direction; 1025].as_slice(),
+            [same_direction; MOST as usize + 1].as_slice(),
             BoardError::TooManyVertices,
         ),
-        ([unknown; 1025].as_slice(), BoardError::TooManyVertices),
+        (
+            [unknown; MOST as usize + 1].as_slice(),
+            BoardError::TooManyVertices,
+        ),
     ] {
         assert_eq!(rt; vertices(graph_of(alloc, written)), Err(error));
     }
-}
-
-#[test]
-fn a_refusal_says_what_is_wrong(rt: HostRuntime) -> Result<(), Fail> {
-    let alloc = rt.alloc();
-    let text = BoardError::RowLength { row: 3 }.to_string(alloc)?;
-    assert_eq!(rt; text.as_str(), "row 3 has the wrong length");
-    Ok(())
 }

@@ -1,5 +1,5 @@
-//! What no clause says: that a move can be made, and how moves compare.
-use super::*;
+//! Moves of 1 to 200 pairs, and how they compare.
+use rbg_pairs::{MAX_PAIRS, Move, Pair};
 use std::test::Fail;
 
 fn pair(vertex: u32, position: u32) -> Pair {
@@ -13,7 +13,7 @@ fn two(first: Pair, second: Pair) -> Move {
 }
 
 #[test]
-fn moves_are_made_from_1_to_200_pairs(rt: HostRuntime) -> Result<(), Fail> {
+fn moves_have_1_to_200_pairs(rt: HostRuntime) -> Result<(), Fail> {
     let pairs = vec![in rt.alloc(); pair(7, 9); 201]?;
     for (count, is_move) in [(0, false), (1, true), (2, true), (200, true), (201, false)] {
         assert!(rt; count <= pairs.len());
@@ -26,14 +26,7 @@ fn moves_are_made_from_1_to_200_pairs(rt: HostRuntime) -> Result<(), Fail> {
             assert_eq!(rt; found.as_slice(), &pairs[..count]);
         }
     }
-    Ok(())
-}
-
-#[test]
-fn a_move_grows_by_pairs(rt: HostRuntime) -> Result<(), Fail> {
-    let mut played = Move::new(pair(0, 3));
-    assert!(rt; played.len() < MAX_PAIRS);
-    played.push(pair(0, 4));
+    let played = two(pair(0, 3), pair(0, 4));
     assert_eq!(rt; played.as_slice(), [pair(0, 3), pair(0, 4)].as_slice());
     assert_eq!(rt; played.clone()?, played);
     Ok(())
