@@ -5,6 +5,7 @@ mod atoms;
 mod boards;
 mod description;
 mod error;
+pub mod examples;
 mod expression;
 pub mod laws;
 mod lists;
