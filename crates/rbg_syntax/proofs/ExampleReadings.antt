@@ -3,11 +3,9 @@ use Rattle.std.proofs.Common.{◌≡◌, ℕ, zero, suc, List, [], ◌∷◌, Re
 use Rattle.rbg_macro.specs.Token.{Lexeme}
 use Rattle.rbg_macro.specs.declared.token.Symbol.TheVariants as symbols
 use Rattle.rbg_syntax.specs.Examples.{sign, letter, letter_name, in_parentheses, SumInParentheses, NegatedFactor, StarredAssignments, DeepestBrackets, TooManyBrackets, TwoStars, TwoMinuses}
-use Rattle.rbg_syntax.specs.Grammar.{IsSum, AreRules}
-use Rattle.rbg_syntax.specs.Reading.{Fault, misfit, too_deep, Reading, symbol_at, name_at, repeated_at, after_at, separated_at, within_at, ended_at, open_atom_at, on_at, off_at}
-use Rattle.rbg_syntax.specs.RuleReading.{number_or_name_at, factor_at, further_factor_at, term_at, further_term_at, sum_over_at, primary_at, sum_at, relation_at, comparison_at, assignment_at, assignments_at, positive_at, negative_at, in_braces_at, in_brackets_at, bracket_atom_at, item_at, sequence_at, rules_over_at, atom_at, rules_at}
-use Rattle.rbg_syntax.specs.Tree.{SpeltExpression, SpeltRule, act, shift, star}
-use Rattle.rbg_syntax.proofs.Combinators.{Stops}
+use Rattle.rbg_syntax.specs.Reading.{Fault, misfit, too_deep, symbol_at, name_at, repeated_at, after_at, separated_at, within_at, open_atom_at}
+use Rattle.rbg_syntax.specs.RuleReading.{number_or_name_at, factor_at, further_factor_at, term_at, further_term_at, sum_over_at, primary_at, sum_at, assignment_at, assignments_at, in_brackets_at, bracket_atom_at, item_at, sequence_at, rules_over_at, atom_at, rules_at}
+use Rattle.rbg_syntax.specs.Tree.{SpeltRule, act, shift, star}
 use Rattle.rbg_syntax.proofs.Readers.{ok_one}
 use Rattle.rbg_syntax.proofs.RuleReaders.{rules_read, nothing_ends_rules}
 use Rattle.rbg_syntax.proofs.SumReaders.{sum_read, EndsSum}

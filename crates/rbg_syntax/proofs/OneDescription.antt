@@ -1,9 +1,7 @@
 -- Sections spell at most one description.
 use Rattle.std.proofs.Common.{◌≡◌, ℕ, List, [], ◌∷◌, true, ap, sym, ◌∙◌, refl, inl, inr}
-use Rattle.std.specs.Prelude.{◌⊎◌}
 use Rattle.rbg_macro.specs.Token.{Lexeme, SectionTokens}
 use Rattle.rbg_macro.specs.declared.source.SectionKind.{SectionKind}
-use Rattle.rbg_macro.specs.declared.source.SectionKind.TheVariants.{Variables}
 use Rattle.rbg_macro.specs.declared.token.Symbol.TheVariants.{Comma}
 use Rattle.rbg_syntax.specs.Grammar.{IsBounded, bounded, ArePlayers, AreVariables, ArePieces, IsBoard, AreRules}
 use Rattle.rbg_syntax.specs.Reading.{Reading, next_is, is_name, is_symbol, bounded_at, name_at, separated_at, listed_at, board_at}

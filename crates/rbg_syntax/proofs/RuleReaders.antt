@@ -1,21 +1,20 @@
 -- The readers of rules.
-use Rattle.std.proofs.Common.{◌≡◌, ◌≤◌, ◌+◌, ℕ, zero, suc, List, [], ◌∷◌, length, drop, Bool, true, false, cond, Ok, Err, refl, ap, ◌∙◌, subst, arith, inl, inr}
-use Rattle.std.specs.Prelude.{◌⊎◌}
+use Rattle.std.proofs.Common.{◌≡◌, ◌≤◌, ◌+◌, ℕ, zero, suc, List, [], ◌∷◌, length, drop, Bool, true, false, cond, Ok, Err, refl, ◌∙◌, subst, arith, inl, inr}
 use Rattle.rbg_macro.specs.Token.{Lexeme}
 use Rattle.rbg_macro.specs.declared.token.Symbol.{Symbol}
-use Rattle.rbg_macro.specs.declared.token.Symbol.TheVariants.{DoubleArrow, Arrow, DoubleEquals, NotEquals, LessOrEqual, GreaterOrEqual, Equals, LessThan, GreaterThan, Plus, Minus, Star, Slash, OpenParenthesis, CloseParenthesis, OpenBracket, CloseBracket, OpenBrace, CloseBrace, Comma, Dollar, Question, Exclamation}
+use Rattle.rbg_macro.specs.declared.token.Symbol.TheVariants.{DoubleEquals, NotEquals, LessOrEqual, GreaterOrEqual, Equals, LessThan, GreaterThan, Plus, Star, OpenParenthesis, CloseParenthesis, OpenBracket, CloseBracket, OpenBrace, CloseBrace, Comma, Dollar, Question, Exclamation}
 use Rattle.rbg_macro.specs.declared.token.TokenKind.{TokenKind}
 use Rattle.rbg_macro.specs.declared.token.TokenKind.TheVariants as kinds
 use Rattle.rbg_base.specs.declared.relation.Relation.{Relation}
-use Rattle.rbg_syntax.specs.Tree.{SpeltName, SpeltExpression, SpeltRule, SpeltAction, act, assign, compare, positive, negative, star, sequence_of, choice_of}
-use Rattle.rbg_syntax.specs.Phrase.{IsSymbol, symbol, IsName, Repeated, After, Separated, separated, Listed, nothing, listed, Within, within}
+use Rattle.rbg_syntax.specs.Tree.{SpeltName, SpeltExpression, SpeltRule, SpeltAction, act, positive, negative, star}
+use Rattle.rbg_syntax.specs.Phrase.{IsSymbol, symbol, IsName, After, Separated, separated, Listed, nothing, listed, Within, within}
 use Rattle.rbg_syntax.specs.Grammar.{IsRelation, equal, not_equal, less, less_or_equal, greater, greater_or_equal, IsSum, IsOpenAtom, IsComparison, comparison, IsAssignment, assignment, AreAssignments, assignments, IsBracketAtom, groups, stands_on, puts, compares, assigns, holds, fails, IsItem, once, starred, IsSequence, in_turn, AreRulesOver, either, IsAtom, AreRules}
-use Rattle.rbg_syntax.specs.Reading.{Reading, misfit, ◌>>=◌, next_is, is_name, is_symbol, symbol_at, name_at, repeated_at, after_at, separated_at, listed_at, within_at, open_atom_at, on_at, off_at, in_sequence}
+use Rattle.rbg_syntax.specs.Reading.{Reading, misfit, ◌>>=◌, next_is, is_symbol, symbol_at, after_at, separated_at, within_at, open_atom_at, on_at, off_at, in_sequence}
 use Rattle.rbg_syntax.specs.RuleReading.{too_deep_at, is_product_sign, is_sum_sign, is_relation, relation_of, relation_at, comparison_at, assignment_at, assignments_at, in_choice, positive_at, negative_at, in_braces_at, in_brackets_at, is_opening, bracket_atom_at, item_at, begins_atom, sequence_at, rules_over_at, atom_at, rules_at, sum_at}
 use Rattle.rbg_syntax.proofs.Readers.{bind_ok, ok_one, IsReadBy, Always, symbol_read, symbol_next, name_read, next_test-symbol}
 use Rattle.rbg_syntax.proofs.Combinators.{Begins, Stops, after_read, within_read, separated_read, repeated_sound, repeated_complete, repeated_shorter, may_follow}
 use Rattle.rbg_syntax.proofs.SectionReaders.{piece_read}
-use Rattle.rbg_syntax.proofs.SumReaders.{symbol_test, name_test, after_test, within_test, after_here, within_here, EndsProduct, EndsSum, symbol_ends_sum, sum_read}
+use Rattle.rbg_syntax.proofs.SumReaders.{symbol_test, name_test, after_test, within_test, after_here, within_here, EndsSum, symbol_ends_sum, sum_read}
 use Rattle.rbg_syntax.proofs.WordReaders.{open_atom_read, open_atom_begins, set_read}
 
 -- the second token

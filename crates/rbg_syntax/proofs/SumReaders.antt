@@ -1,6 +1,5 @@
 -- The readers of arithmetic.
-use Rattle.std.proofs.Common.{◌≡◌, ◌≤◌, ◌+◌, ℕ, zero, suc, List, [], ◌∷◌, length, drop, Bool, true, false, cond, Ok, refl, ap, ◌∙◌, subst, arith, inl, inr}
-use Rattle.std.specs.Prelude.{◌⊎◌}
+use Rattle.std.proofs.Common.{◌≡◌, ◌≤◌, ◌+◌, ℕ, zero, suc, List, [], ◌∷◌, length, Bool, true, false, cond, Ok, refl, ap, ◌∙◌, subst, arith, inl, inr}
 use Rattle.rbg_macro.specs.Token.{Lexeme}
 use Rattle.rbg_macro.specs.declared.token.Symbol.{Symbol}
 use Rattle.rbg_macro.specs.declared.token.Symbol.TheVariants.{Plus, Minus, Star, Slash, OpenParenthesis, CloseParenthesis}
@@ -10,10 +9,10 @@ use Rattle.rbg_syntax.specs.declared.expression.Additive.{Additive}
 use Rattle.rbg_syntax.specs.declared.expression.Additive.TheVariants as additive
 use Rattle.rbg_syntax.specs.declared.expression.Multiplicative.{Multiplicative}
 use Rattle.rbg_syntax.specs.declared.expression.Multiplicative.TheVariants as multiplicative
-use Rattle.rbg_syntax.specs.Tree.{SpeltName, SpeltNumber, SpeltExpression, sum_of, product_of}
-use Rattle.rbg_syntax.specs.Phrase.{IsSymbol, symbol, IsName, name, IsNumber, number, Repeated, After, after, Within, within}
+use Rattle.rbg_syntax.specs.Tree.{SpeltName, SpeltNumber, SpeltExpression}
+use Rattle.rbg_syntax.specs.Phrase.{IsSymbol, symbol, IsName, name, IsNumber, number, After, after, Within, within}
 use Rattle.rbg_syntax.specs.Grammar.{IsFactor, plain, minus, IsFurtherFactor, times, over, IsTerm, term, IsFurtherTerm, plus, minus as less, IsSumOver, sum, IsNumberOrName, number as a_number, name as a_name, IsPrimary, IsSum}
-use Rattle.rbg_syntax.specs.Reading.{Reading, ◌>>=◌, next_is, is_name, is_number, is_symbol, name_at, number_at, repeated_at, after_at, within_at}
+use Rattle.rbg_syntax.specs.Reading.{Reading, ◌>>=◌, next_is, is_number, is_symbol, name_at, number_at, after_at, within_at}
 use Rattle.rbg_syntax.specs.RuleReading.{too_deep_at, is_product_sign, is_sum_sign, number_or_name_at, factor_at, further_factor_at, term_at, further_term_at, sum_over_at, primary_at, sum_at}
 use Rattle.rbg_syntax.proofs.Readers.{bind_ok, ok_one, IsReadBy, Always, symbol_next, name_read, number_read, next_test-symbol}
 use Rattle.rbg_syntax.proofs.Combinators.{Begins, Stops, after_read, within_read, repeated_sound, repeated_complete, repeated_shorter, may_follow}

@@ -1,6 +1,6 @@
 -- What the parser reads of arithmetic and of rules, as deep as brackets may be nested. Only the crate's own proofs
 -- cite it.
-use Rattle.std.specs.Prelude.{ℕ, zero, suc, List, [], ◌∷◌, Bool, true, false, drop, Some, None, Ok, Err, if◌then◌else◌}
+use Rattle.std.specs.Prelude.{ℕ, zero, suc, List, [], ◌∷◌, Bool, true, false, drop, Ok, Err, if◌then◌else◌}
 use Rattle.rbg_macro.specs.Token.{Lexeme}
 use Rattle.rbg_macro.specs.declared.token.Symbol.TheVariants.{DoubleArrow, Arrow, DoubleEquals, NotEquals, LessOrEqual, GreaterOrEqual, Equals, LessThan, GreaterThan, Plus, Minus, Star, Slash, OpenParenthesis, CloseParenthesis, OpenBracket, CloseBracket, OpenBrace, CloseBrace, Comma, Dollar, Question, Exclamation}
 use Rattle.rbg_macro.specs.declared.token.TokenKind.{TokenKind}
@@ -11,8 +11,8 @@ use Rattle.rbg_syntax.specs.declared.expression.Additive.{Additive}
 use Rattle.rbg_syntax.specs.declared.expression.Additive.TheVariants as additive
 use Rattle.rbg_syntax.specs.declared.expression.Multiplicative.{Multiplicative}
 use Rattle.rbg_syntax.specs.declared.expression.Multiplicative.TheVariants as multiplicative
-use Rattle.rbg_syntax.specs.Tree.{SpeltName, SpeltExpression, SpeltRule, act, shift, on, off, assign, compare, switch, positive, negative, star, sequence, choice, no_rules, sequence_of, choice_of, sum_of, product_of}
-use Rattle.rbg_syntax.specs.Reading.{Fault, misfit, too_deep, Reading, ◌>>=◌, next_is, is_name, is_number, is_symbol, front_at, symbol_at, name_at, number_at, repeated_at, after_at, separated_at, within_at, open_atom_at, on_at, off_at, in_sequence}
+use Rattle.rbg_syntax.specs.Tree.{SpeltExpression, SpeltRule, act, assign, compare, positive, negative, star, choice, no_rules, sequence_of, choice_of, sum_of, product_of}
+use Rattle.rbg_syntax.specs.Reading.{misfit, too_deep, Reading, ◌>>=◌, next_is, is_number, is_symbol, front_at, symbol_at, name_at, number_at, repeated_at, after_at, separated_at, within_at, open_atom_at, on_at, off_at, in_sequence}
 
 -- the bracket at the front is one too many
 abbrev pub too_deep_at : {A : Type 0} → List Lexeme → Reading A
