@@ -7,6 +7,7 @@ pub mod Faults
 pub mod FormedTrees
 pub mod Fronts
 pub mod OneDescription
+pub mod PhraseLaws
 pub mod Plain
 pub mod Readers
 pub mod RuleReaders

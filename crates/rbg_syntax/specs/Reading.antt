@@ -1,6 +1,6 @@
 -- What the parser reads from the front of a list of tokens, piece by piece: a value and the tokens after it, or why
 -- there is none. Only the crate's private clauses cite it.
-use Rattle.std.specs.Prelude.{◌≡◌, ◌&&◌, ℕ, zero, suc, List, [], ◌∷◌, Bool, true, false, codes, drop, length, Some, None, Result, Ok, Err, if◌then◌else◌}
+use Rattle.std.specs.Prelude.{◌≡◌, ◌<◌, ◌&&◌, ℕ, zero, suc, List, [], ◌∷◌, Bool, true, false, codes, drop, length, Some, None, Result, Ok, Err, if◌then◌else◌}
 use Rattle.std.specs.Str.{bytes_eq}
 use denote.Enum.Bare.{sameb}
 use Rattle.rbg_macro.specs.Token.{Lexeme}
@@ -21,6 +21,11 @@ pub data Fault : Type 0 where
 
 abbrev pub Reading : Type 0 → Type 0
 Reading A = Result (A × List Lexeme) Fault
+
+-- a reader that takes at least one token
+abbrev pub TakesSome : {A : Type 0} → (List Lexeme → Reading A) → Type 0
+TakesSome {A} read =
+    (ts : List Lexeme) (x : A) (rest : List Lexeme) → read ts ≡ Ok (x, rest) → length rest < length ts
 
 infixl 10 ◌>>=◌
 abbrev pub ◌>>=◌ : {A B : Type 0} → Result A Fault → (A → Result B Fault) → Result B Fault

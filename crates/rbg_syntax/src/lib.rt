@@ -12,6 +12,7 @@ mod lists;
 mod names;
 mod parser;
 mod parsing;
+mod phrase;
 mod rule;
 mod sections;
 mod words;

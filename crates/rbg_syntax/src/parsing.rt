@@ -15,7 +15,7 @@ use crate::names::Name;
 use crate::parser::Parser;
 use crate::rule::Rule;
 use crate::sections::{find, refuse_twice};
-use rbg_macro::{Section, SectionKind, Source};
+use rbg_macro::{Section, SectionKind, Source, Symbol};
 use std::alloc::Global;
 
 /// Reads the description that the sections of a source spell: players, pieces, a rectangle, and
@@ -71,7 +71,7 @@ fn read_players(alloc: Global, section: Section<'_>) -> Result<Vec<Bounded>, Syn
     ensures { Gives bounded_list_of result (whole_at (separated_at Comma bounded_at) section.entry.tokens) }
 {
     let mut parser = Parser::new(section);
-    let players = parser.bounded_list(alloc)?;
+    let players = parser.separated(alloc, Symbol::Comma)?;
     parser.end()?;
     Ok(players)
 }
@@ -81,7 +81,7 @@ fn read_pieces(alloc: Global, section: Section<'_>) -> Result<Vec<Name>, SyntaxE
     ensures { Gives names_of result (whole_at (separated_at Comma name_at) section.entry.tokens) }
 {
     let mut parser = Parser::new(section);
-    let pieces = parser.names(alloc)?;
+    let pieces = parser.separated(alloc, Symbol::Comma)?;
     parser.end()?;
     Ok(pieces)
 }
