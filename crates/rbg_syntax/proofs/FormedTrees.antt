@@ -1,6 +1,6 @@
 -- What the grammar spells is a tree without a sequence, a sum or a product of fewer than two parts.
-use Rattle.std.proofs.Common.{◌≡◌, ◌<◌, ◌&&◌, ℕ, zero, suc, List, [], ◌∷◌, length, Bool, true, false, refl, inl, inr, arith}
-use Rattle.std.specs.Prelude.{All, ◌⊎◌}
+use Rattle.std.proofs.Common.{◌≡◌, ◌<◌, ◌&&◌, ℕ, zero, suc, List, [], ◌∷◌, length, Bool, true, refl, inl, inr, arith}
+use Rattle.std.specs.Prelude.{All}
 use Rattle.std.proofs.lemmas.List.Elements.{All-nil, All-cons, All-head, All-tail}
 use Rattle.rbg_macro.specs.Token.{Lexeme}
 use Rattle.rbg_macro.specs.declared.token.Symbol.{Symbol}

@@ -7,9 +7,8 @@ use Rattle.rbg_macro.specs.declared.token.Symbol.{Symbol}
 use Rattle.rbg_macro.specs.declared.token.TokenKind.{TokenKind}
 use Rattle.rbg_syntax.specs.declared.error.SyntaxError.{SyntaxError}
 use Rattle.rbg_syntax.specs.declared.error.SyntaxError.TheVariants as errors
-use Rattle.rbg_syntax.proofs.Readers.{IsReadBy}
-use Rattle.rbg_syntax.proofs.Combinators.{after_read}
-use Rattle.rbg_syntax.specs.Reading.{Fault, Fails, Gives, Takes, misfit, Reading, ◌>>=◌, next_is, is_symbol, symbol_at, repeated_within, repeated_at, some_at, after_at, separated_at}
+use Rattle.rbg_syntax.proofs.Readers.{bind_ok, symbol_read}
+use Rattle.rbg_syntax.specs.Reading.{Fault, Fails, Gives, Takes, TakesSome, misfit, Reading, ◌>>=◌, next_is, is_symbol, symbol_at, repeated_within, repeated_at, some_at, after_at, separated_at}
 
 pub after_at-taken : {A : Type 0} (s : Symbol) (read : List Lexeme → Reading A) (ts : List Lexeme) → next_is (is_symbol s) ts ≡ true → after_at s read ts ≡ read (drop 1 ts)
 unfolding after_at symbol_at
@@ -27,10 +26,6 @@ prepend-cons xs x (Err e) = refl
 pub prepend-nil : {A : Type 0} (r : Reading (List A)) → prepend [] r ≡ r
 prepend-nil (Ok m) = refl
 prepend-nil (Err e) = refl
-
--- a reader that takes at least one token
-abbrev pub TakesSome : {A : Type 0} → (List Lexeme → Reading A) → Type 0
-TakesSome {A} read = (ts : List Lexeme) (x : A) (rest : List Lexeme) → read ts ≡ Ok (x, rest) → length rest < length ts
 
 module _ {A : Type 0} (test : TokenKind → Bool) (read : List Lexeme → Reading A) (some : TakesSome read) where
   step : ℕ → List Lexeme → Reading A → Reading (List A)
@@ -81,12 +76,12 @@ repeated_ends test read xs [] stops = rw append-nil
 repeated_ends test read xs (t ∷ ts) stops = rw (stops, append-nil)
 
 -- The turns of a loop over parts with a symbol between each two.
-module _ {A : Type 0} (P : List Lexeme → A → List Lexeme → Type 0) (Follow : List Lexeme → Type 0) (read : List Lexeme → Reading A) (reads : IsReadBy 1 P Follow read) (s : Symbol) where
-  takes_some : TakesSome read
-  takes_some ts x rest e = omega (arith, reads.shorter ts x rest (reads.sound ts x rest e))
-
+module _ {A : Type 0} (read : List Lexeme → Reading A) (some : TakesSome read) (s : Symbol) where
   after_some : TakesSome (after_at s read)
-  after_some ts x rest e = omega (arith, (after_read 1 P Follow read reads s).shorter ts x rest ((after_read 1 P Follow read reads s).sound ts x rest e))
+  unfolding after_at
+  after_some ts x rest e =
+      let (at, here, further) = bind_ok (symbol_at s ts) (λ (at : ℕ × List Lexeme). read at.1) (x, rest) e in
+      omega (arith, (symbol_read s).shorter ts at.0 at.1 ((symbol_read s).sound ts at.0 at.1 here), some at.1 x rest further)
 
   pub separated_begins : (ts rest : List Lexeme) (x : A) → read ts ≡ Ok (x, rest) → separated_at s read ts ≡ prepend (x ∷ []) (repeated_at (is_symbol s) (after_at s read) rest)
   unfolding separated_at
@@ -111,10 +106,7 @@ module _ {A : Type 0} (P : List Lexeme → A → List Lexeme → Type 0) (Follow
   separated_smaller ts rest x goes_on e = after_some ts x rest (after_at-taken s read ts goes_on ∙ e)
 
 -- The turns of a loop over parts, as long as the next token passes a test.
-module _ {A : Type 0} (P : List Lexeme → A → List Lexeme → Type 0) (Follow : List Lexeme → Type 0) (read : List Lexeme → Reading A) (reads : IsReadBy 1 P Follow read) (test : TokenKind → Bool) where
-  read_some : TakesSome read
-  read_some ts x rest e = omega (arith, reads.shorter ts x rest (reads.sound ts x rest e))
-
+module _ {A : Type 0} (read : List Lexeme → Reading A) (read_some : TakesSome read) (test : TokenKind → Bool) where
   pub some_begins : (ts rest : List Lexeme) (x : A) → read ts ≡ Ok (x, rest) → some_at test read ts ≡ prepend (x ∷ []) (repeated_at test read rest)
   unfolding some_at
   some_begins ts rest x e = rw e

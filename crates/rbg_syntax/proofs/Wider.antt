@@ -1,11 +1,10 @@
 -- What the grammar of one word spells, the whole grammar spells.
-use Rattle.std.proofs.Common.{◌≡◌, ℕ, suc, List, ◌⊎◌, refl, inl, inr}
+use Rattle.std.proofs.Common.{ℕ, suc, List, inl, inr}
 use Rattle.rbg_macro.specs.Token.{Lexeme, SectionTokens}
-use Rattle.rbg_macro.specs.declared.token.Symbol.TheVariants.{Plus}
 use Rattle.rbg_syntax.specs.Tree.{SpeltRule, SpeltDescription}
 use Rattle.rbg_syntax.specs.Phrase.{Repeated, done, again, separated}
-use Rattle.rbg_syntax.specs.Grammar.{IsPlainAtom, open_atom, stands_on, puts, IsBracketAtom, stands_on as on_pieces, puts as off_piece, IsItem, once, IsSequence, in_turn, AreRulesOver, either, IsAtom, AreRules, AreOneWord, one_word, rectangular}
-use Rattle.rbg_syntax.specs.Spells.{IsSection, SpellsOneWord, Spells}
+use Rattle.rbg_syntax.specs.Grammar.{IsPlainAtom, open_atom, stands_on, puts, stands_on as on_pieces, puts as off_piece, IsItem, once, in_turn, either, IsAtom, AreRules, AreOneWord, one_word, rectangular}
+use Rattle.rbg_syntax.specs.Spells.{SpellsOneWord, Spells}
 use Rattle.rbg_syntax.specs.Formed.{IsWhole}
 use Rattle.rbg_syntax.proofs.FormedTrees.{rules_formed, board_directions, some_separated}
 

@@ -1,4 +1,4 @@
-// The readers of the actions that need no arithmetic and hold no rules.
+//! The readers of the actions that need no arithmetic and hold no rules.
 ghost use Rattle.rbg_syntax.specs.Reading.{Gives, off_at, on_at, open_atom_at};
 ghost use Rattle.rbg_syntax.specs.Views.{rule_of};
 
@@ -28,12 +28,12 @@ impl Parser<'_> {
     }
 
     /// An on.
-    #[tactic(auto, using(crate::proofs::Trees::atoms), unfolding(crate::specs::Reading::on_at, crate::specs::Reading::within_at))]
+    #[tactic(auto, using(crate::proofs::Trees::atoms, crate::proofs::PhraseLaws::name_takes_some), unfolding(crate::specs::Reading::on_at, crate::specs::Reading::within_at))]
     pub(crate) fn on(&mut self, alloc: Global) -> Result<Rule, SyntaxError>
         ensures { Gives (λ r. (rule_of r, self.new)) result (on_at self.old) }
     {
         self.symbol(Symbol::OpenBrace, Expectation::Opening)?;
-        let pieces = self.name_list(alloc)?;
+        let pieces = self.listed(alloc)?;
         let what = if pieces.is_empty() {
             Expectation::Name
         } else {

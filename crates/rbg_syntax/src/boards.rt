@@ -1,7 +1,7 @@
-// The readers of boards.
-ghost use Rattle.std.specs.Prelude.{codes, map};
-ghost use Rattle.rbg_syntax.specs.Reading.{Gives, direction_at, generated_at, rectangle_at, row_at, rows_at};
-ghost use Rattle.rbg_syntax.specs.Views.{board_of, name_of, names_of};
+//! The readers of boards.
+ghost use Rattle.std.specs.Prelude.{codes};
+ghost use Rattle.rbg_syntax.specs.Reading.{Gives, direction_at, generated_at, rectangle_at};
+ghost use Rattle.rbg_syntax.specs.Views.{board_of, name_of};
 
 use crate::description::Board;
 use crate::error::{Expectation, SyntaxError};
@@ -23,7 +23,7 @@ impl Parser<'_> {
         Ok(board)
     }
 
-    #[tactic(auto, unfolding(crate::specs::Reading::rectangle_at))]
+    #[tactic(auto, using(crate::proofs::PhraseLaws::row_takes_some), unfolding(crate::specs::Reading::rectangle_at, crate::specs::Reading::rows_at))]
     fn rectangle(&mut self, alloc: Global) -> Result<Board, SyntaxError>
         ensures { Gives (λ b. (board_of b, self.new)) result (rectangle_at self.old) }
     {
@@ -31,7 +31,7 @@ impl Parser<'_> {
         let down = self.direction(alloc)?;
         let left = self.direction(alloc)?;
         let right = self.direction(alloc)?;
-        let rows = self.rows(alloc)?;
+        let rows = self.repeated(alloc)?;
         Ok(Board::Rectangle {
             directions: [up, down, left, right],
             rows,
@@ -46,25 +46,5 @@ impl Parser<'_> {
         let name = self.name(alloc)?;
         self.symbol(Symbol::Comma, Expectation::Comma)?;
         Ok(name)
-    }
-
-    fn rows(&mut self, alloc: Global) -> Result<Vec<Vec<Name>>, SyntaxError>
-        ensures { Gives (λ v. (map names_of v.items, self.new)) result (rows_at self.old) }
-    {
-        let mut rows = Vec::new(alloc);
-        while self.next_is(Symbol::OpenBracket) {
-            rows.push(self.row(alloc)?)?;
-        }
-        Ok(rows)
-    }
-
-    #[tactic(auto, unfolding(crate::specs::Reading::row_at, crate::specs::Reading::within_at))]
-    fn row(&mut self, alloc: Global) -> Result<Vec<Name>, SyntaxError>
-        ensures { Gives (λ v. (names_of v, self.new)) result (row_at self.old) }
-    {
-        self.symbol(Symbol::OpenBracket, Expectation::Opening)?;
-        let names = self.name_list(alloc)?;
-        self.symbol(Symbol::CloseBracket, Expectation::Closing)?;
-        Ok(names)
     }
 }

@@ -1,61 +1,79 @@
-// The readers of players, variables and pieces, and of other lists of names.
-ghost use Rattle.rbg_macro.specs.declared.token.Symbol.TheVariants.{Comma};
-ghost use Rattle.rbg_syntax.specs.Reading.{Gives, bounded_at, is_name, listed_at, name_at, separated_at};
-ghost use Rattle.rbg_syntax.specs.Views.{bounded_list_of, bounded_of, names_of};
+//! The phrases of which the sections of players, variables, pieces and boards are lists.
+ghost use Rattle.rbg_syntax.specs.Reading.{bounded_at, is_name, is_symbol, name_at, row_at};
+ghost use Rattle.rbg_syntax.specs.Tree.{SpeltBounded, SpeltName};
+ghost use Rattle.rbg_syntax.specs.Views.{bounded_of, name_of, names_of};
+ghost use Rattle.rbg_macro.specs.declared.token.Symbol.TheVariants.{OpenBracket};
+ghost use Rattle.std.specs.Prelude.{List};
 
 use crate::description::Bounded;
 use crate::error::{Expectation, SyntaxError};
 use crate::names::Name;
 use crate::parser::Parser;
-use rbg_macro::Symbol;
+use crate::phrase::Phrase;
+use rbg_macro::{Symbol, TokenKind};
 use std::alloc::Global;
 
-impl Parser<'_> {
+impl Phrase for Name {
+    ghost Spelt = { SpeltName };
+
+    ghost view = { name_of };
+
+    ghost read = { name_at };
+
+    ghost begins = { is_name };
+
+    fn read_from(parser: &mut Parser<'_>, alloc: Global) -> Result<Name, SyntaxError> {
+        parser.name(alloc)
+    }
+
+    fn begins_with(kind: TokenKind) -> bool {
+        kind == TokenKind::Name
+    }
+}
+
+impl Phrase for Bounded {
+    ghost Spelt = { SpeltBounded };
+
+    ghost view = { bounded_of };
+
+    ghost read = { bounded_at };
+
+    ghost begins = { is_name };
+
     /// A player or a variable with its bound.
     #[tactic(auto, unfolding(crate::specs::Reading::bounded_at, crate::specs::Reading::within_at))]
-    fn bounded(&mut self, alloc: Global) -> Result<Bounded, SyntaxError>
-        ensures { Gives (λ b. (bounded_of b, self.new)) result (bounded_at self.old) }
-    {
-        let name = self.name(alloc)?;
-        self.symbol(Symbol::OpenParenthesis, Expectation::Opening)?;
-        let bound = self.number()?;
-        self.symbol(Symbol::CloseParenthesis, Expectation::Closing)?;
+    fn read_from(parser: &mut Parser<'_>, alloc: Global) -> Result<Bounded, SyntaxError> {
+        let name = parser.name(alloc)?;
+        parser.symbol(Symbol::OpenParenthesis, Expectation::Opening)?;
+        let bound = parser.number()?;
+        parser.symbol(Symbol::CloseParenthesis, Expectation::Closing)?;
         Ok(Bounded { name, bound })
     }
 
-    /// At least one player or variable, with commas between them.
-    pub(crate) fn bounded_list(&mut self, alloc: Global) -> Result<Vec<Bounded>, SyntaxError>
-        ensures { Gives (λ v. (bounded_list_of v, self.new)) result (separated_at Comma bounded_at self.old) }
-    {
-        let mut list = Vec::new(alloc);
-        list.push(self.bounded(alloc)?)?;
-        while self.takes(Symbol::Comma) {
-            list.push(self.bounded(alloc)?)?;
-        }
-        Ok(list)
+    fn begins_with(kind: TokenKind) -> bool {
+        kind == TokenKind::Name
     }
+}
 
-    /// At least one name, with commas between them.
-    pub(crate) fn names(&mut self, alloc: Global) -> Result<Vec<Name>, SyntaxError>
-        ensures { Gives (λ v. (names_of v, self.new)) result (separated_at Comma name_at self.old) }
-    {
-        let mut names = Vec::new(alloc);
-        names.push(self.name(alloc)?)?;
-        while self.takes(Symbol::Comma) {
-            names.push(self.name(alloc)?)?;
-        }
+/// A row of a board.
+impl Phrase for Vec<Name> {
+    ghost Spelt = { List SpeltName };
+
+    ghost view = { names_of };
+
+    ghost read = { row_at };
+
+    ghost begins = { is_symbol OpenBracket };
+
+    #[tactic(auto, using(crate::proofs::PhraseLaws::name_takes_some), unfolding(crate::specs::Reading::row_at, crate::specs::Reading::within_at))]
+    fn read_from(parser: &mut Parser<'_>, alloc: Global) -> Result<Vec<Name>, SyntaxError> {
+        parser.symbol(Symbol::OpenBracket, Expectation::Opening)?;
+        let names = parser.listed(alloc)?;
+        parser.symbol(Symbol::CloseBracket, Expectation::Closing)?;
         Ok(names)
     }
 
-    /// Any number of names, with commas between them.
-    #[tactic(auto, unfolding(crate::specs::Reading::listed_at))]
-    pub(crate) fn name_list(&mut self, alloc: Global) -> Result<Vec<Name>, SyntaxError>
-        ensures { Gives (λ v. (names_of v, self.new)) result (listed_at is_name name_at self.old) }
-    {
-        if self.next_is_name() {
-            self.names(alloc)
-        } else {
-            Ok(Vec::new(alloc))
-        }
+    fn begins_with(kind: TokenKind) -> bool {
+        kind == TokenKind::Symbol(Symbol::OpenBracket)
     }
 }

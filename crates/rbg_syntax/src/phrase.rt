@@ -1,0 +1,89 @@
+//! Phrases, and the loops that read lists of them.
+ghost use Rattle.std.specs.Prelude.{◌≡◌, map};
+ghost use Rattle.rbg_syntax.specs.Reading.{Gives, TakesSome, listed_at, next_is, repeated_at, separated_at};
+
+use crate::error::SyntaxError;
+use crate::parser::Parser;
+use rbg_macro::{Symbol, TokenKind};
+use std::alloc::Global;
+
+/// A phrase of the grammar that is read from the front of the tokens.
+pub(crate) trait Phrase: Sized + Drop {
+    ghost use Rattle.std.specs.Prelude.{◌≡◌, List, Bool};
+    ghost use Rattle.rbg_macro.specs.Token.{Lexeme};
+    ghost use Rattle.rbg_macro.specs.declared.token.TokenKind.{TokenKind};
+    ghost use Rattle.rbg_syntax.specs.Reading.{Gives, Reading};
+
+    // What such a phrase spells.
+    ghost Spelt: { Type 0 };
+
+    ghost view: { Self → Spelt };
+
+    // What is read of the tokens.
+    ghost read: { List Lexeme → Reading Spelt };
+
+    // The tokens that may begin such a phrase.
+    ghost begins: { TokenKind → Bool };
+
+    /// Reads one phrase.
+    fn read_from(parser: &mut Parser<'_>, alloc: Global) -> Result<Self, SyntaxError>
+        ensures { Gives (λ x. (view x, parser.new)) result (read parser.old) };
+
+    /// Whether such a phrase may begin with a token of this kind.
+    fn begins_with(kind: TokenKind) -> bool
+        ensures { result ≡ begins kind };
+}
+
+impl Parser<'_> {
+    /// Whether the next token may begin such a phrase.
+    fn next_begins<T: Phrase>(&self) -> bool
+        ensures { result ≡ next_is T.begins self.now }
+    {
+        match self.peek() {
+            Some(token) => T::begins_with(token.kind),
+            None => false,
+        }
+    }
+
+    /// At least one phrase, with the symbol between each two.
+    pub(crate) fn separated<T: Phrase>(
+        &mut self,
+        alloc: Global,
+        separator: Symbol,
+    ) -> Result<Vec<T>, SyntaxError>
+        requires { TakesSome T.read }
+        ensures { Gives (λ v. (map T.view v.items, self.new)) result (separated_at separator T.read self.old) }
+    {
+        let mut phrases = Vec::new(alloc);
+        phrases.push(T::read_from(self, alloc)?)?;
+        while self.takes(separator) {
+            phrases.push(T::read_from(self, alloc)?)?;
+        }
+        Ok(phrases)
+    }
+
+    /// Any number of phrases, with commas between them.
+    #[tactic(auto, unfolding(crate::specs::Reading::listed_at))]
+    pub(crate) fn listed<T: Phrase>(&mut self, alloc: Global) -> Result<Vec<T>, SyntaxError>
+        requires { TakesSome T.read }
+        ensures { Gives (λ v. (map T.view v.items, self.new)) result (listed_at T.begins T.read self.old) }
+    {
+        if self.next_begins::<T>() {
+            self.separated(alloc, Symbol::Comma)
+        } else {
+            Ok(Vec::new(alloc))
+        }
+    }
+
+    /// Any number of phrases, one after the other.
+    pub(crate) fn repeated<T: Phrase>(&mut self, alloc: Global) -> Result<Vec<T>, SyntaxError>
+        requires { TakesSome T.read }
+        ensures { Gives (λ v. (map T.view v.items, self.new)) result (repeated_at T.begins T.read self.old) }
+    {
+        let mut found = Vec::new(alloc);
+        while self.next_begins::<T>() {
+            found.push(T::read_from(self, alloc)?)?;
+        }
+        Ok(found)
+    }
+}
