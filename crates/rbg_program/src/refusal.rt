@@ -2,8 +2,8 @@
 
 use rbg_board::BoardError;
 use rbg_game::{GameError, LoadError};
-use rbg_macro::{MacroError, SectionKind, TextError};
-use rbg_syntax::{Expectation, SyntaxError};
+use rbg_macro::{MacroError, TextError};
+use rbg_syntax::SyntaxError;
 use std::fmt::{self, Formatter};
 
 /// A refusal. Its text is `<layer> <number> <name>`, and then the place or thing where there is one.
@@ -44,15 +44,9 @@ fn write_macro<W: fmt::Write>(f: &mut Formatter<W>, error: &MacroError) -> fmt::
 
 fn write_syntax<W: fmt::Write>(f: &mut Formatter<W>, error: &SyntaxError) -> fmt::Result {
     match error {
-        SyntaxError::Expected { at, what } => {
-            write!(f, "syntax 1 Expected {at} {}", expectation_name(*what))
-        }
-        SyntaxError::MissingSection { which } => {
-            write!(f, "syntax 2 MissingSection {}", section_name(*which))
-        }
-        SyntaxError::SectionTwice { which } => {
-            write!(f, "syntax 3 SectionTwice {}", section_name(*which))
-        }
+        SyntaxError::Expected { at, what } => { write!(f, "syntax 1 Expected {at} {what}") }
+        SyntaxError::MissingSection { which } => { write!(f, "syntax 2 MissingSection {which}") }
+        SyntaxError::SectionTwice { which } => { write!(f, "syntax 3 SectionTwice {which}") }
         SyntaxError::TooDeep { at } => write!(f, "syntax 4 TooDeep {at}"),
         SyntaxError::Memory => write!(f, "syntax Memory"),
     }
@@ -80,32 +74,5 @@ fn write_board<W: fmt::Write>(f: &mut Formatter<W>, error: &BoardError) -> fmt::
         BoardError::UnknownVertex => write!(f, "board 5 UnknownVertex"),
         BoardError::SameVertex => write!(f, "board 6 SameVertex"),
         BoardError::Memory => write!(f, "board Memory"),
-    }
-}
-
-fn section_name(section: SectionKind) -> &'static str {
-    match section {
-        SectionKind::Players => "players",
-        SectionKind::Pieces => "pieces",
-        SectionKind::Variables => "variables",
-        SectionKind::Board => "board",
-        SectionKind::Rules => "rules",
-    }
-}
-
-fn expectation_name(what: Expectation) -> &'static str {
-    match what {
-        Expectation::Name => "Name",
-        Expectation::Number => "Number",
-        Expectation::Opening => "Opening",
-        Expectation::Closing => "Closing",
-        Expectation::Equals => "Equals",
-        Expectation::Comma => "Comma",
-        Expectation::Colon => "Colon",
-        Expectation::Item => "Item",
-        Expectation::Factor => "Factor",
-        Expectation::Relation => "Relation",
-        Expectation::Generator => "Generator",
-        Expectation::End => "End",
     }
 }
