@@ -11,3 +11,7 @@ pub mod StateLemmas
 pub mod Bridge
 pub mod TreeLemmas
 pub mod TableLemmas
+pub mod NameLemmas
+pub mod TrimLemmas
+pub mod AnswerLemmas
+pub mod LocalityLemmas

@@ -1,4 +1,4 @@
--- Names as lists of bytes.
+-- The bytes of texts.
 use Rattle.std.specs.Prelude.{ℕ, List, map, String, string_bytes}
 use Rattle.std.specs.Global.{Global}
 
