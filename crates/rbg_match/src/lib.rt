@@ -23,6 +23,3 @@ pub use made::Made;
 pub use matches::Match;
 pub use outbox::Outbox;
 pub use refereeing::referee;
-
-#[cfg(test)]
-mod tests;

@@ -4,8 +4,6 @@ ghost use Rattle.rbg_rules.specs.State.{AbstractGame, start_of, IsStateOf};
 
 mod actions;
 mod arithmetic;
-#[cfg(test)]
-mod tests;
 
 use crate::error::Memory;
 pub use actions::Applied;
