@@ -1,3 +1,4 @@
+-- The proof of `examples::nested_patterns`.
 use Rattle.std.proofs.Common.{◌≡◌, ℕ, List, [], ◌∷◌, ◌++◌, refl, inl, inr, sym, ap, ◌∙◌, subst, ◌⊎◌, append_assoc, arith, true, false}
 use Rattle.std.specs.Prelude.{Some}
 use Rattle.std.proofs.lemmas.List.Elements.{All-cons, All-nil}
