@@ -122,3 +122,15 @@ only_word qs w word = acts_joined qs w (join_word (acts qs) w word)
 pub first_applies : {game : AbstractGame} {p : ℕ} {w : List ℕ} {s t : AbstractState} {ps : List (ℕ × ℕ)} → RunPairs game (p ∷ w) s t ps → (middle : AbstractState) × Applies game p s middle
 first_applies (modify {middle} applied modifies run) = (middle, applied)
 first_applies (pass {middle} applied quiet run) = (middle, applied)
+
+-- An element of a list stands in its first part, or the whole of that part stands before it.
+pub split : (m b : List ℕ) (q x : ℕ) (back : List ℕ) → m ++ q ∷ back ≡ b ++ x ∷ [] → Among q b ⊎ ((rest : List ℕ) × (m ≡ b ++ rest))
+split m [] q x back e = inr (m, refl)
+split [] (y ∷ b) q x back e = inl (inl cc)
+split (z ∷ m) (y ∷ b) q x back e =
+    let head : z ≡ y = cc in
+    let tail : m ++ q ∷ back ≡ b ++ x ∷ [] = cc in
+    elim (split m b q x back tail) [
+      | inl h ↦ inl (inr h)
+      | inr (rest, is) ↦ inr (rest, ap (λ (l : List ℕ). z ∷ l) is ∙ ap (λ (k : ℕ). k ∷ (b ++ rest)) head)
+    ]

@@ -67,6 +67,18 @@ small_sum =
 abbrev pub keeper_for_ever : AbstractGame
 keeper_for_ever = game_on one_square (star (act 1 (switch 0)))
 
+-- {? right} {! left}
+abbrev pub only_right : Expression
+only_right = sequence_of (act 5 (positive (act 6 (shift 3))) ∷ act 7 (negative (act 8 (shift 2))) ∷ [])
+
+-- ->white (right + left)* {! {? right} {! left}} [w] ->black
+abbrev pub nested : AbstractGame
+nested =
+    game_on two_squares
+    (sequence_of (act 1 (switch 1) ∷
+    star (choice_of (act 2 (shift 3) ∷ act 3 (shift 2) ∷ [])) ∷
+    act 4 (negative only_right) ∷ act 9 (off 1) ∷ act 10 (switch 2) ∷ []))
+
 -- The semi-state with these pieces and this value of n, where that player stands on vertex 0; and the place after
 -- the keeper's first switch: white is current, n is 0.
 abbrev pub state_of : (player : ℕ) (pieces : List ℕ) (n : ℕ) → AbstractState

@@ -11,7 +11,7 @@ ghost use Rattle.rbg_rules.specs.Moves.{AbstractPlace, IsLegal, Finished};
 ghost use Rattle.rbg_rules.specs.Questions.{Item, modifier_at, pattern_at, find_move, try_move, pattern, Opening, HasOpenings, IsDeep, IsWide, Forced, HasForced};
 ghost use Rattle.rbg_rules.specs.Heavy.{IsHeavyToFind};
 ghost use Rattle.rbg_rules.specs.Games.{IsGame};
-ghost use Rattle.rbg_examples.specs.ExampleGames.{one_square, two_squares, star_of_offs, without_end, counting, looking_right, nothing_right, small_sum, keeper_for_ever, asking_a_sum, heavy_choice, state_of, white_on};
+ghost use Rattle.rbg_examples.specs.ExampleGames.{one_square, two_squares, star_of_offs, without_end, counting, looking_right, nothing_right, small_sum, keeper_for_ever, asking_a_sum, heavy_choice, nested, state_of, white_on};
 
 /// In `->white ([e])* ->black` the keeper begins by the switch to white. White may end its turn at once, or after any
 /// number of offs, but not with an off.
@@ -36,6 +36,13 @@ pub fn pattern_is_undone()
 pub fn negative_pattern()
     ensures holds { IsLegal (nothing_right one_square) (white_on (0 ∷ [])) ((0, 6) ∷ (0, 7) ∷ []) }
     ensures fails { Finished (nothing_right two_squares) (white_on (0 ∷ 0 ∷ [])) }
+{}
+
+/// In `->white (right + left)* {! {? right} {! left}} [w] ->black` on two squares the outer pattern stops white on the
+/// first one, where it can step to the right and not to the left.
+pub fn nested_patterns()
+    ensures second { IsLegal nested (white_on (0 ∷ 0 ∷ [])) ((1, 9) ∷ (1, 10) ∷ []) }
+    ensures not_first { ¬ IsLegal nested (white_on (0 ∷ 0 ∷ [])) ((0, 9) ∷ (0, 10) ∷ []) }
 {}
 
 /// Division drops the fraction toward zero, and by zero it has no value.

@@ -1,9 +1,8 @@
 -- Numbered rules are local: two words that go through one position can change over there.
-use Rattle.std.proofs.Common.{◌≡◌, ℕ, List, [], ◌∷◌, ◌++◌, refl, sym, ap, ◌∙◌, subst, ◌⊎◌, inl, inr, append_assoc}
-use Rattle.std.specs.Prelude.{◌↔◌}
+use Rattle.std.proofs.Common.{◌≡◌, ℕ, List, [], ◌∷◌, ◌++◌, refl, sym, ap, ◌∙◌, subst, inl, inr, append_assoc}
 use Rattle.rbg_rules.specs.Expression.{AbstractAction, positive, negative, Expression, act, skip, sequence, fail, choice, star}
-use Rattle.rbg_rules.specs.Positions.{HasAction, HasInside, HasOwnAction, positions_of, positions_inside, IsNumbered, Level, outermost, inside, IsLevel}
-use Rattle.rbg_rules.specs.Words.{Word, WordOf, Repeats, done, again, Start, beginning, after, Follows, Ends}
+use Rattle.rbg_rules.specs.Positions.{HasAction, HasInside, positions_of, positions_inside, IsNumbered, Level, outermost, inside, IsLevel}
+use Rattle.rbg_rules.specs.Words.{Word, WordOf, Repeats, done, again, beginning, after, Follows, Ends}
 use Rattle.rbg_rules.specs.Laws.{LocalityLaw}
 use Rattle.rbg_rules.proofs.PositionLemmas.{Among, Among_right, AllDifferent, AllDifferent_left, AllDifferent_right, AllDifferent_apart, has_position, numbered_once}
 use Rattle.rbg_rules.proofs.PatternLemmas.{own_stands, word_own}

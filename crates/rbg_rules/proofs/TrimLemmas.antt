@@ -1,15 +1,15 @@
 -- Where no sum is empty, each own action of an expression stands in some word of it.
-use Rattle.std.proofs.Common.{◌≡◌, ◌≢◌, ℕ, List, [], ◌∷◌, ◌++◌, refl, sym, ap, ◌∙◌, subst, ◌⊎◌, inl, inr, append_assoc}
+use Rattle.std.proofs.Common.{◌≡◌, ◌≢◌, ℕ, List, [], ◌∷◌, ◌++◌, refl, sym, ap, subst, inl, inr, append_assoc}
 use Rattle.std.proofs.lemmas.List.{append-nil}
 use Rattle.std.proofs.lemmas.List.Elements.{All-nil}
 use Rattle.rbg_rules.specs.Expression.{AbstractAction, positive, negative, Expression, act, skip, sequence, fail, choice, star}
 use Rattle.rbg_rules.specs.Positions.{IsSwitchAt, HasAction, HasInside, HasOwnAction, Level, outermost, inside, IsLevel}
-use Rattle.rbg_rules.specs.Words.{Word, Repeats, done, again, Start, beginning, after, Follows}
+use Rattle.rbg_rules.specs.Words.{Word, Repeats, done, again, Start, beginning, after}
 use Rattle.rbg_rules.specs.Games.{HasNoEmptySum, HasNoEmptySumInside}
 use Rattle.rbg_rules.specs.State.{AbstractGame, AbstractState}
 use Rattle.rbg_rules.specs.Moves.{stay}
 use Rattle.rbg_rules.specs.Questions.{Question, try_move, find_move, list_moves, reach, pattern, GoesTo, at}
-use Rattle.rbg_rules.specs.Laws.{TrimLaw, EmptyLaw, EmptyOpeningLaw, IsStart}
+use Rattle.rbg_rules.specs.Laws.{TrimLaw, EmptyLaw, EmptyOpeningLaw}
 use Rattle.rbg_rules.proofs.LevelLemmas.{some_level_law}
 use Rattle.rbg_rules.proofs.StateLemmas.{word_law}
 

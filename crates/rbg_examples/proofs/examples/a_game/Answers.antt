@@ -1,3 +1,4 @@
+-- The proof of `examples::a_game`.
 use Rattle.std.proofs.Common.{◌≡◌, ℕ, zero, suc, ◌<◌, ◌≤◌, [], ◌∷◌, Option, ap, refl, inl, inr, sym, subst, arith}
 use Rattle.std.specs.Prelude.{Some, IsTrue, List, slice_get, codes}
 use Rattle.std.proofs.lemmas.List.Elements.{All-cons, All-nil}

@@ -1,3 +1,4 @@
+-- The proof of `examples::heavy_with_a_move`.
 use Rattle.std.proofs.Common.{◌≡◌, ℕ, zero, suc, List, [], ◌∷◌, ◌++◌, length, refl, inl, inr, sym, ap, ◌∙◌, subst, ◌⊎◌, true, false, append_assoc, arith}
 use Rattle.std.specs.Prelude.{Some}
 use Rattle.std.proofs.lemmas.List.{append-nil}
@@ -8,13 +9,13 @@ use Rattle.rbg_rules.specs.Words.{after, Repeats, done, again, Word, Follows}
 use Rattle.rbg_rules.specs.State.{AbstractState}
 use Rattle.rbg_rules.specs.Actions.{Applies}
 use Rattle.rbg_rules.specs.Moves.{RunPairs, stay, modify, pass}
-use Rattle.rbg_rules.specs.Questions.{Opening, at, GoesTo, IsProperPrefix, AnswersBehind, IsDeep, find_move, items_of}
+use Rattle.rbg_rules.specs.Questions.{Opening, at, IsProperPrefix, AnswersBehind, IsDeep, find_move, items_of}
 use Rattle.rbg_rules.specs.Laws.{IsJoinOfWords}
 use Rattle.rbg_examples.specs.ExampleGames.{heavy_choice, state_of}
 use Rattle.rbg_rules.proofs.PositionLemmas.{Among, Among_left, Among_right, Among_cases, one_stands}
 use Rattle.rbg_rules.proofs.PatternLemmas.{only_one, own_stands, word_own}
 use Rattle.rbg_rules.proofs.MoveLemmas.{applied_acts}
-use Rattle.rbg_examples.proofs.ExampleLemmas.{not_equal, no_switch_at, goes_on, begins_with, join_word, at_front, PairAmong, pair_first, pair_later}
+use Rattle.rbg_examples.proofs.ExampleLemmas.{not_equal, no_switch_at, goes_on, begins_with, join_word, at_front, PairAmong, pair_first, pair_later, split}
 use Rattle.rbg_examples.proofs.examples.heavy_with_a_move.Goals as goal
 
 abbrev start : AbstractState
@@ -151,18 +152,6 @@ unfolding PairAmong
 in_front v [] more h = absurd h
 in_front v (q ∷ qs) more (inl e) = inl e
 in_front v (q ∷ qs) more (inr h) = inr (in_front v qs more h)
-
--- A switch behind a run stands behind the whole of one branch.
-split : (m b : List ℕ) (q x : ℕ) (back : List ℕ) → m ++ q ∷ back ≡ b ++ x ∷ [] → Among q b ⊎ ((rest : List ℕ) × (m ≡ b ++ rest))
-split m [] q x back e = inr (m, refl)
-split [] (y ∷ b) q x back e = inl (inl cc)
-split (z ∷ m) (y ∷ b) q x back e =
-    let head : z ≡ y = cc in
-    let tail : m ++ q ∷ back ≡ b ++ x ∷ [] = cc in
-    elim (split m b q x back tail) [
-      | inl h ↦ inl (inr h)
-      | inr (rest, is) ↦ inr (rest, ap (λ (l : List ℕ). z ∷ l) is ∙ ap (λ (k : ℕ). k ∷ (b ++ rest)) head)
-    ]
 
 -- What stands in a branch is no switch, and a branch has the position 3 or the position 4.
 in_branch : (b : List ℕ) → Word either b → (p : ℕ) → Among p b → ¬ IsSwitchAt heavy_choice.rules p

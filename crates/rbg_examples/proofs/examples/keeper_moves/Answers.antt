@@ -1,3 +1,4 @@
+-- The proof of `examples::keeper_moves`.
 use Rattle.std.proofs.Common.{[], refl, inl}
 use Rattle.std.specs.Prelude.{Some}
 use Rattle.std.proofs.lemmas.List.Elements.{All-nil}

@@ -1,3 +1,4 @@
+-- The proof of `examples::no_way_to_end`.
 use Rattle.rbg_examples.proofs.WithoutEnd.{no_switch_follows}
 use Rattle.rbg_examples.proofs.examples.no_way_to_end.Goals as goal
 

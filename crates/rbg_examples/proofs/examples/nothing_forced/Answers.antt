@@ -1,3 +1,4 @@
+-- The proof of `examples::nothing_forced`.
 use Rattle.std.proofs.Common.{◌≡◌, ℕ, List, [], ◌∷◌, ◌++◌, refl, inl, inr, sym, ap, ◌∙◌, subst}
 use Rattle.rbg_rules.specs.Expression.{off}
 use Rattle.rbg_rules.specs.Positions.{IsNumbered, IsSwitchAt}

@@ -1,3 +1,4 @@
+-- The proof of `examples::openings_end_at_an_answer`.
 use Rattle.std.proofs.Common.{◌≡◌, ℕ, List, [], ◌∷◌, refl, inl, inr}
 use Rattle.std.proofs.lemmas.List.Elements.{All-nil}
 use Rattle.rbg_rules.specs.Expression.{positive, negative, Expression}

@@ -1,3 +1,4 @@
+-- The proof of `examples::openings_in_a_pattern`.
 use Rattle.std.proofs.Common.{◌≡◌, ℕ, List, [], ◌∷◌, ◌++◌, refl, inl, inr, sym, ap, ◌∙◌, subst, true, false, ◌≢◌}
 use Rattle.std.proofs.lemmas.List.Elements.{All-cons, All-nil}
 use Rattle.rbg_board.specs.Graph.{next}

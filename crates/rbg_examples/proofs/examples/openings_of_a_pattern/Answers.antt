@@ -1,14 +1,15 @@
+-- The proof of `examples::openings_of_a_pattern`.
 use Rattle.std.proofs.Common.{◌≡◌, ◌≢◌, ℕ, List, [], ◌∷◌, ◌++◌, refl, inl, inr, sym, ap, ◌∙◌, subst, ◌⊎◌, arith, true, false, Bool}
 use Rattle.std.specs.Prelude.{All, Contains, AllPairs}
 use Rattle.std.proofs.lemmas.List.Elements.{All-cons, All-nil}
 use Rattle.std.proofs.lemmas.List.Kept.{AllPairs-cons}
-use Rattle.rbg_rules.specs.Expression.{AbstractAction, on, off, positive, negative, Expression}
-use Rattle.rbg_rules.specs.Positions.{HasAction, IsNumbered, IsSwitchAt, IsPatternAt, HasNoSwitch, IsLevel, inside, is_modifier, is_pattern}
-use Rattle.rbg_rules.specs.Words.{Word, WordOf, Start, beginning, Follows, Ends}
+use Rattle.rbg_rules.specs.Expression.{on, off, positive, negative, Expression}
+use Rattle.rbg_rules.specs.Positions.{HasAction, IsNumbered, IsSwitchAt, IsPatternAt, HasNoSwitch, IsLevel, inside, is_modifier}
+use Rattle.rbg_rules.specs.Words.{Word, WordOf, Start, beginning, Follows}
 use Rattle.rbg_rules.specs.State.{AbstractState}
 use Rattle.rbg_rules.specs.Actions.{Applies}
 use Rattle.rbg_rules.specs.Moves.{RunPairs, stay, modify, pass}
-use Rattle.rbg_rules.specs.Questions.{Item, modifier_at, RunsOn, Opening, at, behind, GoesTo, Forced, IsForcedTo, SomeWordRuns, pattern, items_of}
+use Rattle.rbg_rules.specs.Questions.{Item, modifier_at, RunsOn, Opening, at, behind, GoesTo, Forced, SomeWordRuns, pattern, items_of}
 use Rattle.rbg_examples.specs.ExampleGames.{asking_a_sum, off_and_stop, state_of}
 use Rattle.rbg_rules.proofs.PositionLemmas.{Among, Among_left, Among_right, one_stands}
 use Rattle.rbg_rules.proofs.MoveLemmas.{applied_acts}

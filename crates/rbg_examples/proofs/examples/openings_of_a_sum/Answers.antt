@@ -1,3 +1,4 @@
+-- The proof of `examples::openings_of_a_sum`.
 use Rattle.std.proofs.Common.{◌≡◌, ◌≢◌, ℕ, List, [], ◌∷◌, ◌++◌, refl, inl, inr, sym, ap, ◌∙◌, subst, ◌⊎◌, arith, true, false}
 use Rattle.std.specs.Prelude.{All, Contains, AllPairs}
 use Rattle.std.proofs.lemmas.List.Elements.{All-cons, All-nil}

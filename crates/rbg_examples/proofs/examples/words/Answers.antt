@@ -1,3 +1,4 @@
+-- The proof of `examples::words`.
 use Rattle.std.proofs.Common.{[], ◌∷◌, refl}
 use Rattle.rbg_rules.specs.Words.{done, again}
 use Rattle.rbg_examples.proofs.examples.words.Goals as goal

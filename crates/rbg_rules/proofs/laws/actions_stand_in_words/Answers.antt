@@ -1,3 +1,4 @@
+-- The proof of `laws::actions_stand_in_words`.
 use Rattle.rbg_rules.proofs.TrimLemmas.{trim_law}
 use Rattle.rbg_rules.proofs.laws.actions_stand_in_words.Goals as goal
 

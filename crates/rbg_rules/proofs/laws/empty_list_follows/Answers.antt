@@ -1,3 +1,4 @@
+-- The proof of `laws::empty_list_follows`.
 use Rattle.rbg_rules.proofs.TrimLemmas.{empty_law}
 use Rattle.rbg_rules.proofs.laws.empty_list_follows.Goals as goal
 

@@ -1,3 +1,4 @@
+-- The proof of `laws::empty_list_is_an_opening`.
 use Rattle.rbg_rules.proofs.TrimLemmas.{empty_opening_law}
 use Rattle.rbg_rules.proofs.laws.empty_list_is_an_opening.Goals as goal
 

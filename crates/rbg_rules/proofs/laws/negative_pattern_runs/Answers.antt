@@ -1,3 +1,4 @@
+-- The proof of `laws::negative_pattern_runs`.
 use Rattle.rbg_rules.proofs.MoveLemmas.{negative_law}
 use Rattle.rbg_rules.proofs.laws.negative_pattern_runs.Goals as goal
 

@@ -1,3 +1,4 @@
+-- The proof of `laws::neighbours_decide`.
 use Rattle.rbg_rules.proofs.LocalityLemmas.{locality_law}
 use Rattle.rbg_rules.proofs.laws.neighbours_decide.Goals as goal
 

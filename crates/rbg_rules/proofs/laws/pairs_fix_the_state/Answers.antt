@@ -1,3 +1,4 @@
+-- The proof of `laws::pairs_fix_the_state`.
 use Rattle.rbg_rules.proofs.PlaceLemmas.{pairs_state_law}
 use Rattle.rbg_rules.proofs.laws.pairs_fix_the_state.Goals as goal
 

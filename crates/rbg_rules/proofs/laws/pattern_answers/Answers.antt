@@ -1,3 +1,4 @@
+-- The proof of `laws::pattern_answers`.
 use Rattle.rbg_rules.proofs.AnswerLemmas.{answer_law}
 use Rattle.rbg_rules.proofs.laws.pattern_answers.Goals as goal
 

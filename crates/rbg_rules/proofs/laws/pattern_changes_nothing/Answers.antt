@@ -1,3 +1,4 @@
+-- The proof of `laws::pattern_changes_nothing`.
 use Rattle.rbg_rules.proofs.MoveLemmas.{pattern_law}
 use Rattle.rbg_rules.proofs.laws.pattern_changes_nothing.Goals as goal
 

@@ -1,3 +1,4 @@
+-- The proof of `laws::rules_have_words`.
 use Rattle.rbg_rules.proofs.StateLemmas.{word_law}
 use Rattle.rbg_rules.proofs.laws.rules_have_words.Goals as goal
 

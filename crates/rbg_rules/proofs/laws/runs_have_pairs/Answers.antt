@@ -1,3 +1,4 @@
+-- The proof of `laws::runs_have_pairs`.
 use Rattle.rbg_rules.proofs.PlaceLemmas.{RunPairs-Runs, Runs-RunPairs}
 use Rattle.rbg_rules.proofs.laws.runs_have_pairs.Goals as goal
 

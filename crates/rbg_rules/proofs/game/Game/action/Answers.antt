@@ -1,3 +1,4 @@
+-- The proof of `game::Game::action`.
 use Rattle.std.proofs.Common.{◌≡◌, ◌≤◌, length, subst, sym, ap}
 use Rattle.rbg_rules.specs.Expression.{Expression}
 use Rattle.rbg_rules.specs.Positions.{positions_of}

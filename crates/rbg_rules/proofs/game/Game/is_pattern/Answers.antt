@@ -1,3 +1,4 @@
+-- The proof of `game::Game::is_pattern`.
 use Rattle.std.proofs.Common.{◌≡◌, ◌≤◌, length, subst, sym, ap}
 use Rattle.std.specs.Prelude.{IsTrue, ◌↔◌}
 use Rattle.rbg_rules.specs.Expression.{Expression}
