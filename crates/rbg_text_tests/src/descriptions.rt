@@ -99,19 +99,19 @@ fn show_rules(text: &mut String, rules: &Rule) -> Result<(), Fail> {
 /// A description as text: a line for each section.
 fn shown(alloc: Global, description: &Description) -> Result<String, Fail> {
     let mut text = String::new(alloc);
-    for player in &description.players {
+    for player in description.players() {
         show_name(&mut text, &player.name)?;
         show_number(&mut text, player.bound)?;
     }
     write!(text, "\n")?;
-    for variable in &description.variables {
+    for variable in description.variables() {
         show_name(&mut text, &variable.name)?;
     }
-    show_names(&mut text, &description.pieces)?;
+    show_names(&mut text, description.pieces())?;
     write!(text, "\n")?;
-    show_board(&mut text, &description.board)?;
+    show_board(&mut text, description.board())?;
     write!(text, "\n")?;
-    show_rules(&mut text, &description.rules)?;
+    show_rules(&mut text, description.rules())?;
     Ok(text)
 }
 
