@@ -6,7 +6,7 @@ use Rattle.rbg_rules.specs.Positions.{HasAction, IsPatternAt}
 use Rattle.rbg_rules.specs.State.{AbstractGame, AbstractState, IsStateOf}
 use Rattle.rbg_rules.specs.Actions.{Applies}
 use Rattle.rbg_rules.specs.Games.{IsGame}
-use Rattle.rbg_rules.specs.Translation.{arithmetic_of, relation_of, shows_pattern}
+use Rattle.rbg_rules.specs.Translation.{arithmetic_of, shows_pattern}
 use Rattle.rbg_rules.specs.Table.{Shows, Stands}
 use Rattle.rbg_rules.specs.declared.rule.Action.{Action}
 use Rattle.rbg_rules.specs.declared.rule.Action.TheVariants.{Shift, On, Off, Assign, Compare, Switch, Positive, Negative}
@@ -30,7 +30,7 @@ shown_action rules p (Shift d) plain stands = record { action = shift d; stands 
 shown_action rules p (On pieces) plain stands = record { action = on pieces.items; stands = stands; shown = refl }
 shown_action rules p (Off x) plain stands = record { action = off x; stands = stands; shown = refl }
 shown_action rules p (Assign v e) plain stands = record { action = assignment v (arithmetic_of e); stands = stands; shown = refl }
-shown_action rules p (Compare e r f) plain stands = record { action = comparison (arithmetic_of e) (relation_of r) (arithmetic_of f); stands = stands; shown = refl }
+shown_action rules p (Compare e r f) plain stands = record { action = comparison (arithmetic_of e) r (arithmetic_of f); stands = stands; shown = refl }
 shown_action rules p (Switch n) plain stands = record { action = switch n; stands = stands; shown = refl }
 shown_action rules p Positive plain stands = cc
 shown_action rules p Negative plain stands = cc

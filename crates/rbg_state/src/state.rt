@@ -10,8 +10,8 @@ mod arithmetic;
 
 use crate::change::{Change, Mark};
 use crate::parts::Parts;
-use rbg_base::{Memory, Piece, Player, Variable, Vertex};
 pub use actions::Applied;
+use rbg_base::{Memory, Piece, Player, Variable, Vertex};
 use rbg_rules::Game;
 use std::alloc::Global;
 use std::marker::Model;
