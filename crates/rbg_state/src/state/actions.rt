@@ -28,7 +28,8 @@ pub enum Applied {
 impl SemiState {
     ghost use Rattle.rbg_state.specs.Answer.{Answers};
 
-    /// Applies the action at a position of the game. An action that is not valid changes nothing.
+    /// Applies the action at a position of the game. An action that is not valid changes nothing. A
+    /// valid one makes at most one change, which `undo_to` takes back.
     pub fn apply(&mut self, game: &Game, position: Position) -> Applied
         requires fits { IsStateOf game.now self.old.state }
         requires from_one { 0 < position }
