@@ -1,6 +1,6 @@
 -- An action is applied in one way.
-use Rattle.std.proofs.Common.{◌≡◌, ℕ, ◌+◌, ◌<◌, ◌≤◌, ◌⊎◌, Bool, true, false, inl, inr, subst, sym, refl, arith}
-use Rattle.std.specs.Prelude.{IsTrue}
+use Rattle.std.proofs.Common.{◌≡◌, ℕ, ◌+◌, ◌<◌, ◌≤◌, ◌⊎◌, false, inl, inr, subst, sym, refl, arith}
+use Rattle.std.proofs.lemmas.Bool.{false_from_ne_true}
 use Rattle.rbg_rules.specs.Expression.{AbstractAction, shift, on, off, assignment, comparison, switch, Expression}
 use Rattle.rbg_rules.specs.Positions.{HasAction, IsPatternAt}
 use Rattle.rbg_rules.specs.State.{AbstractGame, AbstractState, IsStateOf}
@@ -34,10 +34,6 @@ shown_action rules p (Compare e r f) plain stands = record { action = comparison
 shown_action rules p (Switch n) plain stands = record { action = switch n; stands = stands; shown = refl }
 shown_action rules p Positive plain stands = cc
 shown_action rules p Negative plain stands = cc
-
-is_false : (b : Bool) → ¬ IsTrue b → b ≡ false
-is_false true never = absurd (never refl)
-is_false false never = refl
 
 -- What at most one change leaves of a history.
 pub record IsStep (h k : History) : Type 0 where
@@ -91,5 +87,5 @@ module _ (game : AbstractGame) (lawful : IsGame game) (p : ℕ) (i : Action) (st
 
   pub answered : (answer : Applied) → IsStateOf game h.state → ((a : AbstractAction) → Shows a i → Answers game a h k answer) → IsAnswered game p h k answer
   answered answer fits answers =
-      let plain = is_false (shows_pattern i) (λ yes. no_pattern ((pattern_stands game.rules lawful.numbered p i stands).0 yes)) in
+      let plain = false_from_ne_true (shows_pattern i) (λ yes. no_pattern ((pattern_stands game.rules lawful.numbered p i stands).0 yes)) in
       answered_by answer (shown_action game.rules p i plain stands) fits answers

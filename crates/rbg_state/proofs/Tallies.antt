@@ -1,7 +1,7 @@
 -- Running counts stay right where a piece is put on a vertex.
-use Rattle.std.proofs.Common.{◌≡◌, ℕ, ◌+◌, ◌-◌, ◌<◌, ◌≤◌, ◌^◌, ◌==◌, List, [], ◌∷◌, ◌++◌, Bool, true, false, cond, length, get_or, refl, sym, ap, subst, ◌∙◌, slice_set, replicate, lit<, arith}
+use Rattle.std.proofs.Common.{◌≡◌, ℕ, ◌+◌, ◌-◌, ◌<◌, ◌≤◌, ◌^◌, ◌==◌, List, [], ◌∷◌, ◌++◌, Bool, cond, length, get_or, refl, sym, ap, subst, ◌∙◌, slice_set, replicate, lit<, arith}
 use Rattle.std.specs.Prelude.{slice_index, All, count_by, ◌≢◌}
-use Rattle.std.proofs.lemmas.Bool.{eq-eqb, eqb-true}
+use Rattle.std.proofs.lemmas.Bool.{eq-eqb, eqb-true, false_from_ne_true}
 use Rattle.std.proofs.lemmas.List.{length-set, length_push, get_or-set_same, get_or-set_other, get_or_read, length-replicate, get_or-replicate}
 use Rattle.std.proofs.lemmas.List.Elements.{All-nil, All-head, All-tail, All-set, All-push, All-get_or}
 use Rattle.std.proofs.lemmas.List.Sums.{sum_by-cons, sum_by-set, sum_by_push, get_or-le-sum_by, count_by-le-length}
@@ -16,12 +16,8 @@ same x y = cond (x == y) 1 0
 same_yes : (x y : ℕ) → x ≡ y → same x y ≡ 1
 same_yes x y is = ap (λ (b : Bool). cond b 1 0) (eq-eqb x y is)
 
-cond_no : (b : Bool) → ¬ (b ≡ true) → let n : ℕ = cond b 1 0 in n ≡ 0
-cond_no true never = absurd (never refl)
-cond_no false never = refl
-
 same_no : (x y : ℕ) → x ≢ y → same x y ≡ 0
-same_no x y other = cond_no (x == y) (λ is. other (eqb-true x y is))
+same_no x y other = ap (λ (b : Bool). cond b 1 0) (false_from_ne_true (x == y) (λ is. other (eqb-true x y is)))
 
 -- a count after one more, and after one less
 one_more : (counts : List ℕ) (x y : ℕ) → x < length counts → get_or (slice_set counts x (get_or counts x 0 + 1)) y 0 ≡ get_or counts y 0 + same x y
