@@ -1,54 +1,164 @@
-//! Semi-states of a small game, changed by its actions.
+//! Semi-states of small games, changed by their actions and taken back.
 ghost use Rattle.rbg_rules.specs.State.{IsStateOf};
 
+use rbg_base::{Player, Position, Vertex};
 use rbg_game::load;
 use rbg_rules::Game;
-use rbg_state::{Applied, SemiState};
+use rbg_state::{Applied, Mark, SemiState};
 use std::process::Abort;
 use std::test::Fail;
 
 /// White takes its cell, and black is to act at the other.
-const TEXT: &[u8] = b"#players = white(100), black(100)
+const TURNS: &[u8] = b"#players = white(100), black(100)
 #pieces = e, w, b
 #board = rectangle(up,down,left,right,[e,w])
 #rules = {e} [w] ->white right {e} left up [b] ->black
 ";
 
-/// Applies the action at a position of the game, and says what became of it, of the player and of the vertex.
-fn act(rt: &impl Abort, state: &mut SemiState, game: &Game, position: u32) -> (Applied, u16, u16)
-    requires { IsStateOf game.now state.old }
-    ensures { IsStateOf game.now state.new }
+/// Each player takes a cell in turn, and play ends.
+const ENDS: &[u8] = b"#players = white(100), black(100)
+#pieces = e, w, b
+#board = rectangle(up,down,left,right,[e,e])
+#rules = ->white {e}[w] ->black right {e}[b] ->> {}
+";
+
+/// Applies the action at a position of the game.
+fn act(rt: &impl Abort, state: &mut SemiState, game: &Game, position: Position) -> Applied
+    requires { IsStateOf game.now state.old.state }
+    ensures { IsStateOf game.now state.new.state }
 {
     assert!(rt; 0 < position && (position as usize) <= game.positions());
     assert!(rt; !game.is_pattern(position));
-    let applied = state.apply(game, position);
-    (applied, state.player(), state.vertex())
+    assert!(rt; 0 < state.room());
+    state.apply(game, position)
+}
+
+/// A mark, and a copy of the state that it names.
+#[derive(Drop)]
+struct Marked {
+    mark: Mark,
+    copy: SemiState,
+}
+
+/// Marks a state, and then applies the action at a position of the game.
+fn act_after_mark(
+    rt: &impl Abort,
+    state: &mut SemiState,
+    game: &Game,
+    position: Position,
+) -> Result<Marked, Fail>
+    requires { IsStateOf game.now state.old.state }
+    ensures { IsStateOf game.now state.new.state }
+{
+    let marked = Marked {
+        mark: state.mark(),
+        copy: state.try_clone()?,
+    };
+    act(rt, state, game, position);
+    Ok(marked)
+}
+
+/// Takes back what was done since a mark, and compares with the copy taken there.
+fn take_back(rt: &impl Abort, state: &mut SemiState, marked: &Marked) {
+    assert!(rt; marked.mark <= state.mark());
+    state.undo_to(marked.mark);
+    assert!(rt; *state == marked.copy);
+    assert!(rt; state.mark() == marked.mark);
+    for piece in 0..3 {
+        assert_eq!(rt; state.count(piece), marked.copy.count(piece));
+    }
+}
+
+/// Applies four actions to the start, and takes them back one by one.
+fn there_and_back(
+    rt: &impl Abort,
+    state: &mut SemiState,
+    game: &Game,
+    positions: [Position; 4],
+) -> Result<(), Fail>
+    requires { IsStateOf game.now state.old.state }
+{
+    let first = act_after_mark(rt, state, game, positions[0])?;
+    let second = act_after_mark(rt, state, game, positions[1])?;
+    let third = act_after_mark(rt, state, game, positions[2])?;
+    let fourth = act_after_mark(rt, state, game, positions[3])?;
+    for marked in [&fourth, &third, &second, &first] {
+        take_back(rt, state, marked);
+    }
+    Ok(())
+}
+
+#[test]
+fn every_list_of_four_actions_is_taken_back(rt: HostRuntime) -> Result<(), Fail> {
+    let game = load(rt.alloc(), ENDS)?;
+    assert_eq!(rt; game.positions(), 9);
+    for list in 0..6_561u32 {
+        let mut state = SemiState::start(rt.alloc(), &game)?;
+        state.reserve(4)?;
+        let positions = [
+            list / 729 + 1,
+            list / 81 % 9 + 1,
+            list / 9 % 9 + 1,
+            list % 9 + 1,
+        ];
+        there_and_back(&rt, &mut state, &game, positions)?;
+    }
+    Ok(())
 }
 
 #[test]
 fn an_action_that_is_not_valid_changes_nothing(rt: HostRuntime) -> Result<(), Fail> {
-    let game = load(rt.alloc(), TEXT)?;
+    let game = load(rt.alloc(), TURNS)?;
     let mut state = SemiState::start(rt.alloc(), &game)?;
-    assert_eq!(rt; act(&rt, &mut state, &game, 1), (Applied::Valid, 0, 0));
-    assert_eq!(rt; act(&rt, &mut state, &game, 2), (Applied::Valid, 0, 0));
-    assert_eq!(rt; act(&rt, &mut state, &game, 1), (Applied::Invalid, 0, 0));
-    assert_eq!(rt; act(&rt, &mut state, &game, 3), (Applied::Valid, 1, 0));
-    assert_eq!(rt; act(&rt, &mut state, &game, 4), (Applied::Valid, 1, 1));
-    assert_eq!(rt; act(&rt, &mut state, &game, 7), (Applied::Invalid, 1, 1));
-    assert_eq!(rt; act(&rt, &mut state, &game, 8), (Applied::Valid, 1, 1));
-    assert_eq!(rt; act(&rt, &mut state, &game, 9), (Applied::Valid, 2, 1));
+    state.reserve(9)?;
+    let steps: [(Position, Applied, Player, Vertex); 8] = [
+        (1, Applied::Valid, 0, 0),
+        (2, Applied::Valid, 0, 0),
+        (1, Applied::Invalid, 0, 0),
+        (3, Applied::Valid, 1, 0),
+        (4, Applied::Valid, 1, 1),
+        (7, Applied::Invalid, 1, 1),
+        (8, Applied::Valid, 1, 1),
+        (9, Applied::Valid, 2, 1),
+    ];
+    for (position, applied, player, vertex) in steps {
+        assert_eq!(rt;
+            act(&rt, &mut state, &game, position),
+            applied,
+            "at {position}"
+        );
+        assert_eq!(rt;
+            (state.player(), state.vertex()),
+            (player, vertex),
+            "at {position}"
+        );
+    }
     assert_eq!(rt; (state.count(0), state.count(1), state.count(2)), (0, 1, 1));
     Ok(())
 }
 
 #[test]
+fn an_off_of_the_piece_that_stands_there_keeps_the_counts(rt: HostRuntime) -> Result<(), Fail> {
+    let game = load(rt.alloc(), TURNS)?;
+    let mut state = SemiState::start(rt.alloc(), &game)?;
+    state.reserve(3)?;
+    for (position, w, b) in [(2, 2, 0), (2, 2, 0), (8, 1, 1)] {
+        assert_eq!(rt; act(&rt, &mut state, &game, position), Applied::Valid);
+        assert_eq!(rt; (state.count(1), state.count(2)), (w, b));
+    }
+    Ok(())
+}
+
+#[test]
 fn a_copy_goes_its_own_way(rt: HostRuntime) -> Result<(), Fail> {
-    let game = load(rt.alloc(), TEXT)?;
+    let game = load(rt.alloc(), TURNS)?;
     assert!(rt; game.board().len() == 2 && game.variables() == 2);
     let mut state = SemiState::start(rt.alloc(), &game)?;
     let copy = state.try_clone()?;
+    state.reserve(1)?;
     state.stand_at(1);
-    assert_eq!(rt; (state.vertex(), copy.vertex()), (1, 0));
+    assert!(rt; state != copy);
+    assert_eq!(rt; (state.vertex(), copy.vertex(), copy.room()), (1, 0, 0));
     assert_eq!(rt; (copy.piece(0), copy.piece(1)), (0, 1));
     assert_eq!(rt; (copy.value(1), copy.score(1)), (0, 0));
     Ok(())

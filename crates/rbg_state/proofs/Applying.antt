@@ -1,12 +1,12 @@
 -- An action is applied in one way.
-use Rattle.std.proofs.Common.{◌≡◌, ℕ, ◌+◌, ◌<◌, ◌≤◌, ◌⊎◌, Bool, true, false, inl, inr, subst, sym, refl, arith}
-use Rattle.std.specs.Prelude.{IsTrue}
+use Rattle.std.proofs.Common.{◌≡◌, ℕ, ◌+◌, ◌<◌, ◌≤◌, ◌⊎◌, false, inl, inr, subst, sym, refl, arith}
+use Rattle.std.proofs.lemmas.Bool.{false_from_ne_true}
 use Rattle.rbg_rules.specs.Expression.{AbstractAction, shift, on, off, assignment, comparison, switch, Expression}
 use Rattle.rbg_rules.specs.Positions.{HasAction, IsPatternAt}
 use Rattle.rbg_rules.specs.State.{AbstractGame, AbstractState, IsStateOf}
 use Rattle.rbg_rules.specs.Actions.{Applies}
 use Rattle.rbg_rules.specs.Games.{IsGame}
-use Rattle.rbg_rules.specs.Translation.{arithmetic_of, relation_of, shows_pattern}
+use Rattle.rbg_rules.specs.Translation.{arithmetic_of, shows_pattern}
 use Rattle.rbg_rules.specs.Table.{Shows, Stands}
 use Rattle.rbg_rules.specs.declared.rule.Action.{Action}
 use Rattle.rbg_rules.specs.declared.rule.Action.TheVariants.{Shift, On, Off, Assign, Compare, Switch, Positive, Negative}
@@ -30,14 +30,10 @@ shown_action rules p (Shift d) plain stands = record { action = shift d; stands 
 shown_action rules p (On pieces) plain stands = record { action = on pieces.items; stands = stands; shown = refl }
 shown_action rules p (Off x) plain stands = record { action = off x; stands = stands; shown = refl }
 shown_action rules p (Assign v e) plain stands = record { action = assignment v (arithmetic_of e); stands = stands; shown = refl }
-shown_action rules p (Compare e r f) plain stands = record { action = comparison (arithmetic_of e) (relation_of r) (arithmetic_of f); stands = stands; shown = refl }
+shown_action rules p (Compare e r f) plain stands = record { action = comparison (arithmetic_of e) r (arithmetic_of f); stands = stands; shown = refl }
 shown_action rules p (Switch n) plain stands = record { action = switch n; stands = stands; shown = refl }
 shown_action rules p Positive plain stands = cc
 shown_action rules p Negative plain stands = cc
-
-is_false : (b : Bool) → ¬ IsTrue b → b ≡ false
-is_false true never = absurd (never refl)
-is_false false never = refl
 
 -- What at most one change leaves of a history.
 pub record IsStep (h k : History) : Type 0 where
@@ -91,5 +87,5 @@ module _ (game : AbstractGame) (lawful : IsGame game) (p : ℕ) (i : Action) (st
 
   pub answered : (answer : Applied) → IsStateOf game h.state → ((a : AbstractAction) → Shows a i → Answers game a h k answer) → IsAnswered game p h k answer
   answered answer fits answers =
-      let plain = is_false (shows_pattern i) (λ yes. no_pattern ((pattern_stands game.rules lawful.numbered p i stands).0 yes)) in
+      let plain = false_from_ne_true (shows_pattern i) (λ yes. no_pattern ((pattern_stands game.rules lawful.numbered p i stands).0 yes)) in
       answered_by answer (shown_action game.rules p i plain stands) fits answers

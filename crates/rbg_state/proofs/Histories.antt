@@ -1,5 +1,5 @@
 -- What follows from one history coming after another.
-use Rattle.std.proofs.Common.{◌≡◌, ℕ, ◌+◌, ◌-◌, ◌<◌, ◌≤◌, List, [], ◌∷◌, ◌++◌, Some, length, take, min, get_or, refl, sym, ap, ◌∙◌, slice_get, arith}
+use Rattle.std.proofs.Common.{◌≡◌, ℕ, ◌+◌, ◌<◌, ◌≤◌, List, [], ◌∷◌, Some, length, take, get_or, refl, sym, ap, ◌∙◌, slice_get, arith}
 use Rattle.std.proofs.lemmas.List.{take_all, take-take, take_at, take-append-le, length-take, length_push, get_or-take, get_or_push}
 use Rattle.std.proofs.lemmas.Option.{slice_get-get_or, get_or_from_slice_get}
 use Rattle.rbg_rules.specs.State.{AbstractState}

@@ -2,8 +2,11 @@
 use Rattle.std.specs.Prelude.{◌≡◌, ℕ, ◌+◌, ◌-◌, List, [], ◌∷◌, ◌++◌, length, take}
 use Rattle.rbg_rules.specs.State.{AbstractState}
 
--- A semi-state, the states before each change that can be taken back (the oldest first), and the number of changes that there is
--- room for. A mark is a number n: it names the state before the change number n, counted from 0, or the present one.
+-- A semi-state that changes in place.
+--   state: the semi-state at present
+--   past: the states before each of the changes that can be taken back, the oldest first
+--   room: how many changes the list of changes still takes
+-- A mark is a number: it names the state with that index, from 0, in the past followed by the present state.
 pub record History : Type 0 where
   pub state : AbstractState
   pub past : List AbstractState
@@ -21,6 +24,6 @@ capacity_of h = h.room + length h.past
 abbrev pub changed_to : History → AbstractState → History
 changed_to h s = record { state = s; past = states_of h; room = h.room - 1 }
 
--- later comes from earlier by changes that can all be taken back.
+-- later comes from earlier by changes that can all be taken back
 pub record IsAfter (earlier later : History) : Type 0 where
   pub states : take (length earlier.past + 1) (states_of later) ≡ states_of earlier

@@ -16,8 +16,8 @@ pub(crate) enum Change {
     Value { variable: Variable, value: u32 },
 }
 
-/// The name of a state that a semi-state has passed through: the number of changes made before it.
-#[derive(Clone, Copy, Debug, PartialEq, Eq)]
+/// The name of a state that a semi-state has passed through. A lesser mark names an earlier state.
+#[derive(Clone, Copy, Debug, PartialEq, Eq, PartialOrd, Ord)]
 pub struct Mark {
     changes: usize,
 }

@@ -1,5 +1,6 @@
 //! The piece on each vertex of a board, with a running count for each piece.
 ghost use Rattle.std.specs.Prelude.{◌≡◌, ◌+◌, ◌<◌, ◌^◌, ◌==◌, ◌++◌, [], ◌∷◌, Some, All, length, count_by, slice_get, slice_set, IfOk};
+ghost use Rattle.rbg_rules.specs.Limits.{most_pieces};
 
 use rbg_base::{Memory, Piece, Vertex};
 use rbg_board::Board;
@@ -31,7 +32,7 @@ impl Model for Occupancy {
 impl Occupancy {
     /// The pieces that stand on a board when play begins.
     pub(crate) fn start(alloc: Global, board: &Board) -> Result<Occupancy, Memory>
-        requires { All (λ x. x < MAX_PIECES) board.now.first }
+        requires { All (λ x. x < most_pieces) board.now.first }
         ensures { IfOk result (λ occupancy. occupancy ≡ board.now.first) }
     {
         let mut occupancy = Occupancy {
@@ -46,7 +47,7 @@ impl Occupancy {
 
     /// Adds a vertex that holds a piece.
     fn push(&mut self, piece: Piece) -> Result<(), Memory>
-        requires piece { piece < MAX_PIECES }
+        requires piece { piece < most_pieces }
         requires few { length self.old + 1 < 2 ^ 16 }
         ensures { IfOk result (λ _. self.new ≡ self.old ++ piece ∷ []) }
     {
@@ -84,10 +85,10 @@ impl Occupancy {
     /// Puts a piece on a vertex, and returns the piece that stood there.
     pub(crate) fn put(&mut self, vertex: Vertex, piece: Piece) -> Piece
         requires vertex { vertex < length self.old }
-        requires piece { piece < MAX_PIECES }
+        requires piece { piece < most_pieces }
         ensures put { self.new ≡ slice_set self.old vertex piece }
         ensures replaced { slice_get self.old vertex ≡ Some result }
-        ensures within { result < MAX_PIECES }
+        ensures within { result < most_pieces }
     {
         let replaced = replace(&mut self.pieces[vertex as usize], piece);
         self.counts[replaced as usize] -= 1;

@@ -1,5 +1,5 @@
-//! A semi-state: who is to act, what stands on each vertex, what each variable holds, and the current vertex. It changes in
-//! place and keeps a list of its changes, so that they can be taken back.
+//! A semi-state: who is to act, what stands on each vertex, what each variable holds, and the current
+//! vertex. It changes in place and keeps a list of its changes, so that they can be taken back.
 ghost use Rattle.std.specs.Prelude.{◌≡◌, ℕ, ◌+◌, ◌-◌, ◌<◌, ◌≤◌, ◌==◌, [], length, take, count_by, slice_get, Some, IfOk, OnOk, OnErr};
 ghost use Rattle.rbg_rules.specs.State.{AbstractGame, start_of, IsStateOf};
 ghost use Rattle.rbg_state.specs.History.{History, states_of, capacity_of, changed_to, IsAfter};
@@ -10,14 +10,14 @@ mod arithmetic;
 
 use crate::change::{Change, Mark};
 use crate::parts::Parts;
-use rbg_base::{Memory, Piece, Player, Variable, Vertex};
 pub use actions::Applied;
+use rbg_base::{Memory, Piece, Player, Variable, Vertex};
 use rbg_rules::Game;
 use std::alloc::Global;
 use std::marker::Model;
 
-/// A semi-state of a game. Two of them are equal where they have the same player, vertex, pieces and values, whatever their
-/// changes are.
+/// A semi-state of a game. Two of them are equal if they have the same player, vertex, pieces and
+/// values, whatever their changes are.
 #[derive(Debug, Drop)]
 pub struct SemiState {
     parts: Parts,
@@ -115,7 +115,7 @@ impl SemiState {
         self.changes.capacity() - self.changes.len()
     }
 
-    /// Makes room for this many changes.
+    /// Makes room for this many changes. If memory is refused, nothing changes.
     pub fn reserve(&mut self, changes: usize) -> Result<(), Memory>
         ensures kept { self.new ≡ record self.old { room = self.new.room } }
         ensures room { OnOk result (changes ≤ self.new.room) }
@@ -132,7 +132,8 @@ impl SemiState {
         Mark::after(self.changes.len())
     }
 
-    /// Takes back every change since a mark.
+    /// Takes back every change since a mark. The mark is one of this semi-state that was not undone
+    /// since.
     pub fn undo_to(&mut self, mark: Mark)
         requires { mark ≤ length self.old.past }
         ensures state { slice_get (states_of self.old) mark ≡ Some self.new.state }
@@ -167,7 +168,7 @@ impl SemiState {
         self.changes.push_reserved(back);
     }
 
-    /// Makes a vertex of the board the current one.
+    /// Makes a vertex of the board the current one. This is a change, which `undo_to` takes back.
     pub fn stand_at(&mut self, vertex: Vertex)
         requires room { 0 < self.old.room }
         requires there { vertex < length self.old.state.pieces }

@@ -6,17 +6,17 @@ ghost use Rattle.rbg_rules.specs.Positions.{positions_of, IsPatternAt};
 ghost use Rattle.rbg_rules.specs.Actions.{Applies};
 ghost use Rattle.rbg_rules.specs.Values.{Relates};
 ghost use Rattle.rbg_rules.specs.Games.{IsGame, IsActionOf};
-ghost use Rattle.rbg_rules.specs.Translation.{arithmetic_of, relation_of, shows_pattern};
+ghost use Rattle.rbg_rules.specs.Limits.{most_pieces};
+ghost use Rattle.rbg_rules.specs.Translation.{arithmetic_of, shows_pattern};
 ghost use Rattle.rbg_rules.specs.Table.{Shows};
 ghost use Rattle.rbg_state.specs.History.{capacity_of, IsAfter};
 ghost use Rattle.rbg_state.specs.Reads.{ReadsBelow};
 
 use super::SemiState;
 use crate::change::Change;
-use rbg_base::{Direction, Piece, Player, Position, Variable};
+use rbg_base::{Direction, Piece, Player, Position, Relation, Variable};
 use rbg_board::Board;
-use rbg_rules::limits::MAX_PIECES;
-use rbg_rules::{Action, Arithmetic, Game, Relation};
+use rbg_rules::{Action, Arithmetic, Game};
 
 /// Whether an action could be applied.
 #[derive(Clone, Copy, Debug, PartialEq, Eq)]
@@ -28,7 +28,8 @@ pub enum Applied {
 impl SemiState {
     ghost use Rattle.rbg_state.specs.Answer.{Answers};
 
-    /// Applies the action at a position of the game. An action that is not valid changes nothing.
+    /// Applies the action at a position of the game. An action that is not valid changes nothing. A
+    /// valid one makes at most one change, which `undo_to` takes back.
     pub fn apply(&mut self, game: &Game, position: Position) -> Applied
         requires fits { IsStateOf game.now self.old.state }
         requires from_one { 0 < position }
@@ -105,7 +106,7 @@ impl SemiState {
     /// Puts a piece on the current vertex.
     fn off(&mut self, piece: Piece) -> Applied
         requires vertex { self.old.state.vertex < length self.old.state.pieces }
-        requires piece { piece < MAX_PIECES }
+        requires piece { piece < most_pieces }
         requires room { 0 < self.old.room }
         ensures { (game : AbstractGame) → Answers game (off piece) self.old self.new result }
     {
@@ -140,7 +141,7 @@ impl SemiState {
         requires left { ReadsBelow (length self.now.state.values) (arithmetic_of left.now) }
         requires right { ReadsBelow (length self.now.state.values) (arithmetic_of right.now) }
         ensures { (game : AbstractGame)
-            → Answers game (comparison (arithmetic_of left.now) (relation_of relation) (arithmetic_of right.now))
+            → Answers game (comparison (arithmetic_of left.now) relation (arithmetic_of right.now))
             self.now self.now result }
     {
         match (self.evaluate(left), self.evaluate(right)) {
@@ -161,14 +162,14 @@ impl SemiState {
 
 /// Whether two values stand in a relation.
 fn relates(relation: Relation, x: i64, y: i64) -> bool
-    ensures { IsTrue result ↔ Relates (relation_of relation) x y }
+    ensures { IsTrue result ↔ Relates relation x y }
 {
     match relation {
         Relation::Equal => x == y,
-        Relation::Different => x != y,
+        Relation::NotEqual => x != y,
         Relation::Less => x < y,
-        Relation::AtMost => x <= y,
+        Relation::LessOrEqual => x <= y,
         Relation::Greater => x > y,
-        Relation::AtLeast => x >= y,
+        Relation::GreaterOrEqual => x >= y,
     }
 }
