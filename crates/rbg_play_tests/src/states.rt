@@ -106,33 +106,38 @@ fn every_list_of_four_actions_is_taken_back(rt: HostRuntime) -> Result<(), Fail>
     Ok(())
 }
 
+/// Applies an action, and compares what became of it, of the player and of the vertex.
+fn expect_act(
+    rt: &impl Abort,
+    state: &mut SemiState,
+    game: &Game,
+    position: Position,
+    expected: (Applied, Player, Vertex),
+)
+    requires { IsStateOf game.now state.old.state }
+    ensures { IsStateOf game.now state.new.state }
+{
+    let applied = act(rt, state, game, position);
+    assert_eq!(rt;
+        (applied, state.player(), state.vertex()),
+        expected,
+        "at {position}"
+    );
+}
+
 #[test]
 fn an_action_that_is_not_valid_changes_nothing(rt: HostRuntime) -> Result<(), Fail> {
     let game = load(rt.alloc(), TURNS)?;
     let mut state = SemiState::start(rt.alloc(), &game)?;
     state.reserve(9)?;
-    let steps: [(Position, Applied, Player, Vertex); 8] = [
-        (1, Applied::Valid, 0, 0),
-        (2, Applied::Valid, 0, 0),
-        (1, Applied::Invalid, 0, 0),
-        (3, Applied::Valid, 1, 0),
-        (4, Applied::Valid, 1, 1),
-        (7, Applied::Invalid, 1, 1),
-        (8, Applied::Valid, 1, 1),
-        (9, Applied::Valid, 2, 1),
-    ];
-    for (position, applied, player, vertex) in steps {
-        assert_eq!(rt;
-            act(&rt, &mut state, &game, position),
-            applied,
-            "at {position}"
-        );
-        assert_eq!(rt;
-            (state.player(), state.vertex()),
-            (player, vertex),
-            "at {position}"
-        );
-    }
+    expect_act(&rt, &mut state, &game, 1, (Applied::Valid, 0, 0));
+    expect_act(&rt, &mut state, &game, 2, (Applied::Valid, 0, 0));
+    expect_act(&rt, &mut state, &game, 1, (Applied::Invalid, 0, 0));
+    expect_act(&rt, &mut state, &game, 3, (Applied::Valid, 1, 0));
+    expect_act(&rt, &mut state, &game, 4, (Applied::Valid, 1, 1));
+    expect_act(&rt, &mut state, &game, 7, (Applied::Invalid, 1, 1));
+    expect_act(&rt, &mut state, &game, 8, (Applied::Valid, 1, 1));
+    expect_act(&rt, &mut state, &game, 9, (Applied::Valid, 2, 1));
     assert_eq!(rt; (state.count(0), state.count(1), state.count(2)), (0, 1, 1));
     Ok(())
 }
@@ -142,10 +147,11 @@ fn an_off_of_the_piece_that_stands_there_keeps_the_counts(rt: HostRuntime) -> Re
     let game = load(rt.alloc(), TURNS)?;
     let mut state = SemiState::start(rt.alloc(), &game)?;
     state.reserve(3)?;
-    for (position, w, b) in [(2, 2, 0), (2, 2, 0), (8, 1, 1)] {
-        assert_eq!(rt; act(&rt, &mut state, &game, position), Applied::Valid);
-        assert_eq!(rt; (state.count(1), state.count(2)), (w, b));
-    }
+    act(&rt, &mut state, &game, 2);
+    act(&rt, &mut state, &game, 2);
+    assert_eq!(rt; (state.count(1), state.count(2)), (2, 0));
+    act(&rt, &mut state, &game, 8);
+    assert_eq!(rt; (state.count(1), state.count(2)), (1, 1));
     Ok(())
 }
 
