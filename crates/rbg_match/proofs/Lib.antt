@@ -4,7 +4,7 @@ pub mod Scoring
 pub mod GoingOn
 pub mod Refusing
 pub mod Judging
-pub mod HearingLemmas
+pub mod HandlingLemmas
 pub mod Marking
 pub mod Taking
 pub mod Events
@@ -23,5 +23,5 @@ pub mod Greeting
 pub mod FirstPosition
 pub mod OpeningLemmas
 pub mod GameText
-pub mod HearingAll
+pub mod AllEvents
 pub mod WholeMatch

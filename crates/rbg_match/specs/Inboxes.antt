@@ -1,9 +1,9 @@
 -- The inboxes of a match, between events.
 use Rattle.std.specs.Prelude.{◌≡◌, ℕ, List, [], map, replicate, All}
 use Rattle.rbg_wire.specs.Streams.{Stream, Rest, incomplete}
-use Rattle.rbg_match.specs.Config.{message_limit}
+use Rattle.rbg_match.specs.Limits.{message_limit}
 
--- nothing that is complete is left in the inbox, which has the limit of a seat's message
+-- The inbox has the limit of a seat's message, and no complete item is left in it.
 pub record IsReady (inbox : Stream) : Type 0 where
   pub limit : inbox.limit ≡ message_limit
   pub empty : inbox.items ≡ []
@@ -14,6 +14,6 @@ AreReady inboxes = All IsReady inboxes
 abbrev pub rests_of : List Stream → List Rest
 rests_of inboxes = map (λ inbox. inbox.rest) inboxes
 
--- an inbox to which nothing has come, for each of so many seats
+-- an empty inbox for each seat
 abbrev pub AreNew : ℕ → List Stream → Type 0
 AreNew seats inboxes = inboxes ≡ replicate seats (record { limit = message_limit; items = []; rest = incomplete [] })

@@ -1,4 +1,5 @@
--- What a match is, by topic. Each file stands on those above it.
+-- What a match is, by topic. Each file builds on those above it.
+pub mod Limits
 pub mod Config
 pub mod Deliveries
 pub mod Saying
@@ -11,10 +12,10 @@ pub mod Inboxes
 pub mod Playable
 pub mod Heavy
 pub mod PlayingOn
-pub mod Looking
-pub mod Answers
-pub mod HeardOf
-pub mod Hearing
+pub mod OneStep
+pub mod Handling
+pub mod InputOf
+pub mod Inputs
 pub mod Transcript
 pub mod Matches
 pub mod Codes

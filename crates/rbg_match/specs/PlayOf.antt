@@ -1,4 +1,4 @@
--- What the state of play that the code keeps stands for.
+-- The state of play that the code's `Play` stands for.
 use Rattle.rbg_match.specs.declared.play.Play.{Play}
 use Rattle.rbg_match.specs.Play.{AbstractPlay}
 

@@ -1,10 +1,11 @@
--- What a call that queues messages leaves.
+-- What a call that queues messages does to the outbox.
 use Rattle.std.specs.Prelude.{◌≡◌, ℕ, ◌<◌, List, [], length, slice_index, slice_index_or, Result, IfOk}
 use Rattle.rbg_match.specs.Deliveries.{Delivery, delivered}
 
--- Something was said, and stands behind what each seat had. Where the call went well, it is what was to be said. Where it
--- didn't, what each seat had still stands in front.
-pub record Says {T E : Type 0} (old new : List (List ℕ)) (result : Result T E) (IsToSay : T → List Delivery → Type 0) : Type 0 where
+-- Messages were queued, and their bytes follow what each seat had. On `Ok` they are the messages that were to be sent.
+-- On `Err` they may be others.
+pub record Says {T E : Type 0} (old new : List (List ℕ)) (result : Result T E)
+    (IsToSay : T → List Delivery → Type 0) : Type 0 where
   pub said : List Delivery
   pub behind : new ≡ delivered old said
   pub whole : IfOk result (λ value. IsToSay value said)

@@ -2,12 +2,13 @@
 ghost use Rattle.std.specs.Prelude.{◌≡◌, ◌≤◌, ◌+◌, ◌↔◌, ℕ, length, IfErr, IfOk, IfSome, IsNone, IsTrue};
 ghost use Rattle.rbg_rules.specs.Positions.{positions_of};
 ghost use Rattle.rbg_rules.specs.Translation.{action_of, expression_of};
+ghost use Rattle.rbg_match.specs.Limits.{most_positions};
 ghost use Rattle.rbg_match.specs.OneWord.{FirstOther, IsOneWord, IsPlayed};
 
 use rbg_rules::{Action, Game, Rule};
 
-/// None where the rules are one sequence of shifts, ons, offs and switches. Else the number of the first action that is
-/// none of these, or that stands in a sum or a star.
+/// None if the rules are one sequence of shifts, ons, offs and switches. Otherwise the position of the first action that
+/// is none of these or belongs to a sum or a star.
 pub(crate) fn first_not_played(game: &Game) -> Option<u32>
     ensures none { IsNone result ↔ IsOneWord game.now.rules }
     ensures first { IfSome result (λ position. (before : ℕ) × FirstOther game.now.rules before × (position ≡ before + 1)) }
@@ -18,9 +19,10 @@ pub(crate) fn first_not_played(game: &Game) -> Option<u32>
     }
 }
 
-/// How many actions a rule has that is one word, or else how many stand in front of its first part that is none.
+/// The number of actions of a rule that is one word. Otherwise an `Err` with the number of those before its first part
+/// that is not played.
 fn count_played(rule: &Rule) -> Result<u32, u32>
-    requires within_limits { length (positions_of (expression_of rule.now)) ≤ 20000 }
+    requires within_limits { length (positions_of (expression_of rule.now)) ≤ most_positions }
     ensures one_word { IfOk result (λ _. IsOneWord (expression_of rule.now)) }
     ensures count { IfOk result (λ count. count ≡ length (positions_of (expression_of rule.now))) }
     ensures other { IfErr result (FirstOther (expression_of rule.now)) }

@@ -1,5 +1,5 @@
 use Rattle.std.proofs.Common.{rules, ◌≡◌, refl}
-use Rattle.rbg_match.specs.Hearing.{counted_first}
+use Rattle.rbg_match.specs.Inputs.{counted_first}
 use Rattle.rbg_match.proofs.FirstPosition.{refused_there, refused_nowhere, ok_is_no_refusal, memory_is_another_refusal}
 use Rattle.rbg_match.proofs.WholeMatch.{seats_of_opened}
 use Rattle.rbg_match.proofs.matches.Match.new.Goals as goal
