@@ -11,7 +11,7 @@ use Rattle.rbg_match.specs.Play.{AbstractPlay}
 use Rattle.rbg_match.specs.Handling.{AbstractInput, tick, gone, sent, Handles}
 use Rattle.rbg_match.specs.Inputs.{TimedInput, AbstractEvent, piece, end_of_stream, has_seat, cut_of, inputs_in, inputs_at, rests_after}
 use Rattle.rbg_match.specs.Transcript.{HandlesAll, none, more}
-use Rattle.rbg_match.specs.Inboxes.{rests_of}
+use Rattle.rbg_match.specs.internal.Inboxes.{rests_of}
 
 -- one thing is answered
 pub one_handled : {game : AbstractGame} {config : Config} {play after : AbstractPlay} {moment : ℕ} {input : AbstractInput} {said : List Delivery} → Handles game config play moment input after said → HandlesAll game config play (inputs_at moment (input ∷ [])) after said

@@ -10,8 +10,8 @@ use Rattle.rbg_match.specs.Limits.{most_keeper_moves}
 use Rattle.rbg_match.specs.Deliveries.{Delivery, delivered, to_each}
 use Rattle.rbg_match.specs.Play.{AbstractPlay, mover_of, scores_of, ended}
 use Rattle.rbg_match.specs.PlayingOn.{PlaysOn, endless, heavy, finished, keeper, seats_of, MayBeAsked}
-use Rattle.rbg_match.specs.Playable.{IsPlayOf}
-use Rattle.rbg_match.specs.OneStep.{KeeperMoves}
+use Rattle.rbg_match.specs.internal.Playable.{IsPlayOf}
+use Rattle.rbg_match.specs.internal.OneStep.{KeeperMoves}
 use Rattle.rbg_match.proofs.Delivering.{delivered-none}
 use Rattle.rbg_match.proofs.Sayings.{said_more}
 

@@ -8,6 +8,7 @@ pub mod HandlingLemmas
 pub mod Marking
 pub mod Taking
 pub mod Events
+pub mod Histories
 pub mod Stepping
 pub mod Counting
 pub mod OneWordRules

@@ -13,7 +13,7 @@ use Rattle.rbg_match.proofs.OneWordRules.{counts_from_1, action_in_range}
 use Rattle.rbg_match.proofs.Following.{next_after, next_after_counted, follows_to}
 use Rattle.rbg_match.proofs.OneRun.{with_pair, goes_on}
 use Rattle.rbg_match.proofs.Reaching.{Reaches, reaches_start, reaches_step, switch_reached, move_is_longer, not_short, longer_front, reached_no_switch, reached_follows}
-use Rattle.rbg_match.specs.Walking.{IsTooDeep, IsFound}
+use Rattle.rbg_match.specs.internal.Walking.{IsTooDeep, IsFound}
 use Rattle.rbg_rules.specs.Questions.{find_move, RunsOn, AnswersBehind, IsProperPrefix, Opening, at, items_of}
 use Rattle.rbg_wire.specs.Messages.{IsShortPair}
 use Rattle.std.proofs.lemmas.List.Elements.{All-nil, All-push}

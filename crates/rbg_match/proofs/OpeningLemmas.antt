@@ -10,7 +10,7 @@ use Rattle.rbg_match.specs.Play.{AbstractPlay, play_at_start}
 use Rattle.rbg_match.specs.OneWord.{IsOneWord}
 use Rattle.rbg_match.specs.PlayingOn.{PlaysOn, seats_of}
 use Rattle.rbg_match.specs.Inputs.{Streams, counted_first, streams_at_start}
-use Rattle.rbg_match.specs.Inboxes.{AreNew, rests_of}
+use Rattle.rbg_match.specs.internal.Inboxes.{AreNew, rests_of}
 use Rattle.rbg_match.specs.Transcript.{greetings}
 use Rattle.rbg_match.specs.Matches.{Opens}
 use Rattle.rbg_match.proofs.Delivering.{delivered-append, delivered-queued}

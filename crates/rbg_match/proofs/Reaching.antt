@@ -9,7 +9,7 @@ use Rattle.rbg_rules.specs.Words.{Follows}
 use Rattle.rbg_rules.specs.Moves.{RunPairs, stay, modify, pass, AbstractPlace, stand_of, Legal, Finished}
 use Rattle.rbg_match.specs.OneWord.{IsOneWord}
 use Rattle.rbg_match.specs.PlaceOf.{IsLastOf}
-use Rattle.rbg_match.specs.OnlyMove.{IsOnlyMove}
+use Rattle.rbg_match.specs.internal.OnlyMove.{IsOnlyMove}
 use Rattle.rbg_match.proofs.Counting.{length-count_from, get_or-count_from, count_from_more, count_from-append}
 use Rattle.rbg_rules.proofs.PositionLemmas.{one_stands}
 use Rattle.rbg_rules.proofs.PlaceLemmas.{RunPairs_join}

@@ -7,7 +7,7 @@ use Rattle.rbg_rules.specs.State.{AbstractGame}
 use Rattle.rbg_match.specs.declared.config.Config.{Config}
 use Rattle.rbg_match.specs.Deliveries.{Delivery, delivered}
 use Rattle.rbg_match.specs.Play.{AbstractPlay}
-use Rattle.rbg_match.specs.Playable.{IsPlayOf}
+use Rattle.rbg_match.specs.internal.Playable.{IsPlayOf}
 use Rattle.rbg_match.specs.Handling.{AbstractInput, sent, Handles}
 use Rattle.rbg_match.specs.Inputs.{TimedInput, inputs_at}
 use Rattle.rbg_match.specs.Transcript.{HandlesAll, none, more}

@@ -1,5 +1,21 @@
 -- Messages to the seats, and the bytes that each seat has then. Seats are numbered from 1, as players are.
-use Rattle.std.specs.Prelude.{ℕ, zero, suc, ◌==◌, List, [], ◌∷◌, ◌++◌, map, if◌then◌else◌}
+use Rattle.std.specs.Prelude.{
+  ◌≡◌,
+  ℕ,
+  zero,
+  suc,
+  ◌<◌,
+  ◌==◌,
+  List,
+  [],
+  ◌∷◌,
+  ◌++◌,
+  length,
+  map,
+  slice_index,
+  slice_index_or,
+  if◌then◌else◌,
+}
 use Rattle.std.specs.List.{flat_map}
 use Rattle.rbg_rules.specs.Positions.{count_from}
 use Rattle.rbg_wire.specs.Messages.{AbstractMessage, spelling}
@@ -39,3 +55,7 @@ delivered_from seat (bytes ∷ others) said = (bytes ++ bytes_for seat said) ∷
 
 abbrev pub delivered : List (List ℕ) → List Delivery → List (List ℕ)
 delivered outbox said = delivered_from 1 outbox said
+
+-- the marks are the numbers of bytes that the seats have, seat 1 first
+abbrev pub AreMarks : List (List ℕ) → List ℕ → Type 0
+AreMarks outbox marks = (i : ℕ) → i < length outbox → slice_index marks i ≡ length (slice_index_or outbox i [])

@@ -1,14 +1,14 @@
 //! How a match handles one input.
-ghost use Rattle.std.specs.Prelude.{◌≡◌, ◌≤◌, None, length};
+ghost use Rattle.std.specs.Prelude.{◌≡◌, ◌<◌, ◌≤◌, None, IsOk, length};
 ghost use Rattle.rbg_wire.specs.Inboxes.{item_of};
 ghost use Rattle.rbg_wire.specs.Messages.{ArePairs};
 ghost use Rattle.rbg_match.specs.Handling.{sent, Refuses, Judges, HandlesInTime, Handles};
-ghost use Rattle.rbg_match.specs.InputOf.{input_of, IsOfSeats};
-ghost use Rattle.rbg_match.specs.Play.{mover_of};
-ghost use Rattle.rbg_match.specs.PlayOf.{play_of};
-ghost use Rattle.rbg_match.specs.Playable.{IsPlayOf};
+ghost use Rattle.rbg_match.specs.internal.InputOf.{input_of, IsOfSeats};
+ghost use Rattle.rbg_match.specs.Play.{due_of, mover_of};
+ghost use Rattle.rbg_match.specs.internal.PlayOf.{play_of};
+ghost use Rattle.rbg_match.specs.internal.Playable.{IsPlayOf};
 ghost use Rattle.rbg_match.specs.PlayingOn.{seats_of};
-ghost use Rattle.rbg_match.specs.Saying.{Says};
+ghost use Rattle.rbg_match.specs.internal.Saying.{Says};
 
 use crate::Outbox;
 use crate::context::Context;
@@ -123,6 +123,8 @@ pub(crate) fn handle(
     ensures says { Says outbox.old outbox.new result (λ _ said.
         Handles context.entry.game.now context.entry.config (play_of play.old) context.entry.moment
         (input_of input.entry) (play_of play.new) said) }
+    ensures quiet { input.entry ≡ Input.Tick → context.entry.moment < due_of context.entry.config (play_of play.old) →
+        IsOk result }
 {
     if play.outcome.is_some() {
         return Ok(());

@@ -3,7 +3,7 @@
 use rbg_moves::Move;
 
 /// A move that was made.
-#[derive(Debug, Drop)]
+#[derive(Debug, Drop, PartialEq, Eq)]
 pub struct Made {
     /// Who made it: the players are numbered from 1, and the keeper is 0.
     pub player: u64,

@@ -46,12 +46,12 @@ impl Model for Match {
 
     ghost Value = { MatchState };
 
-    ghost use Rattle.rbg_match.specs.Codes.{coded_match};
+    ghost use Rattle.rbg_match.specs.internal.Codes.{coded_match};
 
     ghost coded = { coded_match };
 
-    ghost use Rattle.rbg_match.specs.Inboxes.{rests_of};
-    ghost use Rattle.rbg_match.specs.PlayOf.{play_of};
+    ghost use Rattle.rbg_match.specs.internal.Inboxes.{rests_of};
+    ghost use Rattle.rbg_match.specs.internal.PlayOf.{play_of};
 
     ghost view = { λ m. record {
       game = m.game;
@@ -62,7 +62,7 @@ impl Model for Match {
       failed = m.failed;
     } };
 
-    ghost use Rattle.rbg_match.specs.Playable.{IsMatch};
+    ghost use Rattle.rbg_match.specs.internal.Playable.{IsMatch};
 
     ghost invariant = { λ m. IsMatch m.game m.config (play_of m.play) m.inboxes.items m.moment m.failed };
 }
@@ -85,13 +85,16 @@ impl Match {
       IsOk,
     };
     ghost use Rattle.rbg_match.specs.Config.{IsWithinLimits};
+    ghost use Rattle.rbg_match.specs.History.{IsHistory};
+    ghost use Rattle.rbg_match.specs.Inputs.{counted, moment_alone};
+    ghost use Rattle.rbg_match.specs.PlaceOf.{IsPlaceOf};
     ghost use Rattle.rbg_match.specs.Play.{due_of, refusals_of};
     ghost use Rattle.rbg_match.specs.OneWord.{IsOneWord, IsFirstNotPlayed};
     ghost use Rattle.rbg_match.specs.Matches.{Opens, Steps};
     ghost use Rattle.rbg_wire.specs.declared.outcome.Outcome.{Outcome};
 
-    /// Makes a match of a game at the moment `now`. Each seat is greeted, and play goes on from the start. Returns the match
-    /// and its outbox.
+    /// Makes a match of a game at the moment `now`. Each seat is greeted, and play goes on from the start. Returns the
+    /// match and its outbox.
     pub fn new(
         alloc: Global,
         game: Game,
@@ -102,6 +105,7 @@ impl Match {
         requires { Loads text.now game }
         ensures opens { IfOk result (λ made. Opens game text.now config now made.0 made.1) }
         ensures seats { IfOk result (λ made. length made.1 ≡ seats_of made.0.game) }
+        ensures history { IfOk result (λ made. IsHistory made.0.game made.0.play) }
         ensures config { IsErrOf result MatchError.Config ↔ (¬ IsWithinLimits config) }
         ensures not_yet { (position : ℕ) →
             IsErrOf result (MatchError.NotYet position)
@@ -123,11 +127,21 @@ impl Match {
         ensures ok { OnOk result (Steps self.old (event_of event.entry) self.new outbox.old outbox.new) }
         ensures err { OnErr result
             ((outbox.new ≡ outbox.old) × (self.new.failed ≡ true) × (self.new.game ≡ self.old.game)) }
+        ensures history { OnOk result
+            (IsHistory self.old.game self.old.play → IsHistory self.new.game self.new.play) }
         ensures failed { self.old.failed ≡ true → IsErr result }
         ensures seats { length outbox.new ≡ length outbox.old }
 
-        // A match that has ended asks for no memory.
-        ensures ended { (outcome : Outcome) → self.old.play.outcome ≡ Some outcome → self.old.failed ≡ false → IsOk result }
+        // Neither an ended match nor a moment before the due one needs memory.
+        ensures ended { (outcome : Outcome) →
+            self.old.play.outcome ≡ Some outcome →
+            self.old.failed ≡ false →
+            IsOk result }
+        ensures quiet { (at : ℕ) →
+            event_of event.entry ≡ moment_alone at →
+            counted self.old.streams at < due_of self.old.config self.old.play →
+            self.old.failed ≡ false →
+            IsOk result }
     {
         if self.failed {
             return Err(Memory);
@@ -153,7 +167,8 @@ impl Match {
 
     /// The place that play has reached.
     pub fn place(&self) -> &Place
-        ensures { result.now ≡ self.now.play.place }
+        ensures place { result.now ≡ self.now.play.place }
+        ensures in_game { IsPlaceOf self.now.game self.now.play.place }
     {
         &self.play.place
     }

@@ -2,12 +2,12 @@
 ghost use Rattle.std.specs.Prelude.{◌≡◌, ◌≢◌, ◌≤◌, length, All, IsTrue, IfOk};
 ghost use Rattle.rbg_base.specs.Names.{is_name};
 ghost use Rattle.rbg_match.specs.Limits.{latest_moment};
-ghost use Rattle.rbg_match.specs.Saying.{Says};
+ghost use Rattle.rbg_match.specs.internal.Saying.{Says};
 ghost use Rattle.rbg_match.specs.Play.{play_at_start};
-ghost use Rattle.rbg_match.specs.PlayOf.{play_of};
-ghost use Rattle.rbg_match.specs.Playable.{IsPlayOf};
+ghost use Rattle.rbg_match.specs.internal.PlayOf.{play_of};
+ghost use Rattle.rbg_match.specs.internal.Playable.{IsPlayOf};
 ghost use Rattle.rbg_match.specs.PlayingOn.{seats_of};
-ghost use Rattle.rbg_match.specs.Inboxes.{AreNew};
+ghost use Rattle.rbg_match.specs.internal.Inboxes.{AreNew};
 ghost use Rattle.rbg_match.specs.Transcript.{greeting, greetings};
 
 use crate::play::Play;

@@ -16,9 +16,9 @@ ghost use Rattle.std.specs.Prelude.{
 };
 ghost use Rattle.std.specs.Global.{Vec};
 ghost use Rattle.rbg_wire.specs.Messages.{message_of, HasSpelling};
-ghost use Rattle.rbg_match.specs.Deliveries.{Delivery, delivered, to_seat, to_each, to_others};
+ghost use Rattle.rbg_match.specs.Deliveries.{AreMarks, Delivery, delivered, to_seat, to_each, to_others};
 ghost use Rattle.rbg_match.specs.Limits.{most_seats};
-ghost use Rattle.rbg_match.specs.Saying.{Says, AreMarks};
+ghost use Rattle.rbg_match.specs.internal.Saying.{Says};
 
 use rbg_wire::{Message, write_message};
 use std::alloc::{AllocError, Global};

@@ -22,7 +22,7 @@ impl Play {
     ghost use Rattle.std.specs.Prelude.{◌≡◌, ◌≤◌, length, All};
     ghost use Rattle.rbg_match.specs.Limits.{most_refusals};
     ghost use Rattle.rbg_match.specs.Play.{mover_of, refusals_of, refused};
-    ghost use Rattle.rbg_match.specs.PlayOf.{play_of};
+    ghost use Rattle.rbg_match.specs.internal.PlayOf.{play_of};
 
     /// The current player; 0 is the keeper.
     pub(crate) fn mover(&self) -> u64

@@ -38,7 +38,8 @@ fn open(
     now: u64,
 ) -> Result<(Match, Outbox), RefereeError>
     ensures opens { IfOk result (λ made. OpensText text.now config now made.0 made.1) }
-    ensures refused { IfErr result (λ error. (events : List AbstractEvent) → IsRefusedFor text.now config now events error) }
+    ensures refused { IfErr result (λ error.
+        (events : List AbstractEvent) → IsRefusedFor text.now config now events error) }
 {
     let game = match load(alloc, text) {
         Ok(game) => game,

@@ -2,13 +2,13 @@
 ghost use Rattle.std.specs.Prelude.{◌≡◌, length, take, OnOk, OnErr};
 ghost use Rattle.rbg_wire.specs.Messages.{move_message, end_message, ArePairs, OutcomeHasSpelling};
 ghost use Rattle.rbg_match.specs.Deliveries.{to_each, to_others};
-ghost use Rattle.rbg_match.specs.Saying.{Says};
+ghost use Rattle.rbg_match.specs.internal.Saying.{Says};
 ghost use Rattle.rbg_match.specs.Play.{scores_of, ended, moved};
-ghost use Rattle.rbg_match.specs.PlayOf.{play_of};
+ghost use Rattle.rbg_match.specs.internal.PlayOf.{play_of};
 ghost use Rattle.rbg_match.specs.PlaceOf.{IsPlaceOf};
-ghost use Rattle.rbg_match.specs.Playable.{IsPlayOf};
+ghost use Rattle.rbg_match.specs.internal.Playable.{IsPlayOf};
 ghost use Rattle.rbg_match.specs.PlayingOn.{PlaysOn, seats_of};
-ghost use Rattle.rbg_match.specs.OneStep.{PlaysOnOnce};
+ghost use Rattle.rbg_match.specs.internal.OneStep.{PlaysOnOnce};
 
 use crate::context::Context;
 use crate::play::Play;
@@ -23,7 +23,8 @@ use rbg_wire::{Message, Outcome, Scores};
 pub(crate) fn end(play: &mut Play, outcome: Outcome, outbox: &mut Outbox) -> Result<(), Memory>
     requires { OutcomeHasSpelling outcome }
     ensures play { play_of play.new ≡ ended (play_of play.old) outcome }
-    ensures says { Says outbox.old outbox.new result (λ _ said. said ≡ to_each (length outbox.old) (end_message outcome)) }
+    ensures says { Says outbox.old outbox.new result (λ _ said.
+        said ≡ to_each (length outbox.old) (end_message outcome)) }
 {
     let told = outcome;
     play.outcome = Some(told);
@@ -59,7 +60,8 @@ pub(crate) fn make(
     requires { ArePairs pairs }
     ensures play { OnOk result (play_of play.new ≡ moved (play_of play.old) context.entry.moment pairs to) }
     ensures err { OnErr result (play_of play.new ≡ play_of play.old) }
-    ensures says { Says outbox.old outbox.new result (λ _ said. said ≡ to_each (length outbox.old) (move_message pairs)) }
+    ensures says { Says outbox.old outbox.new result (λ _ said.
+        said ≡ to_each (length outbox.old) (move_message pairs)) }
 {
     let message = Message::Moved {
         pairs: pairs.clone()?,
@@ -97,8 +99,8 @@ pub(crate) enum Progress {
     Settled,
 }
 
-/// Plays one step after that many keeper moves in a row: ends the match, makes a move of the keeper, or begins a player's
-/// turn.
+/// Plays one step after that many keeper moves in a row: ends the match, makes a move of the keeper, or begins a
+/// player's turn.
 fn play_on_once(
     context: Context<'_>,
     play: &mut Play,

@@ -4,9 +4,9 @@ ghost use Rattle.rbg_rules.specs.Moves.{AbstractPlace, Finished, Legal};
 ghost use Rattle.rbg_wire.specs.Messages.{ArePairs};
 ghost use Rattle.rbg_match.specs.Limits.{most_pairs};
 ghost use Rattle.rbg_match.specs.OneWord.{IsOneWord};
-ghost use Rattle.rbg_match.specs.OnlyMove.{IsOnlyMove, IsPlaceAfter};
+ghost use Rattle.rbg_match.specs.internal.OnlyMove.{IsOnlyMove, IsPlaceAfter};
 ghost use Rattle.rbg_match.specs.PlaceOf.{IsPlaceOf};
-ghost use Rattle.rbg_match.specs.Walking.{IsTooDeep, Tells};
+ghost use Rattle.rbg_match.specs.internal.Walking.{IsTooDeep, Tells};
 
 use arrayvec::ArrayVec;
 use rbg_moves::{MAX_PAIRS, Move, Pair, Place};
@@ -71,7 +71,8 @@ pub(crate) fn try_move(game: &Game, place: &Place, pairs: &Move) -> Result<Optio
     requires place { IsPlaceOf game.now place.now }
     ensures legal { IfOk result (λ after. IfSome after (IsPlaceAfter game.now place.now pairs.now)) }
     ensures in_game { IfOk result (λ after. IfSome after (IsPlaceOf game.now)) }
-    ensures illegal { IfOk result (λ after. IfNone after ((to : AbstractPlace) → ¬ Legal game.now place.now pairs.now to)) }
+    ensures illegal { IfOk result (λ after.
+        IfNone after ((to : AbstractPlace) → ¬ Legal game.now place.now pairs.now to)) }
 {
     let asked = pairs.as_slice();
     match walk(game, place)? {

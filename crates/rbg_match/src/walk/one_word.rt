@@ -7,8 +7,8 @@ ghost use Rattle.rbg_match.specs.OneWord.{FirstOther, IsOneWord, IsPlayed};
 
 use rbg_rules::{Action, Game, Rule};
 
-/// None if the rules are one sequence of shifts, ons, offs and switches. Otherwise the position of the first action that
-/// is none of these or belongs to a sum or a star.
+/// None if the rules are one sequence of shifts, ons, offs and switches. Otherwise the position of the first action
+/// that is none of these or belongs to a sum or a star.
 pub(crate) fn first_not_played(game: &Game) -> Option<u32>
     ensures none { IsNone result ↔ IsOneWord game.now.rules }
     ensures first { IfSome result (λ position. (before : ℕ) × FirstOther game.now.rules before × (position ≡ before + 1)) }
@@ -19,8 +19,8 @@ pub(crate) fn first_not_played(game: &Game) -> Option<u32>
     }
 }
 
-/// The number of actions of a rule that is one word. Otherwise an `Err` with the number of those before its first part
-/// that is not played.
+/// The number of actions of a rule that is one word. Otherwise an `Err` with the number of those before its first
+/// part that is not played.
 fn count_played(rule: &Rule) -> Result<u32, u32>
     requires within_limits { length (positions_of (expression_of rule.now)) ≤ most_positions }
     ensures one_word { IfOk result (λ _. IsOneWord (expression_of rule.now)) }

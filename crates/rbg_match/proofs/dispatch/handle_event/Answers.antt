@@ -1,5 +1,5 @@
 use Rattle.std.proofs.Common.{◌≡◌, ◌-◌, ◌<◌, true, false, length, ap, ◌∙◌, arith}
-use Rattle.rbg_match.specs.Inboxes.{rests_of}
+use Rattle.rbg_match.specs.internal.Inboxes.{rests_of}
 use Rattle.rbg_match.specs.Inputs.{event_of, inputs_in, has_seat}
 use Rattle.rbg_match.proofs.Sayings.{said_so, said_also, said_then, said_refused, length-says}
 use Rattle.rbg_match.proofs.Events.{one_handled, seat_test, handles_as, handles_piece, inputs_of_piece_of_none, inputs_of_end, inputs_of_end_of_none, rests_after_piece}

@@ -1,6 +1,6 @@
 use Rattle.std.proofs.Common.{length, ap, ◌∙◌, sym}
 use Rattle.rbg_wire.specs.Inboxes.{item_of}
-use Rattle.rbg_match.specs.PlayOf.{play_of}
+use Rattle.rbg_match.specs.internal.PlayOf.{play_of}
 use Rattle.rbg_match.proofs.Delivering.{length-delivered}
 use Rattle.rbg_match.proofs.Sayings.{nothing_err, said_refused}
 use Rattle.rbg_match.proofs.Taking.{none_taken, one_taken}

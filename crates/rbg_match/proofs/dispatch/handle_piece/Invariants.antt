@@ -1,5 +1,5 @@
 use Rattle.std.proofs.Common.{length}
-use Rattle.rbg_match.specs.PlayOf.{play_of}
+use Rattle.rbg_match.specs.internal.PlayOf.{play_of}
 use Rattle.rbg_match.proofs.Taking.{HasTaken}
 use Rattle.rbg_match.proofs.dispatch.handle_piece.Given as goal
 

@@ -1,6 +1,6 @@
 use Rattle.std.proofs.Common.{length, ◌∙◌, sym}
-use Rattle.rbg_match.specs.PlayOf.{play_of}
-use Rattle.rbg_match.specs.InputOf.{input_of}
+use Rattle.rbg_match.specs.internal.PlayOf.{play_of}
+use Rattle.rbg_match.specs.internal.InputOf.{input_of}
 use Rattle.rbg_match.specs.Handling.{nothing, in_time}
 use Rattle.rbg_match.proofs.Sayings.{said_also, nothing_said}
 use Rattle.rbg_match.proofs.HandlingLemmas.{is_not_there, handles_after_end, handles_leaving, handles_overdue}

@@ -1,6 +1,6 @@
 use Rattle.std.proofs.Common.{◌∙◌, sym, refl}
 use Rattle.rbg_wire.specs.Streams.{complete}
-use Rattle.rbg_match.specs.PlayOf.{play_of}
+use Rattle.rbg_match.specs.internal.PlayOf.{play_of}
 use Rattle.rbg_match.specs.Handling.{out_of_turn, unreadable, judged}
 use Rattle.rbg_match.proofs.Sayings.{said_also}
 use Rattle.rbg_match.proofs.HandlingLemmas.{handles_too_many}

@@ -1,5 +1,5 @@
 use Rattle.std.proofs.Common.{length, ◌∙◌}
-use Rattle.rbg_match.specs.PlayOf.{play_of}
+use Rattle.rbg_match.specs.internal.PlayOf.{play_of}
 use Rattle.rbg_match.proofs.Sayings.{said_then, said_also, nothing_err, length-says}
 use Rattle.rbg_match.proofs.Judging.{is_illegal, is_legal}
 use Rattle.rbg_match.proofs.handling.judge.Goals as goal

@@ -1,6 +1,6 @@
 use Rattle.std.proofs.Common.{length, [], ap, ◌∙◌}
 use Rattle.std.proofs.lemmas.List.{length-replicate}
-use Rattle.rbg_match.specs.PlayOf.{play_of}
+use Rattle.rbg_match.specs.internal.PlayOf.{play_of}
 use Rattle.rbg_match.proofs.Sayings.{length-says}
 use Rattle.rbg_match.proofs.OpeningLemmas.{opens_so}
 use Rattle.rbg_match.proofs.GameText.{no_zero_in, names_in}

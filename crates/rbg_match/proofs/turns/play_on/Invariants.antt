@@ -1,5 +1,5 @@
 use Rattle.std.proofs.Common.{◌-◌}
-use Rattle.rbg_match.specs.PlayOf.{play_of}
+use Rattle.rbg_match.specs.internal.PlayOf.{play_of}
 use Rattle.rbg_match.proofs.GoingOn.{HasCome}
 use Rattle.rbg_match.proofs.turns.play_on.Given as goal
 

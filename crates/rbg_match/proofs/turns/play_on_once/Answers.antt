@@ -1,6 +1,6 @@
 use Rattle.std.proofs.Common.{refl, sym, ◌∙◌, arith, inl}
 use Rattle.rbg_match.specs.declared.turns.Progress.TheVariants.{Settled}
-use Rattle.rbg_match.specs.PlayOf.{play_of}
+use Rattle.rbg_match.specs.internal.PlayOf.{play_of}
 use Rattle.rbg_match.specs.PlayingOn.{turn, MayBeAsked}
 use Rattle.rbg_match.proofs.Sayings.{said_so, nothing_said, nothing_refused}
 use Rattle.rbg_match.proofs.GoingOn.{is_endless, is_heavy, is_finished}

@@ -1,7 +1,9 @@
-use Rattle.std.proofs.Common.{◌∙◌, sym}
+use Rattle.std.proofs.Common.{length, ap, ◌∙◌, sym}
 use Rattle.rbg_match.proofs.Sayings.{length-says}
 use Rattle.rbg_match.proofs.Stepping.{steps_after_end}
+use Rattle.rbg_match.proofs.Histories.{event_keeps, on_ok}
 use Rattle.rbg_match.specs.Inputs.{event_of}
+use Rattle.rbg_match.specs.internal.PlayOf.{play_of}
 use Rattle.rbg_match.proofs.matches.Match.step.Goals as goal
 
 pub returns-then-is_some-clause-ok : goal.returns-then-is_some-clause-ok
@@ -9,3 +11,10 @@ returns-then-is_some-clause-ok c = rw (← c.self.view_is) (steps_after_end _ (e
 
 pub returns-else-is_err-clause-seats : goal.returns-else-is_err-clause-seats
 returns-else-is_err-clause-seats c = length-says c.handle_event-handled.ensures.says
+
+pub returns-else-is_err-clause-history : goal.returns-else-is_err-clause-history
+returns-else-is_err-clause-history c =
+    let handled = c.handle_event-handled in
+    rw (← c.self.view_is)
+    (on_ok handled.result handled.ensures.says.whole
+    (λ handles has. event_keeps c.self.inside.game c.self.inside.config (play_of c.self.inside.play) (play_of handled.new.play) c.deref_mut.result.now c.max-moment.result (event_of c.args.event) handled.ensures.says.said (ap length c.deref_mut.ensures.value ∙ c.self.invariant.seats) has handles))

@@ -1,5 +1,5 @@
 -- What a call that queues messages does to the outbox.
-use Rattle.std.specs.Prelude.{◌≡◌, ℕ, ◌<◌, List, [], length, slice_index, slice_index_or, Result, IfOk}
+use Rattle.std.specs.Prelude.{◌≡◌, ℕ, List, Result, IfOk}
 use Rattle.rbg_match.specs.Deliveries.{Delivery, delivered}
 
 -- Messages were queued, and their bytes follow what each seat had. On `Ok` they are the messages that were to be sent.
@@ -9,7 +9,3 @@ pub record Says {T E : Type 0} (old new : List (List ℕ)) (result : Result T E)
   pub said : List Delivery
   pub behind : new ≡ delivered old said
   pub whole : IfOk result (λ value. IsToSay value said)
-
--- the marks are the numbers of bytes that the seats have, seat 1 first
-abbrev pub AreMarks : List (List ℕ) → List ℕ → Type 0
-AreMarks outbox marks = (i : ℕ) → i < length outbox → slice_index marks i ≡ length (slice_index_or outbox i [])

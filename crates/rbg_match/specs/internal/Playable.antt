@@ -6,7 +6,7 @@ use Rattle.rbg_wire.specs.Streams.{Stream}
 use Rattle.rbg_match.specs.declared.config.Config.{Config}
 use Rattle.rbg_match.specs.Config.{IsWithinLimits}
 use Rattle.rbg_match.specs.Limits.{latest_moment, most_refusals}
-use Rattle.rbg_match.specs.Inboxes.{AreReady}
+use Rattle.rbg_match.specs.internal.Inboxes.{AreReady}
 use Rattle.rbg_match.specs.OneWord.{IsOneWord}
 use Rattle.rbg_match.specs.PlaceOf.{IsPlaceOf}
 use Rattle.rbg_match.specs.Play.{AbstractPlay}
@@ -24,9 +24,9 @@ pub record IsPlayOf (game : AbstractGame) (play : AbstractPlay) : Type 0 where
   pub counts : length play.refusals ≡ length game.players
   pub few : play.outcome ≡ None → All (λ count. count ≤ most_refusals) play.refusals
 
--- What every match keeps: it can play its game, its config is within the limits, its state of play is one of the game,
--- and there is an inbox for each seat. The greatest moment so far is a counted one. No inbox holds a complete item,
--- unless the match failed.
+-- What every match keeps: it can play its game, its config is within the limits, its state of play is one of the game, and
+-- there is an inbox for each seat. The greatest moment so far is a counted one. Unless the match failed, no inbox holds a
+-- complete item.
 pub record IsMatch (game : AbstractGame) (config : Config) (play : AbstractPlay) (inboxes : List Stream)
     (moment : ℕ) (failed : Bool) : Type 0 where
   pub playable : IsPlayable game

@@ -7,7 +7,7 @@ use Rattle.rbg_wire.specs.Messages.{ArePairs}
 use Rattle.rbg_match.specs.Heavy.{most_modifiers}
 use Rattle.rbg_match.specs.Limits.{most_pairs}
 use Rattle.rbg_match.specs.PlaceOf.{IsPlaceOf}
-use Rattle.rbg_match.specs.OnlyMove.{IsOnlyMove}
+use Rattle.rbg_match.specs.internal.OnlyMove.{IsOnlyMove}
 use Rattle.rbg_match.specs.declared.walk.Walked.{Walked}
 use Rattle.rbg_match.specs.declared.walk.Walked.TheVariants.{Moved, Stuck, Deep}
 
