@@ -12,7 +12,7 @@ if_same d k x y same = cond-true (d == k) x y (eq-eqb d k same)
 if_other : {A : Type 0} (d k : ℕ) (x y : A) → (d ≡ k → ⊥) → (if d == k then x else y) ≡ y
 if_other d k x y other = cond-false (d == k) x y (ne_eqb d k other)
 
--- what is chosen stands at the place of a direction that is the given one
+-- the chosen vertex has the place of a direction that is the given one
 pub record IsChosen (ks : List ℕ) (vertices : List (Option ℕ)) (d u : ℕ) : Type 0 where
   pub place : ℕ
   pub within : place < length ks
@@ -29,7 +29,7 @@ choose_some (k ∷ ks) (vertex ∷ vertices) d u some = elim (cases_eq d k) [
       record { place = suc rest.place; within = omega (arith, rest.within); direction = rest.direction; vertex = rest.vertex }
 ]
 
--- where the directions differ, each chooses what stands at its place
+-- where the directions differ, each chooses the vertex at its own place
 pub choose_at : (ks : List ℕ) (vertices : List (Option ℕ)) (place : ℕ) → AreDifferent ks → place < length ks → place < length vertices → choose ks vertices (get_or ks place 0) ≡ get_or vertices place None
 unfolding AreDifferent
 choose_at [] vertices place different within within' = absurd (omega arith)

@@ -14,12 +14,12 @@ pub none_of_not_some : (o : Option ℕ) → false ≡ is_some o → o ≡ None
 none_of_not_some None none = refl
 none_of_not_some (Some x) none = absurd cc
 
--- the index has the first so many names, each at its place, and no other name
+-- the index has the first names, each at its place, and no other name
 pub record IndexesBelow (names : List ℕ) (index : ℕ → Option ℕ) (count : ℕ) : Type 0 where
   pub place_of_name : (k : ℕ) → k < count → index (get_or names k 0) ≡ Some k
   pub name_of_place : (n k : ℕ) → index n ≡ Some k → (k < count) × (get_or names k 0 ≡ n)
 
--- a name that the index has already stands twice
+-- a name that the index has already is written twice
 pub twice : (names : List ℕ) (index : ℕ → Option ℕ) (v k : ℕ) → IndexesBelow names index v → v < length names → index (get_or names v 0) ≡ Some k → HasTwice names
 twice names index v k below within found =
     let earlier = below.name_of_place (get_or names v 0) k found in

@@ -13,11 +13,11 @@ use Rattle.rbg_board.specs.Table.{graph_of_table, IsTable}
 use Rattle.rbg_board.specs.Cells.{Rows, cells_in, IsCell, number_along}
 use Rattle.rbg_board.specs.Sites.{site_at, IsRow, IsSite, ways_from, sites_along, IsLaidOut}
 use Rattle.rbg_board.specs.declared.rows.Site.{Site}
-use Rattle.rbg_board.specs.declared.board.TheConstants.{MAX_VERTICES}
+use Rattle.rbg_board.specs.Limits.{most_vertices}
 use Rattle.rbg_board.proofs.Numbering.{start_of, start-suc, start-le-all, number-lt, number-lt-start, same_cell, cell_of_number, row_of_cell}
 use Rattle.rbg_board.proofs.Tables.{all_entries, next_within, next_past, next_outside}
 
--- the sites of the first so many rows
+-- the sites of the first rows
 abbrev pub sites_of : Rows → ℕ → List Site
 sites_of rows zero = []
 sites_of rows (suc r) = sites_of rows r ++ sites_along (site_at rows r 0) (cells_in rows r)
@@ -38,7 +38,7 @@ length-sites rows zero = refl
 length-sites rows (suc r) =
     omega (arith, length-append (sites_of rows r) (sites_along (site_at rows r 0) (cells_in rows r)), length-sites rows r, length-map-range_with_len (λ c. site_at rows r c) 0 (cells_in rows r), start-suc rows r)
 
--- the site of each cell stands at its number
+-- the place of the site of each cell is the number of the cell
 pub site_of_number : (rows : Rows) (count r c : ℕ) (e : Site) → r < count → IsCell rows r c → get_or (sites_of rows count) (number_along rows r c) e ≡ site_at rows r c
 site_of_number rows zero r c e below is_cell = absurd (omega arith)
 site_of_number rows (suc k) r c e below is_cell =
@@ -79,7 +79,7 @@ module _ (leads : Site → ℕ → Option ℕ) (width : ℕ) where
       subst (λ n. get_or (flat_map (ways_from leads width) xs) (n + d) None ≡ leads (get_or xs v e) d) before
       (get_or-flat_map (ways_from leads width) xs v d e None is_site in_row ∙ get_or-map-range_with_len (λ k. leads (get_or xs v e) k) 0 width d d None is_direction (omega arith))
 
-  -- the table of the first so many rows
+  -- the table of the first rows
   abbrev pub table_of : Rows → ℕ → List (Option ℕ)
   table_of rows count = flat_map (ways_from leads width) (sites_of rows count)
 
@@ -99,7 +99,7 @@ module _ (leads : Site → ℕ → Option ℕ) (width : ℕ) where
         entry (sites_of rows (length rows)) (number_along rows r c) d (site_at rows r c) (omega (arith, all_sites, number-lt rows r c is_cell)) is_direction
         ∙ ap (λ site. leads site d) (site_of_number rows (length rows) r c (site_at rows r c) (row_of_cell rows r c is_cell) is_cell)
 
-    pub is_table : 0 < length (concat rows) → length (concat rows) ≤ MAX_VERTICES → ((site : Site) (d limit : ℕ) → IsSite site limit → IfSome (leads site d) (λ u. u < limit))
+    pub is_table : 0 < length (concat rows) → length (concat rows) ≤ most_vertices → ((site : Site) (d limit : ℕ) → IsSite site limit → IfSome (leads site d) (λ u. u < limit))
         → IsTable (length (concat rows)) width (table_of rows (length rows))
     is_table some limit leads_within = record {
       some = some;

@@ -1,3 +1,4 @@
+-- What the proofs of this crate share. Crates above cite CallerLemmas.
 pub mod Tables
 pub mod Numbering
 pub mod Vectors
@@ -11,3 +12,5 @@ pub mod Indexing
 pub mod Wirings
 pub mod GraphEdges
 pub mod EdgeLaws
+pub mod Widths
+pub mod CallerLemmas

@@ -97,7 +97,7 @@ side_given directions Left four = contains_entry directions 2 (omega arith)
 side_given directions Right four = contains_entry directions 3 (omega arith)
 
 -- in even rows the rows begin at the multiples of their length
-even_start : (rows : Rows) (r : ℕ) → IsEven rows → r ≤ length rows → start_of rows r ≡ r * cells_in rows 0
+pub even_start : (rows : Rows) (r : ℕ) → IsEven rows → r ≤ length rows → start_of rows r ≡ r * cells_in rows 0
 even_start rows zero even within = omega arith
 even_start rows (suc r) even within = omega (arith, start-suc rows r, even r (omega arith), even_start rows r even (omega arith))
 

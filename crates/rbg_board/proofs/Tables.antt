@@ -1,11 +1,11 @@
 -- What a flat table says of the graph that it keeps.
-use Rattle.std.proofs.Common.{◌≡◌, ℕ, zero, suc, ◌+◌, ◌*◌, ◌/◌, ◌%◌, ◌<◌, ◌≤◌, List, [], Option, Some, None, IfSome, All, length, get_or, map, take, drop, refl, sym, ◌∙◌, subst, inl, inr, arith, get_or-drop, get_or-take, length-take, ap}
+use Rattle.std.proofs.Common.{◌≡◌, ℕ, zero, suc, ◌+◌, ◌*◌, ◌/◌, ◌%◌, ◌<◌, ◌≤◌, List, [], Option, Some, None, IfSome, All, length, get_or, map, take, drop, refl, sym, ◌∙◌, subst, inl, inr, arith, get_or-drop, get_or-take, length-take, length-drop, ap}
 use Rattle.std.specs.List.{range_with_len}
 use Rattle.std.proofs.lemmas.Bool.{cases_lt}
-use Rattle.std.proofs.lemmas.List.{get_or_past, get_or_default}
+use Rattle.std.proofs.lemmas.List.{get_or_past, get_or_default, length-take-le}
 use Rattle.std.proofs.lemmas.List.FromFn.{get_or-map-range_with_len, length-map-range_with_len}
-use Rattle.std.proofs.lemmas.Nat.{mul-add-lt, div_below, mod_below, div-add-mod'}
-use Rattle.rbg_board.specs.Graph.{next, IsClosed}
+use Rattle.std.proofs.lemmas.Nat.{row_fits, mul-add-lt, div_below, mod_below, div-add-mod'}
+use Rattle.rbg_board.specs.Graph.{next, IsClosed, HasWidth}
 use Rattle.rbg_board.specs.Table.{rows_of_table, graph_of_table, IsTable}
 
 module _ (first : List ℕ) (width : ℕ) (table : List (Option ℕ)) where
@@ -55,6 +55,18 @@ module _ (first : List ℕ) (width : ℕ) (table : List (Option ℕ)) where
         let is_direction : d < width = direction_of_next v d u leads in
         let within : v * width + d < length table = omega (arith, mul-add-lt v width d (length first) is_vertex is_direction, is_table.size) in
         subst (λ to. IfSome to (λ w. w < length first)) entry (is_table.to_vertices (v * width + d) None within);
+  }
+
+  -- the rows of a table are all of its width
+  pub has_width : IsTable (length first) width table → HasWidth width (graph_of_table first width table)
+  unfolding rows_of_table
+  has_width is_table = record {
+    rows = length-map-range_with_len (λ v. take width (drop (v * width) table)) 0 (length first);
+    entries = λ v row within.
+        let is_vertex : v < length first = omega (arith, within, length-map-range_with_len (λ k. take width (drop (k * width) table)) 0 (length first)) in
+        let fits : v * width + width ≤ length table = omega (arith, row_fits v width (length first) width is_vertex (omega arith), is_table.size) in
+        let there = get_or-map-range_with_len (λ k. take width (drop (k * width) table)) 0 (length first) v v row is_vertex (omega arith) in
+        ap length there ∙ length-take-le width (drop (v * width) table) (omega (arith, fits, length-drop (v * width) table));
   }
 
 -- a product that is above a number has a second factor that is above 0

@@ -15,7 +15,7 @@ Edge = ℕ × ℕ
 abbrev edge_at : List Edge → ℕ → Edge
 edge_at edges k = get_or edges k (0, 0)
 
--- the new table is the old one and a row that is filled with the first so many edges
+-- the new table is the old one and a row that is filled with the first edges
 pub record FillsRow (index : ℕ → Option ℕ) (width : ℕ) (edges : List (ℕ × ℕ)) (count : ℕ) (old new : List (Option ℕ)) : Type 0 where
   pub size : length new ≡ length old + width
   pub kept : take (length old) new ≡ old
@@ -73,7 +73,7 @@ module _ (index : ℕ → Option ℕ) (width : ℕ) (edges : List Edge) (i : ℕ
     };
   }
 
--- the first so many vertices have their rows
+-- the first vertices have their rows
 pub record FillsRows (index : ℕ → Option ℕ) (width : ℕ) (vertices : List Written) (count : ℕ) (table : List (Option ℕ)) : Type 0 where
   pub size : length table ≡ count * width
   pub row : (v : ℕ) (w : Written) → v < count → IsRowOf index width (get_or vertices v w).edges (take width (drop (v * width) table))

@@ -1,5 +1,5 @@
 -- Cells in rows, from top to bottom: a row is the list of its cells' first pieces.
-use Rattle.std.specs.Prelude.{◌≡◌, ◌≢◌, ℕ, ◌+◌, ◌<◌, List, [], length, map, take, slice_index, slice_index_or, Vec}
+use Rattle.std.specs.Prelude.{◌≡◌, ◌≢◌, ℕ, ◌+◌, ◌<◌, max, List, [], ◌∷◌, length, map, take, slice_index, slice_index_or, Vec}
 use Rattle.std.specs.List.{concat}
 
 abbrev pub Rows : Type 0
@@ -20,6 +20,11 @@ IsCell rows r c = c < cells_in rows r
 -- the number of the cell c of the row r, where the cells are numbered along the rows
 abbrev pub number_along : Rows → ℕ → ℕ → ℕ
 number_along rows r c = length (concat (take r rows)) + c
+
+-- how many directions there are up to the greatest of a list: none, where the list is empty
+abbrev pub width_of : List ℕ → ℕ
+width_of [] = 0
+width_of (direction ∷ directions) = max (direction + 1) (width_of directions)
 
 -- two entries of a list are equal
 pub record HasTwice (xs : List ℕ) : Type 0 where

@@ -1,5 +1,5 @@
 -- A board as a graph: the vertices with their first pieces, and where each direction leads.
-use Rattle.std.specs.Prelude.{◌≡◌, ℕ, ◌<◌, ◌↔◌, List, [], Option, Some, None, length, slice_index_or, Contains}
+use Rattle.std.specs.Prelude.{◌≡◌, ℕ, ◌<◌, ◌↔◌, List, [], Option, Some, None, length, slice_index_or, All, Contains}
 
 -- The vertices are the numbers below the length of `first`, which has the first piece of each. `ways` has for each
 -- vertex, and for each direction, the vertex to which that direction leads, if there is one.
@@ -11,6 +11,16 @@ pub record Graph : Type 0 where
 -- direction, so a vertex has at most one edge in a direction
 unfoldable pub next : Graph → ℕ → ℕ → Option ℕ
 next g v d = slice_index_or (slice_index_or g.ways v []) d None
+
+-- there is a row of ways for each vertex, each with an entry for each direction below the width
+pub record HasWidth (width : ℕ) (g : Graph) : Type 0 where
+  pub rows : length g.ways ≡ length g.first
+  pub entries : All (λ row. length row ≡ width) g.ways
+
+-- there is a row of ways for each vertex, all of one width
+pub record HasOneWidth (g : Graph) : Type 0 where
+  pub width : ℕ
+  pub has_width : HasWidth width g
 
 -- every edge leads from a vertex to a vertex
 pub record IsClosed (g : Graph) : Type 0 where

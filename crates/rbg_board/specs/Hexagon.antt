@@ -5,9 +5,9 @@ use Rattle.rbg_board.specs.Graph.{Graph, IsGraphOf}
 use Rattle.rbg_board.specs.Cells.{Rows, cells_in, IsCell, number_along, HasTwice, AreDifferent}
 use Rattle.rbg_board.specs.declared.error.BoardError.{BoardError}
 use Rattle.rbg_board.specs.declared.error.BoardError.TheVariants.{NoCell, RowLength, TooManyVertices, SameDirection, UnknownVertex, SameVertex, Memory}
-use Rattle.rbg_board.specs.declared.board.TheConstants.{MAX_VERTICES}
+use Rattle.rbg_board.specs.Limits.{most_vertices}
 
--- the corners of the compass, in the order in which their directions are written
+-- the points of the compass, in the order in which their directions are written
 pub data Compass : Type 0 where
   NorthWest : Compass
   NorthEast : Compass
@@ -109,20 +109,27 @@ pub record IsFirstMisfit (rows : Rows) (r : ℕ) : Type 0 where
   pub misfits : ¬ FitsAbove rows r
   pub fits_before : (k : ℕ) → k < r → FitsAbove rows k
 
--- rows of a hexagon, and six directions, that nothing is wrong with
+-- rows of a hexagon, and six directions, without a fault
 pub record MakesHexagon (directions : List ℕ) (rows : Rows) : Type 0 where
   pub cells : HasCells rows
   pub grows_then_shrinks : GrowsThenShrinks rows
-  pub fits : length (concat rows) ≤ MAX_VERTICES
+  pub fits : length (concat rows) ≤ most_vertices
   pub different : AreDifferent directions
 
--- What a refusal says of the arguments: the fault that it names stands, and none that is looked for earlier does.
--- Want of memory is met only where no fault stands.
+-- What a refusal says of the arguments: they have the fault that it names, and no fault that is looked for earlier.
+-- `Memory` is returned only for arguments without a fault.
 unfoldable pub HexagonRefusal : List ℕ → Rows → BoardError → Type 0
 HexagonRefusal directions rows NoCell = LacksCell rows
 HexagonRefusal directions rows (RowLength row) = HasCells rows × IsFirstMisfit rows row
-HexagonRefusal directions rows TooManyVertices = HasCells rows × GrowsThenShrinks rows × (MAX_VERTICES < length (concat rows))
-HexagonRefusal directions rows SameDirection = HasCells rows × GrowsThenShrinks rows × (length (concat rows) ≤ MAX_VERTICES) × HasTwice directions
+HexagonRefusal directions rows TooManyVertices =
+    HasCells rows
+    × GrowsThenShrinks rows
+    × (most_vertices < length (concat rows))
+HexagonRefusal directions rows SameDirection =
+    HasCells rows
+    × GrowsThenShrinks rows
+    × (length (concat rows) ≤ most_vertices)
+    × HasTwice directions
 HexagonRefusal directions rows UnknownVertex = ⊥
 HexagonRefusal directions rows SameVertex = ⊥
 HexagonRefusal directions rows Memory = MakesHexagon directions rows

@@ -10,20 +10,36 @@ abbrev pub LeadsOneWay : (ℕ → ℕ → ℕ → Type 0) → Type 0
 LeadsOneWay Edge = (v d u w : ℕ) → Edge v d u → Edge v d w → u ≡ w
 
 abbrev pub RectanglesLeadOneWay : Type 0
-RectanglesLeadOneWay = (directions : List ℕ) (rows : Rows) → length directions ≡ 4 → MakesRectangle directions rows → LeadsOneWay (RectangleEdge directions rows)
+RectanglesLeadOneWay =
+    (directions : List ℕ) (rows : Rows)
+    → length directions ≡ 4
+    → MakesRectangle directions rows
+    → LeadsOneWay (RectangleEdge directions rows)
 
 abbrev pub HexagonsLeadOneWay : Type 0
-HexagonsLeadOneWay = (directions : List ℕ) (rows : Rows) → length directions ≡ 6 → MakesHexagon directions rows → LeadsOneWay (HexagonEdge directions rows)
+HexagonsLeadOneWay =
+    (directions : List ℕ) (rows : Rows)
+    → length directions ≡ 6
+    → MakesHexagon directions rows
+    → LeadsOneWay (HexagonEdge directions rows)
 
 abbrev pub GraphsLeadOneWay : Type 0
 GraphsLeadOneWay = (vertices : List Written) → MakesGraph vertices → LeadsOneWay (WrittenEdge vertices)
 
 -- every edge of a rectangle has its way back: the direction of the opposite side
 abbrev pub RectanglesLeadBack : Type 0
-RectanglesLeadBack = (directions : List ℕ) (rows : Rows) (side : RectangleSide) (v u : ℕ) → length directions ≡ 4 → AreDifferent directions
-    → RectangleEdge directions rows v (side_direction directions side) u → RectangleEdge directions rows u (side_direction directions (side_opposite side)) v
+RectanglesLeadBack =
+    (directions : List ℕ) (rows : Rows) (side : RectangleSide) (v u : ℕ)
+    → length directions ≡ 4
+    → AreDifferent directions
+    → RectangleEdge directions rows v (side_direction directions side) u
+    → RectangleEdge directions rows u (side_direction directions (side_opposite side)) v
 
 -- every edge of a hexagon has its way back: the direction of the opposite way
 abbrev pub HexagonsLeadBack : Type 0
-HexagonsLeadBack = (directions : List ℕ) (rows : Rows) (way : Compass) (v u : ℕ) → length directions ≡ 6 → AreDifferent directions
-    → HexagonEdge directions rows v (compass_direction directions way) u → HexagonEdge directions rows u (compass_direction directions (compass_opposite way)) v
+HexagonsLeadBack =
+    (directions : List ℕ) (rows : Rows) (way : Compass) (v u : ℕ)
+    → length directions ≡ 6
+    → AreDifferent directions
+    → HexagonEdge directions rows v (compass_direction directions way) u
+    → HexagonEdge directions rows u (compass_direction directions (compass_opposite way)) v

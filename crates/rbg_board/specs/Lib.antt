@@ -1,3 +1,5 @@
+-- Boards and their generators.
+pub mod Limits
 pub mod Graph
 pub mod Table
 pub mod Cells

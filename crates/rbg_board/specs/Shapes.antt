@@ -15,7 +15,7 @@ abbrev pub at_cell : (ℕ → Option ℕ) → Option ℕ → Option ℕ
 at_cell vertex None = None
 at_cell vertex (Some c) = vertex c
 
--- the vertex that stands beside the first direction that is d
+-- the vertex at the place of the first direction that is d
 abbrev pub choose : List ℕ → List (Option ℕ) → ℕ → Option ℕ
 choose [] vertices d = None
 choose (k ∷ ks) [] d = None
@@ -26,18 +26,30 @@ abbrev pub first_four : List ℕ → List ℕ
 first_four xs = slice_index xs 0 ∷ slice_index xs 1 ∷ slice_index xs 2 ∷ slice_index xs 3 ∷ []
 
 abbrev pub first_six : List ℕ → List ℕ
-first_six xs = slice_index xs 0 ∷ slice_index xs 1 ∷ slice_index xs 2 ∷ slice_index xs 3 ∷ slice_index xs 4 ∷ slice_index xs 5 ∷ []
+first_six xs =
+    slice_index xs 0
+    ∷ slice_index xs 1
+    ∷ slice_index xs 2
+    ∷ slice_index xs 3
+    ∷ slice_index xs 4
+    ∷ slice_index xs 5
+    ∷ []
 
 -- the vertices above, below, left and right of a site
 abbrev pub rectangle_vertices : Site → List (Option ℕ)
-rectangle_vertices site = vertex_above site site.cell ∷ vertex_below site site.cell ∷ at_cell (vertex_here site) (cell_before site.cell) ∷ vertex_here site (site.cell + 1) ∷ []
+rectangle_vertices site =
+    vertex_above site site.cell
+    ∷ vertex_below site site.cell
+    ∷ at_cell (vertex_here site) (cell_before site.cell)
+    ∷ vertex_here site (site.cell + 1)
+    ∷ []
 
 -- where the four directions lead
 unfoldable pub rectangle_leads : List ℕ → Site → ℕ → Option ℕ
 rectangle_leads directions site d = choose (first_four directions) (rectangle_vertices site) d
 
--- In a row of so many cells above or below a hexagon's site, the cell to the left and the cell to the right. In a longer
--- row the cell to the left has the number of the site's cell, in a shorter row the one to the right.
+-- The cell to the left and the cell to the right of a hexagon's site, in a row above or below with a number of cells.
+-- In a longer row the cell to the left has the number of the site's cell, in a shorter row the one to the right.
 unfoldable pub cell_left : Site → ℕ → Option ℕ
 cell_left site cells = if nat_lt site.here cells then Some site.cell else cell_before site.cell
 
@@ -67,16 +79,28 @@ abbrev AllBelow : ℕ → List (Option ℕ) → Type 0
 AllBelow limit [] = Unit {0}
 AllBelow limit (vertex ∷ vertices) = IsBelow limit vertex × AllBelow limit vertices
 
-choose_below : (limit : ℕ) (ks : List ℕ) (vertices : List (Option ℕ)) (d : ℕ) → AllBelow limit vertices → IsBelow limit (choose ks vertices d)
+choose_below : (limit : ℕ) (ks : List ℕ) (vertices : List (Option ℕ)) (d : ℕ)
+    → AllBelow limit vertices
+    → IsBelow limit (choose ks vertices d)
 choose_below limit [] vertices d below = tt
 choose_below limit (k ∷ ks) [] d below = tt
-choose_below limit (k ∷ ks) (vertex ∷ vertices) d below = cond_both (d == k) vertex (choose ks vertices d) (IsBelow limit) (λ _. below.0) (λ _. choose_below limit ks vertices d below.1)
+choose_below limit (k ∷ ks) (vertex ∷ vertices) d below =
+    cond_both (d == k) vertex (choose ks vertices d) (IsBelow limit)
+    (λ _. below.0)
+    (λ _. choose_below limit ks vertices d below.1)
 
--- one of so many vertices from a start on, which end below the limit
-within : (limit start c size : ℕ) → start + size ≤ limit → IsBelow limit (if nat_lt c size then Some (start + c) else None)
-within limit start c size fits = cond_both (nat_lt c size) (Some (start + c)) None (IsBelow limit) (λ test. let below : c < size = ltb-true c size test in omega arith) (λ _. tt)
+-- a vertex of a range that ends below the limit
+within : (limit start c size : ℕ)
+    → start + size ≤ limit
+    → IsBelow limit (if nat_lt c size then Some (start + c) else None)
+within limit start c size fits =
+    cond_both (nat_lt c size) (Some (start + c)) None (IsBelow limit)
+    (λ test. let below : c < size = ltb-true c size test in omega arith)
+    (λ _. tt)
 
-at_cell_below : (limit : ℕ) (vertex : ℕ → Option ℕ) (cell : Option ℕ) → ((c : ℕ) → IsBelow limit (vertex c)) → IsBelow limit (at_cell vertex cell)
+at_cell_below : (limit : ℕ) (vertex : ℕ → Option ℕ) (cell : Option ℕ)
+    → ((c : ℕ) → IsBelow limit (vertex c))
+    → IsBelow limit (at_cell vertex cell)
 at_cell_below limit vertex None each = tt
 at_cell_below limit vertex (Some c) each = each c
 
@@ -94,7 +118,13 @@ module _ (site : Site) (limit : ℕ) (row : IsRow site limit) where
   below_below c = within limit (site.start + site.here) c site.below (omega (arith, row.within))
 
   rectangle_below : AllBelow limit (rectangle_vertices site)
-  rectangle_below = (above_below site.cell, (below_below site.cell, (at_cell_below limit (vertex_here site) (cell_before site.cell) here_below, (here_below (site.cell + 1), tt))))
+  rectangle_below = (
+    above_below site.cell,
+    (
+      below_below site.cell,
+      (at_cell_below limit (vertex_here site) (cell_before site.cell) here_below, (here_below (site.cell + 1), tt)),
+    ),
+  )
 
   hexagon_below : AllBelow limit (hexagon_vertices site)
   hexagon_below = (
@@ -115,10 +145,16 @@ module _ (site : Site) (limit : ℕ) (row : IsRow site limit) where
   )
 
 -- no direction leads past the limit
-pub rectangle_leads_within : (directions : List ℕ) (site : Site) (d limit : ℕ) → IsSite site limit → IfSome (rectangle_leads directions site d) (λ u. u < limit)
+pub rectangle_leads_within : (directions : List ℕ) (site : Site) (d limit : ℕ)
+    → IsSite site limit
+    → IfSome (rectangle_leads directions site d) (λ u. u < limit)
 unfolding rectangle_leads
-rectangle_leads_within directions site d limit is_site = choose_below limit (first_four directions) (rectangle_vertices site) d (rectangle_below site limit is_site.row)
+rectangle_leads_within directions site d limit is_site =
+    choose_below limit (first_four directions) (rectangle_vertices site) d (rectangle_below site limit is_site.row)
 
-pub hexagon_leads_within : (directions : List ℕ) (site : Site) (d limit : ℕ) → IsSite site limit → IfSome (hexagon_leads directions site d) (λ u. u < limit)
+pub hexagon_leads_within : (directions : List ℕ) (site : Site) (d limit : ℕ)
+    → IsSite site limit
+    → IfSome (hexagon_leads directions site d) (λ u. u < limit)
 unfolding hexagon_leads
-hexagon_leads_within directions site d limit is_site = choose_below limit (first_six directions) (hexagon_vertices site) d (hexagon_below site limit is_site.row)
+hexagon_leads_within directions site d limit is_site =
+    choose_below limit (first_six directions) (hexagon_vertices site) d (hexagon_below site limit is_site.row)

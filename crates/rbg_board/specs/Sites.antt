@@ -12,7 +12,13 @@ cells_above rows (suc r) = cells_in rows r
 
 -- the cell c of the row r, with the lengths of the rows around it
 abbrev pub site_at : Rows → ℕ → ℕ → Site
-site_at rows r c = record { start = length (concat (take r rows)); above = cells_above rows r; here = cells_in rows r; below = cells_in rows (r + 1); cell = c }
+site_at rows r c = record {
+  start = length (concat (take r rows));
+  above = cells_above rows r;
+  here = cells_in rows r;
+  below = cells_in rows (r + 1);
+  cell = c;
+}
 
 -- the row above ends where the row of the site starts, and no vertex of the three rows is past the limit
 pub record IsRow (site : Site) (limit : ℕ) : Type 0 where
@@ -38,13 +44,16 @@ vertex_below site c = if nat_lt c site.below then Some (site.start + site.here +
 abbrev pub ways_from : (Site → ℕ → Option ℕ) → ℕ → Site → List (Option ℕ)
 ways_from leads width site = map (λ d. leads site d) (range_with_len 0 width)
 
--- the sites of the first so many cells of a row
+-- the sites of the first cells of a row
 abbrev pub sites_along : Site → ℕ → List Site
 sites_along row cells = map (λ c. record row { cell = c }) (range_with_len 0 cells)
 
 -- the board of the rows where each direction leads as it does from each site
 pub record IsLaidOut (leads : Site → ℕ → Option ℕ) (width : ℕ) (rows : Rows) (board : Graph) : Type 0 where
   pub first_pieces : board.first ≡ concat rows
-  pub ways : (r c d : ℕ) → IsCell rows r c → d < width → next board (number_along rows r c) d ≡ leads (site_at rows r c) d
+  pub ways : (r c d : ℕ)
+      → IsCell rows r c
+      → d < width
+      → next board (number_along rows r c) d ≡ leads (site_at rows r c) d
   pub past : (v d : ℕ) → width ≤ d → next board v d ≡ None
   pub outside : (v d : ℕ) → length (concat rows) ≤ v → next board v d ≡ None

@@ -14,18 +14,28 @@ abbrev pub AllCovered : ℕ → List Written → Type 0
 AllCovered width vertices = All (λ w. All (λ edge. edge.0 < width) w.edges) vertices
 
 -- the row of entries in which each direction leads where its edge does
-pub record IsRowOf (index : ℕ → Option ℕ) (width : ℕ) (edges : List (ℕ × ℕ)) (row : List (Option ℕ)) : Type 0 where
+pub record IsRowOf
+    (index : ℕ → Option ℕ)
+    (width : ℕ)
+    (edges : List (ℕ × ℕ))
+    (row : List (Option ℕ)) : Type 0 where
   pub size : length row ≡ width
-  pub edge_of_entry : (d u : ℕ) → slice_index_or row d None ≡ Some u → Any (λ edge. (edge.0 ≡ d) × (index edge.1 ≡ Some u)) edges
+  pub edge_of_entry : (d u : ℕ)
+      → slice_index_or row d None ≡ Some u
+      → Any (λ edge. (edge.0 ≡ d) × (index edge.1 ≡ Some u)) edges
   pub entry_of_edge : All (λ edge. slice_index_or row edge.0 None ≡ index edge.1) edges
 
 -- the new table is the old one and a row for the edges
-pub record AddsRow (index : ℕ → Option ℕ) (width : ℕ) (edges : List (ℕ × ℕ)) (old new : List (Option ℕ)) : Type 0 where
+pub record AddsRow
+    (index : ℕ → Option ℕ)
+    (width : ℕ)
+    (edges : List (ℕ × ℕ))
+    (old new : List (Option ℕ)) : Type 0 where
   pub row : List (Option ℕ)
   pub added : new ≡ old ++ row
   pub is_row : IsRowOf index width edges row
 
--- what a refusal of edges says: an edge leads to a name that the index lacks, or memory is wanting
+-- what a refusal of edges says: an edge leads to a name that the index lacks, or memory runs out
 unfoldable pub EdgesRefusal : (ℕ → Option ℕ) → List (ℕ × ℕ) → BoardError → Type 0
 EdgesRefusal index edges NoCell = ⊥
 EdgesRefusal index edges (RowLength row) = ⊥
@@ -35,7 +45,7 @@ EdgesRefusal index edges UnknownVertex = Any (λ edge. index edge.1 ≡ None) ed
 EdgesRefusal index edges SameVertex = ⊥
 EdgesRefusal index edges Memory = Unit {0}
 
--- what a refusal of a written graph's edges says: some edge leads to a name that no vertex has, or memory is wanting
+-- what a refusal of a written graph's edges says: some edge leads to a name that no vertex has, or memory runs out
 unfoldable pub WiringRefusal : List Written → BoardError → Type 0
 WiringRefusal vertices NoCell = ⊥
 WiringRefusal vertices (RowLength row) = ⊥

@@ -1,10 +1,11 @@
 -- Graphs as they are written: each vertex with its name, its first piece and its edges.
 use Rattle.std.specs.Prelude.{◌≡◌, ℕ, ◌<◌, ◌≤◌, List, length, map, Some, slice_get, Contains, All, Any}
+use Rattle.std.specs.List.{flat_map}
 use Rattle.rbg_board.specs.Graph.{Graph, IsGraphOf}
 use Rattle.rbg_board.specs.Cells.{HasTwice, AreDifferent}
 use Rattle.rbg_board.specs.declared.error.BoardError.{BoardError}
 use Rattle.rbg_board.specs.declared.error.BoardError.TheVariants.{NoCell, RowLength, TooManyVertices, SameDirection, UnknownVertex, SameVertex, Memory}
-use Rattle.rbg_board.specs.declared.board.TheConstants.{MAX_VERTICES}
+use Rattle.rbg_board.specs.Limits.{most_vertices}
 
 -- a vertex as it is written; an edge is a direction and the name of the vertex to which it leads
 pub record Written : Type 0 where
@@ -21,6 +22,10 @@ pieces_of vertices = map (λ w. w.piece) vertices
 -- the directions of edges
 abbrev pub directions_in : List (ℕ × ℕ) → List ℕ
 directions_in edges = map (λ edge. edge.0) edges
+
+-- the directions of all edges
+abbrev pub directions_of : List Written → List ℕ
+directions_of vertices = flat_map (λ w. directions_in w.edges) vertices
 
 -- the edges of a written graph: the direction d leads from the vertex v to the vertex u
 pub record WrittenEdge (vertices : List Written) (v d u : ℕ) : Type 0 where
@@ -53,22 +58,31 @@ SomeTargetUnknown vertices = Any (λ w. Any (λ edge. ¬ Contains (names_of vert
 -- as many vertices as a board may have
 pub record HasCount (vertices : List Written) : Type 0 where
   pub some : 0 < length vertices
-  pub fits : length vertices ≤ MAX_VERTICES
+  pub fits : length vertices ≤ most_vertices
 
--- a written graph that nothing is wrong with
+-- a written graph without a fault
 pub record MakesGraph (vertices : List Written) : Type 0 where
   pub count : HasCount vertices
   pub names_differ : AreDifferent (names_of vertices)
   pub directions_differ : DirectionsDiffer vertices
   pub targets_known : TargetsKnown vertices
 
--- What a refusal says of the vertices: the fault that it names stands, and none that is looked for earlier does.
--- Want of memory is met only with a number of vertices that is allowed.
+-- What a refusal says of the vertices: they have the fault that it names, and no fault that is looked for earlier.
+-- `Memory` is returned only for a number of vertices that is allowed.
 unfoldable pub GraphRefusal : List Written → BoardError → Type 0
 GraphRefusal vertices NoCell = length vertices ≡ 0
-GraphRefusal vertices TooManyVertices = MAX_VERTICES < length vertices
-GraphRefusal vertices SameVertex = HasCount vertices × HasTwice (names_of vertices)
-GraphRefusal vertices SameDirection = HasCount vertices × AreDifferent (names_of vertices) × SomeDirectionTwice vertices
-GraphRefusal vertices UnknownVertex = HasCount vertices × AreDifferent (names_of vertices) × DirectionsDiffer vertices × SomeTargetUnknown vertices
+GraphRefusal vertices TooManyVertices = most_vertices < length vertices
+GraphRefusal vertices SameVertex =
+    HasCount vertices
+    × HasTwice (names_of vertices)
+GraphRefusal vertices SameDirection =
+    HasCount vertices
+    × AreDifferent (names_of vertices)
+    × SomeDirectionTwice vertices
+GraphRefusal vertices UnknownVertex =
+    HasCount vertices
+    × AreDifferent (names_of vertices)
+    × DirectionsDiffer vertices
+    × SomeTargetUnknown vertices
 GraphRefusal vertices (RowLength row) = ⊥
 GraphRefusal vertices Memory = HasCount vertices

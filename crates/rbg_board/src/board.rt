@@ -1,21 +1,23 @@
-//! The board itself: first pieces, and one flat table of edges.
+//! The board: the first piece of each vertex, and one flat table of the edges.
 ghost use Rattle.std.specs.Prelude.{◌≡◌, ◌<◌, ◌≤◌, ◌*◌, ◌+◌, ℕ, length, slice_get, Some, None, IfSome, vec_len};
-ghost use Rattle.rbg_board.specs.Graph.{next, IsClosed};
+ghost use Rattle.rbg_board.specs.Graph.{next, IsClosed, HasWidth, HasOneWidth};
+ghost use Rattle.rbg_board.specs.Limits.{most_vertices};
 ghost use Rattle.rbg_board.specs.Table.{graph_of_table, IsTable};
 
+use rbg_base::{Direction, Piece, Vertex};
 use std::marker::Model;
 
-/// How many vertices a board may have.
-pub const MAX_VERTICES: usize = 1024;
+/// The most vertices that a board has.
+pub const MAX_VERTICES: usize = 4096;
 
 /// A board: a graph whose vertices are numbered from 0, each with its first piece.
 #[derive(Debug, Drop)]
 pub struct Board {
-    first: Vec<u16>,
-    /// How many entries the table has for each vertex: one for each direction below this number.
+    first: Vec<Piece>,
+    /// The number of entries for each vertex: one for each direction below this number.
     width: usize,
-    /// Where each direction leads from each vertex: the entry of vertex `v` and direction `d` is at `v * width + d`.
-    table: Vec<Option<u16>>,
+    /// The vertex to which each direction leads: the entry of vertex `v` and direction `d` is at `v * width + d`.
+    table: Vec<Option<Vertex>>,
 }
 
 impl Model for Board {
@@ -32,10 +34,11 @@ impl Model for Board {
 }
 
 impl Board {
-    /// The board of these first pieces that a table tells.
-    pub(crate) fn new(first: Vec<u16>, width: usize, table: Vec<Option<u16>>) -> Board
+    /// The board with these first pieces, and with the edges of a table.
+    pub(crate) fn new(first: Vec<Piece>, width: usize, table: Vec<Option<Vertex>>) -> Board
         requires { IsTable (length first.items) width table.items }
-        ensures { result ≡ graph_of_table first.items width table.items }
+        ensures graph { result ≡ graph_of_table first.items width table.items }
+        ensures width { HasWidth width result }
     {
         Board {
             first,
@@ -44,26 +47,27 @@ impl Board {
         }
     }
 
-    /// How many vertices the board has.
+    /// The number of vertices.
     pub fn len(&self) -> usize
         ensures count { result ≡ length self.now.first }
         ensures some { 0 < result }
-        ensures limit { result ≤ MAX_VERTICES }
+        ensures limit { result ≤ most_vertices }
         ensures closed { IsClosed self.now }
+        ensures width { HasOneWidth self.now }
     {
         self.first.len()
     }
 
-    /// The piece that stands on a vertex when play begins.
-    pub fn piece_at_start(&self, vertex: u16) -> u16
+    /// The piece on a vertex when play begins.
+    pub fn piece_at_start(&self, vertex: Vertex) -> Piece
         requires { vertex < length self.now.first }
         ensures { slice_get self.now.first vertex ≡ Some result }
     {
         self.first[vertex as usize]
     }
 
-    /// Where a direction leads from a vertex.
-    pub fn step(&self, vertex: u16, direction: u16) -> Option<u16>
+    /// The vertex to which a direction leads, or None if it leads nowhere.
+    pub fn step(&self, vertex: Vertex, direction: Direction) -> Option<Vertex>
         requires { vertex < length self.now.first }
         ensures next { result ≡ next self.now vertex direction }
         ensures is_vertex { IfSome result (λ to. to < length self.now.first) }

@@ -1,10 +1,12 @@
-//! Lists of directions: whether they differ, and how wide a table has to be for them.
-ghost use Rattle.std.specs.Prelude.{ℕ, ◌+◌, ◌<◌, ◌≤◌, ◌^◌, All, MatchBool};
-ghost use Rattle.rbg_board.specs.Cells.{HasTwice, AreDifferent};
+//! Lists of directions: whether two are equal, and how wide a table they need.
+ghost use Rattle.std.specs.Prelude.{◌≡◌, ℕ, ◌+◌, ◌<◌, ◌≤◌, ◌^◌, All, MatchBool};
+ghost use Rattle.rbg_board.specs.Cells.{HasTwice, AreDifferent, width_of};
+
+use rbg_base::Direction;
 
 /// Whether two of the directions are equal.
 #[tactic(auto, unfolding(crate::specs::Cells::AreDifferent))]
-pub(crate) fn has_twice(directions: &[u16]) -> bool
+pub(crate) fn has_twice(directions: &[Direction]) -> bool
     ensures { MatchBool result (HasTwice directions.now) (AreDifferent directions.now) }
 {
     for (i, direction) in directions.iter().enumerate() {
@@ -15,13 +17,15 @@ pub(crate) fn has_twice(directions: &[u16]) -> bool
     false
 }
 
-/// How many entries each vertex needs in a table that has an entry for each of the directions.
-pub(crate) fn table_width(directions: &[u16]) -> usize
+/// The number of entries that each vertex needs in a table of these directions.
+pub(crate) fn table_width(directions: &[Direction]) -> usize
+    ensures width { result ≡ width_of directions.now }
     ensures limit { result ≤ 2 ^ 16 }
     ensures covers { All (λ d. d < result) directions.now }
 {
-    match directions.iter().max() {
-        Some(greatest) => *greatest as usize + 1,
-        None => 0,
+    let mut width = 0usize;
+    for direction in directions {
+        width = width.max(*direction as usize + 1);
     }
+    width
 }

@@ -2,15 +2,16 @@
 ghost use Rattle.std.specs.Prelude.{◌≡◌};
 ghost use Rattle.rbg_board.specs.declared.error.BoardError.TheVariants.{Memory};
 
-use std::alloc::{AllocError, AllocFailed};
+use rbg_base::Memory as OutOfMemory;
+use std::alloc::AllocFailed;
 use thiserror::Error;
 
-/// Why a generator refuses its arguments. The faults are looked for in the order that the generator tells.
+/// Why a generator refuses its arguments. Each generator documents the order in which it looks for faults.
 #[derive(Clone, Copy, Debug, PartialEq, Eq, Error)]
 pub enum BoardError {
     #[error("the board has no cell")]
     NoCell,
-    /// The first row, counted from 0, whose length breaks the rule of the board.
+    /// The first row, counted from 0, whose length breaks the rule of the generator.
     #[error("row {row} has the wrong length")]
     RowLength { row: usize },
     #[error("the board has too many vertices")]
@@ -25,10 +26,10 @@ pub enum BoardError {
     Memory,
 }
 
-impl From<AllocError> for BoardError {
+impl From<OutOfMemory> for BoardError {
     ghost from_gives = { λ _ error. error ≡ Memory };
 
-    fn from(_error: AllocError) -> BoardError {
+    fn from(_error: OutOfMemory) -> BoardError {
         BoardError::Memory
     }
 }

@@ -1,13 +1,15 @@
-//! Graphs that are written out, vertex by vertex.
+//! Boards that are written out, vertex by vertex.
 ghost use Rattle.std.specs.Prelude.{◌≡◌, ◌≢◌, ℕ, ◌<◌, ◌≤◌, ◌^◌, ◌+◌, length, All, Any, Contains, IsSome, IfOk, OnOk, IfErr, MatchBool, nat_eq};
 ghost use Rattle.std.specs.HashMap as hash;
-ghost use Rattle.rbg_board.specs.Cells.{HasTwice, AreDifferent};
-ghost use Rattle.rbg_board.specs.Written.{names_of, directions_in, IsWritten, HasCount, GraphRefusal, MakesGraph, DirectionsDiffer, SomeDirectionTwice, TargetsKnown};
+ghost use Rattle.rbg_board.specs.Cells.{HasTwice, AreDifferent, width_of};
+ghost use Rattle.rbg_board.specs.Graph.{HasWidth};
+ghost use Rattle.rbg_board.specs.Written.{names_of, directions_in, directions_of, IsWritten, HasCount, GraphRefusal, MakesGraph, DirectionsDiffer, SomeDirectionTwice, TargetsKnown};
 ghost use Rattle.rbg_board.specs.Vertices.{written_of};
 ghost use Rattle.rbg_board.specs.Wiring.{IsIndex, AddsRow, EdgesRefusal, AllCovered, WiringRefusal};
 
 use super::board::{Board, MAX_VERTICES};
 use super::error::BoardError;
+use rbg_base::{Direction, Piece, Vertex};
 use std::alloc::Global;
 use std::collections::HashMap;
 
@@ -15,14 +17,14 @@ use std::collections::HashMap;
 #[derive(Debug, Drop)]
 pub struct Cell {
     pub name: u32,
-    pub piece: u16,
-    /// Each edge's direction, and the name of the vertex to which it leads.
-    pub edges: Vec<(u16, u32)>,
+    pub piece: Piece,
+    /// The direction of each edge, and the name of the vertex to which it leads.
+    pub edges: Vec<(Direction, u32)>,
 }
 
 /// The vertex of each name.
 #[tactic(auto, unfolding(crate::specs::Written::GraphRefusal))]
-fn index_names(alloc: Global, cells: &[Cell]) -> Result<HashMap<u32, u16>, BoardError>
+fn index_names(alloc: Global, cells: &[Cell]) -> Result<HashMap<u32, Vertex>, BoardError>
     requires { HasCount (written_of cells.now) }
     ensures index { IfOk result (λ index. IsIndex (names_of (written_of cells.now)) (hash.get nat_eq index)) }
     ensures differ { OnOk result (AreDifferent (names_of (written_of cells.now))) }
@@ -30,7 +32,7 @@ fn index_names(alloc: Global, cells: &[Cell]) -> Result<HashMap<u32, u16>, Board
 {
     let mut index = HashMap::new(alloc);
     for (vertex, cell) in cells.iter().enumerate() {
-        if index.insert(cell.name, vertex as u16)?.is_some() {
+        if index.insert(cell.name, vertex as Vertex)?.is_some() {
             return Err(BoardError::SameVertex);
         }
     }
@@ -38,7 +40,7 @@ fn index_names(alloc: Global, cells: &[Cell]) -> Result<HashMap<u32, u16>, Board
 }
 
 /// Whether an edge has the direction.
-fn leads(edges: &[(u16, u32)], direction: u16) -> bool
+fn leads(edges: &[(Direction, u32)], direction: Direction) -> bool
     ensures { MatchBool result
         (Any (λ edge. edge.0 ≡ direction) edges.now)
         (All (λ edge. edge.0 ≢ direction) edges.now) }
@@ -48,7 +50,7 @@ fn leads(edges: &[(u16, u32)], direction: u16) -> bool
 
 /// Whether two of the edges have one direction.
 #[tactic(auto, unfolding(crate::specs::Cells::AreDifferent))]
-fn leads_twice(edges: &[(u16, u32)]) -> bool
+fn leads_twice(edges: &[(Direction, u32)]) -> bool
     ensures { MatchBool result (HasTwice (directions_in edges.now)) (AreDifferent (directions_in edges.now)) }
 {
     for (i, edge) in edges.iter().enumerate() {
@@ -71,10 +73,10 @@ fn some_leads_twice(cells: &[Cell]) -> bool
     false
 }
 
-/// How many entries a vertex with these edges needs in the table.
-fn edges_width(edges: &[(u16, u32)]) -> usize
+/// The number of entries that a vertex with these edges needs in the table.
+fn edges_width(edges: &[(Direction, u32)]) -> usize
+    ensures width { result ≡ width_of (directions_in edges.now) }
     ensures limit { result ≤ 2 ^ 16 }
-    ensures covers { All (λ edge. edge.0 < result) edges.now }
 {
     let mut width = 0usize;
     for edge in edges {
@@ -83,8 +85,9 @@ fn edges_width(edges: &[(u16, u32)]) -> usize
     width
 }
 
-/// How many entries each vertex needs in the table.
+/// The number of entries that each vertex needs in the table.
 fn cells_width(cells: &[Cell]) -> usize
+    ensures width { result ≡ width_of (directions_of (written_of cells.now)) }
     ensures limit { result ≤ 2 ^ 16 }
     ensures covers { AllCovered result (written_of cells.now) }
 {
@@ -95,15 +98,15 @@ fn cells_width(cells: &[Cell]) -> usize
     width
 }
 
-/// Adds the row of the table in which each direction leads where its edge does.
+/// Adds a row to the table, in which the direction of each edge leads to the vertex of that edge's name.
 #[tactic(auto, unfolding(crate::specs::Wiring::EdgesRefusal))]
 fn push_edges(
-    table: &mut Vec<Option<u16>>,
+    table: &mut Vec<Option<Vertex>>,
     width: usize,
-    edges: &[(u16, u32)],
-    index: &HashMap<u32, u16>,
+    edges: &[(Direction, u32)],
+    index: &HashMap<u32, Vertex>,
 ) -> Result<(), BoardError>
-    requires small { length table.old.items ≤ 2 ^ 26 }
+    requires small { length table.old.items ≤ 2 ^ 28 }
     requires width { width ≤ 2 ^ 16 }
     requires covers { All (λ edge. edge.0 < width) edges.now }
     requires different { AreDifferent (directions_in edges.now) }
@@ -123,14 +126,15 @@ fn push_edges(
     Ok(())
 }
 
-/// The board of the cells, whose edges lead to the vertices that the index gives.
+/// The board of the cells. The index gives the vertex of each name.
 #[tactic(auto, unfolding(crate::specs::Wiring::WiringRefusal))]
-fn wire(alloc: Global, cells: &[Cell], index: &HashMap<u32, u16>) -> Result<Board, BoardError>
+fn wire(alloc: Global, cells: &[Cell], index: &HashMap<u32, Vertex>) -> Result<Board, BoardError>
     requires count { HasCount (written_of cells.now) }
     requires index { IsIndex (names_of (written_of cells.now)) (hash.get nat_eq index.now) }
     requires differ { DirectionsDiffer (written_of cells.now) }
     ensures known { OnOk result (TargetsKnown (written_of cells.now)) }
     ensures board { IfOk result (IsWritten (written_of cells.now)) }
+    ensures width { IfOk result (HasWidth (width_of (directions_of (written_of cells.now)))) }
     ensures refusal { IfErr result (WiringRefusal (written_of cells.now)) }
 {
     let width = cells_width(cells);
@@ -143,13 +147,14 @@ fn wire(alloc: Global, cells: &[Cell], index: &HashMap<u32, u16>) -> Result<Boar
     Ok(Board::new(first, width, table))
 }
 
-/// The board of a graph that is written out: the cells are its vertices, in their order.
+/// The board of a graph that is written out. The cells are its vertices, in order.
 ///
 /// The faults are looked for in this order: `NoCell`, `TooManyVertices`, `SameVertex`, `SameDirection`, `UnknownVertex`.
 #[tactic(auto, unfolding(crate::specs::Written::GraphRefusal))]
 pub fn graph(alloc: Global, cells: &[Cell]) -> Result<Board, BoardError>
     ensures lawful { OnOk result (MakesGraph (written_of cells.now)) }
     ensures board { IfOk result (IsWritten (written_of cells.now)) }
+    ensures width { IfOk result (HasWidth (width_of (directions_of (written_of cells.now)))) }
     ensures refusal { IfErr result (GraphRefusal (written_of cells.now)) }
 {
     if cells.is_empty() {

@@ -1,7 +1,8 @@
 //! Hexagons: rows that grow and then shrink by one cell each, six directions.
 ghost use Rattle.std.specs.Prelude.{◌≡◌, ◌≤◌, IfOk, OnOk, IfErr, MatchBool, MatchOption};
-ghost use Rattle.rbg_board.specs.Graph.{UsesOnly};
-ghost use Rattle.rbg_board.specs.Cells.{rows_of};
+ghost use Rattle.rbg_board.specs.Limits.{most_vertices};
+ghost use Rattle.rbg_board.specs.Graph.{UsesOnly, HasWidth};
+ghost use Rattle.rbg_board.specs.Cells.{rows_of, width_of};
 ghost use Rattle.rbg_board.specs.Hexagon.{IsHexagon, HexagonRefusal, MakesHexagon, LacksCell, HasCells, GrowsThenShrinks, IsFirstMisfit};
 ghost use Rattle.rbg_board.specs.Sites.{IsSite};
 ghost use Rattle.rbg_board.specs.Shapes.{cell_left, cell_right, hexagon_leads, hexagon_leads_within};
@@ -10,15 +11,16 @@ use super::board::{Board, MAX_VERTICES};
 use super::directions::{has_twice, table_width};
 use super::error::BoardError;
 use super::rows::{Shape, Site, cells_in, count_cells, lay_out};
+use rbg_base::{Direction, Piece, Vertex};
 use std::alloc::Global;
 
 /// The directions north-west, north-east, east, south-east, south-west and west.
 #[derive(Clone, Copy, Debug)]
 struct HexagonShape {
-    directions: [u16; 6],
+    directions: [Direction; 6],
 }
 
-/// The cell to the left, in a row of so many cells above or below.
+/// The cell to the left in the row above or below, which has this number of cells.
 #[tactic(auto, unfolding(crate::specs::Shapes::cell_left))]
 fn left(site: &Site, cells: usize) -> Option<usize>
     ensures { result ≡ cell_left site.now cells }
@@ -30,10 +32,10 @@ fn left(site: &Site, cells: usize) -> Option<usize>
     }
 }
 
-/// The cell to the right, in a row of so many cells above or below.
+/// The cell to the right in the row above or below, which has this number of cells.
 #[tactic(auto, unfolding(crate::specs::Shapes::cell_right))]
 fn right(site: &Site, cells: usize) -> usize
-    requires { IsSite site.now MAX_VERTICES }
+    requires { IsSite site.now most_vertices }
     ensures { result ≡ cell_right site.now cells }
 {
     if site.here < cells {
@@ -49,7 +51,7 @@ impl Shape for HexagonShape {
     ghost leads_within = { λ shape. hexagon_leads_within shape.directions };
 
     #[tactic(auto, unfolding(crate::specs::Shapes::hexagon_leads))]
-    fn leads(&self, site: &Site, direction: u16) -> Option<u16> {
+    fn leads(&self, site: &Site, direction: Direction) -> Option<Vertex> {
         let [north_west, north_east, east, south_east, south_west, west] = self.directions;
         if direction == north_west {
             site.in_row_above(left(site, site.above)?)
@@ -70,7 +72,7 @@ impl Shape for HexagonShape {
 }
 
 /// Whether there is no row, or a row has no cell.
-fn lacks_cell(rows: &[Vec<u16>]) -> bool
+fn lacks_cell(rows: &[Vec<Piece>]) -> bool
     ensures { MatchBool result (LacksCell (rows_of rows.now)) (HasCells (rows_of rows.now)) }
 {
     if rows.is_empty() {
@@ -85,7 +87,7 @@ fn lacks_cell(rows: &[Vec<u16>]) -> bool
 }
 
 /// The first row that does not fit the rows above it, which grow and then shrink by one cell each.
-fn first_misfit(rows: &[Vec<u16>]) -> Option<usize>
+fn first_misfit(rows: &[Vec<Piece>]) -> Option<usize>
     ensures { MatchOption result (GrowsThenShrinks (rows_of rows.now)) (IsFirstMisfit (rows_of rows.now)) }
 {
     let mut shrinking = false;
@@ -109,10 +111,15 @@ fn first_misfit(rows: &[Vec<u16>]) -> Option<usize>
 ///
 /// The faults are looked for in this order: `NoCell`, `RowLength`, `TooManyVertices`, `SameDirection`.
 #[tactic(auto, unfolding(crate::specs::Hexagon::HexagonRefusal))]
-pub fn hexagon(alloc: Global, directions: [u16; 6], rows: &[Vec<u16>]) -> Result<Board, BoardError>
+pub fn hexagon(
+    alloc: Global,
+    directions: [Direction; 6],
+    rows: &[Vec<Piece>],
+) -> Result<Board, BoardError>
     ensures lawful { OnOk result (MakesHexagon directions (rows_of rows.now)) }
     ensures board { IfOk result (IsHexagon directions (rows_of rows.now)) }
     ensures directions { IfOk result (UsesOnly directions) }
+    ensures width { IfOk result (HasWidth (width_of directions)) }
     ensures refusal { IfErr result (HexagonRefusal directions (rows_of rows.now)) }
 {
     if lacks_cell(rows) {

@@ -1,7 +1,7 @@
 //! Rectangles: rows of one length, four directions.
 ghost use Rattle.std.specs.Prelude.{◌≡◌, IfOk, OnOk, IfErr, MatchOption};
-ghost use Rattle.rbg_board.specs.Graph.{UsesOnly};
-ghost use Rattle.rbg_board.specs.Cells.{rows_of};
+ghost use Rattle.rbg_board.specs.Graph.{UsesOnly, HasWidth};
+ghost use Rattle.rbg_board.specs.Cells.{rows_of, width_of};
 ghost use Rattle.rbg_board.specs.Rectangle.{IsRectangle, RectangleRefusal, MakesRectangle, IsEven, IsFirstUneven};
 ghost use Rattle.rbg_board.specs.Shapes.{rectangle_leads, rectangle_leads_within};
 
@@ -9,12 +9,13 @@ use super::board::Board;
 use super::directions::{has_twice, table_width};
 use super::error::BoardError;
 use super::rows::{Shape, Site, cells_in, count_cells, lay_out};
+use rbg_base::{Direction, Piece, Vertex};
 use std::alloc::Global;
 
 /// The directions up, down, left and right.
 #[derive(Clone, Copy, Debug)]
 struct RectangleShape {
-    directions: [u16; 4],
+    directions: [Direction; 4],
 }
 
 impl Shape for RectangleShape {
@@ -23,7 +24,7 @@ impl Shape for RectangleShape {
     ghost leads_within = { λ shape. rectangle_leads_within shape.directions };
 
     #[tactic(auto, unfolding(crate::specs::Shapes::rectangle_leads))]
-    fn leads(&self, site: &Site, direction: u16) -> Option<u16> {
+    fn leads(&self, site: &Site, direction: Direction) -> Option<Vertex> {
         let [up, down, left, right] = self.directions;
         if direction == up {
             site.in_row_above(site.cell)
@@ -40,7 +41,7 @@ impl Shape for RectangleShape {
 }
 
 /// The first row that is not as long as row 0.
-fn first_uneven(rows: &[Vec<u16>]) -> Option<usize>
+fn first_uneven(rows: &[Vec<Piece>]) -> Option<usize>
     ensures { MatchOption result (IsEven (rows_of rows.now)) (IsFirstUneven (rows_of rows.now)) }
 {
     let width = cells_in(rows, 0);
@@ -58,12 +59,13 @@ fn first_uneven(rows: &[Vec<u16>]) -> Option<usize>
 #[tactic(auto, unfolding(crate::specs::Rectangle::RectangleRefusal))]
 pub fn rectangle(
     alloc: Global,
-    directions: [u16; 4],
-    rows: &[Vec<u16>],
+    directions: [Direction; 4],
+    rows: &[Vec<Piece>],
 ) -> Result<Board, BoardError>
     ensures lawful { OnOk result (MakesRectangle directions (rows_of rows.now)) }
     ensures board { IfOk result (IsRectangle directions (rows_of rows.now)) }
     ensures directions { IfOk result (UsesOnly directions) }
+    ensures width { IfOk result (HasWidth (width_of directions)) }
     ensures refusal { IfErr result (RectangleRefusal directions (rows_of rows.now)) }
 {
     if cells_in(rows, 0) == 0 {

@@ -1,38 +1,41 @@
-//! Boards whose cells lie in rows and are numbered along the rows: what rectangles and hexagons share.
+//! Boards of rows, whose cells are numbered along the rows: what rectangles and hexagons share.
 ghost use Rattle.std.specs.Prelude.{◌≡◌, ◌≢◌, ℕ, ◌+◌, ◌*◌, ◌^◌, ◌<◌, ◌≤◌, ◌++◌, length, Option, IfOk, OnOk, IfErr, OnErr, IfSome, MatchBool};
 ghost use Rattle.std.specs.List.{concat, flat_map};
+ghost use Rattle.rbg_board.specs.Graph.{HasWidth};
+ghost use Rattle.rbg_board.specs.Limits.{most_vertices};
 ghost use Rattle.rbg_board.specs.Cells.{rows_of, cells_in, HasTwice, AreDifferent};
 ghost use Rattle.rbg_board.specs.Sites.{IsRow, IsSite, IsLaidOut, vertex_above, vertex_here, vertex_below, ways_from, sites_along};
 ghost use Rattle.rbg_board.specs.declared.rows.Site.{Site};
 
 use super::board::{Board, MAX_VERTICES};
 use super::error::BoardError;
-use std::alloc::{AllocError, Global};
+use rbg_base::{Direction, Memory, Piece, Vertex};
+use std::alloc::Global;
 
 /// A cell with the lengths of the rows around it.
 #[derive(Clone, Copy, Debug)]
 pub(crate) struct Site {
     /// The vertex of the first cell of the cell's row.
     pub start: usize,
-    /// How many cells the row above has: 0 where there is none.
+    /// The number of cells of the row above, or 0 if there is none.
     pub above: usize,
-    /// How many cells the cell's own row has.
+    /// The number of cells of the cell's own row.
     pub here: usize,
-    /// How many cells the row below has: 0 where there is none.
+    /// The number of cells of the row below, or 0 if there is none.
     pub below: usize,
-    /// The place of the cell in its row.
+    /// The index of the cell in its row.
     pub cell: usize,
 }
 
 impl Site {
     /// The vertex of a cell of the row above.
     #[tactic(auto, unfolding(crate::specs::Sites::vertex_above))]
-    pub fn in_row_above(&self, cell: usize) -> Option<u16>
-        requires { IsSite self.now MAX_VERTICES }
+    pub fn in_row_above(&self, cell: usize) -> Option<Vertex>
+        requires { IsSite self.now most_vertices }
         ensures { result ≡ vertex_above self.now cell }
     {
         if cell < self.above {
-            Some((self.start - self.above + cell) as u16)
+            Some((self.start - self.above + cell) as Vertex)
         } else {
             None
         }
@@ -40,12 +43,12 @@ impl Site {
 
     /// The vertex of a cell of the same row.
     #[tactic(auto, unfolding(crate::specs::Sites::vertex_here))]
-    pub fn in_row(&self, cell: usize) -> Option<u16>
-        requires { IsSite self.now MAX_VERTICES }
+    pub fn in_row(&self, cell: usize) -> Option<Vertex>
+        requires { IsSite self.now most_vertices }
         ensures { result ≡ vertex_here self.now cell }
     {
         if cell < self.here {
-            Some((self.start + cell) as u16)
+            Some((self.start + cell) as Vertex)
         } else {
             None
         }
@@ -53,25 +56,25 @@ impl Site {
 
     /// The vertex of a cell of the row below.
     #[tactic(auto, unfolding(crate::specs::Sites::vertex_below))]
-    pub fn in_row_below(&self, cell: usize) -> Option<u16>
-        requires { IsSite self.now MAX_VERTICES }
+    pub fn in_row_below(&self, cell: usize) -> Option<Vertex>
+        requires { IsSite self.now most_vertices }
         ensures { result ≡ vertex_below self.now cell }
     {
         if cell < self.below {
-            Some((self.start + self.here + cell) as u16)
+            Some((self.start + self.here + cell) as Vertex)
         } else {
             None
         }
     }
 }
 
-/// How the cells of a board of rows lie beside one another.
+/// Where the directions of a board of rows lead.
 pub(crate) trait Shape {
     ghost leads: { Self → Site → ℕ → Option ℕ };
 
     /// The vertex to which a direction leads from a cell.
-    fn leads(&self, site: &Site, direction: u16) -> Option<u16>
-        requires { IsSite site.now MAX_VERTICES }
+    fn leads(&self, site: &Site, direction: Direction) -> Option<Vertex>
+        requires { IsSite site.now most_vertices }
         ensures { result ≡ leads self.now site.now direction };
 
     ghost leads_within: { (shape : Self) (site : Site) (d limit : ℕ)
@@ -79,32 +82,32 @@ pub(crate) trait Shape {
         → IfSome (leads shape site d) (λ u. u < limit) };
 }
 
-/// Adds the row of the table that belongs to a cell.
+/// Adds the entries of a cell to the table.
 fn push_ways<S: Shape>(
-    table: &mut Vec<Option<u16>>,
+    table: &mut Vec<Option<Vertex>>,
     shape: &S,
     width: usize,
     site: &Site,
-) -> Result<(), AllocError>
-    requires site { IsSite site.now MAX_VERTICES }
+) -> Result<(), Memory>
+    requires site { IsSite site.now most_vertices }
     requires width { width ≤ 2 ^ 16 }
     ensures { OnOk result
         (table.new.items ≡ table.old.items ++ ways_from (S.leads shape.now) width site.now) }
 {
     for direction in 0..width {
-        table.push(shape.leads(site, direction as u16))?;
+        table.push(shape.leads(site, direction as Direction))?;
     }
     Ok(())
 }
 
-/// Adds the rows of the table that belong to the cells of one row of the board, from `row`, its first cell.
+/// Adds the entries of the cells of one row to the table. `row` is the first cell of the row.
 fn push_row<S: Shape>(
-    table: &mut Vec<Option<u16>>,
+    table: &mut Vec<Option<Vertex>>,
     shape: &S,
     width: usize,
     row: Site,
-) -> Result<(), AllocError>
-    requires row { IsRow row MAX_VERTICES }
+) -> Result<(), Memory>
+    requires row { IsRow row most_vertices }
     requires width { width ≤ 2 ^ 16 }
     ensures { OnOk result
         (table.new.items
@@ -117,12 +120,12 @@ fn push_row<S: Shape>(
     Ok(())
 }
 
-/// How many cells the rows have.
-pub(crate) fn count_cells(rows: &[Vec<u16>]) -> Result<usize, BoardError>
+/// The number of cells, where a board may have that many vertices.
+pub(crate) fn count_cells(rows: &[Vec<Piece>]) -> Result<usize, BoardError>
     ensures count { IfOk result (λ count. count ≡ length (concat (rows_of rows.now))) }
-    ensures fits { OnOk result (length (concat (rows_of rows.now)) ≤ MAX_VERTICES) }
+    ensures fits { OnOk result (length (concat (rows_of rows.now)) ≤ most_vertices) }
     ensures too_many { IfErr result (λ error. error ≡ BoardError.TooManyVertices) }
-    ensures exceeds { OnErr result (MAX_VERTICES < length (concat (rows_of rows.now))) }
+    ensures exceeds { OnErr result (most_vertices < length (concat (rows_of rows.now))) }
 {
     let mut count = 0;
     for row in rows {
@@ -134,8 +137,8 @@ pub(crate) fn count_cells(rows: &[Vec<u16>]) -> Result<usize, BoardError>
     Ok(count)
 }
 
-/// How many cells a row has: 0 where there is no such row.
-pub(crate) fn cells_in(rows: &[Vec<u16>], row: usize) -> usize
+/// The number of cells of a row, or 0 if there is no such row.
+pub(crate) fn cells_in(rows: &[Vec<Piece>], row: usize) -> usize
     ensures { result ≡ cells_in (rows_of rows.now) row }
 {
     match rows.get(row) {
@@ -144,19 +147,20 @@ pub(crate) fn cells_in(rows: &[Vec<u16>], row: usize) -> usize
     }
 }
 
-/// The board of the rows, on which each direction below the width leads as the shape says.
+/// The board of the rows, where each direction below the width leads as in the shape.
 pub(crate) fn lay_out<S: Shape>(
     alloc: Global,
     shape: &S,
     width: usize,
-    rows: &[Vec<u16>],
+    rows: &[Vec<Piece>],
     vertices: usize,
-) -> Result<Board, AllocError>
+) -> Result<Board, Memory>
     requires width { width ≤ 2 ^ 16 }
     requires vertices { vertices ≡ length (concat (rows_of rows.now)) }
     requires some { 0 < vertices }
-    requires fits { vertices ≤ MAX_VERTICES }
-    ensures { IfOk result (IsLaidOut (S.leads shape.now) width (rows_of rows.now)) }
+    requires fits { vertices ≤ most_vertices }
+    ensures board { IfOk result (IsLaidOut (S.leads shape.now) width (rows_of rows.now)) }
+    ensures width { IfOk result (HasWidth width) }
 {
     let mut first = Vec::with_capacity(alloc, vertices)?;
     let mut table = Vec::with_capacity(alloc, vertices * width)?;

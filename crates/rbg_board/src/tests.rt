@@ -70,7 +70,7 @@ fn vertices(answer: Result<Board, BoardError>) -> Result<usize, BoardError> {
 }
 
 /// Where the directions from 0 on lead from a vertex.
-fn assert_leads(rt: &impl Abort, board: &Board, vertex: u16, targets: &[Option<u16>]) {
+fn assert_leads(rt: &impl Abort, board: &Board, vertex: u32, targets: &[Option<u32>]) {
     assert!(rt; (vertex as usize) < board.len(), "vertex {vertex}");
     for (direction, target) in targets.iter().enumerate() {
         assert!(rt; direction < 64);
@@ -85,7 +85,7 @@ fn assert_leads(rt: &impl Abort, board: &Board, vertex: u16, targets: &[Option<u
 /// The pieces along the rows are those that `rows_of` numbers.
 fn assert_numbered(rt: &impl Abort, board: &Board) {
     for vertex in 0..board.len() {
-        assert_eq!(rt; board.piece_at_start(vertex as u16) as usize, vertex);
+        assert_eq!(rt; board.piece_at_start(vertex as u32) as usize, vertex);
     }
 }
 
@@ -192,31 +192,31 @@ fn a_graph_has_the_edges_that_are_written(rt: HostRuntime) -> Result<(), Fail> {
 }
 
 #[test]
-fn a_rectangle_has_at_most_1024_cells(rt: HostRuntime) {
+fn a_rectangle_has_at_most_4096_cells(rt: HostRuntime) {
     let alloc = rt.alloc();
     let directions = [0, 1, 2, 3];
     assert_eq!(rt;
-        vertices(rectangle_of(alloc, directions, &[32; 32])),
-        Ok(1024)
+        vertices(rectangle_of(alloc, directions, &[64; 64])),
+        Ok(4096)
     );
-    let crowd = rectangle_of(alloc, directions, &[41; 25]);
+    let crowd = rectangle_of(alloc, directions, &[241; 17]);
     assert_eq!(rt; vertices(crowd), Err(BoardError::TooManyVertices));
 }
 
 #[test]
-fn a_hexagon_has_at_most_1024_cells(rt: HostRuntime) {
+fn a_hexagon_has_at_most_4096_cells(rt: HostRuntime) {
     let alloc = rt.alloc();
     let directions = [0, 1, 2, 3, 4, 5];
-    assert_eq!(rt; vertices(hexagon_of(alloc, directions, &[1024])), Ok(1024));
-    let crowd = hexagon_of(alloc, directions, &[513, 512]);
+    assert_eq!(rt; vertices(hexagon_of(alloc, directions, &[4096])), Ok(4096));
+    let crowd = hexagon_of(alloc, directions, &[2049, 2048]);
     assert_eq!(rt; vertices(crowd), Err(BoardError::TooManyVertices));
 }
 
 #[test]
-fn a_graph_has_at_most_1024_vertices(rt: HostRuntime) {
-    assert_eq!(rt; vertices(loops(rt.alloc(), 1024)), Ok(1024));
+fn a_graph_has_at_most_4096_vertices(rt: HostRuntime) {
+    assert_eq!(rt; vertices(loops(rt.alloc(), 4096)), Ok(4096));
     assert_eq!(rt;
-        vertices(loops(rt.alloc(), 1025)),
+        vertices(loops(rt.alloc(), 4097)),
         Err(BoardError::TooManyVertices)
     );
 }
@@ -233,8 +233,8 @@ fn a_rectangle_names_its_first_fault(rt: HostRuntime) {
         ([0, 1, 2, 3], [2, 0].as_slice(), misfit(1)),
         ([0, 1, 2, 3], [2000, 1].as_slice(), misfit(1)),
         ([0, 1, 1, 3], [2, 1].as_slice(), misfit(1)),
-        ([0, 1, 2, 3], [1025].as_slice(), BoardError::TooManyVertices),
-        ([0, 0, 2, 3], [1025].as_slice(), BoardError::TooManyVertices),
+        ([0, 1, 2, 3], [4097].as_slice(), BoardError::TooManyVertices),
+        ([0, 0, 2, 3], [4097].as_slice(), BoardError::TooManyVertices),
         ([4, 1, 2, 4], [1].as_slice(), BoardError::SameDirection),
     ] {
         let answer = rectangle_of(alloc, directions, lengths);
@@ -264,8 +264,8 @@ fn a_hexagon_names_its_first_fault(rt: HostRuntime) {
         (right, [2, 3, 2, 3, 9].as_slice(), misfit(3)),
         (right, [2000, 1].as_slice(), misfit(1)),
         (wrong, [1, 1].as_slice(), misfit(1)),
-        (right, [1025].as_slice(), BoardError::TooManyVertices),
-        (wrong, [1025].as_slice(), BoardError::TooManyVertices),
+        (right, [4097].as_slice(), BoardError::TooManyVertices),
+        (wrong, [4097].as_slice(), BoardError::TooManyVertices),
         (wrong, [1, 2].as_slice(), BoardError::SameDirection),
     ] {
         let answer = hexagon_of(alloc, directions, lengths);
@@ -301,10 +301,10 @@ fn a_graph_names_its_first_fault(rt: HostRuntime) {
             BoardError::SameDirection,
         ),
         (
-            [same_direction; 1025].as_slice(),
+            [same_direction; 4097].as_slice(),
             BoardError::TooManyVertices,
         ),
-        ([unknown; 1025].as_slice(), BoardError::TooManyVertices),
+        ([unknown; 4097].as_slice(), BoardError::TooManyVertices),
     ] {
         assert_eq!(rt; vertices(graph_of(alloc, written)), Err(error));
     }

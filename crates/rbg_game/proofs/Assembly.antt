@@ -1,97 +1,50 @@
--- The game that is made of names, a board and rules by numbers is the description's; and where the board or the rules are refused, none is.
+-- The game that is made of names, a board and rules by numbers is the description's; what is wrong with the board or the rules is wrong
+-- with the description.
 use Rattle.std.proofs.Common.{◌≡◌, ℕ, ◌≤◌, List, [], ◌++◌, length, take, refl, sym, ap, ◌∙◌, subst, arith}
-use Rattle.std.specs.Prelude.{All, Contains}
+use Rattle.std.specs.Prelude.{All}
 use Rattle.std.proofs.Math.Seq.{take-append_seam}
 use Rattle.std.proofs.lemmas.List.{map-append, length-map}
+use Rattle.std.proofs.lemmas.Slice.Zip.{AllZip-long}
 use Rattle.rbg_syntax.specs.Plain.{IsPlain, HasRectangle}
-use Rattle.rbg_syntax.specs.Tree.{SpeltBounded, SpeltBoard, rectangle, hexagon, graph, SpeltName, SpeltAction, SpeltDescription}
+use Rattle.rbg_syntax.specs.Tree.{SpeltBounded, SpeltBoard, rectangle, hexagon, graph, SpeltName, SpeltDescription}
+use Rattle.rbg_rules.specs.Expression.{Expression}
+use Rattle.rbg_rules.specs.Games.{IsGame, IsWithinLimits}
+use Rattle.rbg_rules.specs.declared.limits.TheConstants.{MAX_BOUND}
 use Rattle.rbg_game.specs.declared.checking.boards.NamedBoard.{NamedBoard}
 use Rattle.rbg_game.specs.declared.checking.names.Things.{Things}
 use Rattle.rbg_game.specs.declared.error.GameError.{GameError}
-use Rattle.rbg_game.specs.declared.error.GameError.TheVariants as errors
-use Rattle.rbg_game.specs.declared.error.Thing.{Thing}
-use Rattle.rbg_rules.specs.declared.limits.TheConstants.{MAX_BOUND}
-use Rattle.rbg_game.specs.BoardNaming.{MakesBoard, BoardFaultStands, IsBoardRefusal}
-use Rattle.rbg_game.specs.Described.{NamedBoard as BoardByNames, BoardIs, texts_of, holder_names, holders_of, AreBounds, board_in, most_patterns_nested, IsGameOf}
-use Rattle.rbg_rules.specs.Expression.{Expression}
-use Rattle.rbg_game.specs.Faults.{Purpose, as_direction, as_piece, as_player, HasSpeltAction, HasUnknownName, in_rules, serving, board_directions, HasTooMany, HasFault}
-use Rattle.rbg_game.specs.GameByNumbers.{game_by_numbers}
-use Rattle.rbg_rules.specs.Games.{IsGame, IsWithinLimits}
-use Rattle.rbg_game.specs.NamedThings.{AreThingsOf}
-use Rattle.rbg_game.specs.Naming.{Names, names_in, RuleIs}
-use Rattle.rbg_game.specs.PlainRules.{names_for, HasUnknownUse, HasRuleFault, IsRuleByNumbers, IsRefusedRule}
-use Rattle.rbg_game.specs.Refusals.{IsUnlawful}
-use Rattle.rbg_rules.specs.State.{AbstractGame}
-use Rattle.rbg_game.proofs.Entries.{EachWith-length}
-use Rattle.rbg_game.proofs.NamedRectangles.{has_board_fault}
+use Rattle.rbg_game.specs.Descriptions.{Names, NamedBoard as BoardByNames, BoardIs, texts_of, holder_names, holders_of, AreBounds, most_patterns_nested, IsGameOf}
+use Rattle.rbg_game.specs.Faults.{HasBoardFault, board_directions, Purpose, as_direction, as_piece, as_player, names_for, HasRuleFault, names_spelt, HasFault, in_board, in_rules}
+use Rattle.rbg_game.specs.internal.Boards.{MakesBoard}
+use Rattle.rbg_game.specs.internal.PlainRules.{IsRuleByNumbers}
+use Rattle.rbg_game.specs.internal.Things.{AreThingsOf, game_by_numbers}
+use Rattle.rbg_game.proofs.FaultLaw.{IsAmong, among_same, rule_fault_by}
 
 -- The names by which plain rules are numbered.
 abbrev pub rule_names : Things → NamedBoard → Names
 rule_names things board = record { players = things.players; variables = []; pieces = things.pieces; directions = board.directions }
 
--- Boards.
+-- What is wrong with the board is wrong with the description.
+pub board_unlawful : (d : SpeltDescription) (things : Things) → AreThingsOf d things → (error : GameError) → HasBoardFault things.pieces d.board error → HasFault d error
+board_unlawful d things are error fault =
+    let P : List (List ℕ) → Type 0 = λ pieces. HasBoardFault pieces d.board error in
+    in_board (subst P are.pieces fault)
 
-pub board_unlawful : (d : SpeltDescription) (things : Things) → AreThingsOf d things → (error : GameError) → IsBoardRefusal things.pieces d.board error → IsUnlawful d error
-board_unlawful d things are error refused =
-    let P : List (List ℕ) → Type 0 = λ pieces. BoardFaultStands pieces d.board error in
-    record {
-      fault = has_board_fault d error (subst P are.pieces refused.fault);
-      no_game = λ other game is. refused.no_board other (board_in game) (is.pieces ∙ sym are.pieces) is.direction_names is.board;
-    }
+-- a rectangle's directions are those that the rules may speak of
+spelt_directions : (b : BoardByNames) (board : SpeltBoard) → HasRectangle board → BoardIs b board → texts_of (board_directions board) ≡ b.directions
+spelt_directions b (rectangle names rows) four is = sym is.directions
+spelt_directions b (hexagon names rows) none is = absurd none
+spelt_directions b (graph vertices) none is = absurd none
 
--- A rectangle's directions are the four names.
-same_directions : (a b : BoardByNames) (board : SpeltBoard) → HasRectangle board → BoardIs a board → BoardIs b board → a.directions ≡ b.directions
-same_directions a b (rectangle names rows) four left right = left.directions ∙ sym right.directions
-same_directions a b (hexagon names rows) none left right = absurd none
-same_directions a b (graph vertices) none left right = absurd none
-
--- Rules.
-
--- The rectangle's directions are those that the rules may speak of.
-directions_spelt : (b : BoardByNames) (board : SpeltBoard) → HasRectangle board → BoardIs b board → b.directions ≡ texts_of (board_directions board)
-directions_spelt b (rectangle names rows) four is = is.directions
-directions_spelt b (hexagon names rows) none is = absurd none
-directions_spelt b (graph vertices) none is = absurd none
-
+-- What is wrong with the rules is wrong with the description.
 module _ (d : SpeltDescription) (things : Things) (board : NamedBoard) (plain : IsPlain d) (are : AreThingsOf d things) (makes : MakesBoard things.pieces d.board board.directions board.board) where
-  serving_names : (purpose : Purpose) → names_for (rule_names things board) purpose ≡ serving d purpose
-  serving_names as_direction = directions_spelt _ d.board plain.board makes.is_board
-  serving_names as_piece = are.pieces
-  serving_names as_player = are.players
+  names_known : (purpose : Purpose) → IsAmong (names_for (names_spelt d) purpose) (names_for (rule_names things board) purpose)
+  names_known as_direction = among_same (texts_of (board_directions d.board)) board.directions (spelt_directions _ d.board plain.board makes.is_board)
+  names_known as_piece = among_same (texts_of d.pieces) things.pieces (sym are.pieces)
+  names_known as_player = among_same (holder_names d.players) things.players (sym are.players)
 
-  unknown_use : (action : SpeltAction) (at : ℕ) → HasSpeltAction d.rules action → HasUnknownUse (rule_names things board) action at → HasUnknownName d at
-  unknown_use action at stands h =
-      let P : List (List ℕ) → Type 0 = λ names. ¬ Contains names h.name.text in
-      in_rules h.purpose h.name (record { action = action; stands = stands; used = h.used }) (subst P (serving_names h.purpose) h.unknown) h.place
-
-  rule_fault : (error : GameError) → HasRuleFault (rule_names things board) d.rules error → HasFault d error
-  unfolding HasFault
-  rule_fault (errors.UnknownName at) h = unknown_use h.action at h.stands h.unknown
-  rule_fault (errors.SameName at) h = absurd h
-  rule_fault (errors.Bound at) h = absurd h
-  rule_fault (errors.SwitchInPattern at) h = absurd h
-  rule_fault (errors.PatternTooDeep at) h = absurd h
-  rule_fault (errors.TooMany what) h =
-      let P : Thing → Type 0 = λ thing. HasTooMany d thing in
-      subst P (sym h.0) h.1
-  rule_fault errors.Memory h = tt
-  rule_fault (errors.Board error) h = absurd h
-
-  -- A game of the description has the same names.
-  same_names : (game : AbstractGame) → IsGameOf d game → names_in game ≡ record (rule_names things board) { variables = game.variables }
-  same_names game is =
-      let players : game.players ≡ things.players = is.players ∙ sym are.players in
-      let pieces : game.pieces ≡ things.pieces = is.pieces ∙ sym are.pieces in
-      let directions : game.directions ≡ board.directions = same_directions (board_in game) _ d.board plain.board is.board makes.is_board in
-      λ i. record { players = players i; variables = game.variables; pieces = pieces i; directions = directions i }
-
-  pub rules_unlawful : (error : GameError) → IsRefusedRule (rule_names things board) d.rules error → IsUnlawful d error
-  rules_unlawful error refused =
-      let R : AbstractGame → Names → Type 0 = λ game names. RuleIs names d.rules game.rules in
-      record {
-        fault = rule_fault error refused.fault;
-        no_game = λ other game is. refused.no_rules other game.variables game.rules (subst (R game) (same_names game is) is.rules) is.lawful.limits.positions;
-      }
+  pub rules_unlawful : (error : GameError) → HasRuleFault (rule_names things board) d.rules error → HasFault d error
+  rules_unlawful error fault = in_rules (rule_fault_by (names_spelt d) (rule_names things board) d.rules error names_known fault)
 
 module _ (d : SpeltDescription) (things : Things) (board : NamedBoard) (rules : Expression) (plain : IsPlain d) (are : AreThingsOf d things)
     (makes : MakesBoard things.pieces d.board board.directions board.board) (by_numbers : IsRuleByNumbers (rule_names things board) d.rules rules) where
@@ -106,7 +59,7 @@ module _ (d : SpeltDescription) (things : Things) (board : NamedBoard) (rules : 
         some_piece = omega (arith, pieces, plain.some_piece);
         pieces = are.piece_limit;
         variables = are.variable_limit;
-        bounds = subst P (sym are.bounds.behind) are.bounds.limit;
+        bounds = subst P (sym are.bounds.after) are.bounds.limit;
         directions = makes.few;
         positions = by_numbers.positions;
       }
@@ -126,8 +79,8 @@ module _ (d : SpeltDescription) (things : Things) (board : NamedBoard) (rules : 
             ∙ take-append_seam (holder_names d.players) (holder_names d.variables)
             ∙ sym are.players;
         bounds =
-            ap length are.bounds.behind
-            ∙ sym (EachWith-length _ (holders_of d) are.bounds.added are.bounds.bounds)
+            ap length are.bounds.after
+            ∙ AllZip-long _ (holders_of d) are.bounds.added are.bounds.bounds
             ∙ sym (length-map (holders_of d) (λ (h : SpeltBounded). h.name.text))
             ∙ ap length (sym are.variables);
         board = makes.closed;
@@ -143,7 +96,7 @@ module _ (d : SpeltDescription) (things : Things) (board : NamedBoard) (rules : 
         players = are.players;
         variables = are.variables;
         pieces = are.pieces;
-        bounds = subst P (sym are.bounds.behind) are.bounds.bounds;
+        bounds = subst P (sym are.bounds.after) are.bounds.bounds;
         lawful_variables = are.lawful_variables;
         lawful_pieces = are.lawful_pieces;
         direction_names = makes.names;

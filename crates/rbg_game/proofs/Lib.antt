@@ -1,13 +1,13 @@
 -- Lemmas on the definitions of specs/, by topic.
+pub mod Lists
 pub mod NameLemmas
-pub mod BoardNaming
+pub mod NameFaults
+pub mod BoardNames
 pub mod NamedRectangles
 pub mod PlainRuleLemmas
 pub mod RuleNumbering
-pub mod Entries
-pub mod NameFaultLemmas
-pub mod NoGame
 pub mod Assembly
+pub mod FaultLaw
 mod LoadingLemmas
 mod OneGameLists
 mod OneGameRules

@@ -14,13 +14,13 @@ use Rattle.std.proofs.lemmas.List.Quantifiers.{position-Some}
 use Rattle.std.proofs.lemmas.List.{length-map, map-append, get_or-map}
 use Rattle.std.proofs.lemmas.List.Elements.{All-push, All-weaker, All-get_or}
 use Rattle.std.proofs.lemmas.List.Sums.{AllPass-from_list_all}
-use Rattle.std.proofs.lemmas.Option.{slice_get_within, slice_get-get_or, get_or_from_slice_get, slice_get-map}
+use Rattle.std.proofs.lemmas.Option.{slice_get-get_or, slice_get-map}
 use Rattle.std.proofs.lemmas.Str.{IsUtf8-from_ascii}
 use Rattle.std.proofs.lemmas.Str.Ascii.{IsAscii-from_all}
 use Rattle.rbg_base.specs.Names.{is_name, is_name_start, is_name_part}
-use Rattle.rbg_game.specs.Described.{AreLawfulNames, AreNames}
-use Rattle.rbg_game.specs.NameTables.{bytes_of}
-use Rattle.rbg_game.specs.Naming.{AreDifferentNames}
+use Rattle.rbg_game.specs.Descriptions.{AreDifferentNames, AreLawfulNames, AreNames}
+use Rattle.rbg_game.specs.internal.NameTables.{bytes_of}
+use Rattle.rbg_game.proofs.Lists.{Contains-from_get, get_from-Contains}
 
 differs : (a b : List ℕ) → (a ≡ b → ⊥) → bytes_eq a b ≡ false
 differs a b other = by_test (bytes_eq a b) (bytes_eq-Decides a b)
@@ -61,12 +61,6 @@ pub is_name-none : (bs : List ℕ) → slice_get bs 0 ≡ None → is_name bs �
 is_name-none [] is = refl
 is_name-none (d ∷ ds) is = cc
 
-pub slice_get-from_Contains : (xs : List (List ℕ)) (x : List ℕ) → Contains xs x → (n : ℕ) × (n < length xs) × (slice_get xs n ≡ Some x)
-slice_get-from_Contains xs x (k, below, is) = (k, below, slice_get-get_or xs k x below ∙ ap Some is)
-
-pub Contains-from_slice_get : (xs : List (List ℕ)) (n : ℕ) (x : List ℕ) → slice_get xs n ≡ Some x → Contains xs x
-Contains-from_slice_get xs n x is = (n, slice_get_within xs n x is, get_or_from_slice_get xs n x x is)
-
 slice_get-push_cases : (xs : List (List ℕ)) (x y : List ℕ) (i : ℕ) → slice_get (xs ++ x ∷ []) i ≡ Some y → (slice_get xs i ≡ Some y) ⊎ ((i ≡ length xs) × (x ≡ y))
 slice_get-push_cases [] x y zero is = inr (refl, cc)
 slice_get-push_cases [] x y (suc i) is = cc
@@ -79,10 +73,10 @@ push_differs names name differ new i j x first second =
     elim (slice_get-push_cases names name x i first) [
       | inl p ↦ elim (slice_get-push_cases names name x j second) [
         | inl q ↦ differ.one_number i j x p q
-        | inr q ↦ absurd (new (Contains-from_slice_get names i name (p ∙ ap Some (sym q.1))))
+        | inr q ↦ absurd (new (Contains-from_get names i name (p ∙ ap Some (sym q.1))))
       ]
       | inr p ↦ elim (slice_get-push_cases names name x j second) [
-        | inl q ↦ absurd (new (Contains-from_slice_get names j name (q ∙ ap Some (sym p.1))))
+        | inl q ↦ absurd (new (Contains-from_get names j name (q ∙ ap Some (sym p.1))))
         | inr q ↦ p.0 ∙ sym q.0
       ]
     ]
@@ -116,13 +110,13 @@ name_there (k ∷ ks) text n is =
 -- What a look-up among the keys finds.
 pub name_found : (keys : List (Vec ℕ Global)) (text : List ℕ) (found : Option ℕ) → found ≡ position (λ k. bytes_eq text k.items) keys → is_some found ≡ list_any (λ k. bytes_eq text k.items) keys → MatchOption found (¬ Contains (bytes_of keys) text) (λ n. slice_get (bytes_of keys) n ≡ Some text)
 name_found keys text None at any =
-    λ has. let (n, below, is) = slice_get-from_Contains (bytes_of keys) text has in name_nowhere keys text (sym any) n is
+    λ has. let (n, is) = get_from-Contains (bytes_of keys) text has in name_nowhere keys text (sym any) n is
 name_found keys text (Some n) at any = name_there keys text n (sym at)
 
 -- A new key goes last.
 pub key_goes_last : (keys new : List (Vec ℕ Global)) (key : Vec ℕ Global) (text : List ℕ) → key.items ≡ text → new ≡ insert_key (λ x y. bytes_eq x.items y.items) keys key → ¬ Contains (bytes_of keys) text → bytes_of new ≡ bytes_of keys ++ text ∷ []
 key_goes_last keys new key text same is absent =
-    let none : list_any (λ k. bytes_eq key.items k.items) keys ≡ false = no_key keys key.items (λ n at. absent (Contains-from_slice_get (bytes_of keys) n text (at ∙ ap Some same))) in
+    let none : list_any (λ k. bytes_eq key.items k.items) keys ≡ false = no_key keys key.items (λ n at. absent (Contains-from_get (bytes_of keys) n text (at ∙ ap Some same))) in
     ap bytes_of (is ∙ rw none refl) ∙ map-append (λ (k : Vec ℕ Global). k.items) keys (key ∷ []) ∙ ap (λ (t : List ℕ). bytes_of keys ++ t ∷ []) same
   where
     no_key : (ks : List (Vec ℕ Global)) (t : List ℕ) → ((n : ℕ) → slice_get (bytes_of ks) n ≡ Some t → ⊥) → list_any (λ k. bytes_eq t k.items) ks ≡ false
@@ -138,3 +132,7 @@ key_is_name keys i key names below is =
 pub none_from_is_some : (o : Option ℕ) (P : Type 0) (Q : ℕ → Type 0) → is_some o ≡ false → MatchOption o P Q → P
 none_from_is_some None P Q is h = h
 none_from_is_some (Some x) P Q is h = cc
+
+pub there_from_is_some : (names : List (List ℕ)) (text : List ℕ) (o : Option ℕ) → is_some o ≡ true → MatchOption o (¬ Contains names text) (λ n. slice_get names n ≡ Some text) → Contains names text
+there_from_is_some names text None is h = cc
+there_from_is_some names text (Some n) is h = Contains-from_get names n text h

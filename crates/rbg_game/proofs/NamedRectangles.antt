@@ -1,36 +1,30 @@
--- Rectangles by the numbers of their names: the directions, the board, and what a refusal says.
-use Rattle.std.proofs.Common.{◌≡◌, ◌≢◌, ◌↔◌, ℕ, zero, suc, ◌+◌, ◌*◌, ◌<◌, ◌≤◌, inl, inr, List, [], ◌∷◌, ◌++◌, Some, true, false, length, get_or, flat_map, slice_get, slice_index, Contains, All, IsTrue, refl, sym, ap, ◌∙◌, subst, arith}
-use Rattle.std.specs.List.{concat}
+-- Rectangles by the numbers of their names: the directions, the board, and what is wrong with it.
+use Rattle.std.proofs.Common.{◌≡◌, ◌≢◌, ◌↔◌, ℕ, ◌+◌, ◌*◌, ◌<◌, ◌≤◌, inl, inr, List, [], ◌∷◌, ◌++◌, Some, length, get_or, map, flat_map, slice_get, slice_index, Contains, All, refl, sym, ap, ◌∙◌, subst, arith}
+use Rattle.std.specs.List.{AllZip, concat}
 use Rattle.std.proofs.lemmas.List.{length-map, get_or-map, length-append}
-use Rattle.std.proofs.lemmas.List.Elements.{All-contains}
 use Rattle.std.proofs.lemmas.Option.{slice_get_within, slice_get-get_or}
-use Rattle.rbg_base.specs.Names.{is_name}
-use Rattle.rbg_game.specs.NameTables.{IsNoNewName}
-use Rattle.rbg_syntax.specs.Tree.{SpeltName, SpeltBoard, rectangle, hexagon, graph, SpeltDescription}
-use Rattle.rbg_board.specs.Graph.{Graph, IsClosed}
-use Rattle.rbg_board.specs.Cells.{Rows, cells_in, IsCell, AreDifferent}
+use Rattle.std.proofs.lemmas.Slice.Zip.{AllZip-long}
+use Rattle.rbg_syntax.specs.Tree.{SpeltName, rectangle}
+use Rattle.rbg_syntax.specs.Views.{name_of}
+use Rattle.rbg_syntax.specs.declared.names.Name.{Name}
+use Rattle.rbg_board.specs.Graph.{Graph, HasWidth, IsClosed}
+use Rattle.rbg_board.specs.Cells.{Rows, cells_in, IsCell, AreDifferent, width_of}
 use Rattle.rbg_board.specs.Rectangle.{IsBeside, IsEven, IsRectangle, MakesRectangle, RectangleRefusal}
 use Rattle.rbg_board.specs.declared.error.BoardError.{BoardError}
 use Rattle.rbg_board.specs.declared.error.BoardError.TheVariants as board_errors
-use Rattle.rbg_board.proofs.Numbering.{start_of, start-suc, number-lt, row_of_cell}
+use Rattle.rbg_board.proofs.Numbering.{number-lt, row_of_cell}
+use Rattle.rbg_board.proofs.RectangleEdges.{even_start}
 use Rattle.rbg_game.specs.declared.error.GameError.{GameError}
 use Rattle.rbg_game.specs.declared.error.GameError.TheVariants as errors
-use Rattle.rbg_game.specs.Naming.{IsNumberOf, AreDifferentNames, EachWith}
-use Rattle.rbg_game.specs.Described.{texts_of, NamedBoard, IsRectangleBoard, AreNames, AreLawfulNames}
-use Rattle.rbg_game.specs.Faults.{HasFault, no_name, in_cell, direction, HasBoardFault}
-use Rattle.rbg_game.specs.BoardNaming.{MakesBoard, CellsRefusal, DirectionsRefusal, Joins, NumbersDirections, BoardFaultStands, IsBoardRefusal, refusal_of}
-use Rattle.rbg_game.proofs.BoardNaming.{each_with_length, each_with_at, unnumbered_rows, rows_once, rows_below}
+use Rattle.rbg_game.specs.Descriptions.{IsNumberOf, texts_of, AreDifferentNames, AreLawfulNames}
+use Rattle.rbg_game.specs.Faults.{HasBoardFault, unknown_piece, no_direction, no_rectangle, board_memory}
+use Rattle.rbg_game.specs.internal.NameTables.{HasLookUpFault, not_there, no_memory as look_up_memory, HasNameFault, no_name, same_name, no_memory}
+use Rattle.rbg_game.specs.internal.Boards.{MakesBoard, Joins, NumbersDirections, HasDirectionFault, no_name as no_direction_name, no_memory as direction_memory, refusal_of}
+use Rattle.rbg_game.proofs.Lists.{Contains-one, Contains-map_read, slice_get-append_left, slice_get-last, AllZip-at}
+use Rattle.rbg_game.proofs.NameFaults.{again_alone}
+use Rattle.rbg_game.proofs.BoardNames.{rows_below}
 
 -- Directions.
-
-slice_get-append : {A : Type 0} (xs ys : List A) (k : ℕ) (x : A) → slice_get xs k ≡ Some x → slice_get (xs ++ ys) k ≡ Some x
-slice_get-append [] ys k x is = absurd (let within = slice_get_within [] k x is in omega arith)
-slice_get-append (y ∷ xs) ys zero x is = is
-slice_get-append (y ∷ xs) ys (suc k) x is = slice_get-append xs ys k x is
-
-slice_get-last : {A : Type 0} (xs : List A) (x : A) → slice_get (xs ++ x ∷ []) (length xs) ≡ Some x
-slice_get-last [] x = refl
-slice_get-last (y ∷ xs) x = slice_get-last xs x
 
 pub joins_known : (table : List (List ℕ)) (text : List ℕ) (n : ℕ) → slice_get table n ≡ Some text → Joins table table text n
 joins_known table text n is = record { number = is; table = inl (slice_get_within table n text is, refl) }
@@ -51,7 +45,7 @@ four_elements (x ∷ y ∷ z ∷ w ∷ v ∷ xs) a b c d long = absurd (omega (a
 kept : (old new : List (List ℕ)) (text : List ℕ) (n : ℕ) → Joins old new text n → (k : ℕ) (name : List ℕ) → slice_get old k ≡ Some name → slice_get new k ≡ Some name
 kept old new text n joins k name is = elim joins.table [
   | inl known ↦ rw known.1 is
-  | inr added ↦ rw added.1 (slice_get-append old (text ∷ []) k name is)
+  | inr added ↦ rw added.1 (slice_get-append_left old (text ∷ []) k name is)
 ]
 
 grows : (old new : List (List ℕ)) (text : List ℕ) (n : ℕ) → Joins old new text n → length new ≤ length old + 1
@@ -106,11 +100,11 @@ text_at : (names : List SpeltName) (i : ℕ) (d : SpeltName) → i < length name
 text_at names i d within = slice_get-get_or (texts_of names) i d.text (omega (arith, length-map names (λ (name : SpeltName). name.text))) ∙ ap Some (get_or-map (λ (name : SpeltName). name.text) names i d d.text within)
 
 -- numbers are equal exactly where the names are
-numbers_agree : (table : List (List ℕ)) (names : List SpeltName) (numbers : List ℕ) → AreDifferentNames table → EachWith (IsNumberOf table) names numbers → (i j : ℕ) → i < length names → j < length names → (slice_index numbers i ≡ slice_index numbers j) ↔ (slice_get (texts_of names) i ≡ slice_get (texts_of names) j)
+numbers_agree : (table : List (List ℕ)) (names : List SpeltName) (numbers : List ℕ) → AreDifferentNames table → AllZip (IsNumberOf table) names numbers → (i j : ℕ) → i < length names → j < length names → (slice_index numbers i ≡ slice_index numbers j) ↔ (slice_get (texts_of names) i ≡ slice_get (texts_of names) j)
 numbers_agree table names numbers differ named i j i_within j_within =
     let none : SpeltName = record { text = []; at = 0 } in
-    let at_i : slice_get table (get_or numbers i 0) ≡ Some (get_or names i none).text = each_with_at (IsNumberOf table) names numbers i none 0 named i_within in
-    let at_j : slice_get table (get_or numbers j 0) ≡ Some (get_or names j none).text = each_with_at (IsNumberOf table) names numbers j none 0 named j_within in
+    let at_i : slice_get table (get_or numbers i 0) ≡ Some (get_or names i none).text = AllZip-at (IsNumberOf table) names numbers i none 0 named i_within in
+    let at_j : slice_get table (get_or numbers j 0) ≡ Some (get_or names j none).text = AllZip-at (IsNumberOf table) names numbers j none 0 named j_within in
     let text_i = text_at names i none i_within in
     let text_j = text_at names j none j_within in (
       λ same. text_i ∙ sym at_i ∙ ap (slice_get table) same ∙ at_j ∙ sym text_j,
@@ -118,11 +112,6 @@ numbers_agree table names numbers differ named i j i_within j_within =
     )
 
 -- The board.
-
--- in even rows the rows begin at the multiples of their length
-even_start : (rows : Rows) (r : ℕ) → IsEven rows → r ≤ length rows → start_of rows r ≡ r * cells_in rows 0
-even_start rows zero even within = omega arith
-even_start rows (suc r) even within = omega (arith, start-suc rows r, even r (omega arith), even_start rows r even (omega arith))
 
 is_vertex : (rows : Rows) (r c : ℕ) → IsEven rows → IsCell rows r c → r * cells_in rows 0 + c < length (concat rows)
 is_vertex rows r c even is_cell = omega (arith, number-lt rows r c is_cell, even_start rows r even (omega (arith, row_of_cell rows r c is_cell)))
@@ -140,8 +129,8 @@ rectangle_closed directions rows board makes is =
           omega (arith, beside.to_number, is_vertex rows beside.to_row beside.to_cell makes.even beside.is_to_cell);
     }
 
-pub rectangle_made : (pieces : List (List ℕ)) (names : List SpeltName) (rows : List (List SpeltName)) (cells : List (List ℕ)) (numbers : List ℕ) (table : List (List ℕ)) (board : Graph) → length names ≡ 4 → EachWith (EachWith (IsNumberOf pieces)) rows cells → NumbersDirections names numbers table → AreLawfulNames table → MakesRectangle numbers cells → IsRectangle numbers cells board → MakesBoard pieces (rectangle names rows) table board
-rectangle_made pieces names rows cells numbers table board four named numbered lawful makes is =
+pub rectangle_made : (pieces : List (List ℕ)) (names : List SpeltName) (rows : List (List SpeltName)) (cells : List (List ℕ)) (numbers : List ℕ) (table : List (List ℕ)) (board : Graph) → length names ≡ 4 → AllZip (AllZip (IsNumberOf pieces)) rows cells → NumbersDirections names numbers table → AreLawfulNames table → MakesRectangle numbers cells → IsRectangle numbers cells board → HasWidth (width_of numbers) board → MakesBoard pieces (rectangle names rows) table board
+rectangle_made pieces names rows cells numbers table board four named numbered lawful makes is wide =
     let in_order = numbered.in_order makes.different in
     let first : 0 * cells_in cells 0 + 0 < length (concat cells) = is_vertex cells 0 0 makes.even makes.first_cell in
     let size : length board.first ≡ length (concat cells) = ap length is.first_pieces in
@@ -154,6 +143,7 @@ rectangle_made pieces names rows cells numbers table board four named numbered l
         differ = lawful.differ;
         makes = subst (λ ds. MakesRectangle ds cells) in_order.0 makes;
         board = subst (λ ds. IsRectangle ds cells board) in_order.0 is;
+        width = subst (λ ds. HasWidth (width_of ds) board) in_order.0 wide;
       };
       names = lawful.names;
       few = omega arith;
@@ -162,137 +152,55 @@ rectangle_made pieces names rows cells numbers table board four named numbered l
       first_pieces = subst (All (λ x. x < length pieces)) (sym is.first_pieces) (rows_below pieces rows cells named);
     }
 
--- Refusals.
+-- Faults.
 
--- a name that is new to a table is refused for itself alone
-pub insert_refused : (known : List (List ℕ)) (name : SpeltName) (error : GameError) → ¬ Contains known name.text → IsNoNewName known name error → DirectionsRefusal (name ∷ []) error
-unfolding DirectionsRefusal
-insert_refused known name (errors.UnknownName at) fresh h = record { name = name; stands = (0, omega arith, refl); no_name = h.1; place = sym h.0 }
-insert_refused known name (errors.SameName at) fresh h = absurd (fresh h.1)
-insert_refused known name (errors.Bound at) fresh h = h
-insert_refused known name (errors.SwitchInPattern at) fresh h = h
-insert_refused known name (errors.PatternTooDeep at) fresh h = h
-insert_refused known name (errors.TooMany what) fresh h = h
-insert_refused known name errors.Memory fresh h = h
-insert_refused known name (errors.Board error) fresh h = h
+-- a new name is refused for itself alone
+pub new_direction_fault : (known : List (List ℕ)) (name : SpeltName) (error : GameError) → ¬ Contains known name.text → HasNameFault known (name ∷ []) error → HasDirectionFault (name ∷ []) error
+new_direction_fault known name _ fresh (no_name h) = no_direction_name h
+new_direction_fault known name _ fresh (same_name {at = at} h) = absurd (fresh (again_alone known name at h).0)
+new_direction_fault known name _ fresh no_memory = direction_memory
 
-false≢true : false ≡ true → ⊥
-false≢true same = cc
+-- the same of a name that is read from a list
+pub direction_fault_at : (names : List Name) (i : ℕ) (name : Name) (error : GameError) → i < length names → name ≡ get_or names i name → HasDirectionFault (name_of (get_or names i name) ∷ []) error → HasDirectionFault (map name_of names) error
+direction_fault_at names i name _ within is (no_direction_name h) =
+    let same : name_of (get_or names i name) ≡ h.name = Contains-one (name_of (get_or names i name)) h.name h.stands in
+    let there = Contains-map_read name_of names i name within is in
+    no_direction_name (record { name = h.name; stands = subst (Contains (map name_of names)) (ap name_of is ∙ same) there; no_name = h.no_name; place = h.place })
+direction_fault_at names i name _ within is direction_memory = direction_memory
 
--- a cell of no known piece
-pub cells_refused : (pieces : List (List ℕ)) (names : List SpeltName) (rows : List (List SpeltName)) (error : GameError) → CellsRefusal pieces (flat_map (λ row. row) rows) error → IsBoardRefusal pieces (rectangle names rows) error
-unfolding CellsRefusal BoardFaultStands
-cells_refused pieces names rows (errors.UnknownName at) h =
-    record {
-      fault = inl h;
-      no_board = λ memory b same lawful is. unnumbered_rows b.pieces rows h.name is.cells h.stands (subst (λ list. ¬ Contains list h.name.text) (sym same) h.unknown) is.named;
-    }
-cells_refused pieces names rows (errors.SameName at) h = absurd h
-cells_refused pieces names rows (errors.Bound at) h = absurd h
-cells_refused pieces names rows (errors.SwitchInPattern at) h = absurd h
-cells_refused pieces names rows (errors.PatternTooDeep at) h = absurd h
-cells_refused pieces names rows (errors.TooMany what) h = absurd h
-cells_refused pieces names rows errors.Memory h = record { fault = tt; no_board = λ memory b same lawful is. memory refl }
-cells_refused pieces names rows (errors.Board error) h = absurd h
+-- what is wrong with the cells or the directions is wrong with the rectangle
+pub cells_fault : (pieces : List (List ℕ)) (names : List SpeltName) (rows : List (List SpeltName)) (error : GameError) → HasLookUpFault pieces (flat_map (λ row. row) rows) error → HasBoardFault pieces (rectangle names rows) error
+cells_fault pieces names rows _ (not_there h) = unknown_piece h
+cells_fault pieces names rows _ look_up_memory = board_memory
 
--- a name of the list is a text of it
-contains_text : (names : List SpeltName) (name : SpeltName) → Contains names name → Contains (texts_of names) name.text
-contains_text names name (k, within, is) = (k, omega (arith, length-map names (λ (name : SpeltName). name.text)), get_or-map (λ (name : SpeltName). name.text) names k name name.text within ∙ ap (λ (n : SpeltName). n.text) is)
+pub directions_fault : (pieces : List (List ℕ)) (names : List SpeltName) (rows : List (List SpeltName)) (error : GameError) → HasDirectionFault names error → HasBoardFault pieces (rectangle names rows) error
+directions_fault pieces names rows _ (no_direction_name h) = no_direction h
+directions_fault pieces names rows _ direction_memory = board_memory
 
--- a direction that is no name
-pub directions_refused : (pieces : List (List ℕ)) (names : List SpeltName) (rows : List (List SpeltName)) (error : GameError) → DirectionsRefusal names error → IsBoardRefusal pieces (rectangle names rows) error
-unfolding DirectionsRefusal BoardFaultStands
-directions_refused pieces names rows (errors.UnknownName at) h =
-    record {
-      fault = inr h;
-      no_board = λ memory b same lawful is.
-          let named : AreNames (texts_of names) = subst AreNames is.directions lawful in
-          let is_one : is_name h.name.text ≡ true = All-contains (λ text. IsTrue (is_name text)) (texts_of names) h.name.text named (contains_text names h.name h.stands) in
-          false≢true (sym h.no_name ∙ is_one);
-    }
-directions_refused pieces names rows (errors.SameName at) h = absurd h
-directions_refused pieces names rows (errors.Bound at) h = absurd h
-directions_refused pieces names rows (errors.SwitchInPattern at) h = absurd h
-directions_refused pieces names rows (errors.PatternTooDeep at) h = absurd h
-directions_refused pieces names rows (errors.TooMany what) h = absurd h
-directions_refused pieces names rows errors.Memory h = record { fault = tt; no_board = λ memory b same lawful is. memory refl }
-directions_refused pieces names rows (errors.Board error) h = absurd h
+-- what the rectangle is refused for is a fault of the board
+refusal_fault : (pieces : List (List ℕ)) (names : List SpeltName) (rows : List (List SpeltName)) (numbers : List ℕ) (cells : List (List ℕ)) (table : List (List ℕ)) (error : BoardError) → AllZip (AllZip (IsNumberOf pieces)) rows cells → NumbersDirections names numbers table → AreDifferentNames table → RectangleRefusal numbers cells error → ¬ (error ≡ board_errors.Memory) → HasBoardFault pieces (rectangle names rows) (errors.Board error)
+refusal_fault pieces names rows numbers cells table error named numbered differ refused is_fault =
+    no_rectangle (record {
+      directions = numbers;
+      cells = cells;
+      one_each = AllZip-long (IsNumberOf table) names numbers numbered.named;
+      numbered = numbers_agree table names numbers differ numbered.named;
+      named = named;
+      refused = refused;
+      is_fault = is_fault;
+    })
 
--- what a rectangle by numbers is refused for, no rectangle by these names has
-refused_for_all : (pieces : List (List ℕ)) (names : List SpeltName) (rows : List (List SpeltName)) (numbers : List ℕ) (cells : List (List ℕ)) (table : List (List ℕ)) (error : BoardError) → EachWith (EachWith (IsNumberOf pieces)) rows cells → NumbersDirections names numbers table → AreLawfulNames pieces → AreLawfulNames table → RectangleRefusal numbers cells error → ¬ (error ≡ board_errors.Memory) → (b : NamedBoard) → b.pieces ≡ pieces → ¬ IsRectangleBoard b names rows
-unfolding RectangleRefusal
-refused_for_all pieces names rows numbers cells table error named numbered lawful_pieces lawful_table refused memory b same is =
-    let same_cells : is.cells ≡ cells = rows_once pieces lawful_pieces.differ rows is.cells cells (subst (λ list. EachWith (EachWith (IsNumberOf list)) rows is.cells) same is.named) named in
-    let makes : MakesRectangle (0 ∷ 1 ∷ 2 ∷ 3 ∷ []) cells = subst (MakesRectangle (0 ∷ 1 ∷ 2 ∷ 3 ∷ [])) same_cells is.makes in
-    let texts_differ : AreDifferentNames (texts_of names) = subst AreDifferentNames is.directions is.differ in
-    stands error refused memory makes texts_differ
-  where
-    stands : (error : BoardError) → RectangleRefusal numbers cells error → ¬ (error ≡ board_errors.Memory) → MakesRectangle (0 ∷ 1 ∷ 2 ∷ 3 ∷ []) cells → AreDifferentNames (texts_of names) → ⊥
-    stands board_errors.NoCell lacks memory makes texts_differ = omega (arith, makes.first_cell)
-    stands (board_errors.RowLength row) uneven memory makes texts_differ = uneven.1.uneven (makes.even row uneven.1.is_row)
-    stands board_errors.TooManyVertices many memory makes texts_differ = omega (arith, many.2, makes.fits)
-    stands board_errors.SameDirection twice memory makes texts_differ =
-        let t = twice.3 in
-        let none : SpeltName = record { text = []; at = 0 } in
-        let long = each_with_length (IsNumberOf table) names numbers numbered.named in
-        let later : t.later < length names = omega (arith, t.within) in
-        let earlier : t.earlier < length names = omega (arith, t.apart) in
-        let same_text = (numbers_agree table names numbers lawful_table.differ numbered.named t.earlier t.later earlier later).0 t.same in
-        let at_later = text_at names t.later none later in
-        let one = texts_differ.one_number t.earlier t.later (get_or names t.later none).text (same_text ∙ at_later) at_later in
-        omega (arith, one, t.apart)
-    stands board_errors.UnknownVertex none memory makes texts_differ = none
-    stands board_errors.SameVertex none memory makes texts_differ = none
-    stands board_errors.Memory h memory makes texts_differ = memory refl
-
-fault_refused : (pieces : List (List ℕ)) (names : List SpeltName) (rows : List (List SpeltName)) (numbers : List ℕ) (cells : List (List ℕ)) (table : List (List ℕ)) (error : BoardError) → EachWith (EachWith (IsNumberOf pieces)) rows cells → NumbersDirections names numbers table → AreLawfulNames pieces → AreLawfulNames table → RectangleRefusal numbers cells error → ¬ (error ≡ board_errors.Memory) → IsBoardRefusal pieces (rectangle names rows) (errors.Board error)
-unfolding BoardFaultStands
-fault_refused pieces names rows numbers cells table error named numbered lawful_pieces lawful_table refused memory =
-    record {
-      fault = record {
-        directions = numbers;
-        cells = cells;
-        one_each = sym (each_with_length (IsNumberOf table) names numbers numbered.named);
-        numbered = numbers_agree table names numbers lawful_table.differ numbered.named;
-        named = named;
-        refused = refused;
-        is_fault = memory;
-      };
-      no_board = λ _ b same lawful is. refused_for_all pieces names rows numbers cells table error named numbered lawful_pieces lawful_table refused memory b same is;
-    }
-
-pub memory_refused : (pieces : List (List ℕ)) (spelt : SpeltBoard) → IsBoardRefusal pieces spelt errors.Memory
-unfolding BoardFaultStands
-memory_refused pieces (rectangle names rows) = record { fault = tt; no_board = λ memory b same lawful is. memory refl }
-memory_refused pieces (hexagon names rows) = record { fault = tt; no_board = λ memory b same lawful is. memory refl }
-memory_refused pieces (graph vertices) = record { fault = tt; no_board = λ memory b same lawful is. memory refl }
-
--- what the rectangle is refused for, the board is
-pub rectangle_refused : (pieces : List (List ℕ)) (names : List SpeltName) (rows : List (List SpeltName)) (numbers : List ℕ) (cells : List (List ℕ)) (table : List (List ℕ)) (error : BoardError) → EachWith (EachWith (IsNumberOf pieces)) rows cells → NumbersDirections names numbers table → AreLawfulNames pieces → AreLawfulNames table → RectangleRefusal numbers cells error → IsBoardRefusal pieces (rectangle names rows) (refusal_of error)
-rectangle_refused pieces names rows numbers cells table board_errors.NoCell named numbered lawful_pieces lawful_table refused = fault_refused pieces names rows numbers cells table board_errors.NoCell named numbered lawful_pieces lawful_table refused (λ memory. cc)
-rectangle_refused pieces names rows numbers cells table (board_errors.RowLength row) named numbered lawful_pieces lawful_table refused = fault_refused pieces names rows numbers cells table (board_errors.RowLength row) named numbered lawful_pieces lawful_table refused (λ memory. cc)
-rectangle_refused pieces names rows numbers cells table board_errors.TooManyVertices named numbered lawful_pieces lawful_table refused = fault_refused pieces names rows numbers cells table board_errors.TooManyVertices named numbered lawful_pieces lawful_table refused (λ memory. cc)
-rectangle_refused pieces names rows numbers cells table board_errors.SameDirection named numbered lawful_pieces lawful_table refused = fault_refused pieces names rows numbers cells table board_errors.SameDirection named numbered lawful_pieces lawful_table refused (λ memory. cc)
-rectangle_refused pieces names rows numbers cells table board_errors.UnknownVertex named numbered lawful_pieces lawful_table refused = fault_refused pieces names rows numbers cells table board_errors.UnknownVertex named numbered lawful_pieces lawful_table refused (λ memory. cc)
-rectangle_refused pieces names rows numbers cells table board_errors.SameVertex named numbered lawful_pieces lawful_table refused = fault_refused pieces names rows numbers cells table board_errors.SameVertex named numbered lawful_pieces lawful_table refused (λ memory. cc)
-rectangle_refused pieces names rows numbers cells table board_errors.Memory named numbered lawful_pieces lawful_table refused = memory_refused pieces (rectangle names rows)
-
--- a fault of the board is one of the description
-pub has_board_fault : (d : SpeltDescription) (error : GameError) → BoardFaultStands (texts_of d.pieces) d.board error → HasFault d error
-unfolding BoardFaultStands HasFault
-has_board_fault d (errors.UnknownName at) h = elim h [
-  | inl cell ↦ in_cell cell.name cell.stands cell.unknown cell.place
-  | inr name ↦ no_name name.name (direction name.stands) name.no_name name.place
-]
-has_board_fault d (errors.SameName at) h = absurd h
-has_board_fault d (errors.Bound at) h = absurd h
-has_board_fault d (errors.SwitchInPattern at) h = absurd h
-has_board_fault d (errors.PatternTooDeep at) h = absurd h
-has_board_fault d (errors.TooMany what) h = absurd h
-has_board_fault d errors.Memory h = tt
-has_board_fault d (errors.Board error) h = board_fault d.board h
-  where
-    board_fault : (board : SpeltBoard) → BoardFaultStands (texts_of d.pieces) board (errors.Board error) → HasBoardFault d board error
-    board_fault (rectangle names rows) h = h
-    board_fault (hexagon names rows) h = h
-    board_fault (graph vertices) h = h
+pub rectangle_fault : (pieces : List (List ℕ)) (names : List SpeltName) (rows : List (List SpeltName)) (numbers : List ℕ) (cells : List (List ℕ)) (table : List (List ℕ)) (error : BoardError) → AllZip (AllZip (IsNumberOf pieces)) rows cells → NumbersDirections names numbers table → AreDifferentNames table → RectangleRefusal numbers cells error → HasBoardFault pieces (rectangle names rows) (refusal_of error)
+rectangle_fault pieces names rows numbers cells table board_errors.NoCell named numbered differ refused =
+    refusal_fault pieces names rows numbers cells table board_errors.NoCell named numbered differ refused (λ memory. cc)
+rectangle_fault pieces names rows numbers cells table (board_errors.RowLength row) named numbered differ refused =
+    refusal_fault pieces names rows numbers cells table (board_errors.RowLength row) named numbered differ refused (λ memory. cc)
+rectangle_fault pieces names rows numbers cells table board_errors.TooManyVertices named numbered differ refused =
+    refusal_fault pieces names rows numbers cells table board_errors.TooManyVertices named numbered differ refused (λ memory. cc)
+rectangle_fault pieces names rows numbers cells table board_errors.SameDirection named numbered differ refused =
+    refusal_fault pieces names rows numbers cells table board_errors.SameDirection named numbered differ refused (λ memory. cc)
+rectangle_fault pieces names rows numbers cells table board_errors.UnknownVertex named numbered differ refused =
+    refusal_fault pieces names rows numbers cells table board_errors.UnknownVertex named numbered differ refused (λ memory. cc)
+rectangle_fault pieces names rows numbers cells table board_errors.SameVertex named numbered differ refused =
+    refusal_fault pieces names rows numbers cells table board_errors.SameVertex named numbered differ refused (λ memory. cc)
+rectangle_fault pieces names rows numbers cells table board_errors.Memory named numbered differ refused = board_memory

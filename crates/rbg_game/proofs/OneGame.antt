@@ -4,17 +4,18 @@ use Rattle.std.proofs.lemmas.Option.{same_Some}
 use Rattle.std.proofs.lemmas.List.{map-append}
 use Rattle.rbg_syntax.specs.Tree.{SpeltBounded, SpeltDescription}
 use Rattle.rbg_rules.specs.State.{AbstractGame}
-use Rattle.rbg_game.specs.Naming.{Names, names_in, AreDifferentNames, RuleIs}
-use Rattle.rbg_game.specs.Described.{board_in, holder_names, holders_of, AreBounds, IsGameOf}
+use Rattle.rbg_game.specs.Descriptions.{Names, names_in, AreDifferentNames, RuleIs}
+use Rattle.rbg_game.specs.Descriptions.{board_in, holder_names, holders_of, AreBounds, IsGameOf}
 use Rattle.rbg_game.specs.OneGame.{OneGameOfDescriptionLaw, OneGameLaw}
 use Rattle.rbg_game.proofs.LoadingLemmas.{one_spelt}
-use Rattle.rbg_game.proofs.OneGameLists.{each_with_one, front_differs}
+use Rattle.rbg_game.proofs.Lists.{AllZip-once}
+use Rattle.rbg_game.proofs.OneGameLists.{front_differs}
 use Rattle.rbg_game.proofs.OneGameRules.{HasDifferentNames, numbered_rule_once}
 use Rattle.rbg_game.proofs.OneGameBoards.{IsSameBoard, board_once, board_directions_differ}
 
 bounds_once : (holders : List SpeltBounded) (a b : List ℕ) → AreBounds holders a → AreBounds holders b → a ≡ b
 bounds_once =
-    each_with_one (λ (holder : SpeltBounded) (bound : ℕ). holder.bound.value ≡ Some bound) (λ (holder : SpeltBounded) (bound : ℕ). holder.bound.value ≡ Some bound) (λ holder m n is_m is_n. same_Some m n (sym is_m ∙ is_n))
+    AllZip-once (λ (holder : SpeltBounded) (bound : ℕ). holder.bound.value ≡ Some bound) (λ (holder : SpeltBounded) (bound : ℕ). holder.bound.value ≡ Some bound) (λ holder m n is_m is_n. same_Some m n (sym is_m ∙ is_n))
 
 -- the players are the first of the variables
 players_differ : (d : SpeltDescription) (game : AbstractGame) → IsGameOf d game → AreDifferentNames game.players
@@ -31,18 +32,19 @@ one_game_of_description_law d a b left right =
     let players : a.players ≡ b.players = left.players ∙ sym right.players in
     let pieces : a.pieces ≡ b.pieces = left.pieces ∙ sym right.pieces in
     let variables : a.variables ≡ b.variables = left.variables ∙ sym right.variables in
-    let board : IsSameBoard (board_in a) (board_in b) = board_once d.board (board_in a) (board_in b) left.lawful_pieces.differ pieces left.board right.board in
-    let names : names_in a ≡ names_in b = λ i. record { players = players i; variables = variables i; pieces = pieces i; directions = board.directions i } in
-    record {
-      players = players;
-      pieces = pieces;
-      variables = variables;
-      bounds = bounds_once (holders_of d) a.bounds b.bounds left.bounds right.bounds;
-      directions = board.directions;
-      first = board.first;
-      ways = board.ways;
-      rules =
-          numbered_rule_once (names_in a) (names_differ d a left) d.rules a.rules b.rules left.rules (subst (λ (ns : Names). RuleIs ns d.rules b.rules) (sym names) right.rules) left.lawful.numbered right.lawful.numbered;
+    let bounds : a.bounds ≡ b.bounds = bounds_once (holders_of d) a.bounds b.bounds left.bounds right.bounds in
+    let same : IsSameBoard (board_in a) (board_in b) = board_once d.board (board_in a) (board_in b) left.lawful_pieces.differ pieces left.board right.board in
+    let names : names_in a ≡ names_in b = λ i. record { players = players i; variables = variables i; pieces = pieces i; directions = same.directions i } in
+    let rules : a.rules ≡ b.rules =
+    numbered_rule_once (names_in a) (names_differ d a left) d.rules a.rules b.rules left.rules (subst (λ (ns : Names). RuleIs ns d.rules b.rules) (sym names) right.rules) left.lawful.numbered right.lawful.numbered in
+    λ i. record {
+      players = players i;
+      pieces = pieces i;
+      variables = variables i;
+      bounds = bounds i;
+      directions = same.directions i;
+      board = same.board i;
+      rules = rules i;
     }
 
 pub one_game_law : OneGameLaw

@@ -1,51 +1,46 @@
--- What is spelt as a board is at most one, by its names, its first pieces and where each direction leads.
-use Rattle.std.proofs.Common.{◌≡◌, ℕ, ◌↔◌, List, [], ◌∷◌, Option, Some, None, map, refl, sym, ◌∙◌, subst}
-use Rattle.std.specs.List.{concat}
-use Rattle.rbg_board.specs.Graph.{Graph, next, IsGraphOf}
+-- What is spelt as a board is at most one.
+use Rattle.std.proofs.Common.{◌≡◌, ℕ, List, [], ◌∷◌, map, sym, ◌∙◌, subst}
+use Rattle.std.specs.List.{AllZip, concat}
+use Rattle.rbg_board.specs.Cells.{width_of}
+use Rattle.rbg_board.specs.Graph.{HasWidth, IsGraphOf}
 use Rattle.rbg_board.specs.Rectangle.{RectangleEdge}
 use Rattle.rbg_board.specs.Hexagon.{HexagonEdge}
-use Rattle.rbg_board.specs.Written.{Written, pieces_of, WrittenEdge}
+use Rattle.rbg_board.specs.Written.{Written, pieces_of, directions_of, WrittenEdge}
+use Rattle.rbg_board.proofs.CallerLemmas.{one_graph}
 use Rattle.rbg_syntax.specs.Tree.{SpeltName, SpeltEdge, SpeltVertex, SpeltBoard, rectangle, hexagon, graph}
-use Rattle.rbg_game.specs.Naming.{IsNumberOf, AreDifferentNames, EachWith}
-use Rattle.rbg_game.specs.Described.{NamedBoard, IsRectangleBoard, IsHexagonBoard, EdgeIs, VertexIs, directions_named, IsGraphBoard, BoardIs}
-use Rattle.rbg_game.proofs.BoardNaming.{rows_once}
-use Rattle.rbg_game.proofs.OneGameLists.{each_with_one, first_use_once}
+use Rattle.rbg_game.specs.Descriptions.{IsNumberOf, AreDifferentNames}
+use Rattle.rbg_game.specs.Descriptions.{NamedBoard, IsRectangleBoard, IsHexagonBoard, EdgeIs, VertexIs, directions_named, IsGraphBoard, BoardIs}
+use Rattle.rbg_game.proofs.BoardNames.{rows_once}
+use Rattle.rbg_game.proofs.Lists.{AllZip-once}
+use Rattle.rbg_game.proofs.OneGameLists.{first_use_once}
 
--- The boards have the same directions, the same first pieces and the same ways.
+-- The boards are one, and have the same directions.
 pub record IsSameBoard (a b : NamedBoard) : Type 0 where
   pub directions : a.directions ≡ b.directions
-  pub first : a.board.first ≡ b.board.first
-  pub ways : (v d : ℕ) → next a.board v d ≡ next b.board v d
+  pub board : a.board ≡ b.board
 
-option_once : (o p : Option ℕ) → ((u : ℕ) → (o ≡ Some u) ↔ (p ≡ Some u)) → o ≡ p
-option_once None None same = refl
-option_once None (Some u) same = (same u).1 refl
-option_once (Some u) p same = sym ((same u).0 refl)
-
-ways_once : (g h : Graph) (first : List ℕ) (Edge : ℕ → ℕ → ℕ → Type 0) → IsGraphOf g first Edge → IsGraphOf h first Edge → (v d : ℕ) → next g v d ≡ next h v d
-ways_once g h first Edge left right v d =
-    let same : (u : ℕ) → (next g v d ≡ Some u) ↔ (next h v d ≡ Some u) = λ u. (λ leads. (right.edges v d u).1 ((left.edges v d u).0 leads), λ leads. (left.edges v d u).1 ((right.edges v d u).0 leads)) in
-    option_once (next g v d) (next h v d) same
-
--- boards of the same first pieces and the same edges
-boards_once : (a b : NamedBoard) (first : List ℕ) (Edge : ℕ → ℕ → ℕ → Type 0) → a.directions ≡ b.directions → IsGraphOf a.board first Edge → IsGraphOf b.board first Edge → IsSameBoard a b
-boards_once a b first Edge same left right =
-    record { directions = same; first = left.first_pieces ∙ sym right.first_pieces; ways = ways_once a.board b.board first Edge left right }
-
-cells_once : (a b : NamedBoard) (rows : List (List SpeltName)) (left right : List (List ℕ)) → AreDifferentNames a.pieces → a.pieces ≡ b.pieces → EachWith (EachWith (IsNumberOf a.pieces)) rows left → EachWith (EachWith (IsNumberOf b.pieces)) rows right → left ≡ right
-cells_once a b rows left right differ same is_left is_right = rows_once a.pieces differ rows left right is_left (subst (λ pieces. EachWith (EachWith (IsNumberOf pieces)) rows right) (sym same) is_right)
+cells_once : (a b : NamedBoard) (rows : List (List SpeltName)) (left right : List (List ℕ)) → AreDifferentNames a.pieces → a.pieces ≡ b.pieces → AllZip (AllZip (IsNumberOf a.pieces)) rows left → AllZip (AllZip (IsNumberOf b.pieces)) rows right → left ≡ right
+cells_once a b rows left right differ same is_left is_right = rows_once a.pieces differ rows left right is_left (subst (λ pieces. AllZip (AllZip (IsNumberOf pieces)) rows right) (sym same) is_right)
 
 rectangle_once : (a b : NamedBoard) (names : List SpeltName) (rows : List (List SpeltName)) → AreDifferentNames a.pieces → a.pieces ≡ b.pieces → IsRectangleBoard a names rows → IsRectangleBoard b names rows → IsSameBoard a b
 rectangle_once a b names rows differ same left right =
     let cells : left.cells ≡ right.cells = cells_once a b rows left.cells right.cells differ same left.named right.named in
-    boards_once a b (concat left.cells) (RectangleEdge (0 ∷ 1 ∷ 2 ∷ 3 ∷ []) left.cells) (left.directions ∙ sym right.directions) left.board
-    (subst (λ rows. IsGraphOf b.board (concat rows) (RectangleEdge (0 ∷ 1 ∷ 2 ∷ 3 ∷ []) rows)) (sym cells) right.board)
+    record {
+      directions = left.directions ∙ sym right.directions;
+      board =
+          one_graph a.board b.board 4 (concat left.cells) (RectangleEdge (0 ∷ 1 ∷ 2 ∷ 3 ∷ []) left.cells) left.width right.width left.board
+          (subst (λ rows. IsGraphOf b.board (concat rows) (RectangleEdge (0 ∷ 1 ∷ 2 ∷ 3 ∷ []) rows)) (sym cells) right.board);
+    }
 
 hexagon_once : (a b : NamedBoard) (names : List SpeltName) (rows : List (List SpeltName)) → AreDifferentNames a.pieces → a.pieces ≡ b.pieces → IsHexagonBoard a names rows → IsHexagonBoard b names rows → IsSameBoard a b
 hexagon_once a b names rows differ same left right =
     let cells : left.cells ≡ right.cells = cells_once a b rows left.cells right.cells differ same left.named right.named in
-    boards_once a b (concat left.cells) (HexagonEdge (0 ∷ 1 ∷ 2 ∷ 3 ∷ 4 ∷ 5 ∷ []) left.cells) (left.directions ∙ sym right.directions) left.board
-    (subst (λ rows. IsGraphOf b.board (concat rows) (HexagonEdge (0 ∷ 1 ∷ 2 ∷ 3 ∷ 4 ∷ 5 ∷ []) rows)) (sym cells) right.board)
+    record {
+      directions = left.directions ∙ sym right.directions;
+      board =
+          one_graph a.board b.board 6 (concat left.cells) (HexagonEdge (0 ∷ 1 ∷ 2 ∷ 3 ∷ 4 ∷ 5 ∷ []) left.cells) left.width right.width left.board
+          (subst (λ rows. IsGraphOf b.board (concat rows) (HexagonEdge (0 ∷ 1 ∷ 2 ∷ 3 ∷ 4 ∷ 5 ∷ []) rows)) (sym cells) right.board);
+    }
 
 -- different names give a name one number, also in two lists that are one
 number_once : (a b : List (List ℕ)) (name : SpeltName) (m n : ℕ) → AreDifferentNames a → a ≡ b → IsNumberOf a name m → IsNumberOf b name n → m ≡ n
@@ -69,7 +64,7 @@ vertex_once : (a b : NamedBoard) (vertices : List (List ℕ)) → HasOneNumberin
 vertex_once a b vertices one vertex w z left right =
     let name : w.name ≡ z.name = one.vertices_differ.one_number w.name z.name vertex.name.text left.name right.name in
     let piece : w.piece ≡ z.piece = number_once a.pieces b.pieces vertex.piece w.piece z.piece one.pieces_differ one.same_pieces left.piece right.piece in
-    let edges : w.edges ≡ z.edges = each_with_one (EdgeIs a vertices) (EdgeIs b vertices) (edge_once a b vertices one) vertex.edges w.edges z.edges left.edges right.edges in
+    let edges : w.edges ≡ z.edges = AllZip-once (EdgeIs a vertices) (EdgeIs b vertices) (edge_once a b vertices one) vertex.edges w.edges z.edges left.edges right.edges in
     λ i. record { name = name i; piece = piece i; edges = edges i }
 
 graph_once : (a b : NamedBoard) (vertices : List SpeltVertex) → AreDifferentNames a.pieces → a.pieces ≡ b.pieces → IsGraphBoard a vertices → IsGraphBoard b vertices → IsSameBoard a b
@@ -78,8 +73,14 @@ graph_once a b vertices differ same left right =
     let directions : a.directions ≡ b.directions = first_use_once (directions_named vertices) a.directions b.directions left.directions right.directions in
     let one : HasOneNumbering a b names =
     record { vertices_differ = left.differ; pieces_differ = differ; directions_differ = left.directions.differ; same_pieces = same; same_directions = directions } in
-    let written : left.written ≡ right.written = each_with_one (VertexIs a names) (VertexIs b names) (vertex_once a b names one) vertices left.written right.written left.named right.named in
-    boards_once a b (pieces_of left.written) (WrittenEdge left.written) directions left.board (subst (λ ws. IsGraphOf b.board (pieces_of ws) (WrittenEdge ws)) (sym written) right.board)
+    let written : left.written ≡ right.written = AllZip-once (VertexIs a names) (VertexIs b names) (vertex_once a b names one) vertices left.written right.written left.named right.named in
+    record {
+      directions = directions;
+      board =
+          one_graph a.board b.board (width_of (directions_of left.written)) (pieces_of left.written) (WrittenEdge left.written) left.width
+          (subst (λ ws. HasWidth (width_of (directions_of ws)) b.board) (sym written) right.width) left.board
+          (subst (λ ws. IsGraphOf b.board (pieces_of ws) (WrittenEdge ws)) (sym written) right.board);
+    }
 
 -- At most one board is spelt, where the pieces have different names.
 pub board_once : (board : SpeltBoard) (a b : NamedBoard) → AreDifferentNames a.pieces → a.pieces ≡ b.pieces → BoardIs a board → BoardIs b board → IsSameBoard a b

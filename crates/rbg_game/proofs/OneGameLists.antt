@@ -1,20 +1,7 @@
--- Lists that are determined: the fellows of a list's elements, and names in order of first use.
+-- Names in order of first use are determined.
 use Rattle.std.proofs.Common.{◌≡◌, ℕ, zero, suc, ◌<◌, ◌⊎◌, inl, inr, List, [], ◌∷◌, ◌++◌, Some, slice_get, Contains, refl, sym, ◌∙◌, subst, arith}
-use Rattle.rbg_game.specs.Naming.{AreDifferentNames, EachWith}
-use Rattle.rbg_game.specs.Described.{IsOrderOfFirstUse}
-use Rattle.rbg_game.proofs.NameLemmas.{slice_get-from_Contains, Contains-from_slice_get}
-
--- Where two relations give an element one fellow, they give a list one list of fellows.
-pub each_with_one : {A B : Type 0} (P Q : A → B → Type 0) → ((x : A) (y z : B) → P x y → Q x z → y ≡ z) → (xs : List A) (ys zs : List B) → EachWith P xs ys → EachWith Q xs zs → ys ≡ zs
-each_with_one P Q once [] [] [] left right = refl
-each_with_one P Q once [] [] (z ∷ zs) left right = absurd right
-each_with_one P Q once [] (y ∷ ys) zs left right = absurd left
-each_with_one P Q once (x ∷ xs) [] zs left right = absurd left
-each_with_one P Q once (x ∷ xs) (y ∷ ys) [] left right = absurd right
-each_with_one P Q once (x ∷ xs) (y ∷ ys) (z ∷ zs) left right =
-    let here = once x y z left.0 right.0 in
-    let after = each_with_one P Q once xs ys zs left.1 right.1 in
-    cc
+use Rattle.rbg_game.specs.Descriptions.{AreDifferentNames, IsOrderOfFirstUse}
+use Rattle.rbg_game.proofs.Lists.{Contains-from_get, get_from-Contains}
 
 -- the first of two lists in one has no name twice, where the whole has none
 pub front_differs : (xs ys : List (List ℕ)) → AreDifferentNames (xs ++ ys) → AreDifferentNames xs
@@ -94,10 +81,10 @@ in_order_once used (x ∷ xs) (y ∷ ys) left right there back =
     cc
 
 stands : (xs : List (List ℕ)) (x : List ℕ) → Contains xs x → Stands xs x
-stands xs x has = let (i, below, at) = slice_get-from_Contains xs x has in (i, at)
+stands xs x has = get_from-Contains xs x has
 
 contains : (xs : List (List ℕ)) (x : List ℕ) → Stands xs x → Contains xs x
-contains xs x (i, at) = Contains-from_slice_get xs i x at
+contains xs x (i, at) = Contains-from_get xs i x at
 
 is_in_order : (used names : List (List ℕ)) → IsOrderOfFirstUse used names → IsInOrder used names
 is_in_order used names order =

@@ -5,9 +5,8 @@ use Rattle.std.proofs.lemmas.Option.{same_Some}
 use Rattle.rbg_syntax.specs.Tree.{SpeltExpression, SpeltTerms, no_terms, more_terms, SpeltFactors, no_factors, more_factors, SpeltRule, SpeltRules, no_rules, more_rules, SpeltAction}
 use Rattle.rbg_rules.specs.Expression.{AbstractArithmetic, number, variable, piece_count, negated, AbstractAction, shift, on, off, assignment, comparison, switch, positive, negative, Expression, act, sequence, choice, star}
 use Rattle.rbg_rules.specs.Positions.{positions_of, positions_inside, count_from, IsNumbered}
-use Rattle.rbg_game.specs.Naming.{Names, IsNumberOf, AreDifferentNames, added, multiplied, relation_named, ArithmeticIs, SumIs, ProductIs, ActionIs, RuleIs, SequenceIs, ChoiceIs}
-use Rattle.rbg_game.proofs.BoardNaming.{contains_at}
-use Rattle.rbg_game.proofs.OneGameLists.{each_with_one}
+use Rattle.rbg_game.specs.Descriptions.{Names, IsNumberOf, AreDifferentNames, added, multiplied, relation_named, ArithmeticIs, SumIs, ProductIs, ActionIs, RuleIs, SequenceIs, ChoiceIs}
+use Rattle.rbg_game.proofs.Lists.{AllZip-once, Contains-from_get}
 
 -- In each of the lists of names all differ.
 pub record HasDifferentNames (names : Names) : Type 0 where
@@ -20,8 +19,8 @@ mutual
   arithmetic_once : (names : Names) → HasDifferentNames names → (e : SpeltExpression) (a b : AbstractArithmetic) → ArithmeticIs names e a → ArithmeticIs names e b → a ≡ b
   arithmetic_once names differ (SpeltExpression.number n) a b (v, v_is, _, e) (w, w_is, _, f) = e ∙ ap number (same_Some v w (sym v_is ∙ w_is)) ∙ sym f
   arithmetic_once names differ (SpeltExpression.name n) a b (inl (v, v_is, e)) (inl (w, w_is, f)) = e ∙ ap variable (differ.variables.one_number v w n.text v_is w_is) ∙ sym f
-  arithmetic_once names differ (SpeltExpression.name n) a b (inl (v, v_is, e)) (inr (no_variable, _)) = absurd (no_variable (contains_at names.variables v n.text v_is))
-  arithmetic_once names differ (SpeltExpression.name n) a b (inr (no_variable, _)) (inl (w, w_is, f)) = absurd (no_variable (contains_at names.variables w n.text w_is))
+  arithmetic_once names differ (SpeltExpression.name n) a b (inl (v, v_is, e)) (inr (no_variable, _)) = absurd (no_variable (Contains-from_get names.variables v n.text v_is))
+  arithmetic_once names differ (SpeltExpression.name n) a b (inr (no_variable, _)) (inl (w, w_is, f)) = absurd (no_variable (Contains-from_get names.variables w n.text w_is))
   arithmetic_once names differ (SpeltExpression.name n) a b (inr (_, (p, p_is, e))) (inr (_, (q, q_is, f))) = e ∙ ap piece_count (differ.pieces.one_number p q n.text p_is q_is) ∙ sym f
   arithmetic_once names differ (SpeltExpression.negated spelt) a b (x, x_is, e) (y, y_is, f) = e ∙ ap negated (arithmetic_once names differ spelt x y x_is y_is) ∙ sym f
   arithmetic_once names differ (SpeltExpression.sum terms) a b left right = sum_once names differ terms a b left right
@@ -86,7 +85,7 @@ mutual
   action_once : (names : Names) → HasDifferentNames names → (a : SpeltAction) (n : ℕ) (b c : AbstractAction) → ActionIs names a b → ActionIs names a c → IsCountedInside n b → IsCountedInside n c → b ≡ c
   action_once names differ (SpeltAction.shift name) n b c (d, d_is, e) (d', d'_is, f) _ _ = e ∙ ap shift (differ.directions.one_number d d' name.text d_is d'_is) ∙ sym f
   action_once names differ (SpeltAction.on spelt) n b c (xs, xs_are, e) (ys, ys_are, f) _ _ =
-      e ∙ ap on (each_with_one (IsNumberOf names.pieces) (IsNumberOf names.pieces) (λ name x y x_is y_is. differ.pieces.one_number x y name.text x_is y_is) spelt xs ys xs_are ys_are) ∙ sym f
+      e ∙ ap on (AllZip-once (IsNumberOf names.pieces) (IsNumberOf names.pieces) (λ name x y x_is y_is. differ.pieces.one_number x y name.text x_is y_is) spelt xs ys xs_are ys_are) ∙ sym f
   action_once names differ (SpeltAction.off name) n b c (x, x_is, e) (y, y_is, f) _ _ = e ∙ ap off (differ.pieces.one_number x y name.text x_is y_is) ∙ sym f
   action_once names differ (SpeltAction.assign name spelt) n b c (v, x, v_is, x_is, e) (w, y, w_is, y_is, f) _ _ =
       e ∙ ap (λ u. assignment u x) (differ.variables.one_number v w name.text v_is w_is) ∙ ap (assignment w) (arithmetic_once names differ spelt x y x_is y_is) ∙ sym f

@@ -1,6 +1,6 @@
 -- What follows of rules that are one word of plain actions.
 use Rattle.std.proofs.Common.{◌≡◌, ℕ, zero, suc, ◌+◌, ◌<◌, ◌≤◌, inl, inr, List, [], ◌∷◌, ◌++◌, Some, None, length, get_or, refl, sym, ◌∙◌, ap, subst, arith}
-use Rattle.std.specs.List.{All, Contains}
+use Rattle.std.specs.List.{All, AllZip, Contains}
 use Rattle.std.proofs.lemmas.List.{length-append}
 use Rattle.std.proofs.lemmas.List.Elements.{All-cons, All-nil, All-head, All-tail}
 use Rattle.std.proofs.lemmas.List.Sums.{fold-append}
@@ -8,17 +8,16 @@ use Rattle.std.proofs.lemmas.Option.{slice_get_within}
 use Rattle.rbg_syntax.specs.Tree.{SpeltName, SpeltRule, SpeltRules, no_rules, more_rules, SpeltAction, rules_after}
 use Rattle.rbg_syntax.specs.Plain.{IsPlainAction, IsPlainRule, ArePlainRules, IsPlainWord}
 use Rattle.rbg_game.specs.declared.error.GameError.{GameError}
-use Rattle.rbg_game.specs.declared.error.GameError.TheVariants as errors
 use Rattle.rbg_rules.specs.declared.limits.TheConstants.{MAX_POSITIONS}
-use Rattle.rbg_game.specs.Described.{NestsWithin, InsideNestsWithin}
+use Rattle.rbg_game.specs.Descriptions.{NestsWithin, InsideNestsWithin}
 use Rattle.rbg_rules.specs.Expression.{AbstractAction, shift, on, off, switch, positive, negative, Expression, act, skip, sequence, sequence_of}
-use Rattle.rbg_game.specs.Faults.{Purpose, Uses, shifts, stands_on, puts, gives_turn, HasSpeltAction, this, in_sequence, in_choice, in_star, in_positive, in_negative, SomeHasSpeltAction, earlier, last, actions_in, actions_in_all, actions_of}
+use Rattle.rbg_game.specs.Faults.{HasSpeltAction, in_sequence, SomeHasSpeltAction, earlier, last, actions_in, actions_in_all, actions_of}
+use Rattle.rbg_game.specs.Faults.{HasRuleFault, unknown_use, many_positions, rule_memory}
 use Rattle.rbg_rules.specs.Games.{HasNoEmptySum, HasNoEmptySumInside, IsActionOf}
-use Rattle.rbg_game.specs.Naming.{Names, IsNumberOf, EachWith, ActionIs, RuleIs, SequenceIs}
-use Rattle.rbg_game.specs.PlainRules.{names_for, HasUnknownInRule, HasPartFault, HasRuleFault, IsPartAt, IsRuleByNumbers, IsRefusedRule}
+use Rattle.rbg_game.specs.Descriptions.{Names, IsNumberOf, ActionIs, RuleIs, SequenceIs}
+use Rattle.rbg_game.specs.internal.PlainRules.{IsPartAt, IsRuleByNumbers}
 use Rattle.rbg_rules.specs.Positions.{HasAction, HasInside, positions_of, positions_inside, count_from, IsNumbered}
 use Rattle.rbg_rules.specs.State.{AbstractGame}
-use Rattle.rbg_game.proofs.NameLemmas.{Contains-from_slice_get}
 
 -- The game has as many players, pieces and directions as there are names.
 pub record HasCounts (names : Names) (game : AbstractGame) : Type 0 where
@@ -36,7 +35,7 @@ pub record IsSimple (names : Names) (b : AbstractAction) : Type 0 where
   pub not_positive : (x : Expression) → ¬ (positive x ≡ b)
   pub not_negative : (x : Expression) → ¬ (negative x ≡ b)
 
-numbers_below : (list : List (List ℕ)) (ns : List SpeltName) (xs : List ℕ) (many : ℕ) → many ≡ length list → EachWith (IsNumberOf list) ns xs → All (λ x. x < many) xs
+numbers_below : (list : List (List ℕ)) (ns : List SpeltName) (xs : List ℕ) (many : ℕ) → many ≡ length list → AllZip (IsNumberOf list) ns xs → All (λ x. x < many) xs
 numbers_below list [] [] many is each = All-nil (λ x. x < many)
 numbers_below list (n ∷ ns) (x ∷ xs) many is each =
     let below = slice_get_within list x n.text each.0 in
@@ -48,7 +47,7 @@ numbers_below list (n ∷ ns) [] many is each = absurd each
 simple_shift : (names : Names) (d : ℕ) → d < length names.directions → IsSimple names (shift d)
 simple_shift names d below = record { no_sum = tt; no_positions = refl; nests = λ limit. tt; nothing_inside = λ p a h. h; in_game = λ game same. (let e = same.directions in omega arith); not_positive = λ x e. cc; not_negative = λ x e. cc }
 
-simple_on : (names : Names) (ns : List SpeltName) (xs : List ℕ) → EachWith (IsNumberOf names.pieces) ns xs → IsSimple names (on xs)
+simple_on : (names : Names) (ns : List SpeltName) (xs : List ℕ) → AllZip (IsNumberOf names.pieces) ns xs → IsSimple names (on xs)
 simple_on names ns xs each = record { no_sum = tt; no_positions = refl; nests = λ limit. tt; nothing_inside = λ p a h. h; in_game = λ game same. numbers_below names.pieces ns xs (length game.pieces) same.pieces each; not_positive = λ x e. cc; not_negative = λ x e. cc }
 
 simple_off : (names : Names) (x : ℕ) → x < length names.pieces → IsSimple names (off x)
@@ -153,34 +152,11 @@ plain_action_counts (SpeltAction.compare e r f) plain = absurd plain
 plain_action_counts (SpeltAction.positive at r) plain = absurd plain
 plain_action_counts (SpeltAction.negative at r) plain = absurd plain
 
-plain_part_counts : (r : SpeltRule) → IsPlainRule r → actions_in r ≡ 1
+pub plain_part_counts : (r : SpeltRule) → IsPlainRule r → actions_in r ≡ 1
 plain_part_counts (SpeltRule.act s) plain = plain_action_counts s plain
 plain_part_counts (SpeltRule.sequence rs) plain = absurd plain
 plain_part_counts (SpeltRule.choice rs) plain = absurd plain
 plain_part_counts (SpeltRule.star r) plain = absurd plain
-
-part_positions : (names : Names) (r : SpeltRule) (x : Expression) → IsPlainRule r → RuleIs names r x → length (positions_of x) ≡ 1
-part_positions names (SpeltRule.act s) x plain (p, b, is, e) =
-    let none = (plain_is_simple names s b plain is).no_positions in
-    rw (e, none) refl
-part_positions names (SpeltRule.sequence rs) x plain is = absurd plain
-part_positions names (SpeltRule.choice rs) x plain is = absurd plain
-part_positions names (SpeltRule.star r) x plain is = absurd plain
-
-sequence_positions : (names : Names) (rs : SpeltRules) (x : Expression) → ArePlainRules rs → SequenceIs names rs x → length (positions_of x) ≡ actions_in_all rs
-sequence_positions names no_rules x plain is = rw is refl
-sequence_positions names (more_rules rs r) x plain (y, z, before, one, e) =
-    let first = sequence_positions names rs y plain.0 before in
-    let second = part_positions names r z plain.1 one in
-    let counts = plain_part_counts r plain.1 in
-    let both = length-append (positions_of y) (positions_of z) in
-    rw e (omega arith)
-
-word_positions : (names : Names) (r : SpeltRule) (x : Expression) → IsPlainWord r → RuleIs names r x → length (positions_of x) ≡ actions_in r
-word_positions names (SpeltRule.act s) x plain is = part_positions names (SpeltRule.act s) x plain is ∙ sym (plain_action_counts s plain)
-word_positions names (SpeltRule.sequence rs) x plain is = sequence_positions names rs x plain is
-word_positions names (SpeltRule.choice rs) x plain is = absurd plain
-word_positions names (SpeltRule.star r) x plain is = absurd plain
 
 -- Rules that are a word by numbers, numbered in order and within the limit, are all that is asked of them.
 pub made_by_numbers : (names : Names) (r : SpeltRule) (x : Expression) → IsPlainWord r → RuleIs names r x → IsNumbered x → length (positions_of x) ≤ MAX_POSITIONS → IsRuleByNumbers names r x
@@ -195,62 +171,6 @@ made_by_numbers names r x plain is numbered few =
       no_pattern = λ p y h. elim h [ inl l ↦ simple.not_positive p y l | inr n ↦ simple.not_negative p y n ];
       nesting = simple.nests;
     }
-
--- A name that an action uses and that isn't known has no number.
-each_at : (list : List (List ℕ)) (ns : List SpeltName) (xs : List ℕ) (k : ℕ) (d : SpeltName) → EachWith (IsNumberOf list) ns xs → k < length ns → (x : ℕ) × IsNumberOf list (get_or ns k d) x
-each_at list (n ∷ ns) (x ∷ xs) zero d each below = (x, each.0)
-each_at list (n ∷ ns) (x ∷ xs) (suc k) d each below = each_at list ns xs k d each.1 (omega arith)
-each_at list [] xs k d each below = absurd (omega arith)
-each_at list (n ∷ ns) [] k d each below = absurd each
-
-use_fails : (names : Names) (s : SpeltAction) (purpose : Purpose) (n : SpeltName) (b : AbstractAction) → Uses s purpose n → ¬ Contains (names_for names purpose) n.text → ActionIs names s b → ⊥
-use_fails names _ _ n b shifts unknown (d, is, e) = unknown (Contains-from_slice_get names.directions d n.text is)
-use_fails names _ _ n b (stands_on {ns = ns} (k, below, at)) unknown (xs, each, e) =
-    let (x, is) = each_at names.pieces ns xs k n each below in
-    unknown (Contains-from_slice_get names.pieces x n.text (is ∙ ap (λ (m : SpeltName). Some m.text) at))
-use_fails names _ _ n b puts unknown (x, is, e) = unknown (Contains-from_slice_get names.pieces x n.text is)
-use_fails names _ _ n b gives_turn unknown (k, is, e) = unknown (Contains-from_slice_get names.players k n.text is)
-
--- Each action of rules by numbers is one by numbers.
-part_action : (names : Names) (r : SpeltRule) (x : Expression) (s : SpeltAction) → IsPlainRule r → HasSpeltAction r s → RuleIs names r x → (b : AbstractAction) × ActionIs names s b
-part_action names _ x s plain this (p, b, is, e) = (b, is)
-part_action names _ x s plain (in_sequence h) is = absurd plain
-part_action names _ x s plain (in_choice h) is = absurd plain
-part_action names _ x s plain (in_star h) is = absurd plain
-part_action names _ x s plain (in_positive h) is = absurd plain
-part_action names _ x s plain (in_negative h) is = absurd plain
-
-sequence_action : (names : Names) (rs : SpeltRules) (x : Expression) (s : SpeltAction) → ArePlainRules rs → SomeHasSpeltAction rs s → SequenceIs names rs x → (b : AbstractAction) × ActionIs names s b
-sequence_action names _ x s plain (earlier {rs = rs} h) (y, z, before, one, e) = sequence_action names rs y s plain.0 h before
-sequence_action names _ x s plain (last {r = r} h) (y, z, before, one, e) = part_action names r z s plain.1 h one
-
-word_action : (names : Names) (r : SpeltRule) (x : Expression) (s : SpeltAction) → IsPlainWord r → HasSpeltAction r s → RuleIs names r x → (b : AbstractAction) × ActionIs names s b
-word_action names _ x s plain this (p, b, is, e) = (b, is)
-word_action names _ x s plain (in_sequence {rs = rs} h) is = sequence_action names rs x s plain h is
-word_action names _ x s plain (in_choice h) is = absurd plain
-word_action names _ x s plain (in_star h) is = absurd plain
-word_action names _ x s plain (in_positive h) is = absurd plain
-word_action names _ x s plain (in_negative h) is = absurd plain
-
-unknown_fails : (names : Names) (r : SpeltRule) (at : ℕ) (x : Expression) → IsPlainWord r → HasUnknownInRule names r at → ¬ RuleIs names r x
-unknown_fails names r at x plain u is =
-    let (b, named) = word_action names r x u.action plain u.stands is in
-    use_fails names u.action u.unknown.purpose u.unknown.name b u.unknown.used u.unknown.unknown named
-
--- A fault leaves no rules by numbers within the limits.
-fault_fails : (names : Names) (r : SpeltRule) (e : GameError) → IsPlainWord r → HasRuleFault names r e → ¬ (e ≡ errors.Memory) → (x : Expression) → RuleIs names r x → ¬ (length (positions_of x) ≤ MAX_POSITIONS)
-fault_fails names r (errors.UnknownName at) plain fault other x is few = unknown_fails names r at x plain fault is
-fault_fails names r (errors.TooMany what) plain fault other x is few = let many = word_positions names r x plain is in let more = fault.1 in absurd (omega arith)
-fault_fails names r errors.Memory plain fault other x is few = other refl
-fault_fails names r (errors.SameName at) plain fault other x is few = fault
-fault_fails names r (errors.Bound at) plain fault other x is few = fault
-fault_fails names r (errors.SwitchInPattern at) plain fault other x is few = fault
-fault_fails names r (errors.PatternTooDeep at) plain fault other x is few = fault
-fault_fails names r (errors.Board error) plain fault other x is few = fault
-
-pub refused_by_fault : (names : Names) (r : SpeltRule) (e : GameError) → IsPlainWord r → HasRuleFault names r e → IsRefusedRule names r e
-refused_by_fault names r e plain fault =
-    record { fault = fault; no_rules = λ other vs x is. fault_fails names r e plain fault other x (other_variables (record names { variables = vs }) names.variables r x plain is) }
 
 -- The rules so far: those of the first parts, numbered from 1.
 pub record AreSoFar (names : Names) (rs : List SpeltRule) (xs : List Expression) : Type 0 where
@@ -268,7 +188,7 @@ count_from-push first (suc many) =
     let f : suc first + many ≡ first + suc many = omega arith in
     ap (count_from first) e ∙ ap (λ (l : List ℕ). first ∷ l) (count_from-push (suc first) many) ∙ ap (λ (n : ℕ). first ∷ (count_from (suc first) many ++ n ∷ [])) f
 
-length-count_from : (first many : ℕ) → length (count_from first many) ≡ many
+pub length-count_from : (first many : ℕ) → length (count_from first many) ≡ many
 length-count_from first zero = refl
 length-count_from first (suc many) = ap suc (length-count_from (suc first) many)
 
@@ -309,16 +229,6 @@ pub made_alone : (names : Names) (r : SpeltRule) (x : Expression) → IsPlainWor
 made_alone names r x plain part =
     rw (part.is_action, part.at_position) (alone_at_first names part.spelt part.action (subst IsPlainWord part.is_action plain) part.named)
 
-pub fault_alone : (names : Names) (r : SpeltRule) (e : GameError) → HasPartFault names r e → HasRuleFault names r e
-fault_alone names r (errors.UnknownName at) u = u
-fault_alone names r errors.Memory u = tt
-fault_alone names r (errors.TooMany what) u = absurd u
-fault_alone names r (errors.SameName at) u = absurd u
-fault_alone names r (errors.Bound at) u = absurd u
-fault_alone names r (errors.SwitchInPattern at) u = absurd u
-fault_alone names r (errors.PatternTooDeep at) u = absurd u
-fault_alone names r (errors.Board error) u = absurd u
-
 -- The parts of a sequence.
 pub plain_after : (first : SpeltRules) (rs : List SpeltRule) → ArePlainRules first → All IsPlainRule rs → ArePlainRules (rules_after first rs)
 plain_after first [] plain all = plain
@@ -344,14 +254,9 @@ item_stands first [] k d s below h = absurd (omega arith)
 item_stands first (r ∷ rs) zero d s below h = stands_after (more_rules first r) rs s (last h)
 item_stands first (r ∷ rs) (suc k) d s below h = item_stands (more_rules first r) rs k d s (omega arith) h
 
--- The fault of a part is one of the sequence.
-pub fault_of_part : (names : Names) (rs : List SpeltRule) (r : SpeltRule) (e : GameError) → Contains rs r → HasPartFault names r e → HasRuleFault names (SpeltRule.sequence (rules_after no_rules rs)) e
-fault_of_part names rs r (errors.UnknownName at) (k, below, is) u =
-    record { action = u.action; stands = in_sequence (item_stands no_rules rs k r u.action below (subst (λ (q : SpeltRule). HasSpeltAction q u.action) (sym is) u.stands)); unknown = u.unknown }
-fault_of_part names rs r errors.Memory stands u = tt
-fault_of_part names rs r (errors.TooMany what) stands u = absurd u
-fault_of_part names rs r (errors.SameName at) stands u = absurd u
-fault_of_part names rs r (errors.Bound at) stands u = absurd u
-fault_of_part names rs r (errors.SwitchInPattern at) stands u = absurd u
-fault_of_part names rs r (errors.PatternTooDeep at) stands u = absurd u
-fault_of_part names rs r (errors.Board error) stands u = absurd u
+-- The fault of a part is one of the sequence, where a part has one action.
+pub fault_of_part : (names : Names) (rs : List SpeltRule) (r : SpeltRule) (e : GameError) → Contains rs r → actions_in r ≤ MAX_POSITIONS → HasRuleFault names r e → HasRuleFault names (SpeltRule.sequence (rules_after no_rules rs)) e
+fault_of_part names rs r _ (k, below, is) few (unknown_use {action = s} stands uses h) =
+    unknown_use (in_sequence (item_stands no_rules rs k r s below (subst (λ (q : SpeltRule). HasSpeltAction q s) (sym is) stands))) uses h
+fault_of_part names rs r _ stands few (many_positions many) = absurd (omega arith)
+fault_of_part names rs r _ stands few rule_memory = rule_memory

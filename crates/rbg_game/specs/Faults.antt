@@ -1,17 +1,33 @@
--- What is wrong with a description: the fault that an error names stands at its place.
-use Rattle.std.specs.Prelude.{◌≡◌, ◌≢◌, ℕ, suc, ◌+◌, ◌<◌, ◌↔◌, ◌⊎◌, List, false, Some, map, length, slice_get, slice_index, Contains, flat_map}
+-- Why a description is no game: the fault that an error names, at its place.
+use Rattle.std.specs.Prelude.{◌≡◌, ◌≢◌, ℕ, suc, ◌+◌, ◌<◌, ◌↔◌, List, [], ◌∷◌, ◌++◌, false, Some}
+use Rattle.std.specs.Prelude.{map, length, slice_get, slice_index, Contains, flat_map}
+use Rattle.std.specs.List.{AllZip}
 use Rattle.rbg_base.specs.Names.{is_name}
-use Rattle.rbg_syntax.specs.Tree.{SpeltName, SpeltNumber, SpeltBounded, SpeltRule, SpeltRules, no_rules, more_rules, SpeltAction, SpeltBoard, rectangle, hexagon, graph, SpeltDescription}
 use Rattle.rbg_board.specs.Rectangle.{RectangleRefusal}
 use Rattle.rbg_board.specs.declared.error.BoardError.{BoardError}
 use Rattle.rbg_board.specs.declared.error.BoardError.TheVariants as board_errors
+use Rattle.rbg_syntax.specs.Tree.{SpeltName, SpeltNumber, SpeltBounded, SpeltBoard, rectangle, hexagon, graph}
+use Rattle.rbg_syntax.specs.Tree.{SpeltRule, SpeltRules, no_rules, more_rules, SpeltAction, SpeltDescription}
+use Rattle.rbg_rules.specs.declared.limits.TheConstants.{MAX_PLAYERS, MAX_PIECES, MAX_VARIABLES}
+use Rattle.rbg_rules.specs.declared.limits.TheConstants.{MAX_BOUND, MAX_POSITIONS}
 use Rattle.rbg_game.specs.declared.error.GameError.{GameError}
-use Rattle.rbg_game.specs.declared.error.GameError.TheVariants as errors
-use Rattle.rbg_game.specs.declared.error.Thing.{Thing}
-use Rattle.rbg_game.specs.declared.error.Thing.TheVariants as things
-use Rattle.rbg_rules.specs.declared.limits.TheConstants.{MAX_PLAYERS, MAX_PIECES, MAX_VARIABLES, MAX_BOUND, MAX_POSITIONS}
-use Rattle.rbg_game.specs.Naming.{IsNumberOf, EachWith}
-use Rattle.rbg_game.specs.Described.{texts_of, holder_names, holders_of}
+use Rattle.rbg_game.specs.declared.error.GameError.TheVariants.{UnknownName, SameName, Bound, TooMany, Memory, Board}
+use Rattle.rbg_game.specs.declared.error.Thing.TheVariants.{Players, Pieces, Variables, Positions}
+use Rattle.rbg_game.specs.Descriptions.{Names, IsNumberOf, texts_of, holder_names, holders_of}
+
+-- A name that isn't there: one of the names, at this offset, is not among those that are known.
+pub record HasUnknown (known : List (List ℕ)) (names : List SpeltName) (at : ℕ) : Type 0 where
+  pub name : SpeltName
+  pub stands : Contains names name
+  pub unknown : ¬ Contains known name.text
+  pub place : name.at ≡ at
+
+-- One of the names, at this offset, is none of the language.
+pub record HasNoName (names : List SpeltName) (at : ℕ) : Type 0 where
+  pub name : SpeltName
+  pub stands : Contains names name
+  pub no_name : is_name name.text ≡ false
+  pub place : name.at ≡ at
 
 -- The name stands in the list at this offset, and before it the same name.
 pub record StandsAgain (list : List SpeltName) (at : ℕ) : Type 0 where
@@ -25,19 +41,18 @@ pub record StandsAgain (list : List SpeltName) (at : ℕ) : Type 0 where
   pub same : earlier.text ≡ later.text
   pub place : later.at ≡ at
 
-abbrev pub names_of_holders : SpeltDescription → List SpeltName
-names_of_holders d = map (λ holder. holder.name) (holders_of d)
-
 -- The number is too great for a bound.
 abbrev pub IsNoBound : SpeltNumber → Type 0
 IsNoBound n = (bound : ℕ) → n.value ≡ Some bound → MAX_BOUND < bound
 
--- the bound at this offset is too great
-pub record HasBoundFault (d : SpeltDescription) (at : ℕ) : Type 0 where
+-- One of the bounds, at this offset, is too great.
+pub record HasGreatBound (holders : List SpeltBounded) (at : ℕ) : Type 0 where
   pub holder : SpeltBounded
-  pub stands : Contains (holders_of d) holder
+  pub stands : Contains holders holder
   pub too_great : IsNoBound holder.bound
   pub place : holder.bound.at ≡ at
+
+-- Boards.
 
 -- the names that a board's directions have, and the pieces of its cells, in order of text
 abbrev pub board_directions : SpeltBoard → List SpeltName
@@ -50,54 +65,95 @@ board_pieces (rectangle names rows) = flat_map (λ row. row) rows
 board_pieces (hexagon names rows) = flat_map (λ row. row) rows
 board_pieces (graph vertices) = map (λ vertex. vertex.piece) vertices
 
--- A name by which a thing of the description goes.
-pub data NamesThing (d : SpeltDescription) : SpeltName → Type 0 where
-  holder : {n : SpeltName} → Contains (names_of_holders d) n → NamesThing d n
-  piece : {n : SpeltName} → Contains d.pieces n → NamesThing d n
-  direction : {n : SpeltName} → Contains (board_directions d.board) n → NamesThing d n
+-- The two have the same name.
+abbrev pub HaveOneName : List SpeltName → ℕ → ℕ → Type 0
+HaveOneName names i j = slice_get (texts_of names) i ≡ slice_get (texts_of names) j
+
+-- The rows by the numbers of the pieces, and the directions by numbers that are equal exactly where the names are, are
+-- refused so: for a fault, and not because memory ran out.
+pub record HasRectangleFault
+    (pieces : List (List ℕ))
+    (names : List SpeltName)
+    (rows : List (List SpeltName))
+    (error : BoardError)
+    : Type 0 where
+  pub directions : List ℕ
+  pub cells : List (List ℕ)
+  pub one_each : length directions ≡ length names
+  pub numbered :
+      (i j : ℕ)
+      → i < length names
+      → j < length names
+      → (slice_index directions i ≡ slice_index directions j) ↔ HaveOneName names i j
+  pub named : AllZip (AllZip (IsNumberOf pieces)) rows cells
+  pub refused : RectangleRefusal directions cells error
+  pub is_fault : error ≢ board_errors.Memory
+
+-- What is wrong with a board, where these are the pieces. (Rectangles are the only boards that are read so far.)
+pub data HasBoardFault (pieces : List (List ℕ)) : SpeltBoard → GameError → Type 0 where
+  unknown_piece : {board : SpeltBoard} {at : ℕ}
+      → HasUnknown pieces (board_pieces board) at
+      → HasBoardFault pieces board (UnknownName at)
+  no_direction : {names : List SpeltName} {rows : List (List SpeltName)} {at : ℕ}
+      → HasNoName names at
+      → HasBoardFault pieces (rectangle names rows) (UnknownName at)
+  no_rectangle : {names : List SpeltName} {rows : List (List SpeltName)} {error : BoardError}
+      → HasRectangleFault pieces names rows error
+      → HasBoardFault pieces (rectangle names rows) (Board error)
+  board_memory : {board : SpeltBoard}
+      → HasBoardFault pieces board Memory
+
+-- Rules.
 
 -- What a name is used for.
 pub data Purpose : Type 0 where
   as_direction as_piece as_player : Purpose
 
--- The names that serve the purpose.
-abbrev pub serving : SpeltDescription → Purpose → List (List ℕ)
-serving d as_direction = texts_of (board_directions d.board)
-serving d as_piece = texts_of d.pieces
-serving d as_player = holder_names d.players
+-- the names that serve the purpose
+abbrev pub names_for : Names → Purpose → List (List ℕ)
+names_for names as_direction = names.directions
+names_for names as_piece = names.pieces
+names_for names as_player = names.players
 
--- The action uses the name for the purpose.
-pub data Uses : SpeltAction → Purpose → SpeltName → Type 0 where
-  shifts : {n : SpeltName} → Uses (SpeltAction.shift n) as_direction n
-  stands_on : {n : SpeltName} {ns : List SpeltName} → Contains ns n → Uses (SpeltAction.on ns) as_piece n
-  puts : {n : SpeltName} → Uses (SpeltAction.off n) as_piece n
-  gives_turn : {n : SpeltName} {at : ℕ} → Uses (SpeltAction.switch at (Some n)) as_player n
+-- The action uses these names for the purpose.
+pub data Uses : SpeltAction → Purpose → List SpeltName → Type 0 where
+  shifts : {n : SpeltName}
+      → Uses (SpeltAction.shift n) as_direction (n ∷ [])
+  stands_on : {ns : List SpeltName}
+      → Uses (SpeltAction.on ns) as_piece ns
+  puts : {n : SpeltName}
+      → Uses (SpeltAction.off n) as_piece (n ∷ [])
+  gives_turn : {at : ℕ} {n : SpeltName}
+      → Uses (SpeltAction.switch at (Some n)) as_player (n ∷ [])
 
 -- The action is one of the rule.
 mutual
   pub data HasSpeltAction : SpeltRule → SpeltAction → Type 0 where
-    this : {a : SpeltAction} → HasSpeltAction (SpeltRule.act a) a
-    in_sequence : {rs : SpeltRules} {a : SpeltAction} → SomeHasSpeltAction rs a → HasSpeltAction (SpeltRule.sequence rs) a
-    in_choice : {rs : SpeltRules} {a : SpeltAction} → SomeHasSpeltAction rs a → HasSpeltAction (SpeltRule.choice rs) a
-    in_star : {r : SpeltRule} {a : SpeltAction} → HasSpeltAction r a → HasSpeltAction (SpeltRule.star r) a
-    in_positive : {at : ℕ} {r : SpeltRule} {a : SpeltAction} → HasSpeltAction r a → HasSpeltAction (SpeltRule.act (SpeltAction.positive at r)) a
-    in_negative : {at : ℕ} {r : SpeltRule} {a : SpeltAction} → HasSpeltAction r a → HasSpeltAction (SpeltRule.act (SpeltAction.negative at r)) a
+    this : {a : SpeltAction}
+        → HasSpeltAction (SpeltRule.act a) a
+    in_sequence : {rs : SpeltRules} {a : SpeltAction}
+        → SomeHasSpeltAction rs a
+        → HasSpeltAction (SpeltRule.sequence rs) a
+    in_choice : {rs : SpeltRules} {a : SpeltAction}
+        → SomeHasSpeltAction rs a
+        → HasSpeltAction (SpeltRule.choice rs) a
+    in_star : {r : SpeltRule} {a : SpeltAction}
+        → HasSpeltAction r a
+        → HasSpeltAction (SpeltRule.star r) a
+    in_positive : {at : ℕ} {r : SpeltRule} {a : SpeltAction}
+        → HasSpeltAction r a
+        → HasSpeltAction (SpeltRule.act (SpeltAction.positive at r)) a
+    in_negative : {at : ℕ} {r : SpeltRule} {a : SpeltAction}
+        → HasSpeltAction r a
+        → HasSpeltAction (SpeltRule.act (SpeltAction.negative at r)) a
 
   pub data SomeHasSpeltAction : SpeltRules → SpeltAction → Type 0 where
-    earlier : {rs : SpeltRules} {r : SpeltRule} {a : SpeltAction} → SomeHasSpeltAction rs a → SomeHasSpeltAction (more_rules rs r) a
-    last : {rs : SpeltRules} {r : SpeltRule} {a : SpeltAction} → HasSpeltAction r a → SomeHasSpeltAction (more_rules rs r) a
-
--- An action of the rules uses the name for the purpose.
-pub record UsesInRules (rules : SpeltRule) (purpose : Purpose) (n : SpeltName) : Type 0 where
-  pub action : SpeltAction
-  pub stands : HasSpeltAction rules action
-  pub used : Uses action purpose n
-
--- The name at this offset is none of the language, or is not of the kind that its place needs.
-pub data HasUnknownName (d : SpeltDescription) (at : ℕ) : Type 0 where
-  no_name : (n : SpeltName) → NamesThing d n → is_name n.text ≡ false → n.at ≡ at → HasUnknownName d at
-  in_cell : (n : SpeltName) → Contains (board_pieces d.board) n → ¬ Contains (texts_of d.pieces) n.text → n.at ≡ at → HasUnknownName d at
-  in_rules : (purpose : Purpose) (n : SpeltName) → UsesInRules d.rules purpose n → ¬ Contains (serving d purpose) n.text → n.at ≡ at → HasUnknownName d at
+    earlier : {rs : SpeltRules} {r : SpeltRule} {a : SpeltAction}
+        → SomeHasSpeltAction rs a
+        → SomeHasSpeltAction (more_rules rs r) a
+    last : {rs : SpeltRules} {r : SpeltRule} {a : SpeltAction}
+        → HasSpeltAction r a
+        → SomeHasSpeltAction (more_rules rs r) a
 
 abbrev mutual
   -- how many actions a rule has, those inside its patterns too
@@ -116,39 +172,65 @@ abbrev mutual
   actions_of (SpeltAction.negative at r) = suc (actions_in r)
   actions_of _ = 1
 
--- there are more of the things than are allowed
-abbrev pub HasTooMany : SpeltDescription → Thing → Type 0
-HasTooMany d things.Players = MAX_PLAYERS < length d.players
-HasTooMany d things.Pieces = MAX_PIECES < length d.pieces
-HasTooMany d things.Variables = MAX_VARIABLES < length (holders_of d)
-HasTooMany d things.Directions = ⊥
-HasTooMany d things.Positions = MAX_POSITIONS < actions_in d.rules
+-- What is wrong with a rule, where these are the names: an action uses a name that isn't there, or there are too many
+-- actions.
+pub data HasRuleFault (names : Names) (rule : SpeltRule) : GameError → Type 0 where
+  unknown_use : {action : SpeltAction} {purpose : Purpose} {used : List SpeltName} {at : ℕ}
+      → HasSpeltAction rule action
+      → Uses action purpose used
+      → HasUnknown (names_for names purpose) used at
+      → HasRuleFault names rule (UnknownName at)
+  many_positions :
+      MAX_POSITIONS < actions_in rule
+      → HasRuleFault names rule (TooMany Positions)
+  rule_memory :
+      HasRuleFault names rule Memory
 
--- The rows by the numbers of the pieces, and the directions by numbers that are equal exactly where the names are, are refused so:
--- for a fault, and not for want of memory.
-pub record HasRectangleFault (pieces : List (List ℕ)) (names : List SpeltName) (rows : List (List SpeltName)) (error : BoardError) : Type 0 where
-  pub directions : List ℕ
-  pub cells : List (List ℕ)
-  pub one_each : length directions ≡ length names
-  pub numbered : (i j : ℕ) → i < length names → j < length names → (slice_index directions i ≡ slice_index directions j) ↔ (slice_get (texts_of names) i ≡ slice_get (texts_of names) j)
-  pub named : EachWith (EachWith (IsNumberOf pieces)) rows cells
-  pub refused : RectangleRefusal directions cells error
-  pub is_fault : error ≢ board_errors.Memory
+-- Descriptions.
 
--- (Rectangles are the only boards that are read so far.)
-abbrev pub HasBoardFault : SpeltDescription → SpeltBoard → BoardError → Type 0
-HasBoardFault d (rectangle names rows) error = HasRectangleFault (texts_of d.pieces) names rows error
-HasBoardFault d (hexagon names rows) error = ⊥
-HasBoardFault d (graph vertices) error = ⊥
+abbrev pub names_of_holders : SpeltDescription → List SpeltName
+names_of_holders d = map (λ holder. holder.name) (holders_of d)
 
--- The fault that an error names stands at its place. Want of memory is no fault of the description. (Said of the descriptions that are
--- read so far: their rules have no pattern and no arithmetic, and their boards, rectangles, have four directions.)
-unfoldable pub HasFault : SpeltDescription → GameError → Type 0
-HasFault d (errors.UnknownName at) = HasUnknownName d at
-HasFault d (errors.SameName at) = StandsAgain (names_of_holders d) at ⊎ StandsAgain d.pieces at
-HasFault d (errors.Bound at) = HasBoundFault d at
-HasFault d (errors.SwitchInPattern at) = ⊥
-HasFault d (errors.PatternTooDeep at) = ⊥
-HasFault d (errors.TooMany what) = HasTooMany d what
-HasFault d errors.Memory = Unit {0}
-HasFault d (errors.Board error) = HasBoardFault d d.board error
+-- the names that the rules may use
+abbrev pub names_spelt : SpeltDescription → Names
+names_spelt d =
+    record {
+      players = holder_names d.players;
+      variables = holder_names (holders_of d);
+      pieces = texts_of d.pieces;
+      directions = texts_of (board_directions d.board);
+    }
+
+-- The description has the fault that an error names. Memory is no fault of the description, and may run out with any.
+-- (Said of the descriptions that are read so far: their rules have no pattern and no arithmetic, and their boards,
+-- rectangles, have four directions.)
+pub data HasFault (d : SpeltDescription) : GameError → Type 0 where
+  no_name : {at : ℕ}
+      → HasNoName (names_of_holders d ++ d.pieces) at
+      → HasFault d (UnknownName at)
+  same_holder : {at : ℕ}
+      → StandsAgain (names_of_holders d) at
+      → HasFault d (SameName at)
+  same_piece : {at : ℕ}
+      → StandsAgain d.pieces at
+      → HasFault d (SameName at)
+  great_bound : {at : ℕ}
+      → HasGreatBound (holders_of d) at
+      → HasFault d (Bound at)
+  many_players :
+      MAX_PLAYERS < length d.players
+      → HasFault d (TooMany Players)
+  many_pieces :
+      MAX_PIECES < length d.pieces
+      → HasFault d (TooMany Pieces)
+  many_variables :
+      MAX_VARIABLES < length (holders_of d)
+      → HasFault d (TooMany Variables)
+  in_board : {error : GameError}
+      → HasBoardFault (texts_of d.pieces) d.board error
+      → HasFault d error
+  in_rules : {error : GameError}
+      → HasRuleFault (names_spelt d) d.rules error
+      → HasFault d error
+  memory :
+      HasFault d Memory

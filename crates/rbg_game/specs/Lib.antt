@@ -1,13 +1,6 @@
--- Which game a description is, and why it is none.
-pub mod Naming
-pub mod Described
+-- Which game a description is, which game a text is, and why one is none.
+pub mod Descriptions
 pub mod Faults
 pub mod Loading
-pub mod NameTables
-pub mod BoardNaming
-pub mod PlainRules
-pub mod NameFaults
-pub mod NamedThings
-pub mod Refusals
-pub mod GameByNumbers
 pub mod OneGame
+pub mod internal

@@ -9,7 +9,7 @@ use Rattle.rbg_syntax.specs.Tree.{SpeltDescription}
 use Rattle.rbg_syntax.specs.Spells.{SpellsOneWord, HasFault as HasSyntaxFault}
 use Rattle.rbg_syntax.specs.declared.error.SyntaxError.TheVariants.{Memory as SyntaxMemory}
 use Rattle.rbg_rules.specs.State.{AbstractGame}
-use Rattle.rbg_game.specs.Described.{IsGameOf}
+use Rattle.rbg_game.specs.Descriptions.{IsGameOf}
 use Rattle.rbg_game.specs.Faults.{HasFault}
 use Rattle.rbg_game.specs.declared.error.GameError.TheVariants.{Memory as GameMemory}
 use Rattle.rbg_game.specs.declared.error.LoadError.{LoadError}
@@ -27,27 +27,37 @@ pub record Describes (text : List ℕ) (d : SpeltDescription) : Type 0 where
   pub has : HasSectionsOf text sections
   pub spells : SpellsOneWord sections d
 
--- The text is the game's: its tokens expand to sections that spell a description of the game, one of those that this version reads.
+-- The text is the game's: its tokens expand to sections that spell a description of the game, one of those that this
+-- version reads.
 pub record Loads (text : List ℕ) (game : AbstractGame) : Type 0 where
   pub description : SpeltDescription
   pub describes : Describes text description
   pub game_of : IsGameOf description game
 
--- the fault that an error names stands in the text
+-- the text has the fault that an error names
 abbrev pub HasLoadFault : List ℕ → LoadError → Type 0
 HasLoadFault text (errors.Text error) = HasTextFault text error
-HasLoadFault text (errors.Macro error) = (tokens : List Lexeme) × HasTokens text tokens × HasMacroFault tokens error
-HasLoadFault text (errors.Syntax error) = (sections : List SectionTokens) × HasSectionsOf text sections × HasSyntaxFault sections error
-HasLoadFault text (errors.Game error) = (d : SpeltDescription) × Describes text d × HasFault d error
+HasLoadFault text (errors.Macro error) =
+    (tokens : List Lexeme)
+    × HasTokens text tokens
+    × HasMacroFault tokens error
+HasLoadFault text (errors.Syntax error) =
+    (sections : List SectionTokens)
+    × HasSectionsOf text sections
+    × HasSyntaxFault sections error
+HasLoadFault text (errors.Game error) =
+    (d : SpeltDescription)
+    × Describes text d
+    × HasFault d error
 
--- the error is want of memory, in whatever layer
+-- the error is out of memory, in whatever layer
 abbrev pub IsMemory : LoadError → Type 0
 IsMemory (errors.Text error) = error ≡ TextMemory
 IsMemory (errors.Macro error) = error ≡ MacroMemory
 IsMemory (errors.Syntax error) = error ≡ SyntaxMemory
 IsMemory (errors.Game error) = error ≡ GameMemory
 
--- The fault stands, and the text is no game's. Of want of memory nothing is said.
+-- The text has the fault, and is no game's. Where memory ran out nothing is said.
 pub record IsRefused (text : List ℕ) (error : LoadError) : Type 0 where
   pub fault : HasLoadFault text error
   pub no_game : (¬ IsMemory error) → (game : AbstractGame) → ¬ Loads text game

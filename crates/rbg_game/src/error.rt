@@ -1,4 +1,4 @@
-// Why a description is no game, and why a text is none.
+//! Why a description is no game, and why a text is none.
 ghost use Rattle.std.specs.Prelude.{◌≡◌, ◌↔◌, IsTrue};
 ghost use Rattle.rbg_game.specs.declared.error.GameError.TheVariants as game_errors;
 ghost use Rattle.rbg_game.specs.declared.error.LoadError.TheVariants as load_errors;
@@ -14,25 +14,27 @@ use thiserror::Error;
 /// Why a description is no game. Offsets are those of the text.
 #[derive(Clone, Copy, Debug, PartialEq, Eq, Error)]
 pub enum GameError {
-    /// The name at this offset is not of the kind that its place needs: a direction, a piece, a player.
+    /// The name at this offset is not that of a direction, a piece or a player, whichever is needed there.
     #[error("the name at byte {at} is unknown")]
     UnknownName { at: usize },
-    /// The name at this offset stands before.
-    #[error("the name at byte {at} stands twice")]
+    /// The name at this offset was given before to a player, a variable or a piece.
+    #[error("the name at byte {at} was given before")]
     SameName { at: usize },
-    /// The number at this offset is too great.
+    /// The number at this offset is greater than the greatest bound.
     #[error("the number at byte {at} is too great")]
     Bound { at: usize },
-    /// The switch at this offset stands in a pattern.
-    #[error("the switch at byte {at} stands in a pattern")]
+    /// The switch at this offset is in a pattern.
+    #[error("the switch at byte {at} is in a pattern")]
     SwitchInPattern { at: usize },
-    /// The pattern at this offset stands inside too many others.
+    /// The pattern at this offset is inside too many others.
     #[error("the pattern at byte {at} is nested too deep")]
     PatternTooDeep { at: usize },
+    /// There are more of the things than a game may have.
     #[error("there are too many {what}")]
     TooMany { what: Thing },
     #[error("out of memory")]
     Memory,
+    /// The board has a fault of its own.
     #[error("{error}")]
     Board { error: BoardError },
 }
@@ -89,7 +91,7 @@ pub enum LoadError {
 }
 
 impl LoadError {
-    /// Whether memory was wanting, in whatever layer.
+    /// Whether some layer ran out of memory.
     pub fn is_memory(&self) -> bool
         ensures { IsTrue result ↔ IsMemory self.now }
     {

@@ -9,4 +9,4 @@ mod loading;
 pub use checking::check;
 pub use error::{GameError, LoadError, Thing};
 pub use loading::load;
-pub use rbg_rules::{Action, Arithmetic, Game, Instruction, Operation, Operator, Relation, Rule, limits};
+pub use rbg_rules::{Action, Arithmetic, Game, Operation, Operator, Relation, Rule, Rules, limits};

@@ -1,25 +1,25 @@
-// From the text of a game to the game.
+//! From the text of a game to the game.
 ghost use Rattle.std.specs.Prelude.{◌≡◌, IfOk, IfErr};
 ghost use Rattle.rbg_syntax.specs.Plain.{IsPlain};
-ghost use Rattle.rbg_syntax.specs.Views.{description_of};
+ghost use Rattle.rbg_syntax.specs.Descriptions.{description_of};
 ghost use Rattle.rbg_game.specs.Loading.{HasSectionsOf, Describes, Loads, IsRefused};
 
 use crate::checking::check;
 use crate::error::LoadError;
-use rbg_rules::Game;
 use rbg_macro::{Source, expand, tokens};
+use rbg_rules::Game;
 use rbg_syntax::{Description, parse};
 use std::alloc::Global;
 
+/// The game of a text: its tokens are cut, its macros are expanded, its sections are read, and what they spell is
+/// checked. The error is that of the first layer that refuses the text.
 #[tactic(auto, using(crate::proofs::LoadingLemmas::refused_in_checks))]
-/// The game of a text: its tokens are cut, its macros expanded, its sections read, and what they spell is checked. The first layer
-/// that refuses answers.
 pub fn load(alloc: Global, text: &[u8]) -> Result<Game, LoadError>
     ensures game { IfOk result (Loads text.now) }
     ensures refused { IfErr result (IsRefused text.now) }
 {
     let description = describe(alloc, text)?;
-    match check(alloc, &description) {
+    match check(alloc, description) {
         Ok(game) => Ok(game),
         Err(error) => Err(LoadError::Game(error)),
     }

@@ -1,5 +1,5 @@
 -- The equations of the translation, for each kind of node. Nothing else looks into how the program's trees are built.
-use Rattle.std.proofs.Common.{◌≡◌, ℕ, map, ap, ◌∙◌}
+use Rattle.std.proofs.Common.{◌≡◌, ℕ, List, map, ap, ◌∙◌}
 use Rattle.std.specs.Prelude.{Vec, Box}
 use Rattle.std.specs.Global.{Global}
 use Rattle.rbg_rules.specs.declared.arithmetic.Arithmetic.{Arithmetic}
@@ -9,15 +9,13 @@ use Rattle.rbg_rules.specs.declared.arithmetic.Arithmetic.TheViews.{out-Arithmet
 use Rattle.rbg_rules.specs.declared.arithmetic.Arithmetic.TheFolds.{fold_out-Arithmetic, fold_out-Operation, map-Arithmetic, map-Operation}
 use Rattle.rbg_rules.specs.declared.arithmetic.Operation.{Operation}
 use Rattle.rbg_rules.specs.declared.rule.Action.{Action}
-use Rattle.rbg_rules.specs.declared.rule.Action.TheOpen.{Action-F, Rule-F}
-use Rattle.rbg_rules.specs.declared.rule.Action.TheViews.{out-Action, out-Rule}
-use Rattle.rbg_rules.specs.declared.arithmetic.Relation.{Relation}
-use Rattle.rbg_rules.specs.declared.rule.Action.TheVariants.{Shift, outs-Shift, On, outs-On, Off, outs-Off, Assign, outs-Assign, Compare, outs-Compare, Switch, outs-Switch, Positive, outs-Positive, Negative, outs-Negative}
 use Rattle.rbg_rules.specs.declared.rule.Rule.{Rule}
-use Rattle.rbg_rules.specs.declared.rule.Rule.TheVariants.{Act, outs-Act, Then, outs-Then, Or, outs-Or, Star, outs-Star}
-use Rattle.rbg_rules.specs.declared.rule.Action.TheFolds.{fold_out-Action, fold_out-Rule, map-Action, map-Rule}
-use Rattle.rbg_rules.specs.Expression.{AbstractArithmetic, number, variable, piece_count, negated, AbstractAction, shift, on, off, assignment, comparison, switch, positive, negative, Expression, act, sequence_of, choice_of, star}
-use Rattle.rbg_rules.specs.Translation.{Change, changed, operated, arithmetic_step, operation_step, arithmetic_of, operation_of, relation_of, action_step, rule_step, action_of, expression_of}
+use Rattle.rbg_rules.specs.declared.rule.Rule.TheOpen.{Rule-F}
+use Rattle.rbg_rules.specs.declared.rule.Rule.TheViews.{out-Rule}
+use Rattle.rbg_rules.specs.declared.rule.Rule.TheVariants.{Act, outs-Act, Pattern, outs-Pattern, Then, outs-Then, Or, outs-Or, Star, outs-Star}
+use Rattle.rbg_rules.specs.declared.rule.Rule.TheFolds.{fold_out-Rule, map-Rule}
+use Rattle.rbg_rules.specs.Expression.{AbstractArithmetic, number, variable, piece_count, negated, Expression, sequence_of, choice_of, star}
+use Rattle.rbg_rules.specs.Translation.{Change, changed, operated, arithmetic_step, operation_step, arithmetic_of, operation_of, rule_step, action_at, act_of, pattern_of, expression_of}
 
 -- One node of arithmetic with the meanings of its parts.
 abbrev opened_arithmetic : Arithmetic-F Arithmetic Operation → Arithmetic-F AbstractArithmetic Change
@@ -56,61 +54,30 @@ pub operation_of_roll : (x : Operation-F Arithmetic Operation) → operation_of 
 operation_of_roll x = operation_of_out (roll-Operation x) ∙ ap (λ (y : Operation-F Arithmetic Operation). (let change : Change = λ so_far. operated y.operator so_far (arithmetic_of y.operand) in change)) (out-roll-Operation x)
 
 -- One node of the rules with the meanings of its parts.
-abbrev opened_action : Action-F Action Rule → Action-F AbstractAction Expression
-opened_action x = map-Action Action Rule AbstractAction Expression action_of expression_of x
+abbrev opened_rule : List Action → Rule-F Rule → Rule-F Expression
+opened_rule actions x = map-Rule Rule Expression (expression_of actions) x
 
-abbrev opened_rule : Rule-F Action Rule → Rule-F AbstractAction Expression
-opened_rule x = map-Rule Action Rule AbstractAction Expression action_of expression_of x
+expression_of_out : (actions : List Action) (r : Rule) → expression_of actions r ≡ rule_step actions (opened_rule actions (out-Rule r))
+unfolding expression_of
+expression_of_out actions r = fold_out-Rule Expression (rule_step actions) r
 
-action_of_out : (a : Action) → action_of a ≡ action_step (opened_action (out-Action a))
-unfolding action_of expression_of
-action_of_out a = fold_out-Action AbstractAction Expression action_step rule_step a
+expression_of_layer : (actions : List Action) (r : Rule) (x : Rule-F Rule) → out-Rule r ≡ x → expression_of actions r ≡ rule_step actions (opened_rule actions x)
+expression_of_layer actions r x is = expression_of_out actions r ∙ ap (λ (y : Rule-F Rule). rule_step actions (opened_rule actions y)) is
 
-expression_of_out : (r : Rule) → expression_of r ≡ rule_step (opened_rule (out-Rule r))
-unfolding action_of expression_of
-expression_of_out r = fold_out-Rule AbstractAction Expression action_step rule_step r
+pub expression_of-Act : (actions : List Action) (p : ℕ) → expression_of actions (Act p) ≡ act_of p (action_at actions p)
+expression_of-Act actions p = expression_of_layer actions (Act p) (Rule-F.Act p) (outs-Act p)
 
-action_of_layer : (a : Action) (x : Action-F Action Rule) → out-Action a ≡ x → action_of a ≡ action_step (opened_action x)
-action_of_layer a x is = action_of_out a ∙ ap (λ (y : Action-F Action Rule). action_step (opened_action y)) is
+pub expression_of-Pattern : (actions : List Action) (p : ℕ) (inside : Box Rule Global) → expression_of actions (Pattern p inside) ≡ pattern_of p (action_at actions p) (expression_of actions inside.value)
+expression_of-Pattern actions p inside = expression_of_layer actions (Pattern p inside) (Rule-F.Pattern p inside) (outs-Pattern p inside)
 
-expression_of_layer : (r : Rule) (x : Rule-F Action Rule) → out-Rule r ≡ x → expression_of r ≡ rule_step (opened_rule x)
-expression_of_layer r x is = expression_of_out r ∙ ap (λ (y : Rule-F Action Rule). rule_step (opened_rule y)) is
+pub expression_of-Then : (actions : List Action) (parts : Vec Rule Global) → expression_of actions (Then parts) ≡ sequence_of (map (expression_of actions) parts.items)
+expression_of-Then actions parts = expression_of_layer actions (Then parts) (Rule-F.Then parts) (outs-Then parts)
 
-pub action_of-Shift : (d : ℕ) → action_of (Shift d) ≡ shift d
-action_of-Shift d = action_of_layer (Shift d) (Action-F.Shift d) (outs-Shift d)
+pub expression_of-Or : (actions : List Action) (parts : Vec Rule Global) → expression_of actions (Or parts) ≡ choice_of (map (expression_of actions) parts.items)
+expression_of-Or actions parts = expression_of_layer actions (Or parts) (Rule-F.Or parts) (outs-Or parts)
 
-pub action_of-On : (pieces : Vec ℕ Global) → action_of (On pieces) ≡ on pieces.items
-action_of-On pieces = action_of_layer (On pieces) (Action-F.On pieces) (outs-On pieces)
-
-pub action_of-Off : (x : ℕ) → action_of (Off x) ≡ off x
-action_of-Off x = action_of_layer (Off x) (Action-F.Off x) (outs-Off x)
-
-pub action_of-Assign : (v : ℕ) (e : Arithmetic) → action_of (Assign v e) ≡ assignment v (arithmetic_of e)
-action_of-Assign v e = action_of_layer (Assign v e) (Action-F.Assign v e) (outs-Assign v e)
-
-pub action_of-Compare : (e : Arithmetic) (r : Relation) (f : Arithmetic) → action_of (Compare e r f) ≡ comparison (arithmetic_of e) (relation_of r) (arithmetic_of f)
-action_of-Compare e r f = action_of_layer (Compare e r f) (Action-F.Compare e r f) (outs-Compare e r f)
-
-pub action_of-Switch : (n : ℕ) → action_of (Switch n) ≡ switch n
-action_of-Switch n = action_of_layer (Switch n) (Action-F.Switch n) (outs-Switch n)
-
-pub action_of-Positive : (inside : Box Rule Global) → action_of (Positive inside) ≡ positive (expression_of inside.value)
-action_of-Positive inside = action_of_layer (Positive inside) (Action-F.Positive inside) (outs-Positive inside)
-
-pub action_of-Negative : (inside : Box Rule Global) → action_of (Negative inside) ≡ negative (expression_of inside.value)
-action_of-Negative inside = action_of_layer (Negative inside) (Action-F.Negative inside) (outs-Negative inside)
-
-pub expression_of-Act : (p : ℕ) (a : Action) → expression_of (Act p a) ≡ act p (action_of a)
-expression_of-Act p a = expression_of_layer (Act p a) (Rule-F.Act p a) (outs-Act p a)
-
-pub expression_of-Then : (parts : Vec Rule Global) → expression_of (Then parts) ≡ sequence_of (map expression_of parts.items)
-expression_of-Then parts = expression_of_layer (Then parts) (Rule-F.Then parts) (outs-Then parts)
-
-pub expression_of-Or : (parts : Vec Rule Global) → expression_of (Or parts) ≡ choice_of (map expression_of parts.items)
-expression_of-Or parts = expression_of_layer (Or parts) (Rule-F.Or parts) (outs-Or parts)
-
-pub expression_of-Star : (part : Box Rule Global) → expression_of (Star part) ≡ star (expression_of part.value)
-expression_of-Star part = expression_of_layer (Star part) (Rule-F.Star part) (outs-Star part)
+pub expression_of-Star : (actions : List Action) (part : Box Rule Global) → expression_of actions (Star part) ≡ star (expression_of actions part.value)
+expression_of-Star actions part = expression_of_layer actions (Star part) (Rule-F.Star part) (outs-Star part)
 
 -- All of them, to be named on a function.
-pub ruleset translation = (arithmetic_of-Number, arithmetic_of-Variable, arithmetic_of-PieceCount, arithmetic_of-Negated, arithmetic_of-Chain, operation_of_roll, action_of-Shift, action_of-On, action_of-Off, action_of-Assign, action_of-Compare, action_of-Switch, action_of-Positive, action_of-Negative, expression_of-Act, expression_of-Then, expression_of-Or, expression_of-Star)
+pub ruleset translation = (arithmetic_of-Number, arithmetic_of-Variable, arithmetic_of-PieceCount, arithmetic_of-Negated, arithmetic_of-Chain, operation_of_roll, expression_of-Act, expression_of-Pattern, expression_of-Then, expression_of-Or, expression_of-Star)

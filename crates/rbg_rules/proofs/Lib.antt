@@ -9,4 +9,5 @@ pub mod MoveLemmas
 pub mod PlaceLemmas
 pub mod StateLemmas
 pub mod Bridge
-pub mod InstructionLemmas
+pub mod TreeLemmas
+pub mod TableLemmas

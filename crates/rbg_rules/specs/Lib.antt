@@ -11,7 +11,7 @@ pub mod Questions
 pub mod Games
 pub mod Laws
 pub mod Translation
-pub mod Instructions
+pub mod Table
 pub mod Names
 pub mod Codes
 pub mod Kept

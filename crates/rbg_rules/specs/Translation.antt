@@ -1,6 +1,6 @@
 -- What the program's tree of checked rules stands for: the one translation to the mathematics. Each function goes over the tree
 -- from its leaves; a step says what one node makes of the results of its parts.
-use Rattle.std.specs.Prelude.{List, fold}
+use Rattle.std.specs.Prelude.{ℕ, zero, suc, List, fold, Option, Some, None, slice_get, Bool, true, false, if◌then◌else◌}
 use Rattle.rbg_rules.specs.declared.arithmetic.Arithmetic.{Arithmetic}
 use Rattle.rbg_rules.specs.declared.arithmetic.Arithmetic.TheOpen.{Arithmetic-F, Operation-F}
 use Rattle.rbg_rules.specs.declared.arithmetic.Arithmetic.TheFolds.{fold-Arithmetic, fold-Operation}
@@ -11,9 +11,11 @@ use Rattle.rbg_rules.specs.declared.arithmetic.Relation.{Relation}
 use Rattle.rbg_rules.specs.declared.arithmetic.Relation.TheVariants.{Equal, Different, Less, AtMost, Greater, AtLeast}
 use Rattle.rbg_rules.specs.declared.rule.Action.{Action}
 use Rattle.rbg_rules.specs.declared.rule.Rule.{Rule}
-use Rattle.rbg_rules.specs.declared.rule.Action.TheOpen.{Action-F, Rule-F}
-use Rattle.rbg_rules.specs.declared.rule.Action.TheFolds.{fold-Action, fold-Rule}
-use Rattle.rbg_rules.specs.Expression.{AbstractArithmetic, number, variable, piece_count, negated, sum, difference, product, quotient, AbstractRelation, equal, different, less, at_most, greater, at_least, AbstractAction, shift, on, off, assignment, comparison, switch, positive, negative, Expression, act, sequence_of, choice_of, star}
+use Rattle.rbg_rules.specs.declared.rule.Rules.{Rules}
+use Rattle.rbg_rules.specs.declared.rule.Action.TheVariants.{Shift, On, Off, Assign, Compare, Switch, Positive, Negative}
+use Rattle.rbg_rules.specs.declared.rule.Rule.TheOpen.{Rule-F}
+use Rattle.rbg_rules.specs.declared.rule.Rule.TheFolds.{fold-Rule}
+use Rattle.rbg_rules.specs.Expression.{AbstractArithmetic, number, variable, piece_count, negated, sum, difference, product, quotient, AbstractRelation, equal, different, less, at_most, greater, at_least, AbstractAction, shift, on, off, assignment, comparison, switch, positive, negative, Expression, act, skip, fail, sequence_of, choice_of, star}
 
 abbrev pub operated : Operator → AbstractArithmetic → AbstractArithmetic → AbstractArithmetic
 operated Plus e f = sum e f
@@ -53,24 +55,53 @@ relation_of AtMost = at_most
 relation_of Greater = greater
 relation_of AtLeast = at_least
 
-abbrev pub action_step : Action-F AbstractAction Expression → AbstractAction
-action_step (Action-F.Shift d) = shift d
-action_step (Action-F.On pieces) = on pieces.items
-action_step (Action-F.Off x) = off x
-action_step (Action-F.Assign v e) = assignment v (arithmetic_of e)
-action_step (Action-F.Compare e r f) = comparison (arithmetic_of e) (relation_of r) (arithmetic_of f)
-action_step (Action-F.Switch n) = switch n
-action_step (Action-F.Positive inside) = positive inside.value
-action_step (Action-F.Negative inside) = negative inside.value
+-- The action, where x is the inside of a pattern.
+abbrev pub action_of : Action → Expression → AbstractAction
+action_of (Shift d) x = shift d
+action_of (On pieces) x = on pieces.items
+action_of (Off p) x = off p
+action_of (Assign v e) x = assignment v (arithmetic_of e)
+action_of (Compare e r f) x = comparison (arithmetic_of e) (relation_of r) (arithmetic_of f)
+action_of (Switch n) x = switch n
+action_of Positive x = positive x
+action_of Negative x = negative x
 
-abbrev pub rule_step : Rule-F AbstractAction Expression → Expression
-rule_step (Rule-F.Act p a) = act p a
-rule_step (Rule-F.Then parts) = sequence_of parts.items
-rule_step (Rule-F.Or parts) = choice_of parts.items
-rule_step (Rule-F.Star part) = star part.value
+-- whether the action is a pattern
+abbrev pub shows_pattern : Action → Bool
+shows_pattern Positive = true
+shows_pattern Negative = true
+shows_pattern (Shift d) = false
+shows_pattern (On pieces) = false
+shows_pattern (Off p) = false
+shows_pattern (Assign v e) = false
+shows_pattern (Compare e r f) = false
+shows_pattern (Switch n) = false
 
-unfoldable pub action_of : Action → AbstractAction
-action_of a = fold-Action AbstractAction Expression action_step rule_step a
+-- The action at a position of the table, which begins at position 1.
+abbrev pub action_at : List Action → ℕ → Option Action
+action_at actions zero = None
+action_at actions (suc k) = slice_get actions k
 
-unfoldable pub expression_of : Rule → Expression
-expression_of r = fold-Rule AbstractAction Expression action_step rule_step r
+-- A position outside a pattern's is that of an action which is no pattern. (No game has the empty sum.)
+abbrev pub act_of : ℕ → Option Action → Expression
+act_of p (Some a) = if shows_pattern a then fail else act p (action_of a skip)
+act_of p None = fail
+
+-- A pattern's position is that of a pattern.
+abbrev pub pattern_of : ℕ → Option Action → Expression → Expression
+pattern_of p (Some a) x = if shows_pattern a then act p (action_of a x) else fail
+pattern_of p None x = fail
+
+abbrev pub rule_step : List Action → Rule-F Expression → Expression
+rule_step actions (Rule-F.Act p) = act_of p (action_at actions p)
+rule_step actions (Rule-F.Pattern p inside) = pattern_of p (action_at actions p) inside.value
+rule_step actions (Rule-F.Then parts) = sequence_of parts.items
+rule_step actions (Rule-F.Or parts) = choice_of parts.items
+rule_step actions (Rule-F.Star part) = star part.value
+
+-- A tree with the actions of its positions.
+unfoldable pub expression_of : List Action → Rule → Expression
+expression_of actions tree = fold-Rule Expression (rule_step actions) tree
+
+abbrev pub rules_of : Rules → Expression
+rules_of rules = expression_of rules.actions.items rules.tree

@@ -1,15 +1,13 @@
-// A checked game: the names of its things with their numbers, its board, its rules and the table of its actions.
+//! A checked game: the names of its things with their numbers, its board, its rules and the table of its actions.
 ghost use Rattle.std.specs.Prelude.{◌≡◌, ◌<◌, ◌≤◌, ◌+◌, ◌-◌, IfOk, IsTrue, ◌↔◌, length, slice_get, Some, string_bytes};
 ghost use Rattle.rbg_rules.specs.Games.{IsGame};
-ghost use Rattle.rbg_rules.specs.Instructions.{Stands};
-ghost use Rattle.rbg_rules.specs.Translation.{expression_of};
+ghost use Rattle.rbg_rules.specs.Table.{Stands};
+ghost use Rattle.rbg_rules.specs.Translation.{rules_of};
 ghost use Rattle.rbg_rules.specs.Positions.{positions_of, IsPatternAt};
 ghost use Rattle.rbg_rules.specs.Names.{texts};
 
-use crate::instruction::{Instruction, list_instructions};
-use crate::rule::Rule;
+use crate::rule::{Action, Rules};
 use rbg_board::Board;
-use std::alloc::{AllocError, Global};
 use std::marker::Model;
 
 /// The parts of a game: names in order of their numbers.
@@ -22,7 +20,7 @@ pub struct Parts {
     pub bounds: Vec<u32>,
     pub directions: Vec<String>,
     pub board: Board,
-    pub rules: Rule,
+    pub rules: Rules,
 }
 
 /// A game that was checked: its rules speak of its own players, pieces, variables and directions, and their actions are numbered.
@@ -34,9 +32,7 @@ pub struct Game {
     bounds: Vec<u32>,
     directions: Vec<String>,
     board: Board,
-    rules: Rule,
-    /// What stands at each position, from position 1 on.
-    table: Vec<Instruction>,
+    rules: Rules,
 }
 
 impl Model for Game {
@@ -49,26 +45,25 @@ impl Model for Game {
     ghost coded = { coded_game };
 
     ghost use Rattle.rbg_rules.specs.Names.{texts};
-    ghost use Rattle.rbg_rules.specs.Translation.{expression_of};
+    ghost use Rattle.rbg_rules.specs.Translation.{rules_of};
 
-    ghost view = { λ g. record { players = texts g.players.items; pieces = texts g.pieces.items; variables = texts g.variables.items; bounds = g.bounds.items; directions = texts g.directions.items; board = g.board; rules = expression_of g.rules } };
+    ghost view = { λ g. record { players = texts g.players.items; pieces = texts g.pieces.items; variables = texts g.variables.items; bounds = g.bounds.items; directions = texts g.directions.items; board = g.board; rules = rules_of g.rules } };
 
     ghost use Rattle.rbg_rules.specs.Kept.{IsKept};
 
-    ghost invariant = { λ g. IsKept (texts g.players.items) (texts g.pieces.items) (texts g.variables.items) g.bounds.items (texts g.directions.items) g.board (expression_of g.rules) g.table.items };
+    ghost invariant = { λ g. IsKept (texts g.players.items) (texts g.pieces.items) (texts g.variables.items) g.bounds.items (texts g.directions.items) g.board g.rules };
 }
 
 impl Game {
     ghost use Rattle.rbg_rules.specs.Parts.{game_of_parts};
 
     /// The game of parts that were checked.
-    pub fn new(alloc: Global, parts: Parts) -> Result<Game, AllocError>
-        requires { IsGame (game_of_parts parts) }
-        ensures { IfOk result (λ game. game ≡ game_of_parts parts) }
+    pub fn new(parts: Parts) -> Game
+        requires lawful { IsGame (game_of_parts parts) }
+        requires actions { length parts.rules.actions.items ≡ length (positions_of (rules_of parts.rules)) }
+        ensures { result ≡ game_of_parts parts }
     {
-        let mut table = Vec::new(alloc);
-        list_instructions(alloc, &parts.rules, &mut table)?;
-        Ok(Game {
+        Game {
             players: parts.players,
             pieces: parts.pieces,
             variables: parts.variables,
@@ -76,8 +71,7 @@ impl Game {
             directions: parts.directions,
             board: parts.board,
             rules: parts.rules,
-            table,
-        })
+        }
     }
 
     /// How many players there are. They are numbered from 1 in order of text; the keeper is 0.
@@ -141,16 +135,16 @@ impl Game {
         ensures count { result ≡ length (positions_of self.now.rules) }
         ensures lawful { IsGame self.now }
     {
-        self.table.len()
+        self.rules.actions.len()
     }
 
-    /// What stands at a position.
-    pub fn action(&self, position: u32) -> &Instruction
+    /// The action at a position.
+    pub fn action(&self, position: u32) -> &Action
         requires from_one { 0 < position }
         requires there { position ≤ length (positions_of self.now.rules) }
         ensures { Stands self.now.rules position result.now }
     {
-        &self.table[position as usize - 1]
+        &self.rules.actions[position as usize - 1]
     }
 
     /// Whether a pattern stands at a position.
@@ -159,12 +153,12 @@ impl Game {
         requires there { position ≤ length (positions_of self.now.rules) }
         ensures { IsTrue result ↔ IsPatternAt self.now.rules position }
     {
-        self.table[position as usize - 1].is_pattern()
+        self.rules.actions[position as usize - 1].is_pattern()
     }
 
-    /// The tree of the rules.
-    pub fn rules(&self) -> &Rule
-        ensures rules { expression_of result.now ≡ self.now.rules }
+    /// The rules: their tree and the actions by position.
+    pub fn rules(&self) -> &Rules
+        ensures rules { rules_of result.now ≡ self.now.rules }
         ensures lawful { IsGame self.now }
     {
         &self.rules

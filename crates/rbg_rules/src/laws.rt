@@ -1,4 +1,4 @@
-// Laws of the definitions of a game's meaning. Each function does nothing: its contract is the law.
+//! Laws of the definitions of a game's meaning. Each function does nothing: its contract is the law.
 ghost use Rattle.rbg_rules.specs.Laws.{SequenceLaw, SumLaw, StarLaw, OneLevelLaw, SomeLevelLaw, PairsLaw, OwnWordLaw, RunLaw, OneRunLaw, PatternLaw, PositiveLaw, NegativeLaw, MoveLaw, OnePlaceLaw, StateLaw, WordLaw};
 
 /// The words of a sequence are the joins of one word of each part in order.

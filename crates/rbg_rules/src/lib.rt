@@ -3,12 +3,10 @@
 
 pub mod arithmetic;
 pub mod game;
-pub mod instruction;
 pub mod laws;
 pub mod limits;
 pub mod rule;
 
 pub use arithmetic::{Arithmetic, Operation, Operator, Relation};
 pub use game::{Game, Parts};
-pub use instruction::Instruction;
-pub use rule::{Action, Rule};
+pub use rule::{Action, Rule, Rules};

@@ -1,4 +1,4 @@
-// How much a game may have.
+//! How much a game may have.
 
 pub const MAX_PLAYERS: usize = 8;
 

@@ -1,12 +1,17 @@
-// The checked rules of a game: a regular expression over actions, with numbers in place of names.
+//! The checked rules of a game: a regular expression over actions, with numbers in place of names.
+ghost use Rattle.std.specs.Prelude.{◌≡◌};
+ghost use Rattle.rbg_rules.specs.Translation.{shows_pattern};
 
 use crate::arithmetic::{Arithmetic, Relation};
 
-/// The rules, or the inside of a pattern.
+/// A regular expression over positions.
 #[cycle(rule)]
 #[derive(Debug, Drop)]
 pub enum Rule {
-    Act { position: u32, action: Action },
+    /// The action at this position, which isn't a pattern.
+    Act(u32),
+    /// The pattern at this position, with its inside. The action at the position says whether it is positive or negative.
+    Pattern { position: u32, inside: Box<Rule> },
     /// One part after the other.
     Then(Vec<Rule>),
     /// One of the parts.
@@ -15,8 +20,7 @@ pub enum Rule {
     Star(Box<Rule>),
 }
 
-/// What stands at a position. Players are numbered from 1, and the keeper is 0; pieces, variables and directions from 0.
-#[cycle(rule)]
+/// What is done at a position. Players are numbered from 1, and the keeper is 0; pieces, variables and directions from 0.
 #[derive(Debug, Drop)]
 pub enum Action {
     Shift {
@@ -41,11 +45,33 @@ pub enum Action {
         player: u16,
     },
     /// The positive pattern: some word of its inside runs.
-    Positive {
-        inside: Box<Rule>,
-    },
+    Positive,
     /// The negative pattern: no word of its inside runs.
-    Negative {
-        inside: Box<Rule>,
-    },
+    Negative,
+}
+
+impl Action {
+    /// Whether the action is a pattern.
+    pub fn is_pattern(&self) -> bool
+        ensures { result ≡ shows_pattern self.now }
+    {
+        match self {
+            Action::Positive => true,
+            Action::Negative => true,
+            Action::Shift { .. }
+            | Action::On { .. }
+            | Action::Off { .. }
+            | Action::Assign { .. }
+            | Action::Compare { .. }
+            | Action::Switch { .. } => false,
+        }
+    }
+}
+
+/// The rules of a game: each action once, by its position, and the tree in which the positions stand.
+#[derive(Debug, Drop)]
+pub struct Rules {
+    pub tree: Rule,
+    /// The action of each position, from position 1 on.
+    pub actions: Vec<Action>,
 }

@@ -12,9 +12,9 @@ use Rattle.rbg_syntax.specs.Plain.{IsPlainAction, IsPlainRule, ArePlainRules, Is
 use Rattle.rbg_syntax.specs.Spells.{IsRectangular, SpellsOneWord}
 use Rattle.rbg_syntax.specs.Tree.{SpeltName, SpeltBoard, SpeltVertex, SpeltRule, SpeltRules, no_rules, more_rules, rules_after, sequence_of, SpeltDescription}
 use Rattle.rbg_syntax.specs.Views.{rule_of, action_of}
-use Rattle.rbg_syntax.specs.declared.description.Name.{Name}
+use Rattle.rbg_syntax.specs.declared.names.Name.{Name}
 use Rattle.rbg_syntax.specs.declared.expression.Expression.{Expression}
-use Rattle.rbg_syntax.specs.declared.rule.Relation.{Relation}
+use Rattle.rbg_base.specs.declared.relation.Relation.{Relation}
 use Rattle.rbg_syntax.specs.declared.rule.Rule.{Rule}
 use Rattle.rbg_syntax.specs.declared.rule.Rule as rules'
 use Rattle.rbg_syntax.specs.declared.rule.Action.{Action}

@@ -6,15 +6,15 @@ use Rattle.std.specs.declared.alloc.Global.{Global}
 use Rattle.std.specs.declared.boxed.Box.{Box}
 use Rattle.rbg_syntax.specs.Tree.{SpeltExpression, SpeltRule, SpeltAction, no_rules, no_terms, no_factors, rules_after, terms_after, factors_after}
 use Rattle.rbg_syntax.specs.Views.{name_of, number_of, expression_of, action_of, rule_of}
-use Rattle.rbg_syntax.specs.declared.description.Name.{Name}
-use Rattle.rbg_syntax.specs.declared.description.Number.{Number}
+use Rattle.rbg_syntax.specs.declared.names.Name.{Name}
+use Rattle.rbg_syntax.specs.declared.names.Number.{Number}
 use Rattle.rbg_syntax.specs.declared.expression.Additive.{Additive}
 use Rattle.rbg_syntax.specs.declared.expression.Multiplicative.{Multiplicative}
 use Rattle.rbg_syntax.specs.declared.expression.Expression.{Expression}
 use Rattle.rbg_syntax.specs.declared.expression.Expression as expressions
 use Rattle.rbg_syntax.specs.declared.expression.Term.{Term}
 use Rattle.rbg_syntax.specs.declared.expression.Factor.{Factor}
-use Rattle.rbg_syntax.specs.declared.rule.Relation.{Relation}
+use Rattle.rbg_base.specs.declared.relation.Relation.{Relation}
 use Rattle.rbg_syntax.specs.declared.rule.Rule.{Rule}
 use Rattle.rbg_syntax.specs.declared.rule.Rule as rules'
 use Rattle.rbg_syntax.specs.declared.rule.Action.{Action}

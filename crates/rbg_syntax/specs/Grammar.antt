@@ -8,8 +8,8 @@ use Rattle.rbg_syntax.specs.declared.expression.Additive.{Additive}
 use Rattle.rbg_syntax.specs.declared.expression.Additive.TheVariants as additive
 use Rattle.rbg_syntax.specs.declared.expression.Multiplicative.{Multiplicative}
 use Rattle.rbg_syntax.specs.declared.expression.Multiplicative.TheVariants as multiplicative
-use Rattle.rbg_syntax.specs.declared.rule.Relation.{Relation}
-use Rattle.rbg_syntax.specs.declared.rule.Relation.TheVariants as relations
+use Rattle.rbg_base.specs.declared.relation.Relation.{Relation}
+use Rattle.rbg_base.specs.declared.relation.Relation.TheVariants as relations
 
 -- bounded = name "(" number ")"
 pub data IsBounded : List Lexeme → SpeltBounded → List Lexeme → Type 0 where

@@ -1,3 +1,6 @@
+-- The grammar of descriptions, the trees that it spells, and what the parser is shown to do.
+pub mod Descriptions
+pub mod Formed
 pub mod Grammar
 pub mod Laws
 pub mod Phrase

@@ -8,7 +8,7 @@ use Rattle.rbg_macro.specs.declared.token.TokenKind.{TokenKind}
 use Rattle.rbg_macro.specs.declared.token.TokenKind.TheVariants as kinds
 use Rattle.rbg_syntax.specs.Sections.{sections_of, count_of}
 use Rattle.rbg_syntax.specs.Tree.{SpeltBounded, SpeltName, SpeltBoard, SpeltRule, SpeltDescription}
-use Rattle.rbg_syntax.specs.Views.{description_of}
+use Rattle.rbg_syntax.specs.Descriptions.{description_of}
 use Rattle.rbg_syntax.specs.declared.description.Description.{Description}
 use Rattle.rbg_syntax.specs.Grammar.{ArePlayers, AreVariables, ArePieces, IsRectangle, IsGenerated, IsBoard, AreRules, AreOneWord}
 use Rattle.rbg_syntax.specs.declared.error.SyntaxError.{SyntaxError}

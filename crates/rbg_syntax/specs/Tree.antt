@@ -4,7 +4,7 @@ use Rattle.rbg_syntax.specs.declared.expression.Additive.{Additive}
 use Rattle.rbg_syntax.specs.declared.expression.Additive.TheVariants.{Plus}
 use Rattle.rbg_syntax.specs.declared.expression.Multiplicative.{Multiplicative}
 use Rattle.rbg_syntax.specs.declared.expression.Multiplicative.TheVariants.{Times}
-use Rattle.rbg_syntax.specs.declared.rule.Relation.{Relation}
+use Rattle.rbg_base.specs.declared.relation.Relation.{Relation}
 
 -- a name, and the offset where it stands
 pub record SpeltName : Type 0 where

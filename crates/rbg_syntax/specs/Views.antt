@@ -3,14 +3,13 @@ use Rattle.std.specs.Prelude.{List, map, option_map}
 use Rattle.std.specs.declared.alloc.Global.{Global}
 use Rattle.std.specs.declared.vec.Vec.{Vec}
 use Rattle.rbg_syntax.specs.Tree.{SpeltName, SpeltNumber, SpeltBounded, SpeltEdge, SpeltVertex, SpeltBoard, SpeltDescription, SpeltExpression, no_terms, no_factors, SpeltRule, no_rules, SpeltAction, terms_after, factors_after, rules_after}
-use Rattle.rbg_syntax.specs.declared.description.Name.{Name}
-use Rattle.rbg_syntax.specs.declared.description.Number.{Number}
+use Rattle.rbg_syntax.specs.declared.names.Name.{Name}
+use Rattle.rbg_syntax.specs.declared.names.Number.{Number}
 use Rattle.rbg_syntax.specs.declared.description.Bounded.{Bounded}
 use Rattle.rbg_syntax.specs.declared.description.Edge.{Edge}
 use Rattle.rbg_syntax.specs.declared.description.Vertex.{Vertex}
 use Rattle.rbg_syntax.specs.declared.description.Board.{Board}
 use Rattle.rbg_syntax.specs.declared.description.Board.TheVariants.{Rectangle, Hexagon, Graph}
-use Rattle.rbg_syntax.specs.declared.description.Description.{Description}
 use Rattle.rbg_syntax.specs.declared.expression.Additive.{Additive}
 use Rattle.rbg_syntax.specs.declared.expression.Multiplicative.{Multiplicative}
 use Rattle.rbg_syntax.specs.declared.expression.Expression.{Expression, fold-Expression}
@@ -85,12 +84,13 @@ action_of = fold-Action SpeltAction SpeltRule action_step rule_step
 unfoldable pub rule_of : Rule → SpeltRule
 rule_of = fold-Rule SpeltAction SpeltRule action_step rule_step
 
-abbrev pub description_of : Description → SpeltDescription
-description_of d =
+-- what the sections spell, from the trees of the code for them
+abbrev pub spelt : Vec Bounded Global → Vec Bounded Global → Vec Name Global → Board → Rule → SpeltDescription
+spelt players variables pieces board rules =
     record {
-      players = map bounded_of d.players.items;
-      variables = map bounded_of d.variables.items;
-      pieces = map name_of d.pieces.items;
-      board = board_of d.board;
-      rules = rule_of d.rules;
+      players = map bounded_of players.items;
+      variables = map bounded_of variables.items;
+      pieces = map name_of pieces.items;
+      board = board_of board;
+      rules = rule_of rules;
     }

@@ -3,8 +3,9 @@ ghost use Rattle.std.specs.Prelude.{codes, map};
 ghost use Rattle.rbg_syntax.specs.Reading.{Gives, direction_at, generated_at, rectangle_at, row_at, rows_at};
 ghost use Rattle.rbg_syntax.specs.Views.{board_of, name_of, names_of};
 
-use crate::description::{Board, Name};
+use crate::description::Board;
 use crate::error::{Expectation, SyntaxError};
+use crate::names::Name;
 use crate::parser::Parser;
 use rbg_macro::Symbol;
 use std::alloc::Global;

@@ -1,13 +1,14 @@
-// Why sections spell no description.
+//! Why sections spell no description.
 ghost use Rattle.rbg_syntax.specs.declared.error.SyntaxError.TheVariants as errors;
 ghost use Rattle.std.specs.Prelude.{◌≡◌};
 
+use rbg_base::Memory;
 use rbg_macro::SectionKind;
-use std::alloc::{AllocError, AllocFailed};
+use std::alloc::AllocFailed;
 use std::fmt;
 use thiserror::Error;
 
-/// Why sections spell no description.
+///! Why sections spell no description.
 #[derive(Clone, Copy, Debug, PartialEq, Eq, Error)]
 pub enum SyntaxError {
     /// The token at this offset doesn't fit, or the section whose `#` stands there ends too early.
@@ -24,14 +25,14 @@ pub enum SyntaxError {
     Memory,
 }
 
-/// What is needed where a token doesn't fit.
+/// What is needed where a token doesn't fit. It prints itself by its own name, as `Closing`.
 #[derive(Clone, Copy, Debug, PartialEq, Eq)]
 pub enum Expectation {
-    /// A name; also behind the `{` of an on, where `}` fits too.
+    /// A name; also after the `{` of an on, where `}` fits too.
     Name,
     /// The number of a bound.
     Number,
-    /// A certain opening bracket.
+    /// One particular opening bracket.
     Opening,
     /// The next part of a list or its closing bracket.
     Closing,
@@ -53,26 +54,26 @@ pub enum Expectation {
 impl fmt::Display for Expectation {
     fn fmt<W: fmt::Write>(&self, f: &mut fmt::Formatter<W>) -> fmt::Result {
         match self {
-            Expectation::Name => write!(f, "a name"),
-            Expectation::Number => write!(f, "a number"),
-            Expectation::Opening => write!(f, "an opening bracket"),
-            Expectation::Closing => write!(f, "a closing bracket"),
-            Expectation::Equals => write!(f, "`=`"),
-            Expectation::Comma => write!(f, "`,`"),
-            Expectation::Colon => write!(f, "`:`"),
-            Expectation::Item => write!(f, "an item"),
-            Expectation::Factor => write!(f, "a factor"),
-            Expectation::Relation => write!(f, "a relation"),
-            Expectation::Generator => write!(f, "a board"),
-            Expectation::End => write!(f, "the end"),
+            Expectation::Name => write!(f, "Name"),
+            Expectation::Number => write!(f, "Number"),
+            Expectation::Opening => write!(f, "Opening"),
+            Expectation::Closing => write!(f, "Closing"),
+            Expectation::Equals => write!(f, "Equals"),
+            Expectation::Comma => write!(f, "Comma"),
+            Expectation::Colon => write!(f, "Colon"),
+            Expectation::Item => write!(f, "Item"),
+            Expectation::Factor => write!(f, "Factor"),
+            Expectation::Relation => write!(f, "Relation"),
+            Expectation::Generator => write!(f, "Generator"),
+            Expectation::End => write!(f, "End"),
         }
     }
 }
 
-impl From<AllocError> for SyntaxError {
+impl From<Memory> for SyntaxError {
     ghost from_gives = { λ _ e. e ≡ errors.Memory };
 
-    fn from(_error: AllocError) -> SyntaxError {
+    fn from(_error: Memory) -> SyntaxError {
         SyntaxError::Memory
     }
 }

@@ -1,6 +1,6 @@
 // Arithmetic as it is spelt: sums and products are lists, so a tree is no deeper than its brackets.
 
-use crate::description::{Name, Number};
+use crate::names::{Name, Number};
 
 /// An arithmetic expression.
 #[cycle(expression)]

@@ -8,16 +8,19 @@ mod error;
 mod expression;
 pub mod laws;
 mod lists;
+mod names;
 mod parser;
+mod parsing;
 mod rule;
 mod sections;
-mod source;
 #[cfg(test)]
 mod tests;
 mod words;
 
-pub use description::{Board, Bounded, Description, Edge, Name, Number, Vertex};
+pub use description::{Board, Bounded, Description, DescriptionParts, Edge, Vertex};
 pub use error::{Expectation, SyntaxError};
 pub use expression::{Additive, Expression, Factor, Multiplicative, Term};
-pub use rule::{Action, Relation, Rule};
-pub use source::parse;
+pub use names::{Name, Number};
+pub use parsing::parse;
+pub use rbg_base::Relation;
+pub use rule::{Action, Rule};

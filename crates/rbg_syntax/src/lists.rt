@@ -3,8 +3,9 @@ ghost use Rattle.rbg_macro.specs.declared.token.Symbol.TheVariants.{Comma};
 ghost use Rattle.rbg_syntax.specs.Reading.{Gives, bounded_at, is_name, listed_at, name_at, separated_at};
 ghost use Rattle.rbg_syntax.specs.Views.{bounded_list_of, bounded_of, names_of};
 
-use crate::description::{Bounded, Name};
+use crate::description::Bounded;
 use crate::error::{Expectation, SyntaxError};
+use crate::names::Name;
 use crate::parser::Parser;
 use rbg_macro::Symbol;
 use std::alloc::Global;

@@ -5,8 +5,8 @@ ghost use Rattle.rbg_syntax.specs.Phrase.{if_fits, number_of_digits};
 ghost use Rattle.rbg_syntax.specs.Reading.{Gives, Takes, ended_at, front_at, next_is, is_name, is_symbol, name_at, number_at, symbol_at, word_at};
 ghost use Rattle.rbg_syntax.specs.Views.{name_of, number_of};
 
-use crate::description::{Name, Number};
 use crate::error::{Expectation, SyntaxError};
+use crate::names::{Name, Number};
 use rbg_macro::{Section, Symbol, Token, TokenKind};
 use std::alloc::Global;
 use std::marker::Model;

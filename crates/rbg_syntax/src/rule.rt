@@ -1,7 +1,8 @@
 // The rules as they are spelt: a regular expression over actions.
 
-use crate::description::Name;
 use crate::expression::Expression;
+use crate::names::Name;
+use rbg_base::Relation;
 
 /// A regular expression over actions.
 #[cycle(rule)]
@@ -51,15 +52,4 @@ pub enum Action {
         at: usize,
         rule: Box<Rule>,
     },
-}
-
-/// How a comparison's sides must stand to each other.
-#[derive(Clone, Copy, Debug, PartialEq, Eq)]
-pub enum Relation {
-    Equal,
-    NotEqual,
-    Less,
-    LessOrEqual,
-    Greater,
-    GreaterOrEqual,
 }

@@ -1,8 +1,9 @@
 // Texts of descriptions, and what their sections spell or why they spell nothing.
-use crate::description::{Board, Description, Name, Number};
+use crate::description::{Board, Description};
 use crate::error::{Expectation, SyntaxError};
+use crate::names::{Name, Number};
+use crate::parsing::parse;
 use crate::rule::{Action, Rule};
-use crate::source::parse;
 use rbg_macro::{SectionKind, expand, tokens};
 use std::alloc::Global;
 use std::process::Abort;

@@ -1,16 +1,19 @@
-// The board of a description by numbers: its cells by those of their pieces, its directions by those of their names.
-ghost use Rattle.std.specs.Prelude.{◌≡◌, ◌<◌, ◌≤◌, ◌∷◌, [], length, map, flat_map, IfOk, OnOk, IfErr};
+//! The board of a description by numbers: its cells by those of their pieces, its directions by those of their names.
+ghost use Rattle.std.specs.Prelude.{◌≡◌, ◌<◌, ◌≤◌, ◌^◌, ◌∷◌, [], length, map, flat_map, IfOk, OnOk, IfErr};
+ghost use Rattle.std.specs.List.{AllZip};
 ghost use Rattle.rbg_board.specs.Cells.{rows_of};
 ghost use Rattle.rbg_syntax.specs.Plain.{HasRectangle};
 ghost use Rattle.rbg_syntax.specs.Tree.{rectangle};
 ghost use Rattle.rbg_syntax.specs.Views.{name_of, names_of, board_of};
-ghost use Rattle.rbg_game.specs.Naming.{IsNumberOf, EachWith};
-ghost use Rattle.rbg_game.specs.BoardNaming.{MakesBoard, CellsRefusal, DirectionsRefusal, Joins, NumbersDirections, IsBoardRefusal, refusal_of};
+ghost use Rattle.rbg_game.specs.Descriptions.{IsNumberOf};
+ghost use Rattle.rbg_game.specs.Faults.{HasBoardFault};
+ghost use Rattle.rbg_game.specs.internal.NameTables.{HasLookUpFault};
+ghost use Rattle.rbg_game.specs.internal.Boards.{MakesBoard, Joins, NumbersDirections, HasDirectionFault, refusal_of};
 
 use crate::checking::name_table::NameTable;
 use crate::error::GameError;
-use rbg_rules::limits::{MAX_DIRECTIONS, MAX_PIECES};
 use rbg_board::{Board, BoardError, rectangle};
+use rbg_rules::limits::{MAX_DIRECTIONS, MAX_PIECES};
 use rbg_syntax::Name;
 use std::alloc::Global;
 
@@ -21,57 +24,28 @@ pub(crate) struct NamedBoard {
     pub(crate) board: Board,
 }
 
-/// The number of the piece on a cell.
-#[tactic(auto, unfolding(crate::specs::BoardNaming::CellsRefusal))]
-fn number_cell(pieces: &NameTable, cell: &Name) -> Result<u16, GameError>
-    requires { length pieces.now ≤ MAX_PIECES }
-    ensures ok { IfOk result (IsNumberOf pieces.now (name_of cell.now)) }
-    ensures err { IfErr result (CellsRefusal pieces.now (name_of cell.now ∷ [])) }
-{
-    match pieces.number_of(&cell.text) {
-        Some(number) => Ok(number as u16),
-        None => Err(GameError::UnknownName { at: cell.at }),
-    }
-}
-
-/// The numbers of the pieces on a row of cells.
-#[tactic(auto, unfolding(crate::specs::BoardNaming::CellsRefusal))]
-fn number_row(alloc: Global, pieces: &NameTable, row: &[Name]) -> Result<Vec<u16>, GameError>
-    requires { length pieces.now ≤ MAX_PIECES }
-    ensures ok { IfOk result (λ numbers. EachWith (IsNumberOf pieces.now) (map name_of row.now) numbers.items) }
-    ensures err { IfErr result (CellsRefusal pieces.now (map name_of row.now)) }
-{
-    let mut numbers = Vec::with_capacity(alloc, row.len())?;
-    for cell in row {
-        numbers.push(number_cell(pieces, cell)?)?;
-    }
-    Ok(numbers)
-}
-
 /// The numbers of the pieces on rows of cells.
-#[tactic(auto, unfolding(crate::specs::BoardNaming::CellsRefusal))]
 fn number_rows(
     alloc: Global,
     pieces: &NameTable,
     rows: &[Vec<Name>],
 ) -> Result<Vec<Vec<u16>>, GameError>
-    requires { length pieces.now ≤ MAX_PIECES }
-    ensures ok { IfOk result (λ numbers. EachWith (EachWith (IsNumberOf pieces.now)) (map names_of rows.now) (rows_of numbers.items)) }
-    ensures err { IfErr result (CellsRefusal pieces.now (flat_map (λ row. row) (map names_of rows.now))) }
+    requires { length pieces.now ≤ 2 ^ 16 }
+    ensures numbers { IfOk result (λ ns. AllZip (AllZip (IsNumberOf pieces.now)) (map names_of rows.now) (rows_of ns.items)) }
+    ensures fault { IfErr result (HasLookUpFault pieces.now (flat_map (λ row. row) (map names_of rows.now))) }
 {
     let mut numbers = Vec::with_capacity(alloc, rows.len())?;
     for row in rows {
-        numbers.push(number_row(alloc, pieces, row)?)?;
+        numbers.push(pieces.find_all(alloc, row)?)?;
     }
     Ok(numbers)
 }
 
 /// The number of a direction. A name that is new joins the table.
-#[tactic(auto, unfolding(crate::specs::BoardNaming::DirectionsRefusal))]
 fn number_direction(table: &mut NameTable, name: &Name) -> Result<u16, GameError>
     requires { length table.old < 4 }
-    ensures ok { IfOk result (Joins table.old table.new name.now.text.items) }
-    ensures err { IfErr result (DirectionsRefusal (name_of name.now ∷ [])) }
+    ensures number { IfOk result (Joins table.old table.new name.now.text.items) }
+    ensures fault { IfErr result (HasDirectionFault (name_of name.now ∷ [])) }
 {
     let number = match table.number_of(&name.text) {
         Some(number) => number,
@@ -85,10 +59,9 @@ fn number_direction(table: &mut NameTable, name: &Name) -> Result<u16, GameError
 }
 
 /// The numbers of four directions, and the table in which they are numbered.
-#[tactic(auto, unfolding(crate::specs::BoardNaming::DirectionsRefusal))]
 fn number_directions(alloc: Global, names: &[Name; 4]) -> Result<([u16; 4], NameTable), GameError>
-    ensures ok { IfOk result (λ numbered. NumbersDirections (map name_of names.now) numbered.0 numbered.1) }
-    ensures err { IfErr result (DirectionsRefusal (map name_of names.now)) }
+    ensures numbers { IfOk result (λ numbered. NumbersDirections (map name_of names.now) numbered.0 numbered.1) }
+    ensures fault { IfErr result (HasDirectionFault (map name_of names.now)) }
 {
     let mut table = NameTable::new(alloc);
     let [up, down, left, right] = names;
@@ -101,7 +74,7 @@ fn number_directions(alloc: Global, names: &[Name; 4]) -> Result<([u16; 4], Name
     Ok((numbers, table))
 }
 
-/// What a board is refused for. Want of memory has one name in every layer.
+/// What a board is refused for. Out of memory has one name in every layer.
 fn refusal_of(error: BoardError) -> GameError
     ensures { result ≡ refusal_of error }
 {
@@ -119,8 +92,9 @@ fn make_rectangle(
     rows: &[Vec<Name>],
 ) -> Result<NamedBoard, GameError>
     requires { length pieces.now ≤ MAX_PIECES }
-    ensures ok { IfOk result (λ made. MakesBoard pieces.now (rectangle (map name_of names.now) (map names_of rows.now)) made.directions made.board) }
-    ensures err { IfErr result (IsBoardRefusal pieces.now (rectangle (map name_of names.now) (map names_of rows.now))) }
+    ensures board { IfOk result
+        (λ b. MakesBoard pieces.now (rectangle (map name_of names.now) (map names_of rows.now)) b.directions b.board) }
+    ensures fault { IfErr result (HasBoardFault pieces.now (rectangle (map name_of names.now) (map names_of rows.now))) }
 {
     let cells = number_rows(alloc, pieces, rows)?;
     let (numbers, directions) = number_directions(alloc, names)?;
@@ -132,8 +106,8 @@ fn make_rectangle(
     }
 }
 
-/// The board of a description, with its pieces by their numbers. The faults are looked for in this order: a cell's piece that is not
-/// known, a direction's name that is none of the language, and then what the board itself is refused for.
+/// The board of a description, with its pieces by their numbers. Faults are looked for in this order: an unknown piece of
+/// a cell, a direction whose name is none of the language, and then what the board itself is refused for.
 pub(crate) fn make_board(
     alloc: Global,
     pieces: &NameTable,
@@ -141,100 +115,13 @@ pub(crate) fn make_board(
 ) -> Result<NamedBoard, GameError>
     requires rectangle { HasRectangle (board_of board.now) }
     requires few { length pieces.now ≤ MAX_PIECES }
-    ensures ok { IfOk result (λ made. MakesBoard pieces.now (board_of board.now) made.directions made.board) }
-    ensures err { IfErr result (IsBoardRefusal pieces.now (board_of board.now)) }
+    ensures board { IfOk result (λ b. MakesBoard pieces.now (board_of board.now) b.directions b.board) }
+    ensures fault { IfErr result (HasBoardFault pieces.now (board_of board.now)) }
 {
     match board {
         rbg_syntax::Board::Rectangle { directions, rows } => {
             make_rectangle(alloc, pieces, directions, rows)
         }
         rbg_syntax::Board::Hexagon { .. } | rbg_syntax::Board::Graph { .. } => unreachable!(),
-    }
-}
-
-#[cfg(test)]
-mod tests {
-    use super::*;
-    use std::test::Fail;
-
-    fn name(alloc: Global, text: &[u8], at: usize) -> Result<Name, Fail> {
-        let text = text.to_vec(alloc)?;
-        Ok(Name { text, at })
-    }
-
-    fn names(alloc: Global, right: &[u8]) -> Result<[Name; 4], Fail> {
-        Ok([
-            name(alloc, b"up", 0)?,
-            name(alloc, b"down", 3)?,
-            name(alloc, b"left", 8)?,
-            name(alloc, right, 13)?,
-        ])
-    }
-
-    fn pieces(alloc: Global) -> Result<NameTable, Fail>
-        ensures { IfOk result (λ pieces. length pieces ≤ MAX_PIECES) }
-    {
-        let mut pieces = NameTable::new(alloc);
-        pieces.insert(&name(alloc, b"empty", 0)?)?;
-        pieces.insert(&name(alloc, b"stone", 6)?)?;
-        Ok(pieces)
-    }
-
-    // [first, stone] [empty]
-    fn uneven_rows(alloc: Global, first: &[u8]) -> Result<Vec<Vec<Name>>, Fail> {
-        let mut top = Vec::new(alloc);
-        top.push(name(alloc, first, 20)?)?;
-        top.push(name(alloc, b"stone", 26)?)?;
-        let mut bottom = Vec::new(alloc);
-        bottom.push(name(alloc, b"empty", 34)?)?;
-        let mut rows = Vec::new(alloc);
-        rows.push(top)?;
-        rows.push(bottom)?;
-        Ok(rows)
-    }
-
-    // The fault of rows of two cells and of one.
-    fn fault(alloc: Global, right: &[u8], first: &[u8]) -> Result<Option<GameError>, Fail> {
-        let pieces = pieces(alloc)?;
-        let directions = names(alloc, right)?;
-        let rows = uneven_rows(alloc, first)?;
-        let board = rbg_syntax::Board::Rectangle { directions, rows };
-        Ok(make_board(alloc, &pieces, &board).err())
-    }
-
-    #[test]
-    fn a_row_of_two_cells(rt: HostRuntime) -> Result<(), Fail> {
-        let alloc = rt.alloc();
-        let pieces = pieces(alloc)?;
-        let mut rows = uneven_rows(alloc, b"empty")?;
-        let _ = rows.pop();
-        let directions = names(alloc, b"right")?;
-        let board = rbg_syntax::Board::Rectangle { directions, rows };
-        let made = make_board(alloc, &pieces, &board)?;
-        assert_eq!(rt; made.directions.number_of(b"right"), Some(3));
-        assert_eq!(rt; made.board.len(), 2);
-        assert_eq!(rt; made.board.piece_at_start(1), 1);
-        assert_eq!(rt; made.board.step(0, 3), Some(1));
-        assert_eq!(rt; made.board.step(0, 2), None);
-        Ok(())
-    }
-
-    #[test]
-    fn faults_are_looked_for_in_order(rt: HostRuntime) -> Result<(), Fail> {
-        let alloc = rt.alloc();
-        assert_eq!(rt;
-            fault(alloc, b"4", b"none")?,
-            Some(GameError::UnknownName { at: 20 })
-        );
-        assert_eq!(rt;
-            fault(alloc, b"4", b"stone")?,
-            Some(GameError::UnknownName { at: 13 })
-        );
-        let error = BoardError::RowLength { row: 1 };
-        assert_eq!(rt;
-            fault(alloc, b"up", b"stone")?,
-            Some(GameError::Board { error })
-        );
-        Ok(())
     }
 }

@@ -1,10 +1,12 @@
-// Tables of names: the things of a description by their numbers, and the number of a name.
-ghost use Rattle.std.specs.Prelude.{◌≡◌, [], ◌∷◌, ◌++◌, length, slice_get, Some, true, Contains, MatchOption, OnOk, OnErr, IfErr, IfOk, string_bytes};
+//! Tables of names: the things of a description by their numbers, and the number of a name.
+ghost use Rattle.std.specs.Prelude.{◌≡◌, ◌≤◌, ◌^◌, [], ◌∷◌, ◌++◌, length, map, slice_get, Some, true, Contains};
+ghost use Rattle.std.specs.Prelude.{MatchOption, OnOk, OnErr, IfErr, IfOk, string_bytes};
+ghost use Rattle.std.specs.List.{AllZip};
 ghost use Rattle.rbg_base.specs.Names.{is_name};
 ghost use Rattle.rbg_syntax.specs.Views.{name_of};
-ghost use Rattle.rbg_game.specs.Described.{AreLawfulNames};
 ghost use Rattle.rbg_rules.specs.Names.{texts};
-ghost use Rattle.rbg_game.specs.NameTables.{IsNoNewName};
+ghost use Rattle.rbg_game.specs.Descriptions.{IsNumberOf, AreLawfulNames};
+ghost use Rattle.rbg_game.specs.internal.NameTables.{HasLookUpFault, HasNameFault};
 
 use crate::error::GameError;
 use indexmap::IndexSet;
@@ -24,11 +26,11 @@ impl Model for NameTable {
 
     ghost Value = { List (List ℕ) };
 
-    ghost use Rattle.rbg_game.specs.NameTables.{bytes_of};
+    ghost use Rattle.rbg_game.specs.internal.NameTables.{bytes_of};
 
     ghost view = { λ table. bytes_of table.names.keys };
 
-    ghost use Rattle.rbg_game.specs.Described.{AreLawfulNames};
+    ghost use Rattle.rbg_game.specs.Descriptions.{AreLawfulNames};
 
     ghost invariant = { λ table. AreLawfulNames (bytes_of table.names.keys) };
 }
@@ -56,11 +58,36 @@ impl NameTable {
         self.names.get_index_of(text)
     }
 
-    /// Adds a name behind the others.
+    /// The number of a name that a description uses.
+    pub(crate) fn find(&self, name: &Name) -> Result<u16, GameError>
+        requires { length self.now ≤ 2 ^ 16 }
+        ensures number { IfOk result (IsNumberOf self.now (name_of name.now)) }
+        ensures fault { IfErr result (HasLookUpFault self.now (name_of name.now ∷ [])) }
+    {
+        match self.number_of(&name.text) {
+            Some(number) => Ok(number as u16),
+            None => Err(GameError::UnknownName { at: name.at }),
+        }
+    }
+
+    /// The numbers of names that a description uses.
+    pub(crate) fn find_all(&self, alloc: Global, names: &[Name]) -> Result<Vec<u16>, GameError>
+        requires { length self.now ≤ 2 ^ 16 }
+        ensures numbers { IfOk result (λ ns. AllZip (IsNumberOf self.now) (map name_of names.now) ns.items) }
+        ensures fault { IfErr result (HasLookUpFault self.now (map name_of names.now)) }
+    {
+        let mut numbers = Vec::with_capacity(alloc, names.len())?;
+        for name in names {
+            numbers.push(self.find(name)?)?;
+        }
+        Ok(numbers)
+    }
+
+    /// Adds a name after the others.
     pub(crate) fn insert(&mut self, name: &Name) -> Result<(), GameError>
         ensures ok { OnOk result (self.new ≡ self.old ++ name.now.text.items ∷ []) }
         ensures kept { OnErr result (self.new ≡ self.old) }
-        ensures err { IfErr result (IsNoNewName self.old (name_of name.now)) }
+        ensures fault { IfErr result (HasNameFault self.old (name_of name.now ∷ [])) }
     {
         if !is_name(&name.text) {
             return Err(GameError::UnknownName { at: name.at });
@@ -92,4 +119,3 @@ fn name_text(name: &Vec<u8>) -> Result<String, AllocError>
 {
     Ok(String::from_utf8(name.clone()?).unwrap())
 }
-

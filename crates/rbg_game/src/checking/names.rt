@@ -1,16 +1,16 @@
-// The names of players, variables and pieces by their numbers, and the bounds of the variables.
-ghost use Rattle.std.specs.Prelude.{◌≡◌, ◌≢◌, ◌≤◌, [], ◌∷◌, ◌++◌, map, Some, OnOk, IfOk, IfErr};
-ghost use Rattle.rbg_syntax.specs.Views.{name_of, number_of, bounded_of, description_of};
-ghost use Rattle.rbg_game.specs.Described.{texts_of, holder_names};
-ghost use Rattle.rbg_game.specs.Faults.{IsNoBound};
-ghost use Rattle.rbg_game.specs.NameFaults.{IsHolderFault, HasNameFault, HasHolderFault};
-ghost use Rattle.rbg_game.specs.NamedThings.{AddsBounds, AreThingsOf};
-ghost use Rattle.rbg_game.specs.Refusals.{IsUnlawful};
+//! The names of players, variables and pieces by their numbers, and the bounds of the variables.
+ghost use Rattle.std.specs.Prelude.{◌≡◌, ◌≤◌, [], ◌∷◌, ◌++◌, map, Some, OnOk, IfOk, IfErr};
+ghost use Rattle.rbg_syntax.specs.Views.{name_of, number_of, bounded_of};
+ghost use Rattle.rbg_syntax.specs.Descriptions.{description_of_parts};
+ghost use Rattle.rbg_game.specs.Descriptions.{texts_of, holder_names};
+ghost use Rattle.rbg_game.specs.Faults.{IsNoBound, HasFault};
+ghost use Rattle.rbg_game.specs.internal.NameTables.{HasNameFault, HasHolderFault};
+ghost use Rattle.rbg_game.specs.internal.Things.{AddsBounds, AreThingsOf};
 
 use crate::checking::name_table::NameTable;
 use crate::error::{GameError, Thing};
 use rbg_rules::limits::{MAX_BOUND, MAX_PIECES, MAX_PLAYERS, MAX_VARIABLES};
-use rbg_syntax::{Bounded, Description, Name, Number};
+use rbg_syntax::{Bounded, DescriptionParts, Name, Number};
 use std::alloc::Global;
 
 /// The names of a description, and the bounds of its variables.
@@ -25,11 +25,14 @@ pub(crate) struct Things {
 
 /// Numbers the players, variables and pieces of a description.
 ///
-/// The names and bounds are looked at in order of text, players before variables and those before pieces; a name before its bound.
-/// Only then are they counted.
-pub(crate) fn number_things(alloc: Global, description: &Description) -> Result<Things, GameError>
-    ensures things { IfOk result (AreThingsOf (description_of description.now)) }
-    ensures refused { IfErr result (IsUnlawful (description_of description.now)) }
+/// The names and bounds are checked in order of text: players, then variables, then pieces, and a name before its bound.
+/// Then they are counted.
+pub(crate) fn number_things(
+    alloc: Global,
+    description: &DescriptionParts,
+) -> Result<Things, GameError>
+    ensures things { IfOk result (AreThingsOf (description_of_parts description.now)) }
+    ensures fault { IfErr result (HasFault (description_of_parts description.now)) }
 {
     let mut variables = NameTable::new(alloc);
     let mut bounds = Vec::new(alloc);
@@ -62,7 +65,7 @@ pub(crate) fn number_things(alloc: Global, description: &Description) -> Result<
     })
 }
 
-/// Adds names behind those of the table.
+/// Adds names after those of the table.
 fn add_names(table: &mut NameTable, names: &[Name]) -> Result<(), GameError>
     ensures names { OnOk result (table.new ≡ table.old ++ texts_of (map name_of names.now)) }
     ensures fault { IfErr result (HasNameFault table.old (map name_of names.now)) }
@@ -73,7 +76,7 @@ fn add_names(table: &mut NameTable, names: &[Name]) -> Result<(), GameError>
     Ok(())
 }
 
-/// Adds the names of players behind those of the table.
+/// Adds the names of players after those of the table.
 fn add_players(table: &mut NameTable, players: &[Bounded]) -> Result<(), GameError>
     ensures names { OnOk result (table.new ≡ table.old ++ holder_names (map bounded_of players.now)) }
     ensures fault { IfErr result (HasHolderFault table.old (map bounded_of players.now)) }
@@ -84,7 +87,7 @@ fn add_players(table: &mut NameTable, players: &[Bounded]) -> Result<(), GameErr
     Ok(())
 }
 
-/// Adds the names of players or variables behind those of the table, and their bounds behind the bounds.
+/// Adds the names of players or variables after those of the table, and their bounds after the bounds.
 fn add_holders(
     table: &mut NameTable,
     bounds: &mut Vec<u32>,
@@ -100,7 +103,7 @@ fn add_holders(
     Ok(())
 }
 
-/// Adds the name of a player or a variable behind those of the table, and its bound behind the bounds.
+/// Adds the name of a player or a variable after those of the table, and its bound after the bounds.
 fn add_holder(
     table: &mut NameTable,
     bounds: &mut Vec<u32>,
@@ -108,7 +111,7 @@ fn add_holder(
 ) -> Result<(), GameError>
     ensures name { OnOk result (table.new ≡ table.old ++ holder.now.name.text.items ∷ []) }
     ensures bound { OnOk result (AddsBounds (bounded_of holder.now ∷ []) bounds.old.items bounds.new.items) }
-    ensures fault { IfErr result (IsHolderFault table.old (bounded_of holder.now)) }
+    ensures fault { IfErr result (HasHolderFault table.old (bounded_of holder.now ∷ [])) }
 {
     table.insert(&holder.name)?;
     bounds.push(read_bound(holder.bound)?)?;

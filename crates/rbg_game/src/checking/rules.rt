@@ -1,17 +1,20 @@
-// The rules of a description by numbers: names are looked up, and the actions are numbered in order of text.
-ghost use Rattle.std.specs.Prelude.{◌≡◌, ◌≤◌, ◌<◌, IfOk, IfErr, All, map, option_map, length};
+//! The rules of a description by numbers: names are looked up, and the actions are numbered in order of text.
+ghost use Rattle.std.specs.Prelude.{◌≡◌, ◌<◌, ◌^◌, [], IfOk, IfErr, All, map, option_map, length, false};
 ghost use Rattle.rbg_syntax.specs.Tree.{no_rules, rules_after, sequence};
 ghost use Rattle.rbg_syntax.specs.Views.{name_of, rule_of, action_of as spelt_action_of};
 ghost use Rattle.rbg_syntax.specs.Plain.{IsPlainAction, IsPlainRule, IsPlainWord};
-ghost use Rattle.rbg_rules.specs.declared.limits.TheConstants.{MAX_PLAYERS, MAX_PIECES};
-ghost use Rattle.rbg_rules.specs.Translation.{action_of, expression_of};
-ghost use Rattle.rbg_game.specs.Naming.{IsNumberOf, EachWith, ActionIs};
-ghost use Rattle.rbg_game.specs.PlainRules.{names_of, IsWithinLimits, IsUnknown, IsSomeUnknown, IsPlayer, IsUnknownPlayer, HasActionFault, HasPartFault, IsPartAt, IsRuleByNumbers, IsRefusedRule};
+ghost use Rattle.rbg_rules.specs.Expression.{skip};
+ghost use Rattle.rbg_rules.specs.Translation.{action_of, shows_pattern};
+ghost use Rattle.rbg_game.specs.Descriptions.{ActionIs};
+ghost use Rattle.rbg_game.specs.Faults.{HasRuleFault};
+ghost use Rattle.rbg_game.specs.internal.NameTables.{HasLookUpFault};
+ghost use Rattle.rbg_game.specs.internal.PlainRules.{names_of, IsWithinLimits, IsPlayer, player_names, HasActionFault};
+ghost use Rattle.rbg_game.specs.internal.PlainRules.{AddsPart, AreRulesByNumbers};
 
 use super::name_table::NameTable;
 use crate::error::{GameError, Thing};
 use rbg_rules::limits::MAX_POSITIONS;
-use rbg_rules::{Action, Rule};
+use rbg_rules::{Action, Rule, Rules};
 use rbg_syntax::Name;
 use std::alloc::Global;
 
@@ -28,59 +31,69 @@ pub(crate) fn number_rules(
     alloc: Global,
     names: &NameTables<'_>,
     rule: &rbg_syntax::Rule,
-) -> Result<Rule, GameError>
+) -> Result<Rules, GameError>
     requires plain { IsPlainWord (rule_of rule.now) }
     requires limits { IsWithinLimits (names_of names.now) }
-    ensures rules { IfOk result (λ x. IsRuleByNumbers (names_of names.now) (rule_of rule.now) (expression_of x)) }
-    ensures refused { IfErr result (IsRefusedRule (names_of names.now) (rule_of rule.now)) }
+    ensures rules { IfOk result (λ x. AreRulesByNumbers (names_of names.now) (rule_of rule.now) x.actions.items x.tree) }
+    ensures fault { IfErr result (HasRuleFault (names_of names.now) (rule_of rule.now)) }
 {
+    let mut actions = Vec::new(alloc);
     match rule {
-        rbg_syntax::Rule::Act(_) => number_part(alloc, names, 1, rule),
-        rbg_syntax::Rule::Then(parts) => number_parts(alloc, names, parts),
+        rbg_syntax::Rule::Act(_) => {
+            let tree = number_part(alloc, names, &mut actions, rule)?;
+            Ok(Rules { tree, actions })
+        }
+        rbg_syntax::Rule::Then(parts) => {
+            let tree = number_parts(alloc, names, &mut actions, parts)?;
+            Ok(Rules { tree, actions })
+        }
         rbg_syntax::Rule::Or(_) | rbg_syntax::Rule::Star(_) => unreachable!(),
     }
 }
 
-/// The parts of a word, numbered from 1.
+/// The parts of a word. Their actions fill the table.
 fn number_parts(
     alloc: Global,
     names: &NameTables<'_>,
+    actions: &mut Vec<Action>,
     parts: &[rbg_syntax::Rule],
 ) -> Result<Rule, GameError>
     requires plain { All (λ part. IsPlainRule (rule_of part)) parts.now }
     requires limits { IsWithinLimits (names_of names.now) }
-    ensures rules { IfOk result (λ x. IsRuleByNumbers (names_of names.now) (sequence (rules_after no_rules (map rule_of parts.now))) (expression_of x)) }
-    ensures refused { IfErr result (IsRefusedRule (names_of names.now) (sequence (rules_after no_rules (map rule_of parts.now)))) }
+    requires empty { actions.old.items ≡ [] }
+    ensures rules { IfOk result
+        (λ x. AreRulesByNumbers (names_of names.now) (sequence (rules_after no_rules (map rule_of parts.now))) actions.new.items x) }
+    ensures fault { IfErr result (HasRuleFault (names_of names.now) (sequence (rules_after no_rules (map rule_of parts.now)))) }
 {
     let mut rules = Vec::new(alloc);
     for part in parts {
-        if rules.len() == MAX_POSITIONS {
+        if actions.len() == MAX_POSITIONS {
             return Err(GameError::TooMany {
                 what: Thing::Positions,
             });
         }
-        let position = rules.len() as u32 + 1;
-        rules.push(number_part(alloc, names, position, part)?)?;
+        rules.push(number_part(alloc, names, actions, part)?)?;
     }
     Ok(Rule::Then(rules))
 }
 
-/// One part of a word, at its position.
+/// One part of a word. Its action takes the next position of the table.
 fn number_part(
     alloc: Global,
     names: &NameTables<'_>,
-    position: u32,
+    actions: &mut Vec<Action>,
     part: &rbg_syntax::Rule,
 ) -> Result<Rule, GameError>
     requires plain { IsPlainRule (rule_of part.now) }
     requires limits { IsWithinLimits (names_of names.now) }
-    ensures part { IfOk result (λ x. IsPartAt (names_of names.now) position (rule_of part.now) (expression_of x)) }
-    ensures fault { IfErr result (HasPartFault (names_of names.now) (rule_of part.now)) }
+    requires room { length actions.old.items < MAX_POSITIONS }
+    ensures part { IfOk result (AddsPart (names_of names.now) (rule_of part.now) actions.old.items actions.new.items) }
+    ensures fault { IfErr result (HasRuleFault (names_of names.now) (rule_of part.now)) }
 {
     match part {
         rbg_syntax::Rule::Act(action) => {
-            let action = number_action(alloc, names, action)?;
-            Ok(Rule::Act { position, action })
+            actions.push(number_action(alloc, names, action)?)?;
+            Ok(Rule::Act(actions.len() as u32))
         }
         rbg_syntax::Rule::Then(_) | rbg_syntax::Rule::Or(_) | rbg_syntax::Rule::Star(_) => {
             unreachable!()
@@ -95,18 +108,19 @@ fn number_action(
 ) -> Result<Action, GameError>
     requires plain { IsPlainAction (spelt_action_of action.now) }
     requires limits { IsWithinLimits (names_of names.now) }
-    ensures action { IfOk result (λ a. ActionIs (names_of names.now) (spelt_action_of action.now) (action_of a)) }
+    ensures action { IfOk result (λ a. ActionIs (names_of names.now) (spelt_action_of action.now) (action_of a skip)) }
+    ensures no_pattern { IfOk result (λ a. shows_pattern a ≡ false) }
     ensures fault { IfErr result (HasActionFault (names_of names.now) (spelt_action_of action.now)) }
 {
     match action {
         rbg_syntax::Action::Shift(direction) => Ok(Action::Shift {
-            direction: number_in(names.directions, direction)?,
+            direction: names.directions.find(direction)?,
         }),
         rbg_syntax::Action::On(pieces) => Ok(Action::On {
-            pieces: numbers_in(alloc, names.pieces, pieces)?,
+            pieces: names.pieces.find_all(alloc, pieces)?,
         }),
         rbg_syntax::Action::Off(piece) => Ok(Action::Off {
-            piece: number_in(names.pieces, piece)?,
+            piece: names.pieces.find(piece)?,
         }),
         rbg_syntax::Action::Switch { player, .. } => Ok(Action::Switch {
             player: number_of_player(names.players, player)?,
@@ -120,35 +134,12 @@ fn number_action(
 
 /// The number of a player, from 1 on. None is the keeper.
 fn number_of_player(table: &NameTable, player: &Option<Name>) -> Result<u16, GameError>
-    requires { length table.now ≤ MAX_PLAYERS }
+    requires { length table.now < 2 ^ 16 }
     ensures number { IfOk result (IsPlayer table.now (option_map name_of player.now)) }
-    ensures fault { IfErr result (IsUnknownPlayer table.now (option_map name_of player.now)) }
+    ensures fault { IfErr result (HasLookUpFault table.now (player_names (option_map name_of player.now))) }
 {
     match player {
-        Some(name) => Ok(number_in(table, name)? + 1),
+        Some(name) => Ok(table.find(name)? + 1),
         None => Ok(0),
-    }
-}
-
-fn numbers_in(alloc: Global, table: &NameTable, names: &[Name]) -> Result<Vec<u16>, GameError>
-    requires { length table.now ≤ MAX_PIECES }
-    ensures numbers { IfOk result (λ ns. EachWith (IsNumberOf table.now) (map name_of names.now) ns.items) }
-    ensures fault { IfErr result (IsSomeUnknown table.now (map name_of names.now)) }
-{
-    let mut numbers = Vec::new(alloc);
-    for name in names {
-        numbers.push(number_in(table, name)?)?;
-    }
-    Ok(numbers)
-}
-
-fn number_in(table: &NameTable, name: &Name) -> Result<u16, GameError>
-    requires { length table.now ≤ MAX_PIECES }
-    ensures number { IfOk result (IsNumberOf table.now (name_of name.now)) }
-    ensures fault { IfErr result (IsUnknown table.now (name_of name.now)) }
-{
-    match table.number_of(&name.text) {
-        Some(number) => Ok(number as u16),
-        None => Err(GameError::UnknownName { at: name.at }),
     }
 }

@@ -1,3 +1,4 @@
+-- The directions so far differ.
 use Rattle.std.proofs.Common.{◌≡◌, ℕ, ◌<◌, get_or}
 use Rattle.rbg_board.proofs.directions.has_twice.Given as goal
 

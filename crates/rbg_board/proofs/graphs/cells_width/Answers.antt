@@ -1,23 +1,35 @@
-use Rattle.std.proofs.Common.{◌≡◌, ℕ, ◌<◌, List, All, get_or, sym, ap, ◌∙◌, subst, inl, inr, arith}
-use Rattle.std.proofs.lemmas.Bool.{cases_lt}
-use Rattle.rbg_board.specs.Written.{Written}
-use Rattle.rbg_board.specs.Vertices.{written_of}
-use Rattle.rbg_board.proofs.CellReads.{cell_read}
+-- The width grows by the edges of one cell at a time.
+use Rattle.std.proofs.Common.{◌≡◌, length, take, ap, sym, ◌∙◌, arith}
+use Rattle.std.proofs.Math.Seq.{take-length}
+use Rattle.rbg_board.specs.Cells.{width_of}
+use Rattle.rbg_board.specs.Written.{directions_in, directions_of}
+use Rattle.rbg_board.specs.Vertices.{written, written_of}
+use Rattle.rbg_board.proofs.CellReads.{edges_read, length-written}
+use Rattle.rbg_board.proofs.Widths.{vertices_more, vertices_below}
 use Rattle.rbg_board.proofs.graphs.cells_width.Goals as goal
 
 pub loop-cell-preserved : goal.loop-cell-preserved
 loop-cell-preserved c =
-    let wider = c.max-width.ensures in
     let cells = c.args.cells.now in
-    let v = c.loop-cell.cell-index in
+    let i = c.loop-cell.cell-index in
+    let cell = c.cell-item.result in
+    let edges = edges_read cells i cell c.loop-cell-test.true c.cell-item.is c.deref.result.now (written cell) c.deref.ensures.value in
+    let more = vertices_more (written_of cells) i (written cell) (omega (arith, length-written cells)) in
+    let last = c.edges_width.ensures.width ∙ ap (λ es. width_of (directions_in es)) (sym edges) in
     record {
-      limit = omega (arith, wider, c.edges_width.ensures.limit, c.loop-cell.invariant.limit);
-      covers = λ k d within. elim (cases_lt k v) [
-        | inl earlier ↦ λ j e inside. omega (arith, wider, c.loop-cell.invariant.covers k d earlier j e inside)
-        | inr last ↦
-            let place : v ≡ k = omega arith in
-            let there = c.deref.ensures.value ∙ ap (λ (w : Written). w.edges) (sym (cell_read cells v c.cell-item.result c.loop-cell-test.true c.cell-item.is d) ∙ ap (λ m. get_or (written_of cells) m d) place) in
-            let covered = subst (λ (edges : List (ℕ × ℕ)). All (λ edge. edge.0 < c.edges_width.result) edges) there c.edges_width.ensures.covers in
-            λ j e inside. omega (arith, wider, covered j e inside)
-      ];
+      width = omega (arith, more, last, c.max-width.ensures, c.loop-cell.invariant.width);
+      limit = omega (arith, c.max-width.ensures, c.edges_width.ensures.limit, c.loop-cell.invariant.limit);
     }
+
+pub returns-clause-width : goal.returns-clause-width
+returns-clause-width c =
+    let vertices = written_of c.args.cells.now in
+    let all : c.loop-cell.cell-index ≡ length vertices = omega (arith, length-written c.args.cells.now) in
+    c.loop-cell.invariant.width ∙ ap (λ n. width_of (directions_of (take n vertices))) all ∙ ap (λ ws. width_of (directions_of ws)) (take-length vertices)
+
+pub returns-clause-covers : goal.returns-clause-covers
+returns-clause-covers c =
+    let vertices = written_of c.args.cells.now in
+    let all : c.loop-cell.cell-index ≡ length vertices = omega (arith, length-written c.args.cells.now) in
+    let width = c.loop-cell.invariant.width ∙ ap (λ n. width_of (directions_of (take n vertices))) all ∙ ap (λ ws. width_of (directions_of ws)) (take-length vertices) in
+    vertices_below vertices c.loop-cell.width (omega (arith, width))

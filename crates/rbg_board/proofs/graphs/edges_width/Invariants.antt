@@ -1,9 +1,12 @@
-use Rattle.std.proofs.Common.{ℕ, ◌<◌, ◌≤◌, ◌^◌, get_or}
+-- The width is that of the edges so far.
+use Rattle.std.proofs.Common.{◌≡◌, ◌≤◌, ◌^◌, take}
+use Rattle.rbg_board.specs.Cells.{width_of}
+use Rattle.rbg_board.specs.Written.{directions_in}
 use Rattle.rbg_board.proofs.graphs.edges_width.Given as goal
 
--- the directions so far are below the width
+-- the width of the edges so far
 abbrev pub invariant-loop-edge : goal.invariant-loop-edge
 invariant-loop-edge l = record {
+  width : l.width ≡ width_of (take l.edge-index (directions_in l.edges));
   limit : l.width ≤ 2 ^ 16;
-  covers : (k : ℕ) (d : ℕ × ℕ) → k < l.edge-index → (get_or l.edges k d).0 < l.width;
 }

@@ -1,3 +1,4 @@
+-- A refusal of the edges is a refusal of the graph.
 use Rattle.std.proofs.Common.{length, sym, arith}
 use Rattle.std.proofs.lemmas.Bool.{eqb-false}
 use Rattle.std.proofs.lemmas.Result.{MatchResult-weaker}

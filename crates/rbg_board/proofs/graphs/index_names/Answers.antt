@@ -1,3 +1,4 @@
+-- The index gains one name at a time, and a name that it has already is written twice.
 use Rattle.std.proofs.Common.{◌≡◌, ◌<◌, None, length, get_or, nat_eq, sym, ap, ◌∙◌, arith}
 use Rattle.std.specs.HashMap as hash
 use Rattle.std.proofs.lemmas.Bool.{ne_eqb}

@@ -1,3 +1,4 @@
+-- The index has the names so far.
 use Rattle.std.proofs.Common.{nat_eq}
 use Rattle.std.specs.HashMap as hash
 use Rattle.rbg_board.specs.Written.{names_of}

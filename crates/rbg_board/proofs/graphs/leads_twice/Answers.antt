@@ -1,3 +1,4 @@
+-- Two edges of one direction.
 use Rattle.rbg_board.proofs.CellReads.{differ_more}
 use Rattle.rbg_board.proofs.graphs.leads_twice.Goals as goal
 

@@ -1,3 +1,4 @@
+-- The edges so far have different directions.
 use Rattle.std.proofs.Common.{◌≡◌, ℕ, ◌<◌, get_or, map}
 use Rattle.rbg_board.proofs.graphs.leads_twice.Given as goal
 

@@ -1,3 +1,4 @@
+-- The row of the table gains one edge at a time.
 use Rattle.std.proofs.Common.{◌≡◌, ℕ, ◌+◌, ◌<◌, Some, IsSome, get_or, set, nat_eq, refl, sym, subst, arith, below_more}
 use Rattle.std.specs.HashMap as hash
 use Rattle.std.proofs.lemmas.List.{get_or_default}

@@ -1,3 +1,4 @@
+-- The row of the table has the edges so far.
 use Rattle.std.proofs.Common.{◌≡◌, ℕ, ◌<◌, IsSome, length, get_or, nat_eq}
 use Rattle.std.specs.HashMap as hash
 use Rattle.rbg_board.proofs.Wirings.{FillsRow}

@@ -1,3 +1,4 @@
+-- A vertex with two edges of one direction.
 use Rattle.std.proofs.Common.{◌≡◌, ℕ, get_or, map, sym, ap, ◌∙◌, subst, inl, inr, arith}
 use Rattle.std.proofs.lemmas.Bool.{cases_lt}
 use Rattle.std.proofs.lemmas.List.{length-map}

@@ -1,3 +1,4 @@
+-- The cells so far have edges of different directions.
 use Rattle.std.proofs.Common.{ℕ, ◌<◌, get_or}
 use Rattle.rbg_board.specs.Cells.{AreDifferent}
 use Rattle.rbg_board.specs.Written.{Written, directions_in}

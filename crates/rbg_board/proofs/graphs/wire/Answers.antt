@@ -1,3 +1,4 @@
+-- The table gains the row of one cell at a time, and leads as the written edges do.
 use Rattle.std.proofs.Common.{◌≡◌, ℕ, ◌<◌, List, All, IsSome, length, get_or, map, take, nat_eq, sym, ap, ◌∙◌, subst, inl, inr, arith}
 use Rattle.std.specs.HashMap as hash
 use Rattle.std.proofs.Math.Seq.{take-length}
@@ -95,5 +96,5 @@ returns-clause-board c =
     let fills : FillsRows index width vertices (length vertices) table = subst (λ n. FillsRows index width vertices n table) all c.loop-cell.invariant.fills in
     let pieces : c.loop-cell.cell-index ≡ length (pieces_of vertices) = omega (arith, length-map vertices (λ w. w.piece)) in
     let first : c.loop-cell.first.items ≡ pieces_of vertices = c.loop-cell.invariant.first ∙ ap (λ n. take n (pieces_of vertices)) pieces ∙ take-length (pieces_of vertices) in
-    let board = c.new.ensures ∙ ap (λ xs. graph_of_table xs width table) first in
+    let board = c.new.ensures.graph ∙ ap (λ xs. graph_of_table xs width table) first in
     subst (λ g. IsGraphOf g (pieces_of vertices) (WrittenEdge vertices)) (sym board) (written_board vertices index width table c.requires.index fills)

@@ -1,3 +1,4 @@
+-- The table has the rows of the cells so far.
 use Rattle.std.proofs.Common.{◌≡◌, ℕ, ◌<◌, All, Contains, get_or, take, nat_eq}
 use Rattle.std.specs.HashMap as hash
 use Rattle.rbg_board.specs.Written.{Written, names_of, pieces_of}

@@ -1,3 +1,4 @@
+-- The rows so far fit, and grow until they shrink.
 use Rattle.std.proofs.Common.{ℕ, ◌+◌, ◌<◌, ◌≤◌, MatchBool}
 use Rattle.rbg_board.specs.Cells.{rows_of, cells_in}
 use Rattle.rbg_board.specs.Hexagon.{FitsAbove, Shrinks}

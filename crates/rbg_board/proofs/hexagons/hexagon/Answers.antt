@@ -1,3 +1,4 @@
+-- The board that is laid out is the hexagon.
 use Rattle.std.proofs.Common.{◌≡◌, length, rules, arith}
 use Rattle.rbg_board.specs.Cells.{rows_of}
 use Rattle.rbg_board.specs.Hexagon.{MakesHexagon, HasCells}
@@ -16,10 +17,10 @@ pub returns-clause-board : goal.returns-clause-board
 returns-clause-board c =
     let six : length c.args.directions ≡ 6 = search rules in
     let makes : MakesHexagon c.args.directions (rows_of c.args.rows.now) = search rules in
-    hexagon_board c.args.directions (rows_of c.args.rows.now) c.table_width.result c.in_ok-board.board makes six c.table_width.ensures.covers c.in_ok-board.ensures
+    hexagon_board c.args.directions (rows_of c.args.rows.now) c.table_width.result c.in_ok-board.board makes six c.table_width.ensures.covers c.in_ok-board.ensures.board
 
 pub returns-clause-directions : goal.returns-clause-directions
 returns-clause-directions c =
     let six : length c.args.directions ≡ 6 = search rules in
     let makes : MakesHexagon c.args.directions (rows_of c.args.rows.now) = search rules in
-    hexagon_uses c.args.directions (rows_of c.args.rows.now) c.table_width.result c.in_ok-board.board makes six c.table_width.ensures.covers c.in_ok-board.ensures
+    hexagon_uses c.args.directions (rows_of c.args.rows.now) c.table_width.result c.in_ok-board.board makes six c.table_width.ensures.covers c.in_ok-board.ensures.board

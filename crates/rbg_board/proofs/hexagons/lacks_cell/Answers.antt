@@ -1,3 +1,4 @@
+-- A row without a cell.
 use Rattle.std.proofs.Common.{below_more, sym, arith}
 use Rattle.std.proofs.lemmas.Bool.{eqb-false}
 use Rattle.rbg_board.proofs.Vectors.{length_read}

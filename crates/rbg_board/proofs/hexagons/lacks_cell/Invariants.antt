@@ -1,3 +1,4 @@
+-- The rows so far have cells.
 use Rattle.std.proofs.Common.{ℕ, ◌<◌}
 use Rattle.rbg_board.specs.Cells.{rows_of, cells_in}
 use Rattle.rbg_board.proofs.hexagons.lacks_cell.Given as goal

@@ -1,3 +1,4 @@
+-- The law is a lemma of EdgeLaws.
 use Rattle.rbg_board.proofs.EdgeLaws as laws
 use Rattle.rbg_board.proofs.laws.hexagons_lead_back.Goals as goal
 

@@ -1,3 +1,4 @@
+-- The rows so far are as long as the first.
 use Rattle.std.proofs.Common.{◌≡◌, ℕ, ◌<◌}
 use Rattle.rbg_board.specs.Cells.{rows_of, cells_in}
 use Rattle.rbg_board.proofs.rectangles.first_uneven.Given as goal

@@ -1,3 +1,4 @@
+-- The count grows by one row at a time.
 use Rattle.std.proofs.Common.{suc, arith, add-one}
 use Rattle.rbg_board.specs.Cells.{rows_of}
 use Rattle.rbg_board.proofs.Numbering.{start-suc, start-le-all}

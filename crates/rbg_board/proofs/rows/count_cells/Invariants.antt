@@ -1,6 +1,7 @@
+-- The count is that of the rows so far.
 use Rattle.std.proofs.Common.{◌≡◌, ◌≤◌}
 use Rattle.rbg_board.specs.Cells.{rows_of}
-use Rattle.rbg_board.specs.declared.board.TheConstants.{MAX_VERTICES}
+use Rattle.rbg_board.specs.Limits.{most_vertices}
 use Rattle.rbg_board.proofs.Numbering.{start_of}
 use Rattle.rbg_board.proofs.rows.count_cells.Given as goal
 
@@ -8,5 +9,5 @@ use Rattle.rbg_board.proofs.rows.count_cells.Given as goal
 abbrev pub invariant-loop-row : goal.invariant-loop-row
 invariant-loop-row l = record {
   counted : l.count ≡ start_of (rows_of l.rows) l.row-index;
-  fits : l.count ≤ MAX_VERTICES;
+  fits : l.count ≤ most_vertices;
 }

@@ -1,3 +1,4 @@
+-- The first pieces and the table grow by one row at a time.
 use Rattle.std.proofs.Common.{◌≡◌, ◌+◌, [], ◌++◌, length, get_or, take, refl, sym, ap, ◌∙◌, subst, arith, add-one}
 use Rattle.std.specs.List.{flat_map, concat}
 use Rattle.std.proofs.Math.Seq.{take-length}
@@ -5,7 +6,7 @@ use Rattle.std.proofs.lemmas.List.{length-map}
 use Rattle.rbg_board.specs.Cells.{rows_of, cells_in}
 use Rattle.rbg_board.specs.Sites.{cells_above, site_at, IsRow, ways_from, sites_along}
 use Rattle.rbg_board.specs.declared.rows.Site.{Site}
-use Rattle.rbg_board.specs.declared.board.TheConstants.{MAX_VERTICES}
+use Rattle.rbg_board.specs.Limits.{most_vertices}
 use Rattle.rbg_board.proofs.Numbering.{start_of, concat_more}
 use Rattle.rbg_board.proofs.Vectors.{row_read, length_read}
 use Rattle.rbg_board.proofs.Layouts.{table_more, is_row, IsRow-le, same_site, is_table, is_laid_out}
@@ -19,7 +20,7 @@ push_row-requires-clause-row g c =
     let here : c.len-here.result ≡ cells_in rows r = c.len-here.ensures ∙ length_read c.args.rows.now r row c.loop-r-test.true c.index-rows-r.is in
     let start : c.len.result ≡ start_of rows r = omega (arith, c.len.ensures, c.loop-r.first.ok.0, ap length c.loop-r.invariant.first) in
     let site = same_site c.len.result c.loop-r.above c.len-here.result c.cells_in.result 0 (start_of rows r) (cells_above rows r) (cells_in rows r) (cells_in rows (r + 1)) 0 start c.loop-r.invariant.above here c.cells_in.ensures refl in
-    subst (λ s. IsRow s MAX_VERTICES) (sym site) (IsRow-le (site_at rows r 0) (length (concat rows)) MAX_VERTICES (omega (arith, c.requires.fits, c.requires.vertices)) (is_row rows r 0))
+    subst (λ s. IsRow s most_vertices) (sym site) (IsRow-le (site_at rows r 0) (length (concat rows)) most_vertices (omega (arith, c.requires.fits, c.requires.vertices)) (is_row rows r 0))
 
 pub loop-r-preserved : goal.loop-r-preserved
 loop-r-preserved g c =
@@ -46,9 +47,9 @@ new-requires g c =
     let all : c.loop-r.first.items ≡ concat rows = c.loop-r.invariant.first ∙ ap (λ n. concat (take n rows)) end ∙ ap concat (take-length rows) in
     rw (all, c.loop-r.invariant.table, end) (is_table (g.S.Shape.leads c.args.shape.now) c.args.width rows (omega (arith, c.requires.some, c.requires.vertices)) (omega (arith, c.requires.fits, c.requires.vertices)) (g.met.S.Shape.leads_within c.args.shape.now))
 
-pub returns : goal.returns
-returns g c =
+pub returns-clause-board : goal.returns-clause-board
+returns-clause-board g c =
     let rows = rows_of c.args.rows.now in
     let end : c.loop-r.r ≡ length rows = omega (arith, length-map c.args.rows.now (λ v. v.items)) in
     let all : c.loop-r.first.items ≡ concat rows = c.loop-r.invariant.first ∙ ap (λ n. concat (take n rows)) end ∙ ap concat (take-length rows) in
-    rw (c.new.ensures, all, c.loop-r.invariant.table, end) (is_laid_out (g.S.Shape.leads c.args.shape.now) c.args.width rows)
+    rw (c.new.ensures.graph, all, c.loop-r.invariant.table, end) (is_laid_out (g.S.Shape.leads c.args.shape.now) c.args.width rows)

@@ -1,3 +1,4 @@
+-- The first pieces and the table have the rows so far.
 use Rattle.std.proofs.Common.{◌≡◌, take}
 use Rattle.std.specs.List.{concat}
 use Rattle.rbg_board.specs.Cells.{rows_of}

@@ -1,3 +1,4 @@
+-- The table has the cells so far.
 use Rattle.std.proofs.Common.{◌≡◌, ◌++◌}
 use Rattle.std.specs.List.{flat_map}
 use Rattle.rbg_board.specs.Sites.{ways_from, sites_along}

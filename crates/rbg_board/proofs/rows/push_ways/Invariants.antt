@@ -1,3 +1,4 @@
+-- The table has the directions so far.
 use Rattle.std.proofs.Common.{◌≡◌, ◌++◌}
 use Rattle.rbg_board.specs.Sites.{ways_from}
 use Rattle.rbg_board.proofs.rows.push_ways.Given as goal

@@ -1,3 +1,4 @@
+-- The entry of a vertex and a direction is where the direction leads.
 use Rattle.std.proofs.Common.{◌+◌, ◌*◌, ◌<◌, None, length, sym, ◌∙◌, subst, arith}
 use Rattle.std.proofs.lemmas.List.{get_or_read}
 use Rattle.std.proofs.lemmas.Nat.{mul-add-lt}

@@ -4,32 +4,32 @@ use Rattle.std.proofs.lemmas.Result.{err_from_is_err_and}
 use Rattle.rbg_board.specs.Cells.{rows_of}
 use Rattle.rbg_board.specs.Rectangle.{IsRectangle, MakesRectangle, RectangleRefusal}
 use Rattle.rbg_syntax.specs.Views.{name_of, names_of}
-use Rattle.rbg_game.proofs.NamedRectangles.{cells_refused, directions_refused, rectangle_made, rectangle_refused}
+use Rattle.rbg_game.proofs.NamedRectangles.{cells_fault, directions_fault, rectangle_made, rectangle_fault}
 use Rattle.rbg_game.proofs.checking.boards.make_rectangle.Goals as goal
 
-pub returns-in_err-cells-clause-err : goal.returns-in_err-cells-clause-err
-returns-in_err-cells-clause-err c =
+pub returns-in_err-cells-clause-fault : goal.returns-in_err-cells-clause-fault
+returns-in_err-cells-clause-fault c =
     let p = err_from_is_err_and c.from_residual.result c.from_residual.ensures.1 in
-    rw (p.1, p.2) (cells_refused c.args.pieces.now (map name_of c.args.names.now) (map names_of c.args.rows.now) c.in_err-cells.field-0.0 c.in_err-cells.ensures.err)
+    rw (p.1, p.2) (cells_fault c.args.pieces.now (map name_of c.args.names.now) (map names_of c.args.rows.now) c.in_err-cells.field-0.0 c.in_err-cells.ensures.fault)
 
-pub returns-in_err-numbers-clause-err : goal.returns-in_err-numbers-clause-err
-returns-in_err-numbers-clause-err c =
+pub returns-in_err-numbers-clause-fault : goal.returns-in_err-numbers-clause-fault
+returns-in_err-numbers-clause-fault c =
     let p = err_from_is_err_and c.from_residual-in_err-numbers.result c.from_residual-in_err-numbers.ensures.1 in
-    rw (p.1, p.2) (directions_refused c.args.pieces.now (map name_of c.args.names.now) (map names_of c.args.rows.now) c.in_err-numbers.field-0.0 c.in_err-numbers.ensures.err)
+    rw (p.1, p.2) (directions_fault c.args.pieces.now (map name_of c.args.names.now) (map names_of c.args.rows.now) c.in_err-numbers.field-0.0 c.in_err-numbers.ensures.fault)
 
-pub returns-in-Ok-clause-ok : goal.returns-in-Ok-clause-ok
-returns-in-Ok-clause-ok c =
+pub returns-in-Ok-clause-board : goal.returns-in-Ok-clause-board
+returns-in-Ok-clause-board c =
     let numbers = c.in_ok-numbers.numbers in
     let board = c.in-Ok.board in
     let four : length (map name_of c.args.names.now) ≡ 4 = omega (arith, length-map c.args.names.now name_of) in
     let makes = subst (λ cells. MakesRectangle numbers (rows_of cells)) c.deref.ensures.value c.in-Ok.ensures.lawful in
     let is = subst (λ cells. IsRectangle numbers (rows_of cells) board) c.deref.ensures.value c.in-Ok.ensures.board in
-    rectangle_made c.args.pieces.now (map name_of c.args.names.now) (map names_of c.args.rows.now) (rows_of c.in_ok-cells.cells.items) numbers c.in_ok-numbers.directions board four c.in_ok-cells.ensures.ok c.in_ok-numbers.ensures.ok c.len-2.ensures.lawful makes is
+    rectangle_made c.args.pieces.now (map name_of c.args.names.now) (map names_of c.args.rows.now) (rows_of c.in_ok-cells.cells.items) numbers c.in_ok-numbers.directions board four c.in_ok-cells.ensures.numbers c.in_ok-numbers.ensures.numbers c.len-2.ensures.lawful makes is c.in-Ok.ensures.width
 
-pub returns-clause-err : goal.returns-clause-err
-returns-clause-err c =
+pub returns-clause-fault : goal.returns-clause-fault
+returns-clause-fault c =
     let numbers = c.in_ok-numbers.numbers in
     let error = c.in-Err.error in
     let refused = subst (λ cells. RectangleRefusal numbers (rows_of cells) error) c.deref.ensures.value c.in-Err.ensures.refusal in
     rw c.refusal_of.ensures
-    (rectangle_refused c.args.pieces.now (map name_of c.args.names.now) (map names_of c.args.rows.now) numbers (rows_of c.in_ok-cells.cells.items) c.in_ok-numbers.directions error c.in_ok-cells.ensures.ok c.in_ok-numbers.ensures.ok c.len.ensures.lawful c.len-2.ensures.lawful refused)
+    (rectangle_fault c.args.pieces.now (map name_of c.args.names.now) (map names_of c.args.rows.now) numbers (rows_of c.in_ok-cells.cells.items) c.in_ok-numbers.directions error c.in_ok-cells.ensures.numbers c.in_ok-numbers.ensures.numbers c.len-2.ensures.lawful.differ refused)

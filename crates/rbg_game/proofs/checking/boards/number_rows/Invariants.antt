@@ -1,8 +1,9 @@
 use Rattle.std.proofs.Common.{map, take}
+use Rattle.std.specs.List.{AllZip}
 use Rattle.rbg_board.specs.Cells.{rows_of}
 use Rattle.rbg_syntax.specs.Views.{names_of}
-use Rattle.rbg_game.specs.Naming.{IsNumberOf, EachWith}
+use Rattle.rbg_game.specs.Descriptions.{IsNumberOf}
 use Rattle.rbg_game.proofs.checking.boards.number_rows.Given as goal
 
 abbrev pub invariant-loop-row : goal.invariant-loop-row
-invariant-loop-row l = EachWith (EachWith (IsNumberOf l.pieces)) (map names_of (take l.row-index l.rows)) (rows_of l.numbers.items)
+invariant-loop-row l = AllZip (AllZip (IsNumberOf l.pieces)) (map names_of (take l.row-index l.rows)) (rows_of l.numbers.items)

@@ -2,10 +2,10 @@ use Rattle.std.proofs.Common.{◌≡◌, ◌++◌, List, map, take, ap, sym, ◌
 use Rattle.std.proofs.lemmas.List.{take-map}
 use Rattle.rbg_syntax.specs.Views.{name_of}
 use Rattle.rbg_syntax.specs.Tree.{SpeltName}
-use Rattle.rbg_game.specs.Described.{texts_of}
-use Rattle.rbg_game.specs.NameFaults.{HasNameFault}
-use Rattle.rbg_game.proofs.Entries.{slice_get-map_read}
-use Rattle.rbg_game.proofs.NameFaultLemmas.{name_fault_at, passed_on}
+use Rattle.rbg_game.specs.Descriptions.{texts_of}
+use Rattle.rbg_game.specs.internal.NameTables.{HasNameFault}
+use Rattle.rbg_game.proofs.Lists.{slice_get-map_read}
+use Rattle.rbg_game.proofs.NameFaults.{name_fault_at, passed_on}
 use Rattle.rbg_game.proofs.checking.names.add_names.Goals as goal
 
 pub returns-in_err-insert-clause-fault : goal.returns-in_err-insert-clause-fault
@@ -16,4 +16,4 @@ returns-in_err-insert-clause-fault c =
     c.loop-name.invariant ∙ ap (λ (l : List SpeltName). c.args.table.now ++ texts_of l) (sym (take-map name_of i names)) in
     passed_on c.from_residual.result c.in_err-insert.field-0.0 (HasNameFault c.args.table.now (map name_of names)) c.from_residual.ensures.1
     (name_fault_at c.args.table.now c.loop-name.table (map name_of names) i (name_of c.name-item.result) c.in_err-insert.field-0.0
-    (slice_get-map_read name_of names i c.name-item.result c.loop-name-test.true c.name-item.is) before c.in_err-insert.ensures.err)
+    (slice_get-map_read name_of names i c.name-item.result c.loop-name-test.true c.name-item.is) before c.in_err-insert.ensures.fault)

@@ -2,10 +2,10 @@ use Rattle.std.proofs.Common.{◌≡◌, ◌++◌, List, map, take, ap, sym, ◌
 use Rattle.std.proofs.lemmas.List.{take-map}
 use Rattle.rbg_syntax.specs.Views.{bounded_of}
 use Rattle.rbg_syntax.specs.Tree.{SpeltBounded}
-use Rattle.rbg_game.specs.Described.{holder_names}
-use Rattle.rbg_game.specs.NameFaults.{HasHolderFault}
-use Rattle.rbg_game.proofs.Entries.{slice_get-map_read}
-use Rattle.rbg_game.proofs.NameFaultLemmas.{holder_fault_at, holder_fault_of_name, passed_on}
+use Rattle.rbg_game.specs.Descriptions.{holder_names}
+use Rattle.rbg_game.specs.internal.NameTables.{HasHolderFault, by_name}
+use Rattle.rbg_game.proofs.Lists.{slice_get-map_read}
+use Rattle.rbg_game.proofs.NameFaults.{holder_fault_at, passed_on}
 use Rattle.rbg_game.proofs.checking.names.add_players.Goals as goal
 
 pub returns-in_err-insert-clause-fault : goal.returns-in_err-insert-clause-fault
@@ -19,4 +19,4 @@ returns-in_err-insert-clause-fault c =
     passed_on c.from_residual.result error (HasHolderFault c.args.table.now (map bounded_of players)) c.from_residual.ensures.1
     (holder_fault_at c.args.table.now c.loop-player.table (map bounded_of players) i (bounded_of player) error
     (slice_get-map_read bounded_of players i player c.loop-player-test.true c.player-item.is) before
-    (holder_fault_of_name c.loop-player.table (bounded_of player) error c.in_err-insert.ensures.err))
+    (by_name c.in_err-insert.ensures.fault))

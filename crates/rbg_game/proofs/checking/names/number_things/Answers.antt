@@ -1,16 +1,16 @@
 use Rattle.std.proofs.Common.{◌≡◌, List, ℕ, [], ◌++◌, map, length, sym, ap, ◌∙◌, subst, refl, arith}
-use Rattle.std.proofs.lemmas.List.{map-append}
-use Rattle.rbg_syntax.specs.Views.{name_of, bounded_of, description_of}
+use Rattle.std.proofs.lemmas.List.{length-map, map-append}
+use Rattle.rbg_syntax.specs.Descriptions.{description_of_parts}
+use Rattle.rbg_syntax.specs.Views.{name_of, bounded_of}
 use Rattle.rbg_syntax.specs.Tree.{SpeltBounded, SpeltName, SpeltDescription}
-use Rattle.rbg_syntax.specs.declared.description.Name.{Name}
+use Rattle.rbg_syntax.specs.declared.names.Name.{Name}
 use Rattle.rbg_syntax.specs.declared.description.Bounded.{Bounded}
 use Rattle.rbg_game.specs.declared.error.GameError.{GameError}
-use Rattle.rbg_game.specs.Described.{texts_of, holder_names, holders_of}
-use Rattle.rbg_game.specs.NameFaults.{HasNameFault, HasHolderFault}
-use Rattle.rbg_game.specs.NamedThings.{AddsBounds}
-use Rattle.rbg_game.specs.Refusals.{IsUnlawful}
-use Rattle.rbg_game.proofs.NameFaultLemmas.{passed_on, AddsBounds-append}
-use Rattle.rbg_game.proofs.NoGame.{players_unlawful, variables_unlawful, pieces_unlawful, many_players, many_pieces, many_variables}
+use Rattle.rbg_game.specs.Descriptions.{texts_of, holder_names, holders_of}
+use Rattle.rbg_game.specs.internal.NameTables.{HasNameFault, HasHolderFault}
+use Rattle.rbg_game.specs.internal.Things.{AddsBounds}
+use Rattle.rbg_game.specs.Faults.{HasFault, many_players, many_pieces, many_variables}
+use Rattle.rbg_game.proofs.NameFaults.{passed_on, AddsBounds-append, players_fault, variables_fault, pieces_fault}
 use Rattle.rbg_game.proofs.checking.names.number_things.Goals as goal
 
 -- The table and the list that a call was given, by what they are.
@@ -40,66 +40,66 @@ bounds_of_given given holders same first old begins new h =
     let Q : List ℕ → Type 0 = λ l. AddsBounds given l new in
     subst P same (subst Q begins h)
 
-pub returns-in_err-add_holders-clause-refused : goal.returns-in_err-add_holders-clause-refused
-returns-in_err-add_holders-clause-refused c =
-    let d = description_of c.args.description.now in
+pub returns-in_err-add_holders-clause-fault : goal.returns-in_err-add_holders-clause-fault
+returns-in_err-add_holders-clause-fault c =
+    let d = description_of_parts c.args.description.now in
     let error = c.in_err-add_holders.field-0.0 in
     let fault = holders_given c.new-variables.result [] c.new-variables.ensures (map bounded_of c.deref.result.now) d.players (ap (map bounded_of) c.deref.ensures.value) error c.in_err-add_holders.ensures.fault in
-    passed_on c.from_residual.result error (IsUnlawful d) c.from_residual.ensures.1 (players_unlawful d error fault)
+    passed_on c.from_residual.result error (HasFault d) c.from_residual.ensures.1 (players_fault d error fault)
 
-pub returns-in_err-add_holders-2-clause-refused : goal.returns-in_err-add_holders-2-clause-refused
-returns-in_err-add_holders-2-clause-refused c =
-    let d = description_of c.args.description.now in
+pub returns-in_err-add_holders-2-clause-fault : goal.returns-in_err-add_holders-2-clause-fault
+returns-in_err-add_holders-2-clause-fault c =
+    let d = description_of_parts c.args.description.now in
     let error = c.in_err-add_holders-2.field-0.0 in
     let players : c.add_holders.new.table ≡ holder_names d.players =
     names_behind c.new-variables.result c.add_holders.new.table c.new-variables.ensures (holder_names (map bounded_of c.deref.result.now)) (holder_names d.players)
     (ap (λ (l : List Bounded). holder_names (map bounded_of l)) c.deref.ensures.value) c.in_ok-add_holders.ensures.names in
     let fault = holders_given c.add_holders.new.table (holder_names d.players) players (map bounded_of c.deref-2.result.now) d.variables (ap (map bounded_of) c.deref-2.ensures.value) error c.in_err-add_holders-2.ensures.fault in
-    passed_on c.from_residual-in_err-add_holders-2.result error (IsUnlawful d) c.from_residual-in_err-add_holders-2.ensures.1 (variables_unlawful d error fault)
+    passed_on c.from_residual-in_err-add_holders-2.result error (HasFault d) c.from_residual-in_err-add_holders-2.ensures.1 (variables_fault d error fault)
 
-pub returns-in_err-add_names-clause-refused : goal.returns-in_err-add_names-clause-refused
-returns-in_err-add_names-clause-refused c =
-    let d = description_of c.args.description.now in
+pub returns-in_err-add_names-clause-fault : goal.returns-in_err-add_names-clause-fault
+returns-in_err-add_names-clause-fault c =
+    let d = description_of_parts c.args.description.now in
     let error = c.in_err-add_names.field-0.0 in
     let fault = names_given c.new-pieces.result [] c.new-pieces.ensures (map name_of c.deref-3.result.now) d.pieces (ap (map name_of) c.deref-3.ensures.value) error c.in_err-add_names.ensures.fault in
-    passed_on c.from_residual-in_err-add_names.result error (IsUnlawful d) c.from_residual-in_err-add_names.ensures.1 (pieces_unlawful d error fault)
+    passed_on c.from_residual-in_err-add_names.result error (HasFault d) c.from_residual-in_err-add_names.ensures.1 (pieces_fault d error fault)
 
-pub returns-in_err-add_players-clause-refused : goal.returns-in_err-add_players-clause-refused
-returns-in_err-add_players-clause-refused c =
-    let d = description_of c.args.description.now in
+pub returns-in_err-add_players-clause-fault : goal.returns-in_err-add_players-clause-fault
+returns-in_err-add_players-clause-fault c =
+    let d = description_of_parts c.args.description.now in
     let error = c.in_err-add_players.field-0.0 in
     let fault = holders_given c.new-players.result [] c.new-players.ensures (map bounded_of c.deref-4.result.now) d.players (ap (map bounded_of) c.deref-4.ensures.value) error c.in_err-add_players.ensures.fault in
-    passed_on c.from_residual-in_err-add_players.result error (IsUnlawful d) c.from_residual-in_err-add_players.ensures.1 (players_unlawful d error fault)
+    passed_on c.from_residual-in_err-add_players.result error (HasFault d) c.from_residual-in_err-add_players.ensures.1 (players_fault d error fault)
 
-pub returns-then-len-gt-MAX_PLAYERS-clause-refused : goal.returns-then-len-gt-MAX_PLAYERS-clause-refused
-returns-then-len-gt-MAX_PLAYERS-clause-refused c =
-    let d = description_of c.args.description.now in
+pub returns-then-len-gt-MAX_PLAYERS-clause-fault : goal.returns-then-len-gt-MAX_PLAYERS-clause-fault
+returns-then-len-gt-MAX_PLAYERS-clause-fault c =
+    let d = description_of_parts c.args.description.now in
     let are : c.add_players.new.table ≡ holder_names d.players =
     names_behind c.new-players.result c.add_players.new.table c.new-players.ensures (holder_names (map bounded_of c.deref-4.result.now)) (holder_names d.players)
     (ap (λ (l : List Bounded). holder_names (map bounded_of l)) c.deref-4.ensures.value) c.in_ok-add_players.ensures.names in
-    many_players d (omega (arith, ap length are, c.if-len-gt-MAX_PLAYERS.true, c.len.ensures.count))
+    many_players (omega (arith, ap length are, length-map d.players (λ (h : SpeltBounded). h.name.text), c.if-len-gt-MAX_PLAYERS.true, c.len.ensures.count))
 
-pub returns-then-len-gt-MAX_PIECES-clause-refused : goal.returns-then-len-gt-MAX_PIECES-clause-refused
-returns-then-len-gt-MAX_PIECES-clause-refused c =
-    let d = description_of c.args.description.now in
+pub returns-then-len-gt-MAX_PIECES-clause-fault : goal.returns-then-len-gt-MAX_PIECES-clause-fault
+returns-then-len-gt-MAX_PIECES-clause-fault c =
+    let d = description_of_parts c.args.description.now in
     let are : c.add_names.new.table ≡ texts_of d.pieces =
     names_behind c.new-pieces.result c.add_names.new.table c.new-pieces.ensures (texts_of (map name_of c.deref-3.result.now)) (texts_of d.pieces)
     (ap (λ (l : List Name). texts_of (map name_of l)) c.deref-3.ensures.value) c.in_ok-add_names.ensures.names in
-    many_pieces d (omega (arith, ap length are, c.if-len-gt-MAX_PIECES.true, c.len-2.ensures.count))
+    many_pieces (omega (arith, ap length are, length-map d.pieces (λ (n : SpeltName). n.text), c.if-len-gt-MAX_PIECES.true, c.len-2.ensures.count))
 
-pub returns-then-len-gt-MAX_VARIABLES-clause-refused : goal.returns-then-len-gt-MAX_VARIABLES-clause-refused
-returns-then-len-gt-MAX_VARIABLES-clause-refused c =
-    let d = description_of c.args.description.now in
+pub returns-then-len-gt-MAX_VARIABLES-clause-fault : goal.returns-then-len-gt-MAX_VARIABLES-clause-fault
+returns-then-len-gt-MAX_VARIABLES-clause-fault c =
+    let d = description_of_parts c.args.description.now in
     let players : c.add_holders.new.table ≡ holder_names d.players =
     names_behind c.new-variables.result c.add_holders.new.table c.new-variables.ensures (holder_names (map bounded_of c.deref.result.now)) (holder_names d.players)
     (ap (λ (l : List Bounded). holder_names (map bounded_of l)) c.deref.ensures.value) c.in_ok-add_holders.ensures.names in
     let are = all_holders d c.add_holders.new.table c.add_holders-2.new.table players (holder_names (map bounded_of c.deref-2.result.now))
     (ap (λ (l : List Bounded). holder_names (map bounded_of l)) c.deref-2.ensures.value) c.in_ok-add_holders-2.ensures.names in
-    many_variables d (omega (arith, ap length are, c.if-len-gt-MAX_VARIABLES.true, c.len-3.ensures.count))
+    many_variables (omega (arith, ap length are, length-map (holders_of d) (λ (h : SpeltBounded). h.name.text), c.if-len-gt-MAX_VARIABLES.true, c.len-3.ensures.count))
 
 pub returns-clause-things : goal.returns-clause-things
 returns-clause-things c =
-    let d = description_of c.args.description.now in
+    let d = description_of_parts c.args.description.now in
     let players : c.add_holders.new.table ≡ holder_names d.players =
     names_behind c.new-variables.result c.add_holders.new.table c.new-variables.ensures (holder_names (map bounded_of c.deref.result.now)) (holder_names d.players)
     (ap (λ (l : List Bounded). holder_names (map bounded_of l)) c.deref.ensures.value) c.in_ok-add_holders.ensures.names in

@@ -3,24 +3,24 @@ use Rattle.std.proofs.lemmas.Result.{err_from_is_err_and}
 use Rattle.rbg_syntax.specs.Plain.{IsPlainAction}
 use Rattle.rbg_syntax.specs.Views.{action_of as spelt_action_of}
 use Rattle.rbg_syntax.proofs.Trees.{action_of-Assign, action_of-Compare, action_of-PositivePattern, action_of-NegativePattern}
-use Rattle.rbg_game.specs.PlainRules.{names_of}
+use Rattle.rbg_game.specs.internal.PlainRules.{names_of}
 use Rattle.rbg_game.proofs.RuleNumbering.{shift_fault, on_fault, off_fault, switch_fault, shift_made, on_made, off_made, switch_made}
 use Rattle.rbg_game.proofs.checking.rules.number_action.Goals as goal
 
-pub returns-in_err-number_in-in-Shift-clause-fault : goal.returns-in_err-number_in-in-Shift-clause-fault
-returns-in_err-number_in-in-Shift-clause-fault c =
+pub returns-in_err-find-in-Shift-clause-fault : goal.returns-in_err-find-in-Shift-clause-fault
+returns-in_err-find-in-Shift-clause-fault c =
     let p = err_from_is_err_and c.from_residual.result c.from_residual.ensures.1 in
-    rw (p.1, p.2) (shift_fault (names_of c.args.names.now) c.args.action.now c.in-Shift.direction c.in_err-number_in-in-Shift.field-0.0 c.in-Shift.is c.in_err-number_in-in-Shift.ensures.fault)
+    rw (p.1, p.2) (shift_fault (names_of c.args.names.now) c.args.action.now c.in-Shift.direction c.in_err-find-in-Shift.field-0.0 c.in-Shift.is c.in_err-find-in-Shift.ensures.fault)
 
-pub returns-in_err-numbers_in-in-On-clause-fault : goal.returns-in_err-numbers_in-in-On-clause-fault
-returns-in_err-numbers_in-in-On-clause-fault c =
-    let p = err_from_is_err_and c.from_residual-in_err-numbers_in-in-On.result c.from_residual-in_err-numbers_in-in-On.ensures.1 in
-    rw (p.1, p.2) (on_fault (names_of c.args.names.now) c.args.action.now c.in-On.pieces c.deref.result.now c.in_err-numbers_in-in-On.field-0.0 c.in-On.is c.deref.ensures.value c.in_err-numbers_in-in-On.ensures.fault)
+pub returns-in_err-find_all-in-On-clause-fault : goal.returns-in_err-find_all-in-On-clause-fault
+returns-in_err-find_all-in-On-clause-fault c =
+    let p = err_from_is_err_and c.from_residual-in_err-find_all-in-On.result c.from_residual-in_err-find_all-in-On.ensures.1 in
+    rw (p.1, p.2) (on_fault (names_of c.args.names.now) c.args.action.now c.in-On.pieces c.deref.result.now c.in_err-find_all-in-On.field-0.0 c.in-On.is c.deref.ensures.value c.in_err-find_all-in-On.ensures.fault)
 
-pub returns-in_err-number_in-in-Off-clause-fault : goal.returns-in_err-number_in-in-Off-clause-fault
-returns-in_err-number_in-in-Off-clause-fault c =
-    let p = err_from_is_err_and c.from_residual-in_err-number_in-in-Off.result c.from_residual-in_err-number_in-in-Off.ensures.1 in
-    rw (p.1, p.2) (off_fault (names_of c.args.names.now) c.args.action.now c.in-Off.piece c.in_err-number_in-in-Off.field-0.0 c.in-Off.is c.in_err-number_in-in-Off.ensures.fault)
+pub returns-in_err-find-in-Off-clause-fault : goal.returns-in_err-find-in-Off-clause-fault
+returns-in_err-find-in-Off-clause-fault c =
+    let p = err_from_is_err_and c.from_residual-in_err-find-in-Off.result c.from_residual-in_err-find-in-Off.ensures.1 in
+    rw (p.1, p.2) (off_fault (names_of c.args.names.now) c.args.action.now c.in-Off.piece c.in_err-find-in-Off.field-0.0 c.in-Off.is c.in_err-find-in-Off.ensures.fault)
 
 pub returns-in_err-number_of_player-in-Switch-clause-fault : goal.returns-in_err-number_of_player-in-Switch-clause-fault
 returns-in_err-number_of_player-in-Switch-clause-fault c =
@@ -40,14 +40,14 @@ unreachable-requires c =
       ]
     ]
 
-pub returns-in_ok-number_in-in-Shift-clause-action : goal.returns-in_ok-number_in-in-Shift-clause-action
-returns-in_ok-number_in-in-Shift-clause-action c = shift_made (names_of c.args.names.now) c.args.action.now c.in-Shift.direction c.in_ok-number_in-in-Shift.field-0 c.in-Shift.is c.in_ok-number_in-in-Shift.ensures.number
+pub returns-in_ok-find-in-Shift-clause-action : goal.returns-in_ok-find-in-Shift-clause-action
+returns-in_ok-find-in-Shift-clause-action c = shift_made (names_of c.args.names.now) c.args.action.now c.in-Shift.direction c.in_ok-find-in-Shift.field-0 c.in-Shift.is c.in_ok-find-in-Shift.ensures.number
 
-pub returns-in_ok-numbers_in-in-On-clause-action : goal.returns-in_ok-numbers_in-in-On-clause-action
-returns-in_ok-numbers_in-in-On-clause-action c = on_made (names_of c.args.names.now) c.args.action.now c.in-On.pieces c.deref.result.now c.in_ok-numbers_in-in-On.field-0 c.in-On.is c.deref.ensures.value c.in_ok-numbers_in-in-On.ensures.numbers
+pub returns-in_ok-find_all-in-On-clause-action : goal.returns-in_ok-find_all-in-On-clause-action
+returns-in_ok-find_all-in-On-clause-action c = on_made (names_of c.args.names.now) c.args.action.now c.in-On.pieces c.deref.result.now c.in_ok-find_all-in-On.field-0 c.in-On.is c.deref.ensures.value c.in_ok-find_all-in-On.ensures.numbers
 
-pub returns-in_ok-number_in-in-Off-clause-action : goal.returns-in_ok-number_in-in-Off-clause-action
-returns-in_ok-number_in-in-Off-clause-action c = off_made (names_of c.args.names.now) c.args.action.now c.in-Off.piece c.in_ok-number_in-in-Off.field-0 c.in-Off.is c.in_ok-number_in-in-Off.ensures.number
+pub returns-in_ok-find-in-Off-clause-action : goal.returns-in_ok-find-in-Off-clause-action
+returns-in_ok-find-in-Off-clause-action c = off_made (names_of c.args.names.now) c.args.action.now c.in-Off.piece c.in_ok-find-in-Off.field-0 c.in-Off.is c.in_ok-find-in-Off.ensures.number
 
 pub returns-in_ok-number_of_player-in-Switch-clause-action : goal.returns-in_ok-number_of_player-in-Switch-clause-action
 returns-in_ok-number_of_player-in-Switch-clause-action c = switch_made (names_of c.args.names.now) c.args.action.now c.in-Switch.at c.in-Switch.player c.in_ok-number_of_player-in-Switch.field-0 c.in-Switch.is c.in_ok-number_of_player-in-Switch.ensures.number

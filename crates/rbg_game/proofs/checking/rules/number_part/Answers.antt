@@ -1,19 +1,23 @@
-use Rattle.std.proofs.Common.{◌∙◌, ap, subst, inl, inr}
+use Rattle.std.proofs.Common.{◌∙◌, ap, subst, inl, inr, arith}
 use Rattle.std.proofs.lemmas.Result.{err_from_is_err_and}
 use Rattle.rbg_syntax.specs.Plain.{IsPlainRule}
 use Rattle.rbg_syntax.specs.Views.{rule_of}
 use Rattle.rbg_syntax.proofs.Trees.{rule_of-Then, rule_of-Or, rule_of-Star}
-use Rattle.rbg_game.specs.PlainRules.{names_of}
+use Rattle.rbg_game.specs.internal.PlainRules.{names_of}
 use Rattle.rbg_game.proofs.RuleNumbering.{plain_action, part_fault, part_made}
+use Rattle.rbg_rules.specs.declared.rule.Rule.TheVariants.{Act}
+use Rattle.rbg_game.specs.declared.error.GameError.TheVariants.{Memory}
+use Rattle.rbg_game.specs.Faults.{HasRuleFault, rule_memory}
+use Rattle.rbg_game.proofs.NameFaults.{passed_on}
 use Rattle.rbg_game.proofs.checking.rules.number_part.Goals as goal
 
 pub number_action-requires-clause-plain : goal.number_action-requires-clause-plain
 number_action-requires-clause-plain c = plain_action c.args.part.now c.in-Act.action c.in-Act.is c.requires.plain
 
-pub returns-in_err-action-in-Act-clause-fault : goal.returns-in_err-action-in-Act-clause-fault
-returns-in_err-action-in-Act-clause-fault c =
+pub returns-in_err-number_action-in-Act-clause-fault : goal.returns-in_err-number_action-in-Act-clause-fault
+returns-in_err-number_action-in-Act-clause-fault c =
     let p = err_from_is_err_and c.from_residual.result c.from_residual.ensures.1 in
-    rw (p.1, p.2) (part_fault (names_of c.args.names.now) c.args.part.now c.in-Act.action c.in_err-action-in-Act.field-0.0 c.in-Act.is c.in_err-action-in-Act.ensures.fault)
+    rw (p.1, p.2) (part_fault (names_of c.args.names.now) c.args.part.now c.in-Act.action c.in_err-number_action-in-Act.field-0.0 c.in-Act.is c.in_err-number_action-in-Act.ensures.fault)
 
 pub unreachable-requires : goal.unreachable-requires
 unreachable-requires c =
@@ -25,5 +29,11 @@ unreachable-requires c =
       ]
     ]
 
+pub returns-in_err-push-in-Act-clause-fault : goal.returns-in_err-push-in-Act-clause-fault
+returns-in_err-push-in-Act-clause-fault c =
+    passed_on c.from_residual-in_err-push-in-Act.result Memory (HasRuleFault (names_of c.args.names.now) (rule_of c.args.part.now)) c.from_residual-in_err-push-in-Act.ensures.1 rule_memory
+
 pub returns-clause-part : goal.returns-clause-part
-returns-clause-part c = part_made (names_of c.args.names.now) c.args.part.now c.in-Act.action c.args.position c.in_ok-action-in-Act.action c.in-Act.is c.in_ok-action-in-Act.ensures.action
+returns-clause-part c =
+    part_made (names_of c.args.names.now) c.args.part.now c.in-Act.action c.args.actions.now.items c.push.new.self.items c.in_ok-number_action-in-Act.field-0 (Act c.len.result) c.in-Act.is
+    c.in_ok-number_action-in-Act.ensures.action c.in_ok-number_action-in-Act.ensures.no_pattern c.in_ok-push-in-Act.ensures.items (ap Act (omega arith))

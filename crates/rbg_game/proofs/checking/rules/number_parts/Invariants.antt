@@ -1,10 +1,16 @@
-use Rattle.std.proofs.Common.{◌≡◌, ◌≤◌, map, take, vec_len}
+use Rattle.std.proofs.Common.{◌≡◌, ◌≤◌, length, map, take}
+use Rattle.std.specs.List.{All}
 use Rattle.rbg_syntax.specs.Views.{rule_of}
-use Rattle.rbg_rules.specs.declared.limits.TheConstants.{MAX_POSITIONS}
-use Rattle.rbg_game.specs.PlainRules.{names_of}
+use Rattle.rbg_rules.specs.Table.{IsWithin}
 use Rattle.rbg_rules.specs.Translation.{expression_of}
+use Rattle.rbg_rules.specs.declared.limits.TheConstants.{MAX_POSITIONS}
+use Rattle.rbg_game.specs.internal.PlainRules.{names_of}
 use Rattle.rbg_game.proofs.PlainRuleLemmas.{AreSoFar}
 use Rattle.rbg_game.proofs.checking.rules.number_parts.Given as goal
 
 abbrev pub invariant-loop-part : goal.invariant-loop-part
-invariant-loop-part l = AreSoFar (names_of l.names) (map rule_of (take l.part-index l.parts)) (map expression_of l.rules.items) × (vec_len l.rules ≡ l.part-index) × (l.part-index ≤ MAX_POSITIONS)
+invariant-loop-part l =
+    AreSoFar (names_of l.names) (map rule_of (take l.part-index l.parts)) (map (expression_of l.actions.items) l.rules.items)
+    × (length l.actions.items ≡ l.part-index)
+    × (l.part-index ≤ MAX_POSITIONS)
+    × All (IsWithin (length l.actions.items)) l.rules.items

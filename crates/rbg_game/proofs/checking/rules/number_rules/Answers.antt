@@ -1,13 +1,11 @@
-use Rattle.std.proofs.Common.{◌∙◌, ap, subst, inl, inr}
-use Rattle.std.proofs.lemmas.Result.{IfOk-weaker, IfErr-weaker}
+use Rattle.std.proofs.Common.{[], ◌∙◌, ap, subst, inl, inr}
 use Rattle.rbg_syntax.specs.Plain.{IsPlainWord}
 use Rattle.rbg_syntax.specs.Views.{rule_of}
+use Rattle.rbg_game.specs.Faults.{HasRuleFault}
 use Rattle.rbg_syntax.proofs.Trees.{rule_of-Or, rule_of-Star}
-use Rattle.rbg_rules.specs.declared.rule.Rule.{Rule}
-use Rattle.rbg_game.specs.PlainRules.{names_of, HasPartFault, IsPartAt, IsRuleByNumbers, IsRefusedRule}
-use Rattle.rbg_rules.specs.Translation.{expression_of}
-use Rattle.rbg_game.proofs.PlainRuleLemmas.{made_alone, fault_alone, refused_by_fault}
-use Rattle.rbg_game.proofs.RuleNumbering.{plain_part, is_then, parts_are_plain}
+use Rattle.rbg_game.specs.internal.PlainRules.{names_of, AddsPart}
+use Rattle.rbg_game.proofs.RuleNumbering.{plain_part, is_then, parts_are_plain, finished_part}
+use Rattle.rbg_game.proofs.NameFaults.{passed_on}
 use Rattle.rbg_game.proofs.checking.rules.number_rules.Goals as goal
 
 pub number_part-requires-clause-plain : goal.number_part-requires-clause-plain
@@ -23,18 +21,21 @@ unreachable-requires c =
       | inr h ↦ subst IsPlainWord (ap rule_of h.1 ∙ rule_of-Star h.0) c.requires.plain
     ]
 
-pub returns-in-Act-clause-rules : goal.returns-in-Act-clause-rules
-returns-in-Act-clause-rules c =
-    IfOk-weaker c.number_part.result (λ (x : Rule). IsPartAt (names_of c.args.names.now) 1 (rule_of c.args.rule.now) (expression_of x)) (λ (x : Rule). IsRuleByNumbers (names_of c.args.names.now) (rule_of c.args.rule.now) (expression_of x))
-    (λ x part. made_alone (names_of c.args.names.now) (rule_of c.args.rule.now) (expression_of x) c.requires.plain part) c.number_part.ensures.part
+pub returns-in_err-tree-in-Act-clause-fault : goal.returns-in_err-tree-in-Act-clause-fault
+returns-in_err-tree-in-Act-clause-fault c =
+    passed_on c.from_residual.result c.in_err-tree-in-Act.field-0.0 (HasRuleFault (names_of c.args.names.now) (rule_of c.args.rule.now)) c.from_residual.ensures.1 c.in_err-tree-in-Act.ensures.fault
 
-pub returns-in-Act-clause-refused : goal.returns-in-Act-clause-refused
-returns-in-Act-clause-refused c =
-    IfErr-weaker c.number_part.result (HasPartFault (names_of c.args.names.now) (rule_of c.args.rule.now)) (IsRefusedRule (names_of c.args.names.now) (rule_of c.args.rule.now))
-    (λ e fault. refused_by_fault (names_of c.args.names.now) (rule_of c.args.rule.now) e c.requires.plain (fault_alone (names_of c.args.names.now) (rule_of c.args.rule.now) e fault)) c.number_part.ensures.fault
+pub returns-in_err-tree-in-Then-clause-fault : goal.returns-in_err-tree-in-Then-clause-fault
+returns-in_err-tree-in-Then-clause-fault c =
+    passed_on c.from_residual-in_err-tree-in-Then.result c.in_err-tree-in-Then.field-0.0 (HasRuleFault (names_of c.args.names.now) (rule_of c.args.rule.now)) c.from_residual-in_err-tree-in-Then.ensures.1
+    (rw (is_then c.args.rule.now c.in-Then.parts c.deref.result.now c.in-Then.is c.deref.ensures.value) c.in_err-tree-in-Then.ensures.fault)
 
-pub returns-in-Then-clause-rules : goal.returns-in-Then-clause-rules
-returns-in-Then-clause-rules c = rw (is_then c.args.rule.now c.in-Then.parts c.deref.result.now c.in-Then.is c.deref.ensures.value) c.number_parts.ensures.rules
+pub returns-in_ok-tree-in-Act-clause-rules : goal.returns-in_ok-tree-in-Act-clause-rules
+returns-in_ok-tree-in-Act-clause-rules c =
+    let rule = rule_of c.args.rule.now in
+    let new = c.number_part.new.actions.items in
+    let adds : AddsPart (names_of c.args.names.now) rule [] new c.in_ok-tree-in-Act.tree = subst (λ old. AddsPart (names_of c.args.names.now) rule old new c.in_ok-tree-in-Act.tree) c.new-actions.ensures.items c.in_ok-tree-in-Act.ensures.part in
+    finished_part (names_of c.args.names.now) rule new c.in_ok-tree-in-Act.tree c.requires.plain (plain_part c.args.rule.now c.in-Act.field-0 c.in-Act.is c.requires.plain) adds
 
-pub returns-in-Then-clause-refused : goal.returns-in-Then-clause-refused
-returns-in-Then-clause-refused c = rw (is_then c.args.rule.now c.in-Then.parts c.deref.result.now c.in-Then.is c.deref.ensures.value) c.number_parts.ensures.refused
+pub returns-in_ok-tree-in-Then-clause-rules : goal.returns-in_ok-tree-in-Then-clause-rules
+returns-in_ok-tree-in-Then-clause-rules c = rw (is_then c.args.rule.now c.in-Then.parts c.deref.result.now c.in-Then.is c.deref.ensures.value) c.in_ok-tree-in-Then.ensures.rules

@@ -1,0 +1,241 @@
+-- A description with a fault is no game.
+use Rattle.std.proofs.Common.{◌≡◌, ◌≢◌, ◌↔◌, ℕ, suc, ◌<◌, ◌≤◌, List, [], ◌∷◌, ◌++◌, Some, None, false, inl, inr, length, get_or, map}
+use Rattle.std.proofs.Common.{refl, sym, ap, ◌∙◌, subst, arith}
+use Rattle.std.specs.Prelude.{slice_get, slice_index, Contains, IsTrue, All}
+use Rattle.std.proofs.lemmas.Bool.{false≢true}
+use Rattle.std.proofs.lemmas.List.{length-append, length-map, map-append}
+use Rattle.std.proofs.lemmas.Option.{slice_get-get_or}
+use Rattle.std.proofs.lemmas.List.Elements.{All-contains, Contains-append_cases}
+use Rattle.rbg_base.specs.Names.{is_name}
+use Rattle.rbg_board.specs.Rectangle.{MakesRectangle, RectangleRefusal}
+use Rattle.rbg_board.specs.declared.error.BoardError.{BoardError}
+use Rattle.rbg_board.specs.declared.error.BoardError.TheVariants as board_errors
+use Rattle.rbg_syntax.specs.Tree.{SpeltName, SpeltBounded, SpeltEdge, SpeltVertex, SpeltBoard, rectangle, hexagon, graph}
+use Rattle.rbg_syntax.specs.Tree.{SpeltRule, SpeltRules, no_rules, more_rules, SpeltAction, SpeltDescription}
+use Rattle.rbg_rules.specs.Expression.{AbstractAction, Expression}
+use Rattle.rbg_rules.specs.Positions.{positions_of, positions_inside}
+use Rattle.rbg_rules.specs.State.{AbstractGame}
+use Rattle.rbg_rules.specs.declared.limits.TheConstants.{MAX_BOUND, MAX_POSITIONS}
+use Rattle.rbg_game.specs.declared.error.GameError.{GameError}
+use Rattle.rbg_game.specs.declared.error.GameError.TheVariants.{Memory}
+use Rattle.rbg_game.specs.Descriptions.{Names, names_in, IsNumberOf, AreDifferentNames, AreNames, AreLawfulNames, texts_of}
+use Rattle.rbg_game.specs.Descriptions.{ActionIs, RuleIs, SequenceIs, ChoiceIs, NamedBoard, board_in, IsRectangleBoard, IsGraphBoard, VertexIs, BoardIs, directions_named}
+use Rattle.rbg_game.specs.Descriptions.{holder_names, holders_of, AreBounds, IsGameOf}
+use Rattle.rbg_game.specs.Faults.{HasUnknown, HasNoName, StandsAgain, HasGreatBound, HaveOneName, HasRectangleFault, HasBoardFault, unknown_piece, no_direction, no_rectangle, board_memory}
+use Rattle.rbg_game.specs.Faults.{Purpose, as_direction, as_piece, as_player, names_for, Uses, shifts, stands_on, puts, gives_turn, HasSpeltAction, this, in_sequence, in_choice, in_star, in_positive, in_negative, SomeHasSpeltAction, earlier, last, actions_in, actions_in_all, actions_of}
+use Rattle.rbg_game.specs.Faults.{HasRuleFault, unknown_use, many_positions, rule_memory, board_directions, board_pieces, names_of_holders, names_spelt}
+use Rattle.rbg_game.specs.Faults.{no_name, same_holder, same_piece, great_bound, many_players, many_pieces, many_variables, in_board, in_rules, memory}
+use Rattle.rbg_game.specs.OneGame.{NoGameWithFaultLaw}
+use Rattle.rbg_game.proofs.Lists.{Contains-one, Contains-from_get, get_from-Contains, slice_get-map_at, Contains-map, map_entry, fellow}
+use Rattle.rbg_game.proofs.NameFaults.{texts_of-names}
+use Rattle.rbg_game.proofs.BoardNames.{unnumbered, unnumbered_rows, rows_once}
+
+-- Names and bounds.
+
+-- Lawful names are names of the language.
+no_name_unlawful : (names : List SpeltName) (n : SpeltName) → Contains names n → is_name n.text ≡ false → AreNames (texts_of names) → ⊥
+no_name_unlawful names n has not_one lawful =
+    let one : IsTrue (is_name n.text) = All-contains (λ text. IsTrue (is_name text)) (texts_of names) n.text lawful (Contains-map (λ (m : SpeltName). m.text) names n has) in
+    false≢true (sym not_one ∙ one)
+
+-- Lawful names differ.
+again_unlawful : (names : List SpeltName) (at : ℕ) → StandsAgain names at → AreDifferentNames (texts_of names) → ⊥
+again_unlawful names at h differ =
+    let second : slice_get (texts_of names) h.j ≡ Some h.earlier.text = slice_get-map_at (λ (m : SpeltName). m.text) names h.j h.later h.second ∙ ap (λ (text : List ℕ). Some text) (sym h.same) in
+    let one : h.i ≡ h.j = differ.one_number h.i h.j h.earlier.text (slice_get-map_at (λ (m : SpeltName). m.text) names h.i h.earlier h.first) second in
+    absurd (omega (arith, h.before))
+
+-- Bounds of a game are within the limit.
+bound_unlawful : (holders : List SpeltBounded) (bounds : List ℕ) (at : ℕ) → HasGreatBound holders at → AreBounds holders bounds → All (λ bound. bound ≤ MAX_BOUND) bounds → ⊥
+bound_unlawful holders bounds at h are within =
+    let bound = fellow (λ (holder : SpeltBounded) (bound : ℕ). holder.bound.value ≡ Some bound) holders bounds h.holder are h.stands in
+    let small : bound.0 ≤ MAX_BOUND = All-contains (λ b. b ≤ MAX_BOUND) bounds bound.0 within bound.1 in
+    absurd (omega (arith, h.too_great bound.0 bound.2))
+
+lawful_holders : (d : SpeltDescription) (game : AbstractGame) → IsGameOf d game → AreLawfulNames (texts_of (names_of_holders d))
+lawful_holders d game is = subst AreLawfulNames (is.variables ∙ sym (texts_of-names (holders_of d))) is.lawful_variables
+
+lawful_piece_names : (d : SpeltDescription) (game : AbstractGame) → IsGameOf d game → AreLawfulNames (texts_of d.pieces)
+lawful_piece_names d game is = subst AreLawfulNames is.pieces is.lawful_pieces
+
+no_name_fails : (d : SpeltDescription) (game : AbstractGame) (at : ℕ) → HasNoName (names_of_holders d ++ d.pieces) at → ¬ IsGameOf d game
+no_name_fails d game at h is = elim (Contains-append_cases (names_of_holders d) d.pieces h.name h.stands) [
+  | inl holder ↦ no_name_unlawful (names_of_holders d) h.name holder h.no_name (lawful_holders d game is).names
+  | inr piece ↦ no_name_unlawful d.pieces h.name piece h.no_name (lawful_piece_names d game is).names
+]
+
+-- Boards.
+
+-- a vertex of an unknown piece has no number
+unnumbered_vertex : (b : NamedBoard) (vertices : List SpeltVertex) (name : SpeltName) → Contains (map (λ vertex. vertex.piece) vertices) name → ¬ Contains b.pieces name.text → ¬ IsGraphBoard b vertices
+unnumbered_vertex b vertices name stands unknown is =
+    let there = get_from-Contains (map (λ (vertex : SpeltVertex). vertex.piece) vertices) name stands in
+    let entry = map_entry (λ (vertex : SpeltVertex). vertex.piece) vertices there.0 name there.1 in
+    let names : List (List ℕ) = map (λ (vertex : SpeltVertex). vertex.name.text) vertices in
+    let written = fellow (VertexIs b names) vertices is.written entry.0 is.named (Contains-from_get vertices there.0 entry.0 entry.1) in
+    let number : slice_get b.pieces written.0.piece ≡ Some entry.0.piece.text = written.2.piece in
+    unknown (Contains-from_get b.pieces written.0.piece name.text (number ∙ ap (λ (n : SpeltName). Some n.text) entry.2))
+
+unknown_piece_fails : (b : NamedBoard) (board : SpeltBoard) (name : SpeltName) → Contains (board_pieces board) name → ¬ Contains b.pieces name.text → ¬ BoardIs b board
+unknown_piece_fails b (rectangle names rows) name stands unknown is = unnumbered_rows b.pieces rows name is.cells stands unknown is.named
+unknown_piece_fails b (hexagon names rows) name stands unknown is = unnumbered_rows b.pieces rows name is.cells stands unknown is.named
+unknown_piece_fails b (graph vertices) name stands unknown is = unnumbered_vertex b vertices name stands unknown is
+
+-- what a rectangle by numbers is refused for, no rectangle by these names has
+refusal_fails : (names : List SpeltName) (numbers : List ℕ) (cells : List (List ℕ)) (error : BoardError) → length numbers ≡ length names
+    → ((i j : ℕ) → i < length names → j < length names → (slice_index numbers i ≡ slice_index numbers j) ↔ HaveOneName names i j)
+    → RectangleRefusal numbers cells error → error ≢ board_errors.Memory → MakesRectangle (0 ∷ 1 ∷ 2 ∷ 3 ∷ []) cells → ¬ AreDifferentNames (texts_of names)
+unfolding RectangleRefusal
+refusal_fails names numbers cells board_errors.NoCell long numbered lacks is_fault makes differ = omega (arith, makes.first_cell)
+refusal_fails names numbers cells (board_errors.RowLength row) long numbered uneven is_fault makes differ = uneven.1.uneven (makes.even row uneven.1.is_row)
+refusal_fails names numbers cells board_errors.TooManyVertices long numbered many is_fault makes differ = omega (arith, many.2, makes.fits)
+refusal_fails names numbers cells board_errors.SameDirection long numbered twice is_fault makes differ =
+    let t = twice.3 in
+    let none : SpeltName = record { text = []; at = 0 } in
+    let later : t.later < length names = omega (arith, t.within) in
+    let earlier : t.earlier < length names = omega (arith, t.apart) in
+    let same : HaveOneName names t.earlier t.later = (numbered t.earlier t.later earlier later).0 t.same in
+    let at : slice_get (texts_of names) t.later ≡ Some (get_or names t.later none).text = slice_get-map_at (λ (m : SpeltName). m.text) names t.later (get_or names t.later none) (slice_get-get_or names t.later none later) in
+    let one = differ.one_number t.earlier t.later (get_or names t.later none).text (same ∙ at) at in
+    omega (arith, one, t.apart)
+refusal_fails names numbers cells board_errors.UnknownVertex long numbered none is_fault makes differ = none
+refusal_fails names numbers cells board_errors.SameVertex long numbered none is_fault makes differ = none
+refusal_fails names numbers cells board_errors.Memory long numbered refused is_fault makes differ = is_fault refl
+
+rectangle_fails : (b : NamedBoard) (names : List SpeltName) (rows : List (List SpeltName)) (error : BoardError) → AreDifferentNames b.pieces → HasRectangleFault b.pieces names rows error → ¬ IsRectangleBoard b names rows
+rectangle_fails b names rows error differ h is =
+    let same_cells : is.cells ≡ h.cells = rows_once b.pieces differ rows is.cells h.cells is.named h.named in
+    let makes : MakesRectangle (0 ∷ 1 ∷ 2 ∷ 3 ∷ []) h.cells = subst (MakesRectangle (0 ∷ 1 ∷ 2 ∷ 3 ∷ [])) same_cells is.makes in
+    refusal_fails names h.directions h.cells error h.one_each h.numbered h.refused h.is_fault makes (subst AreDifferentNames is.directions is.differ)
+
+board_fault_fails : (b : NamedBoard) (board : SpeltBoard) (error : GameError) → HasBoardFault b.pieces board error → error ≢ Memory → AreDifferentNames b.pieces → AreNames b.directions → ¬ BoardIs b board
+board_fault_fails b board _ (unknown_piece h) other differ named is = unknown_piece_fails b board h.name h.stands h.unknown is
+board_fault_fails b _ _ (no_direction {names = names} h) other differ named is = no_name_unlawful names h.name h.stands h.no_name (subst AreNames is.directions named)
+board_fault_fails b _ _ (no_rectangle {names = names} {rows = rows} {error = error} h) other differ named is = rectangle_fails b names rows error differ h is
+board_fault_fails b board _ board_memory other differ named is = other refl
+
+-- Rules.
+
+mutual
+  -- each action that is spelt in a rule is one by numbers
+  action_in_rule : (names : Names) (r : SpeltRule) (x : Expression) (s : SpeltAction) → HasSpeltAction r s → RuleIs names r x → (b : AbstractAction) × ActionIs names s b
+  action_in_rule names _ x s this (p, b, is, e) = (b, is)
+  action_in_rule names _ x s (in_sequence {rs = rs} h) is = action_in_sequence names rs x s h is
+  action_in_rule names _ x s (in_choice {rs = rs} h) is = action_in_choice names rs x s h is
+  action_in_rule names _ x s (in_star {r = r} h) (y, is, e) = action_in_rule names r y s h is
+  action_in_rule names _ x s (in_positive {r = r} h) (p, b, (y, is, f), e) = action_in_rule names r y s h is
+  action_in_rule names _ x s (in_negative {r = r} h) (p, b, (y, is, f), e) = action_in_rule names r y s h is
+
+  action_in_sequence : (names : Names) (rs : SpeltRules) (x : Expression) (s : SpeltAction) → SomeHasSpeltAction rs s → SequenceIs names rs x → (b : AbstractAction) × ActionIs names s b
+  action_in_sequence names _ x s (earlier {rs = rs} h) (y, z, before, one, e) = action_in_sequence names rs y s h before
+  action_in_sequence names _ x s (last {r = r} h) (y, z, before, one, e) = action_in_rule names r z s h one
+
+  action_in_choice : (names : Names) (rs : SpeltRules) (x : Expression) (s : SpeltAction) → SomeHasSpeltAction rs s → ChoiceIs names rs x → (b : AbstractAction) × ActionIs names s b
+  action_in_choice names _ x s (earlier {rs = rs} h) (y, z, before, one, e) = action_in_choice names rs y s h before
+  action_in_choice names _ x s (last {r = r} h) (y, z, before, one, e) = action_in_rule names r z s h one
+
+one_fails : (known : List (List ℕ)) (n : SpeltName) (number at : ℕ) → HasUnknown known (n ∷ []) at → ¬ IsNumberOf known n number
+one_fails known n number at h is =
+    let same : n ≡ h.name = Contains-one n h.name h.stands in
+    h.unknown (Contains-from_get known number h.name.text (is ∙ ap (λ (m : SpeltName). Some m.text) same))
+
+-- a name that an action uses and that isn't known has no number
+use_fails : (names : Names) (s : SpeltAction) (purpose : Purpose) (used : List SpeltName) (at : ℕ) (b : AbstractAction) → Uses s purpose used → HasUnknown (names_for names purpose) used at → ¬ ActionIs names s b
+use_fails names _ _ _ at b (shifts {n = n}) h (d, is, e) = one_fails names.directions n d at h is
+use_fails names _ _ _ at b (stands_on {ns = ns}) h (xs, each, e) = unnumbered names.pieces ns h.name xs h.stands h.unknown each
+use_fails names _ _ _ at b (puts {n = n}) h (x, is, e) = one_fails names.pieces n x at h is
+use_fails names _ _ _ at b (gives_turn {n = n}) h (k, is, e) = one_fails names.players n k at h is
+
+mutual
+  -- a rule by numbers has as many positions as actions are spelt
+  pub positions_spelt : (names : Names) (r : SpeltRule) (x : Expression) → RuleIs names r x → length (positions_of x) ≡ actions_in r
+  positions_spelt names (SpeltRule.act s) x (p, b, is, e) = ap (λ y. length (positions_of y)) e ∙ positions_spelt_inside names s b is
+  positions_spelt names (SpeltRule.sequence rs) x is = positions_in_sequence names rs x is
+  positions_spelt names (SpeltRule.choice rs) x is = positions_in_choice names rs x is
+  positions_spelt names (SpeltRule.star r) x (y, is, e) = ap (λ z. length (positions_of z)) e ∙ positions_spelt names r y is
+
+  positions_spelt_inside : (names : Names) (s : SpeltAction) (b : AbstractAction) → ActionIs names s b → suc (length (positions_inside b)) ≡ actions_of s
+  positions_spelt_inside names (SpeltAction.shift n) b (d, is, e) = ap (λ c. suc (length (positions_inside c))) e
+  positions_spelt_inside names (SpeltAction.on ns) b (xs, is, e) = ap (λ c. suc (length (positions_inside c))) e
+  positions_spelt_inside names (SpeltAction.off n) b (x, is, e) = ap (λ c. suc (length (positions_inside c))) e
+  positions_spelt_inside names (SpeltAction.assign n a) b (v, c, v_is, c_is, e) = ap (λ c. suc (length (positions_inside c))) e
+  positions_spelt_inside names (SpeltAction.compare a r c) b (x, y, x_is, y_is, e) = ap (λ c. suc (length (positions_inside c))) e
+  positions_spelt_inside names (SpeltAction.switch at None) b e = ap (λ c. suc (length (positions_inside c))) e
+  positions_spelt_inside names (SpeltAction.switch at (Some n)) b (k, is, e) = ap (λ c. suc (length (positions_inside c))) e
+  positions_spelt_inside names (SpeltAction.positive at r) b (x, is, e) = ap (λ c. suc (length (positions_inside c))) e ∙ ap suc (positions_spelt names r x is)
+  positions_spelt_inside names (SpeltAction.negative at r) b (x, is, e) = ap (λ c. suc (length (positions_inside c))) e ∙ ap suc (positions_spelt names r x is)
+
+  positions_in_sequence : (names : Names) (rs : SpeltRules) (x : Expression) → SequenceIs names rs x → length (positions_of x) ≡ actions_in_all rs
+  positions_in_sequence names no_rules x e = ap (λ z. length (positions_of z)) e
+  positions_in_sequence names (more_rules rs r) x (y, z, before, one, e) =
+      let first = positions_in_sequence names rs y before in
+      let second = positions_spelt names r z one in
+      let both = length-append (positions_of y) (positions_of z) in
+      rw e (omega arith)
+
+  positions_in_choice : (names : Names) (rs : SpeltRules) (x : Expression) → ChoiceIs names rs x → length (positions_of x) ≡ actions_in_all rs
+  positions_in_choice names no_rules x e = ap (λ z. length (positions_of z)) e
+  positions_in_choice names (more_rules rs r) x (y, z, before, one, e) =
+      let first = positions_in_choice names rs y before in
+      let second = positions_spelt names r z one in
+      let both = length-append (positions_of y) (positions_of z) in
+      rw e (omega arith)
+
+rule_fault_fails : (names : Names) (r : SpeltRule) (error : GameError) (x : Expression) → HasRuleFault names r error → error ≢ Memory → length (positions_of x) ≤ MAX_POSITIONS → ¬ RuleIs names r x
+rule_fault_fails names r _ x (unknown_use {action = s} {purpose = purpose} {used = used} {at = at} stands uses h) other few is =
+    let (b, named) = action_in_rule names r x s stands is in
+    use_fails names s purpose used at b uses h named
+rule_fault_fails names r _ x (many_positions many) other few is = absurd (omega (arith, positions_spelt names r x is))
+rule_fault_fails names r _ x rule_memory other few is = other refl
+
+-- Descriptions.
+
+-- each name of the one list is in the other
+abbrev pub IsAmong : List (List ℕ) → List (List ℕ) → Type 0
+IsAmong few all = (name : List ℕ) → Contains few name → Contains all name
+
+pub among_same : (few all : List (List ℕ)) → few ≡ all → IsAmong few all
+among_same few all same name has = subst (λ l. Contains l name) same has
+
+-- what is wrong with a rule is wrong with it where there are no further names
+pub rule_fault_by : (few all : Names) (r : SpeltRule) (error : GameError) → ((purpose : Purpose) → IsAmong (names_for few purpose) (names_for all purpose)) → HasRuleFault all r error → HasRuleFault few r error
+rule_fault_by few all r _ among (unknown_use {purpose = purpose} stands uses h) =
+    unknown_use stands uses (record { name = h.name; stands = h.stands; unknown = λ known. h.unknown (among purpose h.name.text known); place = h.place })
+rule_fault_by few all r _ among (many_positions many) = many_positions many
+rule_fault_by few all r _ among rule_memory = rule_memory
+
+edge_texts : (edges : List SpeltEdge) → map (λ edge. edge.direction.text) edges ≡ texts_of (map (λ edge. edge.direction) edges)
+edge_texts [] = refl
+edge_texts (edge ∷ edges) = ap (λ l. edge.direction.text ∷ l) (edge_texts edges)
+
+texts_named : (vertices : List SpeltVertex) → directions_named vertices ≡ texts_of (board_directions (graph vertices))
+texts_named [] = refl
+texts_named (vertex ∷ vertices) =
+    ap (λ l. l ++ directions_named vertices) (edge_texts vertex.edges)
+    ∙ ap (λ l. texts_of (map (λ (edge : SpeltEdge). edge.direction) vertex.edges) ++ l) (texts_named vertices)
+    ∙ sym (map-append (λ (n : SpeltName). n.text) (map (λ (edge : SpeltEdge). edge.direction) vertex.edges) (board_directions (graph vertices)))
+
+-- the directions of a board are the names that are spelt
+directions_spelt : (b : NamedBoard) (board : SpeltBoard) → BoardIs b board → IsAmong b.directions (texts_of (board_directions board))
+directions_spelt b (rectangle names rows) is = among_same b.directions (texts_of names) is.directions
+directions_spelt b (hexagon names rows) is = among_same b.directions (texts_of names) is.directions
+directions_spelt b (graph vertices) is = λ name has. among_same (directions_named vertices) (texts_of (board_directions (graph vertices))) (texts_named vertices) name (is.directions.only name has)
+
+names_among : (d : SpeltDescription) (game : AbstractGame) → IsGameOf d game → (purpose : Purpose) → IsAmong (names_for (names_in game) purpose) (names_for (names_spelt d) purpose)
+names_among d game is as_direction = directions_spelt (board_in game) d.board is.board
+names_among d game is as_piece = among_same game.pieces (texts_of d.pieces) is.pieces
+names_among d game is as_player = among_same game.players (holder_names d.players) is.players
+
+pub no_game_with_fault : NoGameWithFaultLaw
+no_game_with_fault d _ (no_name {at = at} h) other game is = no_name_fails d game at h is
+no_game_with_fault d _ (same_holder {at = at} h) other game is = again_unlawful (names_of_holders d) at h (lawful_holders d game is).differ
+no_game_with_fault d _ (same_piece {at = at} h) other game is = again_unlawful d.pieces at h (lawful_piece_names d game is).differ
+no_game_with_fault d _ (great_bound {at = at} h) other game is = bound_unlawful (holders_of d) game.bounds at h is.bounds is.lawful.limits.bounds
+no_game_with_fault d _ (many_players many) other game is = absurd (omega (arith, length-map d.players (λ (h : SpeltBounded). h.name.text), ap length is.players, is.lawful.limits.players))
+no_game_with_fault d _ (many_pieces many) other game is = absurd (omega (arith, length-map d.pieces (λ (n : SpeltName). n.text), ap length is.pieces, is.lawful.limits.pieces))
+no_game_with_fault d _ (many_variables many) other game is = absurd (omega (arith, length-map (holders_of d) (λ (h : SpeltBounded). h.name.text), ap length is.variables, is.lawful.limits.variables))
+no_game_with_fault d error (in_board h) other game is =
+    board_fault_fails (board_in game) d.board error (subst (λ pieces. HasBoardFault pieces d.board error) (sym is.pieces) h) other is.lawful_pieces.differ is.direction_names is.board
+no_game_with_fault d error (in_rules h) other game is =
+    rule_fault_fails (names_in game) d.rules error game.rules (rule_fault_by (names_in game) (names_spelt d) d.rules error (names_among d game is) h) other is.lawful.limits.positions is.rules
+no_game_with_fault d _ memory other game is = other refl

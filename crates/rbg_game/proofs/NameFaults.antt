@@ -1,0 +1,185 @@
+-- Faults of names that are added after others, as faults of whole lists and of the description.
+use Rattle.std.proofs.Common.{◌≡◌, ℕ, zero, suc, ◌+◌, ◌<◌, ◌≤◌, List, [], ◌∷◌, ◌++◌, inl, inr, Some, false, length, take, map, append-nil}
+use Rattle.std.proofs.Common.{refl, sym, ap, ◌∙◌, subst, append_assoc, arith}
+use Rattle.std.specs.Prelude.{slice_get, Contains, Result, Ok, Err}
+use Rattle.std.specs.Result.{IfErr, IsErrAnd}
+use Rattle.std.proofs.lemmas.List.{take-map, map-append}
+use Rattle.std.proofs.lemmas.List.Elements.{All-append, Contains-append_left, Contains-append_right, Contains-append_cases}
+use Rattle.std.proofs.lemmas.Option.{slice_get_within}
+use Rattle.rbg_base.specs.Names.{is_name}
+use Rattle.rbg_syntax.specs.Tree.{SpeltName, SpeltBounded, SpeltDescription}
+use Rattle.rbg_rules.specs.declared.limits.TheConstants.{MAX_BOUND}
+use Rattle.rbg_game.specs.declared.error.GameError.{GameError}
+use Rattle.rbg_game.specs.declared.error.GameError.TheVariants.{UnknownName, SameName}
+use Rattle.rbg_game.specs.Descriptions.{texts_of, holder_names, holders_of}
+use Rattle.rbg_game.specs.Faults.{StandsAgain, HasGreatBound, names_of_holders, HasFault}
+use Rattle.rbg_game.specs.Faults.{no_name as no_name_in, same_holder, same_piece, great_bound, memory}
+use Rattle.rbg_game.specs.internal.NameTables.{HasLookUpFault, not_there, no_memory as look_up_memory, StandsBehind, HasNameFault, no_name, same_name, no_memory, HasHolderFault, by_name, by_bound}
+use Rattle.rbg_game.specs.internal.Things.{AddsBounds}
+use Rattle.rbg_game.proofs.Lists.{slice_get-map_at, Contains-one, Contains-from_get, get_from-Contains, map_entry, slice_get-append_left, slice_get-append_right, entry_of_front, AllZip-append}
+
+-- An error that is passed on.
+pub passed_on : {T : Type 0} (result : Result T GameError) (error : GameError) (P : GameError → Type 0) → IsErrAnd result (λ e. e ≡ error) → P error → IfErr result P
+passed_on (Ok x) error P is p = absurd is
+passed_on (Err e) error P is p = subst P (sym is) p
+
+-- Names that are looked up.
+
+pub unknown_alone : (known : List (List ℕ)) (name : SpeltName) → ¬ Contains known name.text → HasLookUpFault known (name ∷ []) (UnknownName name.at)
+unknown_alone known name unknown = not_there (record { name = name; stands = (0, omega arith, refl); unknown = unknown; place = refl })
+
+-- a part of the names is looked up
+pub look_up_within : (known : List (List ℕ)) (part whole : List SpeltName) (error : GameError) → ((name : SpeltName) → Contains part name → Contains whole name) → HasLookUpFault known part error → HasLookUpFault known whole error
+look_up_within known part whole _ within (not_there h) = not_there (record { name = h.name; stands = within h.name h.stands; unknown = h.unknown; place = h.place })
+look_up_within known part whole _ within look_up_memory = look_up_memory
+
+pub look_up_one : (known : List (List ℕ)) (name : SpeltName) (names : List SpeltName) (error : GameError) → Contains names name → HasLookUpFault known (name ∷ []) error → HasLookUpFault known names error
+look_up_one known name names error stands = look_up_within known (name ∷ []) names error (λ other one. subst (Contains names) (Contains-one name other one) stands)
+
+-- Names that are added.
+
+abbrev pub names_in_list : List SpeltBounded → List SpeltName
+names_in_list holders = map (λ holder. holder.name) holders
+
+-- The names' texts are the holders' names.
+pub texts_of-names : (holders : List SpeltBounded) → texts_of (names_in_list holders) ≡ holder_names holders
+texts_of-names [] = refl
+texts_of-names (h ∷ hs) = ap (λ l. h.name.text ∷ l) (texts_of-names hs)
+
+pub no_name_alone : (table : List (List ℕ)) (name : SpeltName) → is_name name.text ≡ false → HasNameFault table (name ∷ []) (UnknownName name.at)
+no_name_alone table name is = no_name (record { name = name; stands = (0, omega arith, refl); no_name = is; place = refl })
+
+pub same_name_alone : (table : List (List ℕ)) (name : SpeltName) → Contains table name.text → HasNameFault table (name ∷ []) (SameName name.at)
+same_name_alone table name had = same_name (record { k = 0; name = name; stands = refl; again = subst (λ l. Contains l name.text) (sym (append-nil table)) had; place = refl })
+
+-- a name that is added alone and stands again is in the table
+pub again_alone : (table : List (List ℕ)) (name : SpeltName) (at : ℕ) → StandsBehind table (name ∷ []) at → Contains table name.text × (name.at ≡ at)
+again_alone table name at h = at_place h.k h.name h.stands h.again h.place
+  where
+    at_place : (k : ℕ) (n : SpeltName) → slice_get (name ∷ []) k ≡ Some n → Contains (table ++ texts_of (take k (name ∷ []))) n.text → n.at ≡ at → Contains table name.text × (name.at ≡ at)
+    at_place zero n there again place =
+        let same : name ≡ n = cc in
+        (subst (λ l. Contains l name.text) (append-nil table) (subst (λ (m : SpeltName). Contains (table ++ []) m.text) (sym same) again), ap (λ (m : SpeltName). m.at) same ∙ place)
+    at_place (suc k) n there again place = absurd (let within = slice_get_within (name ∷ []) (suc k) n there in omega arith)
+
+-- A fault of the name at a place, after the earlier texts and the names before it, is one of the list.
+pub name_fault_at : (earlier table : List (List ℕ)) (names : List SpeltName) (k : ℕ) (name : SpeltName) (error : GameError) → slice_get names k ≡ Some name → table ≡ earlier ++ texts_of (take k names) → HasNameFault table (name ∷ []) error → HasNameFault earlier names error
+name_fault_at earlier table names k name _ there before (no_name h) =
+    no_name (record { name = h.name; stands = subst (Contains names) (Contains-one name h.name h.stands) (Contains-from_get names k name there); no_name = h.no_name; place = h.place })
+name_fault_at earlier table names k name _ there before (same_name {at = at} h) =
+    let had = again_alone table name at h in
+    same_name (record { k = k; name = name; stands = there; again = subst (λ l. Contains l name.text) before had.0; place = had.1 })
+name_fault_at earlier table names k name _ there before no_memory = no_memory
+
+names_before : (earlier table : List (List ℕ)) (holders : List SpeltBounded) (k : ℕ) → table ≡ earlier ++ holder_names (take k holders) → table ≡ earlier ++ texts_of (take k (names_in_list holders))
+names_before earlier table holders k before =
+    before ∙ ap (λ l. earlier ++ l) (sym (ap texts_of (take-map (λ (h : SpeltBounded). h.name) k holders) ∙ texts_of-names (take k holders)))
+
+-- The same of players and variables.
+pub holder_fault_at : (earlier table : List (List ℕ)) (holders : List SpeltBounded) (k : ℕ) (holder : SpeltBounded) (error : GameError) → slice_get holders k ≡ Some holder → table ≡ earlier ++ holder_names (take k holders) → HasHolderFault table (holder ∷ []) error → HasHolderFault earlier holders error
+holder_fault_at earlier table holders k holder error there before (by_name h) =
+    by_name (name_fault_at earlier table (names_in_list holders) k holder.name error (slice_get-map_at (λ (h : SpeltBounded). h.name) holders k holder there) (names_before earlier table holders k before) h)
+holder_fault_at earlier table holders k holder _ there before (by_bound h) =
+    by_bound (record { holder = h.holder; stands = subst (Contains holders) (Contains-one holder h.holder h.stands) (Contains-from_get holders k holder there); too_great = h.too_great; place = h.place })
+
+-- Names that stand again after others stand twice in the whole list.
+pub again_in_all : (before names after : List SpeltName) (at : ℕ) → StandsBehind (texts_of before) names at → StandsAgain ((before ++ names) ++ after) at
+again_in_all before names after at h =
+    let whole = (before ++ names) ++ after in
+    let here : slice_get whole (length before + h.k) ≡ Some h.name = slice_get-append_left (before ++ names) after (length before + h.k) h.name (slice_get-append_right before names h.k h.name h.stands) in
+    elim (Contains-append_cases (texts_of before) (texts_of (take h.k names)) h.name.text h.again) [
+      | inl had ↦
+          let there = get_from-Contains (texts_of before) h.name.text had in
+          let entry = map_entry (λ (n : SpeltName). n.text) before there.0 h.name.text there.1 in
+          let within : there.0 < length before = slice_get_within before there.0 entry.0 entry.1 in
+          record {
+            i = there.0;
+            j = length before + h.k;
+            earlier = entry.0;
+            later = h.name;
+            before = omega arith;
+            first = slice_get-append_left (before ++ names) after there.0 entry.0 (slice_get-append_left before names there.0 entry.0 entry.1);
+            second = here;
+            same = entry.2;
+            place = h.place;
+          }
+      | inr had ↦
+          let there = get_from-Contains (texts_of (take h.k names)) h.name.text had in
+          let entry = map_entry (λ (n : SpeltName). n.text) (take h.k names) there.0 h.name.text there.1 in
+          let front = entry_of_front h.k names there.0 entry.0 entry.1 in
+          record {
+            i = length before + there.0;
+            j = length before + h.k;
+            earlier = entry.0;
+            later = h.name;
+            before = omega (arith, front.1);
+            first = slice_get-append_left (before ++ names) after (length before + there.0) entry.0 (slice_get-append_right before names there.0 entry.0 front.0);
+            second = here;
+            same = entry.2;
+            place = h.place;
+          }
+    ]
+
+-- What is wrong with some of the players and variables is wrong with the description.
+module _ (d : SpeltDescription) (before here after : List SpeltBounded) (all : holders_of d ≡ (before ++ here) ++ after) where
+  whole_names : names_of_holders d ≡ (names_in_list before ++ names_in_list here) ++ names_in_list after
+  whole_names =
+      ap names_in_list all ∙ map-append (λ (h : SpeltBounded). h.name) (before ++ here) after
+      ∙ ap (λ l. l ++ names_in_list after) (map-append (λ (h : SpeltBounded). h.name) before here)
+
+  name_there : (n : SpeltName) → Contains (names_in_list here) n → Contains (names_of_holders d) n
+  name_there n has =
+      let P : List SpeltName → Type 0 = λ l. Contains l n in
+      subst P (sym whole_names)
+      (Contains-append_left (names_in_list before ++ names_in_list here) (names_in_list after) n (Contains-append_right (names_in_list before) (names_in_list here) n has))
+
+  again_there : (at : ℕ) → StandsBehind (holder_names before) (names_in_list here) at → StandsAgain (names_of_holders d) at
+  again_there at h =
+      let P : List SpeltName → Type 0 = λ l. StandsAgain l at in
+      let Q : List (List ℕ) → Type 0 = λ l. StandsBehind l (names_in_list here) at in
+      subst P (sym whole_names)
+      (again_in_all (names_in_list before) (names_in_list here) (names_in_list after) at (subst Q (sym (texts_of-names before)) h))
+
+  bound_there : (at : ℕ) → HasGreatBound here at → HasGreatBound (holders_of d) at
+  bound_there at h =
+      let P : List SpeltBounded → Type 0 = λ l. Contains l h.holder in
+      record {
+        holder = h.holder;
+        stands = subst P (sym all) (Contains-append_left (before ++ here) after h.holder (Contains-append_right before here h.holder h.stands));
+        too_great = h.too_great;
+        place = h.place;
+      }
+
+  names_fault : (error : GameError) → HasNameFault (holder_names before) (names_in_list here) error → HasFault d error
+  names_fault _ (no_name h) =
+      no_name_in (record { name = h.name; stands = Contains-append_left (names_of_holders d) d.pieces h.name (name_there h.name h.stands); no_name = h.no_name; place = h.place })
+  names_fault _ (same_name {at = at} h) = same_holder (again_there at h)
+  names_fault _ no_memory = memory
+
+  pub holders_fault : (error : GameError) → HasHolderFault (holder_names before) here error → HasFault d error
+  holders_fault error (by_name h) = names_fault error h
+  holders_fault _ (by_bound {at = at} h) = great_bound (bound_there at h)
+
+pub players_fault : (d : SpeltDescription) (error : GameError) → HasHolderFault [] d.players error → HasFault d error
+players_fault d = holders_fault d [] d.players d.variables refl
+
+pub variables_fault : (d : SpeltDescription) (error : GameError) → HasHolderFault (holder_names d.players) d.variables error → HasFault d error
+variables_fault d = holders_fault d d.players d.variables [] (sym (append-nil (d.players ++ d.variables)))
+
+pub pieces_fault : (d : SpeltDescription) (error : GameError) → HasNameFault [] d.pieces error → HasFault d error
+pieces_fault d _ (no_name h) =
+    no_name_in (record { name = h.name; stands = Contains-append_right (names_of_holders d) d.pieces h.name h.stands; no_name = h.no_name; place = h.place })
+pieces_fault d _ (same_name {at = at} h) =
+    let P : List SpeltName → Type 0 = λ l. StandsAgain l at in
+    same_piece (subst P (append-nil d.pieces) (again_in_all [] d.pieces [] at h))
+pieces_fault d _ no_memory = memory
+
+-- Bounds added twice.
+pub AddsBounds-append : (first second : List SpeltBounded) (a b c : List ℕ) → AddsBounds first a b → AddsBounds second b c → AddsBounds (first ++ second) a c
+AddsBounds-append first second a b c h k =
+    record {
+      added = h.added ++ k.added;
+      after = k.after ∙ ap (λ l. l ++ k.added) h.after ∙ append_assoc a h.added k.added;
+      bounds = AllZip-append _ first second h.added k.added h.bounds k.bounds;
+      limit = All-append (λ bound. bound ≤ MAX_BOUND) h.added k.added h.limit k.limit;
+    }

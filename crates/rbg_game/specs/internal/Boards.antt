@@ -1,0 +1,51 @@
+-- A board by the numbers of its names.
+use Rattle.std.specs.Prelude.{◌≡◌, ℕ, ◌<◌, ◌≤◌, ◌⊎◌, List, [], ◌∷◌, ◌++◌, Some, length, slice_get, All}
+use Rattle.std.specs.List.{AllZip}
+use Rattle.rbg_board.specs.Graph.{Graph, IsClosed}
+use Rattle.rbg_board.specs.Cells.{AreDifferent}
+use Rattle.rbg_board.specs.declared.error.BoardError.{BoardError}
+use Rattle.rbg_board.specs.declared.error.BoardError.TheVariants as board_errors
+use Rattle.rbg_syntax.specs.Tree.{SpeltName, SpeltBoard}
+use Rattle.rbg_rules.specs.declared.limits.TheConstants.{MAX_DIRECTIONS}
+use Rattle.rbg_game.specs.declared.error.GameError.{GameError}
+use Rattle.rbg_game.specs.declared.error.GameError.TheVariants as errors
+use Rattle.rbg_game.specs.Faults.{HasNoName}
+use Rattle.rbg_game.specs.Descriptions.{IsNumberOf, texts_of, BoardIs, AreNames}
+
+-- The board with these names of directions is the one that is spelt, and has what every game asks of its board.
+pub record MakesBoard
+    (pieces : List (List ℕ))
+    (spelt : SpeltBoard)
+    (directions : List (List ℕ))
+    (board : Graph)
+    : Type 0 where
+  pub is_board : BoardIs (record { directions = directions; pieces = pieces; board = board }) spelt
+  pub names : AreNames directions
+  pub few : length directions ≤ MAX_DIRECTIONS
+  pub closed : IsClosed board
+  pub some_vertex : 0 < length board.first
+  pub first_pieces : All (λ x. x < length pieces) board.first
+
+-- n is the number of the text in the new table, which is the old one, or the old one with the text after it.
+pub record Joins (old new : List (List ℕ)) (text : List ℕ) (n : ℕ) : Type 0 where
+  pub number : slice_get new n ≡ Some text
+  pub table : ((n < length old) × (new ≡ old)) ⊎ ((n ≡ length old) × (new ≡ old ++ text ∷ []))
+
+-- Four names by their numbers in a table: where the numbers differ, the table is the names in order.
+pub record NumbersDirections (names : List SpeltName) (numbers : List ℕ) (table : List (List ℕ)) : Type 0 where
+  pub few : length table ≤ 4
+  pub named : AllZip (IsNumberOf table) names numbers
+  pub in_order : AreDifferent numbers → (numbers ≡ 0 ∷ 1 ∷ 2 ∷ 3 ∷ []) × (table ≡ texts_of names)
+
+-- what a board's own refusal is called here: out of memory has one name in every layer
+abbrev pub refusal_of : BoardError → GameError
+refusal_of board_errors.Memory = errors.Memory
+refusal_of error = errors.Board error
+
+-- What is wrong with the names of directions.
+pub data HasDirectionFault (names : List SpeltName) : GameError → Type 0 where
+  no_name : {at : ℕ}
+      → HasNoName names at
+      → HasDirectionFault names (errors.UnknownName at)
+  no_memory :
+      HasDirectionFault names errors.Memory

@@ -1,0 +1,41 @@
+-- The players, variables and pieces of a description by their numbers, and the game that is made of them.
+use Rattle.std.specs.Prelude.{◌≡◌, ℕ, ◌≤◌, List, [], ◌++◌, length, All}
+use Rattle.rbg_syntax.specs.Tree.{SpeltBounded, SpeltDescription}
+use Rattle.rbg_rules.specs.Expression.{Expression}
+use Rattle.rbg_rules.specs.State.{AbstractGame}
+use Rattle.rbg_rules.specs.declared.limits.TheConstants.{MAX_PLAYERS, MAX_PIECES, MAX_VARIABLES, MAX_BOUND}
+use Rattle.rbg_game.specs.declared.checking.boards.NamedBoard.{NamedBoard}
+use Rattle.rbg_game.specs.declared.checking.names.Things.{Things}
+use Rattle.rbg_game.specs.Descriptions.{texts_of, holder_names, holders_of, AreBounds, AreLawfulNames}
+
+-- The bounds of the players or variables stand after the others, and none is too great.
+pub record AddsBounds (holders : List SpeltBounded) (old new : List ℕ) : Type 0 where
+  pub added : List ℕ
+  pub after : new ≡ old ++ added
+  pub bounds : AreBounds holders added
+  pub limit : All (λ bound. bound ≤ MAX_BOUND) added
+
+-- The names and bounds are those of the description, and there are no more of them than are allowed.
+pub record AreThingsOf (d : SpeltDescription) (things : Things) : Type 0 where
+  pub players : things.players ≡ holder_names d.players
+  pub variables : things.variables ≡ holder_names (holders_of d)
+  pub pieces : things.pieces ≡ texts_of d.pieces
+  pub bounds : AddsBounds (holders_of d) [] things.bounds.items
+  pub lawful_variables : AreLawfulNames things.variables
+  pub lawful_pieces : AreLawfulNames things.pieces
+  pub player_limit : length things.players ≤ MAX_PLAYERS
+  pub piece_limit : length things.pieces ≤ MAX_PIECES
+  pub variable_limit : length things.variables ≤ MAX_VARIABLES
+
+-- the game of its parts
+abbrev pub game_by_numbers : Things → NamedBoard → Expression → AbstractGame
+game_by_numbers things named rules =
+    record {
+      players = things.players;
+      pieces = things.pieces;
+      variables = things.variables;
+      bounds = things.bounds.items;
+      directions = named.directions;
+      board = named.board;
+      rules = rules;
+    }
