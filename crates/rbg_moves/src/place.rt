@@ -2,8 +2,9 @@
 ghost use Rattle.std.specs.Prelude.{◌≡◌, IfOk, None};
 ghost use Rattle.rbg_rules.specs.State.{start_of, IsStateOf};
 
+use rbg_base::{Memory, Position};
 use rbg_rules::Game;
-use rbg_state::{Memory, SemiState};
+use rbg_state::SemiState;
 use std::alloc::Global;
 use std::marker::Model;
 
@@ -11,7 +12,7 @@ use std::marker::Model;
 #[derive(Debug, Drop)]
 pub struct Place {
     pub state: SemiState,
-    pub after: Option<u32>,
+    pub after: Option<Position>,
 }
 
 impl Model for Place {
@@ -19,7 +20,7 @@ impl Model for Place {
 
     ghost Value = { AbstractPlace };
 
-    ghost view = { λ p. record { state = p.state; last = p.after } };
+    ghost view = { λ p. record { state = p.state.state; last = p.after } };
 }
 
 impl Place {

@@ -11,3 +11,6 @@ pub mod StateLemmas
 pub mod Bridge
 pub mod TreeLemmas
 pub mod TableLemmas
+pub mod NameLemmas
+pub mod TrimLemmas
+pub mod AnswerLemmas

@@ -8,7 +8,7 @@ use Rattle.rbg_rules.specs.State.{AbstractGame, AbstractState}
 use Rattle.rbg_rules.specs.Actions.{rest, step, Acts, Applies, Run}
 use Rattle.rbg_rules.specs.Moves.{RunPairs, stay, modify, pass, AbstractPlace, IsLegal, stand_of}
 use Rattle.rbg_rules.specs.Questions.{IsMove}
-use Rattle.rbg_rules.specs.Laws.{OnePlaceLaw, MoveLaw}
+use Rattle.rbg_rules.specs.Laws.{OnePlaceLaw, MoveLaw, SameButVertex, ByPairs, none, next, PairsStateLaw}
 use Rattle.rbg_rules.proofs.PositionLemmas.{one_stands}
 use Rattle.rbg_rules.proofs.MoveLemmas.{Applies_one}
 
@@ -52,12 +52,7 @@ RunPairs_join stay run = run
 RunPairs_join (modify applied modifies before) run = modify applied modifies (RunPairs_join before run)
 RunPairs_join (pass applied modifies before) run = pass applied modifies (RunPairs_join before run)
 
--- Two semi-states differ in nothing but the current vertex.
-pub record SameButVertex (s t : AbstractState) : Type 0 where
-  pub player : s.player ≡ t.player
-  pub pieces : s.pieces ≡ t.pieces
-  pub values : s.values ≡ t.values
-
+-- Semi-states that differ in nothing but the current vertex.
 pub SameButVertex_refl : (s : AbstractState) → SameButVertex s s
 SameButVertex_refl s = record { player = refl; pieces = refl; values = refl }
 
@@ -127,6 +122,23 @@ same_pairs {game} numbered (modify {p} {s} {middle} applied modifies run) other 
     same_pairs numbered run found.run (SameButVertex_is (Applies_one game numbered p at_s applied))
 same_pairs {game} numbered (pass {s} {middle} applied quiet run) other same =
     same_pairs numbered run other (SameButVertex_trans (SameButVertex_sym (quiet_acts game applied.action s middle quiet applied.acts)) same)
+
+-- The actions of a run's pairs, applied at their vertices, make its end but for the current vertex.
+by_pairs : {game : AbstractGame} {w : List ℕ} {s s' t : AbstractState} {ps : List (ℕ × ℕ)} → RunPairs game w s t ps → SameButVertex s s' → (u : AbstractState) × ByPairs game s' ps u × SameButVertex t u
+by_pairs {s'} stay same = (s', none, same)
+by_pairs {game} {s'} (modify {p} {s} {middle} applied modifies run) same =
+    let standing : AbstractState = record s' { vertex = s.vertex } in
+    let here : s ≡ standing = same_state (record { player = same.player; pieces = same.pieces; values = same.values }) refl in
+    let (u, more, end) = by_pairs run (SameButVertex_refl middle) in
+    (u, next (subst (λ (x : AbstractState). Applies game p x middle) here applied) more, end)
+by_pairs {game} (pass {s} {middle} applied quiet run) same =
+    by_pairs run (SameButVertex_trans (SameButVertex_sym (quiet_acts game applied.action s middle quiet applied.acts)) same)
+
+pub pairs_state_law : PairsStateLaw
+pairs_state_law game numbered w s t ps run = (
+  (λ w' t' other. same_pairs numbered run other (SameButVertex_refl s)),
+  by_pairs run (SameButVertex_refl s),
+)
 
 -- A run of one switch has its pair alone.
 pub record OneSwitch (game : AbstractGame) (p : ℕ) (s t : AbstractState) (ps : List (ℕ × ℕ)) : Type 0 where

@@ -1,7 +1,8 @@
 -- What numbering gives: at each position stands one action, and only a word's own positions are in it.
-use Rattle.std.proofs.Common.{◌≡◌, ℕ, zero, suc, ◌≤◌, List, [], ◌∷◌, ◌++◌, length, sym, ◌∙◌, subst, ◌⊎◌, inl, inr, arith}
+use Rattle.std.proofs.Common.{◌≡◌, ℕ, zero, suc, ◌+◌, ◌≤◌, List, [], ◌∷◌, ◌++◌, length, sym, ◌∙◌, subst, ◌⊎◌, inl, inr, arith}
+use Rattle.std.specs.List.{range_with_len}
 use Rattle.rbg_rules.specs.Expression.{AbstractAction, positive, negative, Expression, act, skip, sequence, fail, choice, star}
-use Rattle.rbg_rules.specs.Positions.{HasAction, HasInside, positions_of, positions_inside, count_from, IsNumbered}
+use Rattle.rbg_rules.specs.Positions.{HasAction, HasInside, positions_of, positions_inside, IsNumbered}
 
 -- x is among the list, and no member of a list occurs again in it
 abbrev pub Among : ℕ → List ℕ → Type 0
@@ -39,17 +40,18 @@ AllDifferent_apart [] ys d x h k = absurd h
 AllDifferent_apart (y ∷ xs) ys (first, d) x (inl e) k = first (subst (λ (z : ℕ). Among z (xs ++ ys)) e (Among_right x xs ys k))
 AllDifferent_apart (y ∷ xs) ys (first, d) x (inr h) k = AllDifferent_apart xs ys d x h k
 
-pub Among-count_from : (first many x : ℕ) → Among x (count_from first many) → first ≤ x
-Among-count_from first zero x h = absurd h
-Among-count_from first (suc many) x (inl e) = omega arith
-Among-count_from first (suc many) x (inr h) = let later : suc first ≤ x = Among-count_from (suc first) many x h in omega arith
+pub Among-range_with_len : (first many x : ℕ) → Among x (range_with_len first many) → first ≤ x
+Among-range_with_len first zero x h = absurd h
+Among-range_with_len first (suc many) x (inl e) = omega arith
+Among-range_with_len first (suc many) x (inr h) = let later : first + 1 ≤ x = Among-range_with_len (first + 1) many x h in omega arith
 
-pub AllDifferent-count_from : (first many : ℕ) → AllDifferent (count_from first many)
-AllDifferent-count_from first zero = tt
-AllDifferent-count_from first (suc many) = ((λ h. let later : suc first ≤ first = Among-count_from (suc first) many first h in absurd (omega arith)), AllDifferent-count_from (suc first) many)
+pub AllDifferent-range_with_len : (first many : ℕ) → AllDifferent (range_with_len first many)
+AllDifferent-range_with_len first zero = tt
+AllDifferent-range_with_len first (suc many) =
+    ((λ h. let later : first + 1 ≤ first = Among-range_with_len (first + 1) many first h in absurd (omega arith)), AllDifferent-range_with_len (first + 1) many)
 
 pub numbered_once : (x : Expression) → IsNumbered x → AllDifferent (positions_of x)
-numbered_once x numbered = subst AllDifferent (sym numbered.in_order) (AllDifferent-count_from 1 (length (positions_of x)))
+numbered_once x numbered = subst AllDifferent (sym numbered.in_order) (AllDifferent-range_with_len 1 (length (positions_of x)))
 
 -- The position of each action that an expression has is among its positions.
 mutual

@@ -7,9 +7,10 @@ use Rattle.rbg_rules.specs.declared.rule.Action.TheVariants.{Shift, On, Off, Ass
 use Rattle.rbg_rules.specs.declared.rule.Rule.{Rule}
 use Rattle.rbg_rules.specs.declared.rule.Rule.TheOpen.{Rule-F}
 use Rattle.rbg_rules.specs.declared.rule.Rule.TheFolds.{ind-Rule, map-Rule}
+use Rattle.std.specs.List.{range_with_len}
 use Rattle.rbg_rules.specs.Expression.{AbstractAction, shift, on, off, assignment, comparison, switch, positive, negative, Expression, act, skip, sequence, fail, choice, star}
-use Rattle.rbg_rules.specs.Positions.{HasAction, HasInside, positions_of, positions_inside, count_from, IsNumbered, is_pattern, IsPatternAt}
-use Rattle.rbg_rules.specs.Translation.{arithmetic_of, relation_of, action_of, shows_pattern, action_at, act_of, pattern_of, expression_of}
+use Rattle.rbg_rules.specs.Positions.{HasAction, HasInside, positions_of, positions_inside, IsNumbered, is_pattern, IsPatternAt}
+use Rattle.rbg_rules.specs.Translation.{arithmetic_of, action_of, shows_pattern, action_at, act_of, pattern_of, expression_of}
 use Rattle.rbg_rules.specs.Table.{Stands}
 use Rattle.rbg_rules.proofs.TreeLemmas.{layer_of, rolled, trees, action_there}
 use Rattle.rbg_rules.proofs.PositionLemmas.{Among, Among_cases, one_stands}
@@ -105,16 +106,16 @@ mutual
   some_inside (comparison e r f) p h = absurd h
   some_inside (switch n) p h = absurd h
 
-Among_count : (first many p : ℕ) → first ≤ p → p < first + many → Among p (count_from first many)
-Among_count first zero p low high = absurd (omega arith)
-Among_count first (suc many) p low high = elim (leb_tells p first) [
+Among_range : (first many p : ℕ) → first ≤ p → p < first + many → Among p (range_with_len first many)
+Among_range first zero p low high = absurd (omega arith)
+Among_range first (suc many) p low high = elim (leb_tells p first) [
   | inl (_, e) ↦ inl (omega arith)
-  | inr (_, later) ↦ inr (Among_count (suc first) many p (omega arith) (omega arith))
+  | inr (_, later) ↦ inr (Among_range (first + 1) many p (omega arith) (omega arith))
 ]
 
 pub numbered_action : (x : Expression) → IsNumbered x → (p : ℕ) → 0 < p → p ≤ length (positions_of x) → (a : AbstractAction) × HasAction x p a
 numbered_action x numbered p from_one there =
-    some_action x p (subst (Among p) (sym numbered.in_order) (Among_count 1 (length (positions_of x)) p (omega arith) (omega arith)))
+    some_action x p (subst (Among p) (sym numbered.in_order) (Among_range 1 (length (positions_of x)) p (omega arith) (omega arith)))
 
 stands_shown : (rules : Expression) (p : ℕ) (a : AbstractAction) (i : Action) (x : Expression) → HasAction rules p a → a ≡ action_of i x → Stands rules p i
 stands_shown rules p a (Shift d) x here shows = subst (HasAction rules p) shows here
@@ -136,7 +137,7 @@ stands_at actions r numbered size p d from_one there =
     subst (Stands (expression_of actions r) p) action (stands_shown (expression_of actions r) p a entry.action entry.inside here entry.shows)
 
 -- The action of a position is a pattern exactly where a pattern stands there.
-plain_stands : (rules : Expression) → IsNumbered rules → (p : ℕ) (a : AbstractAction) → is_pattern a ≡ false → HasAction rules p a → ¬ IsPatternAt rules p
+pub plain_stands : (rules : Expression) → IsNumbered rules → (p : ℕ) (a : AbstractAction) → is_pattern a ≡ false → HasAction rules p a → ¬ IsPatternAt rules p
 plain_stands rules numbered p a plain here pattern = elim pattern.stands [
   | inl h ↦ let same : a ≡ positive pattern.inside_it = one_stands rules numbered p a (positive pattern.inside_it) here h in not_both (sym plain ∙ ap is_pattern same)
   | inr h ↦ let same : a ≡ negative pattern.inside_it = one_stands rules numbered p a (negative pattern.inside_it) here h in not_both (sym plain ∙ ap is_pattern same)
@@ -150,7 +151,7 @@ pattern_stands rules numbered p (Shift d) here = ((λ e. absurd cc), (λ h. absu
 pattern_stands rules numbered p (On pieces) here = ((λ e. absurd cc), (λ h. absurd (plain_stands rules numbered p (on pieces.items) refl here h)))
 pattern_stands rules numbered p (Off x) here = ((λ e. absurd cc), (λ h. absurd (plain_stands rules numbered p (off x) refl here h)))
 pattern_stands rules numbered p (Assign v e) here = ((λ e. absurd cc), (λ h. absurd (plain_stands rules numbered p (assignment v (arithmetic_of e)) refl here h)))
-pattern_stands rules numbered p (Compare e r f) here = ((λ e. absurd cc), (λ h. absurd (plain_stands rules numbered p (comparison (arithmetic_of e) (relation_of r) (arithmetic_of f)) refl here h)))
+pattern_stands rules numbered p (Compare e r f) here = ((λ e. absurd cc), (λ h. absurd (plain_stands rules numbered p (comparison (arithmetic_of e) r (arithmetic_of f)) refl here h)))
 pattern_stands rules numbered p (Switch n) here = ((λ e. absurd cc), (λ h. absurd (plain_stands rules numbered p (switch n) refl here h)))
 pattern_stands rules numbered p Positive (x, here) = ((λ _. record { inside_it = x; stands = inl here }), (λ _. refl))
 pattern_stands rules numbered p Negative (x, here) = ((λ _. record { inside_it = x; stands = inr here }), (λ _. refl))

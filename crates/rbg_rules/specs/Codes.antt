@@ -3,8 +3,10 @@ use Rattle.std.specs.Prelude.{◌≡◌, ℕ, List, Option, refl}
 use Rattle.std.specs.Coded.{Coded, coded_ℕ, coded_list, coded_option, coded×, code_by}
 use Rattle.rbg_board.specs.Graph.{Graph}
 use Rattle.rbg_rules.specs.State.{AbstractGame}
+use Rattle.rbg_base.specs.declared.relation.Relation.{Relation}
+use Rattle.rbg_base.specs.declared.relation.Relation.TheVariants.{Equal, NotEqual, Less, LessOrEqual, Greater, GreaterOrEqual}
 use base.Stored.{Gv, gnil, gnum, gcons}
-use Rattle.rbg_rules.specs.Expression.{AbstractArithmetic, number, variable, piece_count, negated, sum, difference, product, quotient, AbstractRelation, equal, different, less, at_most, greater, at_least, AbstractAction, shift, on, off, assignment, comparison, switch, positive, negative, Expression, act, skip, sequence, fail, choice, star}
+use Rattle.rbg_rules.specs.Expression.{AbstractArithmetic, number, variable, piece_count, negated, sum, difference, product, quotient, AbstractAction, shift, on, off, assignment, comparison, switch, positive, negative, Expression, act, skip, sequence, fail, choice, star}
 
 abbrev pub arithmetic_code : AbstractArithmetic → Gv
 arithmetic_code (number n) = gcons (gnum 0) (gnum n)
@@ -27,21 +29,21 @@ arithmetic_inj (product e f) (product g h) p = let left : arithmetic_code e ≡ 
 arithmetic_inj (quotient e f) (quotient g h) p = let left : arithmetic_code e ≡ arithmetic_code g = cc in let right : arithmetic_code f ≡ arithmetic_code h = cc in let same = arithmetic_inj e g left in let same' = arithmetic_inj f h right in cc
 arithmetic_inj _ _ p = cc
 
-abbrev pub relation_code : AbstractRelation → ℕ
-relation_code equal = 0
-relation_code different = 1
-relation_code less = 2
-relation_code at_most = 3
-relation_code greater = 4
-relation_code at_least = 5
+abbrev pub relation_code : Relation → ℕ
+relation_code Equal = 0
+relation_code NotEqual = 1
+relation_code Less = 2
+relation_code LessOrEqual = 3
+relation_code Greater = 4
+relation_code GreaterOrEqual = 5
 
-pub relation_inj : (x y : AbstractRelation) → relation_code x ≡ relation_code y → x ≡ y
-relation_inj equal equal p = refl
-relation_inj different different p = refl
-relation_inj less less p = refl
-relation_inj at_most at_most p = refl
-relation_inj greater greater p = refl
-relation_inj at_least at_least p = refl
+pub relation_inj : (x y : Relation) → relation_code x ≡ relation_code y → x ≡ y
+relation_inj Equal Equal p = refl
+relation_inj NotEqual NotEqual p = refl
+relation_inj Less Less p = refl
+relation_inj LessOrEqual LessOrEqual p = refl
+relation_inj Greater Greater p = refl
+relation_inj GreaterOrEqual GreaterOrEqual p = refl
 relation_inj _ _ p = cc
 
 abbrev mutual

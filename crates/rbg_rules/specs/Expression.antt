@@ -1,6 +1,7 @@
 -- The rules of a game as mathematics: a regular expression over actions (Regular Boardgames, AAAI 2019). Players, pieces,
 -- variables and directions are numbers. Each action carries its position, so the same action at two places is two letters.
 use Rattle.std.specs.Prelude.{ℕ, List, fold}
+use Rattle.rbg_base.specs.declared.relation.Relation.{Relation}
 
 -- Arithmetic over whole numbers, variables and counts of pieces. Operators of equal rank group from the left, so each has two operands.
 pub data AbstractArithmetic : Type 0 where
@@ -10,10 +11,6 @@ pub data AbstractArithmetic : Type 0 where
   negated : AbstractArithmetic → AbstractArithmetic
   sum difference product quotient : AbstractArithmetic → AbstractArithmetic → AbstractArithmetic
 
--- The relations of a comparison: ==, !=, <, <=, >, >=.
-pub data AbstractRelation : Type 0 where
-  equal different less at_most greater at_least : AbstractRelation
-
 mutual
   -- An action, one constructor for each kind. A positive or a negative pattern holds its inner expression.
   pub data AbstractAction : Type 0 where
@@ -21,7 +18,7 @@ mutual
     on : (pieces : List ℕ) → AbstractAction
     off : (piece : ℕ) → AbstractAction
     assignment : (variable : ℕ) → AbstractArithmetic → AbstractAction
-    comparison : AbstractArithmetic → AbstractRelation → AbstractArithmetic → AbstractAction
+    comparison : AbstractArithmetic → Relation → AbstractArithmetic → AbstractAction
     switch : (player : ℕ) → AbstractAction
     positive negative : Expression → AbstractAction
 

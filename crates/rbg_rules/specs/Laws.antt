@@ -2,12 +2,12 @@
 use Rattle.std.specs.Prelude.{◌≡◌, ℕ, ◌⊎◌, ◌↔◌, List, [], ◌∷◌, ◌++◌, All, Contains, Some, slice_get}
 use Rattle.std.specs.List.{concat}
 use Rattle.rbg_rules.specs.Expression.{AbstractAction, positive, negative, Expression, star, sequence_of, choice_of}
-use Rattle.rbg_rules.specs.Positions.{HasAction, HasOwnAction, IsNumbered, Level, IsLevel}
-use Rattle.rbg_rules.specs.Words.{Word}
+use Rattle.rbg_rules.specs.Positions.{HasAction, HasOwnAction, IsNumbered, Level, inside, IsLevel}
+use Rattle.rbg_rules.specs.Words.{Word, Start, beginning, after, Follows, Ends}
 use Rattle.rbg_rules.specs.State.{AbstractGame, AbstractState, start_of, IsStateOf}
 use Rattle.rbg_rules.specs.Actions.{Applies, Run}
 use Rattle.rbg_rules.specs.Moves.{RunPairs, AbstractPlace, Legal, IsLegal, Finished, stand_of}
-use Rattle.rbg_rules.specs.Questions.{IsMove}
+use Rattle.rbg_rules.specs.Questions.{IsMove, SomeWordRuns}
 use Rattle.rbg_rules.specs.Games.{IsGame, HasNoEmptySum}
 
 -- w is a word of the first part, then a word of the second, and so on.
@@ -78,3 +78,58 @@ StateLaw = (game : AbstractGame) → IsGame game → IsStateOf game (start_of ga
 -- An expression in which no sum is empty has a word.
 abbrev pub WordLaw : Type 0
 WordLaw = (x : Expression) → HasNoEmptySum x → (w : List ℕ) × Word x w
+
+-- Neighbours decide: in numbered rules a list that goes through position j follows exactly where its part up to j follows and the
+-- rest follows j; and it ends a word exactly where the part up to j follows and the rest ends a word behind j.
+abbrev pub LocalityLaw : Type 0
+LocalityLaw =
+    (rules : Expression) → IsNumbered rules → (f : Start) (m : List ℕ) (j : ℕ) (later : List ℕ) →
+    (Follows rules f (m ++ j ∷ later) ↔ (Follows rules f (m ++ j ∷ []) × Follows rules (after j) later)) ×
+    (Ends rules f (m ++ j ∷ later) ↔ (Follows rules f (m ++ j ∷ []) × Ends rules (after j) later))
+
+-- Where one may stand in the rules: at the beginning of a level, or after one of their actions.
+abbrev pub IsStart : Expression → Start → Type 0
+IsStart rules (beginning level) = (x : Expression) × IsLevel rules level x
+IsStart rules (after i) = (a : AbstractAction) × HasAction rules i a
+
+-- Where no sum is empty, each own action stands in some word.
+abbrev pub TrimLaw : Type 0
+TrimLaw =
+    (x : Expression) → HasNoEmptySum x → (i : ℕ) (a : AbstractAction) → HasOwnAction x i a →
+    (u : List ℕ) × (v : List ℕ) × Word x (u ++ i ∷ v)
+
+-- .. and so one may stop wherever one stands: the empty list follows everywhere.
+abbrev pub EmptyLaw : Type 0
+EmptyLaw = (rules : Expression) → HasNoEmptySum rules → (f : Start) → IsStart rules f → Follows rules f []
+
+-- The answer of a pattern's question: a positive pattern is valid exactly where some word of its inside runs, a negative one
+-- exactly where none does.
+abbrev pub AnswerLaw : Type 0
+AnswerLaw =
+    (game : AbstractGame) → IsNumbered game.rules → (p : ℕ) (x : Expression) (s : AbstractState) →
+    (HasAction game.rules p (positive x) → Applies game p s s ↔ SomeWordRuns game s (beginning (inside p))) ×
+    (HasAction game.rules p (negative x) → Applies game p s s ↔ (¬ SomeWordRuns game s (beginning (inside p))))
+
+-- Two semi-states differ in nothing but the current vertex.
+pub record SameButVertex (s t : AbstractState) : Type 0 where
+  pub player : s.player ≡ t.player
+  pub pieces : s.pieces ≡ t.pieces
+  pub values : s.values ≡ t.values
+
+-- The actions of the pairs, each applied at its pair's vertex, take s to t.
+pub data ByPairs (game : AbstractGame) : AbstractState → List (ℕ × ℕ) → AbstractState → Type 0 where
+  none : {s : AbstractState} → ByPairs game s [] s
+  next :
+      {v p : ℕ} {ps : List (ℕ × ℕ)} {s middle t : AbstractState} →
+      Applies game p (record s { vertex = v }) middle →
+      ByPairs game middle ps t →
+      ByPairs game s ((v, p) ∷ ps) t
+
+-- Pairs fix the state: two runs from one semi-state with the same pairs end alike but for the current vertex, and the end of such a
+-- run is, but for the current vertex, what the pairs' actions make at their vertices.
+abbrev pub PairsStateLaw : Type 0
+PairsStateLaw =
+    (game : AbstractGame) → IsNumbered game.rules → (w : List ℕ) (s t : AbstractState) (ps : List (ℕ × ℕ)) →
+    RunPairs game w s t ps →
+    ((w' : List ℕ) (t' : AbstractState) → RunPairs game w' s t' ps → SameButVertex t t') ×
+    ((u : AbstractState) × ByPairs game s ps u × SameButVertex t u)

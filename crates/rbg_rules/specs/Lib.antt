@@ -7,12 +7,16 @@ pub mod State
 pub mod Values
 pub mod Actions
 pub mod Moves
+pub mod Places
+pub mod Limits
 pub mod Questions
+pub mod Heavy
+pub mod LawfulNames
 pub mod Games
 pub mod Laws
 pub mod Translation
 pub mod Table
-pub mod Names
+pub mod Texts
 pub mod Codes
 pub mod Kept
 pub mod Parts

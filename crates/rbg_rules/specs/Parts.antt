@@ -1,7 +1,7 @@
 -- The game that checked parts make.
 use Rattle.rbg_rules.specs.declared.game.Parts.{Parts}
 use Rattle.rbg_rules.specs.State.{AbstractGame}
-use Rattle.rbg_rules.specs.Names.{texts}
+use Rattle.rbg_rules.specs.Texts.{texts}
 use Rattle.rbg_rules.specs.Translation.{rules_of}
 
 abbrev pub game_of_parts : Parts → AbstractGame

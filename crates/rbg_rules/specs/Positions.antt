@@ -1,5 +1,6 @@
 -- Where the actions of an expression stand: their positions, and the levels of the rules.
-use Rattle.std.specs.Prelude.{◌≡◌, ℕ, suc, zero, ◌⊎◌, List, [], ◌∷◌, ◌++◌, length, Bool, true, false, All}
+use Rattle.std.specs.Prelude.{◌≡◌, ℕ, ◌⊎◌, List, [], ◌∷◌, ◌++◌, length, Bool, true, false, All}
+use Rattle.std.specs.List.{range_with_len}
 use Rattle.rbg_rules.specs.Expression.{AbstractAction, off, assignment, switch, positive, negative, Expression, act, skip, sequence, fail, choice, star}
 
 abbrev mutual
@@ -42,15 +43,10 @@ abbrev mutual
   positions_inside (negative x) = positions_of x
   positions_inside _ = []
 
--- first, first + 1, .., so many numbers
-abbrev pub count_from : (first many : ℕ) → List ℕ
-count_from first zero = []
-count_from first (suc many) = first ∷ count_from (suc first) many
-
 -- The actions are numbered from 1 in order of text, so each number occurs once. (Own: the
 -- paper tells occurrences apart without numbers.)
 pub record IsNumbered (x : Expression) : Type 0 where
-  pub in_order : positions_of x ≡ count_from 1 (length (positions_of x))
+  pub in_order : positions_of x ≡ range_with_len 1 (length (positions_of x))
 
 -- Modifiers are offs, assignments and switches: the actions that change more than the current vertex.
 abbrev pub is_modifier : AbstractAction → Bool

@@ -1,16 +1,16 @@
 -- What a question opens, and when it is heavy. (All of it is own: the paper sets no limits.)
 use Rattle.std.specs.Prelude.{◌≡◌, ℕ, ◌+◌, ◌⊎◌, ◌≢◌, List, [], ◌∷◌, ◌++◌, length, map, All, AllPairs, Bool, false}
-use Rattle.rbg_rules.specs.Positions.{IsSwitchAt, IsPatternAt, HasNoSwitch, Level, inside}
-use Rattle.rbg_rules.specs.Words.{WordOf, Start, beginning, after, Follows}
+use Rattle.rbg_rules.specs.Positions.{IsSwitchAt, IsPatternAt, HasNoSwitch, inside}
+use Rattle.rbg_rules.specs.Words.{Start, beginning, Follows, Ends}
 use Rattle.rbg_rules.specs.State.{AbstractGame, AbstractState}
 use Rattle.rbg_rules.specs.Moves.{RunPairs}
 
--- The kinds of question, asked of a semi-state and of where one stands in the rules: whether these pairs are a move; for some move;
--- for the moves (and whether the answer was cut, which matters only for what is forced); which modifiers are reached without one; whether a word of a pattern's inside runs.
+-- The kinds of question, asked of a semi-state and of where one stands in the rules: whether these pairs are a move; for some
+-- move; for the moves; which modifiers are reached without one; whether a word of a pattern's inside runs.
 pub data Question : Type 0 where
   try_move : List (ℕ × ℕ) → Question
   find_move : Question
-  list_moves : (cut : Bool) → Question
+  list_moves : Question
   reach : Question
   pattern : Question
 
@@ -37,25 +37,20 @@ pub record IsMove (game : AbstractGame) (s : AbstractState) (f : Start) (ps : Li
   pub follows : Follows game.rules f (before ++ last ∷ [])
   pub runs : RunPairs game (before ++ last ∷ []) s end ps
 
--- m is all that stands behind f in a word.
-abbrev pub Ends : AbstractGame → Start → List ℕ → Type 0
-Ends game (beginning level) m = WordOf game.rules level m
-Ends game (after i) m = (level : Level) × (u : List ℕ) × WordOf game.rules level (u ++ i ∷ m)
-
 -- Some word runs from s: a pattern's question is answered by yes (of a negative pattern that means that it is not valid).
 pub record SomeWordRuns (game : AbstractGame) (s : AbstractState) (f : Start) : Type 0 where
   pub word : List ℕ
   pub end : AbstractState
   pub pairs : List (ℕ × ℕ)
-  pub ends : Ends game f word
+  pub ends : Ends game.rules f word
   pub runs : RunPairs game word s end pairs
 
 -- Behind the modifiers ps, and without one more, stands an answer: a switch, or for a pattern the end of a word.
 abbrev pub AnswersBehind : AbstractGame → Question → AbstractState → Start → List (ℕ × ℕ) → Type 0
 AnswersBehind game find_move s f ps = (m : List ℕ) × (t : AbstractState) × (q : ℕ) × RunsOn game s f m t ps × Follows game.rules f (m ++ q ∷ []) × IsSwitchAt game.rules q
-AnswersBehind game pattern s f ps = (m : List ℕ) × (t : AbstractState) × RunsOn game s f m t ps × Ends game f m
+AnswersBehind game pattern s f ps = (m : List ℕ) × (t : AbstractState) × RunsOn game s f m t ps × Ends game.rules f m
 AnswersBehind game (try_move qs) s f ps = ⊥
-AnswersBehind game (list_moves cut) s f ps = ⊥
+AnswersBehind game list_moves s f ps = ⊥
 AnswersBehind game reach s f ps = ⊥
 
 -- ps is a list with something behind it: its first part.
@@ -67,15 +62,26 @@ IsProperPrefix ps whole = (more : List (ℕ × ℕ)) × (more ≢ []) × (whole 
 abbrev pub GoesTo : AbstractGame → Question → AbstractState → Start → List (ℕ × ℕ) → Type 0
 GoesTo game (try_move qs) s f ps = IsProperPrefix ps qs
 GoesTo game reach s f ps = ps ≡ []
-GoesTo game (list_moves cut) s f ps = Unit {0}
+GoesTo game list_moves s f ps = Unit {0}
 GoesTo game find_move s f ps = (qs : List (ℕ × ℕ)) → IsProperPrefix qs ps → ¬ AnswersBehind game find_move s f qs
 GoesTo game pattern s f ps = (qs : List (ℕ × ℕ)) → IsProperPrefix qs ps → ¬ AnswersBehind game pattern s f qs
 
 -- A list of items by which the question opens a semi-state. Either the modifiers of a run; or those, then a pattern that
 -- follows the run, asked at the vertex where it ended, then an opening of that pattern's own question.
 pub data Opening (game : AbstractGame) : Question → AbstractState → Start → List Item → Type 0 where
-  at : {question : Question} {s : AbstractState} {f : Start} {m : List ℕ} {t : AbstractState} {ps : List (ℕ × ℕ)} → RunsOn game s f m t ps → GoesTo game question s f ps → Opening game question s f (items_of ps)
-  behind : {question : Question} {s : AbstractState} {f : Start} {m : List ℕ} {t : AbstractState} {ps : List (ℕ × ℕ)} {p : ℕ} {more : List Item} → RunsOn game s f m t ps → GoesTo game question s f ps → Follows game.rules f (m ++ p ∷ []) → IsPatternAt game.rules p → Opening game pattern t (beginning (inside p)) more → Opening game question s f (items_of ps ++ pattern_at t.vertex p ∷ more)
+  at :
+      {question : Question} {s : AbstractState} {f : Start} {m : List ℕ} {t : AbstractState} {ps : List (ℕ × ℕ)} →
+      RunsOn game s f m t ps →
+      GoesTo game question s f ps →
+      Opening game question s f (items_of ps)
+  behind :
+      {question : Question} {s : AbstractState} {f : Start} {m : List ℕ} {t : AbstractState} {ps : List (ℕ × ℕ)} {p : ℕ} {more : List Item} →
+      RunsOn game s f m t ps →
+      GoesTo game question s f ps →
+      Follows game.rules f (m ++ p ∷ []) →
+      IsPatternAt game.rules p →
+      Opening game pattern t (beginning (inside p)) more →
+      Opening game question s f (items_of ps ++ pattern_at t.vertex p ∷ more)
 
 -- There are at least so many different openings.
 pub record HasOpenings (game : AbstractGame) (question : Question) (s : AbstractState) (f : Start) (many : ℕ) : Type 0 where
@@ -100,15 +106,44 @@ abbrev pub IsHeavy : AbstractGame → Question → AbstractState → Start → (
 IsHeavy game question s f openings modifiers = IsDeep game question s f modifiers ⊎ IsWide game question s f openings
 
 -- The list of modifiers ps is taken up whatever the order of search: the empty list; and where the answer needs all of them (it is
--- no, or isn't cut, or is a place) every list. Where `try_move` finds no place, none is, not even the empty one.
-abbrev pub IsForcedTo : AbstractGame → Question → AbstractState → Start → List (ℕ × ℕ) → Type 0
-IsForcedTo game (try_move qs) s f ps = IsMove game s f qs
-IsForcedTo game find_move s f ps = (ps ≡ []) ⊎ ((qs : List (ℕ × ℕ)) → ¬ IsMove game s f qs)
-IsForcedTo game (list_moves cut) s f ps = (ps ≡ []) ⊎ (cut ≡ false)
-IsForcedTo game reach s f ps = Unit {0}
-IsForcedTo game pattern s f ps = (ps ≡ []) ⊎ ¬ SomeWordRuns game s f
+-- no, or isn't cut, or is a place) every list. Where `try_move` finds no place, none is, not even the empty one. Only the moves
+-- of `list_moves` can be cut.
+abbrev pub IsForcedTo : AbstractGame → (cut : Bool) → Question → AbstractState → Start → List (ℕ × ℕ) → Type 0
+IsForcedTo game cut (try_move qs) s f ps = IsMove game s f qs
+IsForcedTo game cut find_move s f ps = (ps ≡ []) ⊎ ((qs : List (ℕ × ℕ)) → ¬ IsMove game s f qs)
+IsForcedTo game cut list_moves s f ps = (ps ≡ []) ⊎ (cut ≡ false)
+IsForcedTo game cut reach s f ps = Unit {0}
+IsForcedTo game cut pattern s f ps = (ps ≡ []) ⊎ ¬ SomeWordRuns game s f
 
--- An opening that every search which answers the question takes up.
-pub data Forced (game : AbstractGame) : Question → AbstractState → Start → List Item → Type 0 where
-  at : {question : Question} {s : AbstractState} {f : Start} {m : List ℕ} {t : AbstractState} {ps : List (ℕ × ℕ)} → RunsOn game s f m t ps → GoesTo game question s f ps → IsForcedTo game question s f ps → Forced game question s f (items_of ps)
-  behind : {question : Question} {s : AbstractState} {f : Start} {m : List ℕ} {t : AbstractState} {ps : List (ℕ × ℕ)} {p : ℕ} {more : List Item} → RunsOn game s f m t ps → GoesTo game question s f ps → IsForcedTo game question s f ps → Follows game.rules f (m ++ p ∷ []) → IsPatternAt game.rules p → Forced game pattern t (beginning (inside p)) more → Forced game question s f (items_of ps ++ pattern_at t.vertex p ∷ more)
+-- An opening that every search which answers the question takes up, where its answer is cut or not.
+pub data Forced (game : AbstractGame) (cut : Bool) : Question → AbstractState → Start → List Item → Type 0 where
+  at :
+      {question : Question} {s : AbstractState} {f : Start} {m : List ℕ} {t : AbstractState} {ps : List (ℕ × ℕ)} →
+      RunsOn game s f m t ps →
+      GoesTo game question s f ps →
+      IsForcedTo game cut question s f ps →
+      Forced game cut question s f (items_of ps)
+  behind :
+      {question : Question} {s : AbstractState} {f : Start} {m : List ℕ} {t : AbstractState} {ps : List (ℕ × ℕ)} {p : ℕ} {more : List Item} →
+      RunsOn game s f m t ps →
+      GoesTo game question s f ps →
+      IsForcedTo game cut question s f ps →
+      Follows game.rules f (m ++ p ∷ []) →
+      IsPatternAt game.rules p →
+      Forced game cut pattern t (beginning (inside p)) more →
+      Forced game cut question s f (items_of ps ++ pattern_at t.vertex p ∷ more)
+
+-- There are at least so many different forced openings.
+pub record HasForced (game : AbstractGame) (cut : Bool) (question : Question) (s : AbstractState) (f : Start) (many : ℕ) : Type 0 where
+  pub openings : List (List Item)
+  pub different : AllPairs (λ o o'. o ≢ o') openings
+  pub forced : All (Forced game cut question s f) openings
+  pub count : length openings ≡ many
+
+-- A forced opening has so many modifiers in a row, with no pattern between.
+pub record IsForcedDeep (game : AbstractGame) (cut : Bool) (question : Question) (s : AbstractState) (f : Start) (modifiers : ℕ) : Type 0 where
+  pub before : List Item
+  pub row : List (ℕ × ℕ)
+  pub later : List Item
+  pub forced : Forced game cut question s f (before ++ items_of row ++ later)
+  pub count : length row ≡ modifiers

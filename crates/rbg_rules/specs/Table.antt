@@ -7,7 +7,7 @@ use Rattle.rbg_rules.specs.declared.rule.Rule.TheOpen.{Rule-F}
 use Rattle.rbg_rules.specs.declared.rule.Rule.TheFolds.{fold-Rule}
 use Rattle.rbg_rules.specs.Expression.{AbstractAction, shift, on, off, assignment, comparison, switch, positive, negative, Expression}
 use Rattle.rbg_rules.specs.Positions.{HasAction}
-use Rattle.rbg_rules.specs.Translation.{arithmetic_of, relation_of}
+use Rattle.rbg_rules.specs.Translation.{arithmetic_of}
 
 -- The action of the program is this one, for a pattern with some inside.
 abbrev pub Shows : AbstractAction → Action → Type 0
@@ -15,7 +15,7 @@ Shows a (Shift d) = a ≡ shift d
 Shows a (On pieces) = a ≡ on pieces.items
 Shows a (Off x) = a ≡ off x
 Shows a (Assign v e) = a ≡ assignment v (arithmetic_of e)
-Shows a (Compare e r f) = a ≡ comparison (arithmetic_of e) (relation_of r) (arithmetic_of f)
+Shows a (Compare e r f) = a ≡ comparison (arithmetic_of e) r (arithmetic_of f)
 Shows a (Switch n) = a ≡ switch n
 Shows a Positive = (x : Expression) × (a ≡ positive x)
 Shows a Negative = (x : Expression) × (a ≡ negative x)
@@ -26,7 +26,7 @@ Stands rules p (Shift d) = HasAction rules p (shift d)
 Stands rules p (On pieces) = HasAction rules p (on pieces.items)
 Stands rules p (Off x) = HasAction rules p (off x)
 Stands rules p (Assign v e) = HasAction rules p (assignment v (arithmetic_of e))
-Stands rules p (Compare e r f) = HasAction rules p (comparison (arithmetic_of e) (relation_of r) (arithmetic_of f))
+Stands rules p (Compare e r f) = HasAction rules p (comparison (arithmetic_of e) r (arithmetic_of f))
 Stands rules p (Switch n) = HasAction rules p (switch n)
 Stands rules p Positive = (x : Expression) × HasAction rules p (positive x)
 Stands rules p Negative = (x : Expression) × HasAction rules p (negative x)

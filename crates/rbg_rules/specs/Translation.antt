@@ -7,15 +7,13 @@ use Rattle.rbg_rules.specs.declared.arithmetic.Arithmetic.TheFolds.{fold-Arithme
 use Rattle.rbg_rules.specs.declared.arithmetic.Operation.{Operation}
 use Rattle.rbg_rules.specs.declared.arithmetic.Operator.{Operator}
 use Rattle.rbg_rules.specs.declared.arithmetic.Operator.TheVariants.{Plus, Minus, Times, Over}
-use Rattle.rbg_rules.specs.declared.arithmetic.Relation.{Relation}
-use Rattle.rbg_rules.specs.declared.arithmetic.Relation.TheVariants.{Equal, Different, Less, AtMost, Greater, AtLeast}
 use Rattle.rbg_rules.specs.declared.rule.Action.{Action}
 use Rattle.rbg_rules.specs.declared.rule.Rule.{Rule}
 use Rattle.rbg_rules.specs.declared.rule.Rules.{Rules}
 use Rattle.rbg_rules.specs.declared.rule.Action.TheVariants.{Shift, On, Off, Assign, Compare, Switch, Positive, Negative}
 use Rattle.rbg_rules.specs.declared.rule.Rule.TheOpen.{Rule-F}
 use Rattle.rbg_rules.specs.declared.rule.Rule.TheFolds.{fold-Rule}
-use Rattle.rbg_rules.specs.Expression.{AbstractArithmetic, number, variable, piece_count, negated, sum, difference, product, quotient, AbstractRelation, equal, different, less, at_most, greater, at_least, AbstractAction, shift, on, off, assignment, comparison, switch, positive, negative, Expression, act, skip, fail, sequence_of, choice_of, star}
+use Rattle.rbg_rules.specs.Expression.{AbstractArithmetic, number, variable, piece_count, negated, sum, difference, product, quotient, AbstractAction, shift, on, off, assignment, comparison, switch, positive, negative, Expression, act, skip, fail, sequence_of, choice_of, star}
 
 abbrev pub operated : Operator → AbstractArithmetic → AbstractArithmetic → AbstractArithmetic
 operated Plus e f = sum e f
@@ -47,21 +45,13 @@ arithmetic_of e = fold-Arithmetic AbstractArithmetic Change arithmetic_step oper
 unfoldable pub operation_of : Operation → Change
 operation_of o = fold-Operation AbstractArithmetic Change arithmetic_step operation_step o
 
-abbrev pub relation_of : Relation → AbstractRelation
-relation_of Equal = equal
-relation_of Different = different
-relation_of Less = less
-relation_of AtMost = at_most
-relation_of Greater = greater
-relation_of AtLeast = at_least
-
 -- The action, where x is the inside of a pattern.
 abbrev pub action_of : Action → Expression → AbstractAction
 action_of (Shift d) x = shift d
 action_of (On pieces) x = on pieces.items
 action_of (Off p) x = off p
 action_of (Assign v e) x = assignment v (arithmetic_of e)
-action_of (Compare e r f) x = comparison (arithmetic_of e) (relation_of r) (arithmetic_of f)
+action_of (Compare e r f) x = comparison (arithmetic_of e) r (arithmetic_of f)
 action_of (Switch n) x = switch n
 action_of Positive x = positive x
 action_of Negative x = negative x

@@ -1,6 +1,8 @@
 -- What arithmetic is worth in a semi-state. (Own: the range of signed 64 bits, how division rounds, and where there is no value.)
 use Rattle.std.specs.Prelude.{◌≡◌, zero, ◌^◌, ◌-◌, ◌==◌, ◌&&◌, ℤ, pos, negsuc, ◌+ℤ◌, ◌-ℤ◌, ◌*ℤ◌, ◌<ℤ◌, ◌≤ℤ◌, int_le, int_div, slice_index, count_by, Option, Some, None, if◌then◌else◌, ◌≢◌}
-use Rattle.rbg_rules.specs.Expression.{AbstractArithmetic, number, variable, piece_count, negated, sum, difference, product, quotient, AbstractRelation, equal, different, less, at_most, greater, at_least}
+use Rattle.rbg_base.specs.declared.relation.Relation.{Relation}
+use Rattle.rbg_base.specs.declared.relation.Relation.TheVariants.{Equal, NotEqual, Less, LessOrEqual, Greater, GreaterOrEqual}
+use Rattle.rbg_rules.specs.Expression.{AbstractArithmetic, number, variable, piece_count, negated, sum, difference, product, quotient}
 use Rattle.rbg_rules.specs.State.{AbstractState}
 
 -- z itself if it is a signed number of 64 bits, from -2^63 to 2^63 - 1, and else no value
@@ -31,10 +33,10 @@ value_of (product e f) s = on_values (λ x y. if_fits (x *ℤ y)) (value_of e s)
 value_of (quotient e f) s = on_values divided (value_of e s) (value_of f s)
 
 -- x and y stand in the relation
-abbrev pub Relates : AbstractRelation → ℤ → ℤ → Type 0
-Relates equal x y = x ≡ y
-Relates different x y = x ≢ y
-Relates less x y = x <ℤ y
-Relates at_most x y = x ≤ℤ y
-Relates greater x y = y <ℤ x
-Relates at_least x y = y ≤ℤ x
+abbrev pub Relates : Relation → ℤ → ℤ → Type 0
+Relates Equal x y = x ≡ y
+Relates NotEqual x y = x ≢ y
+Relates Less x y = x <ℤ y
+Relates LessOrEqual x y = x ≤ℤ y
+Relates Greater x y = y <ℤ x
+Relates GreaterOrEqual x y = y ≤ℤ x

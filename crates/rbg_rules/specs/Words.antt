@@ -34,3 +34,9 @@ pub data Start : Type 0 where
 abbrev pub Follows : Expression → Start → List ℕ → Type 0
 Follows rules (beginning level) m = (z : List ℕ) × WordOf rules level (m ++ z)
 Follows rules (after i) m = (level : Level) × (u : List ℕ) × (z : List ℕ) × WordOf rules level (u ++ i ∷ (m ++ z))
+
+-- m is all that stands behind there in a word: a whole word of a level, or what follows position i to the end of a word. A word
+-- may end at position i where `Ends rules (after i) []`.
+abbrev pub Ends : Expression → Start → List ℕ → Type 0
+Ends rules (beginning level) m = WordOf rules level m
+Ends rules (after i) m = (level : Level) × (u : List ℕ) × WordOf rules level (u ++ i ∷ m)

@@ -1,13 +1,15 @@
 //! Arithmetic over whole numbers, variables and counts of pieces.
 
+use rbg_base::{Piece, Variable};
+
 /// Operations of one rank form a list, so the depth of an expression is that of its brackets.
 #[cycle(arithmetic)]
 #[derive(Debug, Drop)]
 pub enum Arithmetic {
     Number(u64),
-    Variable(u16),
+    Variable(Variable),
     /// The number of vertices that hold the piece.
-    PieceCount(u16),
+    PieceCount(Piece),
     Negated(Box<Arithmetic>),
     /// A sum or a product: the operations are taken from the left.
     Chain {
@@ -30,15 +32,4 @@ pub enum Operator {
     Minus,
     Times,
     Over,
-}
-
-/// The relation of a comparison.
-#[derive(Clone, Copy, Debug, PartialEq, Eq)]
-pub enum Relation {
-    Equal,
-    Different,
-    Less,
-    AtMost,
-    Greater,
-    AtLeast,
 }

@@ -4,9 +4,10 @@ ghost use Rattle.rbg_rules.specs.Games.{IsGame};
 ghost use Rattle.rbg_rules.specs.Table.{Stands};
 ghost use Rattle.rbg_rules.specs.Translation.{rules_of};
 ghost use Rattle.rbg_rules.specs.Positions.{positions_of, IsPatternAt};
-ghost use Rattle.rbg_rules.specs.Names.{texts};
+ghost use Rattle.rbg_rules.specs.Texts.{texts};
 
 use crate::rule::{Action, Rules};
+use rbg_base::{Player, Position, Variable};
 use rbg_board::Board;
 use std::marker::Model;
 
@@ -44,7 +45,7 @@ impl Model for Game {
 
     ghost coded = { coded_game };
 
-    ghost use Rattle.rbg_rules.specs.Names.{texts};
+    ghost use Rattle.rbg_rules.specs.Texts.{texts};
     ghost use Rattle.rbg_rules.specs.Translation.{rules_of};
 
     ghost view = { λ g. record { players = texts g.players.items; pieces = texts g.pieces.items; variables = texts g.variables.items; bounds = g.bounds.items; directions = texts g.directions.items; board = g.board; rules = rules_of g.rules } };
@@ -83,7 +84,7 @@ impl Game {
     }
 
     /// The name of a player.
-    pub fn player_name(&self, player: u16) -> &str
+    pub fn player_name(&self, player: Player) -> &str
         requires from_one { 0 < player }
         requires there { player ≤ length self.now.players }
         ensures { slice_get self.now.players (player - 1) ≡ Some result.now }
@@ -108,7 +109,7 @@ impl Game {
     }
 
     /// The greatest value of a variable.
-    pub fn bound(&self, variable: u16) -> u32
+    pub fn bound(&self, variable: Variable) -> u32
         requires { variable < length self.now.variables }
         ensures { slice_get self.now.bounds variable ≡ Some result }
     {
@@ -139,7 +140,7 @@ impl Game {
     }
 
     /// The action at a position.
-    pub fn action(&self, position: u32) -> &Action
+    pub fn action(&self, position: Position) -> &Action
         requires from_one { 0 < position }
         requires there { position ≤ length (positions_of self.now.rules) }
         ensures { Stands self.now.rules position result.now }
@@ -148,7 +149,7 @@ impl Game {
     }
 
     /// Whether a pattern stands at a position.
-    pub fn is_pattern(&self, position: u32) -> bool
+    pub fn is_pattern(&self, position: Position) -> bool
         requires from_one { 0 < position }
         requires there { position ≤ length (positions_of self.now.rules) }
         ensures { IsTrue result ↔ IsPatternAt self.now.rules position }

@@ -1,5 +1,5 @@
 //! Laws of the definitions of a game's meaning. Each function does nothing: its contract is the law.
-ghost use Rattle.rbg_rules.specs.Laws.{SequenceLaw, SumLaw, StarLaw, OneLevelLaw, SomeLevelLaw, PairsLaw, OwnWordLaw, RunLaw, OneRunLaw, PatternLaw, PositiveLaw, NegativeLaw, MoveLaw, OnePlaceLaw, StateLaw, WordLaw};
+ghost use Rattle.rbg_rules.specs.Laws.{SequenceLaw, SumLaw, StarLaw, OneLevelLaw, SomeLevelLaw, PairsLaw, OwnWordLaw, RunLaw, OneRunLaw, PatternLaw, PositiveLaw, NegativeLaw, MoveLaw, OnePlaceLaw, StateLaw, WordLaw, TrimLaw, EmptyLaw, AnswerLaw, PairsStateLaw};
 
 /// The words of a sequence are the joins of one word of each part in order.
 pub fn words_of_sequence()
@@ -79,4 +79,24 @@ pub fn actions_stay_in_the_game()
 /// An expression in which no sum is empty has a word.
 pub fn rules_have_words()
     ensures { WordLaw }
+{}
+
+/// Where no sum is empty, each own action of an expression stands in some word of it.
+pub fn actions_stand_in_words()
+    ensures { TrimLaw }
+{}
+
+/// Where no sum is empty, the empty list follows from everywhere.
+pub fn empty_list_follows()
+    ensures { EmptyLaw }
+{}
+
+/// A pattern is valid by the answer of its question: whether some word of its inside runs.
+pub fn pattern_answers()
+    ensures { AnswerLaw }
+{}
+
+/// Two runs from one semi-state with the same pairs end alike but for the current vertex, and the pairs alone lead there.
+pub fn pairs_fix_the_state()
+    ensures { PairsStateLaw }
 {}

@@ -7,6 +7,7 @@ pub mod laws;
 pub mod limits;
 pub mod rule;
 
-pub use arithmetic::{Arithmetic, Operation, Operator, Relation};
+pub use arithmetic::{Arithmetic, Operation, Operator};
 pub use game::{Game, Parts};
+pub use rbg_base::Relation;
 pub use rule::{Action, Rule, Rules};

@@ -2,16 +2,20 @@
 ghost use Rattle.std.specs.Prelude.{◌≡◌};
 ghost use Rattle.rbg_rules.specs.Translation.{shows_pattern};
 
-use crate::arithmetic::{Arithmetic, Relation};
+use crate::arithmetic::Arithmetic;
+use rbg_base::{Direction, Piece, Player, Position, Relation, Variable};
 
 /// A regular expression over positions.
 #[cycle(rule)]
 #[derive(Debug, Drop)]
 pub enum Rule {
     /// The action at this position, which isn't a pattern.
-    Act(u32),
+    Act(Position),
     /// The pattern at this position, with its inside. The action at the position says whether it is positive or negative.
-    Pattern { position: u32, inside: Box<Rule> },
+    Pattern {
+        position: Position,
+        inside: Box<Rule>,
+    },
     /// One part after the other.
     Then(Vec<Rule>),
     /// One of the parts.
@@ -24,16 +28,16 @@ pub enum Rule {
 #[derive(Debug, Drop)]
 pub enum Action {
     Shift {
-        direction: u16,
+        direction: Direction,
     },
     On {
-        pieces: Vec<u16>,
+        pieces: Vec<Piece>,
     },
     Off {
-        piece: u16,
+        piece: Piece,
     },
     Assign {
-        variable: u16,
+        variable: Variable,
         value: Arithmetic,
     },
     Compare {
@@ -42,7 +46,7 @@ pub enum Action {
         right: Arithmetic,
     },
     Switch {
-        player: u16,
+        player: Player,
     },
     /// The positive pattern: some word of its inside runs.
     Positive,

@@ -1,12 +1,14 @@
 -- What is answered of an action.
-use Rattle.std.specs.Prelude.{◌≡◌}
+use Rattle.std.specs.Prelude.{◌≡◌, ◌⊎◌}
 use Rattle.rbg_rules.specs.Expression.{AbstractAction}
 use Rattle.rbg_rules.specs.State.{AbstractGame, AbstractState}
 use Rattle.rbg_rules.specs.Actions.{Acts}
+use Rattle.rbg_state.specs.History.{History, changed_to}
 use Rattle.rbg_state.specs.declared.state.actions.Applied.{Applied}
 use Rattle.rbg_state.specs.declared.state.actions.Applied.TheVariants.{Valid, Invalid}
 
--- Valid, and the action takes s to t; or Invalid, the action takes s nowhere, and t is s.
-abbrev pub Answers : AbstractGame → AbstractAction → AbstractState → AbstractState → Applied → Type 0
-Answers game a s t Valid = Acts game a s t
-Answers game a s t Invalid = ((u : AbstractState) → ¬ Acts game a s u) × (t ≡ s)
+-- Valid: the action takes the state of h to that of k, by at most one change.
+-- Invalid: the action takes the state of h nowhere, and k is h.
+abbrev pub Answers : AbstractGame → AbstractAction → History → History → Applied → Type 0
+Answers game a h k Valid = Acts game a h.state k.state × ((k ≡ h) ⊎ (k ≡ changed_to h k.state))
+Answers game a h k Invalid = ((u : AbstractState) → ¬ Acts game a h.state u) × (k ≡ h)

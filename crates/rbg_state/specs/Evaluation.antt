@@ -16,4 +16,5 @@ result_of Over x y = divided x y
 
 -- the value after the operations, if the one before them is a value and each has a result
 unfoldable pub value_after : AbstractState → Option ℤ → List Operation → Option ℤ
-value_after s value operations = fold (λ x o. on_values (result_of o.operator) x (value_of (arithmetic_of o.operand) s)) value operations
+value_after s value operations =
+    fold (λ x o. on_values (result_of o.operator) x (value_of (arithmetic_of o.operand) s)) value operations

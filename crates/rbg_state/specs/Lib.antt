@@ -1,4 +1,8 @@
--- What the contracts of this crate's own functions cite beside the meaning of a game.
+-- What the contracts of this crate cite beside the meaning of a game.
+pub mod History
+pub mod Changes
+pub mod Tallies
+pub mod Equality
 pub mod Answer
 pub mod Reads
 pub mod Evaluation

@@ -1,14 +1,15 @@
 -- Which variables arithmetic reads.
 use Rattle.std.specs.Prelude.{ℕ, ◌<◌}
-use Rattle.rbg_rules.specs.Expression.{AbstractArithmetic, number, variable, piece_count, negated, sum, difference, product, quotient}
+use Rattle.rbg_rules.specs.Expression.{AbstractArithmetic, number, variable, piece_count, negated}
+use Rattle.rbg_rules.specs.Expression.{sum, difference, product, quotient}
 
--- every variable that the expression reads is one of the first so many
+-- each variable that the expression reads has a number below this one
 abbrev pub ReadsBelow : ℕ → AbstractArithmetic → Type 0
-ReadsBelow many (number n) = Unit {0}
-ReadsBelow many (variable v) = v < many
-ReadsBelow many (piece_count p) = Unit {0}
-ReadsBelow many (negated e) = ReadsBelow many e
-ReadsBelow many (sum e f) = ReadsBelow many e × ReadsBelow many f
-ReadsBelow many (difference e f) = ReadsBelow many e × ReadsBelow many f
-ReadsBelow many (product e f) = ReadsBelow many e × ReadsBelow many f
-ReadsBelow many (quotient e f) = ReadsBelow many e × ReadsBelow many f
+ReadsBelow limit (number n) = Unit {0}
+ReadsBelow limit (variable v) = v < limit
+ReadsBelow limit (piece_count p) = Unit {0}
+ReadsBelow limit (negated e) = ReadsBelow limit e
+ReadsBelow limit (sum e f) = ReadsBelow limit e × ReadsBelow limit f
+ReadsBelow limit (difference e f) = ReadsBelow limit e × ReadsBelow limit f
+ReadsBelow limit (product e f) = ReadsBelow limit e × ReadsBelow limit f
+ReadsBelow limit (quotient e f) = ReadsBelow limit e × ReadsBelow limit f

@@ -1,8 +1,11 @@
-//! Semi-states of a game of Regular Boardgames, and what its actions do to them.
+//! Semi-states of a game of Regular Boardgames, which change in place, and what its actions do to them.
 #![tactic(auto)]
 
-mod error;
+mod change;
+mod occupancy;
+mod parts;
 mod state;
 
-pub use error::Memory;
+pub use change::Mark;
+pub use rbg_base::Memory;
 pub use state::{Applied, SemiState};

@@ -1,127 +1,200 @@
-//! A semi-state: who is to act, what stands on each vertex, what each variable holds, and the current vertex.
-ghost use Rattle.std.specs.Prelude.{◌≡◌, ℕ, ◌+◌, ◌-◌, ◌<◌, ◌≤◌, ◌==◌, length, count_by, slice_get, IfOk};
+//! A semi-state: who is to act, what stands on each vertex, what each variable holds, and the current
+//! vertex. It changes in place and keeps a list of its changes, so that they can be taken back.
+ghost use Rattle.std.specs.Prelude.{◌≡◌, ℕ, ◌+◌, ◌-◌, ◌<◌, ◌≤◌, ◌==◌, [], length, take, count_by, slice_get, Some, IfOk, OnOk, OnErr};
 ghost use Rattle.rbg_rules.specs.State.{AbstractGame, start_of, IsStateOf};
+ghost use Rattle.rbg_state.specs.History.{History, states_of, capacity_of, changed_to, IsAfter};
+ghost use Rattle.rbg_state.specs.Changes.{set, IsChangeWithin};
 
 mod actions;
 mod arithmetic;
-#[cfg(test)]
-mod tests;
 
-use crate::error::Memory;
+use crate::change::{Change, Mark};
+use crate::parts::Parts;
 pub use actions::Applied;
-use rbg_board::Board;
+use rbg_base::{Memory, Piece, Player, Variable, Vertex};
 use rbg_rules::Game;
 use std::alloc::Global;
 use std::marker::Model;
 
-/// A semi-state of a game.
+/// A semi-state of a game. Two of them are equal if they have the same player, vertex, pieces and
+/// values, whatever their changes are.
 #[derive(Debug, Drop)]
 pub struct SemiState {
-    player: u16,
-    vertex: u16,
-    /// The piece on each vertex.
-    pieces: Vec<u16>,
-    /// The value of each variable.
-    values: Vec<u32>,
+    parts: Parts,
+    /// The changes that lead back, the latest change last.
+    changes: Vec<Change>,
 }
 
 impl Model for SemiState {
-    ghost use Rattle.rbg_rules.specs.State.{AbstractState};
+    ghost use Rattle.std.specs.Prelude.{◌-◌, length, All, vec_len, vec_capacity};
+    ghost use Rattle.rbg_state.specs.History.{History};
 
-    ghost Value = { AbstractState };
+    ghost Value = { History };
 
-    ghost view = { λ s. record { player = s.player; pieces = s.pieces.items; values = s.values.items; vertex = s.vertex } };
+    ghost use Rattle.rbg_state.specs.Changes.{history_of, IsChangeWithin};
+
+    ghost view = { λ s. history_of s.parts s.changes.items (vec_capacity s.changes - vec_len s.changes) };
+
+    ghost invariant = { λ s. All (IsChangeWithin (length s.parts.pieces) (length s.parts.values)) s.changes.items };
 }
 
 impl SemiState {
-    /// The semi-state in which play of a game begins.
+    /// The semi-state in which play of a game begins, with no change to take back.
     pub fn start(alloc: Global, game: &Game) -> Result<SemiState, Memory>
-        ensures start { IfOk result (λ start. start ≡ start_of game.now) }
-        ensures fits { IfOk result (IsStateOf game.now) }
+        ensures start { IfOk result (λ start. start.state ≡ start_of game.now) }
+        ensures past { IfOk result (λ start. start.past ≡ []) }
+        ensures fits { IfOk result (λ start. IsStateOf game.now start.state) }
     {
         Ok(SemiState {
-            player: 0,
-            vertex: 0,
-            pieces: first_pieces(alloc, game.board())?,
-            values: vec![in alloc; 0; game.variables()]?,
+            parts: Parts::start(alloc, game)?,
+            changes: Vec::new(alloc),
         })
     }
 
-    /// A copy, which shares no memory with its source.
+    /// A copy, which shares no memory with its source. It has no change to take back.
     pub fn try_clone(&self) -> Result<SemiState, Memory>
-        ensures { IfOk result (λ copy. copy ≡ self.now) }
+        ensures state { IfOk result (λ copy. copy.state ≡ self.now.state) }
+        ensures past { IfOk result (λ copy. copy.past ≡ []) }
     {
         Ok(SemiState {
-            player: self.player,
-            vertex: self.vertex,
-            pieces: self.pieces.clone()?,
-            values: self.values.clone()?,
+            parts: self.parts.try_clone()?,
+            changes: Vec::new(*self.changes.allocator()),
         })
     }
 
     /// The current player, from 1; 0 is the keeper.
-    pub fn player(&self) -> u16
-        ensures { result ≡ self.now.player }
+    pub fn player(&self) -> Player
+        ensures { result ≡ self.now.state.player }
     {
-        self.player
+        self.parts.player()
     }
 
     /// The current vertex.
-    pub fn vertex(&self) -> u16
-        ensures { result ≡ self.now.vertex }
+    pub fn vertex(&self) -> Vertex
+        ensures { result ≡ self.now.state.vertex }
     {
-        self.vertex
+        self.parts.vertex()
     }
 
     /// The piece that stands on a vertex.
-    pub fn piece(&self, vertex: u16) -> u16
-        requires { vertex < length self.now.pieces }
-        ensures { slice_get self.now.pieces vertex ≡ Some result }
+    pub fn piece(&self, vertex: Vertex) -> Piece
+        requires { vertex < length self.now.state.pieces }
+        ensures { slice_get self.now.state.pieces vertex ≡ Some result }
     {
-        self.pieces[vertex as usize]
+        self.parts.piece(vertex)
     }
 
     /// What a variable holds.
-    pub fn value(&self, variable: u16) -> u32
-        requires { variable < length self.now.values }
-        ensures { slice_get self.now.values variable ≡ Some result }
+    pub fn value(&self, variable: Variable) -> u32
+        requires { variable < length self.now.state.values }
+        ensures { slice_get self.now.state.values variable ≡ Some result }
     {
-        self.values[variable as usize]
+        self.parts.value(variable)
     }
 
     /// How many vertices hold a piece.
-    pub fn count(&self, piece: u16) -> usize
-        ensures { result ≡ count_by (λ x. x == piece) self.now.pieces }
+    pub fn count(&self, piece: Piece) -> usize
+        ensures { result ≡ count_by (λ x. x == piece) self.now.state.pieces }
     {
-        self.pieces.iter().filter(|held| **held == piece).count()
+        self.parts.count(piece)
     }
 
     /// What a player has scored. Players are numbered from 1.
-    pub fn score(&self, player: u16) -> u32
+    pub fn score(&self, player: Player) -> u32
         requires from_one { 0 < player }
-        requires there { player ≤ length self.now.values }
-        ensures { slice_get self.now.values (player - 1) ≡ Some result }
+        requires there { player ≤ length self.now.state.values }
+        ensures { slice_get self.now.state.values (player - 1) ≡ Some result }
     {
-        self.values[player as usize - 1]
+        self.parts.value(player - 1)
     }
 
-    /// Makes a vertex of the board the current one.
-    pub fn stand_at(&mut self, vertex: u16)
-        requires { vertex < length self.old.pieces }
-        ensures moved { self.new ≡ record self.old { vertex = vertex } }
-        ensures fits { (game : AbstractGame) → IsStateOf game self.old → IsStateOf game self.new }
+    /// How many changes the list of changes still takes.
+    pub fn room(&self) -> usize
+        ensures { result ≡ self.now.room }
     {
-        self.vertex = vertex;
+        self.changes.capacity() - self.changes.len()
+    }
+
+    /// Makes room for this many changes. If memory is refused, nothing changes.
+    pub fn reserve(&mut self, changes: usize) -> Result<(), Memory>
+        ensures kept { self.new ≡ record self.old { room = self.new.room } }
+        ensures room { OnOk result (changes ≤ self.new.room) }
+        ensures no_less { self.old.room ≤ self.new.room }
+        ensures refused { OnErr result (self.new ≡ self.old) }
+    {
+        self.changes.reserve(changes)
+    }
+
+    /// The name of the present state.
+    pub fn mark(&self) -> Mark
+        ensures { result ≡ length self.now.past }
+    {
+        Mark::after(self.changes.len())
+    }
+
+    /// Takes back every change since a mark. The mark is one of this semi-state that was not undone
+    /// since.
+    pub fn undo_to(&mut self, mark: Mark)
+        requires { mark ≤ length self.old.past }
+        ensures state { slice_get (states_of self.old) mark ≡ Some self.new.state }
+        ensures past { self.new.past ≡ take mark self.old.past }
+        ensures capacity { capacity_of self.new ≡ capacity_of self.old }
+        // What was marked is given back, whatever was done since.
+        ensures given_back { (marked : History) → mark ≡ length marked.past → IsAfter marked self.old
+            → self.new ≡ record marked { room = self.new.room } }
+    {
+        while self.mark().changes() > mark.changes() {
+            self.undo();
+        }
+    }
+
+    /// Takes the latest change back.
+    fn undo(&mut self)
+        requires { 0 < length self.old.past }
+        ensures states { states_of self.new ≡ self.old.past }
+        ensures capacity { capacity_of self.new ≡ capacity_of self.old }
+    {
+        let change = self.changes.take_last();
+        self.parts.set(change);
+    }
+
+    /// Makes a change, and writes it to the list.
+    fn change(&mut self, change: Change)
+        requires room { 0 < self.old.room }
+        requires within { IsChangeWithin (length self.old.state.pieces) (length self.old.state.values) change }
+        ensures { self.new ≡ changed_to self.old (set change self.old.state) }
+    {
+        let back = self.parts.set(change);
+        self.changes.push_reserved(back);
+    }
+
+    /// Makes a vertex of the board the current one. This is a change, which `undo_to` takes back.
+    pub fn stand_at(&mut self, vertex: Vertex)
+        requires room { 0 < self.old.room }
+        requires there { vertex < length self.old.state.pieces }
+        ensures moved { self.new ≡ changed_to self.old (record self.old.state { vertex = vertex }) }
+        ensures after { IsAfter self.old self.new }
+        ensures capacity { capacity_of self.new ≡ capacity_of self.old }
+        ensures fits { (game : AbstractGame) → IsStateOf game self.old.state → IsStateOf game self.new.state }
+    {
+        self.change(Change::Vertex(vertex));
     }
 }
 
-/// The pieces that stand on a board's vertices when play begins.
-fn first_pieces(alloc: Global, board: &Board) -> Result<Vec<u16>, Memory>
-    ensures { IfOk result (λ pieces. pieces.items ≡ board.now.first) }
-{
-    let mut pieces = Vec::with_capacity(alloc, board.len())?;
-    for vertex in 0..board.len() {
-        pieces.push(board.piece_at_start(vertex as u16))?;
+impl PartialEq for SemiState {
+    ghost use Rattle.rbg_state.specs.Equality.{is_same_present, same_present_laws};
+
+    ghost eq = { is_same_present };
+
+    ghost laws = { same_present_laws };
+
+    fn eq(&self, other: &SemiState) -> bool {
+        self.parts == other.parts
     }
-    Ok(pieces)
+}
+
+impl Eq for SemiState {
+    ghost use Rattle.rbg_state.specs.Equality.{same_present_equiv};
+
+    ghost laws = { same_present_equiv };
 }

@@ -1,18 +1,22 @@
 //! What the actions of a game do to a semi-state.
-ghost use Rattle.std.specs.Prelude.{◌≡◌, ℕ, ◌<◌, ◌≤◌, ◌↔◌, false, length, slice_index, IsTrue};
+ghost use Rattle.std.specs.Prelude.{◌≡◌, ℕ, ◌+◌, ◌<◌, ◌≤◌, ◌↔◌, false, length, slice_index, IsTrue};
 ghost use Rattle.rbg_rules.specs.Expression.{AbstractAction, shift, on, off, assignment, comparison, switch};
 ghost use Rattle.rbg_rules.specs.State.{AbstractGame, AbstractState, IsStateOf};
 ghost use Rattle.rbg_rules.specs.Positions.{positions_of, IsPatternAt};
 ghost use Rattle.rbg_rules.specs.Actions.{Applies};
 ghost use Rattle.rbg_rules.specs.Values.{Relates};
 ghost use Rattle.rbg_rules.specs.Games.{IsGame, IsActionOf};
-ghost use Rattle.rbg_rules.specs.Translation.{arithmetic_of, relation_of};
-ghost use Rattle.rbg_rules.specs.Instructions.{Shows, shows_pattern};
+ghost use Rattle.rbg_rules.specs.Limits.{most_pieces};
+ghost use Rattle.rbg_rules.specs.Translation.{arithmetic_of, shows_pattern};
+ghost use Rattle.rbg_rules.specs.Table.{Shows};
+ghost use Rattle.rbg_state.specs.History.{capacity_of, IsAfter};
 ghost use Rattle.rbg_state.specs.Reads.{ReadsBelow};
 
 use super::SemiState;
+use crate::change::Change;
+use rbg_base::{Direction, Piece, Player, Position, Relation, Variable};
 use rbg_board::Board;
-use rbg_rules::{Arithmetic, Game, Instruction, Relation};
+use rbg_rules::{Action, Arithmetic, Game};
 
 /// Whether an action could be applied.
 #[derive(Clone, Copy, Debug, PartialEq, Eq)]
@@ -24,55 +28,63 @@ pub enum Applied {
 impl SemiState {
     ghost use Rattle.rbg_state.specs.Answer.{Answers};
 
-    /// Applies the action at a position of the game. An action that is not valid changes nothing.
-    pub fn apply(&mut self, game: &Game, position: u32) -> Applied
-        requires fits { IsStateOf game.now self.old }
+    /// Applies the action at a position of the game. An action that is not valid changes nothing. A
+    /// valid one makes at most one change, which `undo_to` takes back.
+    pub fn apply(&mut self, game: &Game, position: Position) -> Applied
+        requires fits { IsStateOf game.now self.old.state }
         requires from_one { 0 < position }
         requires there { position ≤ length (positions_of game.now.rules) }
         requires no_pattern { ¬ IsPatternAt game.now.rules position }
-        ensures valid { result ≡ Applied.Valid → Applies game.now position self.old self.new }
-        ensures only { (t : AbstractState) → Applies game.now position self.old t → t ≡ self.new }
-        ensures invalid { result ≡ Applied.Invalid → (t : AbstractState) → ¬ Applies game.now position self.old t }
+        requires room { 0 < self.old.room }
+        ensures valid { result ≡ Applied.Valid → Applies game.now position self.old.state self.new.state }
+        ensures only { (t : AbstractState) → Applies game.now position self.old.state t → t ≡ self.new.state }
+        ensures invalid { result ≡ Applied.Invalid → (t : AbstractState) → ¬ Applies game.now position self.old.state t }
         ensures unchanged { result ≡ Applied.Invalid → self.new ≡ self.old }
-        ensures fits { IsStateOf game.now self.new }
+        ensures fits { IsStateOf game.now self.new.state }
+        ensures after { IsAfter self.old self.new }
+        ensures capacity { capacity_of self.new ≡ capacity_of self.old }
+        ensures room { self.old.room ≤ self.new.room + 1 }
     {
         self.act(game, game.board(), game.action(position))
     }
 
-    /// Does what an instruction says.
-    fn act(&mut self, game: &Game, board: &Board, instruction: &Instruction) -> Applied
+    /// Does what an action says.
+    fn act(&mut self, game: &Game, board: &Board, action: &Action) -> Applied
         requires lawful { IsGame game.now }
         requires board { board.now ≡ game.now.board }
-        requires fits { IsStateOf game.now self.old }
-        requires named { (a : AbstractAction) → Shows a instruction.now → IsActionOf game.now a }
-        requires no_pattern { shows_pattern instruction.now ≡ false }
-        ensures { (a : AbstractAction) → Shows a instruction.now → Answers game.now a self.old self.new result }
+        requires fits { IsStateOf game.now self.old.state }
+        requires named { (a : AbstractAction) → Shows a action.now → IsActionOf game.now a }
+        requires no_pattern { shows_pattern action.now ≡ false }
+        requires room { 0 < self.old.room }
+        ensures { (a : AbstractAction) → Shows a action.now → Answers game.now a self.old self.new result }
     {
-        match instruction {
-            Instruction::Shift { direction } => self.shift(board, *direction),
-            Instruction::On { pieces } => self.on(pieces),
-            Instruction::Off { piece } => self.off(*piece),
-            Instruction::Assign { variable, value } => {
+        match action {
+            Action::Shift { direction } => self.shift(board, *direction),
+            Action::On { pieces } => self.on(pieces),
+            Action::Off { piece } => self.off(*piece),
+            Action::Assign { variable, value } => {
                 self.assign(*variable, value, game.bound(*variable))
             }
-            Instruction::Compare {
+            Action::Compare {
                 left,
                 relation,
                 right,
             } => self.compare(left, *relation, right),
-            Instruction::Switch { player } => self.switch(*player),
-            Instruction::Positive | Instruction::Negative => unreachable!(),
+            Action::Switch { player } => self.switch(*player),
+            Action::Positive | Action::Negative => unreachable!(),
         }
     }
 
     /// Moves along the edge of the current vertex in a direction.
-    fn shift(&mut self, board: &Board, direction: u16) -> Applied
-        requires { self.old.vertex < length board.now.first }
-        ensures { (game : AbstractGame) → game.board ≡ board.now → Answers game (shift direction) self.old self.new result }
+    fn shift(&mut self, board: &Board, direction: Direction) -> Applied
+        requires vertex { self.old.state.vertex < length board.now.first }
+        requires room { 0 < self.old.room }
+        ensures { (game : AbstractGame) → game.board ≡ board.now
+            → Answers game (shift direction) self.old self.new result }
     {
-        match board.step(self.vertex, direction) {
+        match board.step(self.vertex(), direction) {
             Some(vertex) => {
-                self.vertex = vertex;
+                self.change(Change::Vertex(vertex));
                 Applied::Valid
             }
             None => Applied::Invalid,
@@ -80,11 +92,11 @@ impl SemiState {
     }
 
     /// Tests whether the piece on the current vertex is one of these.
-    fn on(&self, pieces: &[u16]) -> Applied
-        requires { self.now.vertex < length self.now.pieces }
+    fn on(&self, pieces: &[Piece]) -> Applied
+        requires { self.now.state.vertex < length self.now.state.pieces }
         ensures { (game : AbstractGame) → Answers game (on pieces.now) self.now self.now result }
     {
-        if pieces.contains(&self.pieces[self.vertex as usize]) {
+        if pieces.contains(&self.piece(self.vertex())) {
             Applied::Valid
         } else {
             Applied::Invalid
@@ -92,18 +104,22 @@ impl SemiState {
     }
 
     /// Puts a piece on the current vertex.
-    fn off(&mut self, piece: u16) -> Applied
-        requires { self.old.vertex < length self.old.pieces }
+    fn off(&mut self, piece: Piece) -> Applied
+        requires vertex { self.old.state.vertex < length self.old.state.pieces }
+        requires piece { piece < most_pieces }
+        requires room { 0 < self.old.room }
         ensures { (game : AbstractGame) → Answers game (off piece) self.old self.new result }
     {
-        self.pieces[self.vertex as usize] = piece;
+        let vertex = self.vertex();
+        self.change(Change::Piece { vertex, piece });
         Applied::Valid
     }
 
     /// Gives a variable the value of an expression, if there is one that the variable may hold.
-    fn assign(&mut self, variable: u16, expression: &Arithmetic, bound: u32) -> Applied
-        requires variable { variable < length self.old.values }
-        requires reads { ReadsBelow (length self.old.values) (arithmetic_of expression.now) }
+    fn assign(&mut self, variable: Variable, expression: &Arithmetic, bound: u32) -> Applied
+        requires variable { variable < length self.old.state.values }
+        requires reads { ReadsBelow (length self.old.state.values) (arithmetic_of expression.now) }
+        requires room { 0 < self.old.room }
         ensures { (game : AbstractGame) → slice_index game.bounds variable ≡ bound
             → Answers game (assignment variable (arithmetic_of expression.now)) self.old self.new result }
     {
@@ -113,16 +129,20 @@ impl SemiState {
         if value < 0 || value > i64::from(bound) {
             return Applied::Invalid;
         }
-        self.values[variable as usize] = value as u32;
+        self.change(Change::Value {
+            variable,
+            value: value as u32,
+        });
         Applied::Valid
     }
 
     /// Tests whether two expressions have values that stand in a relation.
     fn compare(&self, left: &Arithmetic, relation: Relation, right: &Arithmetic) -> Applied
-        requires left { ReadsBelow (length self.now.values) (arithmetic_of left.now) }
-        requires right { ReadsBelow (length self.now.values) (arithmetic_of right.now) }
+        requires left { ReadsBelow (length self.now.state.values) (arithmetic_of left.now) }
+        requires right { ReadsBelow (length self.now.state.values) (arithmetic_of right.now) }
         ensures { (game : AbstractGame)
-            → Answers game (comparison (arithmetic_of left.now) (relation_of relation) (arithmetic_of right.now)) self.now self.now result }
+            → Answers game (comparison (arithmetic_of left.now) relation (arithmetic_of right.now))
+            self.now self.now result }
     {
         match (self.evaluate(left), self.evaluate(right)) {
             (Some(x), Some(y)) if relates(relation, x, y) => Applied::Valid,
@@ -131,24 +151,25 @@ impl SemiState {
     }
 
     /// Makes a player, or the keeper, the current one.
-    fn switch(&mut self, player: u16) -> Applied
+    fn switch(&mut self, player: Player) -> Applied
+        requires { 0 < self.old.room }
         ensures { (game : AbstractGame) → Answers game (switch player) self.old self.new result }
     {
-        self.player = player;
+        self.change(Change::Player(player));
         Applied::Valid
     }
 }
 
 /// Whether two values stand in a relation.
 fn relates(relation: Relation, x: i64, y: i64) -> bool
-    ensures { IsTrue result ↔ Relates (relation_of relation) x y }
+    ensures { IsTrue result ↔ Relates relation x y }
 {
     match relation {
         Relation::Equal => x == y,
-        Relation::Different => x != y,
+        Relation::NotEqual => x != y,
         Relation::Less => x < y,
-        Relation::AtMost => x <= y,
+        Relation::LessOrEqual => x <= y,
         Relation::Greater => x > y,
-        Relation::AtLeast => x >= y,
+        Relation::GreaterOrEqual => x >= y,
     }
 }

@@ -13,8 +13,8 @@ impl SemiState {
     #[cycle(evaluate)]
     #[tactic(auto, using(rbg_rules::proofs::Bridge::translation, crate::proofs::Fits::by_conversion))]
     pub(super) fn evaluate(&self, expression: &Arithmetic) -> Option<i64>
-        requires { ReadsBelow (length self.now.values) (arithmetic_of expression.now) }
-        ensures { result ≡ value_of (arithmetic_of expression.now) self.now }
+        requires { ReadsBelow (length self.now.state.values) (arithmetic_of expression.now) }
+        ensures { result ≡ value_of (arithmetic_of expression.now) self.now.state }
     {
         match expression {
             Arithmetic::Number(number) => i64::try_from(*number).ok(),
@@ -28,8 +28,8 @@ impl SemiState {
     /// What operations make of a value, from the left.
     #[cycle(evaluate)]
     fn continued(&self, first: i64, operations: &[Operation]) -> Option<i64>
-        requires { All (λ o. ReadsBelow (length self.now.values) (arithmetic_of o.operand)) operations.now }
-        ensures { result ≡ value_after self.now (Some first) operations.now }
+        requires { All (λ o. ReadsBelow (length self.now.state.values) (arithmetic_of o.operand)) operations.now }
+        ensures { result ≡ value_after self.now.state (Some first) operations.now }
     {
         let mut value = first;
         for operation in operations {

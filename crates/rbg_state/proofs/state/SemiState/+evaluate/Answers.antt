@@ -14,30 +14,30 @@ evaluate-evaluate-requires t c = (search (rules, the_lemmas), reads_of-Negated _
 
 pub evaluate-returns-in-Variable : goal.evaluate-returns-in-Variable
 evaluate-returns-in-Variable t c =
-    let read = get_or_from_slice_get c.args.self.now.values c.in-Variable.variable c.value.result 0 c.value.ensures in
+    let read = get_or_from_slice_get c.args.self.now.state.values c.in-Variable.variable c.value.result 0 c.value.ensures in
     let fits = fits-of_below c.value.result (omega arith) in
     rw (c.in-Variable.is, arithmetic_of-Variable) (grind (arith, to_z-of_z))
 
 pub evaluate-continued-requires : goal.evaluate-continued-requires
 evaluate-continued-requires t c =
-    let reads = reads_of-Chain (length c.args.self.now.values) c.args.expression.now c.in-Chain.first c.in-Chain.rest c.requires c.in-Chain.is in
+    let reads = reads_of-Chain (length c.args.self.now.state.values) c.args.expression.now c.in-Chain.first c.in-Chain.rest c.requires c.in-Chain.is in
     (search (rules, the_lemmas), rw c.deref-in-Chain-2.ensures.value reads.1)
 
 pub evaluate-evaluate-requires-in-Chain : goal.evaluate-evaluate-requires-in-Chain
 evaluate-evaluate-requires-in-Chain t c =
-    let reads = reads_of-Chain (length c.args.self.now.values) c.args.expression.now c.in-Chain.first c.in-Chain.rest c.requires c.in-Chain.is in
+    let reads = reads_of-Chain (length c.args.self.now.state.values) c.args.expression.now c.in-Chain.first c.in-Chain.rest c.requires c.in-Chain.is in
     (search (rules, the_lemmas), rw c.deref-in-Chain.ensures reads.0)
 
 pub evaluate-returns-in_err-evaluate-in-Chain : goal.evaluate-returns-in_err-evaluate-in-Chain
 evaluate-returns-in_err-evaluate-in-Chain t c =
-    let value = value_of-Chain c.args.self.now c.args.expression.now c.in-Chain.first c.in-Chain.rest c.in-Chain.is in
-    let none = value_after-None c.args.self.now c.in-Chain.rest.items in
+    let value = value_of-Chain c.args.self.now.state c.args.expression.now c.in-Chain.first c.in-Chain.rest c.in-Chain.is in
+    let none = value_after-None c.args.self.now.state c.in-Chain.rest.items in
     let no_first = c.in_err-evaluate-in-Chain.ensures in
     grind arith
 
 pub evaluate-returns-in_ok-evaluate-in-Chain : goal.evaluate-returns-in_ok-evaluate-in-Chain
 evaluate-returns-in_ok-evaluate-in-Chain t c =
-    let value = value_of-Chain c.args.self.now c.args.expression.now c.in-Chain.first c.in-Chain.rest c.in-Chain.is in
+    let value = value_of-Chain c.args.self.now.state c.args.expression.now c.in-Chain.first c.in-Chain.rest c.in-Chain.is in
     let first = c.in_ok-evaluate-in-Chain.ensures in
     grind (arith, to_z-of_z)
 
@@ -46,26 +46,26 @@ unfolding value_after
 continued-loop-operation-init t c = refl
 
 pub continued-evaluate-requires : goal.continued-evaluate-requires
-continued-evaluate-requires t c = (search (rules, the_lemmas), operand_reads (length c.args.self.now.values) c.args.operations.now c.loop-operation.operation-index c.operation-item.result c.requires (omega arith) c.operation-item.is)
+continued-evaluate-requires t c = (search (rules, the_lemmas), operand_reads (length c.args.self.now.state.values) c.args.operations.now c.loop-operation.operation-index c.operation-item.result c.requires (omega arith) c.operation-item.is)
 
 pub continued-returns-in_err-operand : goal.continued-returns-in_err-operand
 continued-returns-in_err-operand t c =
-    let more = value_after_more c.args.self.now (Some c.args.first) c.args.operations.now c.loop-operation.operation-index c.operation-item.result (omega arith) c.operation-item.is in
-    let none = no_value_after c.args.self.now (Some c.args.first) c.args.operations.now (c.loop-operation.operation-index + 1) in
+    let more = value_after_more c.args.self.now.state (Some c.args.first) c.args.operations.now c.loop-operation.operation-index c.operation-item.result (omega arith) c.operation-item.is in
+    let none = no_value_after c.args.self.now.state (Some c.args.first) c.args.operations.now (c.loop-operation.operation-index + 1) in
     let no_operand = c.in_err-operand.ensures in
     grind (arith, to_z-of_z)
 
 pub continued-returns-in_err-value : goal.continued-returns-in_err-value
 continued-returns-in_err-value t c =
-    let more = value_after_more c.args.self.now (Some c.args.first) c.args.operations.now c.loop-operation.operation-index c.operation-item.result (omega arith) c.operation-item.is in
-    let none = no_value_after c.args.self.now (Some c.args.first) c.args.operations.now (c.loop-operation.operation-index + 1) in
+    let more = value_after_more c.args.self.now.state (Some c.args.first) c.args.operations.now c.loop-operation.operation-index c.operation-item.result (omega arith) c.operation-item.is in
+    let none = no_value_after c.args.self.now.state (Some c.args.first) c.args.operations.now (c.loop-operation.operation-index + 1) in
     let operand = c.in_ok-operand.ensures in
     let no_value = c.in_err-value.ensures in
     grind (arith, to_z-of_z)
 
 pub continued-loop-operation-preserved : goal.continued-loop-operation-preserved
 continued-loop-operation-preserved t c =
-    let more = value_after_more c.args.self.now (Some c.args.first) c.args.operations.now c.loop-operation.operation-index c.operation-item.result (omega arith) c.operation-item.is in
+    let more = value_after_more c.args.self.now.state (Some c.args.first) c.args.operations.now c.loop-operation.operation-index c.operation-item.result (omega arith) c.operation-item.is in
     let operand = c.in_ok-operand.ensures in
     let value = c.in_ok-value.ensures in
     grind (arith, to_z-of_z)

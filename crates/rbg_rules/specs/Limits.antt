@@ -1,0 +1,36 @@
+-- How much a game may have, and how much a question may open. (All of it is own: the paper sets no limits.)
+use Rattle.std.specs.Prelude.{ℕ}
+
+abbrev pub most_players : ℕ
+most_players = 8
+
+abbrev pub most_pieces : ℕ
+most_pieces = 1000
+
+-- the players' scores are variables too
+abbrev pub most_variables : ℕ
+most_variables = 64
+
+abbrev pub greatest_bound : ℕ
+greatest_bound = 1000000000
+
+abbrev pub most_directions : ℕ
+most_directions = 64
+
+abbrev pub most_positions : ℕ
+most_positions = 20000
+
+abbrev pub most_vertices : ℕ
+most_vertices = 4096
+
+-- patterns one inside the other
+abbrev pub most_nested_patterns : ℕ
+most_nested_patterns = 8
+
+-- a question has at most so many different openings
+abbrev pub most_openings : ℕ
+most_openings = 100000
+
+-- and each of them fewer than so many modifiers in a row
+abbrev pub most_modifiers : ℕ
+most_modifiers = 200

@@ -1,0 +1,124 @@
+//! The parts of a semi-state, one of which is changed at a time.
+ghost use Rattle.std.specs.Prelude.{◌≡◌, ◌<◌, ◌==◌, Some, length, count_by, slice_get, IfOk};
+ghost use Rattle.rbg_rules.specs.State.{start_of, IsStateOf};
+ghost use Rattle.rbg_state.specs.Changes.{set, IsChangeWithin};
+
+use crate::change::Change;
+use crate::occupancy::Occupancy;
+use rbg_base::{Memory, Piece, Player, Variable, Vertex};
+use rbg_rules::Game;
+use std::alloc::Global;
+use std::marker::Model;
+use std::mem::replace;
+
+/// Who is to act, what stands on each vertex, what each variable holds, and the current vertex.
+#[derive(Debug, Drop)]
+pub(crate) struct Parts {
+    player: Player,
+    vertex: Vertex,
+    occupancy: Occupancy,
+    /// The value of each variable.
+    values: Vec<u32>,
+}
+
+impl Model for Parts {
+    ghost use Rattle.rbg_rules.specs.State.{AbstractState};
+
+    ghost Value = { AbstractState };
+
+    ghost view = { λ p. record { player = p.player; pieces = p.occupancy; values = p.values.items; vertex = p.vertex } };
+}
+
+impl Parts {
+    /// The parts of the semi-state in which play of a game begins.
+    pub(crate) fn start(alloc: Global, game: &Game) -> Result<Parts, Memory>
+        ensures start { IfOk result (λ start. start ≡ start_of game.now) }
+        ensures fits { IfOk result (IsStateOf game.now) }
+    {
+        Ok(Parts {
+            player: 0,
+            vertex: 0,
+            occupancy: Occupancy::start(alloc, game.board())?,
+            values: vec![in alloc; 0; game.variables()]?,
+        })
+    }
+
+    pub(crate) fn try_clone(&self) -> Result<Parts, Memory>
+        ensures { IfOk result (λ copy. copy ≡ self.now) }
+    {
+        Ok(Parts {
+            player: self.player,
+            vertex: self.vertex,
+            occupancy: self.occupancy.try_clone()?,
+            values: self.values.clone()?,
+        })
+    }
+
+    pub(crate) fn player(&self) -> Player
+        ensures { result ≡ self.now.player }
+    {
+        self.player
+    }
+
+    pub(crate) fn vertex(&self) -> Vertex
+        ensures { result ≡ self.now.vertex }
+    {
+        self.vertex
+    }
+
+    pub(crate) fn piece(&self, vertex: Vertex) -> Piece
+        requires { vertex < length self.now.pieces }
+        ensures { slice_get self.now.pieces vertex ≡ Some result }
+    {
+        self.occupancy.pieces()[vertex as usize]
+    }
+
+    pub(crate) fn count(&self, piece: Piece) -> usize
+        ensures { result ≡ count_by (λ x. x == piece) self.now.pieces }
+    {
+        self.occupancy.count(piece)
+    }
+
+    pub(crate) fn value(&self, variable: Variable) -> u32
+        requires { variable < length self.now.values }
+        ensures { slice_get self.now.values variable ≡ Some result }
+    {
+        self.values[variable as usize]
+    }
+
+    /// Makes a change, and returns the change that takes it back.
+    pub(crate) fn set(&mut self, change: Change) -> Change
+        requires { IsChangeWithin (length self.old.pieces) (length self.old.values) change }
+        ensures set { self.new ≡ set change self.old }
+        ensures back { set result self.new ≡ self.old }
+        ensures within { IsChangeWithin (length self.new.pieces) (length self.new.values) result }
+    {
+        match change {
+            Change::Player(player) => Change::Player(replace(&mut self.player, player)),
+            Change::Vertex(vertex) => Change::Vertex(replace(&mut self.vertex, vertex)),
+            Change::Piece { vertex, piece } => Change::Piece {
+                vertex,
+                piece: self.occupancy.put(vertex, piece),
+            },
+            Change::Value { variable, value } => Change::Value {
+                variable,
+                value: replace(&mut self.values[variable as usize], value),
+            },
+        }
+    }
+}
+
+impl PartialEq for Parts {
+    ghost use Rattle.rbg_state.specs.Equality.{is_same_state, same_state_laws};
+
+    ghost eq = { is_same_state };
+
+    ghost laws = { same_state_laws };
+
+    fn eq(&self, other: &Parts) -> bool {
+        self.player == other.player
+            && self.vertex == other.vertex
+            && self.occupancy.pieces() == other.occupancy.pieces()
+            && self.values == other.values
+    }
+}
