@@ -5,7 +5,7 @@ use Rattle.rbg_wire.specs.Messages.{end_message}
 use Rattle.rbg_rules.specs.State.{AbstractGame}
 use Rattle.rbg_rules.specs.Moves.{AbstractPlace, Legal}
 use Rattle.rbg_rules.specs.Moves as moves
-use Rattle.rbg_match.specs.Heavy.{IsHeavyToFind}
+use Rattle.rbg_rules.specs.Heavy.{IsHeavyToFind}
 use Rattle.rbg_match.specs.Limits.{most_keeper_moves}
 use Rattle.rbg_match.specs.Deliveries.{Delivery, delivered, to_each}
 use Rattle.rbg_match.specs.Play.{AbstractPlay, mover_of, scores_of, ended}

@@ -16,8 +16,7 @@ use Rattle.std.specs.Prelude.{
   slice_index_or,
   if◌then◌else◌,
 }
-use Rattle.std.specs.List.{flat_map}
-use Rattle.rbg_rules.specs.Positions.{count_from}
+use Rattle.std.specs.List.{flat_map, range_with_len}
 use Rattle.rbg_wire.specs.Messages.{AbstractMessage, spelling}
 
 -- a message to a seat
@@ -46,7 +45,7 @@ bytes_for seat said = flat_map (λ delivery. if delivery.seat == seat then spell
 
 -- the bytes of each seat, seat 1 first
 abbrev pub queued : (seats : ℕ) → List Delivery → List (List ℕ)
-queued seats said = map (λ seat. bytes_for seat said) (count_from 1 seats)
+queued seats said = map (λ seat. bytes_for seat said) (range_with_len 1 seats)
 
 -- what each seat has, seat 1 first, followed by the bytes of the messages to it
 abbrev pub delivered_from : (seat : ℕ) → List (List ℕ) → List Delivery → List (List ℕ)

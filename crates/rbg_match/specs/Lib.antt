@@ -4,8 +4,6 @@ pub mod Config
 pub mod Deliveries
 pub mod Play
 pub mod OneWord
-pub mod PlaceOf
-pub mod Heavy
 pub mod PlayingOn
 pub mod History
 pub mod Handling

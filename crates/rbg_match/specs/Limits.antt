@@ -25,10 +25,6 @@ most_pairs = 200
 abbrev pub message_limit : ℕ
 message_limit = 4096
 
--- the rules have at most this many positions
-abbrev pub most_positions : ℕ
-most_positions = 20000
-
 -- The latest moment that is counted: an hour before the greatest number of 64 bits, so that each due moment is a number
 -- of 64 bits.
 abbrev pub latest_moment : ℕ

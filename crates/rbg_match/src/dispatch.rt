@@ -17,7 +17,7 @@ use crate::handling::handle;
 use crate::input::Input;
 use crate::play::Play;
 use crate::{Event, Outbox};
-use rbg_state::Memory;
+use rbg_base::Memory;
 use rbg_wire::Inbox;
 
 /// Whether there is a seat of that number.

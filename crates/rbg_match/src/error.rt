@@ -4,7 +4,7 @@ ghost use Rattle.rbg_match.specs.declared.error.MatchError.TheVariants.{Memory a
 
 use crate::Outbox;
 use rbg_game::LoadError;
-use rbg_state::Memory;
+use rbg_base::Memory;
 use thiserror::Error;
 
 /// Why a match is not made.

@@ -17,7 +17,7 @@ use crate::walk::first_not_played;
 use crate::{Config, Event, MAX_TURN_MS, Made, MatchError, Outbox};
 use rbg_moves::Place;
 use rbg_rules::Game;
-use rbg_state::Memory;
+use rbg_base::Memory;
 use rbg_wire::{Inbox, Outcome};
 use std::alloc::Global;
 use std::marker::Model;
@@ -87,7 +87,7 @@ impl Match {
     ghost use Rattle.rbg_match.specs.Config.{IsWithinLimits};
     ghost use Rattle.rbg_match.specs.History.{IsHistory};
     ghost use Rattle.rbg_match.specs.Inputs.{counted, moment_alone};
-    ghost use Rattle.rbg_match.specs.PlaceOf.{IsPlaceOf};
+    ghost use Rattle.rbg_rules.specs.Places.{IsPlaceOf};
     ghost use Rattle.rbg_match.specs.Play.{due_of, refusals_of};
     ghost use Rattle.rbg_match.specs.OneWord.{IsOneWord, IsFirstNotPlayed};
     ghost use Rattle.rbg_match.specs.Matches.{Opens, Steps};

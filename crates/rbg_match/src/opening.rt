@@ -14,7 +14,7 @@ use crate::play::Play;
 use crate::{Config, Outbox};
 use rbg_moves::Place;
 use rbg_rules::Game;
-use rbg_state::Memory;
+use rbg_base::Memory;
 use rbg_wire::{Inbox, Message};
 use std::alloc::Global;
 

@@ -5,7 +5,7 @@ ghost use Rattle.rbg_match.specs.Deliveries.{to_each, to_others};
 ghost use Rattle.rbg_match.specs.internal.Saying.{Says};
 ghost use Rattle.rbg_match.specs.Play.{scores_of, ended, moved};
 ghost use Rattle.rbg_match.specs.internal.PlayOf.{play_of};
-ghost use Rattle.rbg_match.specs.PlaceOf.{IsPlaceOf};
+ghost use Rattle.rbg_rules.specs.Places.{IsPlaceOf};
 ghost use Rattle.rbg_match.specs.internal.Playable.{IsPlayOf};
 ghost use Rattle.rbg_match.specs.PlayingOn.{PlaysOn, seats_of};
 ghost use Rattle.rbg_match.specs.internal.OneStep.{PlaysOnOnce};
@@ -16,7 +16,7 @@ use crate::walk::{Over, find_move};
 use crate::{Made, Outbox};
 use rbg_moves::{Move, Place};
 use rbg_rules::Game;
-use rbg_state::Memory;
+use rbg_base::Memory;
 use rbg_wire::{Message, Outcome, Scores};
 
 /// Ends the match and tells every seat how it ended.

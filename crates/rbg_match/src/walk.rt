@@ -5,13 +5,14 @@ ghost use Rattle.rbg_wire.specs.Messages.{ArePairs};
 ghost use Rattle.rbg_match.specs.Limits.{most_pairs};
 ghost use Rattle.rbg_match.specs.OneWord.{IsOneWord};
 ghost use Rattle.rbg_match.specs.internal.OnlyMove.{IsOnlyMove, IsPlaceAfter};
-ghost use Rattle.rbg_match.specs.PlaceOf.{IsPlaceOf};
+ghost use Rattle.rbg_rules.specs.Places.{IsPlaceOf};
 ghost use Rattle.rbg_match.specs.internal.Walking.{IsTooDeep, Tells};
 
 use arrayvec::ArrayVec;
 use rbg_moves::{MAX_PAIRS, Move, Pair, Place};
-use rbg_rules::{Game, Instruction};
-use rbg_state::{Applied, Memory};
+use rbg_rules::{Action, Game};
+use rbg_base::Memory;
+use rbg_state::Applied;
 
 mod one_word;
 
@@ -90,20 +91,22 @@ fn walk(game: &Game, place: &Place) -> Result<Walked, Memory>
     let mut state = place.state.try_clone()?;
     let mut pairs: ArrayVec<Pair, MAX_PAIRS> = ArrayVec::new();
     let end = game.positions() as u32 + 1;
-    for position in place.after.unwrap_or(0) + 1..end {
-        let vertex = u32::from(state.vertex());
+    let first = place.after.unwrap_or(0) + 1;
+    state.reserve((end - first) as usize)?;
+    for position in first..end {
+        let vertex = state.vertex();
         match state.apply(game, position) {
             Applied::Valid => {}
             Applied::Invalid => return Ok(Walked::Stuck),
         }
         match game.action(position) {
-            Instruction::Switch { .. } => {
+            Action::Switch { .. } => {
                 pairs.push(Pair { vertex, position });
                 let after = Some(position);
                 let pairs = Move::from_pairs(pairs.as_slice()).unwrap();
                 return Ok(Walked::Moved(pairs, Place { state, after }));
             }
-            Instruction::Off { .. } => {
+            Action::Off { .. } => {
                 pairs.push(Pair { vertex, position });
                 if pairs.is_full() {
                     return Ok(Walked::Deep);

@@ -8,7 +8,7 @@ use Rattle.rbg_match.specs.Config.{IsWithinLimits}
 use Rattle.rbg_match.specs.Limits.{latest_moment, most_refusals}
 use Rattle.rbg_match.specs.internal.Inboxes.{AreReady}
 use Rattle.rbg_match.specs.OneWord.{IsOneWord}
-use Rattle.rbg_match.specs.PlaceOf.{IsPlaceOf}
+use Rattle.rbg_rules.specs.Places.{IsPlaceOf}
 use Rattle.rbg_match.specs.Play.{AbstractPlay}
 
 -- The match can play the game: it is an accepted game, and its rules are one word.

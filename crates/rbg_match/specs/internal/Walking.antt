@@ -4,9 +4,9 @@ use Rattle.rbg_rules.specs.State.{AbstractGame}
 use Rattle.rbg_rules.specs.Moves.{AbstractPlace, stand_of, Legal, Finished}
 use Rattle.rbg_rules.specs.Questions.{find_move, IsDeep}
 use Rattle.rbg_wire.specs.Messages.{ArePairs}
-use Rattle.rbg_match.specs.Heavy.{most_modifiers}
+use Rattle.rbg_rules.specs.Limits.{most_modifiers}
 use Rattle.rbg_match.specs.Limits.{most_pairs}
-use Rattle.rbg_match.specs.PlaceOf.{IsPlaceOf}
+use Rattle.rbg_rules.specs.Places.{IsPlaceOf}
 use Rattle.rbg_match.specs.internal.OnlyMove.{IsOnlyMove}
 use Rattle.rbg_match.specs.declared.walk.Walked.{Walked}
 use Rattle.rbg_match.specs.declared.walk.Walked.TheVariants.{Moved, Stuck, Deep}
