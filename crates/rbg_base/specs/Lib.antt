@@ -1,2 +1,3 @@
 -- What every layer shares.
 pub mod Names
+pub mod Decimals

@@ -12,8 +12,6 @@ mod hexagons;
 pub mod laws;
 mod rectangles;
 mod rows;
-#[cfg(test)]
-mod tests;
 
 pub use board::{Board, MAX_VERTICES};
 pub use error::BoardError;

@@ -1,5 +1,5 @@
 -- Steps of the proofs about small games.
-use Rattle.std.proofs.Common.{◌≡◌, ℕ, suc, List, [], ◌∷◌, ◌++◌, refl, sym, ap, ◌∙◌, subst, ◌⊎◌, inl, inr, arith}
+use Rattle.std.proofs.Common.{◌≡◌, ◌≢◌, ℕ, suc, List, [], ◌∷◌, ◌++◌, refl, sym, ap, ◌∙◌, subst, ◌⊎◌, inl, inr, arith}
 use Rattle.std.specs.Prelude.{All}
 use Rattle.rbg_rules.specs.Expression.{AbstractAction, switch, Expression, act, sequence_of}
 use Rattle.rbg_rules.specs.Positions.{HasAction, HasOwnAction, IsNumbered, IsSwitchAt, outermost}
@@ -20,6 +20,10 @@ all_among P [] all x h = absurd h
 all_among P (y ∷ xs) all x (inl e) = subst P (sym e) (all 0 0 (omega arith))
 all_among P (y ∷ xs) all x (inr h) = all_among P xs (λ k d below. all (suc k) d (omega arith)) x h
 
+-- Two numbers that are told apart.
+pub not_equal : (x y : ℕ) → x ≢ y → ¬ (x ≡ y)
+not_equal x y different same = different same
+
 -- Where another action stands there is no switch.
 pub no_switch_at : (rules : Expression) → IsNumbered rules → (p : ℕ) (a : AbstractAction) → HasAction rules p a → ((n : ℕ) → ¬ (a ≡ switch n)) → ¬ IsSwitchAt rules p
 no_switch_at rules numbered p a here other switches = other switches.player (one_stands rules numbered p a (switch switches.player) here switches.stands)
@@ -37,7 +41,7 @@ last_pair game numbered legal =
     record { before = cut.before; vertex = cut.middle.vertex; joined = cut.joined ∙ ap (λ (qs : List (ℕ × ℕ)). cut.before ++ qs) end.pairs }
 
 -- The position of a pair is one of the run's.
-pub PairAmong : ℕ → ℕ → List (ℕ × ℕ) → Type 0
+unfoldable pub PairAmong : ℕ → ℕ → List (ℕ × ℕ) → Type 0
 PairAmong v p [] = ⊥
 PairAmong v p (q ∷ qs) = (q ≡ (v, p)) ⊎ PairAmong v p qs
 

@@ -12,7 +12,7 @@ use Rattle.rbg_examples.proofs.ExampleLemmas.{no_switch_at, goes_on, begins_with
 numbered : IsNumbered without_end.rules
 numbered = record { in_order = refl }
 
--- What stands behind the switch is an off of w or the on of nothing, and neither is a switch.
+-- What follows the switch is an off of w or the on of nothing, and neither is a switch.
 behind : (w : List ℕ) → IsJoinOfWords (star (act 2 (off 1)) ∷ act 3 (on []) ∷ []) w → (p : ℕ) → Among p w → (p ≡ 2) ⊎ (p ≡ 3)
 behind w (u, v, offs, (x, y, last, none, f), e) p h = elim (Among_cases p u v (subst (Among p) e h)) [
   | inl left ↦ inl (word_own (star (act 2 (off 1))) u offs p left).1.0

@@ -9,11 +9,11 @@ use Rattle.rbg_syntax.specs.Plain.{IsPlain, HasRectangle}
 use Rattle.rbg_syntax.specs.Tree.{SpeltBounded, SpeltBoard, rectangle, hexagon, graph, SpeltName, SpeltDescription}
 use Rattle.rbg_rules.specs.Expression.{Expression}
 use Rattle.rbg_rules.specs.Games.{IsGame, IsWithinLimits}
-use Rattle.rbg_rules.specs.declared.limits.TheConstants.{MAX_BOUND}
+use Rattle.rbg_rules.specs.Limits.{greatest_bound, most_nested_patterns}
 use Rattle.rbg_game.specs.declared.checking.boards.NamedBoard.{NamedBoard}
 use Rattle.rbg_game.specs.declared.checking.names.Things.{Things}
 use Rattle.rbg_game.specs.declared.error.GameError.{GameError}
-use Rattle.rbg_game.specs.Descriptions.{Names, NamedBoard as BoardByNames, BoardIs, texts_of, holder_names, holders_of, AreBounds, most_patterns_nested, IsGameOf}
+use Rattle.rbg_game.specs.Descriptions.{Names, NamedBoard as BoardByNames, BoardIs, texts_of, holder_names, holders_of, AreBounds, IsGameOf}
 use Rattle.rbg_game.specs.Faults.{HasBoardFault, board_directions, Purpose, as_direction, as_piece, as_player, names_for, HasRuleFault, names_spelt, HasFault, in_board, in_rules}
 use Rattle.rbg_game.specs.internal.Boards.{MakesBoard}
 use Rattle.rbg_game.specs.internal.PlainRules.{IsRuleByNumbers}
@@ -52,7 +52,7 @@ module _ (d : SpeltDescription) (things : Things) (board : NamedBoard) (rules : 
   limits =
       let players = ap length are.players ∙ length-map d.players (λ (h : SpeltBounded). h.name.text) in
       let pieces = ap length are.pieces ∙ length-map d.pieces (λ (n : SpeltName). n.text) in
-      let P : List ℕ → Type 0 = λ bounds. All (λ bound. bound ≤ MAX_BOUND) bounds in
+      let P : List ℕ → Type 0 = λ bounds. All (λ bound. bound ≤ greatest_bound) bounds in
       record {
         some_player = omega (arith, players, plain.some_player);
         players = are.player_limit;
@@ -61,7 +61,9 @@ module _ (d : SpeltDescription) (things : Things) (board : NamedBoard) (rules : 
         variables = are.variable_limit;
         bounds = subst P (sym are.bounds.after) are.bounds.limit;
         directions = makes.few;
+        vertices = makes.vertices;
         positions = by_numbers.positions;
+        nesting = by_numbers.nesting most_nested_patterns;
       }
 
   lawful : IsGame (game_by_numbers things board rules)
@@ -78,6 +80,9 @@ module _ (d : SpeltDescription) (things : Things) (board : NamedBoard) (rules : 
             ∙ ap (take (length (holder_names d.players))) (are.variables ∙ all)
             ∙ take-append_seam (holder_names d.players) (holder_names d.variables)
             ∙ sym are.players;
+        variable_names = are.lawful_variables;
+        piece_names = are.lawful_pieces;
+        direction_names = makes.names;
         bounds =
             ap length are.bounds.after
             ∙ AllZip-long _ (holders_of d) are.bounds.added are.bounds.bounds
@@ -97,11 +102,7 @@ module _ (d : SpeltDescription) (things : Things) (board : NamedBoard) (rules : 
         variables = are.variables;
         pieces = are.pieces;
         bounds = subst P (sym are.bounds.after) are.bounds.bounds;
-        lawful_variables = are.lawful_variables;
-        lawful_pieces = are.lawful_pieces;
-        direction_names = makes.names;
         board = makes.is_board;
         rules = by_numbers.rules things.variables;
-        nesting = by_numbers.nesting most_patterns_nested;
         lawful = lawful;
       }

@@ -4,7 +4,8 @@ use Rattle.std.specs.List.{AllZip, concat}
 use Rattle.std.proofs.lemmas.List.Elements.{All-nil, All-cons, All-append, Contains-append_cases}
 use Rattle.std.proofs.lemmas.Option.{slice_get_within}
 use Rattle.rbg_syntax.specs.Tree.{SpeltName}
-use Rattle.rbg_game.specs.Descriptions.{IsNumberOf, AreDifferentNames}
+use Rattle.rbg_rules.specs.LawfulNames.{AreDifferentNames}
+use Rattle.rbg_game.specs.Descriptions.{IsNumberOf}
 use Rattle.rbg_game.proofs.Lists.{Contains-from_get, AllZip-at, AllZip-once}
 
 -- a list with an unknown name has no numbers

@@ -2,11 +2,9 @@
 use Rattle.std.proofs.Common.{◌≡◌, ◌≢◌, ◌↔◌, ℕ, suc, ◌<◌, ◌≤◌, List, [], ◌∷◌, ◌++◌, Some, None, false, inl, inr, length, get_or, map}
 use Rattle.std.proofs.Common.{refl, sym, ap, ◌∙◌, subst, arith}
 use Rattle.std.specs.Prelude.{slice_get, slice_index, Contains, IsTrue, All}
-use Rattle.std.proofs.lemmas.Bool.{false≢true}
 use Rattle.std.proofs.lemmas.List.{length-append, length-map, map-append}
 use Rattle.std.proofs.lemmas.Option.{slice_get-get_or}
 use Rattle.std.proofs.lemmas.List.Elements.{All-contains, Contains-append_cases}
-use Rattle.rbg_base.specs.Names.{is_name}
 use Rattle.rbg_board.specs.Rectangle.{MakesRectangle, RectangleRefusal}
 use Rattle.rbg_board.specs.declared.error.BoardError.{BoardError}
 use Rattle.rbg_board.specs.declared.error.BoardError.TheVariants as board_errors
@@ -15,28 +13,23 @@ use Rattle.rbg_syntax.specs.Tree.{SpeltRule, SpeltRules, no_rules, more_rules, S
 use Rattle.rbg_rules.specs.Expression.{AbstractAction, Expression}
 use Rattle.rbg_rules.specs.Positions.{positions_of, positions_inside}
 use Rattle.rbg_rules.specs.State.{AbstractGame}
-use Rattle.rbg_rules.specs.declared.limits.TheConstants.{MAX_BOUND, MAX_POSITIONS}
+use Rattle.rbg_rules.specs.Limits.{greatest_bound, most_positions}
+use Rattle.rbg_rules.specs.LawfulNames.{AreDifferentNames, AreLawfulNames}
 use Rattle.rbg_game.specs.declared.error.GameError.{GameError}
 use Rattle.rbg_game.specs.declared.error.GameError.TheVariants.{Memory}
-use Rattle.rbg_game.specs.Descriptions.{Names, names_in, IsNumberOf, AreDifferentNames, AreNames, AreLawfulNames, texts_of}
+use Rattle.rbg_game.specs.Descriptions.{Names, names_in, IsNumberOf, texts_of}
 use Rattle.rbg_game.specs.Descriptions.{ActionIs, RuleIs, SequenceIs, ChoiceIs, NamedBoard, board_in, IsRectangleBoard, IsGraphBoard, VertexIs, BoardIs, directions_named}
 use Rattle.rbg_game.specs.Descriptions.{holder_names, holders_of, AreBounds, IsGameOf}
-use Rattle.rbg_game.specs.Faults.{HasUnknown, HasNoName, StandsAgain, HasGreatBound, HaveOneName, HasRectangleFault, HasBoardFault, unknown_piece, no_direction, no_rectangle, board_memory}
+use Rattle.rbg_game.specs.Faults.{HasUnknown, StandsAgain, HasGreatBound, HaveOneName, HasRectangleFault, HasBoardFault, unknown_piece, no_rectangle, board_memory}
 use Rattle.rbg_game.specs.Faults.{Purpose, as_direction, as_piece, as_player, names_for, Uses, shifts, stands_on, puts, gives_turn, HasSpeltAction, this, in_sequence, in_choice, in_star, in_positive, in_negative, SomeHasSpeltAction, earlier, last, actions_in, actions_in_all, actions_of}
 use Rattle.rbg_game.specs.Faults.{HasRuleFault, unknown_use, many_positions, rule_memory, board_directions, board_pieces, names_of_holders, names_spelt}
-use Rattle.rbg_game.specs.Faults.{no_name, same_holder, same_piece, great_bound, many_players, many_pieces, many_variables, in_board, in_rules, memory}
+use Rattle.rbg_game.specs.Faults.{same_holder, same_piece, great_bound, many_players, many_pieces, many_variables, in_board, in_rules, memory}
 use Rattle.rbg_game.specs.OneGame.{NoGameWithFaultLaw}
 use Rattle.rbg_game.proofs.Lists.{Contains-one, Contains-from_get, get_from-Contains, slice_get-map_at, Contains-map, map_entry, fellow}
 use Rattle.rbg_game.proofs.NameFaults.{texts_of-names}
 use Rattle.rbg_game.proofs.BoardNames.{unnumbered, unnumbered_rows, rows_once}
 
 -- Names and bounds.
-
--- Lawful names are names of the language.
-no_name_unlawful : (names : List SpeltName) (n : SpeltName) → Contains names n → is_name n.text ≡ false → AreNames (texts_of names) → ⊥
-no_name_unlawful names n has not_one lawful =
-    let one : IsTrue (is_name n.text) = All-contains (λ text. IsTrue (is_name text)) (texts_of names) n.text lawful (Contains-map (λ (m : SpeltName). m.text) names n has) in
-    false≢true (sym not_one ∙ one)
 
 -- Lawful names differ.
 again_unlawful : (names : List SpeltName) (at : ℕ) → StandsAgain names at → AreDifferentNames (texts_of names) → ⊥
@@ -46,23 +39,17 @@ again_unlawful names at h differ =
     absurd (omega (arith, h.before))
 
 -- Bounds of a game are within the limit.
-bound_unlawful : (holders : List SpeltBounded) (bounds : List ℕ) (at : ℕ) → HasGreatBound holders at → AreBounds holders bounds → All (λ bound. bound ≤ MAX_BOUND) bounds → ⊥
+bound_unlawful : (holders : List SpeltBounded) (bounds : List ℕ) (at : ℕ) → HasGreatBound holders at → AreBounds holders bounds → All (λ bound. bound ≤ greatest_bound) bounds → ⊥
 bound_unlawful holders bounds at h are within =
     let bound = fellow (λ (holder : SpeltBounded) (bound : ℕ). holder.bound.value ≡ Some bound) holders bounds h.holder are h.stands in
-    let small : bound.0 ≤ MAX_BOUND = All-contains (λ b. b ≤ MAX_BOUND) bounds bound.0 within bound.1 in
+    let small : bound.0 ≤ greatest_bound = All-contains (λ b. b ≤ greatest_bound) bounds bound.0 within bound.1 in
     absurd (omega (arith, h.too_great bound.0 bound.2))
 
 lawful_holders : (d : SpeltDescription) (game : AbstractGame) → IsGameOf d game → AreLawfulNames (texts_of (names_of_holders d))
-lawful_holders d game is = subst AreLawfulNames (is.variables ∙ sym (texts_of-names (holders_of d))) is.lawful_variables
+lawful_holders d game is = subst AreLawfulNames (is.variables ∙ sym (texts_of-names (holders_of d))) is.lawful.variable_names
 
 lawful_piece_names : (d : SpeltDescription) (game : AbstractGame) → IsGameOf d game → AreLawfulNames (texts_of d.pieces)
-lawful_piece_names d game is = subst AreLawfulNames is.pieces is.lawful_pieces
-
-no_name_fails : (d : SpeltDescription) (game : AbstractGame) (at : ℕ) → HasNoName (names_of_holders d ++ d.pieces) at → ¬ IsGameOf d game
-no_name_fails d game at h is = elim (Contains-append_cases (names_of_holders d) d.pieces h.name h.stands) [
-  | inl holder ↦ no_name_unlawful (names_of_holders d) h.name holder h.no_name (lawful_holders d game is).names
-  | inr piece ↦ no_name_unlawful d.pieces h.name piece h.no_name (lawful_piece_names d game is).names
-]
+lawful_piece_names d game is = subst AreLawfulNames is.pieces is.lawful.piece_names
 
 -- Boards.
 
@@ -108,11 +95,10 @@ rectangle_fails b names rows error differ h is =
     let makes : MakesRectangle (0 ∷ 1 ∷ 2 ∷ 3 ∷ []) h.cells = subst (MakesRectangle (0 ∷ 1 ∷ 2 ∷ 3 ∷ [])) same_cells is.makes in
     refusal_fails names h.directions h.cells error h.one_each h.numbered h.refused h.is_fault makes (subst AreDifferentNames is.directions is.differ)
 
-board_fault_fails : (b : NamedBoard) (board : SpeltBoard) (error : GameError) → HasBoardFault b.pieces board error → error ≢ Memory → AreDifferentNames b.pieces → AreNames b.directions → ¬ BoardIs b board
-board_fault_fails b board _ (unknown_piece h) other differ named is = unknown_piece_fails b board h.name h.stands h.unknown is
-board_fault_fails b _ _ (no_direction {names = names} h) other differ named is = no_name_unlawful names h.name h.stands h.no_name (subst AreNames is.directions named)
-board_fault_fails b _ _ (no_rectangle {names = names} {rows = rows} {error = error} h) other differ named is = rectangle_fails b names rows error differ h is
-board_fault_fails b board _ board_memory other differ named is = other refl
+board_fault_fails : (b : NamedBoard) (board : SpeltBoard) (error : GameError) → HasBoardFault b.pieces board error → error ≢ Memory → AreDifferentNames b.pieces → ¬ BoardIs b board
+board_fault_fails b board _ (unknown_piece h) other differ is = unknown_piece_fails b board h.name h.stands h.unknown is
+board_fault_fails b _ _ (no_rectangle {names = names} {rows = rows} {error = error} h) other differ is = rectangle_fails b names rows error differ h is
+board_fault_fails b board _ board_memory other differ is = other refl
 
 -- Rules.
 
@@ -181,7 +167,7 @@ mutual
       let both = length-append (positions_of y) (positions_of z) in
       rw e (omega arith)
 
-rule_fault_fails : (names : Names) (r : SpeltRule) (error : GameError) (x : Expression) → HasRuleFault names r error → error ≢ Memory → length (positions_of x) ≤ MAX_POSITIONS → ¬ RuleIs names r x
+rule_fault_fails : (names : Names) (r : SpeltRule) (error : GameError) (x : Expression) → HasRuleFault names r error → error ≢ Memory → length (positions_of x) ≤ most_positions → ¬ RuleIs names r x
 rule_fault_fails names r _ x (unknown_use {action = s} {purpose = purpose} {used = used} {at = at} stands uses h) other few is =
     let (b, named) = action_in_rule names r x s stands is in
     use_fails names s purpose used at b uses h named
@@ -227,7 +213,6 @@ names_among d game is as_piece = among_same game.pieces (texts_of d.pieces) is.p
 names_among d game is as_player = among_same game.players (holder_names d.players) is.players
 
 pub no_game_with_fault : NoGameWithFaultLaw
-no_game_with_fault d _ (no_name {at = at} h) other game is = no_name_fails d game at h is
 no_game_with_fault d _ (same_holder {at = at} h) other game is = again_unlawful (names_of_holders d) at h (lawful_holders d game is).differ
 no_game_with_fault d _ (same_piece {at = at} h) other game is = again_unlawful d.pieces at h (lawful_piece_names d game is).differ
 no_game_with_fault d _ (great_bound {at = at} h) other game is = bound_unlawful (holders_of d) game.bounds at h is.bounds is.lawful.limits.bounds
@@ -235,7 +220,7 @@ no_game_with_fault d _ (many_players many) other game is = absurd (omega (arith,
 no_game_with_fault d _ (many_pieces many) other game is = absurd (omega (arith, length-map d.pieces (λ (n : SpeltName). n.text), ap length is.pieces, is.lawful.limits.pieces))
 no_game_with_fault d _ (many_variables many) other game is = absurd (omega (arith, length-map (holders_of d) (λ (h : SpeltBounded). h.name.text), ap length is.variables, is.lawful.limits.variables))
 no_game_with_fault d error (in_board h) other game is =
-    board_fault_fails (board_in game) d.board error (subst (λ pieces. HasBoardFault pieces d.board error) (sym is.pieces) h) other is.lawful_pieces.differ is.direction_names is.board
+    board_fault_fails (board_in game) d.board error (subst (λ pieces. HasBoardFault pieces d.board error) (sym is.pieces) h) other is.lawful.piece_names.differ is.board
 no_game_with_fault d error (in_rules h) other game is =
     rule_fault_fails (names_in game) d.rules error game.rules (rule_fault_by (names_in game) (names_spelt d) d.rules error (names_among d game is) h) other is.lawful.limits.positions is.rules
 no_game_with_fault d _ memory other game is = other refl

@@ -1,20 +1,19 @@
 -- Faults of names that are added after others, as faults of whole lists and of the description.
-use Rattle.std.proofs.Common.{◌≡◌, ℕ, zero, suc, ◌+◌, ◌<◌, ◌≤◌, List, [], ◌∷◌, ◌++◌, inl, inr, Some, false, length, take, map, append-nil}
+use Rattle.std.proofs.Common.{◌≡◌, ℕ, zero, suc, ◌+◌, ◌<◌, ◌≤◌, List, [], ◌∷◌, ◌++◌, inl, inr, Some, length, take, map, append-nil}
 use Rattle.std.proofs.Common.{refl, sym, ap, ◌∙◌, subst, append_assoc, arith}
 use Rattle.std.specs.Prelude.{slice_get, Contains, Result, Ok, Err}
 use Rattle.std.specs.Result.{IfErr, IsErrAnd}
 use Rattle.std.proofs.lemmas.List.{take-map, map-append}
 use Rattle.std.proofs.lemmas.List.Elements.{All-append, Contains-append_left, Contains-append_right, Contains-append_cases}
 use Rattle.std.proofs.lemmas.Option.{slice_get_within}
-use Rattle.rbg_base.specs.Names.{is_name}
 use Rattle.rbg_syntax.specs.Tree.{SpeltName, SpeltBounded, SpeltDescription}
-use Rattle.rbg_rules.specs.declared.limits.TheConstants.{MAX_BOUND}
+use Rattle.rbg_rules.specs.Limits.{greatest_bound}
 use Rattle.rbg_game.specs.declared.error.GameError.{GameError}
 use Rattle.rbg_game.specs.declared.error.GameError.TheVariants.{UnknownName, SameName}
 use Rattle.rbg_game.specs.Descriptions.{texts_of, holder_names, holders_of}
 use Rattle.rbg_game.specs.Faults.{StandsAgain, HasGreatBound, names_of_holders, HasFault}
-use Rattle.rbg_game.specs.Faults.{no_name as no_name_in, same_holder, same_piece, great_bound, memory}
-use Rattle.rbg_game.specs.internal.NameTables.{HasLookUpFault, not_there, no_memory as look_up_memory, StandsBehind, HasNameFault, no_name, same_name, no_memory, HasHolderFault, by_name, by_bound}
+use Rattle.rbg_game.specs.Faults.{same_holder, same_piece, great_bound, memory}
+use Rattle.rbg_game.specs.internal.NameTables.{HasLookUpFault, not_there, no_memory as look_up_memory, StandsBehind, HasNameFault, same_name, no_memory, HasHolderFault, by_name, by_bound}
 use Rattle.rbg_game.specs.internal.Things.{AddsBounds}
 use Rattle.rbg_game.proofs.Lists.{slice_get-map_at, Contains-one, Contains-from_get, get_from-Contains, map_entry, slice_get-append_left, slice_get-append_right, entry_of_front, AllZip-append}
 
@@ -46,9 +45,6 @@ pub texts_of-names : (holders : List SpeltBounded) → texts_of (names_in_list h
 texts_of-names [] = refl
 texts_of-names (h ∷ hs) = ap (λ l. h.name.text ∷ l) (texts_of-names hs)
 
-pub no_name_alone : (table : List (List ℕ)) (name : SpeltName) → is_name name.text ≡ false → HasNameFault table (name ∷ []) (UnknownName name.at)
-no_name_alone table name is = no_name (record { name = name; stands = (0, omega arith, refl); no_name = is; place = refl })
-
 pub same_name_alone : (table : List (List ℕ)) (name : SpeltName) → Contains table name.text → HasNameFault table (name ∷ []) (SameName name.at)
 same_name_alone table name had = same_name (record { k = 0; name = name; stands = refl; again = subst (λ l. Contains l name.text) (sym (append-nil table)) had; place = refl })
 
@@ -64,8 +60,6 @@ again_alone table name at h = at_place h.k h.name h.stands h.again h.place
 
 -- A fault of the name at a place, after the earlier texts and the names before it, is one of the list.
 pub name_fault_at : (earlier table : List (List ℕ)) (names : List SpeltName) (k : ℕ) (name : SpeltName) (error : GameError) → slice_get names k ≡ Some name → table ≡ earlier ++ texts_of (take k names) → HasNameFault table (name ∷ []) error → HasNameFault earlier names error
-name_fault_at earlier table names k name _ there before (no_name h) =
-    no_name (record { name = h.name; stands = subst (Contains names) (Contains-one name h.name h.stands) (Contains-from_get names k name there); no_name = h.no_name; place = h.place })
 name_fault_at earlier table names k name _ there before (same_name {at = at} h) =
     let had = again_alone table name at h in
     same_name (record { k = k; name = name; stands = there; again = subst (λ l. Contains l name.text) before had.0; place = had.1 })
@@ -127,12 +121,6 @@ module _ (d : SpeltDescription) (before here after : List SpeltBounded) (all : h
       ap names_in_list all ∙ map-append (λ (h : SpeltBounded). h.name) (before ++ here) after
       ∙ ap (λ l. l ++ names_in_list after) (map-append (λ (h : SpeltBounded). h.name) before here)
 
-  name_there : (n : SpeltName) → Contains (names_in_list here) n → Contains (names_of_holders d) n
-  name_there n has =
-      let P : List SpeltName → Type 0 = λ l. Contains l n in
-      subst P (sym whole_names)
-      (Contains-append_left (names_in_list before ++ names_in_list here) (names_in_list after) n (Contains-append_right (names_in_list before) (names_in_list here) n has))
-
   again_there : (at : ℕ) → StandsBehind (holder_names before) (names_in_list here) at → StandsAgain (names_of_holders d) at
   again_there at h =
       let P : List SpeltName → Type 0 = λ l. StandsAgain l at in
@@ -151,8 +139,6 @@ module _ (d : SpeltDescription) (before here after : List SpeltBounded) (all : h
       }
 
   names_fault : (error : GameError) → HasNameFault (holder_names before) (names_in_list here) error → HasFault d error
-  names_fault _ (no_name h) =
-      no_name_in (record { name = h.name; stands = Contains-append_left (names_of_holders d) d.pieces h.name (name_there h.name h.stands); no_name = h.no_name; place = h.place })
   names_fault _ (same_name {at = at} h) = same_holder (again_there at h)
   names_fault _ no_memory = memory
 
@@ -167,8 +153,6 @@ pub variables_fault : (d : SpeltDescription) (error : GameError) → HasHolderFa
 variables_fault d = holders_fault d d.players d.variables [] (sym (append-nil (d.players ++ d.variables)))
 
 pub pieces_fault : (d : SpeltDescription) (error : GameError) → HasNameFault [] d.pieces error → HasFault d error
-pieces_fault d _ (no_name h) =
-    no_name_in (record { name = h.name; stands = Contains-append_right (names_of_holders d) d.pieces h.name h.stands; no_name = h.no_name; place = h.place })
 pieces_fault d _ (same_name {at = at} h) =
     let P : List SpeltName → Type 0 = λ l. StandsAgain l at in
     same_piece (subst P (append-nil d.pieces) (again_in_all [] d.pieces [] at h))
@@ -181,5 +165,5 @@ AddsBounds-append first second a b c h k =
       added = h.added ++ k.added;
       after = k.after ∙ ap (λ l. l ++ k.added) h.after ∙ append_assoc a h.added k.added;
       bounds = AllZip-append _ first second h.added k.added h.bounds k.bounds;
-      limit = All-append (λ bound. bound ≤ MAX_BOUND) h.added k.added h.limit k.limit;
+      limit = All-append (λ bound. bound ≤ greatest_bound) h.added k.added h.limit k.limit;
     }

@@ -18,7 +18,7 @@ use Rattle.std.proofs.lemmas.Option.{slice_get-get_or, slice_get-map}
 use Rattle.std.proofs.lemmas.Str.{IsUtf8-from_ascii}
 use Rattle.std.proofs.lemmas.Str.Ascii.{IsAscii-from_all}
 use Rattle.rbg_base.specs.Names.{is_name, is_name_start, is_name_part}
-use Rattle.rbg_game.specs.Descriptions.{AreDifferentNames, AreLawfulNames, AreNames}
+use Rattle.rbg_rules.specs.LawfulNames.{AreDifferentNames, AreLawfulNames, AreNames}
 use Rattle.rbg_game.specs.internal.NameTables.{bytes_of}
 use Rattle.rbg_game.proofs.Lists.{Contains-from_get, get_from-Contains}
 
@@ -31,10 +31,6 @@ differs a b other = by_test (bytes_eq a b) (bytes_eq-Decides a b)
 
 name_part_is_ascii : (b : ℕ) → is_name_part b ≡ true → b < 128
 name_part_is_ascii b h = grind (arith, nat_tests)
-
-first_is_part : (start digit rest : Bool) → (start && rest) ≡ (start && ((start || digit) && rest))
-first_is_part true digit rest = refl
-first_is_part false digit rest = refl
 
 start_is_part : (b : ℕ) → is_name_start b ≡ true → is_name_part b ≡ true
 start_is_part b h = rw h refl
@@ -49,17 +45,6 @@ pub IsUtf8-from_is_name : (bs : List ℕ) → is_name bs ≡ true → IsUtf8 bs
 IsUtf8-from_is_name bs h = IsUtf8-from_ascii bs (IsAscii-from_all bs (All-weaker (λ b. is_name_part b ≡ true) (λ b. b < 128) name_part_is_ascii bs (AllPass-from_list_all is_name_part bs (name_parts bs h))))
 
 pub ruleset name_texts = (IsUtf8-from_is_name)
-
--- A name is not empty, it begins as names do, and each of its bytes is a part of one.
-pub is_name-some : (bs : List ℕ) (b : ℕ) → slice_get bs 0 ≡ Some b → is_name bs ≡ (is_name_start b && list_all is_name_part bs)
-is_name-some [] b is = cc
-is_name-some (d ∷ ds) b is =
-    let same : d ≡ b = cc in
-    rw (← same) (first_is_part (is_name_start d) (is_ascii_digit d) (list_all is_name_part ds))
-
-pub is_name-none : (bs : List ℕ) → slice_get bs 0 ≡ None → is_name bs ≡ false
-is_name-none [] is = refl
-is_name-none (d ∷ ds) is = cc
 
 slice_get-push_cases : (xs : List (List ℕ)) (x y : List ℕ) (i : ℕ) → slice_get (xs ++ x ∷ []) i ≡ Some y → (slice_get xs i ≡ Some y) ⊎ ((i ≡ length xs) × (x ≡ y))
 slice_get-push_cases [] x y zero is = inr (refl, cc)

@@ -5,8 +5,6 @@ use Rattle.std.proofs.lemmas.List.{length-map, get_or-map, length-append}
 use Rattle.std.proofs.lemmas.Option.{slice_get_within, slice_get-get_or}
 use Rattle.std.proofs.lemmas.Slice.Zip.{AllZip-long}
 use Rattle.rbg_syntax.specs.Tree.{SpeltName, rectangle}
-use Rattle.rbg_syntax.specs.Views.{name_of}
-use Rattle.rbg_syntax.specs.declared.names.Name.{Name}
 use Rattle.rbg_board.specs.Graph.{Graph, HasWidth, IsClosed}
 use Rattle.rbg_board.specs.Cells.{Rows, cells_in, IsCell, AreDifferent, width_of}
 use Rattle.rbg_board.specs.Rectangle.{IsBeside, IsEven, IsRectangle, MakesRectangle, RectangleRefusal}
@@ -14,13 +12,14 @@ use Rattle.rbg_board.specs.declared.error.BoardError.{BoardError}
 use Rattle.rbg_board.specs.declared.error.BoardError.TheVariants as board_errors
 use Rattle.rbg_board.proofs.Numbering.{number-lt, row_of_cell}
 use Rattle.rbg_board.proofs.RectangleEdges.{even_start}
+use Rattle.rbg_rules.specs.LawfulNames.{AreDifferentNames, AreLawfulNames}
 use Rattle.rbg_game.specs.declared.error.GameError.{GameError}
 use Rattle.rbg_game.specs.declared.error.GameError.TheVariants as errors
-use Rattle.rbg_game.specs.Descriptions.{IsNumberOf, texts_of, AreDifferentNames, AreLawfulNames}
-use Rattle.rbg_game.specs.Faults.{HasBoardFault, unknown_piece, no_direction, no_rectangle, board_memory}
-use Rattle.rbg_game.specs.internal.NameTables.{HasLookUpFault, not_there, no_memory as look_up_memory, HasNameFault, no_name, same_name, no_memory}
-use Rattle.rbg_game.specs.internal.Boards.{MakesBoard, Joins, NumbersDirections, HasDirectionFault, no_name as no_direction_name, no_memory as direction_memory, refusal_of}
-use Rattle.rbg_game.proofs.Lists.{Contains-one, Contains-map_read, slice_get-append_left, slice_get-last, AllZip-at}
+use Rattle.rbg_game.specs.Descriptions.{IsNumberOf, texts_of}
+use Rattle.rbg_game.specs.Faults.{HasBoardFault, unknown_piece, no_rectangle, board_memory}
+use Rattle.rbg_game.specs.internal.NameTables.{HasLookUpFault, not_there, no_memory as look_up_memory, HasNameFault, same_name, no_memory}
+use Rattle.rbg_game.specs.internal.Boards.{MakesBoard, Joins, NumbersDirections, refusal_of}
+use Rattle.rbg_game.proofs.Lists.{slice_get-append_left, slice_get-last, AllZip-at}
 use Rattle.rbg_game.proofs.NameFaults.{again_alone}
 use Rattle.rbg_game.proofs.BoardNames.{rows_below}
 
@@ -145,37 +144,25 @@ rectangle_made pieces names rows cells numbers table board four named numbered l
         board = subst (λ ds. IsRectangle ds cells board) in_order.0 is;
         width = subst (λ ds. HasWidth (width_of ds) board) in_order.0 wide;
       };
-      names = lawful.names;
+      names = lawful;
       few = omega arith;
       closed = rectangle_closed numbers cells board makes is;
       some_vertex = omega arith;
+      vertices = omega (arith, makes.fits);
       first_pieces = subst (All (λ x. x < length pieces)) (sym is.first_pieces) (rows_below pieces rows cells named);
     }
 
 -- Faults.
 
--- a new name is refused for itself alone
-pub new_direction_fault : (known : List (List ℕ)) (name : SpeltName) (error : GameError) → ¬ Contains known name.text → HasNameFault known (name ∷ []) error → HasDirectionFault (name ∷ []) error
-new_direction_fault known name _ fresh (no_name h) = no_direction_name h
+-- a new name is added, unless memory runs out
+pub new_direction_fault : (known : List (List ℕ)) (name : SpeltName) (error : GameError) → ¬ Contains known name.text → HasNameFault known (name ∷ []) error → error ≡ errors.Memory
 new_direction_fault known name _ fresh (same_name {at = at} h) = absurd (fresh (again_alone known name at h).0)
-new_direction_fault known name _ fresh no_memory = direction_memory
+new_direction_fault known name _ fresh no_memory = refl
 
--- the same of a name that is read from a list
-pub direction_fault_at : (names : List Name) (i : ℕ) (name : Name) (error : GameError) → i < length names → name ≡ get_or names i name → HasDirectionFault (name_of (get_or names i name) ∷ []) error → HasDirectionFault (map name_of names) error
-direction_fault_at names i name _ within is (no_direction_name h) =
-    let same : name_of (get_or names i name) ≡ h.name = Contains-one (name_of (get_or names i name)) h.name h.stands in
-    let there = Contains-map_read name_of names i name within is in
-    no_direction_name (record { name = h.name; stands = subst (Contains (map name_of names)) (ap name_of is ∙ same) there; no_name = h.no_name; place = h.place })
-direction_fault_at names i name _ within is direction_memory = direction_memory
-
--- what is wrong with the cells or the directions is wrong with the rectangle
+-- what is wrong with the cells is wrong with the rectangle
 pub cells_fault : (pieces : List (List ℕ)) (names : List SpeltName) (rows : List (List SpeltName)) (error : GameError) → HasLookUpFault pieces (flat_map (λ row. row) rows) error → HasBoardFault pieces (rectangle names rows) error
 cells_fault pieces names rows _ (not_there h) = unknown_piece h
 cells_fault pieces names rows _ look_up_memory = board_memory
-
-pub directions_fault : (pieces : List (List ℕ)) (names : List SpeltName) (rows : List (List SpeltName)) (error : GameError) → HasDirectionFault names error → HasBoardFault pieces (rectangle names rows) error
-directions_fault pieces names rows _ (no_direction_name h) = no_direction h
-directions_fault pieces names rows _ direction_memory = board_memory
 
 -- what the rectangle is refused for is a fault of the board
 refusal_fault : (pieces : List (List ℕ)) (names : List SpeltName) (rows : List (List SpeltName)) (numbers : List ℕ) (cells : List (List ℕ)) (table : List (List ℕ)) (error : BoardError) → AllZip (AllZip (IsNumberOf pieces)) rows cells → NumbersDirections names numbers table → AreDifferentNames table → RectangleRefusal numbers cells error → ¬ (error ≡ board_errors.Memory) → HasBoardFault pieces (rectangle names rows) (errors.Board error)

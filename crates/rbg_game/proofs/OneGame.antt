@@ -4,7 +4,8 @@ use Rattle.std.proofs.lemmas.Option.{same_Some}
 use Rattle.std.proofs.lemmas.List.{map-append}
 use Rattle.rbg_syntax.specs.Tree.{SpeltBounded, SpeltDescription}
 use Rattle.rbg_rules.specs.State.{AbstractGame}
-use Rattle.rbg_game.specs.Descriptions.{Names, names_in, AreDifferentNames, RuleIs}
+use Rattle.rbg_rules.specs.LawfulNames.{AreDifferentNames}
+use Rattle.rbg_game.specs.Descriptions.{Names, names_in, RuleIs}
 use Rattle.rbg_game.specs.Descriptions.{board_in, holder_names, holders_of, AreBounds, IsGameOf}
 use Rattle.rbg_game.specs.OneGame.{OneGameOfDescriptionLaw, OneGameLaw}
 use Rattle.rbg_game.proofs.LoadingLemmas.{one_spelt}
@@ -21,11 +22,11 @@ bounds_once =
 players_differ : (d : SpeltDescription) (game : AbstractGame) → IsGameOf d game → AreDifferentNames game.players
 players_differ d game is =
     let variables : game.variables ≡ holder_names d.players ++ holder_names d.variables = is.variables ∙ map-append (λ (holder : SpeltBounded). holder.name.text) d.players d.variables in
-    subst AreDifferentNames (sym is.players) (front_differs (holder_names d.players) (holder_names d.variables) (subst AreDifferentNames variables is.lawful_variables.differ))
+    subst AreDifferentNames (sym is.players) (front_differs (holder_names d.players) (holder_names d.variables) (subst AreDifferentNames variables is.lawful.variable_names.differ))
 
 names_differ : (d : SpeltDescription) (game : AbstractGame) → IsGameOf d game → HasDifferentNames (names_in game)
 names_differ d game is =
-    record { players = players_differ d game is; variables = is.lawful_variables.differ; pieces = is.lawful_pieces.differ; directions = board_directions_differ d.board (board_in game) is.board }
+    record { players = players_differ d game is; variables = is.lawful.variable_names.differ; pieces = is.lawful.piece_names.differ; directions = board_directions_differ d.board (board_in game) is.board }
 
 pub one_game_of_description_law : OneGameOfDescriptionLaw
 one_game_of_description_law d a b left right =
@@ -33,7 +34,7 @@ one_game_of_description_law d a b left right =
     let pieces : a.pieces ≡ b.pieces = left.pieces ∙ sym right.pieces in
     let variables : a.variables ≡ b.variables = left.variables ∙ sym right.variables in
     let bounds : a.bounds ≡ b.bounds = bounds_once (holders_of d) a.bounds b.bounds left.bounds right.bounds in
-    let same : IsSameBoard (board_in a) (board_in b) = board_once d.board (board_in a) (board_in b) left.lawful_pieces.differ pieces left.board right.board in
+    let same : IsSameBoard (board_in a) (board_in b) = board_once d.board (board_in a) (board_in b) left.lawful.piece_names.differ pieces left.board right.board in
     let names : names_in a ≡ names_in b = λ i. record { players = players i; variables = variables i; pieces = pieces i; directions = same.directions i } in
     let rules : a.rules ≡ b.rules =
     numbered_rule_once (names_in a) (names_differ d a left) d.rules a.rules b.rules left.rules (subst (λ (ns : Names). RuleIs ns d.rules b.rules) (sym names) right.rules) left.lawful.numbered right.lawful.numbered in

@@ -8,7 +8,8 @@ use Rattle.rbg_board.specs.Hexagon.{HexagonEdge}
 use Rattle.rbg_board.specs.Written.{Written, pieces_of, directions_of, WrittenEdge}
 use Rattle.rbg_board.proofs.CallerLemmas.{one_graph}
 use Rattle.rbg_syntax.specs.Tree.{SpeltName, SpeltEdge, SpeltVertex, SpeltBoard, rectangle, hexagon, graph}
-use Rattle.rbg_game.specs.Descriptions.{IsNumberOf, AreDifferentNames}
+use Rattle.rbg_rules.specs.LawfulNames.{AreDifferentNames}
+use Rattle.rbg_game.specs.Descriptions.{IsNumberOf}
 use Rattle.rbg_game.specs.Descriptions.{NamedBoard, IsRectangleBoard, IsHexagonBoard, EdgeIs, VertexIs, directions_named, IsGraphBoard, BoardIs}
 use Rattle.rbg_game.proofs.BoardNames.{rows_once}
 use Rattle.rbg_game.proofs.Lists.{AllZip-once}

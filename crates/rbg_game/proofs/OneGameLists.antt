@@ -1,6 +1,7 @@
 -- Names in order of first use are determined.
 use Rattle.std.proofs.Common.{◌≡◌, ℕ, zero, suc, ◌<◌, ◌⊎◌, inl, inr, List, [], ◌∷◌, ◌++◌, Some, slice_get, Contains, refl, sym, ◌∙◌, subst, arith}
-use Rattle.rbg_game.specs.Descriptions.{AreDifferentNames, IsOrderOfFirstUse}
+use Rattle.rbg_rules.specs.LawfulNames.{AreDifferentNames}
+use Rattle.rbg_game.specs.Descriptions.{IsOrderOfFirstUse}
 use Rattle.rbg_game.proofs.Lists.{Contains-from_get, get_from-Contains}
 
 -- the first of two lists in one has no name twice, where the whole has none

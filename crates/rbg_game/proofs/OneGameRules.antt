@@ -1,11 +1,13 @@
 -- The rules of a description are at most one expression: where names differ their numbers are determined, and so are positions that are
 -- counted in order of text.
 use Rattle.std.proofs.Common.{◌≡◌, ℕ, zero, suc, ◌+◌, List, [], ◌∷◌, ◌++◌, inl, inr, Some, None, length, refl, sym, ap, ◌∙◌, subst}
+use Rattle.std.specs.List.{range_with_len}
 use Rattle.std.proofs.lemmas.Option.{same_Some}
 use Rattle.rbg_syntax.specs.Tree.{SpeltExpression, SpeltTerms, no_terms, more_terms, SpeltFactors, no_factors, more_factors, SpeltRule, SpeltRules, no_rules, more_rules, SpeltAction}
 use Rattle.rbg_rules.specs.Expression.{AbstractArithmetic, number, variable, piece_count, negated, AbstractAction, shift, on, off, assignment, comparison, switch, positive, negative, Expression, act, sequence, choice, star}
-use Rattle.rbg_rules.specs.Positions.{positions_of, positions_inside, count_from, IsNumbered}
-use Rattle.rbg_game.specs.Descriptions.{Names, IsNumberOf, AreDifferentNames, added, multiplied, relation_named, ArithmeticIs, SumIs, ProductIs, ActionIs, RuleIs, SequenceIs, ChoiceIs}
+use Rattle.rbg_rules.specs.Positions.{positions_of, positions_inside, IsNumbered}
+use Rattle.rbg_rules.specs.LawfulNames.{AreDifferentNames}
+use Rattle.rbg_game.specs.Descriptions.{Names, IsNumberOf, added, multiplied, ArithmeticIs, SumIs, ProductIs, ActionIs, RuleIs, SequenceIs, ChoiceIs}
 use Rattle.rbg_game.proofs.Lists.{AllZip-once, Contains-from_get}
 
 -- In each of the lists of names all differ.
@@ -45,24 +47,24 @@ mutual
 -- the list is n, n + 1, ..
 abbrev CountsFrom : ℕ → List ℕ → Type 0
 CountsFrom n [] = Unit {0}
-CountsFrom n (p ∷ ps) = (p ≡ n) × CountsFrom (suc n) ps
+CountsFrom n (p ∷ ps) = (p ≡ n) × CountsFrom (n + 1) ps
 
 -- the number that comes after such a list
 abbrev next_after : ℕ → List ℕ → ℕ
 next_after n [] = n
-next_after n (p ∷ ps) = next_after (suc n) ps
+next_after n (p ∷ ps) = next_after (n + 1) ps
 
-count_counts : (n many : ℕ) → CountsFrom n (count_from n many)
+count_counts : (n many : ℕ) → CountsFrom n (range_with_len n many)
 count_counts n zero = tt
-count_counts n (suc many) = (refl, count_counts (suc n) many)
+count_counts n (suc many) = (refl, count_counts (n + 1) many)
 
 counts_left : (n : ℕ) (xs ys : List ℕ) → CountsFrom n (xs ++ ys) → CountsFrom n xs
 counts_left n [] ys all = tt
-counts_left n (x ∷ xs) ys all = (all.0, counts_left (suc n) xs ys all.1)
+counts_left n (x ∷ xs) ys all = (all.0, counts_left (n + 1) xs ys all.1)
 
 counts_right : (n : ℕ) (xs ys : List ℕ) → CountsFrom n (xs ++ ys) → CountsFrom (next_after n xs) ys
 counts_right n [] ys all = all
-counts_right n (x ∷ xs) ys all = counts_right (suc n) xs ys all.1
+counts_right n (x ∷ xs) ys all = counts_right (n + 1) xs ys all.1
 
 -- The positions of the expression, or inside the action, count from n.
 abbrev IsCounted : ℕ → Expression → Type 0
@@ -90,7 +92,7 @@ mutual
   action_once names differ (SpeltAction.assign name spelt) n b c (v, x, v_is, x_is, e) (w, y, w_is, y_is, f) _ _ =
       e ∙ ap (λ u. assignment u x) (differ.variables.one_number v w name.text v_is w_is) ∙ ap (assignment w) (arithmetic_once names differ spelt x y x_is y_is) ∙ sym f
   action_once names differ (SpeltAction.compare left relation right) n b c (x, y, x_is, y_is, e) (x', y', x'_is, y'_is, f) _ _ =
-      e ∙ ap (λ u. comparison u (relation_named relation) y) (arithmetic_once names differ left x x' x_is x'_is) ∙ ap (comparison x' (relation_named relation)) (arithmetic_once names differ right y y' y_is y'_is) ∙ sym f
+      e ∙ ap (λ u. comparison u relation y) (arithmetic_once names differ left x x' x_is x'_is) ∙ ap (comparison x' relation) (arithmetic_once names differ right y y' y_is y'_is) ∙ sym f
   action_once names differ (SpeltAction.switch at None) n b c e f _ _ = e ∙ sym f
   action_once names differ (SpeltAction.switch at (Some name)) n b c (k, k_is, e) (l, l_is, f) _ _ = e ∙ ap (λ m. switch (m + 1)) (differ.players.one_number k l name.text k_is l_is) ∙ sym f
   action_once names differ (SpeltAction.positive at r) n b c (x, x_is, e) (y, y_is, f) counted counted' =
@@ -102,7 +104,7 @@ mutual
   rule_once names differ (SpeltRule.act a) n x y (p, b, b_is, e) (q, c, c_is, f) counted counted' =
       let at_x = subst (IsCounted n) e counted in
       let at_y = subst (IsCounted n) f counted' in
-      e ∙ ap (λ z. act z b) (at_x.0 ∙ sym at_y.0) ∙ ap (act q) (action_once names differ a (suc n) b c b_is c_is at_x.1 at_y.1) ∙ sym f
+      e ∙ ap (λ z. act z b) (at_x.0 ∙ sym at_y.0) ∙ ap (act q) (action_once names differ a (n + 1) b c b_is c_is at_x.1 at_y.1) ∙ sym f
   rule_once names differ (SpeltRule.sequence parts) n x y x_is y_is counted counted' = sequence_once names differ parts n x y x_is y_is counted counted'
   rule_once names differ (SpeltRule.choice parts) n x y x_is y_is counted counted' = choice_once names differ parts n x y x_is y_is counted counted'
   rule_once names differ (SpeltRule.star r) n x y (z, z_is, e) (w, w_is, f) counted counted' =

@@ -1,22 +1,23 @@
 -- What follows of rules that are one word of plain actions.
 use Rattle.std.proofs.Common.{◌≡◌, ℕ, zero, suc, ◌+◌, ◌<◌, ◌≤◌, inl, inr, List, [], ◌∷◌, ◌++◌, Some, None, length, get_or, refl, sym, ◌∙◌, ap, subst, arith}
-use Rattle.std.specs.List.{All, AllZip, Contains}
-use Rattle.std.proofs.lemmas.List.{length-append}
+use Rattle.std.specs.List.{All, AllZip, Contains, range_with_len}
+use Rattle.std.proofs.lemmas.List.FromFn.{length-range_with_len, map-range_with_len_more}
+use Rattle.std.proofs.lemmas.List.{length-append, map-id}
 use Rattle.std.proofs.lemmas.List.Elements.{All-cons, All-nil, All-head, All-tail}
 use Rattle.std.proofs.lemmas.List.Sums.{fold-append}
 use Rattle.std.proofs.lemmas.Option.{slice_get_within}
 use Rattle.rbg_syntax.specs.Tree.{SpeltName, SpeltRule, SpeltRules, no_rules, more_rules, SpeltAction, rules_after}
 use Rattle.rbg_syntax.specs.Plain.{IsPlainAction, IsPlainRule, ArePlainRules, IsPlainWord}
+use Rattle.rbg_rules.specs.Games.{NestsWithin, InsideNestsWithin}
 use Rattle.rbg_game.specs.declared.error.GameError.{GameError}
-use Rattle.rbg_rules.specs.declared.limits.TheConstants.{MAX_POSITIONS}
-use Rattle.rbg_game.specs.Descriptions.{NestsWithin, InsideNestsWithin}
+use Rattle.rbg_rules.specs.Limits.{most_positions}
 use Rattle.rbg_rules.specs.Expression.{AbstractAction, shift, on, off, switch, positive, negative, Expression, act, skip, sequence, sequence_of}
 use Rattle.rbg_game.specs.Faults.{HasSpeltAction, in_sequence, SomeHasSpeltAction, earlier, last, actions_in, actions_in_all, actions_of}
 use Rattle.rbg_game.specs.Faults.{HasRuleFault, unknown_use, many_positions, rule_memory}
 use Rattle.rbg_rules.specs.Games.{HasNoEmptySum, HasNoEmptySumInside, IsActionOf}
 use Rattle.rbg_game.specs.Descriptions.{Names, IsNumberOf, ActionIs, RuleIs, SequenceIs}
 use Rattle.rbg_game.specs.internal.PlainRules.{IsPartAt, IsRuleByNumbers}
-use Rattle.rbg_rules.specs.Positions.{HasAction, HasInside, positions_of, positions_inside, count_from, IsNumbered}
+use Rattle.rbg_rules.specs.Positions.{HasAction, HasInside, positions_of, positions_inside, IsNumbered}
 use Rattle.rbg_rules.specs.State.{AbstractGame}
 
 -- The game has as many players, pieces and directions as there are names.
@@ -159,7 +160,7 @@ plain_part_counts (SpeltRule.choice rs) plain = absurd plain
 plain_part_counts (SpeltRule.star r) plain = absurd plain
 
 -- Rules that are a word by numbers, numbered in order and within the limit, are all that is asked of them.
-pub made_by_numbers : (names : Names) (r : SpeltRule) (x : Expression) → IsPlainWord r → RuleIs names r x → IsNumbered x → length (positions_of x) ≤ MAX_POSITIONS → IsRuleByNumbers names r x
+pub made_by_numbers : (names : Names) (r : SpeltRule) (x : Expression) → IsPlainWord r → RuleIs names r x → IsNumbered x → length (positions_of x) ≤ most_positions → IsRuleByNumbers names r x
 made_by_numbers names r x plain is numbered few =
     let simple = plain_word_is_simple names r x plain is in
     record {
@@ -172,28 +173,18 @@ made_by_numbers names r x plain is numbered few =
       nesting = simple.nests;
     }
 
+-- one number more
+range_with_len_more : (first many : ℕ) → range_with_len first (many + 1) ≡ range_with_len first many ++ (first + many) ∷ []
+range_with_len_more first many = sym (map-id (range_with_len first (many + 1))) ∙ map-range_with_len_more (λ n. n) first many (first + many) refl ∙ ap (λ l. l ++ (first + many) ∷ []) (map-id (range_with_len first many))
+
 -- The rules so far: those of the first parts, numbered from 1.
 pub record AreSoFar (names : Names) (rs : List SpeltRule) (xs : List Expression) : Type 0 where
   pub rules : SequenceIs names (rules_after no_rules rs) (sequence_of xs)
-  pub positions : positions_of (sequence_of xs) ≡ count_from 1 (length rs)
+  pub positions : positions_of (sequence_of xs) ≡ range_with_len 1 (length rs)
 
 rules_after-push : (first : SpeltRules) (rs : List SpeltRule) (r : SpeltRule) → rules_after first (rs ++ r ∷ []) ≡ more_rules (rules_after first rs) r
 rules_after-push first [] r = refl
 rules_after-push first (s ∷ rs) r = rules_after-push (more_rules first s) rs r
-
-count_from-push : (first many : ℕ) → count_from first (many + 1) ≡ count_from first many ++ (first + many) ∷ []
-count_from-push first zero = let e : first + 0 ≡ first = omega arith in rw e refl
-count_from-push first (suc many) =
-    let e : suc many + 1 ≡ suc (many + 1) = omega arith in
-    let f : suc first + many ≡ first + suc many = omega arith in
-    ap (count_from first) e ∙ ap (λ (l : List ℕ). first ∷ l) (count_from-push (suc first) many) ∙ ap (λ (n : ℕ). first ∷ (count_from (suc first) many ++ n ∷ [])) f
-
-pub length-count_from : (first many : ℕ) → length (count_from first many) ≡ many
-length-count_from first zero = refl
-length-count_from first (suc many) = ap suc (length-count_from (suc first) many)
-
-pub none_so_far : (names : Names) → AreSoFar names [] []
-none_so_far names = record { rules = refl; positions = refl }
 
 pub more_so_far : (names : Names) (rs : List SpeltRule) (xs : List Expression) (r : SpeltRule) (x : Expression) (p : ℕ) → p ≡ length rs + 1 → IsPlainRule r → AreSoFar names rs xs → IsPartAt names p r x → AreSoFar names (rs ++ r ∷ []) (xs ++ x ∷ [])
 more_so_far names rs xs r x p next plain so_far part =
@@ -208,22 +199,22 @@ more_so_far names rs xs r x p next plain so_far part =
       positions =
           ap positions_of whole
           ∙ ap (λ (l : List ℕ). l ++ positions_of x) so_far.positions
-          ∙ ap (λ (l : List ℕ). count_from 1 (length rs) ++ l) (here ∙ ap (λ (n : ℕ). n ∷ []) next')
-          ∙ sym (count_from-push 1 (length rs))
-          ∙ ap (count_from 1) longer;
+          ∙ ap (λ (l : List ℕ). range_with_len 1 (length rs) ++ l) (here ∙ ap (λ (n : ℕ). n ∷ []) next')
+          ∙ sym (range_with_len_more 1 (length rs))
+          ∙ ap (range_with_len 1) longer;
     }
 
-pub all_so_far : (names : Names) (rs : List SpeltRule) (xs : List Expression) → ArePlainRules (rules_after no_rules rs) → length rs ≤ MAX_POSITIONS → AreSoFar names rs xs → IsRuleByNumbers names (SpeltRule.sequence (rules_after no_rules rs)) (sequence_of xs)
+pub all_so_far : (names : Names) (rs : List SpeltRule) (xs : List Expression) → ArePlainRules (rules_after no_rules rs) → length rs ≤ most_positions → AreSoFar names rs xs → IsRuleByNumbers names (SpeltRule.sequence (rules_after no_rules rs)) (sequence_of xs)
 all_so_far names rs xs plain few so_far =
-    let many : length (positions_of (sequence_of xs)) ≡ length rs = ap length so_far.positions ∙ length-count_from 1 (length rs) in
-    made_by_numbers names (SpeltRule.sequence (rules_after no_rules rs)) (sequence_of xs) plain so_far.rules (record { in_order = so_far.positions ∙ ap (count_from 1) (sym many) }) (omega arith)
+    let many : length (positions_of (sequence_of xs)) ≡ length rs = ap length so_far.positions ∙ length-range_with_len 1 (length rs) in
+    made_by_numbers names (SpeltRule.sequence (rules_after no_rules rs)) (sequence_of xs) plain so_far.rules (record { in_order = so_far.positions ∙ ap (range_with_len 1) (sym many) }) (omega arith)
 
 -- A word of one action.
 alone_at_first : (names : Names) (s : SpeltAction) (b : AbstractAction) → IsPlainAction s → ActionIs names s b → IsRuleByNumbers names (SpeltRule.act s) (act 1 b)
 alone_at_first names s b plain named =
     let here : positions_of (act 1 b) ≡ 1 ∷ [] = ap (λ (l : List ℕ). 1 ∷ l) (plain_is_simple names s b plain named).no_positions in
     let few : length (positions_of (act 1 b)) ≡ 1 = ap length here in
-    made_by_numbers names (SpeltRule.act s) (act 1 b) plain (1, b, named, refl) (record { in_order = here ∙ ap (λ (l : List ℕ). count_from 1 (length l)) (sym here) }) (omega arith)
+    made_by_numbers names (SpeltRule.act s) (act 1 b) plain (1, b, named, refl) (record { in_order = here ∙ ap (λ (l : List ℕ). range_with_len 1 (length l)) (sym here) }) (omega arith)
 
 pub made_alone : (names : Names) (r : SpeltRule) (x : Expression) → IsPlainWord r → IsPartAt names 1 r x → IsRuleByNumbers names r x
 made_alone names r x plain part =
@@ -255,7 +246,7 @@ item_stands first (r ∷ rs) zero d s below h = stands_after (more_rules first r
 item_stands first (r ∷ rs) (suc k) d s below h = item_stands (more_rules first r) rs k d s (omega arith) h
 
 -- The fault of a part is one of the sequence, where a part has one action.
-pub fault_of_part : (names : Names) (rs : List SpeltRule) (r : SpeltRule) (e : GameError) → Contains rs r → actions_in r ≤ MAX_POSITIONS → HasRuleFault names r e → HasRuleFault names (SpeltRule.sequence (rules_after no_rules rs)) e
+pub fault_of_part : (names : Names) (rs : List SpeltRule) (r : SpeltRule) (e : GameError) → Contains rs r → actions_in r ≤ most_positions → HasRuleFault names r e → HasRuleFault names (SpeltRule.sequence (rules_after no_rules rs)) e
 fault_of_part names rs r _ (k, below, is) few (unknown_use {action = s} stands uses h) =
     unknown_use (in_sequence (item_stands no_rules rs k r s below (subst (λ (q : SpeltRule). HasSpeltAction q s) (sym is) stands))) uses h
 fault_of_part names rs r _ stands few (many_positions many) = absurd (omega arith)

@@ -3,9 +3,10 @@ use Rattle.std.proofs.Common.{◌≡◌, ℕ, suc, false, slice_get, ◌+◌, �
 use Rattle.std.specs.List.{All, AllZip}
 use Rattle.std.proofs.lemmas.List.{length-append, length-map, map-append, get_or-map, length-take, take_all}
 use Rattle.std.proofs.lemmas.List.Elements.{All-map, All-push}
-use Rattle.rbg_game.proofs.PlainRuleLemmas.{AreSoFar, more_so_far, all_so_far, plain_after, parts_plain, plain_part_counts, count_after, fault_of_part, length-count_from, made_alone}
+use Rattle.rbg_game.proofs.PlainRuleLemmas.{AreSoFar, more_so_far, all_so_far, plain_after, parts_plain, plain_part_counts, count_after, fault_of_part, made_alone}
 use Rattle.std.proofs.Common.{Option, Some, None, option_map, Vec, subst}
 use Rattle.std.specs.Global.{Global}
+use Rattle.std.proofs.lemmas.List.FromFn.{length-range_with_len}
 use Rattle.rbg_syntax.specs.declared.names.Name.{Name}
 use Rattle.rbg_syntax.specs.declared.rule.Action.{Action as SyntaxAction}
 use Rattle.rbg_syntax.specs.declared.rule.Action as actions
@@ -18,7 +19,7 @@ use Rattle.rbg_syntax.proofs.Trees.{rule_of-Act, rule_of-Then, action_of-Shift, 
 use Rattle.rbg_game.specs.declared.error.GameError.{GameError}
 use Rattle.rbg_game.specs.declared.error.GameError.TheVariants as errors
 use Rattle.rbg_game.specs.declared.error.Thing.TheVariants as things
-use Rattle.rbg_rules.specs.declared.limits.TheConstants.{MAX_POSITIONS}
+use Rattle.rbg_rules.specs.Limits.{most_positions}
 use Rattle.rbg_rules.specs.declared.rule.Action.{Action}
 use Rattle.rbg_rules.specs.declared.rule.Rule.{Rule}
 use Rattle.rbg_rules.specs.declared.rule.Action.TheVariants.{Shift, On, Off, Switch}
@@ -135,7 +136,7 @@ parts_are_plain r v ps is same plain k d below =
 word_is_plain : (ps : List SyntaxRule) → All (λ part. IsPlainRule (rule_of part)) ps → ArePlainRules (rules_after no_rules (map rule_of ps))
 word_is_plain ps all = plain_after no_rules (map rule_of ps) tt (All-map IsPlainRule rule_of ps all)
 
-pub too_many_parts : (names : Names) (ps : List SyntaxRule) → All (λ part. IsPlainRule (rule_of part)) ps → MAX_POSITIONS < length ps → HasRuleFault names (SpeltRule.sequence (rules_after no_rules (map rule_of ps))) (errors.TooMany things.Positions)
+pub too_many_parts : (names : Names) (ps : List SyntaxRule) → All (λ part. IsPlainRule (rule_of part)) ps → most_positions < length ps → HasRuleFault names (SpeltRule.sequence (rules_after no_rules (map rule_of ps))) (errors.TooMany things.Positions)
 too_many_parts names ps all many =
     let count = count_after no_rules (map rule_of ps) (All-map IsPlainRule rule_of ps all) in
     many_positions (omega (arith, count, length-map ps rule_of))
@@ -159,12 +160,12 @@ within_next names part xs x old new within adds =
     let more : length old ≤ length new = omega (arith, ap length adds.added, length-append old (adds.action ∷ [])) in
     All-push (IsWithin (length new)) xs x (all_within_more (length old) (length new) xs more within) (rw adds.tree (within_Act (length new) (length new) (omega arith)))
 
-pub finished_parts : (names : Names) (ps : List SyntaxRule) (i : ℕ) (v : Vec Rule Global) (actions : List Action) → All (λ p. IsPlainRule (rule_of p)) ps → length ps ≡ i → i ≤ MAX_POSITIONS → length actions ≡ i → AreSoFar names (map rule_of (take i ps)) (map (expression_of actions) v.items) → AreRulesByNumbers names (SpeltRule.sequence (rules_after no_rules (map rule_of ps))) actions (Then v)
+pub finished_parts : (names : Names) (ps : List SyntaxRule) (i : ℕ) (v : Vec Rule Global) (actions : List Action) → All (λ p. IsPlainRule (rule_of p)) ps → length ps ≡ i → i ≤ most_positions → length actions ≡ i → AreSoFar names (map rule_of (take i ps)) (map (expression_of actions) v.items) → AreRulesByNumbers names (SpeltRule.sequence (rules_after no_rules (map rule_of ps))) actions (Then v)
 finished_parts names ps i v actions all past few count so_far =
     let whole : AreSoFar names (map rule_of ps) (map (expression_of actions) v.items) = subst (λ (l : List SyntaxRule). AreSoFar names (map rule_of l) (map (expression_of actions) v.items)) (take_all i ps (omega arith)) so_far in
     let tree : expression_of actions (Then v) ≡ sequence_of (map (expression_of actions) v.items) = expression_of-Then actions v in
     let long : length (map rule_of ps) ≡ length ps = length-map ps rule_of in
-    let many : length (positions_of (sequence_of (map (expression_of actions) v.items))) ≡ length (map rule_of ps) = ap length whole.positions ∙ length-count_from 1 (length (map rule_of ps)) in
+    let many : length (positions_of (sequence_of (map (expression_of actions) v.items))) ≡ length (map rule_of ps) = ap length whole.positions ∙ length-range_with_len 1 (length (map rule_of ps)) in
     record {
       by_numbers = rw tree (all_so_far names (map rule_of ps) (map (expression_of actions) v.items) (word_is_plain ps all) (omega arith) whole);
       count = rw tree (omega arith);

@@ -2,7 +2,6 @@
 use Rattle.std.specs.Prelude.{◌≡◌, ℕ, suc, ◌+◌, ◌<◌, ◌^◌, ◌⊎◌, List, [], ◌∷◌, ◌++◌, Some, None}
 use Rattle.std.specs.Prelude.{map, slice_get, Contains, flat_map, All, IsTrue}
 use Rattle.std.specs.List.{AllZip, concat}
-use Rattle.rbg_base.specs.Names.{is_name}
 use Rattle.rbg_board.specs.Cells.{width_of}
 use Rattle.rbg_board.specs.Graph.{Graph, HasWidth, IsGraphOf}
 use Rattle.rbg_board.specs.Rectangle.{RectangleEdge, MakesRectangle}
@@ -17,16 +16,13 @@ use Rattle.rbg_syntax.specs.declared.expression.Additive.{Additive}
 use Rattle.rbg_syntax.specs.declared.expression.Additive.TheVariants.{Plus, Minus}
 use Rattle.rbg_syntax.specs.declared.expression.Multiplicative.{Multiplicative}
 use Rattle.rbg_syntax.specs.declared.expression.Multiplicative.TheVariants.{Times, Over}
-use Rattle.rbg_base.specs.declared.relation.Relation.{Relation}
-use Rattle.rbg_base.specs.declared.relation.Relation.TheVariants.{Equal, NotEqual, Less}
-use Rattle.rbg_base.specs.declared.relation.Relation.TheVariants.{LessOrEqual, Greater, GreaterOrEqual}
 use Rattle.rbg_rules.specs.Expression.{AbstractArithmetic, number, variable, piece_count, negated}
 use Rattle.rbg_rules.specs.Expression.{sum, difference, product, quotient}
-use Rattle.rbg_rules.specs.Expression.{AbstractRelation, equal, different, less, at_most, greater, at_least}
 use Rattle.rbg_rules.specs.Expression.{AbstractAction, shift, on, off, assignment, comparison, switch}
 use Rattle.rbg_rules.specs.Expression.{positive, negative}
 use Rattle.rbg_rules.specs.Expression.{Expression, act, skip, sequence, fail, choice, star}
 use Rattle.rbg_rules.specs.Games.{IsGame}
+use Rattle.rbg_rules.specs.LawfulNames.{AreDifferentNames}
 use Rattle.rbg_rules.specs.State.{AbstractGame}
 
 -- Names and their numbers.
@@ -46,20 +42,6 @@ names_in game =
 abbrev pub IsNumberOf : List (List ℕ) → SpeltName → ℕ → Type 0
 IsNumberOf list name n = slice_get list n ≡ Some name.text
 
--- no name stands twice in the list
-pub record AreDifferentNames (list : List (List ℕ)) : Type 0 where
-  pub one_number :
-      (i j : ℕ) (name : List ℕ) → slice_get list i ≡ Some name → slice_get list j ≡ Some name → i ≡ j
-
--- every name is one of the language
-abbrev pub AreNames : List (List ℕ) → Type 0
-AreNames = All (λ name. IsTrue (is_name name))
-
--- The names in a list that may be spoken of: names of the language, and no name twice.
-pub record AreLawfulNames (list : List (List ℕ)) : Type 0 where
-  pub names : AreNames list
-  pub differ : AreDifferentNames list
-
 -- the texts of names
 abbrev pub texts_of : List SpeltName → List (List ℕ)
 texts_of names = map (λ name. name.text) names
@@ -74,14 +56,6 @@ added Minus b c = difference b c
 abbrev pub multiplied : Multiplicative → AbstractArithmetic → AbstractArithmetic → AbstractArithmetic
 multiplied Times b c = product b c
 multiplied Over b c = quotient b c
-
-abbrev pub relation_named : Relation → AbstractRelation
-relation_named Equal = equal
-relation_named NotEqual = different
-relation_named Less = less
-relation_named LessOrEqual = at_most
-relation_named Greater = greater
-relation_named GreaterOrEqual = at_least
 
 abbrev mutual
   -- What an arithmetic expression is. A number fits signed 64 bits. A name is a variable if there is one of that name,
@@ -138,7 +112,7 @@ abbrev mutual
       × (c : AbstractArithmetic)
       × ArithmeticIs names e a
       × ArithmeticIs names f c
-      × (b ≡ comparison a (relation_named relation) c)
+      × (b ≡ comparison a relation c)
   ActionIs names (SpeltAction.switch at None) b = b ≡ switch 0
   ActionIs names (SpeltAction.switch at (Some n)) b = (k : ℕ) × IsNumberOf names.players n k × (b ≡ switch (k + 1))
   ActionIs names (SpeltAction.positive at r) b = (x : Expression) × RuleIs names r x × (b ≡ positive x)
@@ -170,24 +144,6 @@ abbrev mutual
       × ChoiceIs names parts y
       × RuleIs names r z
       × (x ≡ choice y z)
-
-abbrev mutual
-  -- at most so many patterns stand one inside the other
-  pub NestsWithin : ℕ → Expression → Type 0
-  NestsWithin limit (act p a) = InsideNestsWithin limit a
-  NestsWithin limit skip = Unit {0}
-  NestsWithin limit (sequence x y) = NestsWithin limit x × NestsWithin limit y
-  NestsWithin limit fail = Unit {0}
-  NestsWithin limit (choice x y) = NestsWithin limit x × NestsWithin limit y
-  NestsWithin limit (star x) = NestsWithin limit x
-
-  pub InsideNestsWithin : ℕ → AbstractAction → Type 0
-  InsideNestsWithin limit (positive x) = (below : ℕ) × (limit ≡ suc below) × NestsWithin below x
-  InsideNestsWithin limit (negative x) = (below : ℕ) × (limit ≡ suc below) × NestsWithin below x
-  InsideNestsWithin limit _ = Unit {0}
-
-abbrev pub most_patterns_nested : ℕ
-most_patterns_nested = 8
 
 -- Boards by numbers.
 
@@ -281,20 +237,13 @@ AreBounds = AllZip (λ holder bound. holder.bound.value ≡ Some bound)
 -- The game is that of the description.
 --   players, variables, pieces: the names in order of text; a player is a variable too
 --   bounds: the numbers of the players and variables
---   lawful_variables, lawful_pieces: names of the language, and no name twice
---   direction_names: names of the language
 --   board, rules: by numbers, with the actions numbered in order of text (which every game keeps)
---   nesting: no pattern stands inside 8 others
---   lawful: what every game keeps, the limits among it
+--   lawful: what every game keeps, as lawful names and the limits
 pub record IsGameOf (d : SpeltDescription) (game : AbstractGame) : Type 0 where
   pub players : game.players ≡ holder_names d.players
   pub variables : game.variables ≡ holder_names (holders_of d)
   pub pieces : game.pieces ≡ texts_of d.pieces
   pub bounds : AreBounds (holders_of d) game.bounds
-  pub lawful_variables : AreLawfulNames game.variables
-  pub lawful_pieces : AreLawfulNames game.pieces
-  pub direction_names : AreNames game.directions
   pub board : BoardIs (board_in game) d.board
   pub rules : RuleIs (names_in game) d.rules game.rules
-  pub nesting : NestsWithin most_patterns_nested game.rules
   pub lawful : IsGame game

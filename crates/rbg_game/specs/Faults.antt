@@ -1,15 +1,14 @@
 -- Why a description is no game: the fault that an error names, at its place.
-use Rattle.std.specs.Prelude.{◌≡◌, ◌≢◌, ℕ, suc, ◌+◌, ◌<◌, ◌↔◌, List, [], ◌∷◌, ◌++◌, false, Some}
+use Rattle.std.specs.Prelude.{◌≡◌, ◌≢◌, ℕ, suc, ◌+◌, ◌<◌, ◌↔◌, List, [], ◌∷◌, ◌++◌, Some}
 use Rattle.std.specs.Prelude.{map, length, slice_get, slice_index, Contains, flat_map}
 use Rattle.std.specs.List.{AllZip}
-use Rattle.rbg_base.specs.Names.{is_name}
 use Rattle.rbg_board.specs.Rectangle.{RectangleRefusal}
 use Rattle.rbg_board.specs.declared.error.BoardError.{BoardError}
 use Rattle.rbg_board.specs.declared.error.BoardError.TheVariants as board_errors
 use Rattle.rbg_syntax.specs.Tree.{SpeltName, SpeltNumber, SpeltBounded, SpeltBoard, rectangle, hexagon, graph}
 use Rattle.rbg_syntax.specs.Tree.{SpeltRule, SpeltRules, no_rules, more_rules, SpeltAction, SpeltDescription}
-use Rattle.rbg_rules.specs.declared.limits.TheConstants.{MAX_PLAYERS, MAX_PIECES, MAX_VARIABLES}
-use Rattle.rbg_rules.specs.declared.limits.TheConstants.{MAX_BOUND, MAX_POSITIONS}
+use Rattle.rbg_rules.specs.Limits.{most_players, most_pieces, most_variables}
+use Rattle.rbg_rules.specs.Limits.{greatest_bound, most_positions}
 use Rattle.rbg_game.specs.declared.error.GameError.{GameError}
 use Rattle.rbg_game.specs.declared.error.GameError.TheVariants.{UnknownName, SameName, Bound, TooMany, Memory, Board}
 use Rattle.rbg_game.specs.declared.error.Thing.TheVariants.{Players, Pieces, Variables, Positions}
@@ -20,13 +19,6 @@ pub record HasUnknown (known : List (List ℕ)) (names : List SpeltName) (at : �
   pub name : SpeltName
   pub stands : Contains names name
   pub unknown : ¬ Contains known name.text
-  pub place : name.at ≡ at
-
--- One of the names, at this offset, is none of the language.
-pub record HasNoName (names : List SpeltName) (at : ℕ) : Type 0 where
-  pub name : SpeltName
-  pub stands : Contains names name
-  pub no_name : is_name name.text ≡ false
   pub place : name.at ≡ at
 
 -- The name stands in the list at this offset, and before it the same name.
@@ -43,7 +35,7 @@ pub record StandsAgain (list : List SpeltName) (at : ℕ) : Type 0 where
 
 -- The number is too great for a bound.
 abbrev pub IsNoBound : SpeltNumber → Type 0
-IsNoBound n = (bound : ℕ) → n.value ≡ Some bound → MAX_BOUND < bound
+IsNoBound n = (bound : ℕ) → n.value ≡ Some bound → greatest_bound < bound
 
 -- One of the bounds, at this offset, is too great.
 pub record HasGreatBound (holders : List SpeltBounded) (at : ℕ) : Type 0 where
@@ -94,9 +86,6 @@ pub data HasBoardFault (pieces : List (List ℕ)) : SpeltBoard → GameError →
   unknown_piece : {board : SpeltBoard} {at : ℕ}
       → HasUnknown pieces (board_pieces board) at
       → HasBoardFault pieces board (UnknownName at)
-  no_direction : {names : List SpeltName} {rows : List (List SpeltName)} {at : ℕ}
-      → HasNoName names at
-      → HasBoardFault pieces (rectangle names rows) (UnknownName at)
   no_rectangle : {names : List SpeltName} {rows : List (List SpeltName)} {error : BoardError}
       → HasRectangleFault pieces names rows error
       → HasBoardFault pieces (rectangle names rows) (Board error)
@@ -181,7 +170,7 @@ pub data HasRuleFault (names : Names) (rule : SpeltRule) : GameError → Type 0 
       → HasUnknown (names_for names purpose) used at
       → HasRuleFault names rule (UnknownName at)
   many_positions :
-      MAX_POSITIONS < actions_in rule
+      most_positions < actions_in rule
       → HasRuleFault names rule (TooMany Positions)
   rule_memory :
       HasRuleFault names rule Memory
@@ -205,9 +194,6 @@ names_spelt d =
 -- (Said of the descriptions that are read so far: their rules have no pattern and no arithmetic, and their boards,
 -- rectangles, have four directions.)
 pub data HasFault (d : SpeltDescription) : GameError → Type 0 where
-  no_name : {at : ℕ}
-      → HasNoName (names_of_holders d ++ d.pieces) at
-      → HasFault d (UnknownName at)
   same_holder : {at : ℕ}
       → StandsAgain (names_of_holders d) at
       → HasFault d (SameName at)
@@ -218,13 +204,13 @@ pub data HasFault (d : SpeltDescription) : GameError → Type 0 where
       → HasGreatBound (holders_of d) at
       → HasFault d (Bound at)
   many_players :
-      MAX_PLAYERS < length d.players
+      most_players < length d.players
       → HasFault d (TooMany Players)
   many_pieces :
-      MAX_PIECES < length d.pieces
+      most_pieces < length d.pieces
       → HasFault d (TooMany Pieces)
   many_variables :
-      MAX_VARIABLES < length (holders_of d)
+      most_variables < length (holders_of d)
       → HasFault d (TooMany Variables)
   in_board : {error : GameError}
       → HasBoardFault (texts_of d.pieces) d.board error

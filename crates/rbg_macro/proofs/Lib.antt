@@ -17,5 +17,7 @@ mod Rests
 mod Scan
 mod Sections
 mod Spans
+mod SpeltExpansions
+mod SpeltTokens
 mod Words
 pub mod ZeroBytes

@@ -10,7 +10,8 @@ use Rattle.rbg_macro.specs.declared.token.Symbol.{Symbol}
 use Rattle.rbg_macro.specs.declared.token.Symbol.TheVariants.{DoubleArrow, Arrow, DoubleEquals, NotEquals, LessOrEqual, GreaterOrEqual, Equals, LessThan, GreaterThan, Plus, Minus, Star, Slash, OpenParenthesis, CloseParenthesis, OpenBracket, CloseBracket, OpenBrace, CloseBrace, Comma, Semicolon, Colon, Tilde, Hash, Dollar, Question, Exclamation}
 use Rattle.rbg_macro.specs.declared.token.TokenKind.{TokenKind}
 use Rattle.rbg_macro.specs.declared.token.TokenKind.TheVariants.{Name, Number, Symbol as A_Symbol}
-use Rattle.rbg_macro.specs.Text.{Lexes, end, blank, comment, token, zero_byte, zero_in_comment, bad_byte, behind_token, is_blank, is_comment_byte, spelling, IsComment, IsLineEnd, Spells, IsToken, BeginsNoToken, HasTokens, HasFirstFault, HasTextFault}
+use Rattle.rbg_macro.specs.Text.{Lexes, end, blank, comment, token, zero_byte, zero_in_comment, bad_byte, behind_token, is_blank, is_comment_byte, IsComment, IsLineEnd, IsToken, BeginsNoToken, HasTokens, HasFirstFault, HasTextFault}
+use Rattle.rbg_macro.specs.Spelling.{spelling, Spells}
 use Rattle.rbg_base.specs.Names.{is_name_start, is_name_part}
 use Rattle.rbg_macro.specs.Token.{Lexeme}
 use Rattle.rbg_macro.proofs.Words.{both, digit_starts_no_name, symbol_starts_no_name, symbol_starts_no_number}

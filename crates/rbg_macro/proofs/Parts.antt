@@ -10,7 +10,8 @@ use Rattle.rbg_macro.specs.declared.token.Symbol.{Symbol}
 use Rattle.rbg_macro.specs.declared.token.TokenKind.{TokenKind}
 use Rattle.rbg_macro.specs.declared.token.TokenKind.TheVariants.{Name, Number, Symbol as A_Symbol}
 use Rattle.rbg_macro.specs.Part.{Skips, Takes, BeginsComment, IsLongestSymbol}
-use Rattle.rbg_macro.specs.Text.{Lexes, blank, comment, token, zero_byte, zero_in_comment, bad_byte, is_blank, is_comment_byte, spelling, IsComment, IsLineEnd, IsToken, BeginsNoToken}
+use Rattle.rbg_macro.specs.Text.{Lexes, blank, comment, token, zero_byte, zero_in_comment, bad_byte, is_blank, is_comment_byte, IsComment, IsLineEnd, IsToken, BeginsNoToken}
+use Rattle.rbg_macro.specs.Spelling.{spelling}
 use Rattle.rbg_base.specs.Names.{is_name_start, is_name_part}
 use Rattle.rbg_macro.proofs.Words.{list_all-prefix_len, start_is_part, name_is_token, number_is_token, symbol_is_token, 0<length-spelling}
 

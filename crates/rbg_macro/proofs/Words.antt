@@ -11,7 +11,8 @@ use Rattle.rbg_macro.specs.declared.token.Symbol.TheVariants.{DoubleArrow}
 use Rattle.rbg_macro.specs.declared.token.TokenKind.{TokenKind}
 use Rattle.rbg_macro.specs.declared.token.TokenKind.TheVariants.{Name, Number, Symbol as A_Symbol}
 use Rattle.rbg_macro.specs.Part.{IsLongestSymbol, BeginsNoSymbol}
-use Rattle.rbg_macro.specs.Text.{is_number, spelling, Spells, IsToken, BeginsNoToken}
+use Rattle.rbg_macro.specs.Text.{IsToken, BeginsNoToken}
+use Rattle.rbg_macro.specs.Spelling.{is_number, spelling, Spells}
 use Rattle.rbg_base.specs.Names.{is_name, is_name_start, is_name_part}
 
 -- no symbol begins as a name or a number does

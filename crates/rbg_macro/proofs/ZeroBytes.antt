@@ -8,7 +8,8 @@ use Rattle.rbg_macro.specs.declared.token.Symbol.{Symbol}
 use Rattle.rbg_macro.specs.declared.token.Symbol.TheVariants.{DoubleArrow}
 use Rattle.rbg_macro.specs.declared.token.TokenKind.{TokenKind}
 use Rattle.rbg_macro.specs.declared.token.TokenKind.TheVariants.{Name, Number, Symbol as A_Symbol}
-use Rattle.rbg_macro.specs.Text.{Lexes, end, blank, comment, token, zero_byte, zero_in_comment, bad_byte, behind_token, is_comment_byte, spelling, IsComment, Spells, HasTokens}
+use Rattle.rbg_macro.specs.Text.{Lexes, end, blank, comment, token, zero_byte, zero_in_comment, bad_byte, behind_token, is_comment_byte, IsComment, HasTokens}
+use Rattle.rbg_macro.specs.Spelling.{spelling, Spells}
 use Rattle.rbg_base.specs.Names.{is_name_part}
 use Rattle.rbg_macro.specs.Token.{Lexeme}
 use Rattle.rbg_macro.proofs.Words.{both, name_parts, number_digits}
@@ -39,7 +40,7 @@ comment_has_none word line is =
     (none_passes is_comment_byte refl line is.goes_on))
 
 -- tokens with one before them were tokens before
-tokens_behind : (t : Lexeme) (read : Result (List Lexeme) TextError) (ts : List Lexeme) → behind_token t read ≡ Ok ts → (us : List Lexeme) × (read ≡ Ok us)
+pub tokens_behind : (t : Lexeme) (read : Result (List Lexeme) TextError) (ts : List Lexeme) → behind_token t read ≡ Ok ts → (us : List Lexeme) × (read ≡ Ok us)
 tokens_behind t (Ok us) ts is = (us, refl)
 tokens_behind t (Err e) ts is = cc
 

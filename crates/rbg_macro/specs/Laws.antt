@@ -6,6 +6,7 @@ use Rattle.rbg_macro.specs.declared.error.TextError.{TextError}
 use Rattle.rbg_macro.specs.declared.error.TextError.TheVariants as text_errors
 use Rattle.rbg_macro.specs.Expansion.{Expands, HasSections, HasMacroFault}
 use Rattle.rbg_macro.specs.Macro.{Macro}
+use Rattle.rbg_macro.specs.Spelling.{AreLexemes}
 use Rattle.rbg_macro.specs.Text.{HasTokens, HasTextFault}
 use Rattle.rbg_macro.specs.Token.{Lexeme, SectionTokens}
 
@@ -40,3 +41,9 @@ SectionsOrFaultLaw = (ts : List Lexeme) (sections : List SectionTokens) → HasS
 -- tokens are refused by one error at most besides want of memory
 abbrev pub OneMacroErrorLaw : Type 0
 OneMacroErrorLaw = (ts : List Lexeme) (e f : MacroError) → HasMacroFault ts e → HasMacroFault ts f → e ≢ macro_errors.Memory → f ≢ macro_errors.Memory → e ≡ f
+
+-- every token of a text's sections spells a token of its kind: the text of a name token is a name
+abbrev pub SpeltTokensLaw : Type 0
+SpeltTokensLaw =
+    (text : List ℕ) (ts : List Lexeme) (sections : List SectionTokens) →
+    HasTokens text ts → HasSections ts sections → All AreLexemes sections

@@ -12,6 +12,7 @@ pub mod Macro
 pub mod Part
 pub mod Progress
 pub mod Span
+pub mod Spelling
 pub mod Template
 pub mod Text
 pub mod Token

@@ -6,7 +6,8 @@ use Rattle.rbg_macro.specs.declared.lexer.Part.{Part}
 use Rattle.rbg_macro.specs.declared.lexer.Part.TheVariants.{Skipped, Token, ZeroByte, BadByte}
 use Rattle.rbg_macro.specs.declared.token.Symbol.{Symbol}
 use Rattle.rbg_macro.specs.declared.token.TokenKind.{TokenKind}
-use Rattle.rbg_macro.specs.Text.{Lexes, behind_token, spelling}
+use Rattle.rbg_macro.specs.Text.{Lexes, behind_token}
+use Rattle.rbg_macro.specs.Spelling.{spelling}
 use Rattle.rbg_macro.specs.Token.{Lexeme}
 
 -- two slashes stand at the front

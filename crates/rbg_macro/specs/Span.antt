@@ -2,6 +2,7 @@
 use Rattle.std.specs.Prelude.{ℕ, List, ◌≡◌, ◌+◌, ◌≤◌, length, slice_range}
 use Rattle.rbg_macro.specs.declared.buffer.Span.{Span}
 use Rattle.rbg_macro.specs.declared.source.SectionSpan.{SectionSpan}
+use Rattle.rbg_macro.specs.Spelling.{AreLexemes}
 use Rattle.rbg_macro.specs.Token.{Lexeme, SectionTokens}
 
 -- the token whose bytes stand at a place of the buffer
@@ -26,3 +27,8 @@ section_in tokens s = record { kind = s.kind; at = s.at; tokens = slice_range to
 pub record IsSectionWithin (len : ℕ) (s : SectionSpan) : Type 0 where
   pub ordered : s.start ≤ s.end
   pub within : s.end ≤ len
+
+-- the place is one of the list, and its tokens spell tokens of their kinds
+pub record IsSectionIn (tokens : List Lexeme) (s : SectionSpan) : Type 0 where
+  pub within : IsSectionWithin (length tokens) s
+  pub spelt : AreLexemes (section_in tokens s)

@@ -1,5 +1,5 @@
 // Expansion: the sections with their macro calls replaced.
-ghost use Rattle.std.specs.Prelude.{ℕ, ◌≡◌, ◌+◌, ◌*◌, ◌-◌, ◌<◌, ◌≤◌, [], ◌∷◌, ◌++◌, List, length, map, Ok, Err, IfOk, IfErr, OnOk, OnErr, MatchOption};
+ghost use Rattle.std.specs.Prelude.{All, ℕ, ◌≡◌, ◌+◌, ◌*◌, ◌-◌, ◌<◌, ◌≤◌, [], ◌∷◌, ◌++◌, List, length, map, Ok, Err, IfOk, IfErr, OnOk, OnErr, MatchOption};
 ghost use Rattle.std.specs.List.{list_any};
 ghost use Rattle.rbg_macro.specs.Call.{Stays, meets};
 ghost use Rattle.rbg_macro.specs.Expansion.{ExpandsWithin, Fails, FailsReading, FailsAll, HasSections, HasMacroFault};
@@ -7,6 +7,7 @@ ghost use Rattle.rbg_macro.specs.Defines.{section_of};
 ghost use Rattle.rbg_macro.specs.Gives.{UnlessMemory};
 ghost use Rattle.rbg_macro.specs.Kinds.{is_tilde};
 ghost use Rattle.rbg_macro.specs.Progress.{ReadsOn, ReadsJoined, ReadsSection, FailsJoined, GivesWay, IsTooMany, IsWithinLimits};
+ghost use Rattle.rbg_macro.specs.Span.{section_in, IsSectionWithin};
 ghost use Rattle.rbg_macro.specs.Token.{lexeme_of};
 
 use crate::buffer::TokenBuffer;
@@ -172,15 +173,16 @@ fn read_section<'a>(
     })
 }
 
-/// Expands the sections one by one. Where a token that is kept stands in the text, its bytes are copied
-/// only with the text.
+/// Expands the sections one by one, and returns the tokens that were kept and where each section's tokens are among
+/// them. The bytes of a token that is in the text are not copied a second time.
 fn expand_sections<'a>(
     alloc: Global,
     text: &[u8],
     macros: &Macros<'a>,
     bodies: &[SectionBody<'a>],
-) -> Result<Source, MacroError>
-    ensures ok { IfOk result (ExpandsWithin macros.now (map section_of bodies.now)) }
+) -> Result<(TokenBuffer, Vec<SectionSpan>), MacroError>
+    ensures within { IfOk result (λ x. All (IsSectionWithin (length x.0)) x.1.items) }
+    ensures ok { IfOk result (λ x. ExpandsWithin macros.now (map section_of bodies.now) (map (section_in x.0) x.1.items)) }
     ensures err { IfErr result (UnlessMemory (FailsAll macros.now 0 0 (map section_of bodies.now))) }
 {
     let mut progress = Progress {
@@ -192,7 +194,7 @@ fn expand_sections<'a>(
         let section = read_section(alloc, macros, body, &mut progress)?;
         sections.push(section)?;
     }
-    Ok(Source::new(progress.kept, sections))
+    Ok((progress.kept, sections))
 }
 
 /// The sections that the tokens define, expanded: each macro call is replaced by the macro's body with
@@ -202,13 +204,11 @@ pub fn expand(alloc: Global, tokens: &Tokens<'_>) -> Result<Source, MacroError>
     ensures fault { IfErr result (HasMacroFault tokens.now) }
 {
     let definitions = read_definitions(alloc, tokens.as_slice())?;
-    expand_sections(
+    let (kept, sections) = expand_sections(
         alloc,
         tokens.text(),
         &definitions.macros,
         &definitions.sections,
-    )
+    )?;
+    Ok(Source::new(kept, sections))
 }
-
-#[cfg(test)]
-mod tests;

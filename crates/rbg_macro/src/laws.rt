@@ -1,5 +1,5 @@
 //! Laws of texts, their tokens and their expansion. Each function does nothing: its contract is the law.
-ghost use Rattle.rbg_macro.specs.Laws.{NoZeroByteLaw, OneReadingLaw, TokensOrFaultLaw, OneTextErrorLaw, OneListLaw, OneExpansionLaw, SectionsOrFaultLaw, OneMacroErrorLaw};
+ghost use Rattle.rbg_macro.specs.Laws.{NoZeroByteLaw, OneReadingLaw, TokensOrFaultLaw, OneTextErrorLaw, OneListLaw, OneExpansionLaw, SectionsOrFaultLaw, OneMacroErrorLaw, SpeltTokensLaw};
 
 /// A text with tokens has no zero byte.
 pub fn texts_have_no_zero_byte()
@@ -39,4 +39,9 @@ pub fn tokens_with_sections_have_no_fault()
 /// Tokens are refused by one error at most besides want of memory.
 pub fn tokens_have_one_error()
     ensures { OneMacroErrorLaw }
+{}
+
+/// Every token of a text's sections spells a token of its kind. In particular, the text of a name token is a name.
+pub fn tokens_of_sections_are_spelt()
+    ensures { SpeltTokensLaw }
 {}

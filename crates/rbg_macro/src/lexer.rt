@@ -2,7 +2,8 @@
 ghost use Rattle.std.specs.Prelude.{ℕ, ◌≡◌, ◌<◌, ◌≤◌, ◌↔◌, ◌++◌, length, IfOk, IfErr, IfSome, IfNone, IsTrue, MatchOption, ◌≢◌, [], ◌∷◌};
 ghost use Rattle.std.specs.List.{prefix_len};
 ghost use Rattle.std.specs.Char.{is_ascii_digit};
-ghost use Rattle.rbg_macro.specs.Text.{HasTokens, HasTextFault, is_blank, is_comment_byte, spelling};
+ghost use Rattle.rbg_macro.specs.Text.{HasTokens, HasTextFault, is_blank, is_comment_byte};
+ghost use Rattle.rbg_macro.specs.Spelling.{spelling};
 ghost use Rattle.rbg_base.specs.Names.{is_name_start, is_name_part};
 ghost use Rattle.rbg_macro.specs.Part.{IsPart, BeginsComment, BeginsNoSymbol, IsLongestSymbol};
 
@@ -188,6 +189,3 @@ fn short_symbol(b: u8) -> Option<Symbol>
     };
     Some(symbol)
 }
-
-#[cfg(test)]
-mod tests;

@@ -1,9 +1,11 @@
-// The expanded sections of a description, which own the texts of their tokens.
-ghost use Rattle.std.specs.Prelude.{◌≡◌, ◌<◌, ◌==◌, ◌++◌, [], ◌∷◌, length, slice_get, Some, OnOk, OnErr};
+//! The expanded sections of a description, which own the texts of their tokens.
+ghost use Rattle.std.specs.Prelude.{◌≡◌, ◌<◌, ◌==◌, IsTrue, Some, length, slice_get};
+ghost use Rattle.rbg_base.specs.Names.{is_name};
+ghost use Rattle.rbg_macro.specs.Spelling.{is_number};
 ghost use Rattle.rbg_macro.specs.Token.{lexeme_of};
 
 use crate::buffer::TokenBuffer;
-use crate::token::Token;
+use crate::token::{Token, TokenKind};
 use std::alloc::AllocError;
 use std::marker::Model;
 
@@ -39,11 +41,11 @@ impl Model for Source {
 
     ghost Value = { List SectionTokens };
 
-    ghost use Rattle.rbg_macro.specs.Span.{section_in, IsSectionWithin};
+    ghost use Rattle.rbg_macro.specs.Span.{section_in, IsSectionIn};
 
     ghost view = { λ s. map (section_in s.tokens) s.sections.items };
 
-    ghost invariant = { λ s. All (IsSectionWithin (length s.tokens)) s.sections.items };
+    ghost invariant = { λ s. All (IsSectionIn s.tokens) s.sections.items };
 }
 
 /// One section of a source.
@@ -59,19 +61,19 @@ impl<'a> Model for Section<'a> {
 
     ghost Value = { SectionTokens };
 
-    ghost use Rattle.rbg_macro.specs.Span.{section_in, IsSectionWithin};
+    ghost use Rattle.rbg_macro.specs.Span.{section_in, IsSectionIn};
 
     ghost view = { λ s. section_in s.tokens.now s.span };
 
-    ghost invariant = { λ s. IsSectionWithin (length s.tokens.now) s.span };
+    ghost invariant = { λ s. IsSectionIn s.tokens.now s.span };
 }
 
 impl Source {
     ghost use Rattle.std.specs.Prelude.{◌≡◌, ◌<◌, ◌==◌, All, Some, length, map, slice_get};
-    ghost use Rattle.rbg_macro.specs.Span.{section_in, IsSectionWithin};
+    ghost use Rattle.rbg_macro.specs.Span.{section_in, IsSectionIn};
 
     pub(crate) fn new(tokens: TokenBuffer, sections: Vec<SectionSpan>) -> Self
-        requires { All (IsSectionWithin (length tokens)) sections.items }
+        requires { All (IsSectionIn tokens) sections.items }
         ensures { result ≡ map (section_in tokens) sections.items }
     {
         Source { tokens, sections }
@@ -133,10 +135,12 @@ impl<'a> Section<'a> {
         self.span.start == self.span.end
     }
 
-    /// Its token with this index.
+    /// The token with this index.
     pub fn token(&self, index: usize) -> Token<'a>
         requires { index < length self.now.tokens }
-        ensures { slice_get self.now.tokens index ≡ Some (lexeme_of result) }
+        ensures token { slice_get self.now.tokens index ≡ Some (lexeme_of result) }
+        ensures name { result.kind ≡ TokenKind.Name → IsTrue (is_name result.text.now) }
+        ensures number { result.kind ≡ TokenKind.Number → IsTrue (is_number result.text.now) }
     {
         let span = self.span;
         self.tokens.token(span.start + index)

@@ -1,8 +1,6 @@
-// Tokens: what the bytes of a text spell.
-ghost use Rattle.std.specs.Prelude.{◌≡◌, ◌<◌, ◌↔◌, map, length, IsTrue, slice_get, Some, [], ◌++◌, ◌∷◌, IfOk, OnOk};
-ghost use Rattle.rbg_macro.specs.Token.{lexeme_of};
+//! Tokens of a text, and their kinds.
+ghost use Rattle.std.specs.Prelude.{◌≡◌, ◌↔◌, IsTrue};
 
-use std::alloc::{AllocError, Global};
 use std::marker::Model;
 
 /// The symbols, each a token of its own.
@@ -66,7 +64,7 @@ pub enum Symbol {
 
 impl Symbol {
     ghost use Rattle.std.specs.Prelude.{◌≡◌, length};
-    ghost use Rattle.rbg_macro.specs.Text.{spelling};
+    ghost use Rattle.rbg_macro.specs.Spelling.{spelling};
 
     /// How many bytes it has.
     pub fn len(self) -> usize
@@ -161,8 +159,8 @@ impl TokenKind {
     }
 }
 
-/// A token: its kind, its bytes, and the offset of the text where it, or the first token that was
-/// joined into it, stands.
+/// A token: its kind, its bytes, and its offset in the text. The offset of a joined token is that of the first token
+/// that was joined into it.
 #[derive(Clone, Copy, Debug)]
 pub struct Token<'a> {
     pub kind: TokenKind,
@@ -193,10 +191,20 @@ impl<'a> Model for Tokens<'a> {
     ghost Value = { List Lexeme };
 
     ghost view = { λ t. map lexeme_of t.tokens.items };
+
+    ghost use Rattle.std.specs.Prelude.{All};
+    ghost use Rattle.rbg_macro.specs.Spelling.{IsLexeme};
+
+    ghost invariant = { λ t. All IsLexeme (map lexeme_of t.tokens.items) };
 }
 
 impl<'a> Tokens<'a> {
+    ghost use Rattle.std.specs.Prelude.{All, map};
+    ghost use Rattle.rbg_macro.specs.Spelling.{IsLexeme};
+    ghost use Rattle.rbg_macro.specs.Token.{lexeme_of};
+
     pub(crate) fn new(text: &'a [u8], tokens: Vec<Token<'a>>) -> Self
+        requires { All IsLexeme (map lexeme_of tokens.items) }
         ensures { result ≡ map lexeme_of tokens.entry.items }
     {
         Tokens { text, tokens }
@@ -209,7 +217,8 @@ impl<'a> Tokens<'a> {
 
     /// The tokens in order of the text.
     pub fn as_slice(&self) -> &[Token<'a>]
-        ensures { map lexeme_of result.now ≡ self.now }
+        ensures tokens { map lexeme_of result.now ≡ self.now }
+        ensures spelt { All IsLexeme self.now }
     {
         &self.tokens
     }

@@ -25,6 +25,3 @@ pub use made::Made;
 pub use matches::Match;
 pub use outbox::{MAX_SEATS, Outbox};
 pub use refereeing::referee;
-
-#[cfg(test)]
-mod tests;

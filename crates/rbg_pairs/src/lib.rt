@@ -6,6 +6,3 @@ mod pair;
 
 pub use moves::{MAX_PAIRS, Move};
 pub use pair::Pair;
-
-#[cfg(test)]
-mod tests;

@@ -14,3 +14,4 @@ pub mod TableLemmas
 pub mod NameLemmas
 pub mod TrimLemmas
 pub mod AnswerLemmas
+pub mod LocalityLemmas

@@ -1,11 +1,15 @@
 -- Where no sum is empty, each own action of an expression stands in some word of it.
-use Rattle.std.proofs.Common.{◌≡◌, ℕ, List, [], ◌∷◌, ◌++◌, refl, sym, ap, ◌∙◌, subst, ◌⊎◌, inl, inr, append_assoc}
+use Rattle.std.proofs.Common.{◌≡◌, ◌≢◌, ℕ, List, [], ◌∷◌, ◌++◌, refl, sym, ap, ◌∙◌, subst, ◌⊎◌, inl, inr, append_assoc}
 use Rattle.std.proofs.lemmas.List.{append-nil}
+use Rattle.std.proofs.lemmas.List.Elements.{All-nil}
 use Rattle.rbg_rules.specs.Expression.{AbstractAction, positive, negative, Expression, act, skip, sequence, fail, choice, star}
-use Rattle.rbg_rules.specs.Positions.{HasAction, HasInside, HasOwnAction, Level, outermost, inside, IsLevel}
+use Rattle.rbg_rules.specs.Positions.{IsSwitchAt, HasAction, HasInside, HasOwnAction, Level, outermost, inside, IsLevel}
 use Rattle.rbg_rules.specs.Words.{Word, Repeats, done, again, Start, beginning, after, Follows}
 use Rattle.rbg_rules.specs.Games.{HasNoEmptySum, HasNoEmptySumInside}
-use Rattle.rbg_rules.specs.Laws.{TrimLaw, EmptyLaw, IsStart}
+use Rattle.rbg_rules.specs.State.{AbstractGame, AbstractState}
+use Rattle.rbg_rules.specs.Moves.{stay}
+use Rattle.rbg_rules.specs.Questions.{Question, try_move, find_move, list_moves, reach, pattern, GoesTo, at}
+use Rattle.rbg_rules.specs.Laws.{TrimLaw, EmptyLaw, EmptyOpeningLaw, IsStart}
 use Rattle.rbg_rules.proofs.LevelLemmas.{some_level_law}
 use Rattle.rbg_rules.proofs.StateLemmas.{word_law}
 
@@ -67,3 +71,25 @@ empty_law rules none (after i) (a, stands) =
     let (level, x, is, own) = some_level_law rules i a stands in
     let (u, v, word) = trim_law x (none_in_level rules none level x is) i a own in
     (level, u, v, record { expression = x; is_level = is; is_word = word })
+
+-- No list stands before the empty one, and the empty one stands before every other.
+no_prefix : (qs more : List (ℕ × ℕ)) → more ≢ [] → ¬ ([] ≡ qs ++ more)
+no_prefix [] more some e = some (sym e)
+no_prefix (q ∷ qs) more some e = cc
+
+not_nothing : (q : ℕ × ℕ) (qs : List (ℕ × ℕ)) → (q ∷ qs) ≢ []
+not_nothing q qs e = cc
+
+goes_nowhere : (game : AbstractGame) (s : AbstractState) (f : Start) (question : Question) → question ≢ try_move [] → GoesTo game question s f []
+goes_nowhere game s f (try_move []) other = absurd (other refl)
+goes_nowhere game s f (try_move (q ∷ qs)) other = (q ∷ qs, not_nothing q qs, refl)
+goes_nowhere game s f find_move other = λ qs (more, some, e) answer. no_prefix qs more some e
+goes_nowhere game s f list_moves other = tt
+goes_nowhere game s f reach other = refl
+goes_nowhere game s f pattern other = λ qs (more, some, e) answer. no_prefix qs more some e
+
+pub empty_opening_law : EmptyOpeningLaw
+empty_opening_law game none f start question other s =
+    at {m = []} {t = s} {ps = []}
+    (record { no_switch = All-nil (λ p. ¬ IsSwitchAt game.rules p); follows = empty_law game.rules none f start; runs = stay })
+    (goes_nowhere game s f question other)

@@ -8,9 +8,15 @@ use Rattle.rbg_rules.specs.State.{AbstractGame, AbstractState}
 use Rattle.rbg_rules.specs.Values.{value_of, Relates}
 
 -- The actions of w, applied in turn, take s to t. What the action at a position does is given.
-pub data Runs (Does : ℕ → AbstractState → AbstractState → Type 0) : List ℕ → AbstractState → AbstractState → Type 0 where
-  rest : {s : AbstractState} → Runs Does [] s s
-  step : {p : ℕ} {w : List ℕ} {s middle t : AbstractState} → Does p s middle → Runs Does w middle t → Runs Does (p ∷ w) s t
+pub data Runs (Does : ℕ → AbstractState → AbstractState → Type 0) :
+    List ℕ → AbstractState → AbstractState → Type 0
+  where
+    rest : {s : AbstractState} → Runs Does [] s s
+    step :
+        {p : ℕ} {w : List ℕ} {s middle t : AbstractState} →
+        Does p s middle →
+        Runs Does w middle t →
+        Runs Does (p ∷ w) s t
 
 abbrev mutual
   -- The action takes s to t: it is valid in s, and t is s with its effect.
@@ -26,11 +32,24 @@ abbrev mutual
   Acts game (shift d) s t = (v : ℕ) × (next game.board s.vertex d ≡ Some v) × (t ≡ record s { vertex = v })
   Acts game (on xs) s t = Contains xs (slice_index s.pieces s.vertex) × (t ≡ s)
   Acts game (off x) s t = t ≡ record s { pieces = slice_set s.pieces s.vertex x }
-  Acts game (assignment v e) s t = (n : ℕ) × (value_of e s ≡ Some (pos n)) × (n ≤ slice_index game.bounds v) × (t ≡ record s { values = slice_set s.values v n })
-  Acts game (comparison e r f) s t = (x : ℤ) × (y : ℤ) × (value_of e s ≡ Some x) × (value_of f s ≡ Some y) × Relates r x y × (t ≡ s)
+  Acts game (assignment v e) s t =
+      (n : ℕ) ×
+      (value_of e s ≡ Some (pos n)) ×
+      (n ≤ slice_index game.bounds v) ×
+      (t ≡ record s { values = slice_set s.values v n })
+  Acts game (comparison e r f) s t =
+      (x : ℤ) × (y : ℤ) ×
+      (value_of e s ≡ Some x) ×
+      (value_of f s ≡ Some y) ×
+      Relates r x y ×
+      (t ≡ s)
   Acts game (switch n) s t = t ≡ record s { player = n }
-  Acts game (positive x) s t = ((w : List ℕ) × (end : AbstractState) × Word x w × Runs (ActsIn game x) w s end) × (t ≡ s)
-  Acts game (negative x) s t = (((w : List ℕ) × (end : AbstractState) × Word x w × Runs (ActsIn game x) w s end) → ⊥) × (t ≡ s)
+  Acts game (positive x) s t =
+      ((w : List ℕ) × (end : AbstractState) × Word x w × Runs (ActsIn game x) w s end) ×
+      (t ≡ s)
+  Acts game (negative x) s t =
+      (((w : List ℕ) × (end : AbstractState) × Word x w × Runs (ActsIn game x) w s end) → ⊥) ×
+      (t ≡ s)
 
   -- The action at position p, which belongs directly to the expression, takes s to t.
   pub ActsIn : AbstractGame → Expression → ℕ → AbstractState → AbstractState → Type 0

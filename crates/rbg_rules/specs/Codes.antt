@@ -1,4 +1,5 @@
--- Expressions as trees of numbers, one to one: what a proof tells the games that contracts see apart by. It says nothing of games.
+-- Expressions as trees of numbers, one to one: what a proof tells the games that contracts see apart by. It says
+-- nothing of games.
 use Rattle.std.specs.Prelude.{◌≡◌, ℕ, List, Option, refl}
 use Rattle.std.specs.Coded.{Coded, coded_ℕ, coded_list, coded_option, coded×, code_by}
 use Rattle.rbg_board.specs.Graph.{Graph}
@@ -22,11 +23,34 @@ pub arithmetic_inj : (x y : AbstractArithmetic) → arithmetic_code x ≡ arithm
 arithmetic_inj (number n) (number m) p = cc
 arithmetic_inj (variable v) (variable w) p = cc
 arithmetic_inj (piece_count x) (piece_count y) p = cc
-arithmetic_inj (negated e) (negated f) p = let parts : arithmetic_code e ≡ arithmetic_code f = cc in let same = arithmetic_inj e f parts in cc
-arithmetic_inj (sum e f) (sum g h) p = let left : arithmetic_code e ≡ arithmetic_code g = cc in let right : arithmetic_code f ≡ arithmetic_code h = cc in let same = arithmetic_inj e g left in let same' = arithmetic_inj f h right in cc
-arithmetic_inj (difference e f) (difference g h) p = let left : arithmetic_code e ≡ arithmetic_code g = cc in let right : arithmetic_code f ≡ arithmetic_code h = cc in let same = arithmetic_inj e g left in let same' = arithmetic_inj f h right in cc
-arithmetic_inj (product e f) (product g h) p = let left : arithmetic_code e ≡ arithmetic_code g = cc in let right : arithmetic_code f ≡ arithmetic_code h = cc in let same = arithmetic_inj e g left in let same' = arithmetic_inj f h right in cc
-arithmetic_inj (quotient e f) (quotient g h) p = let left : arithmetic_code e ≡ arithmetic_code g = cc in let right : arithmetic_code f ≡ arithmetic_code h = cc in let same = arithmetic_inj e g left in let same' = arithmetic_inj f h right in cc
+arithmetic_inj (negated e) (negated f) p =
+    let parts : arithmetic_code e ≡ arithmetic_code f = cc in
+    let same = arithmetic_inj e f parts in
+    cc
+arithmetic_inj (sum e f) (sum g h) p =
+    let left : arithmetic_code e ≡ arithmetic_code g = cc in
+    let right : arithmetic_code f ≡ arithmetic_code h = cc in
+    let same = arithmetic_inj e g left in
+    let same' = arithmetic_inj f h right in
+    cc
+arithmetic_inj (difference e f) (difference g h) p =
+    let left : arithmetic_code e ≡ arithmetic_code g = cc in
+    let right : arithmetic_code f ≡ arithmetic_code h = cc in
+    let same = arithmetic_inj e g left in
+    let same' = arithmetic_inj f h right in
+    cc
+arithmetic_inj (product e f) (product g h) p =
+    let left : arithmetic_code e ≡ arithmetic_code g = cc in
+    let right : arithmetic_code f ≡ arithmetic_code h = cc in
+    let same = arithmetic_inj e g left in
+    let same' = arithmetic_inj f h right in
+    cc
+arithmetic_inj (quotient e f) (quotient g h) p =
+    let left : arithmetic_code e ≡ arithmetic_code g = cc in
+    let right : arithmetic_code f ≡ arithmetic_code h = cc in
+    let same = arithmetic_inj e g left in
+    let same' = arithmetic_inj f h right in
+    cc
 arithmetic_inj _ _ p = cc
 
 abbrev pub relation_code : Relation → ℕ
@@ -52,7 +76,8 @@ abbrev mutual
   action_code (on pieces) = gcons (gnum 1) ((coded_list coded_ℕ).code pieces)
   action_code (off x) = gcons (gnum 2) (gnum x)
   action_code (assignment v e) = gcons (gnum 3) (gcons (gnum v) (arithmetic_code e))
-  action_code (comparison e r f) = gcons (gnum 4) (gcons (arithmetic_code e) (gcons (gnum (relation_code r)) (arithmetic_code f)))
+  action_code (comparison e r f) =
+      gcons (gnum 4) (gcons (arithmetic_code e) (gcons (gnum (relation_code r)) (arithmetic_code f)))
   action_code (switch n) = gcons (gnum 5) (gnum n)
   action_code (positive x) = gcons (gnum 6) (expression_code x)
   action_code (negative x) = gcons (gnum 7) (expression_code x)
@@ -68,33 +93,69 @@ abbrev mutual
 mutual
   pub action_inj : (x y : AbstractAction) → action_code x ≡ action_code y → x ≡ y
   action_inj (shift d) (shift e) p = cc
-  action_inj (on xs) (on ys) p = let parts : (coded_list coded_ℕ).code xs ≡ (coded_list coded_ℕ).code ys = cc in let same = (coded_list coded_ℕ).inj xs ys parts in cc
+  action_inj (on xs) (on ys) p =
+      let parts : (coded_list coded_ℕ).code xs ≡ (coded_list coded_ℕ).code ys = cc in
+      let same = (coded_list coded_ℕ).inj xs ys parts in
+      cc
   action_inj (off x) (off y) p = cc
-  action_inj (assignment v e) (assignment w f) p = let parts : arithmetic_code e ≡ arithmetic_code f = cc in let same = arithmetic_inj e f parts in cc
+  action_inj (assignment v e) (assignment w f) p =
+      let parts : arithmetic_code e ≡ arithmetic_code f = cc in
+      let same = arithmetic_inj e f parts in
+      cc
   action_inj (comparison e r f) (comparison g q h) p =
       let left : arithmetic_code e ≡ arithmetic_code g = cc in
       let middle : relation_code r ≡ relation_code q = cc in
       let right : arithmetic_code f ≡ arithmetic_code h = cc in
-      let same = arithmetic_inj e g left in let same' = relation_inj r q middle in let same'' = arithmetic_inj f h right in cc
+      let same = arithmetic_inj e g left in
+      let same' = relation_inj r q middle in
+      let same'' = arithmetic_inj f h right in
+      cc
   action_inj (switch n) (switch m) p = cc
-  action_inj (positive x) (positive y) p = let parts : expression_code x ≡ expression_code y = cc in let same = expression_inj x y parts in cc
-  action_inj (negative x) (negative y) p = let parts : expression_code x ≡ expression_code y = cc in let same = expression_inj x y parts in cc
+  action_inj (positive x) (positive y) p =
+      let parts : expression_code x ≡ expression_code y = cc in
+      let same = expression_inj x y parts in
+      cc
+  action_inj (negative x) (negative y) p =
+      let parts : expression_code x ≡ expression_code y = cc in
+      let same = expression_inj x y parts in
+      cc
   action_inj _ _ p = cc
 
   pub expression_inj : (x y : Expression) → expression_code x ≡ expression_code y → x ≡ y
-  expression_inj (act p a) (act q b) e = let parts : action_code a ≡ action_code b = cc in let same = action_inj a b parts in cc
+  expression_inj (act p a) (act q b) e =
+      let parts : action_code a ≡ action_code b = cc in
+      let same = action_inj a b parts in
+      cc
   expression_inj skip skip e = refl
-  expression_inj (sequence x y) (sequence z w) e = let left : expression_code x ≡ expression_code z = cc in let right : expression_code y ≡ expression_code w = cc in let same = expression_inj x z left in let same' = expression_inj y w right in cc
+  expression_inj (sequence x y) (sequence z w) e =
+      let left : expression_code x ≡ expression_code z = cc in
+      let right : expression_code y ≡ expression_code w = cc in
+      let same = expression_inj x z left in
+      let same' = expression_inj y w right in
+      cc
   expression_inj fail fail e = refl
-  expression_inj (choice x y) (choice z w) e = let left : expression_code x ≡ expression_code z = cc in let right : expression_code y ≡ expression_code w = cc in let same = expression_inj x z left in let same' = expression_inj y w right in cc
-  expression_inj (star x) (star y) e = let parts : expression_code x ≡ expression_code y = cc in let same = expression_inj x y parts in cc
+  expression_inj (choice x y) (choice z w) e =
+      let left : expression_code x ≡ expression_code z = cc in
+      let right : expression_code y ≡ expression_code w = cc in
+      let same = expression_inj x z left in
+      let same' = expression_inj y w right in
+      cc
+  expression_inj (star x) (star y) e =
+      let parts : expression_code x ≡ expression_code y = cc in
+      let same = expression_inj x y parts in
+      cc
   expression_inj _ _ e = cc
 
 abbrev pub coded_expression : Coded Expression
 coded_expression = record { code = expression_code; inj = expression_inj }
 
 abbrev pub coded_graph : Coded Graph
-coded_graph = code_by (List ℕ × List (List (Option ℕ))) (coded× (coded_list coded_ℕ) (coded_list (coded_list (coded_option coded_ℕ)))) (λ g. (g.first, g.ways)) (λ t. record { first = t.0; ways = t.1 }) (λ _. refl)
+coded_graph =
+    code_by (List ℕ × List (List (Option ℕ)))
+    (coded× (coded_list coded_ℕ) (coded_list (coded_list (coded_option coded_ℕ))))
+    (λ g. (g.first, g.ways))
+    (λ t. record { first = t.0; ways = t.1 })
+    (λ _. refl)
 
 -- a game's names and bounds, its board, its rules
 abbrev pub Names : Type 0
@@ -107,7 +168,18 @@ abbrev pub GameTuple : Type 0
 GameTuple = (Names × Names) × ((Names × Names) × (List ℕ × (Graph × Expression)))
 
 abbrev pub coded_game : Coded AbstractGame
-coded_game = code_by GameTuple (coded× (coded× coded_names coded_names) (coded× (coded× coded_names coded_names) (coded× (coded_list coded_ℕ) (coded× coded_graph coded_expression))))
+coded_game =
+    code_by GameTuple
+    (coded× (coded× coded_names coded_names)
+    (coded× (coded× coded_names coded_names) (coded× (coded_list coded_ℕ) (coded× coded_graph coded_expression))))
     (λ g. ((g.players, g.pieces), ((g.variables, g.directions), (g.bounds, (g.board, g.rules)))))
-    (λ t. record { players = t.0.0; pieces = t.0.1; variables = t.1.0.0; directions = t.1.0.1; bounds = t.1.1.0; board = t.1.1.1.0; rules = t.1.1.1.1 })
+    (λ t. record {
+      players = t.0.0;
+      pieces = t.0.1;
+      variables = t.1.0.0;
+      directions = t.1.0.1;
+      bounds = t.1.1.0;
+      board = t.1.1.1.0;
+      rules = t.1.1.1.1;
+    })
     (λ _. refl)

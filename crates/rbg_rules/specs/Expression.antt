@@ -1,9 +1,11 @@
--- The rules of a game as mathematics: a regular expression over actions (Regular Boardgames, AAAI 2019). Players, pieces,
--- variables and directions are numbers. Each action carries its position, so the same action at two places is two letters.
+-- The rules of a game as mathematics: a regular expression over actions (Regular Boardgames, AAAI 2019). Players,
+-- pieces, variables and directions are numbers. Each action carries its position, so the same action at two places is
+-- two letters.
 use Rattle.std.specs.Prelude.{ℕ, List, fold}
 use Rattle.rbg_base.specs.declared.relation.Relation.{Relation}
 
--- Arithmetic over whole numbers, variables and counts of pieces. Operators of equal rank group from the left, so each has two operands.
+-- Arithmetic over whole numbers, variables and counts of pieces. Operators of equal rank group from the left, so each
+-- has two operands.
 pub data AbstractArithmetic : Type 0 where
   number : ℕ → AbstractArithmetic
   variable : ℕ → AbstractArithmetic

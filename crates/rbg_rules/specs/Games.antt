@@ -8,8 +8,8 @@ use Rattle.rbg_rules.specs.Positions.{HasAction, positions_of, IsNumbered, IsLev
 use Rattle.rbg_rules.specs.State.{AbstractGame}
 
 abbrev mutual
-  -- No sum is without a part, in the expression and in its patterns, so every part has a word. (A sum of parts is the empty sum with
-  -- each part added: there alone the empty sum may stand.)
+  -- No sum is without a part, in the expression and in its patterns, so every part has a word. (A sum of parts is the
+  -- empty sum with each part added: there alone the empty sum may stand.)
   pub HasNoEmptySum : Expression → Type 0
   HasNoEmptySum (act p a) = HasNoEmptySumInside a
   HasNoEmptySum skip = Unit {0}
@@ -24,7 +24,7 @@ abbrev mutual
   HasNoEmptySumInside _ = Unit {0}
 
 abbrev mutual
-  -- At most so many patterns stand one inside the other.
+  -- Patterns stand one inside the other at most `limit` deep.
   pub NestsWithin : ℕ → Expression → Type 0
   NestsWithin limit (act p a) = InsideNestsWithin limit a
   NestsWithin limit skip = Unit {0}
@@ -60,8 +60,8 @@ IsActionOf game (switch n) = n ≤ length game.players
 IsActionOf game (positive x) = Unit {0}
 IsActionOf game (negative x) = Unit {0}
 
--- No more players, pieces, variables, directions, vertices, positions and nested patterns than are allowed, and no greater
--- bounds. (Own.)
+-- No more players, pieces, variables, directions, vertices, positions and nested patterns than are allowed, and no
+-- greater bounds. (Own.)
 pub record IsWithinLimits (game : AbstractGame) : Type 0 where
   pub some_player : 0 < length game.players
   pub players : length game.players ≤ most_players

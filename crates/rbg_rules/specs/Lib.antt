@@ -1,5 +1,5 @@
--- The meaning of a game, by topic. "Paper" marks what is defined as in Regular Boardgames (AAAI 2019), "own" what this project
--- chose.
+-- The meaning of a game, by topic. "Paper" marks what is defined as in Regular Boardgames (AAAI 2019), "own" what
+-- this project chose.
 pub mod Expression
 pub mod Positions
 pub mod Words

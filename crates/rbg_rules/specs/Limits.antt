@@ -27,10 +27,10 @@ most_vertices = 4096
 abbrev pub most_nested_patterns : ℕ
 most_nested_patterns = 8
 
--- a question has at most so many different openings
+-- the most different openings of a question
 abbrev pub most_openings : ℕ
 most_openings = 100000
 
--- and each of them fewer than so many modifiers in a row
+-- an opening with this many modifiers in a row is too deep
 abbrev pub most_modifiers : ℕ
 most_modifiers = 200

@@ -9,8 +9,18 @@ use Rattle.rbg_rules.specs.Actions.{Applies}
 -- position. Other actions leave none.
 pub data RunPairs (game : AbstractGame) : List ℕ → AbstractState → AbstractState → List (ℕ × ℕ) → Type 0 where
   stay : {s : AbstractState} → RunPairs game [] s s []
-  modify : {p : ℕ} {w : List ℕ} {s middle t : AbstractState} {ps : List (ℕ × ℕ)} (applied : Applies game p s middle) → is_modifier applied.action ≡ true → RunPairs game w middle t ps → RunPairs game (p ∷ w) s t ((s.vertex, p) ∷ ps)
-  pass : {p : ℕ} {w : List ℕ} {s middle t : AbstractState} {ps : List (ℕ × ℕ)} (applied : Applies game p s middle) → is_modifier applied.action ≡ false → RunPairs game w middle t ps → RunPairs game (p ∷ w) s t ps
+  modify :
+      {p : ℕ} {w : List ℕ} {s middle t : AbstractState} {ps : List (ℕ × ℕ)} →
+      (applied : Applies game p s middle) →
+      is_modifier applied.action ≡ true →
+      RunPairs game w middle t ps →
+      RunPairs game (p ∷ w) s t ((s.vertex, p) ∷ ps)
+  pass :
+      {p : ℕ} {w : List ℕ} {s middle t : AbstractState} {ps : List (ℕ × ℕ)} →
+      (applied : Applies game p s middle) →
+      is_modifier applied.action ≡ false →
+      RunPairs game w middle t ps →
+      RunPairs game (p ∷ w) s t ps
 
 -- A place: a semi-state with the position of the last action, or with none at the beginning of the rules.
 pub record AbstractPlace : Type 0 where
@@ -22,8 +32,9 @@ abbrev pub stand_of : Option ℕ → Start
 stand_of None = beginning outermost
 stand_of (Some i) = after i
 
--- The pairs are a move from one place to the other (paper): some positions follow from where the place stands, run from its semi-state to the new one with these
--- pairs, and have exactly one switch, at their end. The new place stands after that switch. No limit is in it.
+-- The pairs are a move from one place to the other (paper): some positions follow from where the place stands, run
+-- from its semi-state to the new one with these pairs, and have exactly one switch, at their end. The new place
+-- stands after that switch. No limit is in it.
 pub record Legal (game : AbstractGame) (from : AbstractPlace) (ps : List (ℕ × ℕ)) (to : AbstractPlace) : Type 0 where
   pub before : List ℕ
   pub last : ℕ

@@ -19,7 +19,8 @@ abbrev mutual
   HasInside (negative x) p a = HasAction x p a
   HasInside _ p a = ⊥
 
--- The action a stands at position p of the expression itself, so not inside a pattern: it belongs directly to the expression.
+-- The action a stands at position p of the expression itself, so not inside a pattern: it belongs directly to the
+-- expression.
 abbrev pub HasOwnAction : Expression → ℕ → AbstractAction → Type 0
 HasOwnAction (act q b) p a = (p ≡ q) × (a ≡ b)
 HasOwnAction skip p a = ⊥

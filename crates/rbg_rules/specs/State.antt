@@ -3,9 +3,10 @@ use Rattle.std.specs.Prelude.{◌≡◌, ℕ, ◌<◌, ◌≤◌, List, length, 
 use Rattle.rbg_rules.specs.Expression.{Expression}
 use Rattle.rbg_board.specs.Graph.{Graph}
 
--- A game (paper): players, pieces, bounded variables, a board and rules. A name is its bytes. Player n, from 1, is the n-th name;
--- the keeper is 0. Pieces, variables and directions are numbered from 0. Each player is also a variable, its score: the
--- variables are the players in order and then the other variables. A variable holds a whole number from 0 to its bound.
+-- A game (paper): players, pieces, bounded variables, a board and rules. A name is its bytes. Player n, from 1, is
+-- the n-th name; the keeper is 0. Pieces, variables and directions are numbered from 0. Each player is also a
+-- variable, its score: the variables are the players in order and then the other variables. A variable holds a whole
+-- number from 0 to its bound.
 pub record AbstractGame : Type 0 where
   pub players : List (List ℕ)
   pub pieces : List (List ℕ)
@@ -26,7 +27,8 @@ pub record AbstractState : Type 0 where
 abbrev pub start_of : AbstractGame → AbstractState
 start_of game = record { player = 0; pieces = game.board.first; values = replicate (length game.bounds) 0; vertex = 0 }
 
--- The semi-state is one of the game: it speaks of the game's players, pieces, vertices and variables, and no value is above its bound.
+-- The semi-state is one of the game: it speaks of the game's players, pieces, vertices and variables, and no value is
+-- above its bound.
 pub record IsStateOf (game : AbstractGame) (s : AbstractState) : Type 0 where
   pub player : s.player ≤ length game.players
   pub vertices : length s.pieces ≡ length game.board.first

@@ -46,6 +46,6 @@ last_step (Rule-F.Star part) = part.value
 unfoldable pub last_position : Rule → ℕ
 last_position tree = fold-Rule ℕ last_step tree
 
--- No position in the tree is above so many.
+-- No position in the tree is greater than `positions`.
 pub record IsWithin (positions : ℕ) (tree : Rule) : Type 0 where
   pub last : last_position tree ≤ positions

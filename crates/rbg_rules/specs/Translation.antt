@@ -1,5 +1,5 @@
--- What the program's tree of checked rules stands for: the one translation to the mathematics. Each function goes over the tree
--- from its leaves; a step says what one node makes of the results of its parts.
+-- What the program's tree of checked rules stands for: the one translation to the mathematics. Each function goes
+-- over the tree from its leaves; a step says what one node makes of the results of its parts.
 use Rattle.std.specs.Prelude.{ℕ, zero, suc, List, fold, Option, Some, None, slice_get, Bool, true, false, if◌then◌else◌}
 use Rattle.rbg_rules.specs.declared.arithmetic.Arithmetic.{Arithmetic}
 use Rattle.rbg_rules.specs.declared.arithmetic.Arithmetic.TheOpen.{Arithmetic-F, Operation-F}

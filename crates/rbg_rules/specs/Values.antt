@@ -1,4 +1,5 @@
--- What arithmetic is worth in a semi-state. (Own: the range of signed 64 bits, how division rounds, and where there is no value.)
+-- What arithmetic is worth in a semi-state. (Own: the range of signed 64 bits, how division rounds, and where there
+-- is no value.)
 use Rattle.std.specs.Prelude.{◌≡◌, zero, ◌^◌, ◌-◌, ◌==◌, ◌&&◌, ℤ, pos, negsuc, ◌+ℤ◌, ◌-ℤ◌, ◌*ℤ◌, ◌<ℤ◌, ◌≤ℤ◌, int_le, int_div, slice_index, count_by, Option, Some, None, if◌then◌else◌, ◌≢◌}
 use Rattle.rbg_base.specs.declared.relation.Relation.{Relation}
 use Rattle.rbg_base.specs.declared.relation.Relation.TheVariants.{Equal, NotEqual, Less, LessOrEqual, Greater, GreaterOrEqual}
@@ -20,8 +21,8 @@ abbrev pub divided : ℤ → ℤ → Option ℤ
 divided x (pos zero) = None
 divided x y = if_fits (int_div x y)
 
--- The value of an expression in a semi-state, or none: none where any part leaves signed 64 bits, or a divisor is zero. A piece's
--- name is worth the number of vertices that hold it. A leading minus is 0 minus its factor.
+-- The value of an expression in a semi-state, or none: none where any part leaves signed 64 bits, or a divisor is
+-- zero. A piece's name is worth the number of vertices that hold it. A leading minus is 0 minus its factor.
 abbrev pub value_of : AbstractArithmetic → AbstractState → Option ℤ
 value_of (number n) s = if_fits (pos n)
 value_of (variable v) s = if_fits (pos (slice_index s.values v))

@@ -8,8 +8,9 @@ pub data Repeats (Language : List ℕ → Type 0) : List ℕ → Type 0 where
   done : Repeats Language []
   again : {u v : List ℕ} → Language u → Repeats Language v → Repeats Language (u ++ v)
 
--- w is a word of the expression (paper: the language of the rules). An action has the word of its one position. A sequence joins a word of each
--- part. A sum has the words of its parts. A star joins any finite list of words. What is inside a pattern makes no word outside.
+-- w is a word of the expression (paper: the language of the rules). An action has the word of its one position. A
+-- sequence joins a word of each part. A sum has the words of its parts. A star joins any finite list of words. What
+-- is inside a pattern makes no word outside.
 abbrev pub Word : Expression → List ℕ → Type 0
 Word (act p a) w = w ≡ p ∷ []
 Word skip w = w ≡ []
@@ -30,13 +31,13 @@ pub data Start : Type 0 where
   after : (position : ℕ) → Start
 
 -- m goes on from there (paper: how a move goes on from the last action): at the beginning of a level it begins a word
--- of that level; after position i it stands directly behind an i in a word of the level to which i belongs.
+-- of that level; after position i it follows directly after an i in a word of the level to which i belongs.
 abbrev pub Follows : Expression → Start → List ℕ → Type 0
 Follows rules (beginning level) m = (z : List ℕ) × WordOf rules level (m ++ z)
 Follows rules (after i) m = (level : Level) × (u : List ℕ) × (z : List ℕ) × WordOf rules level (u ++ i ∷ (m ++ z))
 
--- m is all that stands behind there in a word: a whole word of a level, or what follows position i to the end of a word. A word
--- may end at position i where `Ends rules (after i) []`.
+-- m is all that follows there in a word: a whole word of a level, or what follows position i to the end of a
+-- word. A word may end at position i where `Ends rules (after i) []`.
 abbrev pub Ends : Expression → Start → List ℕ → Type 0
 Ends rules (beginning level) m = WordOf rules level m
 Ends rules (after i) m = (level : Level) × (u : List ℕ) × WordOf rules level (u ++ i ∷ m)

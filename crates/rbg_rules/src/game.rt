@@ -24,7 +24,8 @@ pub struct Parts {
     pub rules: Rules,
 }
 
-/// A game that was checked: its rules speak of its own players, pieces, variables and directions, and their actions are numbered.
+/// A game that was checked: its rules speak of its own players, pieces, variables and directions, and their actions
+/// are numbered.
 #[derive(Debug, Drop)]
 pub struct Game {
     players: Vec<String>,
@@ -48,11 +49,21 @@ impl Model for Game {
     ghost use Rattle.rbg_rules.specs.Texts.{texts};
     ghost use Rattle.rbg_rules.specs.Translation.{rules_of};
 
-    ghost view = { λ g. record { players = texts g.players.items; pieces = texts g.pieces.items; variables = texts g.variables.items; bounds = g.bounds.items; directions = texts g.directions.items; board = g.board; rules = rules_of g.rules } };
+    ghost view = { λ g. record {
+      players = texts g.players.items;
+      pieces = texts g.pieces.items;
+      variables = texts g.variables.items;
+      bounds = g.bounds.items;
+      directions = texts g.directions.items;
+      board = g.board;
+      rules = rules_of g.rules;
+    } };
 
     ghost use Rattle.rbg_rules.specs.Kept.{IsKept};
 
-    ghost invariant = { λ g. IsKept (texts g.players.items) (texts g.pieces.items) (texts g.variables.items) g.bounds.items (texts g.directions.items) g.board g.rules };
+    ghost invariant = { λ g.
+        IsKept (texts g.players.items) (texts g.pieces.items) (texts g.variables.items) g.bounds.items
+        (texts g.directions.items) g.board g.rules };
 }
 
 impl Game {

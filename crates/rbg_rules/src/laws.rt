@@ -1,5 +1,5 @@
 //! Laws of the definitions of a game's meaning. Each function does nothing: its contract is the law.
-ghost use Rattle.rbg_rules.specs.Laws.{SequenceLaw, SumLaw, StarLaw, OneLevelLaw, SomeLevelLaw, PairsLaw, OwnWordLaw, RunLaw, OneRunLaw, PatternLaw, PositiveLaw, NegativeLaw, MoveLaw, OnePlaceLaw, StateLaw, WordLaw, TrimLaw, EmptyLaw, AnswerLaw, PairsStateLaw};
+ghost use Rattle.rbg_rules.specs.Laws.{SequenceLaw, SumLaw, StarLaw, OneLevelLaw, SomeLevelLaw, PairsLaw, OwnWordLaw, RunLaw, OneRunLaw, PatternLaw, PositiveLaw, NegativeLaw, MoveLaw, OnePlaceLaw, StateLaw, WordLaw, LocalityLaw, TrimLaw, EmptyLaw, EmptyOpeningLaw, AnswerLaw, PairsStateLaw};
 
 /// The words of a sequence are the joins of one word of each part in order.
 pub fn words_of_sequence()
@@ -81,6 +81,12 @@ pub fn rules_have_words()
     ensures { WordLaw }
 {}
 
+/// In numbered rules a list that goes through a position follows exactly where its part up to the position follows
+/// and the rest follows the position. The same holds of the ends of words.
+pub fn neighbours_decide()
+    ensures { LocalityLaw }
+{}
+
 /// Where no sum is empty, each own action of an expression stands in some word of it.
 pub fn actions_stand_in_words()
     ensures { TrimLaw }
@@ -91,12 +97,18 @@ pub fn empty_list_follows()
     ensures { EmptyLaw }
 {}
 
+/// Where no sum is empty, the empty list is an opening everywhere, of every question but that for the move of no pairs.
+pub fn empty_list_is_an_opening()
+    ensures { EmptyOpeningLaw }
+{}
+
 /// A pattern is valid by the answer of its question: whether some word of its inside runs.
 pub fn pattern_answers()
     ensures { AnswerLaw }
 {}
 
-/// Two runs from one semi-state with the same pairs end alike but for the current vertex, and the pairs alone lead there.
+/// Two runs from one semi-state with the same pairs end alike but for the current vertex, and the pairs alone lead
+/// there.
 pub fn pairs_fix_the_state()
     ensures { PairsStateLaw }
 {}

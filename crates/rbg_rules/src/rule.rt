@@ -11,7 +11,8 @@ use rbg_base::{Direction, Piece, Player, Position, Relation, Variable};
 pub enum Rule {
     /// The action at this position, which isn't a pattern.
     Act(Position),
-    /// The pattern at this position, with its inside. The action at the position says whether it is positive or negative.
+    /// The pattern at this position, with its inside. The action at the position says whether it is positive or
+    /// negative.
     Pattern {
         position: Position,
         inside: Box<Rule>,
@@ -24,7 +25,8 @@ pub enum Rule {
     Star(Box<Rule>),
 }
 
-/// What is done at a position. Players are numbered from 1, and the keeper is 0; pieces, variables and directions from 0.
+/// What is done at a position. Players are numbered from 1, and the keeper is 0; pieces, variables and directions
+/// from 0.
 #[derive(Debug, Drop)]
 pub enum Action {
     Shift {

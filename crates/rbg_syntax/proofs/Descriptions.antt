@@ -11,7 +11,7 @@ use Rattle.rbg_syntax.specs.Tree.{SpeltBounded, SpeltName, SpeltBoard, SpeltRule
 use Rattle.rbg_syntax.specs.Grammar.{ArePlayers, ArePieces, AreOneWord}
 use Rattle.rbg_syntax.specs.Reading.{Gives, is_symbol, bounded_at, name_at, separated_at, generated_at, rectangle_at, one_word_at, whole_at}
 use Rattle.rbg_syntax.specs.Sections.{sections_of, AreDifferent}
-use Rattle.rbg_syntax.specs.Spells.{HasSection, IsSection, IsRectangular, IsSpelt, HasFault, IsAnswer, Reads}
+use Rattle.rbg_syntax.specs.Spells.{HasSection, IsSection, IsRectangular, IsReadable, HasFault, IsAnswer, Reads}
 use Rattle.rbg_syntax.proofs.Readers.{Always}
 use Rattle.rbg_syntax.proofs.Combinators.{Stops}
 use Rattle.rbg_syntax.proofs.SectionReaders.{players_read, names_read, rectangles_read}
@@ -45,7 +45,7 @@ memory_only P view ts (errors.TooDeep at) h x d = absurd h
 memory_only P view ts errors.Memory h x d = refl
 
 fault_of : {A B : Type 0} (all : List SectionTokens) (kind : SectionKind) (P : List Lexeme → B → List Lexeme → Type 0) (view : A → B) (ts : List Lexeme) (e : SyntaxError)
-    → HasSection all kind ts → (IsSpelt kind ts → (x : B) × P ts x []) → Reads P view ts (Err e) → HasFault all e
+    → HasSection all kind ts → (IsReadable kind ts → (x : B) × P ts x []) → Reads P view ts (Err e) → HasFault all e
 fault_of all kind P view ts (errors.Expected at what) has spelt h = record { kind = kind; ts = ts; has = has; spells_nothing = λ s. let (x, d) = spelt s in h x d }
 fault_of all kind P view ts (errors.MissingSection which) has spelt h = absurd h
 fault_of all kind P view ts (errors.SectionTwice which) has spelt h = absurd h
@@ -66,7 +66,7 @@ module _ {A B : Type 0} (all : List SectionTokens) (kind : SectionKind) (P : Lis
   pub err_only : (d : SpeltDescription) (x : B) → IsSection all kind P x → IsAnswer d r
   err_only d x s = answer_err d r e is (memory_only P view ts e reads x (spelt_here has s))
 
-  pub err_fault : (IsSpelt kind ts → (x : B) × P ts x []) → IfErr r (HasFault all)
+  pub err_fault : (IsReadable kind ts → (x : B) × P ts x []) → IfErr r (HasFault all)
   err_fault spelt = fault_err all r e is (fault_of all kind P view ts e has spelt reads)
 
 -- the answers for the sections

@@ -1,17 +1,22 @@
 -- Sections spell at most one description.
-use Rattle.std.proofs.Common.{◌≡◌, ℕ, List, [], ap, sym, ◌∙◌, refl, codes}
+use Rattle.std.proofs.Common.{◌≡◌, ℕ, List, [], ◌∷◌, true, ap, sym, ◌∙◌, refl, inl, inr}
+use Rattle.std.specs.Prelude.{◌⊎◌}
 use Rattle.rbg_macro.specs.Token.{Lexeme, SectionTokens}
 use Rattle.rbg_macro.specs.declared.source.SectionKind.{SectionKind}
+use Rattle.rbg_macro.specs.declared.source.SectionKind.TheVariants.{Variables}
 use Rattle.rbg_macro.specs.declared.token.Symbol.TheVariants.{Comma}
-use Rattle.rbg_syntax.specs.Grammar.{ArePlayers, ArePieces, AreOneWord}
-use Rattle.rbg_syntax.specs.Reading.{Reading, is_symbol, bounded_at, name_at, separated_at, generated_at, rectangle_at, one_word_at}
-use Rattle.rbg_syntax.specs.Spells.{IsSection, IsRectangular, SpellsOneWord}
+use Rattle.rbg_syntax.specs.Grammar.{IsBounded, bounded, ArePlayers, AreVariables, ArePieces, IsBoard, AreRules}
+use Rattle.rbg_syntax.specs.Reading.{Reading, next_is, is_name, is_symbol, bounded_at, name_at, separated_at, listed_at, board_at}
+use Rattle.rbg_syntax.specs.RuleReading.{rules_at}
+use Rattle.rbg_syntax.specs.Sections.{sections_of}
+use Rattle.rbg_syntax.specs.Spells.{IsSection, MayHaveVariables, Spells, SpellsOneWord}
 use Rattle.rbg_syntax.specs.Tree.{SpeltBounded, SpeltName, SpeltBoard, SpeltRule, SpeltDescription}
-use Rattle.rbg_syntax.proofs.Combinators.{Stops}
+use Rattle.rbg_syntax.proofs.Combinators.{Stops, EndsList, listed_read}
 use Rattle.rbg_syntax.proofs.Descriptions.{spelt_here}
-use Rattle.rbg_syntax.proofs.Readers.{IsReadBy, Always, ok_one}
-use Rattle.rbg_syntax.proofs.SectionReaders.{players_read, names_read, rectangles_read}
-use Rattle.rbg_syntax.proofs.WordReaders.{one_word_read}
+use Rattle.rbg_syntax.proofs.Readers.{IsReadBy, Always, ok_one, name_next}
+use Rattle.rbg_syntax.proofs.RuleReaders.{EndsRules, nothing_ends_rules, rules_read}
+use Rattle.rbg_syntax.proofs.SectionReaders.{bounded_read, players_read, names_read, board_read}
+use Rattle.rbg_syntax.proofs.Wider.{spelt_wider}
 
 -- what is read of tokens is the only value that all of them spell
 module _ {A : Type 0} (least : ℕ) (P : List Lexeme → A → List Lexeme → Type 0) (Follow : List Lexeme → Type 0) (read : List Lexeme → Reading A) (reads : IsReadBy least P Follow read) (follows : Follow []) where
@@ -29,17 +34,37 @@ one_players s t = one_in_section 1 ArePlayers (Stops Always (is_symbol Comma)) (
 one_pieces : {sections : List SectionTokens} {kind : SectionKind} {x y : List SpeltName} → IsSection sections kind ArePieces x → IsSection sections kind ArePieces y → x ≡ y
 one_pieces s t = one_in_section 1 ArePieces (Stops Always (is_symbol Comma)) (separated_at Comma name_at) names_read (record { ends = refl; follows = tt }) s t
 
-one_board : {sections : List SectionTokens} {kind : SectionKind} {x y : SpeltBoard} → IsSection sections kind IsRectangular x → IsSection sections kind IsRectangular y → x ≡ y
-one_board s t = one_in_section 1 IsRectangular Always (generated_at (codes "rectangle") rectangle_at) rectangles_read tt s t
+one_board : {sections : List SectionTokens} {kind : SectionKind} {x y : SpeltBoard} → IsSection sections kind IsBoard x → IsSection sections kind IsBoard y → x ≡ y
+one_board s t = one_in_section 1 IsBoard Always board_at board_read tt s t
 
-one_rule : {sections : List SectionTokens} {kind : SectionKind} {x y : SpeltRule} → IsSection sections kind AreOneWord x → IsSection sections kind AreOneWord y → x ≡ y
-one_rule s t = one_in_section 1 AreOneWord _ one_word_at one_word_read refl s t
+one_rule : (n : ℕ) {sections : List SectionTokens} {kind : SectionKind} {x y : SpeltRule} → IsSection sections kind (AreRules n) x → IsSection sections kind (AreRules n) y → x ≡ y
+one_rule n s t = one_in_section 1 (AreRules n) EndsRules (rules_at n) (rules_read n) nothing_ends_rules s t
 
-pub one_description : (sections : List SectionTokens) (a b : SpeltDescription) → SpellsOneWord sections a → SpellsOneWord sections b → a ≡ b
-one_description sections a b s t =
+bounded_next : {ts rest : List Lexeme} {x : SpeltBounded} → IsBounded ts x rest → next_is is_name ts ≡ true
+bounded_next {ts} (bounded {mid = mid} {n = n} d e) = name_next ts n mid d
+
+variables_read : IsReadBy 0 AreVariables (EndsList Always is_name) (listed_at is_name bounded_at)
+variables_read = listed_read IsBounded Always bounded_at is_name bounded_read (λ ts x rest d. bounded_next d) (λ ts e. tt)
+
+no_section : {sections : List SectionTokens} {kind : SectionKind} {A : Type 0} {P : List Lexeme → A → List Lexeme → Type 0} {x : A} → sections_of kind sections ≡ [] → IsSection sections kind P x → ⊥
+no_section none s = let wrong : [] ≡ s.has.section ∷ [] = sym none ∙ s.has.only in cc
+
+one_variables : {sections : List SectionTokens} {x y : List SpeltBounded} → MayHaveVariables sections x → MayHaveVariables sections y → x ≡ y
+one_variables (inl s) (inl t) = s.1 ∙ sym t.1
+one_variables (inl s) (inr t) = absurd (no_section s.0 t)
+one_variables (inr s) (inl t) = absurd (no_section t.0 s)
+one_variables (inr s) (inr t) = one_in_section 0 AreVariables (EndsList Always is_name) (listed_at is_name bounded_at) variables_read (record { no_part = refl; no_comma = record { ends = refl; follows = tt } }) s t
+
+-- at most one description over the whole grammar
+pub one_whole_description : (sections : List SectionTokens) (a b : SpeltDescription) → Spells sections a → Spells sections b → a ≡ b
+one_whole_description sections a b s t =
     let players = one_players s.players t.players in
-    let variables = s.variables.1 ∙ sym t.variables.1 in
+    let variables = one_variables s.variables t.variables in
     let pieces = one_pieces s.pieces t.pieces in
     let board = one_board s.board t.board in
-    let rule = one_rule s.rules t.rules in
+    let rule = one_rule 128 s.rules t.rules in
     λ i. record { players = players i; variables = variables i; pieces = pieces i; board = board i; rules = rule i }
+
+-- so also over the grammar of one word
+pub one_description : (sections : List SectionTokens) (a b : SpeltDescription) → SpellsOneWord sections a → SpellsOneWord sections b → a ≡ b
+one_description sections a b s t = one_whole_description sections a b (spelt_wider sections a s) (spelt_wider sections b t)

@@ -3,13 +3,14 @@ use Rattle.std.proofs.Common.{◌≡◌, ◌≤◌, ◌+◌, ℕ, List, [], ◌�
 use denote.Enum.Bare.{same_true, true_same}
 use Rattle.std.specs.Str.{bytes_eq}
 use Rattle.std.proofs.lemmas.Slice.Eq.{bytes_eq-Decides}
+use Rattle.rbg_base.specs.Decimals.{number_of_digits}
 use Rattle.rbg_macro.specs.Token.{Lexeme}
 use Rattle.rbg_macro.specs.contracts.token.Symbol.{the_type}
 use Rattle.rbg_macro.specs.declared.token.Symbol.{Symbol}
 use Rattle.rbg_macro.specs.declared.token.TokenKind.{TokenKind}
 use Rattle.rbg_macro.specs.declared.token.TokenKind.TheVariants as kinds
 use Rattle.rbg_syntax.specs.Tree.{SpeltName, SpeltNumber}
-use Rattle.rbg_syntax.specs.Phrase.{number_of_digits, if_fits, IsSymbol, symbol, IsName, name, IsNumber, number, IsWord, word}
+use Rattle.rbg_syntax.specs.Phrase.{IsSymbol, symbol, IsName, name, IsNumber, number, IsWord, word}
 use Rattle.rbg_syntax.specs.Reading.{Fault, misfit, Reading, ◌>>=◌, next_is, is_name, is_number, is_symbol, token_at, symbol_at, name_at, number_at, word_at}
 
 pub bind_ok : {A B : Type 0} (r : Result A Fault) (f : A → Result B Fault) (y : B) → (r >>= f) ≡ Ok y → (x : A) × (r ≡ Ok x) × (f x ≡ Ok y)
@@ -97,10 +98,10 @@ name_read = record { sound = name_sound; complete = λ ts x rest d f. name_compl
 number_sound : (ts : List Lexeme) (n : SpeltNumber) (rest : List Lexeme) → number_at ts ≡ Ok (n, rest) → IsNumber ts n rest
 unfolding number_at
 number_sound ts n rest e =
-    let (t, taken, given) = bind_ok (token_at is_number ts) (λ (t : Lexeme × List Lexeme). Ok (record { value = if_fits (number_of_digits t.0.text); at = t.0.at }, t.1)) (n, rest) e in
+    let (t, taken, given) = bind_ok (token_at is_number ts) (λ (t : Lexeme × List Lexeme). Ok (record { value = number_of_digits t.0.text; at = t.0.at }, t.1)) (n, rest) e in
     let (here, is) = token_at_ok is_number ts t.0 t.1 taken in
-    let k : IsNumber (t.0 ∷ t.1) (record { value = if_fits (number_of_digits t.0.text); at = t.0.at }) t.1 = number (kind_of-is_number t.0.kind is) in
-    subst (λ (q : SpeltNumber × List Lexeme). IsNumber ts q.0 q.1) (ok_one _ (n, rest) given) (subst (λ us. IsNumber us (record { value = if_fits (number_of_digits t.0.text); at = t.0.at }) t.1) (sym here) k)
+    let k : IsNumber (t.0 ∷ t.1) (record { value = number_of_digits t.0.text; at = t.0.at }) t.1 = number (kind_of-is_number t.0.kind is) in
+    subst (λ (q : SpeltNumber × List Lexeme). IsNumber ts q.0 q.1) (ok_one _ (n, rest) given) (subst (λ us. IsNumber us (record { value = number_of_digits t.0.text; at = t.0.at }) t.1) (sym here) k)
 
 pub number_complete : {ts rest : List Lexeme} {n : SpeltNumber} → IsNumber ts n rest → number_at ts ≡ Ok (n, rest)
 unfolding number_at

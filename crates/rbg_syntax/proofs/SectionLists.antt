@@ -1,5 +1,5 @@
 -- The sections of one kind, as the list of sections is looked through.
-use Rattle.std.proofs.Common.{◌≡◌, ◌≤◌, ◌+◌, ℕ, zero, suc, List, [], ◌∷◌, length, take, drop, Bool, true, false, cond, Option, Some, None, refl, sym, ap, ◌∙◌, arith, add-one}
+use Rattle.std.proofs.Common.{◌≡◌, ◌≤◌, ◌+◌, ℕ, zero, suc, List, [], ◌∷◌, ◌++◌, length, take, drop, Bool, true, false, cond, Option, Some, None, refl, sym, ap, ◌∙◌, arith, add-one}
 use Rattle.std.specs.Prelude.{slice_get, IfErr}
 use Rattle.std.specs.Option.{ok_or}
 use Rattle.rbg_syntax.specs.declared.error.SyntaxError.{SyntaxError}
@@ -8,7 +8,7 @@ use Rattle.rbg_macro.specs.Token.{SectionTokens}
 use Rattle.rbg_macro.specs.contracts.source.SectionKind.{the_type}
 use Rattle.rbg_macro.specs.declared.source.SectionKind.{SectionKind}
 use Rattle.rbg_macro.specs.declared.source.SectionKind.TheVariants.{Players, Pieces, Variables, Board, Rules}
-use Rattle.rbg_syntax.specs.Sections.{same_kind, sections_of, count_of, AreDifferent}
+use Rattle.rbg_syntax.specs.Sections.{same_kind, sections_of, count_of, AreDifferent, IsFirstTwice}
 
 -- the test of the code
 pub same_kind-sameb : (a b : SectionKind) → sameb the_type a b ≡ same_kind a b
@@ -71,11 +71,21 @@ count_of-take kind (x ∷ xs) zero j h = omega arith
 count_of-take kind (x ∷ xs) (suc i) zero h = absurd (omega arith)
 count_of-take kind (x ∷ xs) (suc i) (suc j) h = rw (count_of-cons kind x (take i xs), count_of-cons kind x (take j xs)) (omega (arith, count_of-take kind xs i j (omega arith)))
 
-pub count_of-take_within : (kind : SectionKind) (sections : List SectionTokens) (i : ℕ) → count_of kind (take i sections) ≤ count_of kind sections
-count_of-take_within kind [] zero = omega arith
-count_of-take_within kind [] (suc i) = omega arith
-count_of-take_within kind (x ∷ xs) zero = omega arith
-count_of-take_within kind (x ∷ xs) (suc i) = rw (count_of-cons kind x (take i xs), count_of-cons kind x xs) (omega (arith, count_of-take_within kind xs i))
+pub count_of-append : (kind : SectionKind) (xs ys : List SectionTokens) → count_of kind (xs ++ ys) ≡ count_of kind xs + count_of kind ys
+count_of-append kind [] ys = omega arith
+count_of-append kind (x ∷ xs) ys = rw (count_of-cons kind x (xs ++ ys), count_of-cons kind x xs) (omega (arith, count_of-append kind xs ys))
+
+pub split_at : (xs : List SectionTokens) (i : ℕ) (x : SectionTokens) → slice_get xs i ≡ Some x → xs ≡ take i xs ++ x ∷ drop 1 (drop i xs)
+split_at [] i x e = cc
+split_at (y ∷ ys) zero x e = let same : y ≡ x = cc in ap (λ z. z ∷ ys) same
+split_at (y ∷ ys) (suc i) x e = ap (λ zs. y ∷ zs) (split_at ys i x e)
+
+pub twice_counted : (sections : List SectionTokens) (kind : SectionKind) → IsFirstTwice sections kind → 2 ≤ count_of kind sections
+twice_counted sections kind h =
+    let all : count_of kind sections ≡ count_of kind h.before + count_of kind (h.again ∷ h.behind) = ap (count_of kind) h.whole ∙ count_of-append kind h.before (h.again ∷ h.behind) in
+    let here : same_kind h.again.kind kind ≡ true = same_kind-same h.again.kind kind h.same in
+    let more : count_of kind (h.again ∷ h.behind) ≡ count_of kind h.behind + 1 = count_of-cons kind h.again h.behind ∙ ap (λ b. count_of kind h.behind + cond {A = ℕ} b 1 0) here in
+    omega (arith, all, more, h.twice)
 
 -- A further section of a kind that none before it has keeps the sections different.
 pub one_more_different : (sections : List SectionTokens) (i : ℕ) (s : SectionTokens) → slice_get sections i ≡ Some s → AreDifferent (take i sections) → count_of s.kind (take i sections) ≡ 0 → AreDifferent (take (i + 1) sections)

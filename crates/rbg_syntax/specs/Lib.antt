@@ -1,11 +1,13 @@
 -- The grammar of descriptions, the trees that it spells, and what the parser is shown to do.
 pub mod Descriptions
+pub mod Examples
 pub mod Formed
 pub mod Grammar
 pub mod Laws
 pub mod Phrase
 pub mod Plain
 pub mod Reading
+pub mod RuleReading
 pub mod Sections
 pub mod Spells
 pub mod Tree

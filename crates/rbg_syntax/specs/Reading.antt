@@ -1,5 +1,5 @@
--- What the parser reads from the front of a list of tokens, piece by piece: a value and the tokens behind it, or why there
--- is none. Only the crate's private clauses cite it.
+-- What the parser reads from the front of a list of tokens, piece by piece: a value and the tokens after it, or why
+-- there is none. Only the crate's private clauses cite it.
 use Rattle.std.specs.Prelude.{◌≡◌, ◌&&◌, ℕ, zero, suc, List, [], ◌∷◌, Bool, true, false, codes, drop, length, Some, None, Result, Ok, Err, if◌then◌else◌}
 use Rattle.std.specs.Str.{bytes_eq}
 use denote.Enum.Bare.{sameb}
@@ -10,13 +10,14 @@ use Rattle.rbg_macro.specs.declared.token.Symbol.TheVariants.{DoubleArrow, Arrow
 use Rattle.rbg_macro.specs.declared.token.TokenKind.{TokenKind}
 use Rattle.rbg_macro.specs.declared.token.TokenKind.TheVariants as kinds
 use Rattle.rbg_syntax.specs.Tree.{SpeltName, SpeltNumber, SpeltBounded, SpeltEdge, SpeltVertex, SpeltBoard, rectangle, hexagon, graph, SpeltRule, act, shift, on, off, switch, sequence, no_rules, sequence_of}
-use Rattle.rbg_syntax.specs.Phrase.{number_of_digits, if_fits}
+use Rattle.rbg_base.specs.Decimals.{number_of_digits}
 use Rattle.rbg_syntax.specs.declared.error.SyntaxError.{SyntaxError}
 use Rattle.rbg_syntax.specs.declared.error.SyntaxError.TheVariants as errors
 
--- why a piece isn't read: a token doesn't fit
+-- why a piece isn't read: a token doesn't fit, or the bracket at this place is opened where none may be
 pub data Fault : Type 0 where
   misfit : Fault
+  too_deep : ℕ → Fault
 
 abbrev pub Reading : Type 0 → Type 0
 Reading A = Result (A × List Lexeme) Fault
@@ -88,7 +89,7 @@ name_at ts = do
 unfoldable pub number_at : List Lexeme → Reading SpeltNumber
 number_at ts = do
   t ← token_at is_number ts
-  Ok (record { value = if_fits (number_of_digits t.0.text); at = t.0.at }, t.1)
+  Ok (record { value = number_of_digits t.0.text; at = t.0.at }, t.1)
 
 unfoldable pub word_at : List ℕ → List Lexeme → Reading ℕ
 word_at text ts = do
@@ -96,7 +97,8 @@ word_at text ts = do
   if bytes_eq t.0.text text then Ok (t.0.at, t.1) else Err misfit
 
 -- phrases as long as the next token passes the test; the number bounds the turns, and the count of the tokens is enough
-abbrev pub repeated_within : {A : Type 0} → ℕ → (TokenKind → Bool) → (List Lexeme → Reading A) → List Lexeme → Reading (List A)
+abbrev pub repeated_within :
+    {A : Type 0} → ℕ → (TokenKind → Bool) → (List Lexeme → Reading A) → List Lexeme → Reading (List A)
 repeated_within zero test read ts = Ok ([], ts)
 repeated_within (suc n) test read ts =
     if next_is test ts then
@@ -106,7 +108,8 @@ repeated_within (suc n) test read ts =
       Ok (first.0 ∷ more.0, more.1))
     else Ok ([], ts)
 
-unfoldable pub repeated_at : {A : Type 0} → (TokenKind → Bool) → (List Lexeme → Reading A) → List Lexeme → Reading (List A)
+unfoldable pub repeated_at :
+    {A : Type 0} → (TokenKind → Bool) → (List Lexeme → Reading A) → List Lexeme → Reading (List A)
 repeated_at test read ts = repeated_within (length ts) test read ts
 
 -- at least one phrase, and further ones as long as the next token passes the test
@@ -128,7 +131,8 @@ separated_at s read ts = do
   Ok (first.0 ∷ more.0, more.1)
 
 -- a list that may be empty: there is a part where the next token passes the test
-unfoldable pub listed_at : {A : Type 0} → (TokenKind → Bool) → (List Lexeme → Reading A) → List Lexeme → Reading (List A)
+unfoldable pub listed_at :
+    {A : Type 0} → (TokenKind → Bool) → (List Lexeme → Reading A) → List Lexeme → Reading (List A)
 listed_at test read ts = if next_is test ts then separated_at Comma read ts else Ok ([], ts)
 
 unfoldable pub within_at : {A : Type 0} → Symbol → Symbol → (List Lexeme → Reading A) → List Lexeme → Reading A
@@ -198,7 +202,7 @@ graph_at ts = do
   vs ← repeated_at is_name vertex_at ts
   Ok (graph vs.0, vs.1)
 
--- the contents of a board in its parentheses, behind the name of its generator
+-- the contents of a board in its parentheses, after the name of its generator
 unfoldable pub generated_at : List ℕ → (List Lexeme → Reading SpeltBoard) → List Lexeme → Reading SpeltBoard
 generated_at text read ts = do
   at ← word_at text ts
@@ -212,7 +216,8 @@ next_word text (t ∷ ts) = is_name t.kind && bytes_eq t.text text
 unfoldable pub board_at : List Lexeme → Reading SpeltBoard
 board_at ts =
     if next_word (codes "rectangle") ts then generated_at (codes "rectangle") rectangle_at ts
-    else (if next_word (codes "hexagon") ts then generated_at (codes "hexagon") hexagon_at ts else generated_at (codes "graph") graph_at ts)
+    else (if next_word (codes "hexagon") ts then generated_at (codes "hexagon") hexagon_at ts
+    else generated_at (codes "graph") graph_at ts)
 
 -- a value, where no token is left
 abbrev pub ended_at : {A : Type 0} → A → List Lexeme → Result A Fault

@@ -1,5 +1,5 @@
 -- The sections of one kind among the sections of a source.
-use Rattle.std.specs.Prelude.{◌≡◌, ◌≤◌, ℕ, List, [], Bool, true, false, filter, length}
+use Rattle.std.specs.Prelude.{◌≡◌, ◌≤◌, ◌<◌, ℕ, List, [], ◌∷◌, ◌++◌, Bool, true, false, filter, length}
 use Rattle.rbg_macro.specs.Token.{SectionTokens}
 use Rattle.rbg_macro.specs.declared.source.SectionKind.{SectionKind}
 use Rattle.rbg_macro.specs.declared.source.SectionKind.TheVariants.{Players, Pieces, Variables, Board, Rules}
@@ -25,11 +25,21 @@ count_of kind sections = length (sections_of kind sections)
 abbrev pub AreDifferent : List SectionTokens → Type 0
 AreDifferent sections = (kind : SectionKind) → count_of kind sections ≤ 1
 
--- the error names a section that stands twice
+-- the first section that stands a second time, in order of the text, is of this kind
+pub record IsFirstTwice (sections : List SectionTokens) (kind : SectionKind) : Type 0 where
+  pub before : List SectionTokens
+  pub again : SectionTokens
+  pub behind : List SectionTokens
+  pub whole : sections ≡ before ++ again ∷ behind
+  pub different : AreDifferent before
+  pub same : again.kind ≡ kind
+  pub twice : 0 < count_of kind before
+
+-- the error names that section
 abbrev pub IsTwice : List SectionTokens → SyntaxError → Type 0
 IsTwice sections (errors.Expected at what) = ⊥
 IsTwice sections (errors.MissingSection which) = ⊥
-IsTwice sections (errors.SectionTwice which) = 2 ≤ count_of which sections
+IsTwice sections (errors.SectionTwice which) = IsFirstTwice sections which
 IsTwice sections (errors.TooDeep at) = ⊥
 IsTwice sections errors.Memory = ⊥
 

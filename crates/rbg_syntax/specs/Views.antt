@@ -44,22 +44,29 @@ board_of (Rectangle directions rows) = SpeltBoard.rectangle (map name_of directi
 board_of (Hexagon directions rows) = SpeltBoard.hexagon (map name_of directions) (map names_of rows.items)
 board_of (Graph vertices) = SpeltBoard.graph (map vertex_of vertices.items)
 
+-- a factor and a term, with its expression already seen as what it spells
+abbrev pub SpeltFactor : Type 0
+SpeltFactor = Multiplicative × SpeltExpression
+
+abbrev pub SpeltTerm : Type 0
+SpeltTerm = Additive × SpeltExpression
+
 -- one level of an expression, with each part already seen as its spelt expression
-abbrev pub expression_step : Expression-F SpeltExpression (Multiplicative × SpeltExpression) (Additive × SpeltExpression) → SpeltExpression
+abbrev pub expression_step : Expression-F SpeltExpression SpeltFactor SpeltTerm → SpeltExpression
 expression_step (Expression-F.Number n) = SpeltExpression.number (number_of n)
 expression_step (Expression-F.Name n) = SpeltExpression.name (name_of n)
 expression_step (Expression-F.Negated e) = SpeltExpression.negated e.value
 expression_step (Expression-F.Sum terms) = SpeltExpression.sum (terms_after no_terms terms.items)
 expression_step (Expression-F.Product factors) = SpeltExpression.product (factors_after no_factors factors.items)
 
-abbrev pub factor_step : Factor-F SpeltExpression (Multiplicative × SpeltExpression) (Additive × SpeltExpression) → Multiplicative × SpeltExpression
+abbrev pub factor_step : Factor-F SpeltExpression SpeltFactor SpeltTerm → SpeltFactor
 factor_step f = (f.operator, f.value)
 
-abbrev pub term_step : Term-F SpeltExpression (Multiplicative × SpeltExpression) (Additive × SpeltExpression) → Additive × SpeltExpression
+abbrev pub term_step : Term-F SpeltExpression SpeltFactor SpeltTerm → SpeltTerm
 term_step t = (t.operator, t.value)
 
 unfoldable pub expression_of : Expression → SpeltExpression
-expression_of = fold-Expression SpeltExpression (Multiplicative × SpeltExpression) (Additive × SpeltExpression) expression_step factor_step term_step
+expression_of = fold-Expression SpeltExpression SpeltFactor SpeltTerm expression_step factor_step term_step
 
 -- one level of the rules, with each part already seen as what it spells
 abbrev pub action_step : Action-F SpeltAction SpeltRule → SpeltAction

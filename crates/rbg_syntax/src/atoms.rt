@@ -1,4 +1,4 @@
-// The readers of the actions that need no arithmetic and hold no rules.
+//! The readers of the actions that need no arithmetic and hold no rules.
 ghost use Rattle.rbg_syntax.specs.Reading.{Gives, off_at, on_at, open_atom_at};
 ghost use Rattle.rbg_syntax.specs.Views.{rule_of};
 

@@ -1,4 +1,4 @@
-// The readers of boards.
+//! The readers of boards.
 ghost use Rattle.std.specs.Prelude.{codes, map};
 ghost use Rattle.rbg_syntax.specs.Reading.{Gives, direction_at, generated_at, rectangle_at, row_at, rows_at};
 ghost use Rattle.rbg_syntax.specs.Views.{board_of, name_of, names_of};

@@ -11,14 +11,14 @@ use thiserror::Error;
 ///! Why sections spell no description.
 #[derive(Clone, Copy, Debug, PartialEq, Eq, Error)]
 pub enum SyntaxError {
-    /// The token at this offset doesn't fit, or the section whose `#` stands there ends too early.
+    /// The token at this offset doesn't fit, or the section whose `#` is at this offset ends too early.
     #[error("expected {what} at byte {at}")]
     Expected { at: usize, what: Expectation },
     #[error("the section {which:?} is missing")]
     MissingSection { which: SectionKind },
-    #[error("the section {which:?} stands twice")]
+    #[error("there are two sections {which:?}")]
     SectionTwice { which: SectionKind },
-    /// The opening bracket at this offset is nested too deep.
+    /// The opening bracket at this offset would be the 129th open one.
     #[error("brackets are nested too deep at byte {at}")]
     TooDeep { at: usize },
     #[error("out of memory")]
@@ -47,7 +47,7 @@ pub enum Expectation {
     Relation,
     /// The name of a generator of boards.
     Generator,
-    /// The end of the section, or what goes on with it.
+    /// The end of the section, or a token that continues it.
     End,
 }
 

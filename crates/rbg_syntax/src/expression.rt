@@ -1,4 +1,4 @@
-// Arithmetic as it is spelt: sums and products are lists, so a tree is no deeper than its brackets.
+//! Arithmetic as it is spelt. Sums and products are lists, so a tree is no deeper than its brackets.
 
 use crate::names::{Name, Number};
 

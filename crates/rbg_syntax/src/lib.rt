@@ -5,6 +5,7 @@ mod atoms;
 mod boards;
 mod description;
 mod error;
+pub mod examples;
 mod expression;
 pub mod laws;
 mod lists;
@@ -13,8 +14,6 @@ mod parser;
 mod parsing;
 mod rule;
 mod sections;
-#[cfg(test)]
-mod tests;
 mod words;
 
 pub use description::{Board, Bounded, Description, DescriptionParts, Edge, Vertex};

@@ -1,4 +1,4 @@
-// The readers of players, variables and pieces, and of other lists of names.
+//! The readers of players, variables and pieces, and of other lists of names.
 ghost use Rattle.rbg_macro.specs.declared.token.Symbol.TheVariants.{Comma};
 ghost use Rattle.rbg_syntax.specs.Reading.{Gives, bounded_at, is_name, listed_at, name_at, separated_at};
 ghost use Rattle.rbg_syntax.specs.Views.{bounded_list_of, bounded_of, names_of};

@@ -1,17 +1,18 @@
-// What is left of a section's tokens, and the readers of single tokens.
-ghost use Rattle.std.specs.Prelude.{◌≡◌, [], ◌∷◌, drop, IfErr, IfOk, MatchOption};
+//! What is left of a section's tokens, and the readers of single tokens.
+ghost use Rattle.std.specs.Prelude.{◌≡◌, [], ◌∷◌, drop, IfErr, IfOk, IfSome, IsTrue, MatchOption};
+ghost use Rattle.rbg_base.specs.Names.{is_name as is_a_name};
 ghost use Rattle.rbg_macro.specs.Token.{lexeme_of};
-ghost use Rattle.rbg_syntax.specs.Phrase.{if_fits, number_of_digits};
 ghost use Rattle.rbg_syntax.specs.Reading.{Gives, Takes, ended_at, front_at, next_is, is_name, is_symbol, name_at, number_at, symbol_at, word_at};
 ghost use Rattle.rbg_syntax.specs.Views.{name_of, number_of};
 
 use crate::error::{Expectation, SyntaxError};
 use crate::names::{Name, Number};
+use rbg_base::number_of_digits;
 use rbg_macro::{Section, Symbol, Token, TokenKind};
 use std::alloc::Global;
 use std::marker::Model;
 
-/// What is left of a section's tokens.
+///! What is left of a section's tokens.
 #[derive(Drop)]
 pub(crate) struct Parser<'a> {
     section: Section<'a>,
@@ -20,6 +21,7 @@ pub(crate) struct Parser<'a> {
 
 impl<'a> Model for Parser<'a> {
     ghost use Rattle.std.specs.Prelude.{List, ◌≤◌, drop, length};
+    ghost use Rattle.rbg_base.specs.Names.{is_name as is_a_name};
     ghost use Rattle.rbg_macro.specs.Token.{Lexeme};
 
     ghost Value = { List Lexeme };
@@ -43,7 +45,8 @@ impl<'a> Parser<'a> {
     /// The next token.
     #[tactic(auto, using(crate::proofs::Fronts::front_from_get, crate::proofs::Fronts::drop_whole))]
     pub(crate) fn peek(&self) -> Option<Token<'a>>
-        ensures { MatchOption result (self.now ≡ []) (λ t. self.now ≡ lexeme_of t ∷ drop 1 self.now) }
+        ensures front { MatchOption result (self.now ≡ []) (λ t. self.now ≡ lexeme_of t ∷ drop 1 self.now) }
+        ensures name { IfSome result (λ t. t.kind ≡ TokenKind.Name → IsTrue (is_a_name t.text.now)) }
     {
         if self.position < self.section.len() {
             Some(self.section.token(self.position))
@@ -93,9 +96,10 @@ impl<'a> Parser<'a> {
         true
     }
 
-    /// The next token, where one is needed.
+    /// The next token, or an error if there is none.
     fn front(&self, what: Expectation) -> Result<Token<'a>, SyntaxError>
-        ensures { Gives (λ t. (lexeme_of t, drop 1 self.now)) result (front_at self.now) }
+        ensures front { Gives (λ t. (lexeme_of t, drop 1 self.now)) result (front_at self.now) }
+        ensures name { IfOk result (λ t. t.kind ≡ TokenKind.Name → IsTrue (is_a_name t.text.now)) }
     {
         match self.peek() {
             Some(token) => Ok(token),
@@ -106,7 +110,7 @@ impl<'a> Parser<'a> {
         }
     }
 
-    /// Refuses a token that is left.
+    /// Returns an error if a token is left.
     pub(crate) fn end(&self) -> Result<(), SyntaxError>
         ensures { Gives (λ x. x) result (ended_at tt self.now) }
     {
@@ -119,7 +123,7 @@ impl<'a> Parser<'a> {
         }
     }
 
-    /// Passes the symbol, and says where it stands.
+    /// Passes the symbol, and returns its offset.
     #[tactic(auto, unfolding(crate::specs::Reading::symbol_at))]
     pub(crate) fn symbol(&mut self, symbol: Symbol, what: Expectation) -> Result<usize, SyntaxError>
         ensures { Gives (λ at. (at, self.new)) result (symbol_at symbol self.old) }
@@ -149,7 +153,7 @@ impl<'a> Parser<'a> {
         Ok(Name { text, at: token.at })
     }
 
-    /// Passes a name that is this word, and says where it stands.
+    /// Passes a name that is this word, and returns its offset.
     #[tactic(auto, unfolding(crate::specs::Reading::word_at))]
     pub(crate) fn word(&mut self, text: &[u8], what: Expectation) -> Result<usize, SyntaxError>
         ensures { Gives (λ at. (at, self.new)) result (word_at text.now self.old) }
@@ -176,21 +180,8 @@ impl<'a> Parser<'a> {
         }
         self.advance();
         Ok(Number {
-            value: number_value(token.text),
+            value: number_of_digits(token.text),
             at: token.at,
         })
     }
-}
-
-/// The number that decimal digits stand for, where it fits.
-fn number_value(digits: &[u8]) -> Option<u64>
-    ensures { result ≡ if_fits (number_of_digits digits.now) }
-{
-    let mut value: u64 = 0;
-    for digit in digits {
-        value = value
-            .checked_mul(10)?
-            .checked_add(u64::from(digit.saturating_sub(b'0')))?;
-    }
-    Some(value)
 }

@@ -1,4 +1,4 @@
-// The reader of a whole description.
+//! The reader of a whole description.
 ghost use Rattle.std.specs.Prelude.{◌≡◌, codes, slice_get, IfErr, IfOk};
 ghost use Rattle.rbg_macro.specs.declared.token.Symbol.TheVariants.{Comma};
 ghost use Rattle.rbg_syntax.specs.Descriptions.{description_of};
@@ -21,17 +21,17 @@ use std::alloc::Global;
 /// Reads the description that the sections of a source spell: players, pieces, a rectangle, and
 /// rules that are one sequence of shifts, ons, offs and switches.
 ///
-/// A section that stands twice is refused first, then one that is missing, and then the first token
-/// that doesn't fit, in players, pieces, variables, board and rules.
+/// `SectionTwice` comes before `MissingSection`, and that before `Expected`. The sections are read in the
+/// order players, pieces, variables, board and rules, and the first token that doesn't fit is refused.
 pub fn parse(alloc: Global, source: &Source) -> Result<Description, SyntaxError>
-    // The sections spell what is answered, and nothing else.
+    // The result is what the sections spell.
     ensures found { IfOk result (λ d. SpellsOneWord source.now (description_of d)) }
     ensures only { (d : SpeltDescription) → SpellsOneWord source.now d → IsAnswer d result }
 
-    // It is a rectangle, and rules that are one sequence of plain actions.
+    // Its board is a rectangle, and its rules are one sequence of plain actions.
     ensures plain { IfOk result (λ d. IsPlain (description_of d)) }
 
-    // The fault that an error names stands.
+    // An error names a fault that the sections have.
     ensures fault { IfErr result (HasFault source.now) }
 {
     refuse_twice(source)?;
@@ -58,7 +58,7 @@ pub fn parse(alloc: Global, source: &Source) -> Result<Description, SyntaxError>
     })
 }
 
-/// The section of the kind, which every description has.
+/// The section of this kind, which every description must have.
 fn needed(source: &Source, which: SectionKind) -> Result<Section<'_>, SyntaxError>
     ensures found { IfOk result (λ s. slice_get (sections_of which source.now) 0 ≡ Some s) }
     ensures missing { IfErr result (IsMissing which source.now) }

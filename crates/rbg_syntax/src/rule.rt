@@ -1,4 +1,4 @@
-// The rules as they are spelt: a regular expression over actions.
+//! The rules as they are spelt: a regular expression over actions.
 
 use crate::expression::Expression;
 use crate::names::Name;

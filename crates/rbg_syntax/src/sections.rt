@@ -1,11 +1,11 @@
-// Which sections a source has.
+//! Which sections a source has.
 ghost use Rattle.std.specs.Prelude.{◌≡◌, ◌≤◌, ◌<◌, ◌↔◌, length, slice_get, take, IfErr, IsTrue, OnOk};
 ghost use Rattle.rbg_syntax.specs.Sections.{AreDifferent, IsTwice, count_of, sections_of};
 
 use crate::error::SyntaxError;
 use rbg_macro::{Section, SectionKind, Source};
 
-/// Finds the first section of the kind.
+/// The first section of this kind.
 pub(crate) fn find(source: &Source, kind: SectionKind) -> Option<Section<'_>>
     ensures { result ≡ slice_get (sections_of kind source.now) 0 }
 {
@@ -18,7 +18,7 @@ pub(crate) fn find(source: &Source, kind: SectionKind) -> Option<Section<'_>>
     None
 }
 
-/// Whether a section of the kind stands among the first `end` sections.
+/// Whether one of the first `end` sections is of this kind.
 fn stands_before(source: &Source, kind: SectionKind, end: usize) -> bool
     requires { end ≤ length source.now }
     ensures { IsTrue result ↔ (0 < count_of kind (take end source.now)) }
@@ -31,7 +31,8 @@ fn stands_before(source: &Source, kind: SectionKind, end: usize) -> bool
     false
 }
 
-/// Refuses a section that stands twice.
+/// Returns an error if there are two sections of one kind. It names the first section, in order of the text, whose
+/// kind came before.
 pub(crate) fn refuse_twice(source: &Source) -> Result<(), SyntaxError>
     ensures once { OnOk result (AreDifferent source.now) }
     ensures twice { IfErr result (IsTwice source.now) }

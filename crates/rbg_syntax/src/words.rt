@@ -1,4 +1,4 @@
-// The reader of rules that are one word: a sequence of shifts, ons, offs and switches.
+//! The reader of rules that are one word: a sequence of shifts, ons, offs and switches.
 ghost use Rattle.std.specs.Prelude.{◌≡◌, map};
 ghost use Rattle.rbg_syntax.specs.Reading.{Gives, begins_plain_atom, in_sequence, next_is, one_word_at, plain_atom_at, some_at};
 ghost use Rattle.rbg_syntax.specs.Views.{rule_of};

@@ -27,6 +27,3 @@ pub use outcomes::read_outcome;
 pub use reading::read_message;
 pub use scores::{MAX_SCORES, Scores};
 pub use writing::{write_message, write_number, write_outcome, write_pairs};
-
-#[cfg(test)]
-mod tests;

@@ -6,11 +6,11 @@ use Rattle.rbg_board.specs.Cells.{AreDifferent}
 use Rattle.rbg_board.specs.declared.error.BoardError.{BoardError}
 use Rattle.rbg_board.specs.declared.error.BoardError.TheVariants as board_errors
 use Rattle.rbg_syntax.specs.Tree.{SpeltName, SpeltBoard}
-use Rattle.rbg_rules.specs.declared.limits.TheConstants.{MAX_DIRECTIONS}
+use Rattle.rbg_rules.specs.Limits.{most_directions, most_vertices}
+use Rattle.rbg_rules.specs.LawfulNames.{AreLawfulNames}
 use Rattle.rbg_game.specs.declared.error.GameError.{GameError}
 use Rattle.rbg_game.specs.declared.error.GameError.TheVariants as errors
-use Rattle.rbg_game.specs.Faults.{HasNoName}
-use Rattle.rbg_game.specs.Descriptions.{IsNumberOf, texts_of, BoardIs, AreNames}
+use Rattle.rbg_game.specs.Descriptions.{IsNumberOf, texts_of, BoardIs}
 
 -- The board with these names of directions is the one that is spelt, and has what every game asks of its board.
 pub record MakesBoard
@@ -20,10 +20,11 @@ pub record MakesBoard
     (board : Graph)
     : Type 0 where
   pub is_board : BoardIs (record { directions = directions; pieces = pieces; board = board }) spelt
-  pub names : AreNames directions
-  pub few : length directions ≤ MAX_DIRECTIONS
+  pub names : AreLawfulNames directions
+  pub few : length directions ≤ most_directions
   pub closed : IsClosed board
   pub some_vertex : 0 < length board.first
+  pub vertices : length board.first ≤ most_vertices
   pub first_pieces : All (λ x. x < length pieces) board.first
 
 -- n is the number of the text in the new table, which is the old one, or the old one with the text after it.
@@ -41,11 +42,3 @@ pub record NumbersDirections (names : List SpeltName) (numbers : List ℕ) (tabl
 abbrev pub refusal_of : BoardError → GameError
 refusal_of board_errors.Memory = errors.Memory
 refusal_of error = errors.Board error
-
--- What is wrong with the names of directions.
-pub data HasDirectionFault (names : List SpeltName) : GameError → Type 0 where
-  no_name : {at : ℕ}
-      → HasNoName names at
-      → HasDirectionFault names (errors.UnknownName at)
-  no_memory :
-      HasDirectionFault names errors.Memory

@@ -5,7 +5,7 @@ use Rattle.rbg_syntax.specs.Tree.{SpeltName, SpeltBounded}
 use Rattle.rbg_game.specs.declared.error.GameError.{GameError}
 use Rattle.rbg_game.specs.declared.error.GameError.TheVariants.{UnknownName, SameName, Bound, Memory}
 use Rattle.rbg_game.specs.Descriptions.{texts_of}
-use Rattle.rbg_game.specs.Faults.{HasUnknown, HasNoName, HasGreatBound}
+use Rattle.rbg_game.specs.Faults.{HasUnknown, HasGreatBound}
 
 -- the bytes of each name
 abbrev pub bytes_of : List (Vec ℕ Global) → List (List ℕ)
@@ -29,9 +29,6 @@ pub record StandsBehind (earlier : List (List ℕ)) (names : List SpeltName) (at
 
 -- What is wrong with names that are added after the earlier ones.
 pub data HasNameFault (earlier : List (List ℕ)) (names : List SpeltName) : GameError → Type 0 where
-  no_name : {at : ℕ}
-      → HasNoName names at
-      → HasNameFault earlier names (UnknownName at)
   same_name : {at : ℕ}
       → StandsBehind earlier names at
       → HasNameFault earlier names (SameName at)

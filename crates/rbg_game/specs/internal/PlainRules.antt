@@ -9,11 +9,12 @@ use Rattle.rbg_rules.specs.Translation.{action_of, shows_pattern, expression_of}
 use Rattle.rbg_rules.specs.declared.rule.Action.{Action}
 use Rattle.rbg_rules.specs.declared.rule.Rule.{Rule}
 use Rattle.rbg_rules.specs.declared.rule.Rule.TheVariants.{Act}
-use Rattle.rbg_rules.specs.declared.limits.TheConstants.{MAX_PLAYERS, MAX_PIECES, MAX_DIRECTIONS, MAX_POSITIONS}
+use Rattle.rbg_rules.specs.Limits.{most_players, most_pieces, most_directions, most_positions}
+use Rattle.rbg_rules.specs.Games.{NestsWithin}
 use Rattle.rbg_game.specs.declared.checking.rules.NameTables.{NameTables}
 use Rattle.rbg_game.specs.declared.error.GameError.{GameError}
 use Rattle.rbg_game.specs.declared.error.GameError.TheVariants.{Memory}
-use Rattle.rbg_game.specs.Descriptions.{Names, IsNumberOf, ActionIs, RuleIs, NestsWithin}
+use Rattle.rbg_game.specs.Descriptions.{Names, IsNumberOf, ActionIs, RuleIs}
 use Rattle.rbg_game.specs.Faults.{Purpose, names_for, Uses}
 use Rattle.rbg_game.specs.internal.NameTables.{HasLookUpFault}
 
@@ -29,9 +30,9 @@ names_of tables =
 
 -- no more names than a game may have
 pub record IsWithinLimits (names : Names) : Type 0 where
-  pub players : length names.players ≤ MAX_PLAYERS
-  pub pieces : length names.pieces ≤ MAX_PIECES
-  pub directions : length names.directions ≤ MAX_DIRECTIONS
+  pub players : length names.players ≤ most_players
+  pub pieces : length names.pieces ≤ most_pieces
+  pub directions : length names.directions ≤ most_directions
 
 -- the number of a player, from 1 on, or that of the keeper
 abbrev pub IsPlayer : List (List ℕ) → Option SpeltName → ℕ → Type 0
@@ -76,7 +77,7 @@ HasActionsOf names x =
 pub record IsRuleByNumbers (names : Names) (rule : SpeltRule) (x : Expression) : Type 0 where
   pub rules : (variables : List (List ℕ)) → RuleIs (record names { variables = variables }) rule x
   pub numbered : IsNumbered x
-  pub positions : length (positions_of x) ≤ MAX_POSITIONS
+  pub positions : length (positions_of x) ≤ most_positions
   pub no_empty_sum : HasNoEmptySum x
   pub actions : HasActionsOf names x
   pub no_pattern : (p : ℕ) (y : Expression) → ¬ IsLevel x (inside p) y

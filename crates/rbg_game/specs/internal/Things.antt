@@ -3,17 +3,18 @@ use Rattle.std.specs.Prelude.{◌≡◌, ℕ, ◌≤◌, List, [], ◌++◌, len
 use Rattle.rbg_syntax.specs.Tree.{SpeltBounded, SpeltDescription}
 use Rattle.rbg_rules.specs.Expression.{Expression}
 use Rattle.rbg_rules.specs.State.{AbstractGame}
-use Rattle.rbg_rules.specs.declared.limits.TheConstants.{MAX_PLAYERS, MAX_PIECES, MAX_VARIABLES, MAX_BOUND}
+use Rattle.rbg_rules.specs.Limits.{most_players, most_pieces, most_variables, greatest_bound}
+use Rattle.rbg_rules.specs.LawfulNames.{AreLawfulNames}
 use Rattle.rbg_game.specs.declared.checking.boards.NamedBoard.{NamedBoard}
 use Rattle.rbg_game.specs.declared.checking.names.Things.{Things}
-use Rattle.rbg_game.specs.Descriptions.{texts_of, holder_names, holders_of, AreBounds, AreLawfulNames}
+use Rattle.rbg_game.specs.Descriptions.{texts_of, holder_names, holders_of, AreBounds}
 
 -- The bounds of the players or variables stand after the others, and none is too great.
 pub record AddsBounds (holders : List SpeltBounded) (old new : List ℕ) : Type 0 where
   pub added : List ℕ
   pub after : new ≡ old ++ added
   pub bounds : AreBounds holders added
-  pub limit : All (λ bound. bound ≤ MAX_BOUND) added
+  pub limit : All (λ bound. bound ≤ greatest_bound) added
 
 -- The names and bounds are those of the description, and there are no more of them than are allowed.
 pub record AreThingsOf (d : SpeltDescription) (things : Things) : Type 0 where
@@ -23,9 +24,9 @@ pub record AreThingsOf (d : SpeltDescription) (things : Things) : Type 0 where
   pub bounds : AddsBounds (holders_of d) [] things.bounds.items
   pub lawful_variables : AreLawfulNames things.variables
   pub lawful_pieces : AreLawfulNames things.pieces
-  pub player_limit : length things.players ≤ MAX_PLAYERS
-  pub piece_limit : length things.pieces ≤ MAX_PIECES
-  pub variable_limit : length things.variables ≤ MAX_VARIABLES
+  pub player_limit : length things.players ≤ most_players
+  pub piece_limit : length things.pieces ≤ most_pieces
+  pub variable_limit : length things.variables ≤ most_variables
 
 -- the game of its parts
 abbrev pub game_by_numbers : Things → NamedBoard → Expression → AbstractGame

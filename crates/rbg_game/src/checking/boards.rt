@@ -8,7 +8,7 @@ ghost use Rattle.rbg_syntax.specs.Views.{name_of, names_of, board_of};
 ghost use Rattle.rbg_game.specs.Descriptions.{IsNumberOf};
 ghost use Rattle.rbg_game.specs.Faults.{HasBoardFault};
 ghost use Rattle.rbg_game.specs.internal.NameTables.{HasLookUpFault};
-ghost use Rattle.rbg_game.specs.internal.Boards.{MakesBoard, Joins, NumbersDirections, HasDirectionFault, refusal_of};
+ghost use Rattle.rbg_game.specs.internal.Boards.{MakesBoard, Joins, NumbersDirections, refusal_of};
 
 use crate::checking::name_table::NameTable;
 use crate::error::GameError;
@@ -45,7 +45,7 @@ fn number_rows(
 fn number_direction(table: &mut NameTable, name: &Name) -> Result<u16, GameError>
     requires { length table.old < 4 }
     ensures number { IfOk result (Joins table.old table.new name.now.text.items) }
-    ensures fault { IfErr result (HasDirectionFault (name_of name.now ∷ [])) }
+    ensures memory { IfErr result (λ error. error ≡ GameError.Memory) }
 {
     let number = match table.number_of(&name.text) {
         Some(number) => number,
@@ -61,7 +61,7 @@ fn number_direction(table: &mut NameTable, name: &Name) -> Result<u16, GameError
 /// The numbers of four directions, and the table in which they are numbered.
 fn number_directions(alloc: Global, names: &[Name; 4]) -> Result<([u16; 4], NameTable), GameError>
     ensures numbers { IfOk result (λ numbered. NumbersDirections (map name_of names.now) numbered.0 numbered.1) }
-    ensures fault { IfErr result (HasDirectionFault (map name_of names.now)) }
+    ensures memory { IfErr result (λ error. error ≡ GameError.Memory) }
 {
     let mut table = NameTable::new(alloc);
     let [up, down, left, right] = names;
@@ -106,8 +106,8 @@ fn make_rectangle(
     }
 }
 
-/// The board of a description, with its pieces by their numbers. Faults are looked for in this order: an unknown piece of
-/// a cell, a direction whose name is none of the language, and then what the board itself is refused for.
+/// The board of a description, with its pieces by their numbers. An unknown piece of a cell is refused before
+/// what is wrong with the board itself.
 pub(crate) fn make_board(
     alloc: Global,
     pieces: &NameTable,

@@ -4,13 +4,13 @@ ghost use Rattle.std.specs.Prelude.{MatchOption, OnOk, OnErr, IfErr, IfOk, strin
 ghost use Rattle.std.specs.List.{AllZip};
 ghost use Rattle.rbg_base.specs.Names.{is_name};
 ghost use Rattle.rbg_syntax.specs.Views.{name_of};
-ghost use Rattle.rbg_rules.specs.Names.{texts};
-ghost use Rattle.rbg_game.specs.Descriptions.{IsNumberOf, AreLawfulNames};
+ghost use Rattle.rbg_rules.specs.Texts.{texts};
+ghost use Rattle.rbg_rules.specs.LawfulNames.{AreLawfulNames};
+ghost use Rattle.rbg_game.specs.Descriptions.{IsNumberOf};
 ghost use Rattle.rbg_game.specs.internal.NameTables.{HasLookUpFault, HasNameFault};
 
 use crate::error::GameError;
 use indexmap::IndexSet;
-use rbg_base::is_name;
 use rbg_syntax::Name;
 use std::alloc::{AllocError, Global};
 use std::marker::Model;
@@ -30,7 +30,7 @@ impl Model for NameTable {
 
     ghost view = { λ table. bytes_of table.names.keys };
 
-    ghost use Rattle.rbg_game.specs.Descriptions.{AreLawfulNames};
+    ghost use Rattle.rbg_rules.specs.LawfulNames.{AreLawfulNames};
 
     ghost invariant = { λ table. AreLawfulNames (bytes_of table.names.keys) };
 }
@@ -89,9 +89,6 @@ impl NameTable {
         ensures kept { OnErr result (self.new ≡ self.old) }
         ensures fault { IfErr result (HasNameFault self.old (name_of name.now ∷ [])) }
     {
-        if !is_name(&name.text) {
-            return Err(GameError::UnknownName { at: name.at });
-        }
         if self.number_of(&name.text).is_some() {
             return Err(GameError::SameName { at: name.at });
         }

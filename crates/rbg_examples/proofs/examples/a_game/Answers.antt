@@ -1,12 +1,16 @@
-use Rattle.std.proofs.Common.{◌≡◌, ℕ, zero, suc, ◌<◌, ◌≤◌, [], ◌∷◌, refl, inl, inr, sym, subst, arith}
-use Rattle.std.specs.Prelude.{Some}
+use Rattle.std.proofs.Common.{◌≡◌, ℕ, zero, suc, ◌<◌, ◌≤◌, [], ◌∷◌, Option, ap, refl, inl, inr, sym, subst, arith}
+use Rattle.std.specs.Prelude.{Some, IsTrue, List, slice_get, codes}
 use Rattle.std.proofs.lemmas.List.Elements.{All-cons, All-nil}
 use Rattle.rbg_board.specs.Graph.{next}
-use Rattle.rbg_rules.specs.declared.limits.TheConstants.{MAX_BOUND}
+use Rattle.rbg_rules.specs.Limits.{greatest_bound}
+use Rattle.rbg_rules.specs.LawfulNames.{AreLawfulNames}
 use Rattle.rbg_rules.specs.Expression.{AbstractAction, shift, off, positive, negative, switch, act, Expression, sequence_of}
 use Rattle.rbg_rules.specs.Positions.{HasAction, IsLevel, inside}
 use Rattle.rbg_rules.specs.Games.{IsActionOf}
 use Rattle.rbg_examples.specs.ExampleGames.{looking_right, two_squares}
+use Rattle.rbg_rules.proofs.NameLemmas.{no_names, lawful_name}
+use Rattle.rbg_base.specs.Names.{is_name}
+use Rattle.rbg_examples.proofs.ExampleLemmas.{not_equal}
 use Rattle.rbg_examples.proofs.examples.a_game.Goals as goal
 
 abbrev right_off : Expression
@@ -66,6 +70,53 @@ edge (suc zero) (suc (suc (suc zero))) u e = absurd (cc e)
 edge (suc zero) (suc (suc (suc (suc d)))) u e = absurd (cc e)
 edge (suc (suc v)) d u e = absurd (cc e)
 
+-- The names of the game are names, and differ.
+abbrev first_byte : Option (List ℕ) → ℕ
+first_byte (Some (byte ∷ bytes)) = byte
+first_byte _ = 0
+
+one_name : (name : List ℕ) → IsTrue (is_name name) → AreLawfulNames (name ∷ [])
+one_name name is = lawful_name name [] is (λ k e. cc) no_names
+
+variable_names : AreLawfulNames looking_right.variables
+variable_names = lawful_name (codes "white") (codes "black" ∷ codes "n" ∷ []) refl not_white (lawful_name (codes "black") (codes "n" ∷ []) refl not_black (one_name (codes "n") refl))
+  where
+    not_white : (k : ℕ) → ¬ (slice_get (codes "black" ∷ codes "n" ∷ []) k ≡ Some (codes "white"))
+    not_white zero e = not_equal 98 119 (omega arith) (ap first_byte e)
+    not_white (suc zero) e = not_equal 110 119 (omega arith) (ap first_byte e)
+    not_white (suc (suc k)) e = cc
+
+    not_black : (k : ℕ) → ¬ (slice_get (codes "n" ∷ []) k ≡ Some (codes "black"))
+    not_black zero e = not_equal 110 98 (omega arith) (ap first_byte e)
+    not_black (suc k) e = cc
+
+piece_names : AreLawfulNames looking_right.pieces
+piece_names = lawful_name (codes "e") (codes "w" ∷ []) refl not_e (one_name (codes "w") refl)
+  where
+    not_e : (k : ℕ) → ¬ (slice_get (codes "w" ∷ []) k ≡ Some (codes "e"))
+    not_e zero e = not_equal 119 101 (omega arith) (ap first_byte e)
+    not_e (suc k) e = cc
+
+direction_names : AreLawfulNames looking_right.directions
+direction_names =
+    lawful_name (codes "up") (codes "down" ∷ codes "left" ∷ codes "right" ∷ []) refl not_up
+    (lawful_name (codes "down") (codes "left" ∷ codes "right" ∷ []) refl not_down (lawful_name (codes "left") (codes "right" ∷ []) refl not_left (one_name (codes "right") refl)))
+  where
+    not_up : (k : ℕ) → ¬ (slice_get (codes "down" ∷ codes "left" ∷ codes "right" ∷ []) k ≡ Some (codes "up"))
+    not_up zero e = not_equal 100 117 (omega arith) (ap first_byte e)
+    not_up (suc zero) e = not_equal 108 117 (omega arith) (ap first_byte e)
+    not_up (suc (suc zero)) e = not_equal 114 117 (omega arith) (ap first_byte e)
+    not_up (suc (suc (suc k))) e = cc
+
+    not_down : (k : ℕ) → ¬ (slice_get (codes "left" ∷ codes "right" ∷ []) k ≡ Some (codes "down"))
+    not_down zero e = not_equal 108 100 (omega arith) (ap first_byte e)
+    not_down (suc zero) e = not_equal 114 100 (omega arith) (ap first_byte e)
+    not_down (suc (suc k)) e = cc
+
+    not_left : (k : ℕ) → ¬ (slice_get (codes "right" ∷ []) k ≡ Some (codes "left"))
+    not_left zero e = not_equal 114 108 (omega arith) (ap first_byte e)
+    not_left (suc k) e = cc
+
 pub returns : goal.returns
 returns c = record {
   numbered = record { in_order = refl };
@@ -73,9 +124,12 @@ returns c = record {
   actions = λ p a h. (speaks p a h).0;
   switches = no_switch_inside;
   scores = refl;
+  variable_names = variable_names;
+  piece_names = piece_names;
+  direction_names = direction_names;
   bounds = refl;
   board = record { from_vertex = λ v d u e. (edge v d u e).0; to_vertex = λ v d u e. (edge v d u e).1 };
   some_vertex = omega arith;
   first_pieces = All-cons (λ x. x < 2) 0 (0 ∷ []) (omega arith) (All-cons (λ x. x < 2) 0 [] (omega arith) (All-nil (λ x. x < 2)));
-  limits = record { some_player = omega arith; players = omega arith; some_piece = omega arith; pieces = omega arith; variables = omega arith; bounds = All-cons (λ b. b ≤ MAX_BOUND) 100 (100 ∷ 1 ∷ []) (omega arith) (All-cons (λ b. b ≤ MAX_BOUND) 100 (1 ∷ []) (omega arith) (All-cons (λ b. b ≤ MAX_BOUND) 1 [] (omega arith) (All-nil (λ b. b ≤ MAX_BOUND)))); directions = omega arith; positions = omega arith };
+  limits = record { some_player = omega arith; players = omega arith; some_piece = omega arith; pieces = omega arith; variables = omega arith; bounds = All-cons (λ b. b ≤ greatest_bound) 100 (100 ∷ 1 ∷ []) (omega arith) (All-cons (λ b. b ≤ greatest_bound) 100 (1 ∷ []) (omega arith) (All-cons (λ b. b ≤ greatest_bound) 1 [] (omega arith) (All-nil (λ b. b ≤ greatest_bound)))); directions = omega arith; vertices = omega arith; positions = omega arith; nesting = ((((((tt, tt), (7, refl, ((tt, tt), tt))), tt), tt), tt), tt) };
 }

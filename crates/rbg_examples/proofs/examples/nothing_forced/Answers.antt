@@ -20,5 +20,5 @@ no_move move =
     no_switch_at star_of_offs.rules numbered 2 (off 0) (inl (inr (inl (refl, refl)))) (λ n e. cc) (subst (IsSwitchAt star_of_offs.rules) (sym (ap (λ (q : ℕ × ℕ). q.1) same.1)) move.switches)
 
 pub returns : goal.returns
-returns c o (at runs goes forced) = no_move forced
-returns c o (behind runs goes forced follows pattern more) = no_move forced
+returns c cut o (at runs goes forced) = no_move forced
+returns c cut o (behind runs goes forced follows pattern more) = no_move forced

@@ -1,15 +1,22 @@
--- The sections are those of the definitions.
-use Rattle.std.proofs.lemmas.Result.{IfOk-weaker}
+-- The sections are those of the definitions, and their tokens are spelt.
 use Rattle.rbg_macro.specs.Defines.{defines_of}
-use Rattle.rbg_macro.specs.Expansion.{HasSections}
+use Rattle.rbg_macro.proofs.SpeltExpansions.{sections_placed}
 use Rattle.rbg_macro.proofs.expansion.expand.Goals as goal
+
+pub new-requires : goal.new-requires
+new-requires c =
+    sections_placed c.args.tokens.now c.in_ok-kept.kept c.in_ok-kept.sections.items c.as_slice.ensures.spelt
+    (record {
+      definitions = defines_of c.in_ok-definitions.definitions;
+      defined = rw c.as_slice.ensures.tokens at c.in_ok-definitions.ensures;
+      expanded = rw c.deref.ensures.value at c.in_ok-kept.ensures.ok;
+    })
+    c.in_ok-kept.ensures.within
 
 pub returns-clause-sections : goal.returns-clause-sections
 returns-clause-sections c =
-    IfOk-weaker c.expand_sections.result _ (HasSections c.args.tokens.now)
-    (λ sections within. record {
+    rw c.new.ensures (record {
       definitions = defines_of c.in_ok-definitions.definitions;
-      defined = rw c.as_slice.ensures at c.in_ok-definitions.ensures;
-      expanded = within;
+      defined = rw c.as_slice.ensures.tokens at c.in_ok-definitions.ensures;
+      expanded = rw c.deref.ensures.value at c.in_ok-kept.ensures.ok;
     })
-    (rw c.deref.ensures.value at c.expand_sections.ensures.ok)

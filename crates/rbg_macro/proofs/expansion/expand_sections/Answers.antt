@@ -16,5 +16,5 @@ loop-body-preserved c =
 
 pub returns-clause-ok : goal.returns-clause-ok
 returns-clause-ok c =
-    rw c.new.ensures (all_expanded c.args.macros.now c.args.bodies.now c.loop-body.body-index c.loop-body.progress c.loop-body.sections.items
-    c.loop-body.invariant c.loop-body-test.false)
+    all_expanded c.args.macros.now c.args.bodies.now c.loop-body.body-index c.loop-body.progress c.loop-body.sections.items
+    c.loop-body.invariant c.loop-body-test.false

@@ -1,7 +1,9 @@
 -- A text's tokens are found one by one.
-use Rattle.std.proofs.Common.{refl, arith}
+use Rattle.std.proofs.Common.{refl, arith, map}
 use Rattle.rbg_macro.proofs.Rests.{rest_of}
 use Rattle.rbg_macro.proofs.Scan.{read_token, has_tokens, has_fault}
+use Rattle.rbg_macro.proofs.SpeltTokens.{tokens_are_lexemes}
+use Rattle.rbg_macro.specs.Token.{lexeme_of}
 use Rattle.rbg_macro.proofs.lexer.tokens.Goals as goal
 
 pub loop-at-preserved : goal.loop-at-preserved
@@ -23,3 +25,8 @@ returns-in-BadByte-clause-fault c =
 pub returns-clause-tokens : goal.returns-clause-tokens
 returns-clause-tokens c =
     rw c.new.ensures (has_tokens c.args.text.now c.loop-at.at c.loop-at.tokens.items c.loop-at.invariant (omega arith) (omega arith))
+
+pub new-requires : goal.new-requires
+new-requires c =
+    tokens_are_lexemes c.args.text.now (map lexeme_of c.loop-at.tokens.items)
+    (has_tokens c.args.text.now c.loop-at.at c.loop-at.tokens.items c.loop-at.invariant (omega arith) (omega arith))

@@ -5,11 +5,15 @@ use Rattle.rbg_syntax.specs.Sections.{sections_of}
 use Rattle.rbg_syntax.specs.Spells.{HasSection, IsRectangular}
 use Rattle.rbg_syntax.specs.Views.{board_of, bounded_list_of, bounded_of, names_of, rule_of}
 use Rattle.rbg_syntax.proofs.Descriptions.{has_section, spelt_here, err_only, err_fault, players_reads, pieces_reads, board_reads, rules_reads}
+use Rattle.rbg_syntax.proofs.Faults.{not_twice}
 use Rattle.rbg_syntax.proofs.FormedTrees.{some_separated, rectangular_directions, rules_formed}
 use Rattle.rbg_syntax.proofs.Plain.{spelt_plain}
 use Rattle.rbg_syntax.proofs.SectionLists.{none_first}
 use Rattle.rbg_syntax.proofs.Wider.{word_wider}
 use Rattle.rbg_syntax.proofs.parsing.parse.Goals as goal
+
+pub returns-in_err-refuse_twice-clause-only : goal.returns-in_err-refuse_twice-clause-only
+returns-in_err-refuse_twice-clause-only c d s = absurd (not_twice c.args.source.now d c.in_err-refuse_twice.field-0.0 s c.in_err-refuse_twice.ensures.twice)
 
 pub returns-in_err-players-2-clause-only : goal.returns-in_err-players-2-clause-only
 returns-in_err-players-2-clause-only c d s =

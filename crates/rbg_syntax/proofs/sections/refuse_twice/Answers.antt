@@ -1,18 +1,22 @@
-use Rattle.std.proofs.Common.{rules, ◌≡◌, ◌+◌, ◌<◌, take, true, sym, arith}
+use Rattle.std.proofs.Common.{rules, ◌≡◌, ◌<◌, take, drop, sym, arith}
 use Rattle.std.proofs.lemmas.List.{take_all}
-use Rattle.rbg_syntax.specs.Sections.{same_kind, count_of}
-use Rattle.rbg_syntax.proofs.SectionLists.{same_kind-same, count_of-take_one, count_of-take_within, one_more_different}
+use Rattle.rbg_syntax.specs.Sections.{count_of}
+use Rattle.rbg_syntax.proofs.SectionLists.{split_at, one_more_different}
 use Rattle.rbg_syntax.proofs.sections.refuse_twice.Goals as goal
 
 pub returns-then-stands_before-clause-twice : goal.returns-then-stands_before-clause-twice
 returns-then-stands_before-clause-twice c =
-    let s = c.section.result in
-    let kind = c.kind-which.result in
     let sections = c.args.source.now in
-    let before : 0 < count_of kind (take c.loop-index.index sections) = search rules in
-    let is : same_kind s.kind kind ≡ true = same_kind-same s.kind kind (sym c.kind-which.ensures) in
-    let one = rw is at (count_of-take_one kind sections c.loop-index.index s c.section.ensures) in
-    omega (arith, one, before, count_of-take_within kind sections (c.loop-index.index + 1))
+    let i = c.loop-index.index in
+    record {
+      before = take i sections;
+      again = c.section.result;
+      behind = drop 1 (drop i sections);
+      whole = split_at sections i c.section.result c.section.ensures;
+      different = c.loop-index.invariant;
+      same = sym c.kind-which.ensures;
+      twice = search rules;
+    }
 
 pub loop-index-preserved : goal.loop-index-preserved
 loop-index-preserved c =

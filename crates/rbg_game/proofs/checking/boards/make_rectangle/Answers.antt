@@ -1,10 +1,14 @@
-use Rattle.std.proofs.Common.{◌≡◌, length, map, subst, arith}
+use Rattle.std.proofs.Common.{◌≡◌, length, map, subst, sym, arith}
 use Rattle.std.proofs.lemmas.List.{length-map}
 use Rattle.std.proofs.lemmas.Result.{err_from_is_err_and}
 use Rattle.rbg_board.specs.Cells.{rows_of}
 use Rattle.rbg_board.specs.Rectangle.{IsRectangle, MakesRectangle, RectangleRefusal}
 use Rattle.rbg_syntax.specs.Views.{name_of, names_of}
-use Rattle.rbg_game.proofs.NamedRectangles.{cells_fault, directions_fault, rectangle_made, rectangle_fault}
+use Rattle.rbg_syntax.specs.Tree.{rectangle}
+use Rattle.rbg_game.specs.declared.error.GameError.{GameError}
+use Rattle.rbg_game.specs.Faults.{HasBoardFault, board_memory}
+use Rattle.rbg_game.proofs.NameFaults.{passed_on}
+use Rattle.rbg_game.proofs.NamedRectangles.{cells_fault, rectangle_made, rectangle_fault}
 use Rattle.rbg_game.proofs.checking.boards.make_rectangle.Goals as goal
 
 pub returns-in_err-cells-clause-fault : goal.returns-in_err-cells-clause-fault
@@ -14,8 +18,9 @@ returns-in_err-cells-clause-fault c =
 
 pub returns-in_err-numbers-clause-fault : goal.returns-in_err-numbers-clause-fault
 returns-in_err-numbers-clause-fault c =
-    let p = err_from_is_err_and c.from_residual-in_err-numbers.result c.from_residual-in_err-numbers.ensures.1 in
-    rw (p.1, p.2) (directions_fault c.args.pieces.now (map name_of c.args.names.now) (map names_of c.args.rows.now) c.in_err-numbers.field-0.0 c.in_err-numbers.ensures.fault)
+    let P : GameError → Type 0 = λ e. HasBoardFault c.args.pieces.now (rectangle (map name_of c.args.names.now) (map names_of c.args.rows.now)) e in
+    passed_on c.from_residual-in_err-numbers.result c.in_err-numbers.field-0.0 P c.from_residual-in_err-numbers.ensures.1
+    (subst P (sym c.in_err-numbers.ensures.memory) board_memory)
 
 pub returns-in-Ok-clause-board : goal.returns-in-Ok-clause-board
 returns-in-Ok-clause-board c =

@@ -18,7 +18,7 @@ returns-clause-number c = elim c.match-number_of.branch [
   | in-None+in_ok-insert-in-None w ↦ rw (w.table-is, w.number-is, w.in_ok-insert-in-None.ensures.ok, w.len-number.ensures.count) (joins_new c.args.table.now c.args.name.now.text.items)
 ]
 
-pub returns-in_err-insert-in-None-clause-fault : goal.returns-in_err-insert-in-None-clause-fault
-returns-in_err-insert-in-None-clause-fault c =
+pub returns-in_err-insert-in-None-clause-memory : goal.returns-in_err-insert-in-None-clause-memory
+returns-in_err-insert-in-None-clause-memory c =
     let p = err_from_is_err_and c.from_residual.result c.from_residual.ensures.1 in
     rw (p.1, p.2) (new_direction_fault c.args.table.now (name_of c.args.name.now) c.in_err-insert-in-None.field-0.0 (λ known. c.in-None.ensures (rw c.deref.ensures.value known)) c.in_err-insert-in-None.ensures.fault)

@@ -1,25 +1,9 @@
 use Rattle.std.proofs.Common.{List, [], ◌∷◌, get_or, map, subst, sym, arith}
-use Rattle.std.proofs.lemmas.Result.{err_from_is_err_and}
 use Rattle.rbg_syntax.specs.Views.{name_of}
 use Rattle.rbg_syntax.specs.declared.names.Name.{Name}
 use Rattle.rbg_game.specs.internal.Boards.{Joins, NumbersDirections}
-use Rattle.rbg_game.proofs.NamedRectangles.{direction_fault_at, four_elements, four_numbers}
+use Rattle.rbg_game.proofs.NamedRectangles.{four_elements, four_numbers}
 use Rattle.rbg_game.proofs.checking.boards.number_directions.Goals as goal
-
-pub returns-in_err-number_direction-2-clause-fault : goal.returns-in_err-number_direction-2-clause-fault
-returns-in_err-number_direction-2-clause-fault c =
-    let p = err_from_is_err_and c.from_residual-in_err-number_direction-2.result c.from_residual-in_err-number_direction-2.ensures.1 in
-    rw (p.1, p.2) (direction_fault_at c.args.names.now 1 c.index-names-1.result c.in_err-number_direction-2.field-0.0 (omega arith) c.index-names-1.is c.in_err-number_direction-2.ensures.fault)
-
-pub returns-in_err-number_direction-3-clause-fault : goal.returns-in_err-number_direction-3-clause-fault
-returns-in_err-number_direction-3-clause-fault c =
-    let p = err_from_is_err_and c.from_residual-in_err-number_direction-3.result c.from_residual-in_err-number_direction-3.ensures.1 in
-    rw (p.1, p.2) (direction_fault_at c.args.names.now 2 c.index-names-2.result c.in_err-number_direction-3.field-0.0 (omega arith) c.index-names-2.is c.in_err-number_direction-3.ensures.fault)
-
-pub returns-in_err-number_direction-4-clause-fault : goal.returns-in_err-number_direction-4-clause-fault
-returns-in_err-number_direction-4-clause-fault c =
-    let p = err_from_is_err_and c.from_residual-in_err-number_direction-4.result c.from_residual-in_err-number_direction-4.ensures.1 in
-    rw (p.1, p.2) (direction_fault_at c.args.names.now 3 c.index-names-3.result c.in_err-number_direction-4.field-0.0 (omega arith) c.index-names-3.is c.in_err-number_direction-4.ensures.fault)
 
 pub returns-clause-numbers : goal.returns-clause-numbers
 returns-clause-numbers c =
@@ -40,8 +24,3 @@ returns-clause-numbers c =
     let first : Joins [] one up.text.items i = subst (λ empty. Joins empty one up.text.items i) c.new-table.ensures c.in_ok-number_direction.ensures.number in
     let numbered = four_numbers (name_of up) (name_of down) (name_of left) (name_of right) one two three four i j k l first c.in_ok-number_direction-2.ensures.number c.in_ok-number_direction-3.ensures.number c.in_ok-number_direction-4.ensures.number in
     subst (λ (list : List Name). NumbersDirections (map name_of list) (i ∷ j ∷ k ∷ l ∷ []) four) (sym all) numbered
-
-pub returns-in_err-number_direction-clause-fault : goal.returns-in_err-number_direction-clause-fault
-returns-in_err-number_direction-clause-fault c =
-    let p = err_from_is_err_and c.from_residual.result c.from_residual.ensures.1 in
-    rw (p.1, p.2) (direction_fault_at c.args.names.now 0 c.index-names-0.result c.in_err-number_direction.field-0.0 (omega arith) c.index-names-0.is c.in_err-number_direction.ensures.fault)

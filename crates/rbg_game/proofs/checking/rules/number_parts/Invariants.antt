@@ -3,7 +3,7 @@ use Rattle.std.specs.List.{All}
 use Rattle.rbg_syntax.specs.Views.{rule_of}
 use Rattle.rbg_rules.specs.Table.{IsWithin}
 use Rattle.rbg_rules.specs.Translation.{expression_of}
-use Rattle.rbg_rules.specs.declared.limits.TheConstants.{MAX_POSITIONS}
+use Rattle.rbg_rules.specs.Limits.{most_positions}
 use Rattle.rbg_game.specs.internal.PlainRules.{names_of}
 use Rattle.rbg_game.proofs.PlainRuleLemmas.{AreSoFar}
 use Rattle.rbg_game.proofs.checking.rules.number_parts.Given as goal
@@ -12,5 +12,5 @@ abbrev pub invariant-loop-part : goal.invariant-loop-part
 invariant-loop-part l =
     AreSoFar (names_of l.names) (map rule_of (take l.part-index l.parts)) (map (expression_of l.actions.items) l.rules.items)
     × (length l.actions.items ≡ l.part-index)
-    × (l.part-index ≤ MAX_POSITIONS)
+    × (l.part-index ≤ most_positions)
     × All (IsWithin (length l.actions.items)) l.rules.items

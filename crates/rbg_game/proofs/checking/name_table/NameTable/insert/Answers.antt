@@ -7,15 +7,15 @@ use Rattle.rbg_game.proofs.NameLemmas.{key_goes_last, AreLawfulNames-push, none_
 use Rattle.rbg_syntax.specs.Views.{name_of}
 use Rattle.rbg_game.specs.declared.error.GameError.TheVariants.{Memory}
 use Rattle.rbg_game.specs.internal.NameTables.{HasNameFault, no_memory}
-use Rattle.rbg_game.proofs.NameFaults.{no_name_alone, same_name_alone, passed_on}
+use Rattle.rbg_game.proofs.NameFaults.{same_name_alone, passed_on}
 use Rattle.rbg_game.proofs.checking.name_table.NameTable.insert.Goals as goal
 
 pub invariant_of-self-2 : goal.invariant_of-self-2
 invariant_of-self-2 c =
-    let language : is_name c.args.name.now.text.items ≡ true = search rules in
+    let language : is_name c.args.name.now.text.items ≡ true = c.args.name.now.valid in
     let none : is_some c.number_of.result ≡ false = sym c.is_some.ensures ∙ c.if-is_some.false in
-    let absent = none_from_is_some c.number_of.result (Contains c.args.self.now c.deref-2.result.now → ⊥) (λ (n : ℕ). slice_get c.args.self.now n ≡ Some c.deref-2.result.now) none c.number_of.ensures in
-    let absent' = rw (c.deref-2.ensures.value, ← c.self.view_is) at absent in
+    let absent = none_from_is_some c.number_of.result (Contains c.args.self.now c.deref.result.now → ⊥) (λ (n : ℕ). slice_get c.args.self.now n ≡ Some c.deref.result.now) none c.number_of.ensures in
+    let absent' = rw (c.deref.ensures.value, ← c.self.view_is) at absent in
     let same : c.in_ok-clone.field-0.items ≡ c.args.name.now.text.items = same_from_all_zip _ _ _ c.in_ok-clone.ensures.cases.0 (λ x y e. search rules) in
     let last = key_goes_last c.self.inside.names.keys c.insert.new.self.keys c.in_ok-clone.field-0 c.args.name.now.text.items same c.in_ok-insert.ensures.keys absent' in
     rw last (AreLawfulNames-push (bytes_of c.self.inside.names.keys) c.args.name.now.text.items c.self.invariant language absent')
@@ -23,22 +23,17 @@ invariant_of-self-2 c =
 pub returns-clause-ok : goal.returns-clause-ok
 returns-clause-ok c =
     let none : is_some c.number_of.result ≡ false = sym c.is_some.ensures ∙ c.if-is_some.false in
-    let absent = none_from_is_some c.number_of.result (Contains c.args.self.now c.deref-2.result.now → ⊥) (λ (n : ℕ). slice_get c.args.self.now n ≡ Some c.deref-2.result.now) none c.number_of.ensures in
-    let absent' = rw (c.deref-2.ensures.value, ← c.self.view_is) at absent in
+    let absent = none_from_is_some c.number_of.result (Contains c.args.self.now c.deref.result.now → ⊥) (λ (n : ℕ). slice_get c.args.self.now n ≡ Some c.deref.result.now) none c.number_of.ensures in
+    let absent' = rw (c.deref.ensures.value, ← c.self.view_is) at absent in
     let same : c.in_ok-clone.field-0.items ≡ c.args.name.now.text.items = same_from_all_zip _ _ _ c.in_ok-clone.ensures.cases.0 (λ x y e. search rules) in
     let last = key_goes_last c.self.inside.names.keys c.insert.new.self.keys c.in_ok-clone.field-0 c.args.name.now.text.items same c.in_ok-insert.ensures.keys absent' in
     last ∙ ap (λ (names : List (List ℕ)). names ++ c.args.name.now.text.items ∷ []) c.self.view_is
 
-pub returns-then-not-is_name-clause-fault : goal.returns-then-not-is_name-clause-fault
-returns-then-not-is_name-clause-fault c =
-    let not_one : is_name c.args.name.now.text.items ≡ false = search rules in
-    no_name_alone c.args.self.now (name_of c.args.name.now) not_one
-
 pub returns-then-is_some-clause-fault : goal.returns-then-is_some-clause-fault
 returns-then-is_some-clause-fault c =
     let some : is_some c.number_of.result ≡ true = sym c.is_some.ensures ∙ c.if-is_some.true in
-    let there = there_from_is_some c.args.self.now c.deref-2.result.now c.number_of.result some c.number_of.ensures in
-    same_name_alone c.args.self.now (name_of c.args.name.now) (rw c.deref-2.ensures.value at there)
+    let there = there_from_is_some c.args.self.now c.deref.result.now c.number_of.result some c.number_of.ensures in
+    same_name_alone c.args.self.now (name_of c.args.name.now) (rw c.deref.ensures.value at there)
 
 pub returns-in_err-clone-clause-fault : goal.returns-in_err-clone-clause-fault
 returns-in_err-clone-clause-fault c = passed_on c.from_residual.result Memory (HasNameFault c.args.self.now (name_of c.args.name.now ∷ [])) c.from_residual.ensures.1 no_memory

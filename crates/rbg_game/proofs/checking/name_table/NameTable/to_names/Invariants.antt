@@ -1,5 +1,5 @@
 use Rattle.std.proofs.Common.{◌≡◌, take}
-use Rattle.rbg_rules.specs.Names.{texts}
+use Rattle.rbg_rules.specs.Texts.{texts}
 use Rattle.rbg_game.specs.internal.NameTables.{bytes_of}
 use Rattle.rbg_game.proofs.checking.name_table.NameTable.to_names.Given as goal
 

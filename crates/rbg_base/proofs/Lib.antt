@@ -1,0 +1,3 @@
+-- What the proofs of this crate share. Crates above cite CallerLemmas.
+pub mod Numerals
+pub mod CallerLemmas

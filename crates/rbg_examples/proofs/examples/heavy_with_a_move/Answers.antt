@@ -1,0 +1,231 @@
+use Rattle.std.proofs.Common.{◌≡◌, ℕ, zero, suc, List, [], ◌∷◌, ◌++◌, length, refl, inl, inr, sym, ap, ◌∙◌, subst, ◌⊎◌, true, false, append_assoc, arith}
+use Rattle.std.specs.Prelude.{Some}
+use Rattle.std.proofs.lemmas.List.{append-nil}
+use Rattle.std.proofs.lemmas.List.Elements.{All-cons, All-nil}
+use Rattle.rbg_rules.specs.Expression.{AbstractAction, off, on, switch, act, star, choice_of, sequence_of, Expression}
+use Rattle.rbg_rules.specs.Positions.{HasAction, IsNumbered, IsSwitchAt, HasNoSwitch, HasOwnAction, outermost, is_modifier}
+use Rattle.rbg_rules.specs.Words.{after, Repeats, done, again, Word, Follows}
+use Rattle.rbg_rules.specs.State.{AbstractState}
+use Rattle.rbg_rules.specs.Actions.{Applies}
+use Rattle.rbg_rules.specs.Moves.{RunPairs, stay, modify, pass}
+use Rattle.rbg_rules.specs.Questions.{Opening, at, GoesTo, IsProperPrefix, AnswersBehind, IsDeep, find_move, items_of}
+use Rattle.rbg_rules.specs.Laws.{IsJoinOfWords}
+use Rattle.rbg_examples.specs.ExampleGames.{heavy_choice, state_of}
+use Rattle.rbg_rules.proofs.PositionLemmas.{Among, Among_left, Among_right, Among_cases, one_stands}
+use Rattle.rbg_rules.proofs.PatternLemmas.{only_one, own_stands, word_own}
+use Rattle.rbg_rules.proofs.MoveLemmas.{applied_acts}
+use Rattle.rbg_examples.proofs.ExampleLemmas.{not_equal, no_switch_at, goes_on, begins_with, join_word, at_front, PairAmong, pair_first, pair_later}
+use Rattle.rbg_examples.proofs.examples.heavy_with_a_move.Goals as goal
+
+abbrev start : AbstractState
+start = state_of 1 (0 ∷ []) 0
+
+abbrev with_piece : AbstractState
+with_piece = state_of 1 (1 ∷ []) 0
+
+numbered : IsNumbered heavy_choice.rules
+numbered = record { in_order = refl }
+
+abbrev offs_and_stop : Expression
+offs_and_stop = sequence_of (star (act 2 (off 0)) ∷ act 3 (on []) ∷ [])
+
+abbrev either : Expression
+either = choice_of (offs_and_stop ∷ act 4 (off 1) ∷ [])
+
+begins : HasAction heavy_choice.rules 1 (switch 1)
+begins = inl (inl (inr (inl (refl, refl))))
+
+puts_e : HasAction heavy_choice.rules 2 (off 0)
+puts_e = inl (inr (inl (inr (inl (inr (inl (refl, refl)))))))
+
+stops : HasAction heavy_choice.rules 3 (on [])
+stops = inl (inr (inl (inr (inr (inl (refl, refl))))))
+
+puts_w : HasAction heavy_choice.rules 4 (off 1)
+puts_w = inl (inr (inr (inl (refl, refl))))
+
+ends : HasAction heavy_choice.rules 5 (switch 2)
+ends = inr (inl (refl, refl))
+
+not_two : ¬ IsSwitchAt heavy_choice.rules 2
+not_two = no_switch_at heavy_choice.rules numbered 2 (off 0) puts_e (λ n e. cc)
+
+not_three : ¬ IsSwitchAt heavy_choice.rules 3
+not_three = no_switch_at heavy_choice.rules numbered 3 (on []) stops (λ n e. cc)
+
+not_four : ¬ IsSwitchAt heavy_choice.rules 4
+not_four = no_switch_at heavy_choice.rules numbered 4 (off 1) puts_w (λ n e. cc)
+
+-- The move by [w].
+pub returns-clause-legal : goal.returns-clause-legal
+returns-clause-legal c = (
+  record { state = state_of 2 (1 ∷ []) 0; last = Some 5 },
+  record {
+    before = 4 ∷ [];
+    last = 5;
+    follows = (outermost, [], [], record { expression = heavy_choice.rules; is_level = refl; is_word = (1 ∷ 4 ∷ [], 5 ∷ [], (1 ∷ [], 4 ∷ [], ([], 1 ∷ [], refl, refl, refl), inr refl, refl), refl, refl) });
+    runs = modify {middle = with_piece} (record { action = off 1; stands = puts_w; acts = refl }) refl (modify (record { action = switch 2; stands = ends; acts = refl }) refl stay);
+    switches = record { player = 2; stands = ends };
+    none_before = All-cons (λ p. ¬ IsSwitchAt heavy_choice.rules p) 4 [] not_four (All-nil (λ p. ¬ IsSwitchAt heavy_choice.rules p));
+    stands = refl;
+  },
+)
+
+-- so many offs, and their pairs
+offs : ℕ → List ℕ
+offs zero = []
+offs (suc n) = 2 ∷ offs n
+
+pairs : ℕ → List (ℕ × ℕ)
+pairs zero = []
+pairs (suc n) = (0, 2) ∷ pairs n
+
+length-pairs : (n : ℕ) → length (pairs n) ≡ n
+unfolding pairs
+length-pairs zero = refl
+length-pairs (suc n) = ap suc (length-pairs n)
+
+word : (n : ℕ) → Repeats (Word (act 2 (off 0))) (offs n)
+unfolding offs
+word zero = done
+word (suc n) = again refl (word n)
+
+no_switch : (n : ℕ) → HasNoSwitch heavy_choice.rules (offs n)
+unfolding offs
+no_switch zero = All-nil (λ p. ¬ IsSwitchAt heavy_choice.rules p)
+no_switch (suc n) = All-cons (λ p. ¬ IsSwitchAt heavy_choice.rules p) 2 (offs n) not_two (no_switch n)
+
+branch : (n : ℕ) → Word either (offs n ++ 3 ∷ [])
+branch n = inl (inr (offs n, 3 ∷ [], ([], offs n, refl, word n, refl), refl, refl))
+
+follows : (n : ℕ) → Follows heavy_choice.rules (after 1) (offs n)
+follows n = (
+  outermost,
+  [],
+  3 ∷ 5 ∷ [],
+  record {
+    expression = heavy_choice.rules;
+    is_level = refl;
+    is_word = (1 ∷ (offs n ++ 3 ∷ []), 5 ∷ [], (1 ∷ [], offs n ++ 3 ∷ [], ([], 1 ∷ [], refl, refl, refl), branch n, refl), refl, ap (λ (z : List ℕ). 1 ∷ z) (sym (append_assoc (offs n) (3 ∷ []) (5 ∷ []))));
+  },
+)
+
+runs : (n : ℕ) → RunPairs heavy_choice (offs n) start start (pairs n)
+unfolding offs pairs
+runs zero = stay
+runs (suc n) = modify {middle = start} (record { action = off 0; stands = puts_e; acts = refl }) refl (runs n)
+
+-- `{}` is never valid.
+never : (s t : AbstractState) → ¬ Applies heavy_choice 3 s t
+never s t applied = let (has, same) = applied_acts heavy_choice numbered 3 (on []) stops applied in let (k, below, is) = has in absurd (omega arith)
+
+no_three : {w : List ℕ} {s t : AbstractState} {ps : List (ℕ × ℕ)} → RunPairs heavy_choice w s t ps → ¬ Among 3 w
+no_three stay h = absurd h
+no_three (modify {s} {middle} applied modifies run) (inl e) = never s middle (subst (λ (p : ℕ). Applies heavy_choice p s middle) (sym e) applied)
+no_three (modify applied modifies run) (inr h) = no_three run h
+no_three (pass {s} {middle} applied quiet run) (inl e) = never s middle (subst (λ (p : ℕ). Applies heavy_choice p s middle) (sym e) applied)
+no_three (pass applied quiet run) (inr h) = no_three run h
+
+-- The off at 4 leaves a pair.
+true_not_false : true ≡ false → ⊥
+true_not_false e = cc
+
+pair_of_four : {w : List ℕ} {s t : AbstractState} {ps : List (ℕ × ℕ)} → RunPairs heavy_choice w s t ps → Among 4 w → (v : ℕ) × PairAmong v 4 ps
+pair_of_four stay h = absurd h
+pair_of_four (modify {p} {s} {ps} applied modifies run) (inl e) = (s.vertex, subst (λ (q : ℕ). PairAmong s.vertex 4 ((s.vertex, q) ∷ ps)) e (pair_first s.vertex 4 ps))
+pair_of_four (modify {p} {s} {ps} applied modifies run) (inr h) = let (v, more) = pair_of_four run h in (v, pair_later v 4 (s.vertex, p) ps more)
+pair_of_four (pass {p} applied quiet run) (inl e) =
+    let same : applied.action ≡ off 1 = one_stands heavy_choice.rules numbered 4 applied.action (off 1) (subst (λ (q : ℕ). HasAction heavy_choice.rules q applied.action) (sym e) applied.stands) puts_w in
+    absurd (true_not_false (sym (ap is_modifier same) ∙ quiet))
+pair_of_four (pass applied quiet run) (inr h) = pair_of_four run h
+
+-- The pairs of the offs are all at 2, and so are those of their first part.
+only_two : (n v : ℕ) → ¬ PairAmong v 4 (pairs n)
+unfolding pairs PairAmong
+only_two zero v h = absurd h
+only_two (suc n) v (inl e) = absurd (not_equal 2 4 (omega arith) (ap (λ (q : ℕ × ℕ). q.1) e))
+only_two (suc n) v (inr h) = only_two n v h
+
+in_front : (v : ℕ) (qs more : List (ℕ × ℕ)) → PairAmong v 4 qs → PairAmong v 4 (qs ++ more)
+unfolding PairAmong
+in_front v [] more h = absurd h
+in_front v (q ∷ qs) more (inl e) = inl e
+in_front v (q ∷ qs) more (inr h) = inr (in_front v qs more h)
+
+-- A switch behind a run stands behind the whole of one branch.
+split : (m b : List ℕ) (q x : ℕ) (back : List ℕ) → m ++ q ∷ back ≡ b ++ x ∷ [] → Among q b ⊎ ((rest : List ℕ) × (m ≡ b ++ rest))
+split m [] q x back e = inr (m, refl)
+split [] (y ∷ b) q x back e = inl (inl cc)
+split (z ∷ m) (y ∷ b) q x back e =
+    let head : z ≡ y = cc in
+    let tail : m ++ q ∷ back ≡ b ++ x ∷ [] = cc in
+    elim (split m b q x back tail) [
+      | inl h ↦ inl (inr h)
+      | inr (rest, is) ↦ inr (rest, ap (λ (l : List ℕ). z ∷ l) is ∙ ap (λ (k : ℕ). k ∷ (b ++ rest)) head)
+    ]
+
+-- What stands in a branch is no switch, and a branch has the position 3 or the position 4.
+in_branch : (b : List ℕ) → Word either b → (p : ℕ) → Among p b → ¬ IsSwitchAt heavy_choice.rules p
+in_branch b in_b p h switches =
+    let (a, own) = word_own either b in_b p h in
+    no_switch_at heavy_choice.rules numbered p a (stands a own) (plain a own) switches
+  where
+    stands : (a : AbstractAction) → HasOwnAction either p a → HasAction heavy_choice.rules p a
+    stands a own = inl (inr (own_stands either p a own))
+
+    plain : (a : AbstractAction) → HasOwnAction either p a → (n : ℕ) → ¬ (a ≡ switch n)
+    plain a (inl (inl none)) n e = absurd none
+    plain a (inl (inr (inl (inl none)))) n e = absurd none
+    plain a (inl (inr (inl (inr (_, is))))) n e = cc
+    plain a (inl (inr (inr (_, is)))) n e = cc
+    plain a (inr (_, is)) n e = cc
+
+three_or_four : (b : List ℕ) → Word either b → Among 3 b ⊎ Among 4 b
+three_or_four b (inl (inl none)) = absurd none
+three_or_four b (inl (inr (u, v, in_u, last, e))) = inl (subst (Among 3) (sym e) (Among_right 3 u v (subst (Among 3) (sym last) (inl refl))))
+three_or_four b (inr is) = inr (subst (Among 4) (sym is) (inl refl))
+
+-- No position behind the first is 1.
+one_not_behind : (b v : List ℕ) → Word either b → v ≡ 5 ∷ [] → ¬ Among 1 (b ++ v)
+one_not_behind b v in_b is h = elim (Among_cases 1 b v h) [
+  | inl left ↦ in_branch b in_b 1 left (record { player = 1; stands = begins })
+  | inr right ↦ not_equal 1 5 (omega arith) (only_one 1 5 (subst (Among 1) is right))
+]
+
+no_answer : (n : ℕ) (qs : List (ℕ × ℕ)) → IsProperPrefix qs (pairs n) → ¬ AnswersBehind heavy_choice find_move start (after 1) qs
+no_answer n qs (more, some, is) (m, t, q, runs_on, follows_on, switches) =
+    let whole : List ℕ = m ++ q ∷ [] in
+    let on_from = goes_on heavy_choice.rules numbered 1 (switch 1) (inl (inl (inr (refl, refl)))) whole follows_on in
+    let parts : List Expression = either ∷ act 5 (switch 2) ∷ [] in
+    let begun = begins_with 1 (switch 1) parts (on_from.front ++ 1 ∷ (whole ++ on_from.back)) (join_word (act 1 (switch 1) ∷ parts) (on_from.front ++ 1 ∷ (whole ++ on_from.back)) on_from.word) in
+    behind begun.tail begun.others on_from.front on_from.back begun.is
+  where
+    behind : (tail : List ℕ) → IsJoinOfWords (either ∷ act 5 (switch 2) ∷ []) tail → (front back : List ℕ) → front ++ 1 ∷ ((m ++ q ∷ []) ++ back) ≡ 1 ∷ tail → ⊥
+    behind tail (b, v, in_b, (x, y, last, none, f), e) front back is_tail =
+        let v_is : v ≡ 5 ∷ [] = f ∙ ap (λ (z : List ℕ). z ++ y) last ∙ ap (λ (z : List ℕ). 5 ∷ z) none in
+        let rest : (m ++ q ∷ []) ++ back ≡ tail = at_front 1 front ((m ++ q ∷ []) ++ back) tail is_tail (λ h. one_not_behind b v in_b v_is (subst (Among 1) e h)) in
+        let joined : m ++ q ∷ back ≡ b ++ 5 ∷ [] = sym (append_assoc m (q ∷ []) back) ∙ rest ∙ e ∙ ap (λ (z : List ℕ). b ++ z) v_is in
+        elim (split m b q 5 back joined) [
+          | inl h ↦ in_branch b in_b q h switches
+          | inr (later, m_is) ↦ elim (three_or_four b in_b) [
+            | inl h ↦ no_three runs_on.runs (subst (Among 3) (sym m_is) (Among_left 3 b later h))
+            | inr h ↦
+                let (v, pair) = pair_of_four runs_on.runs (subst (Among 4) (sym m_is) (Among_left 4 b later h)) in
+                only_two n v (subst (PairAmong v 4) (sym is) (in_front v qs more pair))
+          ]
+        ]
+
+opened : (n : ℕ) → Opening heavy_choice find_move start (after 1) (items_of (pairs n))
+opened n = at (record { no_switch = no_switch n; follows = follows n; runs = runs n }) (λ qs prefix. no_answer n qs prefix)
+
+deep : (n : ℕ) → IsDeep heavy_choice find_move start (after 1) n
+deep n = record {
+  before = [];
+  row = pairs n;
+  later = [];
+  opened = subst (Opening heavy_choice find_move start (after 1)) (sym (append-nil (items_of (pairs n)))) (opened n);
+  count = length-pairs n;
+}
+
+pub returns-clause-heavy : goal.returns-clause-heavy
+returns-clause-heavy c = inl (deep 200)

@@ -1,0 +1,9 @@
+//! Tests of the crates of a match: messages, streams and the referee.
+#![tactic(auto)]
+
+#[cfg(test)]
+mod matches;
+#[cfg(test)]
+mod messages;
+#[cfg(test)]
+mod streams;

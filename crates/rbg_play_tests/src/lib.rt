@@ -1,0 +1,7 @@
+//! Tests of the crates of play: moves and semi-states.
+#![tactic(auto)]
+
+#[cfg(test)]
+mod moves;
+#[cfg(test)]
+mod states;

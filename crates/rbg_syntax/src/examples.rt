@@ -1,0 +1,37 @@
+//! Examples of the grammar. Each function's contract is an example; its body does nothing.
+ghost use Rattle.rbg_syntax.specs.Examples.{DeepestBrackets, NegatedFactor, StarredAssignments, SumInParentheses, TooManyBrackets, TwoMinuses, TwoStars};
+
+/// `(a+b)*c` is a product whose first factor is a sum.
+pub fn a_sum_in_parentheses_is_a_factor()
+    ensures { SumInParentheses }
+{}
+
+/// `-a*b` is a product whose first factor is negated.
+pub fn a_minus_binds_to_its_factor()
+    ensures { NegatedFactor }
+{}
+
+/// `[$ a = b, c = d]*` is the star of the sequence of its assignments.
+pub fn a_star_binds_to_the_whole_assignment_list()
+    ensures { StarredAssignments }
+{}
+
+/// 128 brackets may be open at once.
+pub fn brackets_nest_128_deep()
+    ensures { DeepestBrackets }
+{}
+
+/// 129 brackets may not.
+pub fn brackets_do_not_nest_129_deep()
+    ensures { TooManyBrackets }
+{}
+
+/// `a**` is no rule.
+pub fn two_stars_are_no_rule()
+    ensures { TwoStars }
+{}
+
+/// `--a` is no sum.
+pub fn two_minuses_are_no_sum()
+    ensures { TwoMinuses }
+{}
