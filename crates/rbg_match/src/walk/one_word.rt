@@ -11,7 +11,8 @@ use rbg_rules::{Action, Game, Rule};
 /// that is none of these or belongs to a sum or a star.
 pub(crate) fn first_not_played(game: &Game) -> Option<u32>
     ensures none { IsNone result ↔ IsOneWord game.now.rules }
-    ensures first { IfSome result (λ position. (before : ℕ) × FirstOther game.now.rules before × (position ≡ before + 1)) }
+    ensures first { IfSome result (λ position.
+        (before : ℕ) × FirstOther game.now.rules before × (position ≡ before + 1)) }
 {
     match count_played(game.rules()) {
         Ok(_count) => None,
