@@ -1,4 +1,4 @@
--- What an event stands for is answered in turn.
+-- The inputs that an event stands for are handled in turn.
 use Rattle.std.proofs.Common.{◌≡◌, ℕ, ◌-◌, ◌<◌, Bool, true, false, List, [], ◌∷◌, ◌++◌, length, map, get_or, set, refl, sym, ap, ◌∙◌, subst, append_assoc}
 use Rattle.std.specs.Prelude.{◌&&◌, nat_le}
 use Rattle.std.proofs.lemmas.List.{append-nil, get_or-map, map-set, length-map}
@@ -13,11 +13,11 @@ use Rattle.rbg_match.specs.Inputs.{TimedInput, AbstractEvent, piece, end_of_stre
 use Rattle.rbg_match.specs.Transcript.{HandlesAll, none, more}
 use Rattle.rbg_match.specs.internal.Inboxes.{rests_of}
 
--- one thing is answered
+-- one input is handled
 pub one_handled : {game : AbstractGame} {config : Config} {play after : AbstractPlay} {moment : ℕ} {input : AbstractInput} {said : List Delivery} → Handles game config play moment input after said → HandlesAll game config play (inputs_at moment (input ∷ [])) after said
 one_handled handles = more none handles
 
--- what is answered first, and what is answered then
+-- inputs that are handled first, and inputs that are handled next
 pub handles-append : {game : AbstractGame} {config : Config} {play middle after : AbstractPlay} {xs ys : List TimedInput} {a b : List Delivery} → HandlesAll game config play xs middle a → HandlesAll game config middle ys after b → HandlesAll game config play (xs ++ ys) after (a ++ b)
 handles-append {xs = xs} {a = a} first none = rw (append-nil xs, append-nil a) first
 handles-append {xs = xs} {a = a} first (more {inputs = hs} {first = b} {next = c} {input = h} second next) = rw (← append_assoc xs hs (h ∷ []), ← append_assoc a b c) (more (handles-append first second) next)
@@ -50,7 +50,7 @@ cut_of_inbox inboxes seat bytes inbox within =
 pub handles_as : {game : AbstractGame} {config : Config} {play after : AbstractPlay} {said : List Delivery} (moment : ℕ) (input same : List AbstractInput) → input ≡ same → HandlesAll game config play (inputs_at moment same) after said → HandlesAll game config play (inputs_at moment input) after said
 handles_as {game} {config} {play} {after} {said} moment input same is handles = subst (λ one. HandlesAll game config play (inputs_at moment one) after said) (sym is) handles
 
--- a piece of a seat is answered
+-- a piece of a seat is handled
 pub handles_piece : {game : AbstractGame} {config : Config} {play middle after : AbstractPlay} {said next : List Delivery} (moment : ℕ) (inboxes : List Stream) (event : AbstractEvent) (seat at : ℕ) (bytes : List ℕ) (inbox : Stream) → event ≡ piece seat at bytes → has_seat (rests_of inboxes) seat ≡ true → seat - 1 < length inboxes → Handles game config play moment tick middle said → HandlesAll game config middle (inputs_at moment (map (sent seat) (cut message_limit (get_or inboxes (seat - 1) inbox).rest bytes).items)) after next → HandlesAll game config play (inputs_at moment (inputs_in (rests_of inboxes) event)) after (said ++ next)
 handles_piece moment inboxes event seat at bytes inbox is test there first handles =
     let same : inputs_in (rests_of inboxes) event ≡ tick ∷ map (sent seat) (cut message_limit (get_or inboxes (seat - 1) inbox).rest bytes).items =

@@ -1,4 +1,4 @@
--- What a stream has completed is answered in turn.
+-- The items that a stream has completed are handled in turn.
 use Rattle.std.proofs.Common.{◌≡◌, ℕ, List, [], ◌∷◌, ◌++◌, map, drop, refl, sym, ap, ◌∙◌, Some, None, slice_get, append_assoc}
 use Rattle.std.proofs.lemmas.List.{map-append, append-nil}
 use Rattle.std.proofs.lemmas.Option.{none-some}
@@ -27,7 +27,7 @@ nothing_first (y ∷ xs) first = absurd (none-some y (sym first))
 inputs_at-more : (moment : ℕ) (input : List AbstractInput) (one : AbstractInput) → inputs_at moment (input ++ one ∷ []) ≡ inputs_at moment input ++ record { moment = moment; input = one } ∷ []
 inputs_at-more moment input one = map-append (λ (other : AbstractInput). let input : TimedInput = record { moment = moment; input = other } in input) input (one ∷ [])
 
--- From this state of play on, with these items in the inbox and this rest behind them, some items were taken and answered.
+-- From this state of play on, with these items in the inbox and this rest after them, some items were taken and handled.
 pub record HasTaken (game : AbstractGame) (config : Config) (start : AbstractPlay) (moment seat : ℕ) (from : Stream) (old : List (List ℕ)) (play : AbstractPlay) (inbox : Stream) (new : List (List ℕ)) : Type 0 where
   pub in_game : IsPlayOf game play
   pub taken : List Item
@@ -50,7 +50,7 @@ none_taken game config start moment seat from old in_play = record {
   answered = none;
 }
 
--- one more item is taken and answered
+-- one more item is taken and handled
 pub one_taken : (game : AbstractGame) (config : Config) (start : AbstractPlay) (moment seat : ℕ) (from : Stream) (old : List (List ℕ)) (play next : AbstractPlay) (inbox after : Stream) (middle new : List (List ℕ)) (item : Item) (said : List Delivery) → HasTaken game config start moment seat from old play inbox middle → IsPlayOf game next → slice_get inbox.items 0 ≡ Some item → after ≡ without_first inbox → new ≡ delivered middle said → Handles game config play moment (sent seat item) next said → HasTaken game config start moment seat from old next after new
 one_taken game config start moment seat from old play next inbox after middle new item said has in_play first loses tells handles = record {
   in_game = in_play;

@@ -1,4 +1,4 @@
--- The history of a match: its moves are legal ones from the start to the place reached, and its outcome fits that place.
+-- The history of a match: its moves are legal ones from the start to the place reached, and its outcome fits the place.
 use Rattle.std.specs.Prelude.{◌≡◌, ◌≢◌, ℕ, ◌≤◌, List, [], ◌∷◌, ◌++◌, length, Option, Some, None}
 use Rattle.rbg_wire.specs.declared.outcome.Outcome.{Outcome}
 use Rattle.rbg_wire.specs.declared.outcome.Outcome.TheVariants.{Finished, Time, Refusals, Gone, Heavy}

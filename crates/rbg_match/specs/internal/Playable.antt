@@ -24,9 +24,9 @@ pub record IsPlayOf (game : AbstractGame) (play : AbstractPlay) : Type 0 where
   pub counts : length play.refusals ≡ length game.players
   pub few : play.outcome ≡ None → All (λ count. count ≤ most_refusals) play.refusals
 
--- What every match keeps: it can play its game, its config is within the limits, its state of play is one of the game, and
--- there is an inbox for each seat. The greatest moment so far is a counted one. Unless the match failed, no inbox holds a
--- complete item.
+-- What every match keeps: it can play its game, its config is within the limits, its state of play is one of the game,
+-- and there is an inbox for each seat. The greatest moment so far is a counted one. Unless the match failed, no inbox
+-- holds a complete item.
 pub record IsMatch (game : AbstractGame) (config : Config) (play : AbstractPlay) (inboxes : List Stream)
     (moment : ℕ) (failed : Bool) : Type 0 where
   pub playable : IsPlayable game
