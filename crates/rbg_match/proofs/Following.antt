@@ -2,12 +2,12 @@
 use Rattle.std.proofs.Common.{◌≡◌, ℕ, suc, ◌+◌, ◌-◌, ◌≤◌, List, [], ◌∷◌, ◌++◌, length, refl, sym, ap, ◌∙◌, subst, arith, inl, inr, Option, Some, None, unwrap_or, add-one}
 use Rattle.std.proofs.lemmas.List.{length_push}
 use Rattle.rbg_rules.specs.Expression.{Expression, positive, negative}
-use Rattle.rbg_rules.specs.Positions.{positions_of, count_from, IsNumbered, Level, outermost, inside}
+use Rattle.rbg_rules.specs.Positions.{positions_of, IsNumbered, Level, outermost, inside}
 use Rattle.rbg_rules.specs.Words.{Word, WordOf, Follows}
 use Rattle.rbg_rules.specs.Moves.{stand_of}
 use Rattle.rbg_match.specs.OneWord.{IsOneWord}
-use Rattle.rbg_match.specs.PlaceOf.{IsLastOf}
-use Rattle.rbg_match.proofs.Counting.{IsCutAt, count_from_parts, count_from-append}
+use Rattle.rbg_rules.specs.Places.{IsLastOf}
+use Rattle.rbg_match.proofs.Counting.{count_from, IsCutAt, count_from_parts, count_from-append}
 use Rattle.rbg_match.proofs.OneWordRules.{word_of_positions, only_word, action_is_played}
 
 -- the position behind the last one
