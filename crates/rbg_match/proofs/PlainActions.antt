@@ -1,5 +1,5 @@
 -- The kinds of actions of the code, and which of them are played.
-use Rattle.std.proofs.Common.{◌≡◌, ◌≢◌, ℕ, zero, suc, ◌<◌, ◌≤◌, ◌-◌, List, ◌∷◌, [], length, get_or, false, refl, sym, ap, ◌∙◌, subst, ◌⊎◌, inl, inr, Option, Some, None, arith}
+use Rattle.std.proofs.Common.{◌≡◌, ◌≢◌, ℕ, zero, suc, ◌<◌, ◌≤◌, ◌-◌, List, length, get_or, false, refl, sym, ap, ◌∙◌, ◌⊎◌, inl, inr, Option, Some, None, arith}
 use Rattle.std.specs.Prelude.{Vec, ◌↔◌}
 use Rattle.std.specs.Global.{Global}
 use Rattle.std.proofs.lemmas.Option.{slice_get_past}

@@ -17,7 +17,7 @@ use Rattle.rbg_match.proofs.Parts.{IsCounted, counted_more, counted_all, other_a
 
 -- the parts of a sequence as the code goes over them
 pub sequence_is : (actions : List Action) (rule : Rule) (parts : Vec Rule Global) (items : List Rule) → rule ≡ Then parts → items ≡ parts.items → expression_of actions rule ≡ sequence_of (map (expression_of actions) items)
-sequence_is actions rule parts items is items_are = ap (expression_of actions) is ∙ expression_of-Then actions parts ∙ ap (λ (rules : List Rule). sequence_of (map (expression_of actions) actions rules)) (sym items_are)
+sequence_is actions rule parts items is items_are = ap (expression_of actions) is ∙ expression_of-Then actions parts ∙ ap (λ (rules : List Rule). sequence_of (map (expression_of actions) rules)) (sym items_are)
 
 -- a part as the code reads it
 part_is : (actions : List Action) (items : List Rule) (i : ℕ) (part : Rule) → part ≡ get_or items i part → get_or (map (expression_of actions) items) i (expression_of actions part) ≡ expression_of actions part

@@ -103,7 +103,7 @@ fn walk(game: &Game, place: &Place) -> Result<Walked, Memory>
             Action::Switch { .. } => {
                 pairs.push(Pair { vertex, position });
                 let after = Some(position);
-                let pairs = Move::from_pairs(pairs.as_slice()).unwrap();
+                let pairs = Move::try_from(pairs.as_slice()).unwrap();
                 return Ok(Walked::Moved(pairs, Place { state, after }));
             }
             Action::Off { .. } => {

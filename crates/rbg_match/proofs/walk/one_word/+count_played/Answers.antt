@@ -1,5 +1,5 @@
 -- What the parts of a rule count.
-use Rattle.std.proofs.Common.{◌≡◌, ℕ, ◌+◌, ◌≤◌, ◌↔◌, Bool, true, false, IsTrue, length, rules, refl, sym, ap, subst, arith}
+use Rattle.std.proofs.Common.{◌≡◌, ℕ, ◌+◌, ◌≤◌, ◌↔◌, Bool, true, false, IsTrue, length, rules, sym, subst, arith}
 use Rattle.std.proofs.lemmas.List.{get_or_read}
 use Rattle.rbg_rules.specs.declared.rule.Rule.{the_lemmas}
 use Rattle.rbg_rules.specs.Positions.{positions_of}
