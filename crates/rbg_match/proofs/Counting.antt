@@ -1,6 +1,21 @@
 -- Lists that count upwards by one.
-use Rattle.std.proofs.Common.{◌≡◌, ℕ, zero, suc, ◌+◌, ◌<◌, List, [], ◌∷◌, ◌++◌, length, refl, sym, ap, ◌∙◌, arith, get_or, add-zero, zero-add}
-use Rattle.rbg_rules.specs.Positions.{count_from}
+use Rattle.std.proofs.Common.{◌≡◌, ℕ, zero, suc, ◌+◌, ◌<◌, List, [], ◌∷◌, ◌++◌, length, refl, sym, ap, ◌∙◌, arith, get_or, add-one, add-zero, zero-add}
+use Rattle.std.specs.List.{range_with_len}
+use Rattle.rbg_rules.specs.Expression.{Expression}
+use Rattle.rbg_rules.specs.Positions.{positions_of, IsNumbered}
+
+-- the numbers first, first + 1, .., that many: std's range, by its successors
+abbrev pub count_from : (first many : ℕ) → List ℕ
+count_from first zero = []
+count_from first (suc many) = first ∷ count_from (suc first) many
+
+pub range_with_len-counts : (first many : ℕ) → range_with_len first many ≡ count_from first many
+range_with_len-counts first zero = refl
+range_with_len-counts first (suc many) = rw add-one (ap (λ (l : List ℕ). first ∷ l) (range_with_len-counts (suc first) many))
+
+-- the positions of numbered rules count upwards from 1
+pub numbered_counts : (x : Expression) → IsNumbered x → positions_of x ≡ count_from 1 (length (positions_of x))
+numbered_counts x numbered = numbered.in_order ∙ range_with_len-counts 1 (length (positions_of x))
 
 pub length-count_from : (first many : ℕ) → length (count_from first many) ≡ many
 length-count_from first zero = refl

@@ -3,7 +3,7 @@ use Rattle.std.proofs.Common.{◌≡◌, ℕ, zero, suc, ◌+◌, ◌<◌, List,
 use Rattle.std.proofs.lemmas.List.{append-nil}
 use Rattle.std.proofs.lemmas.List.Concat.{flat_map-append}
 use Rattle.std.proofs.lemmas.Bool.{eq-eqb, ne_eqb}
-use Rattle.rbg_rules.specs.Positions.{count_from}
+use Rattle.std.specs.List.{range_with_len}
 use Rattle.rbg_wire.specs.Messages.{AbstractMessage, spelling}
 use Rattle.rbg_match.specs.Deliveries.{Delivery, to_seat, to_each, to_others, bytes_for, queued, delivered_from, delivered}
 
@@ -65,9 +65,9 @@ delivered-one outbox index message within =
     let same : index + 1 ≡ 1 + index = omega arith in
     rw same (delivered_from-one 1 outbox index message within)
 
-queued_from : (first seats : ℕ) (said : List Delivery) → delivered_from first (replicate seats []) said ≡ map (λ seat. bytes_for seat said) (count_from first seats)
+queued_from : (first seats : ℕ) (said : List Delivery) → delivered_from first (replicate seats []) said ≡ map (λ seat. bytes_for seat said) (range_with_len first seats)
 queued_from first zero said = refl
-queued_from first (suc seats) said = ap (λ others. bytes_for first said ∷ others) (queued_from (suc first) seats said)
+queued_from first (suc seats) said = rw add-one (ap (λ others. bytes_for first said ∷ others) (queued_from (suc first) seats said))
 
 -- what seats that had nothing have is what they have been sent
 pub delivered-queued : (seats : ℕ) (said : List Delivery) → delivered (replicate seats []) said ≡ queued seats said

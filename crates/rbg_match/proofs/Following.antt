@@ -2,12 +2,12 @@
 use Rattle.std.proofs.Common.{◌≡◌, ℕ, suc, ◌+◌, ◌-◌, ◌≤◌, List, [], ◌∷◌, ◌++◌, length, refl, sym, ap, ◌∙◌, subst, arith, inl, inr, Option, Some, None, unwrap_or, add-one}
 use Rattle.std.proofs.lemmas.List.{length_push}
 use Rattle.rbg_rules.specs.Expression.{Expression, positive, negative}
-use Rattle.rbg_rules.specs.Positions.{positions_of, count_from, IsNumbered, Level, outermost, inside}
+use Rattle.rbg_rules.specs.Positions.{positions_of, IsNumbered, Level, outermost, inside}
 use Rattle.rbg_rules.specs.Words.{Word, WordOf, Follows}
 use Rattle.rbg_rules.specs.Moves.{stand_of}
 use Rattle.rbg_match.specs.OneWord.{IsOneWord}
-use Rattle.rbg_match.specs.PlaceOf.{IsLastOf}
-use Rattle.rbg_match.proofs.Counting.{IsCutAt, count_from_parts, count_from-append}
+use Rattle.rbg_rules.specs.Places.{IsLastOf}
+use Rattle.rbg_match.proofs.Counting.{count_from, numbered_counts, IsCutAt, count_from_parts, count_from-append}
 use Rattle.rbg_match.proofs.OneWordRules.{word_of_positions, only_word, action_is_played}
 
 -- the position behind the last one
@@ -44,10 +44,10 @@ module _ (rules : Expression) (one : IsOneWord rules) (numbered : IsNumbered rul
   follows_is_front None m follows =
       let word : m ++ follows.0 ≡ positions_of rules = word_of_level rules one outermost _ follows.1 in
       let many : suc (length (positions_of rules)) - 1 ≡ length (positions_of rules) = omega arith in
-      (follows.0, rw many (word ∙ numbered.in_order))
+      (follows.0, rw many (word ∙ numbered_counts rules numbered))
   follows_is_front (Some i) m follows =
       let word : follows.1 ++ i ∷ (m ++ follows.2) ≡ positions_of rules = word_of_level rules one follows.0 _ follows.3 in
-      let parts : IsCutAt follows.1 (i ∷ (m ++ follows.2)) 1 (length (positions_of rules)) = count_from_parts follows.1 (i ∷ (m ++ follows.2)) 1 _ (word ∙ numbered.in_order) in
+      let parts : IsCutAt follows.1 (i ∷ (m ++ follows.2)) 1 (length (positions_of rules)) = count_from_parts follows.1 (i ∷ (m ++ follows.2)) 1 _ (word ∙ numbered_counts rules numbered) in
       let back : i ∷ (m ++ follows.2) ≡ (1 + length follows.1) ∷ count_from (suc (1 + length follows.1)) (length (m ++ follows.2)) = parts.back in
       let here : 1 + length follows.1 ≡ i = cc in
       let total : length (positions_of rules) ≡ length follows.1 + suc (length (m ++ follows.2)) = parts.total in
@@ -72,7 +72,7 @@ module _ (rules : Expression) (one : IsOneWord rules) (numbered : IsNumbered rul
   pub front_follows : (last : Option ℕ) → IsLastOf rules last → (m z : List ℕ) → m ++ z ≡ rest_after rules last → Follows rules (stand_of last) m
   front_follows None is_last m z front =
       let many : suc (length (positions_of rules)) - 1 ≡ length (positions_of rules) = omega arith in
-      let word : m ++ z ≡ positions_of rules = (rw many at front) ∙ sym numbered.in_order in
+      let word : m ++ z ≡ positions_of rules = (rw many at front) ∙ sym (numbered_counts rules numbered) in
       (z, whole_word rules one (m ++ z) word)
   front_follows (Some i) is_last m z front =
       let u : List ℕ = count_from 1 (i - 1) in
@@ -83,7 +83,7 @@ module _ (rules : Expression) (one : IsOneWord rules) (numbered : IsNumbered rul
       let same : suc n - suc i ≡ n - i = omega arith in
       let behind : i ∷ (m ++ z) ≡ count_from i (suc (n - i)) = ap (λ (l : List ℕ). i ∷ l) (front ∙ ap (count_from (suc i)) same) in
       let word : u ++ i ∷ (m ++ z) ≡ positions_of rules =
-      ap (λ (l : List ℕ). u ++ l) (behind ∙ ap (λ (k : ℕ). count_from k (suc (n - i))) (sym here)) ∙ joined ∙ ap (count_from 1) many ∙ sym numbered.in_order in
+      ap (λ (l : List ℕ). u ++ l) (behind ∙ ap (λ (k : ℕ). count_from k (suc (n - i))) (sym here)) ∙ joined ∙ ap (count_from 1) many ∙ sym (numbered_counts rules numbered) in
       (outermost, u, z, whole_word rules one _ word)
 
 -- the same as the code counts it

@@ -15,5 +15,5 @@ no_zero_in text game loads = text_has_no_zero_byte text loads.describes.has.toke
 pub names_in : (text : List ℕ) (game : AbstractGame) → Loads text game → All (λ name. IsTrue (is_name name)) game.players
 names_in text game loads =
     let game_of = loads.game_of in
-    let first = All-take (λ name. IsTrue (is_name name)) (length game.players) game.variables game_of.lawful_variables.names in
+    let first = All-take (λ name. IsTrue (is_name name)) (length game.players) game.variables game_of.lawful.variable_names.names in
     subst (All (λ name. IsTrue (is_name name))) game_of.lawful.scores first

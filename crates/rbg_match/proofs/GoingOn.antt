@@ -5,18 +5,18 @@ use Rattle.rbg_wire.specs.Messages.{end_message}
 use Rattle.rbg_rules.specs.State.{AbstractGame}
 use Rattle.rbg_rules.specs.Moves.{AbstractPlace, Legal}
 use Rattle.rbg_rules.specs.Moves as moves
-use Rattle.rbg_match.specs.Heavy.{IsHeavyToFind}
-use Rattle.rbg_match.specs.Config.{keeper_moves_in_a_row}
+use Rattle.rbg_rules.specs.Heavy.{IsHeavyToFind}
+use Rattle.rbg_match.specs.Limits.{most_keeper_moves}
 use Rattle.rbg_match.specs.Deliveries.{Delivery, delivered, to_each}
 use Rattle.rbg_match.specs.Play.{AbstractPlay, mover_of, scores_of, ended}
 use Rattle.rbg_match.specs.PlayingOn.{PlaysOn, endless, heavy, finished, keeper, seats_of, MayBeAsked}
-use Rattle.rbg_match.specs.Playable.{IsPlayOf}
-use Rattle.rbg_match.specs.Looking.{KeeperMoves}
+use Rattle.rbg_match.specs.internal.Playable.{IsPlayOf}
+use Rattle.rbg_match.specs.internal.OneStep.{KeeperMoves}
 use Rattle.rbg_match.proofs.Delivering.{delivered-none}
 use Rattle.rbg_match.proofs.Sayings.{said_more}
 
 module _ (game : AbstractGame) (moment in_a_row : ℕ) (play after : AbstractPlay) (seats : ℕ) (said : List Delivery) (all : seats ≡ seats_of game) where
-  pub is_endless : mover_of play ≡ 0 → keeper_moves_in_a_row ≤ in_a_row → after ≡ ended play Heavy → said ≡ to_each seats (end_message Heavy) → PlaysOn game moment in_a_row play after said
+  pub is_endless : mover_of play ≡ 0 → most_keeper_moves ≤ in_a_row → after ≡ ended play Heavy → said ≡ to_each seats (end_message Heavy) → PlaysOn game moment in_a_row play after said
   is_endless is_keeper many ends tells = rw (ends, tells, all) (endless is_keeper many)
 
   pub is_heavy : MayBeAsked in_a_row play → IsHeavyToFind game play.place → after ≡ ended play Heavy → said ≡ to_each seats (end_message Heavy) → PlaysOn game moment in_a_row play after said
@@ -28,7 +28,7 @@ module _ (game : AbstractGame) (moment in_a_row : ℕ) (play after : AbstractPla
 -- Play has come from its start to this state by so many keeper moves in a row: what it goes on to from here, it goes on to from
 -- the start, with what was said so far in front.
 pub record HasCome (game : AbstractGame) (moment in_a_row : ℕ) (start play : AbstractPlay) (old new : List (List ℕ)) : Type 0 where
-  pub few : in_a_row ≤ keeper_moves_in_a_row
+  pub few : in_a_row ≤ most_keeper_moves
   pub play_of_game : IsPlayOf game play
   pub said : List Delivery
   pub behind : new ≡ delivered old said
@@ -44,7 +44,7 @@ not_yet_come game moment play outbox is_of = record {
 }
 
 -- the keeper moves once more
-pub come_further : (game : AbstractGame) (moment in_a_row : ℕ) (start play next : AbstractPlay) (old middle new : List (List ℕ)) (told : List Delivery) → HasCome game moment in_a_row start play old middle → IsPlayOf game next → KeeperMoves game in_a_row play next told → new ≡ delivered middle told → HasCome game moment (in_a_row + 1) start next old new
+pub come_further : (game : AbstractGame) (moment in_a_row : ℕ) (start play next : AbstractPlay) (old middle new : List (List ℕ)) (told : List Delivery) → HasCome game moment in_a_row start play old middle → IsPlayOf game next → KeeperMoves game moment in_a_row play next told → new ≡ delivered middle told → HasCome game moment (in_a_row + 1) start next old new
 come_further game moment in_a_row start play next old middle new told come is_of moves told_then = record {
   few = add-one-le moves.may;
   play_of_game = is_of;

@@ -4,10 +4,11 @@ pub mod Scoring
 pub mod GoingOn
 pub mod Refusing
 pub mod Judging
-pub mod HearingLemmas
+pub mod HandlingLemmas
 pub mod Marking
 pub mod Taking
 pub mod Events
+pub mod Histories
 pub mod Stepping
 pub mod Counting
 pub mod OneWordRules
@@ -23,5 +24,5 @@ pub mod Greeting
 pub mod FirstPosition
 pub mod OpeningLemmas
 pub mod GameText
-pub mod HearingAll
+pub mod AllEvents
 pub mod WholeMatch

@@ -3,8 +3,7 @@ use Rattle.std.proofs.Common.{◌≡◌, ◌≢◌, ℕ, zero, suc, ◌+◌, ◌
 use Rattle.std.proofs.lemmas.Bool.{cases_lt}
 use Rattle.std.proofs.lemmas.List.{ext_get_or, get_or-map, length-map, get_or-set_same, get_or-set_other}
 use Rattle.std.proofs.Math.Seq.{take-append_seam}
-use Rattle.rbg_match.specs.Deliveries.{Delivery, bytes_for, delivered_from, delivered}
-use Rattle.rbg_match.specs.Saying.{AreMarks}
+use Rattle.rbg_match.specs.Deliveries.{AreMarks, Delivery, bytes_for, delivered_from, delivered}
 use Rattle.rbg_match.proofs.Delivering.{length-delivered}
 
 -- what one seat has then

@@ -2,18 +2,19 @@
 use Rattle.std.proofs.Common.{◌≡◌, ◌≢◌, ℕ, suc, ◌+◌, ◌<◌, ◌≤◌, ◌-◌, length-append, List, [], ◌∷◌, ◌++◌, length, sym, ap, ◌∙◌, subst, arith, Bool, true, false, Option, Some, unwrap_or}
 use Rattle.std.proofs.lemmas.List.{append-nil, length_push, nil_from_length}
 use Rattle.rbg_rules.specs.Expression.{AbstractAction, off, switch}
-use Rattle.rbg_rules.specs.Positions.{HasAction, positions_of, count_from, is_modifier, IsSwitchAt, IsNumbered}
+use Rattle.rbg_rules.specs.Positions.{HasAction, positions_of, is_modifier, IsSwitchAt, IsNumbered}
 use Rattle.rbg_rules.specs.State.{AbstractGame, AbstractState, IsStateOf}
 use Rattle.rbg_rules.specs.Actions.{Applies}
 use Rattle.rbg_rules.specs.Moves.{AbstractPlace, RunPairs, stand_of}
+use Rattle.rbg_match.proofs.Counting.{count_from}
 use Rattle.rbg_match.specs.OneWord.{IsOneWord}
-use Rattle.rbg_match.specs.PlaceOf.{IsPlaceOf, IsLastOf}
+use Rattle.rbg_rules.specs.Places.{IsPlaceOf, IsLastOf}
 use Rattle.rbg_rules.proofs.PositionLemmas.{one_stands}
 use Rattle.rbg_match.proofs.OneWordRules.{counts_from_1, action_in_range}
 use Rattle.rbg_match.proofs.Following.{next_after, next_after_counted, follows_to}
 use Rattle.rbg_match.proofs.OneRun.{with_pair, goes_on}
 use Rattle.rbg_match.proofs.Reaching.{Reaches, reaches_start, reaches_step, switch_reached, move_is_longer, not_short, longer_front, reached_no_switch, reached_follows}
-use Rattle.rbg_match.specs.Walking.{IsTooDeep, IsFound}
+use Rattle.rbg_match.specs.internal.Walking.{IsTooDeep, IsFound}
 use Rattle.rbg_rules.specs.Questions.{find_move, RunsOn, AnswersBehind, IsProperPrefix, Opening, at, items_of}
 use Rattle.rbg_wire.specs.Messages.{IsShortPair}
 use Rattle.std.proofs.lemmas.List.Elements.{All-nil, All-push}

@@ -2,10 +2,10 @@
 use Rattle.std.proofs.Common.{◌≡◌, ℕ, ◌+◌, ◌<◌, ◌≤◌, List, [], ◌∷◌, ◌++◌, length, refl, sym, ap, ◌∙◌, subst, arith, inl, inr, length-append}
 use Rattle.std.proofs.lemmas.Bool.{cases_lt}
 use Rattle.rbg_rules.specs.Expression.{AbstractAction, shift, on, off, assignment, comparison, switch, positive, negative, Expression, act, skip, sequence, fail, choice, star}
-use Rattle.rbg_rules.specs.Positions.{positions_of, count_from, HasAction, HasInside, IsNumbered, IsPatternAt}
+use Rattle.rbg_rules.specs.Positions.{positions_of, HasAction, HasInside, IsNumbered, IsPatternAt}
 use Rattle.rbg_rules.specs.Words.{Word}
 use Rattle.rbg_match.specs.OneWord.{IsPlayed, IsOneWord}
-use Rattle.rbg_match.proofs.Counting.{count_from_parts}
+use Rattle.rbg_match.proofs.Counting.{count_from, count_from_parts, range_with_len-counts}
 
 -- an action of these rules has no positions inside, and none of its own but the one where it stands
 pub positions_of_played : (p : ℕ) (a : AbstractAction) → IsPlayed a → positions_of (act p a) ≡ p ∷ []
@@ -65,7 +65,7 @@ pub record CountsFrom (x : Expression) (first : ℕ) : Type 0 where
 
 -- those of a game's rules do so from 1
 pub counts_from_1 : (x : Expression) → IsNumbered x → CountsFrom x 1
-counts_from_1 x numbered = record { in_order = numbered.in_order }
+counts_from_1 x numbered = record { in_order = numbered.in_order ∙ range_with_len-counts 1 (length (positions_of x)) }
 
 counts_front : (x y : Expression) (first : ℕ) → CountsFrom (sequence x y) first → CountsFrom x first
 counts_front x y first counts =

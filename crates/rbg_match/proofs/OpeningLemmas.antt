@@ -3,13 +3,14 @@ use Rattle.std.proofs.Common.{◌≡◌, ℕ, zero, suc, false, List, [], ◌∷
 use Rattle.rbg_wire.specs.Streams.{Stream, incomplete}
 use Rattle.rbg_rules.specs.State.{AbstractGame}
 use Rattle.rbg_match.specs.declared.config.Config.{Config}
-use Rattle.rbg_match.specs.Config.{IsWithinLimits, message_limit}
+use Rattle.rbg_match.specs.Config.{IsWithinLimits}
+use Rattle.rbg_match.specs.Limits.{message_limit}
 use Rattle.rbg_match.specs.Deliveries.{Delivery, delivered, queued}
 use Rattle.rbg_match.specs.Play.{AbstractPlay, play_at_start}
 use Rattle.rbg_match.specs.OneWord.{IsOneWord}
 use Rattle.rbg_match.specs.PlayingOn.{PlaysOn, seats_of}
-use Rattle.rbg_match.specs.Hearing.{Streams, counted_first, streams_at_start}
-use Rattle.rbg_match.specs.Inboxes.{AreNew, rests_of}
+use Rattle.rbg_match.specs.Inputs.{Streams, counted_first, streams_at_start}
+use Rattle.rbg_match.specs.internal.Inboxes.{AreNew, rests_of}
 use Rattle.rbg_match.specs.Transcript.{greetings}
 use Rattle.rbg_match.specs.Matches.{Opens}
 use Rattle.rbg_match.proofs.Delivering.{delivered-append, delivered-queued}
@@ -22,7 +23,7 @@ rests_of_replicate (suc seats) inbox = ap (λ rests. inbox.rest ∷ rests) (rest
 pub rests_of_new : (seats : ℕ) (inboxes : List Stream) → AreNew seats inboxes → rests_of inboxes ≡ replicate seats (incomplete [])
 rests_of_new seats inboxes new = ap rests_of new ∙ rests_of_replicate seats (record { limit = message_limit; items = []; rest = incomplete [] })
 
-pub opens_so : (game : AbstractGame) (text : List ℕ) (config : Config) (now at : ℕ) (seats : ℕ) (first opened : AbstractPlay) (inboxes : List Stream) (empty greeted outbox : List (List ℕ)) (greets opening : List Delivery) → IsWithinLimits config → IsOneWord game.rules → at ≡ counted_first now → seats ≡ seats_of game → first ≡ play_at_start game at → PlaysOn game at 0 first opened opening → AreNew seats inboxes → empty ≡ replicate seats [] → greeted ≡ delivered empty greets → greets ≡ greetings text config game.players → outbox ≡ delivered greeted opening → Opens game text config now (record { game = game; config = config; play = opened; streams = record { moment = at; rests = rests_of inboxes }; failed = false }) outbox
+pub opens_so : (game : AbstractGame) (text : List ℕ) (config : Config) (now at : ℕ) (seats : ℕ) (first opened : AbstractPlay) (inboxes : List Stream) (empty greeted outbox : List (List ℕ)) (greets opening : List Delivery) → IsWithinLimits config → IsOneWord game.rules → at ≡ counted_first now → seats ≡ seats_of game → first ≡ play_at_start game at → PlaysOn game at 0 first opened opening → AreNew seats inboxes → empty ≡ replicate seats [] → greeted ≡ delivered empty greets → greets ≡ greetings text config game.players → outbox ≡ delivered greeted opening → Opens game text config now (record { game = game; config = config; began = at; play = opened; streams = record { moment = at; rests = rests_of inboxes }; failed = false }) outbox
 opens_so game text config now at seats first opened inboxes empty greeted outbox greets opening lawful one_word moment same starts goes new nothing greeting told tells =
     let streams : ◌≡◌ {A = Streams} (record { moment = at; rests = rests_of inboxes }) (streams_at_start (seats_of game) now) =
     ap (λ rests. let s : Streams = record { moment = at; rests = rests } in s) (rests_of_new seats inboxes new)
@@ -34,8 +35,9 @@ opens_so game text config now at seats first opened inboxes empty greeted outbox
       one_word = one_word;
       of_game = refl;
       of_config = refl;
+      begins = moment;
       works = refl;
-      hears = streams;
+      streams = streams;
       opening = opening;
       opens = subst (λ m. PlaysOn game m 0 (play_at_start game m) opened opening) moment from_start;
       told =

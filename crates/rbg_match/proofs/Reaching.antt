@@ -2,15 +2,15 @@
 use Rattle.std.proofs.Common.{◌≡◌, ℕ, suc, ◌+◌, ◌-◌, ◌<◌, ◌≤◌, List, [], ◌∷◌, ◌++◌, length, refl, sym, ap, ◌∙◌, subst, arith, Bool, true, false, inl, inr, get_or, length-append, Some}
 use Rattle.std.proofs.lemmas.Bool.{cases_lt}
 use Rattle.rbg_rules.specs.Expression.{AbstractAction, switch}
-use Rattle.rbg_rules.specs.Positions.{positions_of, count_from, HasAction, is_modifier, IsSwitchAt, HasNoSwitch, IsNumbered}
+use Rattle.rbg_rules.specs.Positions.{positions_of, HasAction, is_modifier, IsSwitchAt, HasNoSwitch, IsNumbered}
 use Rattle.rbg_rules.specs.State.{AbstractGame, AbstractState}
 use Rattle.rbg_rules.specs.Actions.{Applies}
 use Rattle.rbg_rules.specs.Words.{Follows}
 use Rattle.rbg_rules.specs.Moves.{RunPairs, stay, modify, pass, AbstractPlace, stand_of, Legal, Finished}
 use Rattle.rbg_match.specs.OneWord.{IsOneWord}
-use Rattle.rbg_match.specs.PlaceOf.{IsLastOf}
-use Rattle.rbg_match.specs.OnlyMove.{IsOnlyMove}
-use Rattle.rbg_match.proofs.Counting.{length-count_from, get_or-count_from, count_from_more, count_from-append}
+use Rattle.rbg_rules.specs.Places.{IsLastOf}
+use Rattle.rbg_match.specs.internal.OnlyMove.{IsOnlyMove}
+use Rattle.rbg_match.proofs.Counting.{count_from, length-count_from, get_or-count_from, count_from_more, count_from-append}
 use Rattle.rbg_rules.proofs.PositionLemmas.{one_stands}
 use Rattle.rbg_rules.proofs.PlaceLemmas.{RunPairs_join}
 use Rattle.rbg_match.proofs.OneWordRules.{counts_from_1, action_in_range}

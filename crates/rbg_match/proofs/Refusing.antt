@@ -6,7 +6,7 @@ use Rattle.rbg_wire.specs.Messages.{refusal_message, end_message}
 use Rattle.rbg_match.specs.declared.config.Config.{Config}
 use Rattle.rbg_match.specs.Deliveries.{Delivery, to_seat, to_each}
 use Rattle.rbg_match.specs.Play.{AbstractPlay, refusals_of, ended, refused}
-use Rattle.rbg_match.specs.Answers.{Refuses, counted, spent}
+use Rattle.rbg_match.specs.Handling.{Refuses, counted, spent}
 
 module _ (seats : ℕ) (config : Config) (play : AbstractPlay) (seat : ℕ) (reason : Reason) (before : ℕ) (is_before : before ≡ refusals_of play seat) where
   pub is_counted : (after : AbstractPlay) (said : List Delivery) → before < config.refusals → after ≡ refused play seat → said ≡ to_seat seat (refusal_message reason) → Refuses seats config play seat reason after said

@@ -5,7 +5,7 @@ use Rattle.std.proofs.lemmas.Result.{IfOk-weaker, IfOk-from_err}
 use Rattle.std.proofs.lemmas.List.{set-get_or, map-set, get_or-map, length-map}
 use Rattle.rbg_wire.specs.Messages.{AbstractMessage, spelling}
 use Rattle.rbg_match.specs.Deliveries.{Delivery, delivered, to_seat}
-use Rattle.rbg_match.specs.Saying.{Says}
+use Rattle.rbg_match.specs.internal.Saying.{Says}
 use Rattle.rbg_match.proofs.Delivering.{delivered-append, delivered-none, delivered-one, length-delivered}
 
 -- nothing was said, and nothing was to be said

@@ -1,4 +1,4 @@
--- What a stream has completed is answered in turn.
+-- The items that a stream has completed are handled in turn.
 use Rattle.std.proofs.Common.{◌≡◌, ℕ, List, [], ◌∷◌, ◌++◌, map, drop, refl, sym, ap, ◌∙◌, Some, None, slice_get, append_assoc}
 use Rattle.std.proofs.lemmas.List.{map-append, append-nil}
 use Rattle.std.proofs.lemmas.Option.{none-some}
@@ -7,10 +7,10 @@ use Rattle.rbg_rules.specs.State.{AbstractGame}
 use Rattle.rbg_match.specs.declared.config.Config.{Config}
 use Rattle.rbg_match.specs.Deliveries.{Delivery, delivered}
 use Rattle.rbg_match.specs.Play.{AbstractPlay}
-use Rattle.rbg_match.specs.Playable.{IsPlayOf}
-use Rattle.rbg_match.specs.Answers.{AbstractHeard, sent, Answers}
-use Rattle.rbg_match.specs.Hearing.{Hearing, hearings_at}
-use Rattle.rbg_match.specs.Transcript.{AnswersAll, none, more}
+use Rattle.rbg_match.specs.internal.Playable.{IsPlayOf}
+use Rattle.rbg_match.specs.Handling.{AbstractInput, sent, Handles}
+use Rattle.rbg_match.specs.Inputs.{TimedInput, inputs_at}
+use Rattle.rbg_match.specs.Transcript.{HandlesAll, none, more}
 use Rattle.rbg_match.proofs.Delivering.{delivered-none}
 use Rattle.rbg_match.proofs.Sayings.{said_more}
 
@@ -23,11 +23,11 @@ nothing_first : {A : Type 0} (xs : List A) → slice_get xs 0 ≡ None → xs �
 nothing_first [] first = refl
 nothing_first (y ∷ xs) first = absurd (none-some y (sym first))
 
--- hearings of one more thing
-hearings_at-more : (moment : ℕ) (heard : List AbstractHeard) (one : AbstractHeard) → hearings_at moment (heard ++ one ∷ []) ≡ hearings_at moment heard ++ record { moment = moment; heard = one } ∷ []
-hearings_at-more moment heard one = map-append (λ (other : AbstractHeard). let hearing : Hearing = record { moment = moment; heard = other } in hearing) heard (one ∷ [])
+-- inputs of one more thing
+inputs_at-more : (moment : ℕ) (input : List AbstractInput) (one : AbstractInput) → inputs_at moment (input ++ one ∷ []) ≡ inputs_at moment input ++ record { moment = moment; input = one } ∷ []
+inputs_at-more moment input one = map-append (λ (other : AbstractInput). let input : TimedInput = record { moment = moment; input = other } in input) input (one ∷ [])
 
--- From this state of play on, with these items in the inbox and this rest behind them, some items were taken and answered.
+-- From this state of play on, with these items in the inbox and this rest after them, some items were taken and handled.
 pub record HasTaken (game : AbstractGame) (config : Config) (start : AbstractPlay) (moment seat : ℕ) (from : Stream) (old : List (List ℕ)) (play : AbstractPlay) (inbox : Stream) (new : List (List ℕ)) : Type 0 where
   pub in_game : IsPlayOf game play
   pub taken : List Item
@@ -36,7 +36,7 @@ pub record HasTaken (game : AbstractGame) (config : Config) (start : AbstractPla
   pub same_limit : inbox.limit ≡ from.limit
   pub told : List Delivery
   pub behind : new ≡ delivered old told
-  pub answered : AnswersAll game config start (hearings_at moment (map (sent seat) taken)) play told
+  pub answered : HandlesAll game config start (inputs_at moment (map (sent seat) taken)) play told
 
 pub none_taken : (game : AbstractGame) (config : Config) (start : AbstractPlay) (moment seat : ℕ) (from : Stream) (old : List (List ℕ)) → IsPlayOf game start → HasTaken game config start moment seat from old start from old
 none_taken game config start moment seat from old in_play = record {
@@ -50,9 +50,9 @@ none_taken game config start moment seat from old in_play = record {
   answered = none;
 }
 
--- one more item is taken and answered
-pub one_taken : (game : AbstractGame) (config : Config) (start : AbstractPlay) (moment seat : ℕ) (from : Stream) (old : List (List ℕ)) (play next : AbstractPlay) (inbox after : Stream) (middle new : List (List ℕ)) (item : Item) (said : List Delivery) → HasTaken game config start moment seat from old play inbox middle → IsPlayOf game next → slice_get inbox.items 0 ≡ Some item → after ≡ without_first inbox → new ≡ delivered middle said → Answers game config play moment (sent seat item) next said → HasTaken game config start moment seat from old next after new
-one_taken game config start moment seat from old play next inbox after middle new item said has in_play first loses tells answers = record {
+-- one more item is taken and handled
+pub one_taken : (game : AbstractGame) (config : Config) (start : AbstractPlay) (moment seat : ℕ) (from : Stream) (old : List (List ℕ)) (play next : AbstractPlay) (inbox after : Stream) (middle new : List (List ℕ)) (item : Item) (said : List Delivery) → HasTaken game config start moment seat from old play inbox middle → IsPlayOf game next → slice_get inbox.items 0 ≡ Some item → after ≡ without_first inbox → new ≡ delivered middle said → Handles game config play moment (sent seat item) next said → HasTaken game config start moment seat from old next after new
+one_taken game config start moment seat from old play next inbox after middle new item said has in_play first loses tells handles = record {
   in_game = in_play;
   taken = has.taken ++ item ∷ [];
   parts = rw (loses, append_assoc) (has.parts ∙ ap (λ items. has.taken ++ items) (first_and_others inbox.items item first));
@@ -60,7 +60,7 @@ one_taken game config start moment seat from old play next inbox after middle ne
   same_limit = rw loses has.same_limit;
   told = has.told ++ said;
   behind = said_more old has.told said has.behind tells;
-  answered = rw (map-append (sent seat) has.taken (item ∷ []), hearings_at-more moment (map (sent seat) has.taken) (sent seat item)) (more has.answered answers);
+  answered = rw (map-append (sent seat) has.taken (item ∷ []), inputs_at-more moment (map (sent seat) has.taken) (sent seat item)) (more has.answered handles);
 }
 
 -- nothing is left

@@ -3,8 +3,8 @@ use Rattle.std.proofs.Common.{◌≡◌, ℕ, ◌≤◌, ◌⊎◌, List, length
 use Rattle.std.specs.Bool.{Decides, then_some}
 use Rattle.rbg_rules.specs.State.{AbstractGame}
 use Rattle.rbg_rules.specs.Moves.{AbstractPlace, Legal}
-use Rattle.rbg_match.specs.OnlyMove.{IsOnlyMove, IsPlaceAfter}
-use Rattle.rbg_match.specs.Walking.{Tells}
+use Rattle.rbg_match.specs.internal.OnlyMove.{IsOnlyMove, IsPlaceAfter}
+use Rattle.rbg_match.specs.internal.Walking.{Tells}
 use Rattle.rbg_match.specs.declared.walk.Walked.{Walked}
 use Rattle.rbg_match.specs.declared.walk.Walked.TheVariants.{Stuck, Deep}
 

@@ -1,16 +1,16 @@
--- A match that opens and hears events in turn is refereed.
+-- A match that opens and handles events in turn is refereed.
 use Rattle.std.proofs.Common.{◌≡◌, ℕ, List, [], ◌++◌, length, refl, sym, ap, ◌∙◌, subst, replicate}
 use Rattle.std.proofs.lemmas.List.{length-replicate}
 use Rattle.rbg_rules.specs.State.{AbstractGame}
 use Rattle.rbg_match.specs.declared.config.Config.{Config}
 use Rattle.rbg_match.specs.Deliveries.{Delivery, queued, delivered}
 use Rattle.rbg_match.specs.PlayingOn.{seats_of}
-use Rattle.rbg_match.specs.Hearing.{AbstractEvent, hearings_of}
-use Rattle.rbg_match.specs.Transcript.{AnswersAll, greetings}
+use Rattle.rbg_match.specs.Inputs.{AbstractEvent, timed_inputs_of}
+use Rattle.rbg_match.specs.Transcript.{HandlesAll, greetings}
 use Rattle.rbg_match.specs.Matches.{MatchState, Opens, StepsAll}
 use Rattle.rbg_match.specs.Refereed.{IsRefereed, OpensText}
 use Rattle.rbg_match.proofs.Delivering.{delivered-queued, delivered-queued_more, length-delivered}
-use Rattle.rbg_match.proofs.HearingAll.{all_heard}
+use Rattle.rbg_match.proofs.AllEvents.{all_handled}
 
 length-queued : (seats : ℕ) (said : List Delivery) → length (queued seats said) ≡ seats
 length-queued seats said = ap length (sym (delivered-queued seats said)) ∙ length-delivered (replicate seats []) said ∙ length-replicate seats []
@@ -24,24 +24,24 @@ pub is_refereed : (text : List ℕ) (config : Config) (now : ℕ) (events : List
 is_refereed text config now events old new before after opened steps =
     let game = opened.game in
     let opens = opened.opens in
-    let heard = all_heard steps in
-    let in_game = subst (λ one. AnswersAll one old.config old.play (hearings_of old.streams events) new.play heard.said) opens.of_game heard.answers in
-    let with_config = subst (λ one. AnswersAll game one old.play (hearings_of old.streams events) new.play heard.said) opens.of_config in_game in
-    let from_start = subst (λ streams. AnswersAll game config old.play (hearings_of streams events) new.play heard.said) opens.hears with_config in
+    let handled = all_handled steps in
+    let in_game = subst (λ one. HandlesAll one old.config old.play (timed_inputs_of old.streams events) new.play handled.said) opens.of_game handled.handles in
+    let with_config = subst (λ one. HandlesAll game one old.play (timed_inputs_of old.streams events) new.play handled.said) opens.of_config in_game in
+    let from_start = subst (λ streams. HandlesAll game config old.play (timed_inputs_of streams events) new.play handled.said) opens.streams with_config in
     record {
       game = game;
       loads = opened.loads;
       lawful = opens.lawful;
       one_word = opens.one_word;
       play = new.play;
-      said = greetings text config game.players ++ opens.opening ++ heard.said;
+      said = greetings text config game.players ++ opens.opening ++ handled.said;
       transcript = record {
         opened = old.play;
         opening = opens.opening;
-        answers = heard.said;
+        replies = handled.said;
         opens = opens.opens;
         goes_on = from_start;
         whole = refl;
       };
-      bytes = heard.told ∙ ap (λ box. delivered box heard.said) opens.told ∙ delivered-queued_more (seats_of game) (greetings text config game.players ++ opens.opening) heard.said;
+      bytes = handled.told ∙ ap (λ box. delivered box handled.said) opens.told ∙ delivered-queued_more (seats_of game) (greetings text config game.players ++ opens.opening) handled.said;
     }

@@ -1,21 +1,19 @@
--- The limits of a match's config, and the other limits of a match.
-use Rattle.std.specs.Prelude.{ℕ, ◌≤◌}
+-- What a config may be.
+use Rattle.std.specs.Prelude.{◌≤◌}
+use Rattle.std.specs.Coded.{le_prop}
 use Rattle.rbg_match.specs.declared.config.Config.{Config}
+use Rattle.rbg_match.specs.Limits.{longest_turn, most_refusals}
 
--- a turn has 1 to 3,600,000 milliseconds, and 0 to 100 refusals are allowed to a seat
+-- A turn lasts at least a millisecond and at most an hour, and at most 100 refused messages are allowed to a seat.
 pub record IsWithinLimits (config : Config) : Type 0 where
   pub turn_some : 1 ≤ config.turn_ms
-  pub turn_most : config.turn_ms ≤ 3600000
-  pub refusals_most : config.refusals ≤ 100
+  pub turn_most : config.turn_ms ≤ longest_turn
+  pub refusals_most : config.refusals ≤ most_refusals
 
--- the keeper moves at most so often in a row
-abbrev pub keeper_moves_in_a_row : ℕ
-keeper_moves_in_a_row = 1000
-
--- a seat's message has at most so many bytes, without its zero byte
-abbrev pub message_limit : ℕ
-message_limit = 4096
-
--- the greatest moment that is counted, so that no due moment passes the greatest u64
-abbrev pub latest_moment : ℕ
-latest_moment = 18446744073705951615
+-- there is one proof of it at most
+pub IsWithinLimits-prop : (config : Config) → IsProp (IsWithinLimits config)
+IsWithinLimits-prop config x y = λ i. record {
+  turn_some = le_prop x.turn_some y.turn_some i;
+  turn_most = le_prop x.turn_most y.turn_most i;
+  refusals_most = le_prop x.refusals_most y.refusals_most i;
+}

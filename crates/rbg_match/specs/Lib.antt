@@ -1,22 +1,14 @@
--- What a match is, by topic. Each file stands on those above it.
+-- What a match is, by topic. Each file builds on those above it.
+pub mod Limits
 pub mod Config
 pub mod Deliveries
-pub mod Saying
 pub mod Play
-pub mod PlayOf
 pub mod OneWord
-pub mod PlaceOf
-pub mod OnlyMove
-pub mod Inboxes
-pub mod Playable
-pub mod Heavy
 pub mod PlayingOn
-pub mod Looking
-pub mod Answers
-pub mod HeardOf
-pub mod Hearing
+pub mod History
+pub mod Handling
+pub mod Inputs
 pub mod Transcript
 pub mod Matches
-pub mod Codes
-pub mod Walking
 pub mod Refereed
+pub mod internal

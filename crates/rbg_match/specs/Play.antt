@@ -1,13 +1,29 @@
 -- The state of play: where play stands, apart from streams and the clock.
-use Rattle.std.specs.Prelude.{ℕ, ◌+◌, ◌-◌, List, [], ◌∷◌, ◌++◌, length, take, replicate, slice_index, slice_set, Option, Some, None}
+use Rattle.std.specs.Prelude.{
+  ℕ,
+  ◌+◌,
+  ◌-◌,
+  List,
+  [],
+  ◌∷◌,
+  ◌++◌,
+  length,
+  take,
+  replicate,
+  slice_index,
+  slice_set,
+  Option,
+  Some,
+  None,
+}
 use Rattle.rbg_wire.specs.declared.outcome.Outcome.{Outcome}
 use Rattle.rbg_rules.specs.State.{AbstractGame, start_of}
 use Rattle.rbg_rules.specs.Moves.{AbstractPlace}
 use Rattle.rbg_match.specs.declared.config.Config.{Config}
 use Rattle.rbg_match.specs.declared.made.Made.{Made}
 
--- The place, when the turn began, how many messages of each seat were refused (seat 1 first), the moves made, each with its
--- player, and the outcome once the match has ended.
+-- The place, the moment when the turn began, how many messages of each seat were refused (seat 1 first), the moves
+-- made, and the outcome once the match has ended.
 pub record AbstractPlay : Type 0 where
   pub place : AbstractPlace
   pub turn_began : ℕ
@@ -31,7 +47,7 @@ due_of config play = play.turn_began + config.turn_ms
 abbrev pub refusals_of : AbstractPlay → (seat : ℕ) → ℕ
 refusals_of play seat = slice_index play.refusals (seat - 1)
 
--- the state of play before anything was done
+-- the state of play at the start of a match
 abbrev pub play_at_start : AbstractGame → (began : ℕ) → AbstractPlay
 play_at_start game began = record {
   place = record { state = start_of game; last = None };
@@ -41,13 +57,16 @@ play_at_start game began = record {
   outcome = None;
 }
 
--- the match has ended so
+-- the match has ended with that outcome
 abbrev pub ended : AbstractPlay → Outcome → AbstractPlay
 ended play outcome = record play { outcome = Some outcome }
 
--- the mover has made the move of these pairs, which leads to that place
-abbrev pub moved : AbstractPlay → List (ℕ × ℕ) → AbstractPlace → AbstractPlay
-moved play pairs to = record play { place = to; made = play.made ++ record { player = mover_of play; pairs = pairs } ∷ [] }
+-- the mover has made the move of these pairs at that moment, and the move leads to that place
+abbrev pub moved : AbstractPlay → (moment : ℕ) → List (ℕ × ℕ) → AbstractPlace → AbstractPlay
+moved play moment pairs to = record play {
+  place = to;
+  made = play.made ++ record { player = mover_of play; at = moment; pairs = pairs } ∷ [];
+}
 
 -- one more message of the seat was refused
 abbrev pub refused : AbstractPlay → (seat : ℕ) → AbstractPlay

@@ -1,18 +1,17 @@
-//! What a match is made with.
-ghost use Rattle.std.specs.Prelude.{IsTrue, ◌↔◌};
+//! The config of a match.
 
-/// The longest time that a turn may have, in milliseconds.
+/// The longest time for a turn, in milliseconds: one hour.
 pub const MAX_TURN_MS: u64 = 3_600_000;
 
-/// The most refusals that may be allowed to a seat.
+/// The most refused messages that may be allowed to a seat.
 pub const MAX_REFUSALS: u32 = 100;
 
-/// The time for a turn, and how many refusals a seat is allowed.
+/// The time for a turn, and how many refused messages a seat is allowed.
 #[derive(Clone, Copy, Debug, PartialEq, Eq)]
 pub struct Config {
     /// The time for a turn, in milliseconds: 1 to `MAX_TURN_MS`.
     pub turn_ms: u64,
-    /// The messages of a seat that may be refused before one more ends the match: 0 to `MAX_REFUSALS`.
+    /// How many messages of a seat may be refused before one more ends the match: 0 to `MAX_REFUSALS`.
     pub refusals: u32,
 }
 

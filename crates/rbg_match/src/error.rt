@@ -1,10 +1,10 @@
-//! Why a match is not made, or not refereed.
+//! Why a match is not made, or not refereed to its end.
 ghost use Rattle.std.specs.Prelude.{◌≡◌};
 ghost use Rattle.rbg_match.specs.declared.error.MatchError.TheVariants.{Memory as OutOfMemory};
 
 use crate::Outbox;
 use rbg_game::LoadError;
-use rbg_state::Memory;
+use rbg_base::Memory;
 use thiserror::Error;
 
 /// Why a match is not made.
@@ -13,10 +13,10 @@ pub enum MatchError {
     /// A number of the config is outside its limits.
     #[error("a number of the config is outside its limits")]
     Config,
-    /// The memory that was asked for could not be had.
+    /// A request for memory failed.
     #[error("out of memory")]
     Memory,
-    /// The action at this position, or a sum or star that it stands in, is not played yet.
+    /// The action at this position, or a sum or star that holds it, is not played yet.
     #[error("the action at position {position} is not played yet")]
     NotYet { position: u32 },
 }
@@ -38,11 +38,11 @@ pub enum RefereeError {
     /// A number of the config is outside its limits.
     #[error("a number of the config is outside its limits")]
     Config,
-    /// The memory that was asked for could not be had. So many events were taken whole, and this is the outbox after them;
-    /// it has no seat where the match wasn't made.
+    /// A request for memory failed. The first `done` events were handled, and `said` is the outbox after them. It has
+    /// no seat if the match wasn't made.
     #[error("out of memory after {done} events")]
     Memory { done: usize, said: Outbox },
-    /// The action at this position, or a sum or star that it stands in, is not played yet.
+    /// The action at this position, or a sum or star that holds it, is not played yet.
     #[error("the action at position {position} is not played yet")]
     NotYet { position: u32 },
 }

@@ -1,22 +1,22 @@
-//! What a match hears.
-ghost use Rattle.std.specs.Prelude.{◌≡◌};
+//! The events that a match is given.
 
-/// A piece of a seat's stream, its end, or a moment of the clock. Seats are numbered from 1. Moments are milliseconds.
-#[derive(Clone, Copy, Debug)]
+/// A piece of a seat's stream, the end of a stream, or a moment of the clock. Seats are numbered from 1. Moments are in
+/// milliseconds.
+#[derive(Clone, Copy, Debug, PartialEq, Eq)]
 pub enum Event<'a> {
-    /// The next bytes of a seat's stream have come.
+    /// The next bytes of a seat's stream have arrived.
     Piece { seat: u64, at: u64, bytes: &'a [u8] },
     /// A seat's stream has ended.
     Ended { seat: u64, at: u64 },
-    /// It is that moment.
+    /// The clock shows this moment.
     Tick { at: u64 },
 }
 
 impl Event<'_> {
     ghost use Rattle.std.specs.Prelude.{◌≡◌};
-    ghost use Rattle.rbg_match.specs.Hearing.{event_of, moment_of};
+    ghost use Rattle.rbg_match.specs.Inputs.{event_of, moment_of};
 
-    /// The moment that the event brings.
+    /// The moment of the event.
     pub(crate) fn at(&self) -> u64
         ensures { result ≡ moment_of (event_of self.now) }
     {

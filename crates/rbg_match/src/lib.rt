@@ -1,19 +1,21 @@
-//! The referee of a match: it hears the seats and the clock, and what it says to each seat is what the rules of the game allow.
+//! The referee of a match. It reads the seats' streams and the clock, judges each move by the rules of the game, and
+//! queues for each seat the messages of the match.
 #![tactic(auto)]
 
-mod answering;
 mod config;
+mod context;
+mod dispatch;
 mod error;
 mod event;
-mod heard;
-mod hearing;
+mod handling;
+mod input;
 mod made;
 mod matches;
 mod opening;
 mod outbox;
 mod play;
-mod playing_on;
 mod refereeing;
+mod turns;
 mod walk;
 
 pub use config::{Config, MAX_REFUSALS, MAX_TURN_MS};
@@ -21,5 +23,5 @@ pub use error::{MatchError, RefereeError};
 pub use event::Event;
 pub use made::Made;
 pub use matches::Match;
-pub use outbox::Outbox;
+pub use outbox::{MAX_SEATS, Outbox};
 pub use refereeing::referee;

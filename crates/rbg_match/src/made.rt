@@ -1,10 +1,13 @@
-//! Moves that were made.
+//! The moves of a match.
 
 use rbg_moves::Move;
 
-/// A move that was made, and its player, who is numbered from 1; the keeper is 0.
-#[derive(Debug, Drop)]
+/// A move that was made.
+#[derive(Debug, Drop, PartialEq, Eq)]
 pub struct Made {
+    /// Who made it: the players are numbered from 1, and the keeper is 0.
     pub player: u64,
+    /// The counted moment at which it was made, in milliseconds.
+    pub at: u64,
     pub pairs: Move,
 }

@@ -1,39 +1,43 @@
-//! A match: it opens, and hears events.
-ghost use Rattle.std.specs.Prelude.{◌≡◌, ℕ, ◌≤◌, true, IsErr, IsErrOf, IfOk, OnOk, OnErr, length};
+//! A match: it opens, and handles events.
+ghost use Rattle.std.specs.Prelude.{◌≡◌, ℕ, ◌≤◌, true, IsErr, IsErrOf, IsOk, IfOk, OnOk, OnErr, length};
 ghost use Rattle.rbg_game.specs.Loading.{Loads};
-ghost use Rattle.rbg_match.specs.Config.{IsWithinLimits, latest_moment};
+ghost use Rattle.rbg_match.specs.Config.{IsWithinLimits};
+ghost use Rattle.rbg_match.specs.Inputs.{event_of, counted_first};
+ghost use Rattle.rbg_match.specs.Limits.{latest_moment};
+ghost use Rattle.rbg_match.specs.Matches.{Opens};
 ghost use Rattle.rbg_match.specs.OneWord.{IsOneWord};
 ghost use Rattle.rbg_match.specs.PlayingOn.{seats_of};
-ghost use Rattle.rbg_match.specs.Hearing.{event_of, counted_first};
-ghost use Rattle.rbg_match.specs.Matches.{Opens};
 
-use crate::hearing::hear_event;
+use crate::context::Context;
+use crate::dispatch::handle_event;
 use crate::opening::{greet, new_inboxes, start};
 use crate::play::Play;
-use crate::playing_on::play_on;
+use crate::turns::play_on;
 use crate::walk::first_not_played;
-use crate::{Config, Event, Made, MatchError, Outbox};
-use rbg_rules::Game;
+use crate::{Config, Event, MAX_TURN_MS, Made, MatchError, Outbox};
 use rbg_moves::Place;
-use rbg_state::Memory;
+use rbg_rules::Game;
+use rbg_base::Memory;
 use rbg_wire::{Inbox, Outcome};
 use std::alloc::Global;
 use std::marker::Model;
 
-/// The latest moment that is counted, so that no due moment passes the greatest u64.
-const LATEST_MOMENT: u64 = u64::MAX - 3_600_000;
+/// The latest moment that is counted. It leaves room for the longest turn, so that each due moment is a `u64`.
+const LATEST_MOMENT: u64 = u64::MAX - MAX_TURN_MS;
 
 /// A match of a game.
 #[derive(Debug, Drop)]
 pub struct Match {
     game: Game,
     config: Config,
+    /// The counted moment at which the match began.
+    began: u64,
     play: Play,
-    /// What has come of each seat's stream, seat 1 first.
+    /// The stream of each seat, seat 1 first.
     inboxes: Vec<Inbox>,
-    /// The greatest moment so far.
+    /// The greatest counted moment. Once the match has ended it stays the moment of the end.
     moment: u64,
-    /// A step was refused for want of memory.
+    /// Whether a step ran out of memory.
     failed: bool,
 }
 
@@ -42,28 +46,55 @@ impl Model for Match {
 
     ghost Value = { MatchState };
 
-    ghost use Rattle.rbg_match.specs.Codes.{coded_match};
+    ghost use Rattle.rbg_match.specs.internal.Codes.{coded_match};
 
     ghost coded = { coded_match };
 
-    ghost use Rattle.rbg_match.specs.PlayOf.{play_of};
-    ghost use Rattle.rbg_match.specs.Inboxes.{rests_of};
+    ghost use Rattle.rbg_match.specs.internal.Inboxes.{rests_of};
+    ghost use Rattle.rbg_match.specs.internal.PlayOf.{play_of};
 
-    ghost view = { λ m. record { game = m.game; config = m.config; play = play_of m.play; streams = record { moment = m.moment; rests = rests_of m.inboxes.items }; failed = m.failed } };
+    ghost view = { λ m. record {
+      game = m.game;
+      config = m.config;
+      began = m.began;
+      play = play_of m.play;
+      streams = record { moment = m.moment; rests = rests_of m.inboxes.items };
+      failed = m.failed;
+    } };
 
-    ghost use Rattle.rbg_match.specs.Playable.{IsMatch};
+    ghost use Rattle.rbg_match.specs.internal.Playable.{IsMatch};
 
     ghost invariant = { λ m. IsMatch m.game m.config (play_of m.play) m.inboxes.items m.moment m.failed };
 }
 
 impl Match {
-    ghost use Rattle.std.specs.Prelude.{◌≡◌, ◌↔◌, ◌≤◌, ◌-◌, ℕ, None, Some, MatchOption, slice_get, slice_index, length};
+    ghost use Rattle.std.specs.Prelude.{
+      ◌≡◌,
+      ◌↔◌,
+      ◌≤◌,
+      ◌<◌,
+      ◌-◌,
+      ℕ,
+      None,
+      Some,
+      MatchOption,
+      slice_get,
+      slice_index,
+      length,
+      false,
+      IsOk,
+    };
     ghost use Rattle.rbg_match.specs.Config.{IsWithinLimits};
+    ghost use Rattle.rbg_match.specs.History.{IsHistory};
+    ghost use Rattle.rbg_match.specs.Inputs.{counted, moment_alone};
+    ghost use Rattle.rbg_rules.specs.Places.{IsPlaceOf};
     ghost use Rattle.rbg_match.specs.Play.{due_of, refusals_of};
     ghost use Rattle.rbg_match.specs.OneWord.{IsOneWord, IsFirstNotPlayed};
     ghost use Rattle.rbg_match.specs.Matches.{Opens, Steps};
+    ghost use Rattle.rbg_wire.specs.declared.outcome.Outcome.{Outcome};
 
-    /// Makes a match of a game, which greets each seat and goes on from the start. Answers it with its outbox.
+    /// Makes a match of a game at the moment `now`. Each seat is greeted, and play goes on from the start. Returns the
+    /// match and its outbox.
     pub fn new(
         alloc: Global,
         game: Game,
@@ -74,8 +105,11 @@ impl Match {
         requires { Loads text.now game }
         ensures opens { IfOk result (λ made. Opens game text.now config now made.0 made.1) }
         ensures seats { IfOk result (λ made. length made.1 ≡ seats_of made.0.game) }
+        ensures history { IfOk result (λ made. IsHistory made.0.game made.0.play) }
         ensures config { IsErrOf result MatchError.Config ↔ (¬ IsWithinLimits config) }
-        ensures not_yet { (position : ℕ) → IsErrOf result (MatchError.NotYet position) ↔ (IsWithinLimits config × IsFirstNotPlayed game.rules position) }
+        ensures not_yet { (position : ℕ) →
+            IsErrOf result (MatchError.NotYet position)
+            ↔ (IsWithinLimits config × IsFirstNotPlayed game.rules position) }
     {
         if !config.is_within_limits() {
             return Err(MatchError::Config);
@@ -86,14 +120,28 @@ impl Match {
         Ok(open(alloc, game, text, config, now.min(LATEST_MOMENT))?)
     }
 
-    /// Hears an event. What is said goes to the outbox, which must have the match's seats. After a refusal the match has failed
-    /// and refuses each further event.
+    /// Handles an event. Its messages go to the outbox, which must have the match's seats. After an `Err` the match has
+    /// failed, and each further call returns `Err`.
     pub fn step(&mut self, event: Event<'_>, outbox: &mut Outbox) -> Result<(), Memory>
         requires { length outbox.old ≡ seats_of self.old.game }
         ensures ok { OnOk result (Steps self.old (event_of event.entry) self.new outbox.old outbox.new) }
-        ensures err { OnErr result ((outbox.new ≡ outbox.old) × (self.new.failed ≡ true) × (self.new.game ≡ self.old.game)) }
+        ensures err { OnErr result
+            ((outbox.new ≡ outbox.old) × (self.new.failed ≡ true) × (self.new.game ≡ self.old.game)) }
+        ensures history { OnOk result
+            (IsHistory self.old.game self.old.play → IsHistory self.new.game self.new.play) }
         ensures failed { self.old.failed ≡ true → IsErr result }
         ensures seats { length outbox.new ≡ length outbox.old }
+
+        // Neither an ended match nor a moment before the due one needs memory.
+        ensures ended { (outcome : Outcome) →
+            self.old.play.outcome ≡ Some outcome →
+            self.old.failed ≡ false →
+            IsOk result }
+        ensures quiet { (at : ℕ) →
+            event_of event.entry ≡ moment_alone at →
+            counted self.old.streams at < due_of self.old.config self.old.play →
+            self.old.failed ≡ false →
+            IsOk result }
     {
         if self.failed {
             return Err(Memory);
@@ -102,32 +150,30 @@ impl Match {
             return Ok(());
         }
         let marks = outbox.marks();
-        let at = self.moment.max(event.at().min(LATEST_MOMENT));
-        self.moment = at;
-        let heard = hear_event(
-            &self.game,
-            self.config,
-            &mut self.play,
-            &mut self.inboxes,
-            at,
-            event,
-            outbox,
-        );
-        if heard.is_err() {
+        let moment = self.moment.max(event.at().min(LATEST_MOMENT));
+        self.moment = moment;
+        let context = Context {
+            game: &self.game,
+            config: self.config,
+            moment,
+        };
+        let handled = handle_event(context, &mut self.play, &mut self.inboxes, event, outbox);
+        if handled.is_err() {
             self.failed = true;
             outbox.cut_back(&marks);
         }
-        heard
+        handled
     }
 
-    /// Where play stands.
+    /// The place that play has reached.
     pub fn place(&self) -> &Place
-        ensures { result.now ≡ self.now.play.place }
+        ensures place { result.now ≡ self.now.play.place }
+        ensures in_game { IsPlaceOf self.now.game self.now.play.place }
     {
         &self.play.place
     }
 
-    /// The moves that were made, each with its player.
+    /// The moves so far.
     pub fn made(&self) -> &[Made]
         ensures { result.now ≡ self.now.play.made }
     {
@@ -141,16 +187,48 @@ impl Match {
         self.play.outcome
     }
 
-    /// How many players there are, and so seats.
+    /// The number of players, which is that of seats.
     pub fn players(&self) -> usize
         ensures { result ≡ seats_of self.now.game }
     {
         self.game.players()
     }
 
+    /// The name of a player. It must be one of the match's.
+    pub fn player_name(&self, player: u16) -> &str
+        requires from_one { 0 < player }
+        requires there { player ≤ seats_of self.now.game }
+        ensures { slice_get self.now.game.players (player - 1) ≡ Some result.now }
+    {
+        self.game.player_name(player)
+    }
+
+    /// The config that the match was made with.
+    pub fn config(&self) -> Config
+        ensures { result ≡ self.now.config }
+    {
+        self.config
+    }
+
+    /// The counted moment at which the match began.
+    pub fn began(&self) -> u64
+        ensures { result ≡ self.now.began }
+    {
+        self.began
+    }
+
+    /// The greatest counted moment. Once the match has ended it stays the moment of the end.
+    pub fn moment(&self) -> u64
+        ensures { result ≡ self.now.streams.moment }
+    {
+        self.moment
+    }
+
     /// The moment at which the mover's time is over. None once the match has ended.
     pub fn due(&self) -> Option<u64>
-        ensures { MatchOption self.now.play.outcome (result ≡ Some (due_of self.now.config self.now.play)) (λ _. result ≡ None) }
+        ensures { MatchOption self.now.play.outcome
+            (result ≡ Some (due_of self.now.config self.now.play))
+            (λ _. result ≡ None) }
     {
         if self.play.outcome.is_some() {
             return None;
@@ -168,32 +246,39 @@ impl Match {
     }
 }
 
-/// The match of a game that can be played, from a counted moment on.
+/// Makes the match of a game that can be played, at a counted moment.
 fn open(
     alloc: Global,
     game: Game,
     text: &[u8],
     config: Config,
-    at: u64,
+    moment: u64,
 ) -> Result<(Match, Outbox), Memory>
     requires loaded { Loads text.now game }
     requires lawful { IsWithinLimits config }
     requires one_word { IsOneWord game.rules }
-    requires moment { at ≤ latest_moment }
-    ensures { IfOk result (λ made. (now : ℕ) → at ≡ counted_first now → Opens game text.now config now made.0 made.1) }
+    requires counted { moment ≤ latest_moment }
+    ensures { IfOk result (λ made.
+        (now : ℕ) → moment ≡ counted_first now → Opens game text.now config now made.0 made.1) }
 {
     let seats = game.players();
     let mut outbox = Outbox::new(alloc, seats)?;
     greet(&game, text, config, &mut outbox)?;
-    let mut play = start(alloc, &game, at)?;
-    play_on(&game, &mut play, at, &mut outbox)?;
+    let mut play = start(alloc, &game, moment)?;
+    let context = Context {
+        game: &game,
+        config,
+        moment,
+    };
+    play_on(context, &mut play, &mut outbox)?;
     let inboxes = new_inboxes(alloc, seats)?;
     let opened = Match {
         game,
         config,
+        began: moment,
         play,
         inboxes,
-        moment: at,
+        moment,
         failed: false,
     };
     Ok((opened, outbox))

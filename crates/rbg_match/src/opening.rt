@@ -1,28 +1,27 @@
-//! How a match opens: each seat is greeted, and play stands at its start.
-ghost use Rattle.std.specs.Prelude.{◌≡◌, ◌≢◌, ℕ, ◌≤◌, ◌<◌, ◌^◌, ◌-◌, length, All, IsTrue, IfOk, IfSome};
+//! How a match opens: each seat is greeted, and play is set to its start.
+ghost use Rattle.std.specs.Prelude.{◌≡◌, ◌≢◌, ◌≤◌, length, All, IsTrue, IfOk};
 ghost use Rattle.rbg_base.specs.Names.{is_name};
-ghost use Rattle.rbg_rules.specs.State.{AbstractGame};
-ghost use Rattle.rbg_match.specs.Config.{latest_moment};
-ghost use Rattle.rbg_match.specs.Saying.{Says};
+ghost use Rattle.rbg_match.specs.Limits.{latest_moment};
+ghost use Rattle.rbg_match.specs.internal.Saying.{Says};
 ghost use Rattle.rbg_match.specs.Play.{play_at_start};
-ghost use Rattle.rbg_match.specs.PlayOf.{play_of};
-ghost use Rattle.rbg_match.specs.Playable.{IsPlayOf};
+ghost use Rattle.rbg_match.specs.internal.PlayOf.{play_of};
+ghost use Rattle.rbg_match.specs.internal.Playable.{IsPlayOf};
 ghost use Rattle.rbg_match.specs.PlayingOn.{seats_of};
-ghost use Rattle.rbg_match.specs.Inboxes.{AreNew};
+ghost use Rattle.rbg_match.specs.internal.Inboxes.{AreNew};
 ghost use Rattle.rbg_match.specs.Transcript.{greeting, greetings};
 
 use crate::play::Play;
 use crate::{Config, Outbox};
-use rbg_rules::Game;
 use rbg_moves::Place;
-use rbg_state::Memory;
+use rbg_rules::Game;
+use rbg_base::Memory;
 use rbg_wire::{Inbox, Message};
 use std::alloc::Global;
 
-/// The most bytes of a seat's message, without its zero byte.
+/// The most bytes of a seat's message, not counting its zero byte.
 const MESSAGE_LIMIT: usize = 4096;
 
-/// One seat is greeted.
+/// Greets one seat.
 fn greet_seat(
     seat: usize,
     name: &str,
@@ -50,7 +49,7 @@ fn greet_seat(
     Ok(())
 }
 
-/// Each seat is greeted.
+/// Greets each seat.
 pub(crate) fn greet(
     game: &Game,
     text: &[u8],
@@ -69,22 +68,22 @@ pub(crate) fn greet(
     Ok(())
 }
 
-/// Where play stands before anything was done.
-pub(crate) fn start(alloc: Global, game: &Game, at: u64) -> Result<Play, Memory>
-    requires { at ≤ latest_moment }
-    ensures play { IfOk result (λ play. play_of play ≡ play_at_start game.now at) }
+/// The state of play at the start of a match.
+pub(crate) fn start(alloc: Global, game: &Game, moment: u64) -> Result<Play, Memory>
+    requires { moment ≤ latest_moment }
+    ensures play { IfOk result (λ play. play_of play ≡ play_at_start game.now moment) }
     ensures in_game { IfOk result (λ play. IsPlayOf game.now (play_of play)) }
 {
     Ok(Play {
         place: Place::start(alloc, game)?,
-        turn_began: at,
+        turn_began: moment,
         refusals: vec![in alloc; 0; game.players()]?,
         made: Vec::new(alloc),
         outcome: None,
     })
 }
 
-/// An inbox for each seat, to which nothing has come.
+/// An empty inbox for each seat.
 pub(crate) fn new_inboxes(alloc: Global, seats: usize) -> Result<Vec<Inbox>, Memory>
     ensures { IfOk result (λ inboxes. AreNew seats inboxes.items) }
 {

@@ -1,35 +1,55 @@
 //! The bytes that are queued for the seats.
-ghost use Rattle.std.specs.Prelude.{◌≡◌, ℕ, ◌+◌, ◌-◌, ◌<◌, ◌≤◌, List, [], ◌++◌, length, map, take, replicate, slice_index, slice_index_or, IfOk};
+ghost use Rattle.std.specs.Prelude.{
+  ◌≡◌,
+  ℕ,
+  ◌-◌,
+  ◌<◌,
+  ◌≤◌,
+  List,
+  [],
+  length,
+  take,
+  replicate,
+  slice_index,
+  slice_index_or,
+  IfOk,
+};
 ghost use Rattle.std.specs.Global.{Vec};
 ghost use Rattle.rbg_wire.specs.Messages.{message_of, HasSpelling};
-ghost use Rattle.rbg_match.specs.Deliveries.{Delivery, delivered, to_seat, to_each, to_others};
-ghost use Rattle.rbg_match.specs.Saying.{Says, AreMarks};
+ghost use Rattle.rbg_match.specs.Deliveries.{AreMarks, Delivery, delivered, to_seat, to_each, to_others};
+ghost use Rattle.rbg_match.specs.Limits.{most_seats};
+ghost use Rattle.rbg_match.specs.internal.Saying.{Says};
 
 use rbg_wire::{Message, write_message};
 use std::alloc::{AllocError, Global};
 use std::marker::Model;
 
 /// The most seats of a match.
-const MAX_SEATS: usize = 8;
+pub const MAX_SEATS: usize = 8;
 
-/// All bytes that were queued for each seat since the start. Seats are numbered from 1. Contracts see the list of each
-/// seat's bytes, seat 1 first.
+/// The bytes that were queued for each seat since the start of the match. Seats are numbered from 1. Contracts see the
+/// list of the seats' bytes, seat 1 first.
 #[derive(Debug, Drop)]
 pub struct Outbox {
     queues: Vec<Vec<u8>>,
 }
 
 impl Model for Outbox {
-    ghost use Rattle.std.specs.Prelude.{ℕ, List, map};
+    ghost use Rattle.std.specs.Prelude.{ℕ, ◌≤◌, List, length, map};
 
     ghost Value = { List (List ℕ) };
 
     ghost view = { λ o. map (λ queue. queue.items) o.queues.items };
+
+    ghost use Rattle.rbg_match.specs.Limits.{most_seats};
+
+    ghost invariant = { λ o. length o.queues.items ≤ most_seats };
 }
 
 impl Outbox {
-    /// An outbox with nothing in it.
+    /// An outbox in which nothing is queued.
     pub(crate) fn new(alloc: Global, seats: usize) -> Result<Outbox, AllocError>
+        requires { seats ≤ most_seats }
         ensures { IfOk result (λ outbox. outbox ≡ replicate seats []) }
     {
         let mut queues = Vec::with_capacity(alloc, seats)?;
@@ -39,8 +59,8 @@ impl Outbox {
         Ok(Outbox { queues })
     }
 
-    /// The outbox of no seat.
-    pub(crate) fn of_nobody(alloc: Global) -> Outbox
+    /// An outbox with no seat.
+    pub(crate) fn without_seats(alloc: Global) -> Outbox
         ensures { result ≡ [] }
     {
         Outbox {
@@ -55,7 +75,7 @@ impl Outbox {
         self.queues.len()
     }
 
-    /// All that was queued for a seat since the start. It must be one of the seats.
+    /// The bytes that were queued for a seat since the start of the match. It must be one of the seats.
     pub fn bytes(&self, seat: usize) -> &[u8]
         requires is_seat { 1 ≤ seat }
         requires is_there { seat ≤ length self.now }
@@ -64,7 +84,7 @@ impl Outbox {
         self.queues[seat - 1].as_slice()
     }
 
-    /// Queues a message for a seat. An `Err` changes nothing.
+    /// Queues a message for a seat.
     pub(crate) fn tell(&mut self, seat: usize, message: &Message<'_>) -> Result<(), AllocError>
         requires is_seat { 1 ≤ seat }
         requires is_there { seat ≤ length self.old }
@@ -92,7 +112,8 @@ impl Outbox {
         message: &Message<'_>,
     ) -> Result<(), AllocError>
         requires { HasSpelling (message_of message.now) }
-        ensures { Says self.old self.new result (λ _ said. said ≡ to_others (length self.old) one (message_of message.now)) }
+        ensures { Says self.old self.new result (λ _ said.
+            said ≡ to_others (length self.old) one (message_of message.now)) }
     {
         for index in 0..self.seats() {
             if index + 1 != one {
@@ -102,26 +123,27 @@ impl Outbox {
         Ok(())
     }
 
-    /// How many bytes each seat has, for `cut_back`.
-    pub(crate) fn marks(&self) -> [usize; MAX_SEATS]
-        requires { length self.now ≤ 8 }
+    /// The number of bytes of each seat, for `cut_back`.
+    pub fn marks(&self) -> [usize; MAX_SEATS]
         ensures { AreMarks self.now result }
     {
         lengths(&self.queues)
     }
 
-    /// Takes back all but what each seat had where the marks were taken.
-    pub(crate) fn cut_back(&mut self, marks: &[usize; MAX_SEATS])
-        requires { length self.old ≤ 8 }
-        ensures { (before : List (List ℕ)) (said : List Delivery) → self.old ≡ delivered before said → AreMarks before marks.now → self.new ≡ before }
+    /// Takes back what was queued since the marks were taken.
+    pub fn cut_back(&mut self, marks: &[usize; MAX_SEATS])
+        ensures { (before : List (List ℕ)) (said : List Delivery) →
+            self.old ≡ delivered before said → AreMarks before marks.now → self.new ≡ before }
     {
         cut(&mut self.queues, marks);
     }
 }
 
+/// The length of each queue.
 fn lengths(queues: &[Vec<u8>]) -> [usize; MAX_SEATS]
-    requires { length queues.now ≤ 8 }
-    ensures { (i : ℕ) (d : Vec ℕ) → i < length queues.now → slice_index result i ≡ length (slice_index_or queues.now i d).items }
+    requires { length queues.now ≤ most_seats }
+    ensures { (i : ℕ) (d : Vec ℕ) →
+        i < length queues.now → slice_index result i ≡ length (slice_index_or queues.now i d).items }
 {
     let mut marks = [0; MAX_SEATS];
     for (index, queue) in queues.iter().enumerate() {
@@ -130,9 +152,13 @@ fn lengths(queues: &[Vec<u8>]) -> [usize; MAX_SEATS]
     marks
 }
 
+/// Cuts each queue to its mark.
 fn cut(queues: &mut [Vec<u8>], marks: &[usize; MAX_SEATS])
-    requires { length queues.old ≤ 8 }
-    ensures { (i : ℕ) (d : Vec ℕ) → i < length queues.old → (slice_index_or queues.new i d).items ≡ take (slice_index marks.now i) (slice_index_or queues.old i d).items }
+    requires { length queues.old ≤ most_seats }
+    ensures { (i : ℕ) (d : Vec ℕ) →
+        i < length queues.old →
+        (slice_index_or queues.new i d).items
+        ≡ take (slice_index marks.now i) (slice_index_or queues.old i d).items }
 {
     for index in 0..queues.len() {
         queues[index].truncate(marks[index]);

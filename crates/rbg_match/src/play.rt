@@ -1,29 +1,28 @@
 //! The state of play, apart from streams and the clock.
-ghost use Rattle.std.specs.Prelude.{◌≡◌, ◌<◌, ◌≤◌, length, take};
 
 use crate::Made;
-use rbg_rules::Game;
 use rbg_moves::Place;
-use rbg_wire::{Outcome, Scores};
+use rbg_wire::Outcome;
 
-/// Where play stands. Contracts see it by `play_of`.
+/// The state of play. Contracts see it by `play_of`.
 #[derive(Debug, Drop)]
 pub(crate) struct Play {
     pub(crate) place: Place,
-    /// When the turn began.
+    /// The moment when the turn began.
     pub(crate) turn_began: u64,
     /// How many messages of each seat were refused, seat 1 first.
     pub(crate) refusals: Vec<u32>,
-    /// The moves that were made.
+    /// The moves so far.
     pub(crate) made: Vec<Made>,
     /// How the match ended, once it has.
     pub(crate) outcome: Option<Outcome>,
 }
 
 impl Play {
-    ghost use Rattle.std.specs.Prelude.{◌≡◌, ◌<◌, ◌≤◌, length, All};
+    ghost use Rattle.std.specs.Prelude.{◌≡◌, ◌≤◌, length, All};
+    ghost use Rattle.rbg_match.specs.Limits.{most_refusals};
     ghost use Rattle.rbg_match.specs.Play.{mover_of, refusals_of, refused};
-    ghost use Rattle.rbg_match.specs.PlayOf.{play_of};
+    ghost use Rattle.rbg_match.specs.internal.PlayOf.{play_of};
 
     /// The current player; 0 is the keeper.
     pub(crate) fn mover(&self) -> u64
@@ -32,11 +31,11 @@ impl Play {
         u64::from(self.place.state.player())
     }
 
-    /// One more message of a seat is refused. Answers how many were before.
+    /// Counts one more refused message of a seat. Returns how many there were before.
     pub(crate) fn count_refusal(&mut self, seat: usize) -> u32
         requires some { 1 ≤ seat }
         requires most { seat ≤ length self.old.refusals.items }
-        requires few { All (λ count. count ≤ 100) self.old.refusals.items }
+        requires few { All (λ count. count ≤ most_refusals) self.old.refusals.items }
         ensures before { result ≡ refusals_of (play_of self.old) seat }
         ensures after { play_of self.new ≡ refused (play_of self.old) seat }
     {

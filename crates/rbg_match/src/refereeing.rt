@@ -3,7 +3,7 @@ ghost use Rattle.std.specs.Prelude.{◌≡◌, ◌<◌, ℕ, List, length, map, 
 ghost use Rattle.rbg_game.specs.Loading.{IsRefused};
 ghost use Rattle.rbg_match.specs.declared.config.Config.{Config};
 ghost use Rattle.rbg_match.specs.PlayingOn.{seats_of};
-ghost use Rattle.rbg_match.specs.Hearing.{AbstractEvent, event_of};
+ghost use Rattle.rbg_match.specs.Inputs.{AbstractEvent, event_of};
 ghost use Rattle.rbg_match.specs.Matches.{MatchState, StepsAll};
 ghost use Rattle.rbg_match.specs.Refereed.{IsRefereed, IsRefusedFor, OpensText};
 
@@ -11,8 +11,8 @@ use crate::{Config, Event, Match, MatchError, Outbox, RefereeError};
 use rbg_game::{LoadError, load};
 use std::alloc::Global;
 
-/// Referees a match: loads the game from its text, makes the match at the moment `now`, and lets it hear the events in turn.
-/// Answers what each seat was sent.
+/// Referees a match: loads the game from its text, makes the match at the moment `now`, and handles the events in turn.
+/// Returns the outbox, which holds the bytes of each seat.
 pub fn referee(
     alloc: Global,
     text: &[u8],
@@ -24,7 +24,7 @@ pub fn referee(
     ensures refused { IfErr result (IsRefusedFor text.now config now (map event_of events.now)) }
 {
     let (mut refereed, mut outbox) = open(alloc, text, config, now)?;
-    match hear_all(&mut refereed, events, &mut outbox) {
+    match handle_all(&mut refereed, events, &mut outbox) {
         Ok(()) => Ok(outbox),
         Err(done) => Err(RefereeError::Memory { done, said: outbox }),
     }
@@ -38,7 +38,8 @@ fn open(
     now: u64,
 ) -> Result<(Match, Outbox), RefereeError>
     ensures opens { IfOk result (λ made. OpensText text.now config now made.0 made.1) }
-    ensures refused { IfErr result (λ error. (events : List AbstractEvent) → IsRefusedFor text.now config now events error) }
+    ensures refused { IfErr result (λ error.
+        (events : List AbstractEvent) → IsRefusedFor text.now config now events error) }
 {
     let game = match load(alloc, text) {
         Ok(game) => game,
@@ -49,30 +50,34 @@ fn open(
         Err(MatchError::Config) => Err(RefereeError::Config),
         Err(MatchError::Memory) => Err(RefereeError::Memory {
             done: 0,
-            said: Outbox::of_nobody(alloc),
+            said: Outbox::without_seats(alloc),
         }),
         Err(MatchError::NotYet { position }) => Err(RefereeError::NotYet { position }),
     }
 }
 
-/// What is answered where a text was not loaded.
+/// The error of a text that was not loaded.
 fn not_loaded(alloc: Global, error: LoadError) -> RefereeError
-    ensures { (text : List ℕ) (config : Config) (now : ℕ) (events : List AbstractEvent) → IsRefused text error → IsRefusedFor text config now events result }
+    ensures { (text : List ℕ) (config : Config) (now : ℕ) (events : List AbstractEvent) →
+        IsRefused text error → IsRefusedFor text config now events result }
 {
     if error.is_memory() {
         return RefereeError::Memory {
             done: 0,
-            said: Outbox::of_nobody(alloc),
+            said: Outbox::without_seats(alloc),
         };
     }
     RefereeError::Load(error)
 }
 
-/// Hears the events in turn. A refusal tells how many were taken whole.
-fn hear_all(refereed: &mut Match, events: &[Event<'_>], outbox: &mut Outbox) -> Result<(), usize>
+/// Handles the events in turn. An `Err` holds how many events were handled.
+fn handle_all(refereed: &mut Match, events: &[Event<'_>], outbox: &mut Outbox) -> Result<(), usize>
     requires { length outbox.old ≡ seats_of refereed.old.game }
     ensures all { OnOk result (StepsAll refereed.old outbox.old (map event_of events.now) refereed.new outbox.new) }
-    ensures some { IfErr result (λ done. (done < length events.now) × (state : MatchState) × StepsAll refereed.old outbox.old (take done (map event_of events.now)) state outbox.new) }
+    ensures some { IfErr result (λ done.
+        (done < length events.now)
+        × (state : MatchState)
+        × StepsAll refereed.old outbox.old (take done (map event_of events.now)) state outbox.new) }
 {
     for (done, event) in events.iter().enumerate() {
         if refereed.step(*event, outbox).is_err() {

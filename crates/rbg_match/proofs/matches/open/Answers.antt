@@ -1,6 +1,6 @@
 use Rattle.std.proofs.Common.{length, [], ap, ◌∙◌}
 use Rattle.std.proofs.lemmas.List.{length-replicate}
-use Rattle.rbg_match.specs.PlayOf.{play_of}
+use Rattle.rbg_match.specs.internal.PlayOf.{play_of}
 use Rattle.rbg_match.proofs.Sayings.{length-says}
 use Rattle.rbg_match.proofs.OpeningLemmas.{opens_so}
 use Rattle.rbg_match.proofs.GameText.{no_zero_in, names_in}
@@ -19,4 +19,4 @@ pub returns : goal.returns
 returns c = λ now moment.
     let greeted = c.in_ok-greet.ensures in
     let goes = c.in_ok-play_on.ensures.says in
-    opens_so c.args.game c.args.text.now c.args.config now c.args.at c.players-seats.result (play_of c.in_ok-play.play) (play_of c.play_on.new.play) c.in_ok-inboxes.inboxes.items c.in_ok-outbox.outbox c.greet.new.outbox c.play_on.new.outbox greeted.said goes.said c.requires.lawful c.requires.one_word moment c.players-seats.ensures.count c.in_ok-play.ensures.play goes.whole c.in_ok-inboxes.ensures c.in_ok-outbox.ensures greeted.behind greeted.whole goes.behind
+    opens_so c.args.game c.args.text.now c.args.config now c.args.moment c.players-seats.result (play_of c.in_ok-play.play) (play_of c.play_on.new.play) c.in_ok-inboxes.inboxes.items c.in_ok-outbox.outbox c.greet.new.outbox c.play_on.new.outbox greeted.said goes.said c.requires.lawful c.requires.one_word moment c.players-seats.ensures.count c.in_ok-play.ensures.play goes.whole c.in_ok-inboxes.ensures c.in_ok-outbox.ensures greeted.behind greeted.whole goes.behind

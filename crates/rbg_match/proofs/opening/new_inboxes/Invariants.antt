@@ -1,4 +1,4 @@
-use Rattle.rbg_match.specs.Inboxes.{AreNew}
+use Rattle.rbg_match.specs.internal.Inboxes.{AreNew}
 use Rattle.rbg_match.proofs.opening.new_inboxes.Given as goal
 
 abbrev pub invariant-loop : goal.invariant-loop

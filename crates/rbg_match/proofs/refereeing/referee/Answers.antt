@@ -1,7 +1,7 @@
 use Rattle.std.proofs.Common.{map, take, inr}
 use Rattle.std.proofs.lemmas.List.{length-map}
 use Rattle.std.proofs.lemmas.Result.{err_from_is_err_and}
-use Rattle.rbg_match.specs.Hearing.{event_of}
+use Rattle.rbg_match.specs.Inputs.{event_of}
 use Rattle.rbg_match.proofs.WholeMatch.{seats_of_opened, is_refereed}
 use Rattle.rbg_match.proofs.refereeing.referee.Goals as goal
 
@@ -10,18 +10,18 @@ returns-in_err-refereed-clause-refused c =
     let refused = err_from_is_err_and c.from_residual.result c.from_residual.ensures.1 in
     rw (refused.1, refused.2) (c.in_err-refereed.ensures.refused (map event_of c.args.events.now))
 
-pub hear_all-requires : goal.hear_all-requires
-hear_all-requires c =
+pub handle_all-requires : goal.handle_all-requires
+handle_all-requires c =
     let opened = c.in_ok-refereed.ensures.opens in
     seats_of_opened opened.game c.args.text.now c.args.config c.args.now c.in_ok-refereed.refereed c.in_ok-refereed.outbox opened.opens
 
 pub returns-in-Ok-clause-refereed : goal.returns-in-Ok-clause-refereed
-returns-in-Ok-clause-refereed c = is_refereed c.args.text.now c.args.config c.args.now (map event_of c.args.events.now) c.in_ok-refereed.refereed c.hear_all.new.refereed c.in_ok-refereed.outbox c.hear_all.new.outbox c.in_ok-refereed.ensures.opens c.in-Ok.ensures.all
+returns-in-Ok-clause-refereed c = is_refereed c.args.text.now c.args.config c.args.now (map event_of c.args.events.now) c.in_ok-refereed.refereed c.handle_all.new.refereed c.in_ok-refereed.outbox c.handle_all.new.outbox c.in_ok-refereed.ensures.opens c.in-Ok.ensures.all
 
 pub returns-clause-refused : goal.returns-clause-refused
 returns-clause-refused c =
     let (within, state, steps) = c.in-Err.ensures.some in
     inr (
       rw (length-map c.args.events.now event_of) within,
-      is_refereed c.args.text.now c.args.config c.args.now (take c.in-Err.done (map event_of c.args.events.now)) c.in_ok-refereed.refereed state c.in_ok-refereed.outbox c.hear_all.new.outbox c.in_ok-refereed.ensures.opens steps,
+      is_refereed c.args.text.now c.args.config c.args.now (take c.in-Err.done (map event_of c.args.events.now)) c.in_ok-refereed.refereed state c.in_ok-refereed.outbox c.handle_all.new.outbox c.in_ok-refereed.ensures.opens steps,
     )

@@ -3,7 +3,7 @@ use Rattle.std.proofs.Common.{rules, ◌≡◌, ℕ, ◌≤◌, length, subst}
 use Rattle.std.specs.Bool.{Decides}
 use Rattle.std.proofs.lemmas.Slice.Eq.{slice_eq-Decides}
 use Rattle.rbg_pairs.specs.contracts.pair.PairPartialEq.TheImpl.{eq-value}
-use Rattle.rbg_match.specs.Walking.{Tells}
+use Rattle.rbg_match.specs.internal.Walking.{Tells}
 use Rattle.rbg_match.proofs.Trying.{legal_if_same, illegal_if_other, illegal_if_none}
 use Rattle.rbg_match.proofs.walk.try_move.Goals as goal
 

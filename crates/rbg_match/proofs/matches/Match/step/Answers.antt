@@ -1,16 +1,20 @@
-use Rattle.std.proofs.Common.{◌∙◌, sym, arith}
+use Rattle.std.proofs.Common.{length, ap, ◌∙◌, sym}
 use Rattle.rbg_match.proofs.Sayings.{length-says}
 use Rattle.rbg_match.proofs.Stepping.{steps_after_end}
-use Rattle.rbg_match.specs.Hearing.{event_of}
+use Rattle.rbg_match.proofs.Histories.{event_keeps, on_ok}
+use Rattle.rbg_match.specs.Inputs.{event_of}
+use Rattle.rbg_match.specs.internal.PlayOf.{play_of}
 use Rattle.rbg_match.proofs.matches.Match.step.Goals as goal
 
 pub returns-then-is_some-clause-ok : goal.returns-then-is_some-clause-ok
 returns-then-is_some-clause-ok c = rw (← c.self.view_is) (steps_after_end _ (event_of c.args.event) c.args.outbox.now c.if-self.false (sym c.is_some.ensures ∙ c.if-is_some.true))
 
-pub cut_back-requires : goal.cut_back-requires
-cut_back-requires c =
-    let same = length-says c.hear_event-heard.ensures.says ∙ (rw (← c.self.view_is) at c.requires) in
-    omega (arith, same, c.self.invariant.playable.accepted.limits.players)
-
 pub returns-else-is_err-clause-seats : goal.returns-else-is_err-clause-seats
-returns-else-is_err-clause-seats c = length-says c.hear_event-heard.ensures.says
+returns-else-is_err-clause-seats c = length-says c.handle_event-handled.ensures.says
+
+pub returns-else-is_err-clause-history : goal.returns-else-is_err-clause-history
+returns-else-is_err-clause-history c =
+    let handled = c.handle_event-handled in
+    rw (← c.self.view_is)
+    (on_ok handled.result handled.ensures.says.whole
+    (λ handles has. event_keeps c.self.inside.game c.self.inside.config (play_of c.self.inside.play) (play_of handled.new.play) c.deref_mut.result.now c.max-moment.result (event_of c.args.event) handled.ensures.says.said (ap length c.deref_mut.ensures.value ∙ c.self.invariant.seats) has handles))

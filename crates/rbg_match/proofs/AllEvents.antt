@@ -1,0 +1,104 @@
+-- Events handled in turn: what is sent in all, and the streams after them.
+use Rattle.std.proofs.Common.{◌≡◌, ℕ, ◌+◌, ◌<◌, true, false, List, [], ◌∷◌, ◌++◌, length, map, take, get_or, Option, Some, None, is_some, Result, Ok, Err, Bool, refl, sym, ap, ◌∙◌, subst, append_assoc}
+use Rattle.std.specs.Result.{is_err, OnOk, OnErr}
+use Rattle.std.proofs.lemmas.Bool.{true≢false, false≢true}
+use Rattle.std.proofs.lemmas.List.{append-nil, map_more, take-map}
+use Rattle.rbg_wire.specs.declared.outcome.Outcome.{Outcome}
+use Rattle.rbg_match.specs.declared.event.Event.{Event}
+use Rattle.rbg_match.specs.Deliveries.{Delivery, delivered}
+use Rattle.rbg_match.specs.PlayingOn.{seats_of}
+use Rattle.rbg_match.specs.Inputs.{AbstractEvent, event_of, Streams, streams_after, timed_inputs_in, timed_inputs_of}
+use Rattle.rbg_match.specs.Transcript.{HandlesAll}
+use Rattle.rbg_match.specs.Transcript as transcript
+use Rattle.rbg_match.specs.Matches.{MatchState, Steps, StepsAll, none, more}
+use Rattle.rbg_match.proofs.Delivering.{delivered-none, length-delivered}
+use Rattle.rbg_match.proofs.Events.{handles-append}
+use Rattle.rbg_match.proofs.Sayings.{said_more}
+use Rattle.rbg_match.proofs.Stepping.{all_after_end}
+
+-- the streams after a list of events
+abbrev pub streams_through : Streams → List AbstractEvent → Streams
+streams_through streams [] = streams
+streams_through streams (event ∷ events) = streams_through (streams_after streams event) events
+
+streams_through-more : (streams : Streams) (events : List AbstractEvent) (event : AbstractEvent) → streams_through streams (events ++ event ∷ []) ≡ streams_after (streams_through streams events) event
+streams_through-more streams [] event = refl
+streams_through-more streams (first ∷ events) event = streams_through-more (streams_after streams first) events event
+
+-- the inputs of one more event
+timed_inputs_of-more : (streams : Streams) (events : List AbstractEvent) (event : AbstractEvent) → timed_inputs_of streams (events ++ event ∷ []) ≡ timed_inputs_of streams events ++ timed_inputs_in (streams_through streams events) event
+timed_inputs_of-more streams [] event = append-nil (timed_inputs_in streams event)
+timed_inputs_of-more streams (first ∷ events) event =
+    ap (λ next. timed_inputs_in streams first ++ next) (timed_inputs_of-more (streams_after streams first) events event)
+    ∙ sym (append_assoc (timed_inputs_in streams first) (timed_inputs_of (streams_after streams first) events) (timed_inputs_in (streams_through (streams_after streams first) events) event))
+
+-- The inputs that these events stand for are handled in turn. As long as the match goes on, its streams are those after them.
+pub record HasHandled (old : MatchState) (before : List (List ℕ)) (events : List AbstractEvent) (new : MatchState) (after : List (List ℕ)) : Type 0 where
+  pub same_game : new.game ≡ old.game
+  pub same_config : new.config ≡ old.config
+  pub said : List Delivery
+  pub handles : HandlesAll old.game old.config old.play (timed_inputs_of old.streams events) new.play said
+  pub told : after ≡ delivered before said
+  pub streams : new.play.outcome ≡ None → new.streams ≡ streams_through old.streams events
+
+module _ (old : MatchState) (before : List (List ℕ)) (events : List AbstractEvent) (middle : MatchState) (between : List (List ℕ)) (event : AbstractEvent) (new : MatchState) (after : List (List ℕ)) (handled : HasHandled old before events middle between) (step : Steps middle event new between after) where
+  -- the inputs that the next event stands for, in a match that goes on
+  next_handled : middle.play.outcome ≡ None → HandlesAll old.game old.config middle.play (timed_inputs_in (streams_through old.streams events) event) new.play step.said
+  next_handled going =
+      let in_game = subst (λ game. HandlesAll game middle.config middle.play (timed_inputs_in middle.streams event) new.play step.said) handled.same_game step.handles in
+      let with_config = subst (λ config. HandlesAll old.game config middle.play (timed_inputs_in middle.streams event) new.play step.said) handled.same_config in_game in
+      subst (λ streams. HandlesAll old.game old.config middle.play (timed_inputs_in streams event) new.play step.said) (handled.streams going) with_config
+
+  one_more_handled : (outcome : Option Outcome) → middle.play.outcome ≡ outcome → HasHandled old before (events ++ event ∷ []) new after
+  one_more_handled None going = record {
+    same_game = step.same_game ∙ handled.same_game;
+    same_config = step.same_config ∙ handled.same_config;
+    said = handled.said ++ step.said;
+    handles = rw (timed_inputs_of-more old.streams events event) (handles-append handled.handles (next_handled going));
+    told = said_more before handled.said step.said handled.told step.told;
+    streams = λ goes_on. step.streams goes_on ∙ ap (λ streams. streams_after streams event) (handled.streams going) ∙ sym (streams_through-more old.streams events event);
+  }
+  one_more_handled (Some outcome) ended =
+      let stays = step.stays outcome ended in
+      let silent = all_after_end old.game old.config middle.play (ap is_some ended) (timed_inputs_in (streams_through old.streams events) event) in
+      let handles : HandlesAll old.game old.config old.play (timed_inputs_of old.streams events ++ timed_inputs_in (streams_through old.streams events) event) middle.play handled.said = rw append-nil at (handles-append handled.handles silent) in
+      record {
+        same_game = step.same_game ∙ handled.same_game;
+        same_config = step.same_config ∙ handled.same_config;
+        said = handled.said;
+        handles = rw (timed_inputs_of-more old.streams events event) (subst (λ (state : MatchState). HandlesAll old.game old.config old.play (timed_inputs_of old.streams events ++ timed_inputs_in (streams_through old.streams events) event) state.play handled.said) (sym stays) handles);
+        told = step.silent outcome ended ∙ handled.told;
+        streams = λ goes_on. absurd (let both : ◌≡◌ {A = Option Outcome} None (Some outcome) = sym goes_on ∙ ap (λ (state : MatchState). state.play.outcome) stays ∙ ended in cc);
+      }
+
+pub all_handled : {old : MatchState} {before : List (List ℕ)} {events : List AbstractEvent} {new : MatchState} {after : List (List ℕ)} → StepsAll old before events new after → HasHandled old before events new after
+all_handled {old} {before} none = record {
+  same_game = refl;
+  same_config = refl;
+  said = [];
+  handles = transcript.none;
+  told = sym (delivered-none before);
+  streams = λ goes_on. refl;
+}
+all_handled {old} {before} (more {events = events} {event = event} {middle = middle} {new = new} {between = between} {after = after} steps step) = one_more_handled old before events middle between event new after (all_handled steps) step middle.play.outcome refl
+
+-- what a call that handles whether it was refused leaves
+pub at_ok : {T E P : Type 0} (result : Result T E) (refused : Bool) → refused ≡ is_err result → refused ≡ false → OnOk result P → P
+at_ok (Ok value) refused test is holds = holds
+at_ok (Err error) refused test is holds = absurd (true≢false (sym test ∙ is))
+
+pub at_err : {T E P : Type 0} (result : Result T E) (refused : Bool) → refused ≡ is_err result → refused ≡ true → OnErr result P → P
+at_err (Ok value) refused test is holds = absurd (false≢true (sym test ∙ is))
+at_err (Err error) refused test is holds = holds
+
+-- the events so far, and one more
+pub one_more_step : {old middle new : MatchState} {before between after : List (List ℕ)} (events : List Event) (done : ℕ) (d : Event) → done < length events → StepsAll old before (map event_of (take done events)) middle between → Steps middle (event_of (get_or events done d)) new between after → StepsAll old before (map event_of (take (done + 1) events)) new after
+one_more_step events done d within steps step = rw (map_more event_of events done d within) (more steps step)
+
+-- the events so far were handled
+pub taken_whole : {old middle : MatchState} {before between : List (List ℕ)} (events : List Event) (done : ℕ) (after : List (List ℕ)) → StepsAll old before (map event_of (take done events)) middle between → after ≡ between → StepsAll old before (take done (map event_of events)) middle after
+taken_whole {old} {middle} {before} events done after steps same = rw (take-map event_of done events, same) steps
+
+-- a step keeps an outbox of the match's seats
+pub seats_kept : {middle new : MatchState} {event : AbstractEvent} {between after : List (List ℕ)} → Steps middle event new between after → length between ≡ seats_of middle.game → length after ≡ seats_of new.game
+seats_kept {between = between} step same = ap length step.told ∙ length-delivered between step.said ∙ same ∙ ap seats_of (sym step.same_game)

@@ -1,0 +1,10 @@
+use Rattle.std.proofs.Common.{◌≡◌, length, map, take}
+use Rattle.rbg_match.specs.PlayingOn.{seats_of}
+use Rattle.rbg_match.specs.Inputs.{event_of}
+use Rattle.rbg_match.specs.Matches.{StepsAll}
+use Rattle.rbg_match.proofs.refereeing.handle_all.Given as goal
+
+abbrev pub invariant-loop-done : goal.invariant-loop-done
+invariant-loop-done l =
+    StepsAll l.initial.refereed l.initial.outbox (map event_of (take l.done l.events)) l.refereed l.outbox
+    × (length l.outbox ≡ seats_of l.refereed.game)

@@ -1,0 +1,10 @@
+-- Definitions that only the contracts of private functions and the proofs use.
+pub mod Codes
+pub mod InputOf
+pub mod Inboxes
+pub mod OneStep
+pub mod OnlyMove
+pub mod PlayOf
+pub mod Playable
+pub mod Saying
+pub mod Walking
