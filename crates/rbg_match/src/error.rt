@@ -3,8 +3,8 @@ ghost use Rattle.std.specs.Prelude.{◌≡◌};
 ghost use Rattle.rbg_match.specs.declared.error.MatchError.TheVariants.{Memory as OutOfMemory};
 
 use crate::Outbox;
-use rbg_game::LoadError;
 use rbg_base::Memory;
+use rbg_game::LoadError;
 use thiserror::Error;
 
 /// Why a match is not made.

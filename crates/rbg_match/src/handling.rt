@@ -16,8 +16,8 @@ use crate::input::Input;
 use crate::play::Play;
 use crate::turns::{end, leave, make, play_on};
 use crate::walk::try_move;
-use rbg_moves::Move;
 use rbg_base::Memory;
+use rbg_moves::Move;
 use rbg_wire::{Message, Outcome, Reason, Took, WireError, read_move};
 
 /// Refuses a seat's message and counts it. The match ends if the count passes the allowed number.

@@ -12,9 +12,9 @@ ghost use Rattle.rbg_match.specs.Transcript.{greeting, greetings};
 
 use crate::play::Play;
 use crate::{Config, Outbox};
+use rbg_base::Memory;
 use rbg_moves::Place;
 use rbg_rules::Game;
-use rbg_base::Memory;
 use rbg_wire::{Inbox, Message};
 use std::alloc::Global;
 

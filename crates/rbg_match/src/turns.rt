@@ -14,9 +14,9 @@ use crate::context::Context;
 use crate::play::Play;
 use crate::walk::{Over, find_move};
 use crate::{Made, Outbox};
+use rbg_base::Memory;
 use rbg_moves::{Move, Place};
 use rbg_rules::Game;
-use rbg_base::Memory;
 use rbg_wire::{Message, Outcome, Scores};
 
 /// Ends the match and tells every seat how it ended.

@@ -9,9 +9,9 @@ ghost use Rattle.rbg_rules.specs.Places.{IsPlaceOf};
 ghost use Rattle.rbg_match.specs.internal.Walking.{IsTooDeep, Tells};
 
 use arrayvec::ArrayVec;
+use rbg_base::Memory;
 use rbg_moves::{MAX_PAIRS, Move, Pair, Place};
 use rbg_rules::{Action, Game};
-use rbg_base::Memory;
 use rbg_state::Applied;
 
 mod one_word;

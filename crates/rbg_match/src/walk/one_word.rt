@@ -12,10 +12,8 @@ use rbg_rules::{Action, Game, Rule};
 /// that is none of these or belongs to a sum or a star.
 pub(crate) fn first_not_played(game: &Game) -> Option<u32>
     ensures none { IsNone result ↔ IsOneWord game.now.rules }
-    ensures first {
-        IfSome result (λ position.
-          (before : ℕ) × FirstOther game.now.rules before × (position ≡ before + 1))
-    }
+    ensures first { IfSome result (λ position.
+        (before : ℕ) × FirstOther game.now.rules before × (position ≡ before + 1)) }
 {
     let rules = game.rules();
     match count_played(&rules.actions, &rules.tree) {
@@ -34,7 +32,13 @@ fn count_played(actions: &[Action], rule: &Rule) -> Result<u32, u32>
     ensures few { IfErr result (λ before. before ≤ length (positions_of (expression_of actions.now rule.now))) }
 {
     match rule {
-        Rule::Act(position) => { if is_played_at(actions, *position) { Ok(1) } else { Err(0) } }
+        Rule::Act(position) => {
+            if is_played_at(actions, *position) {
+                Ok(1)
+            } else {
+                Err(0)
+            }
+        }
         Rule::Pattern { .. } | Rule::Or(_) | Rule::Star(_) => Err(0),
         Rule::Then(parts) => {
             let mut before = 0;

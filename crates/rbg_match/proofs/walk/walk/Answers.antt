@@ -29,9 +29,11 @@ pub loop-position-init : goal.loop-position-init
 loop-position-init c =
     let last_is = ap (λ (p : AbstractPlace). p.last) c.place.view_is in
     let state_is = ap (λ (p : AbstractPlace). p.state) c.place.view_is in
-    let kept : c.reserve.new.self.state ≡ c.in_ok-state.state.state = ap (λ (h : History). h.state) c.reserve.ensures.kept in
-    (sets_out c.args.game.now c.args.place.now c.place.inside.after c.unwrap_or-first.result c.reserve.new.self.state c.new-pairs.result.items
-    c.requires.place last_is c.unwrap_or-first.ensures (kept ∙ c.in_ok-state.ensures.state ∙ state_is) c.new-pairs.ensures, c.in_ok-reserve.ensures.room)
+    let kept : c.reserve.new.self.state ≡ c.in_ok-state.state.state = ap (λ (h : History). h.state) c.reserve.ensures.kept in (
+      sets_out c.args.game.now c.args.place.now c.place.inside.after c.unwrap_or-first.result c.reserve.new.self.state c.new-pairs.result.items
+          c.requires.place last_is c.unwrap_or-first.ensures (kept ∙ c.in_ok-state.ensures.state ∙ state_is) c.new-pairs.ensures,
+      c.in_ok-reserve.ensures.room,
+    )
 
 pub apply-requires-clause-room : goal.apply-requires-clause-room
 apply-requires-clause-room c =
