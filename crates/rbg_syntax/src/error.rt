@@ -8,7 +8,7 @@ use std::alloc::AllocFailed;
 use std::fmt;
 use thiserror::Error;
 
-///! Why sections spell no description.
+/// Why sections spell no description.
 #[derive(Clone, Copy, Debug, PartialEq, Eq, Error)]
 pub enum SyntaxError {
     /// The token at this offset doesn't fit, or the section whose `#` is at this offset ends too early.

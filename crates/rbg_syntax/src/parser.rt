@@ -12,7 +12,7 @@ use rbg_macro::{Section, Symbol, Token, TokenKind};
 use std::alloc::Global;
 use std::marker::Model;
 
-///! What is left of a section's tokens.
+/// What is left of a section's tokens.
 #[derive(Drop)]
 pub(crate) struct Parser<'a> {
     section: Section<'a>,
