@@ -1,5 +1,5 @@
 -- Rectangles by the numbers of their names: the directions, the board, and what is wrong with it.
-use Rattle.std.proofs.Common.{◌≡◌, ◌≢◌, ◌↔◌, ℕ, ◌+◌, ◌*◌, ◌<◌, ◌≤◌, inl, inr, List, [], ◌∷◌, ◌++◌, Some, length, get_or, map, flat_map, slice_get, slice_index, Contains, All, refl, sym, ap, ◌∙◌, subst, arith}
+use Rattle.std.proofs.Common.{◌≡◌, ◌≢◌, ◌↔◌, ℕ, ◌+◌, ◌*◌, ◌<◌, ◌≤◌, inl, inr, List, [], ◌∷◌, ◌++◌, Some, length, get_or, flat_map, slice_get, slice_index, Contains, All, refl, sym, ap, ◌∙◌, subst, arith}
 use Rattle.std.specs.List.{AllZip, concat}
 use Rattle.std.proofs.lemmas.List.{length-map, get_or-map, length-append}
 use Rattle.std.proofs.lemmas.Option.{slice_get_within, slice_get-get_or}
@@ -13,14 +13,14 @@ use Rattle.rbg_board.specs.declared.error.BoardError.TheVariants as board_errors
 use Rattle.rbg_board.proofs.Numbering.{number-lt, row_of_cell}
 use Rattle.rbg_board.proofs.RectangleEdges.{even_start}
 use Rattle.rbg_rules.specs.LawfulNames.{AreDifferentNames, AreLawfulNames}
-use Rattle.rbg_game.specs.declared.error.GameError.{GameError}
-use Rattle.rbg_game.specs.declared.error.GameError.TheVariants as errors
-use Rattle.rbg_game.specs.Descriptions.{IsNumberOf, texts_of}
+use Rattle.rbg_numbering.specs.declared.error.GameError.{GameError}
+use Rattle.rbg_numbering.specs.declared.error.GameError.TheVariants as errors
+use Rattle.rbg_numbering.specs.Names.{IsNumberOf, texts_of}
 use Rattle.rbg_game.specs.Faults.{HasBoardFault, unknown_piece, no_rectangle, board_memory}
-use Rattle.rbg_game.specs.internal.NameTables.{HasLookUpFault, not_there, no_memory as look_up_memory, HasNameFault, same_name, no_memory}
+use Rattle.rbg_numbering.specs.NameTables.{HasLookUpFault, not_there, no_memory as look_up_memory, HasNameFault, same_name, no_memory}
 use Rattle.rbg_game.specs.internal.Boards.{MakesBoard, Joins, NumbersDirections, refusal_of}
-use Rattle.rbg_game.proofs.Lists.{slice_get-append_left, slice_get-last, AllZip-at}
-use Rattle.rbg_game.proofs.NameFaults.{again_alone}
+use Rattle.rbg_numbering.proofs.Lists.{slice_get-append_left, slice_get-last, AllZip-at}
+use Rattle.rbg_numbering.proofs.LookUps.{again_alone}
 use Rattle.rbg_game.proofs.BoardNames.{rows_below}
 
 -- Directions.

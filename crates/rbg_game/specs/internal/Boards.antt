@@ -8,9 +8,10 @@ use Rattle.rbg_board.specs.declared.error.BoardError.TheVariants as board_errors
 use Rattle.rbg_syntax.specs.Tree.{SpeltName, SpeltBoard}
 use Rattle.rbg_rules.specs.Limits.{most_directions, most_vertices}
 use Rattle.rbg_rules.specs.LawfulNames.{AreLawfulNames}
-use Rattle.rbg_game.specs.declared.error.GameError.{GameError}
-use Rattle.rbg_game.specs.declared.error.GameError.TheVariants as errors
-use Rattle.rbg_game.specs.Descriptions.{IsNumberOf, texts_of, BoardIs}
+use Rattle.rbg_numbering.specs.declared.error.GameError.{GameError}
+use Rattle.rbg_numbering.specs.declared.error.GameError.TheVariants as errors
+use Rattle.rbg_numbering.specs.Names.{IsNumberOf, texts_of}
+use Rattle.rbg_game.specs.Descriptions.{BoardIs}
 
 -- The board with these names of directions is the one that is spelt, and has what every game asks of its board.
 pub record MakesBoard

@@ -5,14 +5,13 @@ ghost use Rattle.rbg_board.specs.Cells.{rows_of};
 ghost use Rattle.rbg_syntax.specs.Plain.{HasRectangle};
 ghost use Rattle.rbg_syntax.specs.Tree.{rectangle};
 ghost use Rattle.rbg_syntax.specs.Views.{name_of, names_of, board_of};
-ghost use Rattle.rbg_game.specs.Descriptions.{IsNumberOf};
+ghost use Rattle.rbg_numbering.specs.Names.{IsNumberOf};
 ghost use Rattle.rbg_game.specs.Faults.{HasBoardFault};
-ghost use Rattle.rbg_game.specs.internal.NameTables.{HasLookUpFault};
+ghost use Rattle.rbg_numbering.specs.NameTables.{HasLookUpFault};
 ghost use Rattle.rbg_game.specs.internal.Boards.{MakesBoard, Joins, NumbersDirections, refusal_of};
 
-use crate::checking::name_table::NameTable;
-use crate::error::GameError;
 use rbg_board::{Board, BoardError, rectangle};
+use rbg_numbering::{GameError, NameTable};
 use rbg_rules::limits::{MAX_DIRECTIONS, MAX_PIECES};
 use rbg_syntax::Name;
 use std::alloc::Global;
