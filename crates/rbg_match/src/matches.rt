@@ -86,7 +86,7 @@ impl Match {
     };
     ghost use Rattle.rbg_match.specs.Config.{IsWithinLimits};
     ghost use Rattle.rbg_match.specs.History.{IsHistory};
-    ghost use Rattle.rbg_match.specs.Inputs.{counted, moment_alone};
+    ghost use Rattle.rbg_match.specs.Inputs.{IsTickAlone, counted, moment_of};
     ghost use Rattle.rbg_rules.specs.Places.{IsPlaceOf};
     ghost use Rattle.rbg_match.specs.Play.{due_of, refusals_of};
     ghost use Rattle.rbg_match.specs.OneWord.{IsOneWord, IsFirstNotPlayed};
@@ -132,14 +132,13 @@ impl Match {
         ensures failed { self.old.failed ≡ true → IsErr result }
         ensures seats { length outbox.new ≡ length outbox.old }
 
-        // Neither an ended match nor a moment before the due one needs memory.
+        // Neither an ended match nor a tick before the due moment needs memory.
         ensures ended { (outcome : Outcome) →
             self.old.play.outcome ≡ Some outcome →
             self.old.failed ≡ false →
             IsOk result }
-        ensures quiet { (at : ℕ) →
-            event_of event.entry ≡ moment_alone at →
-            counted self.old.streams at < due_of self.old.config self.old.play →
+        ensures quiet { IsTickAlone self.old.streams.rests (event_of event.entry) →
+            counted self.old.streams (moment_of (event_of event.entry)) < due_of self.old.config self.old.play →
             self.old.failed ≡ false →
             IsOk result }
     {
