@@ -30,3 +30,4 @@ pub mod EndedLemmas
 pub mod OneByOne
 pub mod Settling
 pub mod CuttingLemmas
+pub mod OneTranscriptLemmas

@@ -1,9 +1,12 @@
 -- Laws of a whole match.
-use Rattle.std.specs.Prelude.{◌≡◌, ◌↔◌, ℕ, List, [], ◌∷◌, ◌++◌, map, Some}
-use Rattle.std.specs.List.{concat}
+use Rattle.std.specs.Prelude.{◌≡◌, ◌≢◌, ◌==◌, ◌↔◌, ℕ, List, [], ◌∷◌, ◌++◌, map, Some}
+use Rattle.std.specs.List.{concat, filter}
 use Rattle.rbg_wire.specs.declared.outcome.Outcome.{Outcome}
+use Rattle.rbg_wire.specs.declared.outcome.Outcome.TheVariants.{Heavy}
+use Rattle.rbg_rules.specs.Positions.{IsNumbered}
 use Rattle.rbg_rules.specs.State.{AbstractGame}
 use Rattle.rbg_match.specs.declared.config.Config.{Config}
+use Rattle.rbg_match.specs.declared.made.Made.{Made}
 use Rattle.rbg_match.specs.Config.{IsWithinLimits}
 use Rattle.rbg_match.specs.Deliveries.{Delivery}
 use Rattle.rbg_match.specs.Inputs.{AbstractEvent, piece, TimedInput}
@@ -21,6 +24,24 @@ Cutting =
     (play : AbstractPlay) (said : List Delivery) →
     Transcript game text config now (before ++ piece seat at (concat (first ∷ others)) ∷ after) play said
     ↔ Transcript game text config now (before ++ map (piece seat at) (first ∷ others) ++ after) play said
+
+-- the keeper's moves among these moves
+abbrev pub keeper_moves : List Made → List Made
+keeper_moves moves = filter (λ made. made.player == 0) moves
+
+-- Apart from the keeper's moves and `E4`, text, config, first moment and events decide everything: two transcripts of
+-- them in which the keeper has made the same moves, and of which none has ended with `E4`, are the same.
+abbrev pub OneTranscript : Type 0
+OneTranscript =
+    (game : AbstractGame) (text : List ℕ) (config : Config) (now : ℕ) (events : List AbstractEvent) →
+    (play play' : AbstractPlay) (said said' : List Delivery) →
+    IsNumbered game.rules →
+    Transcript game text config now events play said →
+    Transcript game text config now events play' said' →
+    play.outcome ≢ Some Heavy →
+    play'.outcome ≢ Some Heavy →
+    keeper_moves play.made ≡ keeper_moves play'.made →
+    (play ≡ play') × (said ≡ said')
 
 -- Where play has ended it stays as it is, whatever the inputs are, and nothing is sent.
 abbrev pub EndedPlayStays : Type 0
