@@ -23,7 +23,8 @@
 mod cases;
 
 use crate::cases::{Case, CasesError, Text, read_cases};
-use rbg_program::{Files, Input, MAX_INPUT, read_input, run};
+use rbg_console::{Files, Input, MAX_INPUT, read_input};
+use rbg_program::run;
 use std::alloc::{AllocError, Global};
 use std::io::{self, Write};
 use std::process::ExitCode;
