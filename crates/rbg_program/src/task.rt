@@ -56,6 +56,8 @@ fn referee_command<'a>(alloc: Global) -> Result<Command<'a>, AllocError> {
         "The description of a game; without it standard input holds the description, a line `%%` and the script",
     );
     Command::new(alloc, "referee")
-        .about("Referees the match whose script is on standard input, and prints what each seat is sent")
+        .about(
+            "Referees the match whose script is on standard input, and prints what each seat is sent",
+        )
         .arg(file)
 }
