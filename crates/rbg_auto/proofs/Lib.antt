@@ -1,2 +1,6 @@
 -- Lemmas on the definitions of specs/, by topic.
 pub mod ChainLemmas
+pub mod OrderLemmas
+pub mod FirstLemmas
+pub mod CutLemmas
+pub mod StepLemmas
