@@ -4,3 +4,5 @@ pub mod OrderLemmas
 pub mod FirstLemmas
 pub mod CutLemmas
 pub mod StepLemmas
+pub mod WholeLemmas
+pub mod LayLemmas

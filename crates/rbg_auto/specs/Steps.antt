@@ -1,9 +1,9 @@
 -- Which positions come next in the words of the rules.
-use Rattle.std.specs.Prelude.{ℕ, List, [], ◌∷◌, Contains, ◌↔◌}
+use Rattle.std.specs.Prelude.{ℕ, List, [], ◌∷◌, Bool, IsTrue, Contains, ◌↔◌}
 use Rattle.std.specs.List.Sorted.{IsStrictlyIncreasing}
 use Rattle.rbg_rules.specs.Expression.{Expression}
 use Rattle.rbg_rules.specs.Positions.{Level, outermost, inside}
-use Rattle.rbg_rules.specs.Words.{Start, beginning, after, Follows}
+use Rattle.rbg_rules.specs.Words.{Start, beginning, after, Follows, Ends}
 use Rattle.rbg_auto.specs.declared.steps.Expr.{Expr}
 use Rattle.rbg_auto.specs.declared.steps.Expr.TheVariants.{Rules, Inside}
 
@@ -25,3 +25,10 @@ AreFirst rules level positions = AreAllThatFollow rules (beginning level) positi
 -- The positions that come directly after position i.
 abbrev pub AreNext : Expression → ℕ → List ℕ → Type 0
 AreNext rules i positions = AreAllThatFollow rules (after i) positions
+
+-- The answers are the steps of the rules, for each place and each position.
+pub record AreStepsOf (rules : Expression) (first : Level → List ℕ) (next : ℕ → List ℕ) (may_end : ℕ → Bool) (may_be_empty : Level → Bool) : Type 0 where
+  pub first_of : (level : Level) → AreFirst rules level (first level)
+  pub next_of : (i : ℕ) → AreNext rules i (next i)
+  pub ends : (i : ℕ) → IsTrue (may_end i) ↔ Ends rules (after i) []
+  pub empty : (level : Level) → IsTrue (may_be_empty level) ↔ Ends rules (beginning level) []

@@ -1,7 +1,7 @@
 -- What the walk over the rules lays down at each position.
 use Rattle.std.specs.Prelude.{◌≡◌, ℕ, ◌<◌, List, [], ◌∷◌, Bool, true, false, ◌&&◌}
 use Rattle.rbg_rules.specs.Expression.{AbstractAction, positive, negative, Expression, act, skip, sequence, fail, choice, star}
-use Rattle.rbg_rules.specs.Positions.{positions_of}
+use Rattle.rbg_rules.specs.Positions.{positions_of, Level, outermost, inside}
 use Rattle.rbg_rules.specs.Games.{HasNoEmptySum}
 use Rattle.rbg_rules.proofs.PositionLemmas.{Among}
 use Rattle.rbg_auto.specs.internal.Orders.{Ascends, Joins}
@@ -49,3 +49,23 @@ pub record IsLawful (size : ℕ) (x : Expression) : Type 0 where
 pub record Lays (old new : ℕ → Laid) (x : Expression) (k : List ℕ) (end : Bool) : Type 0 where
   pub laid : IsLaid new x k end
   pub others : (q : ℕ) → ¬ Among q (positions_of x) → new q ≡ old q
+
+-- What is laid where nothing stands.
+abbrev pub nothing : Laid
+nothing = record { next = []; may_end = false; first = []; may_be_empty = false }
+
+-- How the words of a level begin.
+abbrev pub first_at : List ℕ → (ℕ → Laid) → Level → List ℕ
+first_at first at outermost = first
+first_at first at (inside p) = (at p).first
+
+abbrev pub empty_at : Bool → (ℕ → Laid) → Level → Bool
+empty_at may at outermost = may
+empty_at may at (inside p) = (at p).may_be_empty
+
+-- The rules are laid whole, and nothing else is.
+pub record IsWhole (rules : Expression) (first : List ℕ) (may : Bool) (at : ℕ → Laid) : Type 0 where
+  pub begins : first ≡ firsts rules
+  pub empty : may ≡ may_be_empty rules
+  pub laid : IsLaid at rules [] true
+  pub others : (q : ℕ) → ¬ Among q (positions_of rules) → at q ≡ nothing
