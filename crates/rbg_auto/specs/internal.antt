@@ -2,3 +2,6 @@
 pub mod Orders
 pub mod Firsts
 pub mod Laying
+pub mod Trees
+pub mod Tables
+pub mod Walks

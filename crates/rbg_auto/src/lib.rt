@@ -2,6 +2,9 @@
 #![tactic(auto)]
 
 pub mod laws;
+mod span;
 pub mod steps;
+mod table;
+mod tree;
 
 pub use steps::{Expr, Steps};
