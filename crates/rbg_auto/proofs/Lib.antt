@@ -7,3 +7,5 @@ pub mod StepLemmas
 pub mod WholeLemmas
 pub mod LayLemmas
 pub mod TreeLemmas
+pub mod WalkLemmas
+pub mod UnionLemmas

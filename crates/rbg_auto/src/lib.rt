@@ -6,5 +6,7 @@ mod span;
 pub mod steps;
 mod table;
 mod tree;
+mod union;
+mod walk;
 
 pub use steps::{Expr, Steps};
