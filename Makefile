@@ -3,16 +3,17 @@ RT ?= rt
 PROGRAM := crates/rbg_manager
 AUTHOR := crates/rbg_author_main
 CRATES := $(wildcard crates/*)
-# The programs with a stored run, and the crates with tests. Stored runs with words and files of their own are the gate's.
-STORED := $(filter-out $(patsubst crates/%/args,%,$(wildcard crates/*/args)),$(patsubst crates/%/stdin,%,$(wildcard crates/*/stdin)))
+# The programs with a stored run, and the crates with tests. Stored runs with words of their own are the gate's.
+STORED := $(filter-out $(patsubst crates/%/args,%,$(wildcard crates/*/args)) rbg_games,$(patsubst crates/%/stdin,%,$(wildcard crates/*/stdin)))
 TESTED := $(sort $(foreach file,$(shell grep -rl --include='*.rt' '^ *#\[test\]' crates),$(word 2,$(subst /, ,$(file)))))
 # How long a test may take without the proof: its build checks each step.
 SECONDS := 600
 
-.PHONY: help run try build test check fmt clean
+.PHONY: help run games try build test check fmt clean
 
 help:
 	@echo 'make run    referees the stored match (crates/rbg_manager/stdin), with no proof'
+	@echo 'make games  checks each game of games/ and prints its counts, with no proof'
 	@echo 'make try    runs every stored run and every test, with no proof; make -j4 try runs four at once'
 	@echo 'make build  proves the programs and what they stand on, and leaves them as ./rbg and ./rbg_author'
 	@echo 'make test   the gate: every proof from nothing, the must-fail edits, each test, each program'
@@ -22,6 +23,9 @@ help:
 
 run:
 	@cd $(PROGRAM) && $(RT) try < stdin
+
+games:
+	@cd crates/rbg_games && $(RT) try --seconds $(SECONDS) $(foreach game,$(wildcard games/*.rbg),--data $(notdir $(game))=../../$(game)) < stdin
 
 try: $(STORED:%=try-run-%) $(TESTED:%=try-test-%)
 
