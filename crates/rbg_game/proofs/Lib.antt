@@ -3,7 +3,10 @@ pub mod Lists
 pub mod NameLemmas
 pub mod NameFaults
 pub mod BoardNames
-pub mod NamedRectangles
+pub mod Joining
+pub mod NamedRows
+pub mod NamedGraphs
+pub mod GraphFaults
 pub mod PlainRuleLemmas
 pub mod RuleNumbering
 pub mod Assembly

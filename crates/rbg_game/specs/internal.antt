@@ -2,4 +2,5 @@
 pub mod NameTables
 pub mod Things
 pub mod Boards
+pub mod Graphs
 pub mod PlainRules

@@ -11,6 +11,8 @@ ghost use Rattle.rbg_game.specs.Faults.{HasFault};
 ghost use Rattle.rbg_game.specs.internal.Things.{game_by_numbers};
 
 mod boards;
+mod directions;
+mod graphs;
 mod name_table;
 mod names;
 mod rules;
