@@ -12,13 +12,16 @@ use Rattle.rbg_rules.specs.Games.{IsGame, IsWithinLimits}
 use Rattle.rbg_rules.specs.Limits.{greatest_bound, most_nested_patterns}
 use Rattle.rbg_game.specs.declared.checking.boards.NamedBoard.{NamedBoard}
 use Rattle.rbg_game.specs.declared.checking.names.Things.{Things}
-use Rattle.rbg_game.specs.declared.error.GameError.{GameError}
-use Rattle.rbg_game.specs.Descriptions.{Names, NamedBoard as BoardByNames, BoardIs, directions_named, texts_of, holder_names, holders_of, AreBounds, IsGameOf}
-use Rattle.rbg_game.specs.Faults.{HasBoardFault, board_directions, Purpose, as_direction, as_piece, as_player, names_for, HasRuleFault, names_spelt, HasFault, in_board, in_rules}
+use Rattle.rbg_numbering.specs.declared.error.GameError.{GameError}
+use Rattle.rbg_numbering.specs.Names.{Names, texts_of}
+use Rattle.rbg_game.specs.Descriptions.{NamedBoard as BoardByNames, BoardIs, directions_named, holder_names, holders_of, AreBounds, IsGameOf}
+use Rattle.rbg_numbering.specs.Faults.{Purpose, as_direction, as_piece, as_player, names_for, HasRuleFault}
+use Rattle.rbg_game.specs.Faults.{HasBoardFault, board_directions, names_spelt, HasFault, in_board, in_rules}
 use Rattle.rbg_game.specs.internal.Boards.{MakesBoard}
-use Rattle.rbg_game.specs.internal.PlainRules.{IsRuleByNumbers}
+use Rattle.rbg_numbering.specs.PlainRules.{IsRuleByNumbers}
 use Rattle.rbg_game.specs.internal.Things.{AreThingsOf, game_by_numbers}
-use Rattle.rbg_game.proofs.FaultLaw.{IsAmong, among_same, texts_named, rule_fault_by}
+use Rattle.rbg_numbering.proofs.RuleFaults.{IsAmong, among_same, rule_fault_by}
+use Rattle.rbg_game.proofs.FaultLaw.{texts_named}
 
 -- The names by which plain rules are numbered.
 abbrev pub rule_names : Things → NamedBoard → Names

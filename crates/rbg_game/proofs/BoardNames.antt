@@ -1,18 +1,13 @@
 -- Names by their numbers, in rows of cells and in lists.
-use Rattle.std.proofs.Common.{◌≡◌, ℕ, ◌<◌, inl, inr, List, [], ◌∷◌, Some, length, get_or, flat_map, Contains, All, ap, ◌∙◌, arith}
+use Rattle.std.proofs.Common.{◌≡◌, ℕ, ◌<◌, inl, inr, List, [], ◌∷◌, length, flat_map, Contains, All, arith}
 use Rattle.std.specs.List.{AllZip, concat}
 use Rattle.std.proofs.lemmas.List.Elements.{All-nil, All-cons, All-append, Contains-append_cases}
 use Rattle.std.proofs.lemmas.Option.{slice_get_within}
 use Rattle.rbg_syntax.specs.Tree.{SpeltName}
 use Rattle.rbg_rules.specs.LawfulNames.{AreDifferentNames}
-use Rattle.rbg_game.specs.Descriptions.{IsNumberOf}
-use Rattle.rbg_game.proofs.Lists.{Contains-from_get, AllZip-at, AllZip-once}
-
--- a list with an unknown name has no numbers
-pub unnumbered : (known : List (List ℕ)) (names : List SpeltName) (name : SpeltName) (numbers : List ℕ) → Contains names name → ¬ Contains known name.text → ¬ AllZip (IsNumberOf known) names numbers
-unnumbered known names name numbers (k, within, is) unknown all =
-    let number = AllZip-at (IsNumberOf known) names numbers k name 0 all within in
-    unknown (Contains-from_get known (get_or numbers k 0) name.text (number ∙ ap (λ (n : SpeltName). Some n.text) is))
+use Rattle.rbg_numbering.specs.Names.{IsNumberOf}
+use Rattle.rbg_numbering.proofs.Lists.{AllZip-once}
+use Rattle.rbg_numbering.proofs.RuleFaults.{unnumbered}
 
 pub unnumbered_rows : (known : List (List ℕ)) (rows : List (List SpeltName)) (name : SpeltName) (numbers : List (List ℕ)) → Contains (flat_map (λ row. row) rows) name → ¬ Contains known name.text → ¬ AllZip (AllZip (IsNumberOf known)) rows numbers
 unnumbered_rows known [] name numbers stands unknown all = absurd (omega (arith, stands.1))

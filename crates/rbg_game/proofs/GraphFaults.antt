@@ -12,7 +12,7 @@ use Rattle.rbg_syntax.specs.Tree.{SpeltName, SpeltEdge, SpeltVertex}
 use Rattle.rbg_rules.specs.LawfulNames.{AreDifferentNames}
 use Rattle.rbg_game.specs.Descriptions.{NamedBoard, EdgeIs, VertexIs, vertex_names, IsGraphBoard}
 use Rattle.rbg_game.specs.Faults.{StandsTwice, HasGraphFault, no_vertex, many_vertices, same_vertex, same_direction, unknown_vertex}
-use Rattle.rbg_game.proofs.Lists.{AllZip-at, fellow}
+use Rattle.rbg_numbering.proofs.Lists.{AllZip-at, fellow}
 
 -- different names stand once
 once : (names : List (List ℕ)) → StandsTwice names → ¬ AreDifferentNames names

@@ -11,15 +11,16 @@ use Rattle.rbg_base.proofs.CallerLemmas.{AllZip-weaker, Contains-from_get, get_f
 use Rattle.rbg_board.specs.Cells.{AreDifferent}
 use Rattle.rbg_syntax.specs.Tree.{SpeltName}
 use Rattle.rbg_rules.specs.LawfulNames.{AreDifferentNames}
-use Rattle.rbg_game.specs.declared.error.GameError.{GameError}
-use Rattle.rbg_game.specs.declared.error.GameError.TheVariants as errors
-use Rattle.rbg_game.specs.Descriptions.{IsNumberOf, texts_of, IsOrderOfFirstUse}
-use Rattle.rbg_game.specs.internal.NameTables.{HasNameFault, same_name, no_memory}
+use Rattle.rbg_numbering.specs.declared.error.GameError.{GameError}
+use Rattle.rbg_numbering.specs.declared.error.GameError.TheVariants as errors
+use Rattle.rbg_numbering.specs.Names.{IsNumberOf, texts_of}
+use Rattle.rbg_game.specs.Descriptions.{IsOrderOfFirstUse}
+use Rattle.rbg_numbering.specs.NameTables.{HasNameFault, same_name, no_memory}
 use Rattle.rbg_game.specs.internal.Boards.{Joins, NumbersDirections}
 use Rattle.rbg_game.specs.internal.Graphs.{AddsInOrder}
-use Rattle.rbg_game.proofs.Lists.{slice_get-last, Contains-one}
-use Rattle.rbg_game.proofs.NameLemmas.{slice_get-push_cases, push_differs}
-use Rattle.rbg_game.proofs.NameFaults.{again_alone}
+use Rattle.rbg_numbering.proofs.Lists.{slice_get-last, Contains-one}
+use Rattle.rbg_numbering.proofs.NameLemmas.{slice_get-push_cases, push_differs}
+use Rattle.rbg_numbering.proofs.LookUps.{again_alone}
 
 -- One name.
 

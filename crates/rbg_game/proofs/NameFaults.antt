@@ -1,39 +1,22 @@
 -- Faults of names that are added after others, as faults of whole lists and of the description.
-use Rattle.std.proofs.Common.{◌≡◌, ℕ, zero, suc, ◌+◌, ◌<◌, ◌≤◌, List, [], ◌∷◌, ◌++◌, inl, inr, Some, length, take, map, append-nil}
+use Rattle.std.proofs.Common.{◌≡◌, ℕ, ◌+◌, ◌<◌, ◌≤◌, List, [], ◌∷◌, ◌++◌, inl, inr, Some, length, take, map, append-nil}
 use Rattle.std.proofs.Common.{refl, sym, ap, ◌∙◌, subst, append_assoc, arith}
-use Rattle.std.specs.Prelude.{slice_get, Contains, Result, Ok, Err}
-use Rattle.std.specs.Result.{IfErr, IsErrAnd}
+use Rattle.std.specs.Prelude.{slice_get, Contains}
 use Rattle.std.proofs.lemmas.List.{take-map, map-append}
 use Rattle.std.proofs.lemmas.List.Elements.{All-append, Contains-append_left, Contains-append_right, Contains-append_cases}
 use Rattle.std.proofs.lemmas.Option.{slice_get_within}
 use Rattle.rbg_syntax.specs.Tree.{SpeltName, SpeltBounded, SpeltDescription}
 use Rattle.rbg_rules.specs.Limits.{greatest_bound}
-use Rattle.rbg_game.specs.declared.error.GameError.{GameError}
-use Rattle.rbg_game.specs.declared.error.GameError.TheVariants.{UnknownName, SameName}
-use Rattle.rbg_game.specs.Descriptions.{texts_of, holder_names, holders_of}
+use Rattle.rbg_numbering.specs.declared.error.GameError.{GameError}
+use Rattle.rbg_numbering.specs.Names.{texts_of}
+use Rattle.rbg_game.specs.Descriptions.{holder_names, holders_of}
 use Rattle.rbg_game.specs.Faults.{StandsAgain, HasGreatBound, names_of_holders, HasFault}
 use Rattle.rbg_game.specs.Faults.{same_holder, same_piece, great_bound, memory}
-use Rattle.rbg_game.specs.internal.NameTables.{HasLookUpFault, not_there, no_memory as look_up_memory, StandsBehind, HasNameFault, same_name, no_memory, HasHolderFault, by_name, by_bound}
+use Rattle.rbg_numbering.specs.NameTables.{StandsBehind, HasNameFault, same_name, no_memory}
+use Rattle.rbg_game.specs.internal.Holders.{HasHolderFault, by_name, by_bound}
+use Rattle.rbg_numbering.proofs.LookUps.{name_fault_at}
 use Rattle.rbg_game.specs.internal.Things.{AddsBounds}
-use Rattle.rbg_game.proofs.Lists.{slice_get-map_at, Contains-one, Contains-from_get, get_from-Contains, map_entry, slice_get-append_left, slice_get-append_right, entry_of_front, AllZip-append}
-
--- An error that is passed on.
-pub passed_on : {T : Type 0} (result : Result T GameError) (error : GameError) (P : GameError → Type 0) → IsErrAnd result (λ e. e ≡ error) → P error → IfErr result P
-passed_on (Ok x) error P is p = absurd is
-passed_on (Err e) error P is p = subst P (sym is) p
-
--- Names that are looked up.
-
-pub unknown_alone : (known : List (List ℕ)) (name : SpeltName) → ¬ Contains known name.text → HasLookUpFault known (name ∷ []) (UnknownName name.at)
-unknown_alone known name unknown = not_there (record { name = name; stands = (0, omega arith, refl); unknown = unknown; place = refl })
-
--- a part of the names is looked up
-pub look_up_within : (known : List (List ℕ)) (part whole : List SpeltName) (error : GameError) → ((name : SpeltName) → Contains part name → Contains whole name) → HasLookUpFault known part error → HasLookUpFault known whole error
-look_up_within known part whole _ within (not_there h) = not_there (record { name = h.name; stands = within h.name h.stands; unknown = h.unknown; place = h.place })
-look_up_within known part whole _ within look_up_memory = look_up_memory
-
-pub look_up_one : (known : List (List ℕ)) (name : SpeltName) (names : List SpeltName) (error : GameError) → Contains names name → HasLookUpFault known (name ∷ []) error → HasLookUpFault known names error
-look_up_one known name names error stands = look_up_within known (name ∷ []) names error (λ other one. subst (Contains names) (Contains-one name other one) stands)
+use Rattle.rbg_numbering.proofs.Lists.{slice_get-map_at, Contains-one, Contains-from_get, get_from-Contains, map_entry, slice_get-append_left, slice_get-append_right, entry_of_front, AllZip-append}
 
 -- Names that are added.
 
@@ -44,26 +27,6 @@ names_in_list holders = map (λ holder. holder.name) holders
 pub texts_of-names : (holders : List SpeltBounded) → texts_of (names_in_list holders) ≡ holder_names holders
 texts_of-names [] = refl
 texts_of-names (h ∷ hs) = ap (λ l. h.name.text ∷ l) (texts_of-names hs)
-
-pub same_name_alone : (table : List (List ℕ)) (name : SpeltName) → Contains table name.text → HasNameFault table (name ∷ []) (SameName name.at)
-same_name_alone table name had = same_name (record { k = 0; name = name; stands = refl; again = subst (λ l. Contains l name.text) (sym (append-nil table)) had; place = refl })
-
--- a name that is added alone and stands again is in the table
-pub again_alone : (table : List (List ℕ)) (name : SpeltName) (at : ℕ) → StandsBehind table (name ∷ []) at → Contains table name.text × (name.at ≡ at)
-again_alone table name at h = at_place h.k h.name h.stands h.again h.place
-  where
-    at_place : (k : ℕ) (n : SpeltName) → slice_get (name ∷ []) k ≡ Some n → Contains (table ++ texts_of (take k (name ∷ []))) n.text → n.at ≡ at → Contains table name.text × (name.at ≡ at)
-    at_place zero n there again place =
-        let same : name ≡ n = cc in
-        (subst (λ l. Contains l name.text) (append-nil table) (subst (λ (m : SpeltName). Contains (table ++ []) m.text) (sym same) again), ap (λ (m : SpeltName). m.at) same ∙ place)
-    at_place (suc k) n there again place = absurd (let within = slice_get_within (name ∷ []) (suc k) n there in omega arith)
-
--- A fault of the name at a place, after the earlier texts and the names before it, is one of the list.
-pub name_fault_at : (earlier table : List (List ℕ)) (names : List SpeltName) (k : ℕ) (name : SpeltName) (error : GameError) → slice_get names k ≡ Some name → table ≡ earlier ++ texts_of (take k names) → HasNameFault table (name ∷ []) error → HasNameFault earlier names error
-name_fault_at earlier table names k name _ there before (same_name {at = at} h) =
-    let had = again_alone table name at h in
-    same_name (record { k = k; name = name; stands = there; again = subst (λ l. Contains l name.text) before had.0; place = had.1 })
-name_fault_at earlier table names k name _ there before no_memory = no_memory
 
 names_before : (earlier table : List (List ℕ)) (holders : List SpeltBounded) (k : ℕ) → table ≡ earlier ++ holder_names (take k holders) → table ≡ earlier ++ texts_of (take k (names_in_list holders))
 names_before earlier table holders k before =

@@ -15,11 +15,12 @@ use Rattle.rbg_board.specs.declared.error.BoardError.TheVariants as board_errors
 use Rattle.rbg_syntax.specs.Tree.{SpeltName, SpeltEdge, SpeltVertex, graph}
 use Rattle.rbg_rules.specs.Limits.{most_directions}
 use Rattle.rbg_rules.specs.LawfulNames.{AreDifferentNames, AreLawfulNames}
-use Rattle.rbg_game.specs.Descriptions.{IsNumberOf, NamedBoard, EdgeIs, VertexIs, vertex_names, directions_named, IsOrderOfFirstUse}
+use Rattle.rbg_numbering.specs.Names.{IsNumberOf}
+use Rattle.rbg_game.specs.Descriptions.{NamedBoard, EdgeIs, VertexIs, vertex_names, directions_named, IsOrderOfFirstUse}
 use Rattle.rbg_game.specs.Faults.{StandsTwice, HasGraphFault, no_vertex, many_vertices, same_vertex, same_direction, unknown_vertex}
 use Rattle.rbg_game.specs.internal.Boards.{HasVertices, MakesBoard}
 use Rattle.rbg_game.specs.internal.Graphs.{edge_directions, IsTarget, IsEdge, IsCell}
-use Rattle.rbg_game.proofs.Lists.{AllZip-at}
+use Rattle.rbg_numbering.proofs.Lists.{AllZip-at}
 
 -- Lists that go together.
 

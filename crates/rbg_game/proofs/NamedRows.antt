@@ -12,13 +12,13 @@ use Rattle.rbg_board.specs.Hexagon.{IsHexagon, MakesHexagon}
 use Rattle.rbg_board.specs.declared.error.BoardError.{BoardError}
 use Rattle.rbg_board.specs.declared.error.BoardError.TheVariants as board_errors
 use Rattle.rbg_rules.specs.LawfulNames.{AreDifferentNames, AreLawfulNames}
-use Rattle.rbg_game.specs.declared.error.GameError.{GameError}
-use Rattle.rbg_game.specs.declared.error.GameError.TheVariants as errors
-use Rattle.rbg_game.specs.Descriptions.{IsNumberOf, texts_of}
+use Rattle.rbg_numbering.specs.declared.error.GameError.{GameError}
+use Rattle.rbg_numbering.specs.declared.error.GameError.TheVariants as errors
+use Rattle.rbg_numbering.specs.Names.{IsNumberOf, texts_of}
 use Rattle.rbg_game.specs.Faults.{board_pieces, HasRowsFault, HasBoardFault, unknown_piece, board_memory}
-use Rattle.rbg_game.specs.internal.NameTables.{HasLookUpFault, not_there, no_memory as look_up_memory}
+use Rattle.rbg_numbering.specs.NameTables.{HasLookUpFault, not_there, no_memory as look_up_memory}
 use Rattle.rbg_game.specs.internal.Boards.{HasVertices, MakesBoard, NumbersDirections, refusal_of}
-use Rattle.rbg_game.proofs.Lists.{AllZip-at}
+use Rattle.rbg_numbering.proofs.Lists.{AllZip-at}
 use Rattle.rbg_game.proofs.BoardNames.{rows_below}
 
 -- Directions.

@@ -9,10 +9,10 @@ use Rattle.rbg_board.specs.Written.{Written, pieces_of, directions_of, WrittenEd
 use Rattle.rbg_board.proofs.CallerLemmas.{one_graph}
 use Rattle.rbg_syntax.specs.Tree.{SpeltName, SpeltEdge, SpeltVertex, SpeltBoard, rectangle, hexagon, graph}
 use Rattle.rbg_rules.specs.LawfulNames.{AreDifferentNames}
-use Rattle.rbg_game.specs.Descriptions.{IsNumberOf}
+use Rattle.rbg_numbering.specs.Names.{IsNumberOf}
 use Rattle.rbg_game.specs.Descriptions.{NamedBoard, IsRectangleBoard, IsHexagonBoard, EdgeIs, VertexIs, directions_named, IsGraphBoard, BoardIs}
 use Rattle.rbg_game.proofs.BoardNames.{rows_once}
-use Rattle.rbg_game.proofs.Lists.{AllZip-once}
+use Rattle.rbg_numbering.proofs.Lists.{AllZip-once}
 use Rattle.rbg_game.proofs.OneGameLists.{first_use_once}
 
 -- The boards are one, and have the same directions.

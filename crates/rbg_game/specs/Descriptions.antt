@@ -1,6 +1,6 @@
 -- Which game a description is: its names, its board and its rules by numbers.
-use Rattle.std.specs.Prelude.{◌≡◌, ℕ, suc, ◌+◌, ◌<◌, ◌^◌, ◌⊎◌, List, [], ◌∷◌, ◌++◌, Some, None}
-use Rattle.std.specs.Prelude.{map, slice_get, Contains, flat_map, All, IsTrue}
+use Rattle.std.specs.Prelude.{◌≡◌, ℕ, ◌<◌, List, [], ◌∷◌, ◌++◌, Some}
+use Rattle.std.specs.Prelude.{map, slice_get, Contains, flat_map}
 use Rattle.std.specs.List.{AllZip, concat}
 use Rattle.rbg_board.specs.Cells.{width_of}
 use Rattle.rbg_board.specs.Graph.{Graph, HasWidth, IsGraphOf}
@@ -8,142 +8,17 @@ use Rattle.rbg_board.specs.Rectangle.{RectangleEdge, MakesRectangle}
 use Rattle.rbg_board.specs.Hexagon.{HexagonEdge, MakesHexagon}
 use Rattle.rbg_board.specs.Written.{Written, pieces_of, directions_of, WrittenEdge, MakesGraph}
 use Rattle.rbg_syntax.specs.Tree.{SpeltName, SpeltBounded, SpeltEdge, SpeltVertex}
-use Rattle.rbg_syntax.specs.Tree.{SpeltBoard, rectangle, hexagon, graph}
-use Rattle.rbg_syntax.specs.Tree.{SpeltExpression, SpeltTerms, no_terms, more_terms}
-use Rattle.rbg_syntax.specs.Tree.{SpeltFactors, no_factors, more_factors}
-use Rattle.rbg_syntax.specs.Tree.{SpeltRule, SpeltRules, no_rules, more_rules, SpeltAction, SpeltDescription}
-use Rattle.rbg_syntax.specs.declared.expression.Additive.{Additive}
-use Rattle.rbg_syntax.specs.declared.expression.Additive.TheVariants.{Plus, Minus}
-use Rattle.rbg_syntax.specs.declared.expression.Multiplicative.{Multiplicative}
-use Rattle.rbg_syntax.specs.declared.expression.Multiplicative.TheVariants.{Times, Over}
-use Rattle.rbg_rules.specs.Expression.{AbstractArithmetic, number, variable, piece_count, negated}
-use Rattle.rbg_rules.specs.Expression.{sum, difference, product, quotient}
-use Rattle.rbg_rules.specs.Expression.{AbstractAction, shift, on, off, assignment, comparison, switch}
-use Rattle.rbg_rules.specs.Expression.{positive, negative}
-use Rattle.rbg_rules.specs.Expression.{Expression, act, skip, sequence, fail, choice, star}
+use Rattle.rbg_syntax.specs.Tree.{SpeltBoard, rectangle, hexagon, graph, SpeltDescription}
 use Rattle.rbg_rules.specs.Games.{IsGame}
 use Rattle.rbg_rules.specs.LawfulNames.{AreDifferentNames}
 use Rattle.rbg_rules.specs.State.{AbstractGame}
+use Rattle.rbg_numbering.specs.Names.{Names, IsNumberOf, texts_of}
+use Rattle.rbg_numbering.specs.Rules.{RuleIs}
 
--- Names and their numbers.
-
--- the names of things, each list in order of the numbers
-pub record Names : Type 0 where
-  pub players : List (List ℕ)
-  pub variables : List (List ℕ)
-  pub pieces : List (List ℕ)
-  pub directions : List (List ℕ)
-
+-- the names of a game, by which its rules are numbered
 abbrev pub names_in : AbstractGame → Names
 names_in game =
     record { players = game.players; variables = game.variables; pieces = game.pieces; directions = game.directions }
-
--- n is the number of the name in a list of names
-abbrev pub IsNumberOf : List (List ℕ) → SpeltName → ℕ → Type 0
-IsNumberOf list name n = slice_get list n ≡ Some name.text
-
--- the texts of names
-abbrev pub texts_of : List SpeltName → List (List ℕ)
-texts_of names = map (λ name. name.text) names
-
--- Rules by numbers. Positions are not counted here: that the actions are numbered in order of text is a statement of
--- its own (IsNumbered).
-
-abbrev pub added : Additive → AbstractArithmetic → AbstractArithmetic → AbstractArithmetic
-added Plus b c = sum b c
-added Minus b c = difference b c
-
-abbrev pub multiplied : Multiplicative → AbstractArithmetic → AbstractArithmetic → AbstractArithmetic
-multiplied Times b c = product b c
-multiplied Over b c = quotient b c
-
-abbrev mutual
-  -- What an arithmetic expression is. A number fits signed 64 bits. A name is a variable if there is one of that name,
-  -- and else a piece.
-  pub ArithmeticIs : Names → SpeltExpression → AbstractArithmetic → Type 0
-  ArithmeticIs names (SpeltExpression.number n) a =
-      (value : ℕ)
-      × (n.value ≡ Some value)
-      × (value < 2 ^ 63)
-      × (a ≡ number value)
-  ArithmeticIs names (SpeltExpression.name n) a =
-      ((v : ℕ) × IsNumberOf names.variables n v × (a ≡ variable v))
-      ⊎ ((¬ Contains names.variables n.text) × ((p : ℕ) × IsNumberOf names.pieces n p × (a ≡ piece_count p)))
-  ArithmeticIs names (SpeltExpression.negated e) a = (b : AbstractArithmetic) × ArithmeticIs names e b × (a ≡ negated b)
-  ArithmeticIs names (SpeltExpression.sum terms) a = SumIs names terms a
-  ArithmeticIs names (SpeltExpression.product factors) a = ProductIs names factors a
-
-  -- a sum from the left: its first term, or what stands before with the last term added or taken away
-  pub SumIs : Names → SpeltTerms → AbstractArithmetic → Type 0
-  SumIs names no_terms a = ⊥
-  SumIs names (more_terms terms operator e) a =
-      ((terms ≡ no_terms) × ArithmeticIs names e a)
-      ⊎ ((b : AbstractArithmetic)
-      × (c : AbstractArithmetic)
-      × SumIs names terms b
-      × ArithmeticIs names e c
-      × (a ≡ added operator b c))
-
-  -- a product from the left
-  pub ProductIs : Names → SpeltFactors → AbstractArithmetic → Type 0
-  ProductIs names no_factors a = ⊥
-  ProductIs names (more_factors factors operator e) a =
-      ((factors ≡ no_factors) × ArithmeticIs names e a)
-      ⊎ ((b : AbstractArithmetic)
-      × (c : AbstractArithmetic)
-      × ProductIs names factors b
-      × ArithmeticIs names e c
-      × (a ≡ multiplied operator b c))
-
-abbrev mutual
-  -- What an action is. The keeper's switch is that to player 0; players are numbered from 1.
-  pub ActionIs : Names → SpeltAction → AbstractAction → Type 0
-  ActionIs names (SpeltAction.shift n) b = (d : ℕ) × IsNumberOf names.directions n d × (b ≡ shift d)
-  ActionIs names (SpeltAction.on ns) b = (xs : List ℕ) × AllZip (IsNumberOf names.pieces) ns xs × (b ≡ on xs)
-  ActionIs names (SpeltAction.off n) b = (x : ℕ) × IsNumberOf names.pieces n x × (b ≡ off x)
-  ActionIs names (SpeltAction.assign n e) b =
-      (v : ℕ)
-      × (a : AbstractArithmetic)
-      × IsNumberOf names.variables n v
-      × ArithmeticIs names e a
-      × (b ≡ assignment v a)
-  ActionIs names (SpeltAction.compare e relation f) b =
-      (a : AbstractArithmetic)
-      × (c : AbstractArithmetic)
-      × ArithmeticIs names e a
-      × ArithmeticIs names f c
-      × (b ≡ comparison a relation c)
-  ActionIs names (SpeltAction.switch at None) b = b ≡ switch 0
-  ActionIs names (SpeltAction.switch at (Some n)) b = (k : ℕ) × IsNumberOf names.players n k × (b ≡ switch (k + 1))
-  ActionIs names (SpeltAction.positive at r) b = (x : Expression) × RuleIs names r x × (b ≡ positive x)
-  ActionIs names (SpeltAction.negative at r) b = (x : Expression) × RuleIs names r x × (b ≡ negative x)
-
-  -- What a rule is, whatever the positions of its actions.
-  pub RuleIs : Names → SpeltRule → Expression → Type 0
-  RuleIs names (SpeltRule.act a) x = (p : ℕ) × (b : AbstractAction) × ActionIs names a b × (x ≡ act p b)
-  RuleIs names (SpeltRule.sequence parts) x = SequenceIs names parts x
-  RuleIs names (SpeltRule.choice parts) x = ChoiceIs names parts x
-  RuleIs names (SpeltRule.star r) x = (y : Expression) × RuleIs names r y × (x ≡ star y)
-
-  -- the parts of a sequence, one after the other
-  pub SequenceIs : Names → SpeltRules → Expression → Type 0
-  SequenceIs names no_rules x = x ≡ skip
-  SequenceIs names (more_rules parts r) x =
-      (y : Expression)
-      × (z : Expression)
-      × SequenceIs names parts y
-      × RuleIs names r z
-      × (x ≡ sequence y z)
-
-  -- one of the parts of a sum
-  pub ChoiceIs : Names → SpeltRules → Expression → Type 0
-  ChoiceIs names no_rules x = x ≡ fail
-  ChoiceIs names (more_rules parts r) x =
-      (y : Expression)
-      × (z : Expression)
-      × ChoiceIs names parts y
-      × RuleIs names r z
-      × (x ≡ choice y z)
 
 -- Boards by numbers.
 

@@ -1,5 +1,5 @@
 -- Why a description is no game: the fault that an error names, at its place.
-use Rattle.std.specs.Prelude.{◌≡◌, ◌≢◌, ℕ, suc, ◌+◌, ◌<◌, ◌↔◌, List, [], ◌∷◌, ◌++◌, Some}
+use Rattle.std.specs.Prelude.{◌≡◌, ◌≢◌, ℕ, ◌<◌, ◌↔◌, List, Some}
 use Rattle.std.specs.Prelude.{map, length, slice_get, slice_index, Contains, flat_map}
 use Rattle.std.specs.List.{AllZip}
 use Rattle.rbg_board.specs.Cells.{Rows}
@@ -8,22 +8,15 @@ use Rattle.rbg_board.specs.Hexagon.{HexagonRefusal}
 use Rattle.rbg_board.specs.declared.error.BoardError.{BoardError}
 use Rattle.rbg_board.specs.declared.error.BoardError.TheVariants as board_errors
 use Rattle.rbg_syntax.specs.Tree.{SpeltName, SpeltNumber, SpeltBounded, SpeltEdge, SpeltVertex}
-use Rattle.rbg_syntax.specs.Tree.{SpeltBoard, rectangle, hexagon, graph}
-use Rattle.rbg_syntax.specs.Tree.{SpeltRule, SpeltRules, no_rules, more_rules, SpeltAction, SpeltDescription}
+use Rattle.rbg_syntax.specs.Tree.{SpeltBoard, rectangle, hexagon, graph, SpeltDescription}
 use Rattle.rbg_rules.specs.Limits.{most_players, most_pieces, most_variables}
-use Rattle.rbg_rules.specs.Limits.{greatest_bound, most_directions, most_vertices, most_positions}
-use Rattle.rbg_game.specs.declared.error.GameError.{GameError}
-use Rattle.rbg_game.specs.declared.error.GameError.TheVariants.{UnknownName, SameName, Bound, TooMany, Memory, Board}
-use Rattle.rbg_game.specs.declared.error.Thing.TheVariants.{Players, Pieces, Variables, Directions, Positions}
-use Rattle.rbg_game.specs.Descriptions.{Names, IsNumberOf, texts_of, holder_names, holders_of}
-use Rattle.rbg_game.specs.Descriptions.{vertex_names, directions_named, IsOrderOfFirstUse}
-
--- A name that isn't there: one of the names, at this offset, is not among those that are known.
-pub record HasUnknown (known : List (List ℕ)) (names : List SpeltName) (at : ℕ) : Type 0 where
-  pub name : SpeltName
-  pub stands : Contains names name
-  pub unknown : ¬ Contains known name.text
-  pub place : name.at ≡ at
+use Rattle.rbg_rules.specs.Limits.{greatest_bound, most_directions, most_vertices}
+use Rattle.rbg_numbering.specs.declared.error.GameError.{GameError}
+use Rattle.rbg_numbering.specs.declared.error.GameError.TheVariants.{UnknownName, SameName, Bound, TooMany, Memory, Board}
+use Rattle.rbg_numbering.specs.declared.error.Thing.TheVariants.{Players, Pieces, Variables, Directions}
+use Rattle.rbg_numbering.specs.Names.{Names, IsNumberOf, texts_of}
+use Rattle.rbg_numbering.specs.Faults.{HasUnknown, HasRuleFault}
+use Rattle.rbg_game.specs.Descriptions.{holder_names, holders_of, vertex_names, directions_named, IsOrderOfFirstUse}
 
 -- The name stands in the list at this offset, and before it the same name.
 pub record StandsAgain (list : List SpeltName) (at : ℕ) : Type 0 where
@@ -137,89 +130,6 @@ pub data HasBoardFault (pieces : List (List ℕ)) : SpeltBoard → GameError →
       → HasBoardFault pieces (graph vertices) (Board error)
   board_memory : {board : SpeltBoard}
       → HasBoardFault pieces board Memory
-
--- Rules.
-
--- What a name is used for.
-pub data Purpose : Type 0 where
-  as_direction as_piece as_player : Purpose
-
--- the names that serve the purpose
-abbrev pub names_for : Names → Purpose → List (List ℕ)
-names_for names as_direction = names.directions
-names_for names as_piece = names.pieces
-names_for names as_player = names.players
-
--- The action uses these names for the purpose.
-pub data Uses : SpeltAction → Purpose → List SpeltName → Type 0 where
-  shifts : {n : SpeltName}
-      → Uses (SpeltAction.shift n) as_direction (n ∷ [])
-  stands_on : {ns : List SpeltName}
-      → Uses (SpeltAction.on ns) as_piece ns
-  puts : {n : SpeltName}
-      → Uses (SpeltAction.off n) as_piece (n ∷ [])
-  gives_turn : {at : ℕ} {n : SpeltName}
-      → Uses (SpeltAction.switch at (Some n)) as_player (n ∷ [])
-
--- The action is one of the rule.
-mutual
-  pub data HasSpeltAction : SpeltRule → SpeltAction → Type 0 where
-    this : {a : SpeltAction}
-        → HasSpeltAction (SpeltRule.act a) a
-    in_sequence : {rs : SpeltRules} {a : SpeltAction}
-        → SomeHasSpeltAction rs a
-        → HasSpeltAction (SpeltRule.sequence rs) a
-    in_choice : {rs : SpeltRules} {a : SpeltAction}
-        → SomeHasSpeltAction rs a
-        → HasSpeltAction (SpeltRule.choice rs) a
-    in_star : {r : SpeltRule} {a : SpeltAction}
-        → HasSpeltAction r a
-        → HasSpeltAction (SpeltRule.star r) a
-    in_positive : {at : ℕ} {r : SpeltRule} {a : SpeltAction}
-        → HasSpeltAction r a
-        → HasSpeltAction (SpeltRule.act (SpeltAction.positive at r)) a
-    in_negative : {at : ℕ} {r : SpeltRule} {a : SpeltAction}
-        → HasSpeltAction r a
-        → HasSpeltAction (SpeltRule.act (SpeltAction.negative at r)) a
-
-  pub data SomeHasSpeltAction : SpeltRules → SpeltAction → Type 0 where
-    earlier : {rs : SpeltRules} {r : SpeltRule} {a : SpeltAction}
-        → SomeHasSpeltAction rs a
-        → SomeHasSpeltAction (more_rules rs r) a
-    last : {rs : SpeltRules} {r : SpeltRule} {a : SpeltAction}
-        → HasSpeltAction r a
-        → SomeHasSpeltAction (more_rules rs r) a
-
-abbrev mutual
-  -- how many actions a rule has, those inside its patterns too
-  pub actions_in : SpeltRule → ℕ
-  actions_in (SpeltRule.act a) = actions_of a
-  actions_in (SpeltRule.sequence rs) = actions_in_all rs
-  actions_in (SpeltRule.choice rs) = actions_in_all rs
-  actions_in (SpeltRule.star r) = actions_in r
-
-  pub actions_in_all : SpeltRules → ℕ
-  actions_in_all no_rules = 0
-  actions_in_all (more_rules rs r) = actions_in_all rs + actions_in r
-
-  pub actions_of : SpeltAction → ℕ
-  actions_of (SpeltAction.positive at r) = suc (actions_in r)
-  actions_of (SpeltAction.negative at r) = suc (actions_in r)
-  actions_of _ = 1
-
--- What is wrong with a rule, where these are the names: an action uses a name that isn't there, or there are too many
--- actions.
-pub data HasRuleFault (names : Names) (rule : SpeltRule) : GameError → Type 0 where
-  unknown_use : {action : SpeltAction} {purpose : Purpose} {used : List SpeltName} {at : ℕ}
-      → HasSpeltAction rule action
-      → Uses action purpose used
-      → HasUnknown (names_for names purpose) used at
-      → HasRuleFault names rule (UnknownName at)
-  many_positions :
-      most_positions < actions_in rule
-      → HasRuleFault names rule (TooMany Positions)
-  rule_memory :
-      HasRuleFault names rule Memory
 
 -- Descriptions.
 

@@ -13,16 +13,13 @@ ghost use Rattle.rbg_game.specs.internal.Things.{game_by_numbers};
 mod boards;
 mod directions;
 mod graphs;
-mod name_table;
 mod names;
-mod rules;
 
-use crate::error::GameError;
 use boards::{NamedBoard, make_board};
 use names::{Things, number_things};
+use rbg_numbering::{GameError, NameTables, number_rules};
 use rbg_rules::{Game, Parts, Rules};
 use rbg_syntax::{Description, DescriptionParts};
-use rules::{NameTables, number_rules};
 use std::alloc::{AllocError, Global};
 
 /// The game of a description.

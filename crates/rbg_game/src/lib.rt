@@ -7,6 +7,7 @@ pub mod laws;
 mod loading;
 
 pub use checking::check;
-pub use error::{GameError, LoadError, Thing};
+pub use error::LoadError;
 pub use loading::load;
+pub use rbg_numbering::{GameError, Thing};
 pub use rbg_rules::{Action, Arithmetic, Game, Operation, Operator, Relation, Rule, Rules, limits};

@@ -8,9 +8,10 @@ use Rattle.rbg_board.specs.declared.error.BoardError.TheVariants as board_errors
 use Rattle.rbg_syntax.specs.Tree.{SpeltName, SpeltBoard}
 use Rattle.rbg_rules.specs.Limits.{most_directions, most_vertices}
 use Rattle.rbg_rules.specs.LawfulNames.{AreDifferentNames, AreLawfulNames}
-use Rattle.rbg_game.specs.declared.error.GameError.{GameError}
-use Rattle.rbg_game.specs.declared.error.GameError.TheVariants as errors
-use Rattle.rbg_game.specs.Descriptions.{IsNumberOf, texts_of, BoardIs}
+use Rattle.rbg_numbering.specs.declared.error.GameError.{GameError}
+use Rattle.rbg_numbering.specs.declared.error.GameError.TheVariants as errors
+use Rattle.rbg_numbering.specs.Names.{IsNumberOf, texts_of}
+use Rattle.rbg_game.specs.Descriptions.{BoardIs}
 
 -- The board has vertices, no more than are allowed, and edges between them alone.
 pub record HasVertices (board : Graph) : Type 0 where

@@ -7,7 +7,8 @@ use Rattle.rbg_rules.specs.Limits.{most_players, most_pieces, most_variables, gr
 use Rattle.rbg_rules.specs.LawfulNames.{AreLawfulNames}
 use Rattle.rbg_game.specs.declared.checking.boards.NamedBoard.{NamedBoard}
 use Rattle.rbg_game.specs.declared.checking.names.Things.{Things}
-use Rattle.rbg_game.specs.Descriptions.{texts_of, holder_names, holders_of, AreBounds}
+use Rattle.rbg_numbering.specs.Names.{texts_of}
+use Rattle.rbg_game.specs.Descriptions.{holder_names, holders_of, AreBounds}
 
 -- The bounds of the players or variables stand after the others, and none is too great.
 pub record AddsBounds (holders : List SpeltBounded) (old new : List ℕ) : Type 0 where

@@ -3,8 +3,7 @@ ghost use Rattle.std.specs.Prelude.{◌≡◌, ◌≤◌, map, length, IfOk, IfE
 ghost use Rattle.rbg_syntax.specs.Views.{name_of};
 ghost use Rattle.rbg_game.specs.internal.Boards.{Joins, NumbersDirections};
 
-use crate::checking::name_table::NameTable;
-use crate::error::GameError;
+use rbg_numbering::{GameError, NameTable};
 use rbg_rules::limits::MAX_DIRECTIONS;
 use rbg_syntax::Name;
 use std::alloc::Global;

@@ -2,13 +2,14 @@
 ghost use Rattle.std.specs.Prelude.{◌≡◌, ◌≤◌, [], ◌∷◌, ◌++◌, map, Some, OnOk, IfOk, IfErr};
 ghost use Rattle.rbg_syntax.specs.Views.{name_of, number_of, bounded_of};
 ghost use Rattle.rbg_syntax.specs.Descriptions.{description_of_parts};
-ghost use Rattle.rbg_game.specs.Descriptions.{texts_of, holder_names};
+ghost use Rattle.rbg_numbering.specs.Names.{texts_of};
+ghost use Rattle.rbg_game.specs.Descriptions.{holder_names};
 ghost use Rattle.rbg_game.specs.Faults.{IsNoBound, HasFault};
-ghost use Rattle.rbg_game.specs.internal.NameTables.{HasNameFault, HasHolderFault};
+ghost use Rattle.rbg_numbering.specs.NameTables.{HasNameFault};
+ghost use Rattle.rbg_game.specs.internal.Holders.{HasHolderFault};
 ghost use Rattle.rbg_game.specs.internal.Things.{AddsBounds, AreThingsOf};
 
-use crate::checking::name_table::NameTable;
-use crate::error::{GameError, Thing};
+use rbg_numbering::{GameError, NameTable, Thing};
 use rbg_rules::limits::{MAX_BOUND, MAX_PIECES, MAX_PLAYERS, MAX_VARIABLES};
 use rbg_syntax::{Bounded, DescriptionParts, Name, Number};
 use std::alloc::Global;

@@ -5,7 +5,7 @@ use Rattle.rbg_syntax.specs.Tree.{SpeltDescription}
 use Rattle.rbg_syntax.specs.Descriptions.{description_of}
 use Rattle.rbg_syntax.specs.Plain.{IsPlain}
 use Rattle.rbg_rules.specs.State.{AbstractGame}
-use Rattle.rbg_game.specs.declared.error.GameError.TheVariants.{Memory}
+use Rattle.rbg_numbering.specs.declared.error.GameError.TheVariants.{Memory}
 use Rattle.rbg_game.specs.Descriptions.{IsGameOf}
 use Rattle.rbg_game.specs.Faults.{HasFault}
 use Rattle.rbg_game.proofs.FaultLaw.{no_game_with_fault}

@@ -2,10 +2,10 @@ use Rattle.std.proofs.Common.{sym, subst}
 use Rattle.rbg_syntax.specs.Descriptions.{description_of_parts}
 use Rattle.rbg_rules.specs.State.{AbstractGame}
 use Rattle.rbg_rules.specs.Translation.{rules_of}
-use Rattle.rbg_game.specs.declared.error.GameError.TheVariants.{Memory}
+use Rattle.rbg_numbering.specs.declared.error.GameError.TheVariants.{Memory}
 use Rattle.rbg_game.specs.Descriptions.{IsGameOf}
 use Rattle.rbg_game.specs.Faults.{HasFault, memory}
-use Rattle.rbg_game.proofs.NameFaults.{passed_on}
+use Rattle.rbg_numbering.proofs.LookUps.{passed_on}
 use Rattle.rbg_game.proofs.Assembly.{board_unlawful, rules_unlawful, game_made}
 use Rattle.rbg_game.proofs.checking.check_parts.Goals as goal
 

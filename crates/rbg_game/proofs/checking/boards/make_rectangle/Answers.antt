@@ -5,9 +5,9 @@ use Rattle.rbg_board.specs.Cells.{rows_of}
 use Rattle.rbg_board.specs.Rectangle.{IsRectangle, MakesRectangle, RectangleRefusal}
 use Rattle.rbg_syntax.specs.Views.{name_of, names_of}
 use Rattle.rbg_syntax.specs.Tree.{rectangle}
-use Rattle.rbg_game.specs.declared.error.GameError.{GameError}
+use Rattle.rbg_numbering.specs.declared.error.GameError.{GameError}
 use Rattle.rbg_game.specs.Faults.{HasBoardFault, board_memory}
-use Rattle.rbg_game.proofs.NameFaults.{passed_on}
+use Rattle.rbg_numbering.proofs.LookUps.{passed_on}
 use Rattle.rbg_game.proofs.NamedRectangles.{cells_fault, rectangle_made, rectangle_fault}
 use Rattle.rbg_game.proofs.checking.boards.make_rectangle.Goals as goal
 

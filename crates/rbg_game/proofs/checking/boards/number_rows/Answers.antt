@@ -4,11 +4,11 @@ use Rattle.std.proofs.lemmas.List.{map-append}
 use Rattle.rbg_board.specs.Cells.{rows_of}
 use Rattle.rbg_syntax.specs.Tree.{SpeltName}
 use Rattle.rbg_syntax.specs.Views.{name_of, names_of}
-use Rattle.rbg_game.specs.declared.error.GameError.TheVariants.{Memory}
-use Rattle.rbg_game.specs.Descriptions.{IsNumberOf}
-use Rattle.rbg_game.specs.internal.NameTables.{HasLookUpFault, no_memory}
-use Rattle.rbg_game.proofs.Lists.{AllZip-step, Contains-flat_map, Contains-map_read}
-use Rattle.rbg_game.proofs.NameFaults.{look_up_within, passed_on}
+use Rattle.rbg_numbering.specs.declared.error.GameError.TheVariants.{Memory}
+use Rattle.rbg_numbering.specs.Names.{IsNumberOf}
+use Rattle.rbg_numbering.specs.NameTables.{HasLookUpFault, no_memory}
+use Rattle.rbg_numbering.proofs.Lists.{AllZip-step, Contains-flat_map, Contains-map_read}
+use Rattle.rbg_numbering.proofs.LookUps.{look_up_within, passed_on}
 use Rattle.rbg_game.proofs.checking.boards.number_rows.Goals as goal
 
 pub returns-in_err-find_all-clause-fault : goal.returns-in_err-find_all-clause-fault

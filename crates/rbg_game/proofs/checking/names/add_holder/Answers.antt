@@ -1,9 +1,10 @@
 use Rattle.std.proofs.Common.{[], ◌∷◌, refl, subst, sym, arith}
 use Rattle.rbg_syntax.specs.Views.{bounded_of}
-use Rattle.rbg_game.specs.declared.error.GameError.{GameError}
-use Rattle.rbg_game.specs.declared.error.GameError.TheVariants.{Memory}
-use Rattle.rbg_game.specs.internal.NameTables.{HasHolderFault, by_name, by_bound, no_memory}
-use Rattle.rbg_game.proofs.NameFaults.{passed_on}
+use Rattle.rbg_numbering.specs.declared.error.GameError.{GameError}
+use Rattle.rbg_numbering.specs.declared.error.GameError.TheVariants.{Memory}
+use Rattle.rbg_numbering.specs.NameTables.{no_memory}
+use Rattle.rbg_game.specs.internal.Holders.{HasHolderFault, by_name, by_bound}
+use Rattle.rbg_numbering.proofs.LookUps.{passed_on}
 use Rattle.rbg_game.proofs.checking.names.add_holder.Goals as goal
 
 pub returns-in_err-insert-clause-fault : goal.returns-in_err-insert-clause-fault

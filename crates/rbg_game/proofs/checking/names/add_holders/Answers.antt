@@ -3,10 +3,11 @@ use Rattle.std.proofs.lemmas.List.{take-map, map_more, map-append}
 use Rattle.rbg_syntax.specs.Views.{bounded_of}
 use Rattle.rbg_syntax.specs.Tree.{SpeltBounded}
 use Rattle.rbg_game.specs.Descriptions.{holder_names}
-use Rattle.rbg_game.specs.internal.NameTables.{HasHolderFault}
+use Rattle.rbg_game.specs.internal.Holders.{HasHolderFault}
 use Rattle.rbg_game.specs.internal.Things.{AddsBounds}
-use Rattle.rbg_game.proofs.Lists.{slice_get-map_read}
-use Rattle.rbg_game.proofs.NameFaults.{holder_fault_at, passed_on, AddsBounds-append}
+use Rattle.rbg_numbering.proofs.Lists.{slice_get-map_read}
+use Rattle.rbg_numbering.proofs.LookUps.{passed_on}
+use Rattle.rbg_game.proofs.NameFaults.{holder_fault_at, AddsBounds-append}
 use Rattle.rbg_game.proofs.checking.names.add_holders.Goals as goal
 
 pub returns-in_err-add_holder-clause-fault : goal.returns-in_err-add_holder-clause-fault

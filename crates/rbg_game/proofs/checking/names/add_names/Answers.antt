@@ -2,10 +2,10 @@ use Rattle.std.proofs.Common.{◌≡◌, ◌++◌, List, map, take, ap, sym, ◌
 use Rattle.std.proofs.lemmas.List.{take-map}
 use Rattle.rbg_syntax.specs.Views.{name_of}
 use Rattle.rbg_syntax.specs.Tree.{SpeltName}
-use Rattle.rbg_game.specs.Descriptions.{texts_of}
-use Rattle.rbg_game.specs.internal.NameTables.{HasNameFault}
-use Rattle.rbg_game.proofs.Lists.{slice_get-map_read}
-use Rattle.rbg_game.proofs.NameFaults.{name_fault_at, passed_on}
+use Rattle.rbg_numbering.specs.Names.{texts_of}
+use Rattle.rbg_numbering.specs.NameTables.{HasNameFault}
+use Rattle.rbg_numbering.proofs.Lists.{slice_get-map_read}
+use Rattle.rbg_numbering.proofs.LookUps.{name_fault_at, passed_on}
 use Rattle.rbg_game.proofs.checking.names.add_names.Goals as goal
 
 pub returns-in_err-insert-clause-fault : goal.returns-in_err-insert-clause-fault

@@ -3,9 +3,10 @@ use Rattle.std.proofs.lemmas.List.{take-map}
 use Rattle.rbg_syntax.specs.Views.{bounded_of}
 use Rattle.rbg_syntax.specs.Tree.{SpeltBounded}
 use Rattle.rbg_game.specs.Descriptions.{holder_names}
-use Rattle.rbg_game.specs.internal.NameTables.{HasHolderFault, by_name}
-use Rattle.rbg_game.proofs.Lists.{slice_get-map_read}
-use Rattle.rbg_game.proofs.NameFaults.{holder_fault_at, passed_on}
+use Rattle.rbg_game.specs.internal.Holders.{HasHolderFault, by_name}
+use Rattle.rbg_numbering.proofs.Lists.{slice_get-map_read}
+use Rattle.rbg_numbering.proofs.LookUps.{passed_on}
+use Rattle.rbg_game.proofs.NameFaults.{holder_fault_at}
 use Rattle.rbg_game.proofs.checking.names.add_players.Goals as goal
 
 pub returns-in_err-insert-clause-fault : goal.returns-in_err-insert-clause-fault

@@ -5,12 +5,15 @@ use Rattle.rbg_syntax.specs.Views.{name_of, bounded_of}
 use Rattle.rbg_syntax.specs.Tree.{SpeltBounded, SpeltName, SpeltDescription}
 use Rattle.rbg_syntax.specs.declared.names.Name.{Name}
 use Rattle.rbg_syntax.specs.declared.description.Bounded.{Bounded}
-use Rattle.rbg_game.specs.declared.error.GameError.{GameError}
-use Rattle.rbg_game.specs.Descriptions.{texts_of, holder_names, holders_of}
-use Rattle.rbg_game.specs.internal.NameTables.{HasNameFault, HasHolderFault}
+use Rattle.rbg_numbering.specs.declared.error.GameError.{GameError}
+use Rattle.rbg_numbering.specs.Names.{texts_of}
+use Rattle.rbg_game.specs.Descriptions.{holder_names, holders_of}
+use Rattle.rbg_numbering.specs.NameTables.{HasNameFault}
+use Rattle.rbg_game.specs.internal.Holders.{HasHolderFault}
 use Rattle.rbg_game.specs.internal.Things.{AddsBounds}
 use Rattle.rbg_game.specs.Faults.{HasFault, many_players, many_pieces, many_variables}
-use Rattle.rbg_game.proofs.NameFaults.{passed_on, AddsBounds-append, players_fault, variables_fault, pieces_fault}
+use Rattle.rbg_numbering.proofs.LookUps.{passed_on}
+use Rattle.rbg_game.proofs.NameFaults.{AddsBounds-append, players_fault, variables_fault, pieces_fault}
 use Rattle.rbg_game.proofs.checking.names.number_things.Goals as goal
 
 -- The table and the list that a call was given, by what they are.

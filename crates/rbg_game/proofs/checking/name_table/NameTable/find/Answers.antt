@@ -1,6 +1,0 @@
-use Rattle.rbg_syntax.specs.Views.{name_of}
-use Rattle.rbg_game.proofs.NameFaults.{unknown_alone}
-use Rattle.rbg_game.proofs.checking.name_table.NameTable.find.Goals as goal
-
-pub returns-in-None-clause-fault : goal.returns-in-None-clause-fault
-returns-in-None-clause-fault c = unknown_alone c.args.self.now (name_of c.args.name.now) (λ known. c.in-None.ensures (rw c.deref.ensures.value known))

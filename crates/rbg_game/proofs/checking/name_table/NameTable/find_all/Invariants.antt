@@ -1,8 +1,0 @@
-use Rattle.std.proofs.Common.{map, take}
-use Rattle.std.specs.List.{AllZip}
-use Rattle.rbg_syntax.specs.Views.{name_of}
-use Rattle.rbg_game.specs.Descriptions.{IsNumberOf}
-use Rattle.rbg_game.proofs.checking.name_table.NameTable.find_all.Given as goal
-
-abbrev pub invariant-loop-name : goal.invariant-loop-name
-invariant-loop-name l = AllZip (IsNumberOf l.self) (map name_of (take l.name-index l.names)) l.numbers.items

@@ -1,7 +1,0 @@
-use Rattle.std.proofs.Common.{◌≡◌, take}
-use Rattle.rbg_rules.specs.Texts.{texts}
-use Rattle.rbg_game.specs.internal.NameTables.{bytes_of}
-use Rattle.rbg_game.proofs.checking.name_table.NameTable.to_names.Given as goal
-
-abbrev pub invariant-loop-name : goal.invariant-loop-name
-invariant-loop-name l = texts l.names.items ≡ bytes_of (take l.name-index l.name-items)

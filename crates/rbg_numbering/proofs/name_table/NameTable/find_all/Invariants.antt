@@ -1,0 +1,8 @@
+use Rattle.std.proofs.Common.{map, take}
+use Rattle.std.specs.List.{AllZip}
+use Rattle.rbg_syntax.specs.Views.{name_of}
+use Rattle.rbg_numbering.specs.Names.{IsNumberOf}
+use Rattle.rbg_numbering.proofs.name_table.NameTable.find_all.Given as goal
+
+abbrev pub invariant-loop-name : goal.invariant-loop-name
+invariant-loop-name l = AllZip (IsNumberOf l.self) (map name_of (take l.name-index l.names)) l.numbers.items

@@ -1,0 +1,6 @@
+-- What the rules of a description are by numbers, and why they have none.
+pub mod Names
+pub mod Rules
+pub mod Faults
+pub mod NameTables
+pub mod PlainRules

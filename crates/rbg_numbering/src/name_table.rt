@@ -1,0 +1,118 @@
+//! Tables of names: the things of a description by their numbers, and the number of a name.
+ghost use Rattle.std.specs.Prelude.{◌≡◌, ◌≤◌, ◌^◌, [], ◌∷◌, ◌++◌, length, map, slice_get, Some, true, Contains};
+ghost use Rattle.std.specs.Prelude.{MatchOption, OnOk, OnErr, IfErr, IfOk, string_bytes};
+ghost use Rattle.std.specs.List.{AllZip};
+ghost use Rattle.rbg_base.specs.Names.{is_name};
+ghost use Rattle.rbg_syntax.specs.Views.{name_of};
+ghost use Rattle.rbg_rules.specs.Texts.{texts};
+ghost use Rattle.rbg_rules.specs.LawfulNames.{AreLawfulNames};
+ghost use Rattle.rbg_numbering.specs.Names.{IsNumberOf};
+ghost use Rattle.rbg_numbering.specs.NameTables.{HasLookUpFault, HasNameFault};
+
+use crate::error::GameError;
+use indexmap::IndexSet;
+use rbg_syntax::Name;
+use std::alloc::{AllocError, Global};
+use std::marker::Model;
+
+/// Different names, numbered from 0 in order of text.
+#[derive(Debug, Drop)]
+pub struct NameTable {
+    names: IndexSet<Vec<u8>>,
+}
+
+impl Model for NameTable {
+    ghost use Rattle.std.specs.Prelude.{ℕ, List};
+
+    ghost Value = { List (List ℕ) };
+
+    ghost use Rattle.rbg_numbering.specs.NameTables.{bytes_of};
+
+    ghost view = { λ table. bytes_of table.names.keys };
+
+    ghost use Rattle.rbg_rules.specs.LawfulNames.{AreLawfulNames};
+
+    ghost invariant = { λ table. AreLawfulNames (bytes_of table.names.keys) };
+}
+
+impl NameTable {
+    pub fn new(alloc: Global) -> NameTable
+        ensures { result ≡ [] }
+    {
+        NameTable {
+            names: IndexSet::new(alloc),
+        }
+    }
+
+    pub fn len(&self) -> usize
+        ensures count { result ≡ length self.now }
+        ensures lawful { AreLawfulNames self.now }
+    {
+        self.names.len()
+    }
+
+    /// The number of a name, if it is in the table.
+    pub fn number_of(&self, text: &[u8]) -> Option<usize>
+        ensures { MatchOption result (¬ Contains self.now text.now) (λ n. slice_get self.now n ≡ Some text.now) }
+    {
+        self.names.get_index_of(text)
+    }
+
+    /// The number of a name that a description uses.
+    pub fn find(&self, name: &Name) -> Result<u16, GameError>
+        requires { length self.now ≤ 2 ^ 16 }
+        ensures number { IfOk result (IsNumberOf self.now (name_of name.now)) }
+        ensures fault { IfErr result (HasLookUpFault self.now (name_of name.now ∷ [])) }
+    {
+        match self.number_of(&name.text) {
+            Some(number) => Ok(number as u16),
+            None => Err(GameError::UnknownName { at: name.at }),
+        }
+    }
+
+    /// The numbers of names that a description uses.
+    pub fn find_all(&self, alloc: Global, names: &[Name]) -> Result<Vec<u16>, GameError>
+        requires { length self.now ≤ 2 ^ 16 }
+        ensures numbers { IfOk result (λ ns. AllZip (IsNumberOf self.now) (map name_of names.now) ns.items) }
+        ensures fault { IfErr result (HasLookUpFault self.now (map name_of names.now)) }
+    {
+        let mut numbers = Vec::with_capacity(alloc, names.len())?;
+        for name in names {
+            numbers.push(self.find(name)?)?;
+        }
+        Ok(numbers)
+    }
+
+    /// Adds a name after the others.
+    pub fn insert(&mut self, name: &Name) -> Result<(), GameError>
+        ensures ok { OnOk result (self.new ≡ self.old ++ name.now.text.items ∷ []) }
+        ensures kept { OnErr result (self.new ≡ self.old) }
+        ensures fault { IfErr result (HasNameFault self.old (name_of name.now ∷ [])) }
+    {
+        if self.number_of(&name.text).is_some() {
+            return Err(GameError::SameName { at: name.at });
+        }
+        self.names.insert(name.text.clone()?)?;
+        Ok(())
+    }
+
+    /// The names in order of their numbers.
+    pub fn to_names(&self, alloc: Global) -> Result<Vec<String>, AllocError>
+        ensures { IfOk result (λ names. texts names.items ≡ self.now) }
+    {
+        let mut names = Vec::with_capacity(alloc, self.names.len())?;
+        for name in self.names.as_slice() {
+            names.push(name_text(name)?)?;
+        }
+        Ok(names)
+    }
+}
+
+/// The bytes of a name as a text: they are ASCII.
+#[tactic(auto, using(crate::proofs::NameLemmas::name_texts))]
+fn name_text(name: &Vec<u8>) -> Result<String, AllocError>
+    requires { is_name name.now.items ≡ true }
+    ensures { IfOk result (λ text. string_bytes text ≡ name.now.items) }
+{
+    Ok(String::from_utf8(name.clone()?).unwrap())
+}
