@@ -5,7 +5,7 @@ use Rattle.std.specs.Prelude.{All}
 use Rattle.std.proofs.Math.Seq.{take-append_seam}
 use Rattle.std.proofs.lemmas.List.{map-append, length-map}
 use Rattle.std.proofs.lemmas.Slice.Zip.{AllZip-long}
-use Rattle.rbg_syntax.specs.Plain.{IsPlain}
+use Rattle.rbg_syntax.specs.Formed.{IsWhole}
 use Rattle.rbg_syntax.specs.Tree.{SpeltBounded, SpeltBoard, rectangle, hexagon, graph, SpeltName, SpeltDescription}
 use Rattle.rbg_rules.specs.Expression.{Expression}
 use Rattle.rbg_rules.specs.Games.{IsGame, IsWithinLimits}
@@ -40,7 +40,7 @@ directions_known b (hexagon names rows) is = among_same (texts_of names) b.direc
 directions_known b (graph vertices) is = λ name has. is.directions.all name (among_same (texts_of (board_directions (graph vertices))) (directions_named vertices) (sym (texts_named vertices)) name has)
 
 -- What is wrong with the rules is wrong with the description.
-module _ (d : SpeltDescription) (things : Things) (board : NamedBoard) (plain : IsPlain d) (are : AreThingsOf d things) (makes : MakesBoard things.pieces d.board board.directions board.board) where
+module _ (d : SpeltDescription) (things : Things) (board : NamedBoard) (whole : IsWhole d) (are : AreThingsOf d things) (makes : MakesBoard things.pieces d.board board.directions board.board) where
   names_known : (purpose : Purpose) → IsAmong (names_for (names_spelt d) purpose) (names_for (rule_names things board) purpose)
   names_known as_direction = directions_known _ d.board makes.is_board
   names_known as_piece = among_same (texts_of d.pieces) things.pieces (sym are.pieces)
@@ -49,7 +49,7 @@ module _ (d : SpeltDescription) (things : Things) (board : NamedBoard) (plain : 
   pub rules_unlawful : (error : GameError) → HasRuleFault (rule_names things board) d.rules error → HasFault d error
   rules_unlawful error fault = in_rules (rule_fault_by (names_spelt d) (rule_names things board) d.rules error names_known fault)
 
-module _ (d : SpeltDescription) (things : Things) (board : NamedBoard) (rules : Expression) (plain : IsPlain d) (are : AreThingsOf d things)
+module _ (d : SpeltDescription) (things : Things) (board : NamedBoard) (rules : Expression) (whole : IsWhole d) (are : AreThingsOf d things)
     (makes : MakesBoard things.pieces d.board board.directions board.board) (by_numbers : IsRuleByNumbers (rule_names things board) d.rules rules) where
   limits : IsWithinLimits (game_by_numbers things board rules)
   limits =
@@ -57,9 +57,9 @@ module _ (d : SpeltDescription) (things : Things) (board : NamedBoard) (rules : 
       let pieces = ap length are.pieces ∙ length-map d.pieces (λ (n : SpeltName). n.text) in
       let P : List ℕ → Type 0 = λ bounds. All (λ bound. bound ≤ greatest_bound) bounds in
       record {
-        some_player = omega (arith, players, plain.some_player);
+        some_player = omega (arith, players, whole.some_player);
         players = are.player_limit;
-        some_piece = omega (arith, pieces, plain.some_piece);
+        some_piece = omega (arith, pieces, whole.some_piece);
         pieces = are.piece_limit;
         variables = are.variable_limit;
         bounds = subst P (sym are.bounds.after) are.bounds.limit;

@@ -1,8 +1,8 @@
 -- Names that join a table: the numbers that they have, and the order in which they are first used.
-use Rattle.std.proofs.Common.{◌≡◌, ◌≢◌, ℕ, ◌+◌, ◌<◌, ◌≤◌, inl, inr, List, [], ◌∷◌, ◌++◌, Some, length, get_or, map, slice_get, slice_index, Contains, refl, sym, ap, ◌∙◌, subst, arith}
-use Rattle.std.specs.List.{AllZip, range_with_len}
+use Rattle.std.proofs.Common.{◌≡◌, ◌≢◌, ℕ, ◌+◌, ◌<◌, ◌≤◌, inl, inr, List, [], ◌∷◌, ◌++◌, Some, length, map, slice_get, slice_index, Contains, append-nil, append_assoc, refl, sym, ap, ◌∙◌, subst, arith}
+use Rattle.std.specs.List.{range_with_len}
 use Rattle.std.proofs.lemmas.List.{length-map, length-append, map-append, get_or_append_left}
-use Rattle.std.proofs.lemmas.List.FromFn.{map-range_with_len_more, get_or-range_with_len, length-range_with_len}
+use Rattle.std.proofs.lemmas.List.FromFn.{map-range_with_len_more, get_or-range_with_len}
 use Rattle.std.proofs.lemmas.List.Elements.{Contains-append_left, Contains-append_right, Contains-append_cases}
 use Rattle.std.proofs.lemmas.Option.{slice_get_within}
 use Rattle.std.proofs.lemmas.Slice.Zip.{AllZip-long, all_zipped_more}
@@ -13,7 +13,7 @@ use Rattle.rbg_syntax.specs.Tree.{SpeltName}
 use Rattle.rbg_rules.specs.LawfulNames.{AreDifferentNames}
 use Rattle.rbg_numbering.specs.declared.error.GameError.{GameError}
 use Rattle.rbg_numbering.specs.declared.error.GameError.TheVariants as errors
-use Rattle.rbg_numbering.specs.Names.{IsNumberOf, texts_of}
+use Rattle.rbg_numbering.specs.Names.{IsNumberOf}
 use Rattle.rbg_game.specs.Descriptions.{IsOrderOfFirstUse}
 use Rattle.rbg_numbering.specs.NameTables.{HasNameFault, same_name, no_memory}
 use Rattle.rbg_game.specs.internal.Boards.{Joins, NumbersDirections}
@@ -57,7 +57,7 @@ still_differ old new text n joins differ = elim joins.table [
 -- Directions of rows.
 
 range_more : (n : ℕ) → range_with_len 0 (n + 1) ≡ range_with_len 0 n ++ n ∷ []
-range_more n = sym (map_same (range_with_len 0 (n + 1))) ∙ map-range_with_len_more (λ k. k) 0 n n refl ∙ ap (λ l. l ++ n ∷ []) (map_same (range_with_len 0 n))
+range_more n = sym (map_same (range_with_len 0 (n + 1))) ∙ map-range_with_len_more (λ k. k) 0 n n (omega arith) ∙ ap (λ l. l ++ n ∷ []) (map_same (range_with_len 0 n))
   where
     map_same : (xs : List ℕ) → map (λ k. k) xs ≡ xs
     map_same [] = refl
@@ -93,8 +93,8 @@ one_more_numbered names numbers old new name n h joins =
           elim joins.table [
             | inl known ↦
                 let below : n < length numbers = omega (arith, long, known.0, AllZip-long (IsNumberOf old) names numbers h.named) in
-                let at : slice_index numbers n ≡ n = ap (λ l. slice_index l n) before.0 ∙ get_or-range_with_len 0 (length names) n 0 (omega (arith, long, known.0)) in
-                absurd (last_differs numbers n n differ below at)
+                let at : slice_index numbers n ≡ 0 + n = ap (λ l. slice_index l n) before.0 ∙ get_or-range_with_len 0 (length names) n 0 (omega (arith, long, known.0)) in
+                absurd (last_differs numbers n n differ below (omega (arith, at)))
             | inr added ↦
                 let is : n ≡ length names = added.0 ∙ long in (
                   ap (λ l. l ++ n ∷ []) before.0 ∙ ap (λ k. range_with_len 0 (length names) ++ k ∷ []) is ∙ sym (range_more (length names)) ∙ ap (range_with_len 0) (sym count),
@@ -179,3 +179,11 @@ no_use =
   where
     nothing : (i : ℕ) (name : List ℕ) → slice_get [] i ≡ Some name → ⊥
     nothing i name at = let within = slice_get_within [] i name at in omega arith
+
+-- the directions of one more edge join the table
+pub adds_none : (table : List (List ℕ)) → AddsInOrder [] table table
+adds_none table = record { in_order = λ used order. subst (λ l. IsOrderOfFirstUse l table) (sym (append-nil used)) order }
+
+pub adds_one : (names old mid new : List (List ℕ)) (text : List ℕ) (n : ℕ) → AddsInOrder names old mid → Joins mid new text n → AddsInOrder (names ++ text ∷ []) old new
+adds_one names old mid new text n h joins =
+    record { in_order = λ used order. subst (λ l. IsOrderOfFirstUse l new) (append_assoc used names (text ∷ [])) (first_use_join (used ++ names) mid new text n joins (h.in_order used order)) }

@@ -4,6 +4,7 @@ pub mod BoardNames
 pub mod Joining
 pub mod NamedRows
 pub mod NamedGraphs
+pub mod GraphSteps
 pub mod GraphFaults
 pub mod Assembly
 pub mod FaultLaw

@@ -1,15 +1,14 @@
 -- Graphs by the numbers of their names: the board, and what is wrong with it.
-use Rattle.std.proofs.Common.{◌≡◌, ◌≢◌, ℕ, zero, suc, ◌+◌, ◌<◌, ◌≤◌, inl, inr, List, [], ◌∷◌, Some, length, get_or, map, slice_get, Contains, All, refl, sym, ap, ◌∙◌, subst, arith}
+use Rattle.std.proofs.Common.{◌≡◌, ◌≢◌, ℕ, suc, ◌<◌, ◌≤◌, inl, inr, List, [], ◌∷◌, Some, length, get_or, map, slice_get, Contains, All, refl, sym, ap, ◌∙◌, subst, arith}
 use Rattle.std.specs.Prelude.{Any}
 use Rattle.std.specs.List.{AllZip}
-use Rattle.std.proofs.lemmas.List.{length-map, get_or-map}
+use Rattle.std.proofs.lemmas.List.{length-map, get_or-map, get_or_default}
 use Rattle.std.proofs.lemmas.List.Elements.{All-nil, All-cons, All-contains}
-use Rattle.std.proofs.lemmas.Option.{slice_get_within, slice_get-get_or, same_Some}
+use Rattle.std.proofs.lemmas.Option.{slice_get_within, slice_get-get_or}
 use Rattle.std.proofs.lemmas.Slice.Zip.{AllZip-long}
-use Rattle.rbg_base.proofs.CallerLemmas.{Contains-from_get}
 use Rattle.rbg_board.specs.Cells.{HasTwice, width_of}
 use Rattle.rbg_board.specs.Graph.{Graph, HasWidth}
-use Rattle.rbg_board.specs.Written.{Written, names_of, pieces_of, directions_in, directions_of, IsWritten, MakesGraph, GraphRefusal, TargetsKnown}
+use Rattle.rbg_board.specs.Written.{Written, names_of, directions_in, directions_of, IsWritten, MakesGraph, GraphRefusal, TargetsKnown}
 use Rattle.rbg_board.specs.declared.error.BoardError.{BoardError}
 use Rattle.rbg_board.specs.declared.error.BoardError.TheVariants as board_errors
 use Rattle.rbg_syntax.specs.Tree.{SpeltName, SpeltEdge, SpeltVertex, graph}
@@ -53,7 +52,7 @@ partner : {A B : Type 0} (R : A → B → Type 0) (Q : B → Type 0) (xs : List 
 partner R Q [] ys all (k, y, within, at, holds) = absurd (let long = AllZip-long R [] ys all in omega (arith, long, within))
 partner {A} R Q (x ∷ xs) ys all (k, y, within, at, holds) =
     let inside : k < length (x ∷ xs) = omega (arith, AllZip-long R (x ∷ xs) ys all, within) in
-    (get_or (x ∷ xs) k x, y, (k, inside, refl), subst (R (get_or (x ∷ xs) k x)) at (AllZip-at R (x ∷ xs) ys k x y all inside), holds)
+    (get_or (x ∷ xs) k x, y, (k, inside, get_or_default (x ∷ xs) k (get_or (x ∷ xs) k x) x inside), subst (R (get_or (x ∷ xs) k x)) at (AllZip-at R (x ∷ xs) ys k x y all inside), holds)
 
 -- the texts by their numbers in a list
 abbrev AreNumbered : List (List ℕ) → List (List ℕ) → List ℕ → Type 0

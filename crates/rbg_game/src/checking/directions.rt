@@ -35,8 +35,8 @@ pub(crate) fn number_directions(
     ensures memory { IfErr result (λ error. error ≡ GameError.Memory) }
 {
     let mut table = NameTable::new(alloc);
-    for (i, name) in names.iter().enumerate() {
-        numbers[i] = join(&mut table, name)? as u16;
+    for (place, name) in names.iter().enumerate() {
+        numbers[place] = join(&mut table, name)? as u16;
     }
     Ok(table)
 }

@@ -4,6 +4,7 @@ ghost use Rattle.std.specs.List.{AllZip};
 ghost use Rattle.rbg_board.specs.Vertices.{written_of};
 ghost use Rattle.rbg_syntax.specs.Tree.{graph};
 ghost use Rattle.rbg_syntax.specs.Views.{edge_of, vertex_of};
+ghost use Rattle.rbg_rules.specs.LawfulNames.{AreDifferentNames};
 ghost use Rattle.rbg_numbering.specs.Names.{IsNumberOf};
 ghost use Rattle.rbg_game.specs.Descriptions.{IsOrderOfFirstUse, directions_named, vertex_names};
 ghost use Rattle.rbg_game.specs.Faults.{HasBoardFault, board_pieces};
@@ -63,6 +64,7 @@ fn name_directions(alloc: Global, vertices: &[Vertex]) -> Result<NameTable, Game
 /// The names of vertices, which have to differ.
 fn name_vertices(alloc: Global, vertices: &[Vertex]) -> Result<NameTable, GameError>
     ensures names { IfOk result (λ names. names ≡ vertex_names (map vertex_of vertices.now)) }
+    ensures differ { IfOk result AreDifferentNames }
     ensures fault { IfErr result
         (λ error. (pieces : List (List ℕ)) → HasBoardFault pieces (graph (map vertex_of vertices.now)) error) }
 {
@@ -119,10 +121,11 @@ fn number_cells(
 {
     let mut cells = Vec::with_capacity(alloc, vertices.len())?;
     for (place, vertex) in vertices.iter().enumerate() {
+        let edges = number_edges(alloc, directions, names, &vertex.edges)?;
         cells.push(Cell {
             name: place as u32,
             piece: pieces[place],
-            edges: number_edges(alloc, directions, names, &vertex.edges)?,
+            edges,
         })?;
     }
     Ok(cells)
