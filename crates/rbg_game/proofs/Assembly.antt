@@ -9,23 +9,23 @@ use Rattle.rbg_syntax.specs.Formed.{IsWhole}
 use Rattle.rbg_syntax.specs.Tree.{SpeltBounded, SpeltBoard, rectangle, hexagon, graph, SpeltName, SpeltDescription}
 use Rattle.rbg_rules.specs.Expression.{Expression}
 use Rattle.rbg_rules.specs.Games.{IsGame, IsWithinLimits}
-use Rattle.rbg_rules.specs.Limits.{greatest_bound, most_nested_patterns}
+use Rattle.rbg_rules.specs.Limits.{greatest_bound}
 use Rattle.rbg_game.specs.declared.checking.boards.NamedBoard.{NamedBoard}
 use Rattle.rbg_game.specs.declared.checking.names.Things.{Things}
 use Rattle.rbg_numbering.specs.declared.error.GameError.{GameError}
 use Rattle.rbg_numbering.specs.Names.{Names, texts_of}
 use Rattle.rbg_game.specs.Descriptions.{NamedBoard as BoardByNames, BoardIs, directions_named, holder_names, holders_of, AreBounds, IsGameOf}
-use Rattle.rbg_numbering.specs.Faults.{Purpose, as_direction, as_piece, as_player, names_for, HasRuleFault}
+use Rattle.rbg_numbering.specs.Faults.{Purpose, as_direction, as_piece, as_player, as_variable, names_for, HasRuleFault}
 use Rattle.rbg_game.specs.Faults.{HasBoardFault, board_directions, names_spelt, HasFault, in_board, in_rules}
 use Rattle.rbg_game.specs.internal.Boards.{MakesBoard}
-use Rattle.rbg_numbering.specs.PlainRules.{IsRuleByNumbers}
+use Rattle.rbg_numbering.specs.Numbered.{IsRuleByNumbers}
 use Rattle.rbg_game.specs.internal.Things.{AreThingsOf, game_by_numbers}
 use Rattle.rbg_numbering.proofs.RuleFaults.{IsAmong, among_same, rule_fault_by}
 use Rattle.rbg_game.proofs.FaultLaw.{texts_named}
 
--- The names by which plain rules are numbered.
+-- The names by which the rules are numbered.
 abbrev pub rule_names : Things → NamedBoard → Names
-rule_names things board = record { players = things.players; variables = []; pieces = things.pieces; directions = board.directions }
+rule_names things board = record { players = things.players; variables = things.variables; pieces = things.pieces; directions = board.directions }
 
 -- What is wrong with the board is wrong with the description.
 pub board_unlawful : (d : SpeltDescription) (things : Things) → AreThingsOf d things → (error : GameError) → HasBoardFault things.pieces d.board error → HasFault d error
@@ -45,6 +45,7 @@ module _ (d : SpeltDescription) (things : Things) (board : NamedBoard) (whole : 
   names_known as_direction = directions_known _ d.board makes.is_board
   names_known as_piece = among_same (texts_of d.pieces) things.pieces (sym are.pieces)
   names_known as_player = among_same (holder_names d.players) things.players (sym are.players)
+  names_known as_variable = among_same (holder_names (holders_of d)) things.variables (sym are.variables)
 
   pub rules_unlawful : (error : GameError) → HasRuleFault (rule_names things board) d.rules error → HasFault d error
   rules_unlawful error fault = in_rules (rule_fault_by (names_spelt d) (rule_names things board) d.rules error names_known fault)
@@ -66,7 +67,7 @@ module _ (d : SpeltDescription) (things : Things) (board : NamedBoard) (rules : 
         directions = makes.few;
         vertices = makes.vertices.limit;
         positions = by_numbers.positions;
-        nesting = by_numbers.nesting most_nested_patterns;
+        nesting = by_numbers.nesting;
       }
 
   lawful : IsGame (game_by_numbers things board rules)
@@ -76,8 +77,8 @@ module _ (d : SpeltDescription) (things : Things) (board : NamedBoard) (rules : 
       record {
         numbered = by_numbers.numbered;
         no_empty_sum = by_numbers.no_empty_sum;
-        actions = by_numbers.actions (game_by_numbers things board rules) refl refl refl;
-        switches = λ p x level q n has. by_numbers.no_pattern p x level;
+        actions = by_numbers.actions (game_by_numbers things board rules) (record { players = refl; variables = refl; pieces = refl; directions = refl });
+        switches = by_numbers.switches;
         scores =
             ap (λ players. take (length players) things.variables) are.players
             ∙ ap (take (length (holder_names d.players))) (are.variables ∙ all)
@@ -106,6 +107,6 @@ module _ (d : SpeltDescription) (things : Things) (board : NamedBoard) (rules : 
         pieces = are.pieces;
         bounds = subst P (sym are.bounds.after) are.bounds.bounds;
         board = makes.is_board;
-        rules = by_numbers.rules things.variables;
+        rules = by_numbers.is_rule;
         lawful = lawful;
       }

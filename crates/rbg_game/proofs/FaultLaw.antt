@@ -22,7 +22,7 @@ use Rattle.rbg_game.specs.Descriptions.{names_in}
 use Rattle.rbg_game.specs.Descriptions.{NamedBoard, board_in, IsRectangleBoard, IsHexagonBoard, IsGraphBoard, VertexIs, BoardIs, directions_named}
 use Rattle.rbg_game.specs.Descriptions.{holder_names, holders_of, AreBounds, IsGameOf}
 use Rattle.rbg_game.specs.Faults.{StandsAgain, HasGreatBound, HaveOneName, HasRowsFault, HasBoardFault, unknown_piece, many_directions, no_rectangle, no_hexagon, no_graph, board_memory}
-use Rattle.rbg_numbering.specs.Faults.{Purpose, as_direction, as_piece, as_player, names_for}
+use Rattle.rbg_numbering.specs.Faults.{Purpose, as_direction, as_piece, as_player, as_variable, names_for}
 use Rattle.rbg_game.specs.Faults.{board_directions, board_pieces, names_of_holders, names_spelt}
 use Rattle.rbg_game.specs.Faults.{same_holder, same_piece, great_bound, many_players, many_pieces, many_variables, in_board, in_rules, memory}
 use Rattle.rbg_game.specs.OneGame.{NoGameWithFaultLaw}
@@ -156,6 +156,7 @@ names_among : (d : SpeltDescription) (game : AbstractGame) → IsGameOf d game �
 names_among d game is as_direction = directions_spelt (board_in game) d.board is.board
 names_among d game is as_piece = among_same game.pieces (texts_of d.pieces) is.pieces
 names_among d game is as_player = among_same game.players (holder_names d.players) is.players
+names_among d game is as_variable = among_same game.variables (holder_names (holders_of d)) is.variables
 
 pub no_game_with_fault : NoGameWithFaultLaw
 no_game_with_fault d _ (same_holder {at = at} h) other game is = again_unlawful (names_of_holders d) at h (lawful_holders d game is).differ
@@ -167,5 +168,5 @@ no_game_with_fault d _ (many_variables many) other game is = absurd (omega (arit
 no_game_with_fault d error (in_board h) other game is =
     board_fault_fails (board_in game) d.board error (subst (λ pieces. HasBoardFault pieces d.board error) (sym is.pieces) h) other is.lawful.piece_names.differ is.lawful.limits.directions is.board
 no_game_with_fault d error (in_rules h) other game is =
-    rule_fault_fails (names_in game) d.rules error game.rules (rule_fault_by (names_in game) (names_spelt d) d.rules error (names_among d game is) h) other is.lawful.limits.positions is.rules
+    rule_fault_fails (names_in game) d.rules error game.rules (rule_fault_by (names_in game) (names_spelt d) d.rules error (names_among d game is) h) other is.lawful.limits.positions is.lawful.limits.nesting is.lawful.switches is.rules
 no_game_with_fault d _ memory other game is = other refl

@@ -21,12 +21,12 @@ returns-in_err-rules-clause-fault c =
     let d = description_of_parts c.args.parts.now in
     let error = c.in_err-rules.field-0.0 in
     passed_on c.from_residual-in_err-rules.result error (HasFault d) c.from_residual-in_err-rules.ensures.1
-    (rules_unlawful d c.in_ok-things.things c.in_ok-board.board c.requires.whole c.in_ok-things.ensures.things c.in_ok-board.ensures.board error c.in_err-rules.ensures.fault)
+    (rules_unlawful d c.in_ok-things.things c.in_ok-board.board c.requires c.in_ok-things.ensures.things c.in_ok-board.ensures.board error c.in_err-rules.ensures.fault)
 
 pub assemble-requires-clause-lawful : goal.assemble-requires-clause-lawful
 assemble-requires-clause-lawful c =
     let d = description_of_parts c.args.parts.now in
-    let is = game_made d c.in_ok-things.things c.in_ok-board.board (rules_of c.in_ok-rules.rules) c.requires.whole c.in_ok-things.ensures.things c.in_ok-board.ensures.board c.in_ok-rules.ensures.rules.by_numbers in
+    let is = game_made d c.in_ok-things.things c.in_ok-board.board (rules_of c.in_ok-rules.rules) c.requires c.in_ok-things.ensures.things c.in_ok-board.ensures.board c.in_ok-rules.ensures.rules.by_numbers in
     is.lawful
 
 pub returns-in_err-assemble-clause-fault : goal.returns-in_err-assemble-clause-fault
@@ -37,7 +37,7 @@ returns-in_err-assemble-clause-fault c =
 pub returns-clause-game : goal.returns-clause-game
 returns-clause-game c =
     let d = description_of_parts c.args.parts.now in
-    let is = game_made d c.in_ok-things.things c.in_ok-board.board (rules_of c.in_ok-rules.rules) c.requires.whole c.in_ok-things.ensures.things c.in_ok-board.ensures.board c.in_ok-rules.ensures.rules.by_numbers in
+    let is = game_made d c.in_ok-things.things c.in_ok-board.board (rules_of c.in_ok-rules.rules) c.requires c.in_ok-things.ensures.things c.in_ok-board.ensures.board c.in_ok-rules.ensures.rules.by_numbers in
     let P : AbstractGame → Type 0 = λ game. IsGameOf d game in
     subst P (sym c.in_ok-assemble.ensures) is
 
