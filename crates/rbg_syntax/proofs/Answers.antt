@@ -3,10 +3,22 @@ use Rattle.std.proofs.Common.{◌≡◌, ℕ, List, [], ◌∷◌, Result, Ok, E
 use Rattle.rbg_macro.specs.Token.{Lexeme}
 use Rattle.rbg_syntax.specs.declared.error.SyntaxError.{SyntaxError}
 use Rattle.rbg_syntax.specs.declared.error.SyntaxError.TheVariants as errors
-use Rattle.rbg_syntax.specs.Reading.{Fault, misfit, Reading, Gives, Fails, ended_at, whole_at}
-use Rattle.rbg_syntax.specs.Spells.{Reads}
+use Rattle.rbg_syntax.specs.internal.Reading.{Fault, misfit, Reading, Gives, Fails, FailsWithin, ended_at, whole_at}
 use Rattle.rbg_syntax.proofs.Readers.{IsReadBy, bind_ok, ok_one}
-use Rattle.rbg_syntax.proofs.Turns.{Fails-from}
+use Rattle.rbg_syntax.proofs.Turns.{Fails-from, FailsWithin-shallow}
+
+-- What is returned for one section: the only value that its tokens spell, or that they spell none, unless memory ran
+-- out.
+abbrev pub Reads : {A B : Type 0} → (List Lexeme → B → List Lexeme → Type 0) → (A → B) → List Lexeme → Result A SyntaxError → Type 0
+Reads {A} {B} P view ts (Ok x) = P ts (view x) [] × ((y : B) → P ts y [] → y ≡ view x)
+Reads {A} {B} P view ts (Err (errors.Expected at what)) = (y : B) → P ts y [] → ⊥
+Reads P view ts (Err (errors.MissingSection which)) = ⊥
+Reads P view ts (Err (errors.SectionTwice which)) = ⊥
+Reads P view ts (Err (errors.TooDeep at)) = ⊥
+Reads P view ts (Err errors.Memory) = Unit {0}
+
+pub ok_value : {A : Type 0} (x y : A) → ◌≡◌ {A = Result A Fault} (Ok x) (Ok y) → x ≡ y
+ok_value x y e = cc
 
 ended : {A : Type 0} (x y : A) (ts : List Lexeme) → ended_at x ts ≡ Ok y → (x ≡ y) × (ts ≡ [])
 ended x y [] e = (cc, refl)
@@ -23,7 +35,11 @@ ended_at-err x (t ∷ ts) f e = cc
 pub Fails-ended_at : {A : Type 0} (x : A) (ts : List Lexeme) (e : SyntaxError) → Fails e (ended_at {A = Unit {0}} tt ts) → Fails e (ended_at x ts)
 Fails-ended_at x ts e h = Fails-from e (ended_at tt ts) (ended_at x ts) (ended_at-err x ts) h
 
-pub ruleset endings = (ended_at-ok, Fails-ended_at)
+-- the same, for rules
+pub FailsWithin-ended_at : {A : Type 0} (x : A) (ts : List Lexeme) (e : SyntaxError) → Fails e (ended_at {A = Unit {0}} tt ts) → FailsWithin e (ended_at x ts)
+FailsWithin-ended_at x ts e h = FailsWithin-shallow e (ended_at x ts) (Fails-ended_at x ts e h)
+
+pub ruleset endings = (ended_at-ok, Fails-ended_at, FailsWithin-ended_at)
 
 same_pair : {A : Type 0} (q : A × List Lexeme) (x : A) → q.0 ≡ x → q.1 ≡ [] → ◌≡◌ {A = Reading A} (Ok q) (Ok (x, []))
 same_pair q x e f = λ i. Ok (e i, f i)
@@ -32,11 +48,11 @@ err_no_ok : {A : Type 0} (r : Result A Fault) (f : Fault) (x : A) → r ≡ Err 
 err_no_ok r f x e g = cc
 
 module _ {B : Type 0} (least : ℕ) (P : List Lexeme → B → List Lexeme → Type 0) (Follow : List Lexeme → Type 0) (read : List Lexeme → Reading B) (reads : IsReadBy least P Follow read) (follows : Follow []) (ts : List Lexeme) where
-  whole_complete : (y : B) → P ts y [] → whole_at read ts ≡ Ok y
+  pub whole_complete : (y : B) → P ts y [] → whole_at read ts ≡ Ok y
   unfolding whole_at
   whole_complete y d = rw (reads.complete ts y [] d follows)
 
-  whole_sound : (y : B) → whole_at read ts ≡ Ok y → P ts y []
+  pub whole_sound : (y : B) → whole_at read ts ≡ Ok y → P ts y []
   unfolding whole_at
   whole_sound y e =
       let (q, first, last) = bind_ok _ _ _ e in

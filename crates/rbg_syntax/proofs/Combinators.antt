@@ -5,7 +5,7 @@ use Rattle.rbg_macro.specs.declared.token.Symbol.{Symbol}
 use Rattle.rbg_macro.specs.declared.token.Symbol.TheVariants.{Comma}
 use Rattle.rbg_macro.specs.declared.token.TokenKind.{TokenKind}
 use Rattle.rbg_syntax.specs.Phrase.{Repeated, done, again, After, after, Separated, separated, Listed, nothing, listed, Within, within, WithComma, with_comma}
-use Rattle.rbg_syntax.specs.Reading.{Reading, ◌>>=◌, next_is, is_symbol, symbol_at, repeated_within, repeated_at, after_at, separated_at, listed_at, within_at, with_comma_at}
+use Rattle.rbg_syntax.specs.internal.Reading.{Reading, ◌>>=◌, next_is, is_symbol, symbol_at, repeated_within, repeated_at, after_at, separated_at, listed_at, within_at, with_comma_at}
 use Rattle.rbg_syntax.proofs.Readers.{bind_ok, ok_one, IsReadBy, Always, symbol_read, symbol_next}
 
 -- each phrase begins with a token that passes the test, and such a token may follow a phrase

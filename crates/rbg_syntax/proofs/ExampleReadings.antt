@@ -1,11 +1,16 @@
 -- The examples, by what is read of their tokens.
-use Rattle.std.proofs.Common.{◌≡◌, ℕ, zero, suc, List, [], ◌∷◌, Result, Ok, Err, refl, ap, sym, ◌∙◌}
+use Rattle.std.proofs.Common.{◌≡◌, ℕ, zero, suc, List, [], ◌∷◌, Result, Ok, Err, ◌++◌, refl, ap, sym, ◌∙◌, subst, arith}
+use Rattle.std.specs.Prelude.{replicate}
 use Rattle.rbg_macro.specs.Token.{Lexeme}
 use Rattle.rbg_macro.specs.declared.token.Symbol.TheVariants as symbols
-use Rattle.rbg_syntax.specs.Examples.{sign, letter, letter_name, in_parentheses, SumInParentheses, NegatedFactor, StarredAssignments, DeepestBrackets, TooManyBrackets, TwoStars, TwoMinuses}
-use Rattle.rbg_syntax.specs.Reading.{Fault, misfit, too_deep, symbol_at, name_at, repeated_at, after_at, separated_at, within_at, open_atom_at}
-use Rattle.rbg_syntax.specs.RuleReading.{number_or_name_at, factor_at, further_factor_at, term_at, further_term_at, sum_over_at, primary_at, sum_at, assignment_at, assignments_at, in_brackets_at, bracket_atom_at, item_at, sequence_at, rules_over_at, atom_at, rules_at}
+use Rattle.rbg_syntax.specs.Examples.{sign, letter, letter_name, in_parentheses, SumInParentheses, NegatedFactor, StarredAssignments, DeepestBrackets, TooManyBrackets, TwoStars, TwoMinuses, TooDeepAlone, MisspeltAlone}
+use Rattle.rbg_syntax.specs.internal.Reading.{Fault, misfit, too_deep, symbol_at, name_at, repeated_at, after_at, separated_at, within_at, open_atom_at, whole_at}
+use Rattle.rbg_syntax.specs.internal.RuleReading.{number_or_name_at, factor_at, further_factor_at, term_at, further_term_at, sum_over_at, primary_at, sum_at, assignment_at, assignments_at, in_brackets_at, bracket_atom_at, item_at, sequence_at, rules_over_at, atom_at, rules_at}
 use Rattle.rbg_syntax.specs.Tree.{SpeltRule, act, shift, star}
+use Rattle.rbg_macro.specs.declared.source.SectionKind.TheVariants.{Rules}
+use Rattle.rbg_syntax.specs.Grammar.{AreRules}
+use Rattle.rbg_syntax.specs.Spells.{IsSpelt, open_after}
+use Rattle.rbg_syntax.proofs.Depths.{spells_nothing, too_deep_here}
 use Rattle.rbg_syntax.proofs.Readers.{ok_one}
 use Rattle.rbg_syntax.proofs.RuleReaders.{rules_read, nothing_ends_rules}
 use Rattle.rbg_syntax.proofs.SumReaders.{sum_read, EndsSum}
@@ -62,3 +67,31 @@ pub two_minuses : TwoMinuses
 unfolding sum_at sum_over_at term_at factor_at primary_at number_or_name_at symbol_at name_at after_at
 two_minuses zero e d = err_no_ok (sum_at zero minuses) misfit (e, []) refl ((sum_read zero).complete minuses e [] d nothing_ends_sum)
 two_minuses (suc n) e d = err_no_ok (sum_at (suc n) minuses) misfit (e, []) refl ((sum_read (suc n)).complete minuses e [] d nothing_ends_sum)
+
+pub too_deep_alone : TooDeepAlone
+unfolding whole_at rules_at atom_at rules_over_at sequence_at item_at bracket_atom_at open_atom_at separated_at symbol_at name_at repeated_at after_at within_at
+too_deep_alone = record {
+  deep = too_deep_here 0 (in_parentheses 129) refl;
+  spelt = (rules_read 129).sound _ _ [] refl;
+}
+
+-- nothing begins with a closing parenthesis
+closing_misfit : (ts : List Lexeme) → whole_at (rules_at 0) (sign symbols.CloseParenthesis 0 ∷ ts) ≡ Err misfit
+unfolding whole_at rules_at atom_at rules_over_at sequence_at item_at open_atom_at separated_at symbol_at
+closing_misfit ts = refl
+
+closing_spells_nothing : (k : ℕ) (ts : List Lexeme) (r : SpeltRule) → AreRules k (sign symbols.CloseParenthesis 0 ∷ ts) r [] → ⊥
+closing_spells_nothing k ts r d = spells_nothing 0 k (sign symbols.CloseParenthesis 0 ∷ ts) r (closing_misfit ts) d
+
+closing_not_deep : (ts before : List Lexeme) (bracket : Lexeme) (behind rest : List Lexeme) → sign symbols.CloseParenthesis 0 ∷ ts ≡ before ++ bracket ∷ behind → open_after 0 before ≡ 128
+    → IsSpelt Rules (before ++ bracket ∷ rest) → ⊥
+closing_not_deep ts [] bracket behind rest whole depth spelt = absurd (omega (arith, depth))
+closing_not_deep ts (t ∷ before) bracket behind rest whole depth spelt =
+    let first : sign symbols.CloseParenthesis 0 ≡ t = cc in
+    closing_spells_nothing spelt.0 (before ++ bracket ∷ rest) spelt.1.0 (subst (λ u. AreRules spelt.0 (u ∷ (before ++ bracket ∷ rest)) spelt.1.0 []) (sym first) spelt.1.1)
+
+pub misspelt_alone : MisspeltAlone
+misspelt_alone = record {
+  spells_nothing = λ k r d. closing_spells_nothing k (replicate 129 (sign symbols.OpenParenthesis 1)) r d;
+  not_deep = λ at h. closing_not_deep (replicate 129 (sign symbols.OpenParenthesis 1)) h.before h.bracket h.behind h.other h.whole h.depth h.fits;
+}

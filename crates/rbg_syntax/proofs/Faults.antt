@@ -1,18 +1,19 @@
 -- Where a fault stands, the sections spell no description.
-use Rattle.std.proofs.Common.{◌≡◌, ◌≤◌, List, [], ◌∷◌, length, refl, sym, ap, ◌∙◌, arith, inl, inr}
+use Rattle.std.proofs.Common.{◌≡◌, ◌≤◌, List, [], ◌∷◌, length, Result, Ok, Err, refl, sym, ap, ◌∙◌, arith, inl, inr}
+use Rattle.std.specs.Prelude.{IsErrAnd, IfErr}
 use Rattle.rbg_macro.specs.Token.{Lexeme, SectionTokens}
 use Rattle.rbg_macro.specs.declared.source.SectionKind.{SectionKind}
 use Rattle.rbg_macro.specs.declared.source.SectionKind.TheVariants.{Players, Pieces, Variables, Board, Rules}
+use Rattle.rbg_syntax.specs.declared.description.Description.{Description}
 use Rattle.rbg_syntax.specs.declared.error.SyntaxError.{SyntaxError}
 use Rattle.rbg_syntax.specs.declared.error.SyntaxError.TheVariants as errors
 use Rattle.rbg_syntax.specs.Grammar.{AreVariables}
-use Rattle.rbg_syntax.specs.Laws.{IsLeftOpen}
 use Rattle.rbg_syntax.specs.Sections.{sections_of, count_of, IsTwice}
-use Rattle.rbg_syntax.specs.Spells.{HasSection, IsSection, MayHaveVariables, Spells, SpellsOneWord, IsSpelt, IsReadable, HasFaultBy, IsMisspelt, IsUnreadable, HasFault, HasWholeFault}
+use Rattle.rbg_syntax.specs.Spells.{HasSection, IsSection, MayHaveVariables, Spells, IsSpelt, HasFault, IsAnswer}
 use Rattle.rbg_syntax.specs.Tree.{SpeltBounded, SpeltDescription}
-use Rattle.rbg_syntax.proofs.Descriptions.{spelt_here}
+use Rattle.rbg_syntax.proofs.OneDescription.{spelt_here}
 use Rattle.rbg_syntax.proofs.SectionLists.{twice_counted}
-use Rattle.rbg_syntax.proofs.Wider.{spelt_wider}
+use Rattle.rbg_syntax.proofs.Depths.{too_deep_spells_nothing}
 
 is_one : {sections : List SectionTokens} {kind : SectionKind} {A : Type 0} {P : List Lexeme → A → List Lexeme → Type 0} {x : A} → IsSection sections kind P x → count_of kind sections ≡ 1
 is_one s = ap length s.has.only
@@ -48,31 +49,29 @@ spelt_kind sections d s Variables ts has = (d.variables, variables_spelt has s.v
 spelt_kind sections d s Board ts has = (d.board, spelt_here has s.board)
 spelt_kind sections d s Rules ts has = (128, (d.rules, spelt_here has s.rules))
 
-readable_kind : (sections : List SectionTokens) (d : SpeltDescription) → SpellsOneWord sections d → (kind : SectionKind) (ts : List Lexeme) → HasSection sections kind ts → IsReadable kind ts
-readable_kind sections d s Players ts has = (d.players, spelt_here has s.players)
-readable_kind sections d s Pieces ts has = (d.pieces, spelt_here has s.pieces)
-readable_kind sections d s Variables ts has = let wrong : [] ≡ has.section ∷ [] = sym s.variables.0 ∙ has.only in cc
-readable_kind sections d s Board ts has = (d.board, spelt_here has s.board)
-readable_kind sections d s Rules ts has = (d.rules, spelt_here has s.rules)
-
-module _ (Misspelt : List SectionTokens → Type 0) (sections : List SectionTokens) (d : SpeltDescription) (s : Spells sections d) (spelt : Misspelt sections → ⊥) where
-  fault_left_open : (e : SyntaxError) → HasFaultBy Misspelt sections e → IsLeftOpen e
-  fault_left_open (errors.Expected at what) h = spelt h
-  fault_left_open (errors.MissingSection which) h = not_missing sections d s which h.1 h.0
-  fault_left_open (errors.SectionTwice which) h = omega (arith, twice_counted sections which h, one_section sections d s which)
-  fault_left_open (errors.TooDeep at) h = tt
-  fault_left_open errors.Memory h = tt
-
-pub whole_fault : (sections : List SectionTokens) (d : SpeltDescription) (e : SyntaxError) → Spells sections d → HasWholeFault sections e → IsLeftOpen e
-whole_fault sections d e s h = fault_left_open IsMisspelt sections d s (λ m. m.spells_nothing (spelt_kind sections d s m.kind m.ts m.has)) e h
-
-pub fault : (sections : List SectionTokens) (d : SpeltDescription) (e : SyntaxError) → SpellsOneWord sections d → HasFault sections e → IsLeftOpen e
-fault sections d e s h = fault_left_open IsUnreadable sections d (spelt_wider sections d s) (λ m. m.spells_nothing (readable_kind sections d s m.kind m.ts m.has)) e h
+pub fault : (sections : List SectionTokens) (d : SpeltDescription) (e : SyntaxError) → Spells sections d → HasFault sections e → e ≡ errors.Memory
+fault sections d (errors.Expected at what) s h = absurd (h.spells_nothing (spelt_kind sections d s h.kind h.ts h.has))
+fault sections d (errors.MissingSection which) s h = absurd (not_missing sections d s which h.1 h.0)
+fault sections d (errors.SectionTwice which) s h = absurd (omega (arith, twice_counted sections which h, one_section sections d s which))
+fault sections d (errors.TooDeep at) s h = absurd (too_deep_spells_nothing h.ts at d.rules h.deep (spelt_here h.has s.rules))
+fault sections d errors.Memory s h = refl
 
 -- no section stands twice where a description is spelt
-pub not_twice : (sections : List SectionTokens) (d : SpeltDescription) (e : SyntaxError) → SpellsOneWord sections d → IsTwice sections e → ⊥
+pub not_twice : (sections : List SectionTokens) (d : SpeltDescription) (e : SyntaxError) → Spells sections d → IsTwice sections e → ⊥
 not_twice sections d (errors.Expected at what) s h = h
 not_twice sections d (errors.MissingSection which) s h = h
-not_twice sections d (errors.SectionTwice which) s h = omega (arith, twice_counted sections which h, one_section sections d (spelt_wider sections d s) which)
+not_twice sections d (errors.SectionTwice which) s h = omega (arith, twice_counted sections which h, one_section sections d s which)
 not_twice sections d (errors.TooDeep at) s h = h
 not_twice sections d errors.Memory s h = h
+
+-- beside a description, what returns an error that stands is out of memory
+answer_err : (d : SpeltDescription) (r : Result Description SyntaxError) (e : SyntaxError) → IsErrAnd r (λ f. f ≡ e) → e ≡ errors.Memory → IsAnswer d r
+answer_err d (Ok x) e is h = absurd is
+answer_err d (Err f) e is h = is ∙ h
+
+pub fault_only : (sections : List SectionTokens) (r : Result Description SyntaxError) (e : SyntaxError) → IsErrAnd r (λ f. f ≡ e) → HasFault sections e → (d : SpeltDescription) → Spells sections d → IsAnswer d r
+fault_only sections r e is h d s = answer_err d r e is (fault sections d e s h)
+
+pub fault_err : (sections : List SectionTokens) (r : Result Description SyntaxError) (e : SyntaxError) → IsErrAnd r (λ f. f ≡ e) → HasFault sections e → IfErr r (HasFault sections)
+fault_err sections (Ok x) e is h = absurd is
+fault_err sections (Err f) e is h = rw is h

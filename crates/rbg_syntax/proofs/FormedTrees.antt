@@ -11,7 +11,6 @@ use Rattle.rbg_syntax.specs.declared.expression.Multiplicative.TheVariants.{Time
 use Rattle.rbg_syntax.specs.Tree.{SpeltExpression, SpeltTerms, no_terms, more_terms, SpeltFactors, no_factors, more_factors, SpeltRule, SpeltRules, no_rules, more_rules, SpeltBoard, terms_after, factors_after, rules_after, sum_of, product_of, sequence_of, choice_of}
 use Rattle.rbg_syntax.specs.Phrase.{Repeated, done, again, After, after, Separated, separated, Within, within}
 use Rattle.rbg_syntax.specs.Grammar.{IsFactor, plain, minus, IsFurtherFactor, times, over, IsTerm, term, IsFurtherTerm, plus, minus as less, IsSumOver, sum, IsNumberOrName, number, name, IsPrimary, IsSum, IsOpenAtom, moves, switches, keeps, IsComparison, comparison, IsAssignment, assignment, AreAssignments, assignments, IsBracketAtom, groups, stands_on, puts, compares, assigns, holds, fails, IsItem, once, starred, IsSequence, in_turn, AreRulesOver, either, IsAtom, AreRules, IsRectangle, four, IsHexagon, six, IsGraph, vertices, generated, IsBoard, rectangular, hexagonal, graphic}
-use Rattle.rbg_syntax.specs.Spells.{IsRectangular}
 use Rattle.rbg_syntax.specs.Formed.{has_two_terms, has_two_factors, has_two_rules, is_formed_expression, are_formed_terms, are_formed_factors, is_formed, are_formed, has_its_directions}
 
 pub both : {a b : Bool} → a ≡ true → b ≡ true → (a && b) ≡ true
@@ -193,11 +192,8 @@ hexagon_directions (six a b c d e f rows) = refl
 graph_directions : {ts rest : List Lexeme} {b : SpeltBoard} → IsGraph ts b rest → has_its_directions b ≡ true
 graph_directions (vertices vs) = refl
 
-pub rectangular_directions : {ts rest : List Lexeme} {b : SpeltBoard} → IsRectangular ts b rest → has_its_directions b ≡ true
-rectangular_directions (generated generator (within opening d closing)) = rectangle_directions d
-
 pub board_directions : {ts rest : List Lexeme} {b : SpeltBoard} → IsBoard ts b rest → has_its_directions b ≡ true
-board_directions (rectangular d) = rectangular_directions d
+board_directions (rectangular (generated generator (within opening d closing))) = rectangle_directions d
 board_directions (hexagonal (generated generator (within opening d closing))) = hexagon_directions d
 board_directions (graphic (generated generator (within opening d closing))) = graph_directions d
 

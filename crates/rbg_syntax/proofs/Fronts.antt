@@ -1,5 +1,5 @@
 -- Lists from which the front was taken.
-use Rattle.std.proofs.Common.{◌≡◌, ◌≤◌, ◌+◌, ℕ, zero, suc, List, [], ◌∷◌, length, drop, refl, ap, arith, add-one}
+use Rattle.std.proofs.Common.{◌≡◌, ◌≤◌, ◌<◌, ◌+◌, ◌-◌, ℕ, zero, suc, List, [], ◌∷◌, length, drop, refl, sym, ap, ◌∙◌, arith, add-one}
 use Rattle.std.specs.Prelude.{Some, slice_get}
 use Rattle.std.proofs.lemmas.List.{drop_all}
 use Rattle.std.proofs.Math.Seq.{drop-nil}
@@ -27,3 +27,10 @@ front_from_get = front_after
 
 pub drop_whole : {A : Type 0} (n : ℕ) (xs : List A) → length xs ≤ n → drop n xs ≡ []
 drop_whole n xs h = drop_all n xs h
+
+-- the element after the front one
+pub second_from_get : {A : Type 0} (n : ℕ) (xs : List A) (x : A) → slice_get xs (n + 1) ≡ Some x → drop 1 (drop n xs) ≡ x ∷ drop 1 (drop 1 (drop n xs))
+second_from_get n xs x e = rw (← drop_one_more n xs) (front_after (n + 1) xs x e)
+
+pub second_past : {A : Type 0} (n : ℕ) (xs : List A) → length xs - n < 2 → drop 1 (drop n xs) ≡ []
+second_past n xs h = sym (drop_one_more n xs) ∙ drop_all (n + 1) xs (omega arith)

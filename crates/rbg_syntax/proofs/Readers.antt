@@ -11,7 +11,7 @@ use Rattle.rbg_macro.specs.declared.token.TokenKind.{TokenKind}
 use Rattle.rbg_macro.specs.declared.token.TokenKind.TheVariants as kinds
 use Rattle.rbg_syntax.specs.Tree.{SpeltName, SpeltNumber}
 use Rattle.rbg_syntax.specs.Phrase.{IsSymbol, symbol, IsName, name, IsNumber, number, IsWord, word}
-use Rattle.rbg_syntax.specs.Reading.{Fault, misfit, Reading, ◌>>=◌, next_is, is_name, is_number, is_symbol, token_at, symbol_at, name_at, number_at, word_at}
+use Rattle.rbg_syntax.specs.internal.Reading.{Fault, misfit, Reading, ◌>>=◌, next_is, is_name, is_number, is_symbol, token_at, symbol_at, name_at, number_at, word_at}
 
 pub bind_ok : {A B : Type 0} (r : Result A Fault) (f : A → Result B Fault) (y : B) → (r >>= f) ≡ Ok y → (x : A) × (r ≡ Ok x) × (f x ≡ Ok y)
 bind_ok (Ok x) f y e = (x, refl, e)
@@ -47,7 +47,7 @@ kind_of-is_number kinds.Name e = cc
 kind_of-is_number kinds.Number e = refl
 kind_of-is_number (kinds.Symbol s) e = cc
 
-kind_of-is_symbol : (s : Symbol) (k : TokenKind) → is_symbol s k ≡ true → k ≡ kinds.Symbol s
+pub kind_of-is_symbol : (s : Symbol) (k : TokenKind) → is_symbol s k ≡ true → k ≡ kinds.Symbol s
 kind_of-is_symbol s kinds.Name e = cc
 kind_of-is_symbol s kinds.Number e = cc
 kind_of-is_symbol s (kinds.Symbol x) e = ap kinds.Symbol (same_true the_type tt x s e)

@@ -9,13 +9,13 @@ use Rattle.rbg_base.specs.declared.relation.Relation.{Relation}
 use Rattle.rbg_syntax.specs.Tree.{SpeltName, SpeltExpression, SpeltRule, SpeltAction, act, positive, negative, star}
 use Rattle.rbg_syntax.specs.Phrase.{IsSymbol, symbol, IsName, After, Separated, separated, Listed, nothing, listed, Within, within}
 use Rattle.rbg_syntax.specs.Grammar.{IsRelation, equal, not_equal, less, less_or_equal, greater, greater_or_equal, IsSum, IsOpenAtom, IsComparison, comparison, IsAssignment, assignment, AreAssignments, assignments, IsBracketAtom, groups, stands_on, puts, compares, assigns, holds, fails, IsItem, once, starred, IsSequence, in_turn, AreRulesOver, either, IsAtom, AreRules}
-use Rattle.rbg_syntax.specs.Reading.{Reading, misfit, ◌>>=◌, next_is, is_symbol, symbol_at, after_at, separated_at, within_at, open_atom_at, on_at, off_at, in_sequence}
-use Rattle.rbg_syntax.specs.RuleReading.{too_deep_at, is_product_sign, is_sum_sign, is_relation, relation_of, relation_at, comparison_at, assignment_at, assignments_at, in_choice, positive_at, negative_at, in_braces_at, in_brackets_at, is_opening, bracket_atom_at, item_at, begins_atom, sequence_at, rules_over_at, atom_at, rules_at, sum_at}
+use Rattle.rbg_syntax.specs.internal.Reading.{Reading, misfit, ◌>>=◌, next_is, is_symbol, symbol_at, after_at, separated_at, within_at, open_atom_at, on_at, off_at, in_sequence}
+use Rattle.rbg_syntax.specs.internal.RuleReading.{too_deep_at, is_product_sign, is_sum_sign, is_relation, relation_of, relation_at, comparison_at, assignment_at, assignments_at, in_choice, positive_at, negative_at, in_braces_at, in_brackets_at, is_opening, bracket_atom_at, item_at, begins_atom, sequence_at, rules_over_at, atom_at, rules_at, sum_at}
 use Rattle.rbg_syntax.proofs.Readers.{bind_ok, ok_one, IsReadBy, Always, symbol_read, symbol_next, name_read, next_test-symbol}
 use Rattle.rbg_syntax.proofs.Combinators.{Begins, Stops, after_read, within_read, separated_read, repeated_sound, repeated_complete, repeated_shorter, may_follow}
 use Rattle.rbg_syntax.proofs.SectionReaders.{piece_read}
 use Rattle.rbg_syntax.proofs.SumReaders.{symbol_test, name_test, after_test, within_test, after_here, within_here, EndsSum, symbol_ends_sum, sum_read}
-use Rattle.rbg_syntax.proofs.WordReaders.{open_atom_read, open_atom_begins, set_read}
+use Rattle.rbg_syntax.proofs.AtomReaders.{open_atom_read, open_atom_begins, set_read}
 
 -- the second token
 second_test : {s : Symbol} {ts rest : List Lexeme} {at : ℕ} → IsSymbol s ts at rest → (test : TokenKind → Bool) → next_is test (drop 1 ts) ≡ next_is test rest
@@ -468,11 +468,11 @@ module _ (n : ℕ) (rules_reads : IsReadBy 1 (AreRulesOver (IsAtom n)) EndsRules
   atom_begins (inr d) = bracket_atom_begins (AreRulesOver (IsAtom n)) (rules_over_at (atom_at n)) rules_reads (IsSum n) (sum_at n) (sum_read n) d
 
 -- an atom is read, and it begins as atoms do
-record IsAtomReader (n : ℕ) : Type 0 where
+pub record IsAtomReader (n : ℕ) : Type 0 where
   pub reads : IsReadBy 1 (IsAtom n) Always (atom_at n)
   pub begins : (ts : List Lexeme) (r : SpeltRule) (rest : List Lexeme) → IsAtom n ts r rest → next_is begins_atom ts ≡ true
 
-atom_reader : (n : ℕ) → IsAtomReader n
+pub atom_reader : (n : ℕ) → IsAtomReader n
 atom_reader zero = record {
   reads = record { sound = open_atom_sound; complete = λ ts x rest d stop. open_atom_complete d; shorter = open_atom_read.shorter };
   begins = λ ts x rest d. open_atom_begins d begins_atom refl refl;

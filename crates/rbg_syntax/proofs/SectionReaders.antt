@@ -8,7 +8,7 @@ use Rattle.rbg_macro.specs.declared.token.TokenKind.TheVariants as kinds
 use Rattle.rbg_syntax.specs.Tree.{SpeltName, SpeltBounded, SpeltEdge, SpeltVertex, SpeltBoard}
 use Rattle.rbg_syntax.specs.Phrase.{IsName, IsNumber, IsWord, word, Repeated, After, Separated, Listed, Within, within, WithComma}
 use Rattle.rbg_syntax.specs.Grammar.{IsBounded, bounded, IsRow, IsEdge, edge, IsVertex, vertex, IsRectangle, four, IsHexagon, six, IsGraph, vertices, IsGenerated, generated, IsBoard, rectangular, hexagonal, graphic}
-use Rattle.rbg_syntax.specs.Reading.{Reading, next_is, next_word, is_name, is_symbol, name_at, number_at, after_at, separated_at, listed_at, within_at, with_comma_at, bounded_at, row_at, edge_at, vertex_at, rows_at, direction_at, rectangle_at, hexagon_at, graph_at, generated_at, board_at}
+use Rattle.rbg_syntax.specs.internal.Reading.{Reading, next_is, next_word, is_name, is_symbol, name_at, number_at, after_at, separated_at, listed_at, within_at, with_comma_at, bounded_at, row_at, edge_at, vertex_at, rows_at, direction_at, rectangle_at, hexagon_at, graph_at, generated_at, board_at}
 use Rattle.rbg_syntax.proofs.Readers.{bind_ok, ok_one, IsReadBy, Always, symbol_next, name_read, name_next, number_read, word_read, next_test-symbol}
 use Rattle.rbg_syntax.proofs.Combinators.{Begins, Stops, EndsList, after_read, within_read, separated_read, listed_read, with_comma_read, repeated_sound, repeated_complete, repeated_shorter}
 

@@ -1,5 +1,5 @@
 -- The readers of arithmetic.
-use Rattle.std.proofs.Common.{◌≡◌, ◌≤◌, ◌+◌, ℕ, zero, suc, List, [], ◌∷◌, length, Bool, true, false, cond, Ok, refl, ap, ◌∙◌, subst, arith, inl, inr}
+use Rattle.std.proofs.Common.{◌≡◌, ◌≤◌, ◌+◌, ℕ, zero, suc, List, [], ◌∷◌, length, Bool, true, false, cond, Ok, Err, refl, ap, ◌∙◌, subst, arith, inl, inr}
 use Rattle.rbg_macro.specs.Token.{Lexeme}
 use Rattle.rbg_macro.specs.declared.token.Symbol.{Symbol}
 use Rattle.rbg_macro.specs.declared.token.Symbol.TheVariants.{Plus, Minus, Star, Slash, OpenParenthesis, CloseParenthesis}
@@ -12,8 +12,8 @@ use Rattle.rbg_syntax.specs.declared.expression.Multiplicative.TheVariants as mu
 use Rattle.rbg_syntax.specs.Tree.{SpeltName, SpeltNumber, SpeltExpression}
 use Rattle.rbg_syntax.specs.Phrase.{IsSymbol, symbol, IsName, name, IsNumber, number, After, after, Within, within}
 use Rattle.rbg_syntax.specs.Grammar.{IsFactor, plain, minus, IsFurtherFactor, times, over, IsTerm, term, IsFurtherTerm, plus, minus as less, IsSumOver, sum, IsNumberOrName, number as a_number, name as a_name, IsPrimary, IsSum}
-use Rattle.rbg_syntax.specs.Reading.{Reading, ◌>>=◌, next_is, is_number, is_symbol, name_at, number_at, after_at, within_at}
-use Rattle.rbg_syntax.specs.RuleReading.{too_deep_at, is_product_sign, is_sum_sign, number_or_name_at, factor_at, further_factor_at, term_at, further_term_at, sum_over_at, primary_at, sum_at}
+use Rattle.rbg_syntax.specs.internal.Reading.{misfit, Reading, ◌>>=◌, next_is, is_name, is_number, is_symbol, name_at, number_at, after_at, within_at}
+use Rattle.rbg_syntax.specs.internal.RuleReading.{too_deep_at, is_product_sign, is_sum_sign, number_or_name_at, factor_at, further_factor_at, term_at, further_term_at, sum_over_at, primary_at, sum_at}
 use Rattle.rbg_syntax.proofs.Readers.{bind_ok, ok_one, IsReadBy, Always, symbol_next, name_read, number_read, next_test-symbol}
 use Rattle.rbg_syntax.proofs.Combinators.{Begins, Stops, after_read, within_read, repeated_sound, repeated_complete, repeated_shorter, may_follow}
 
@@ -266,7 +266,7 @@ module _ (n : ℕ) (sum_reads : IsReadBy 1 (IsSumOver (IsPrimary n)) EndsSum (su
   brackets_shorter {ts} {rest} {x} (inl d) = number_or_name_shorter d
   brackets_shorter {ts} {rest} {x} (inr d) = group_read.shorter ts x rest d
 
-primary_no_minus : (n : ℕ) (ts : List Lexeme) (x : SpeltExpression) (rest : List Lexeme) → IsPrimary n ts x rest → next_is (is_symbol Minus) ts ≡ false
+pub primary_no_minus : (n : ℕ) (ts : List Lexeme) (x : SpeltExpression) (rest : List Lexeme) → IsPrimary n ts x rest → next_is (is_symbol Minus) ts ≡ false
 primary_no_minus zero ts x rest d = number_or_name_test d (is_symbol Minus) refl refl
 primary_no_minus (suc n) ts x rest (inl d) = number_or_name_test d (is_symbol Minus) refl refl
 primary_no_minus (suc n) ts x rest (inr d) = within_test d (is_symbol Minus)
@@ -283,3 +283,9 @@ sums_read n = sum_over_read (IsPrimary n) (primary_at n) (primary_read n) (prima
 pub sum_read : (n : ℕ) → IsReadBy 1 (IsSum n) EndsSum (sum_at n)
 unfolding sum_at
 sum_read n = sums_read n
+
+-- neither a number nor a name
+pub no_number_or_name : (ts : List Lexeme) → next_is is_number ts ≡ false → next_is is_name ts ≡ false → number_or_name_at ts ≡ Err misfit
+unfolding number_or_name_at name_at
+no_number_or_name [] no_number no_name = refl
+no_number_or_name (t ∷ ts) no_number no_name = rw (no_number, no_name)

@@ -1,11 +1,12 @@
 -- What the trees of the code stand for, level by level.
 use Rattle.std.proofs.Common.{◌≡◌, ◌∙◌, ℕ, List, [], ◌∷◌, Option, length, map, option_map, rules, refl, arith, Vec, vec_len}
 use Rattle.std.proofs.lemmas.List.{length-map}
-use Rattle.rbg_syntax.specs.Reading.{in_sequence}
+use Rattle.rbg_syntax.specs.internal.Reading.{in_sequence}
+use Rattle.rbg_syntax.specs.internal.RuleReading.{in_choice, in_product, in_sum}
 use Rattle.std.specs.declared.alloc.Global.{Global}
 use Rattle.std.specs.declared.boxed.Box.{Box}
 use Rattle.rbg_syntax.specs.Tree.{SpeltExpression, SpeltRule, SpeltAction, no_rules, no_terms, no_factors, rules_after, terms_after, factors_after}
-use Rattle.rbg_syntax.specs.Views.{name_of, number_of, expression_of, action_of, rule_of}
+use Rattle.rbg_syntax.specs.Views.{SpeltFactor, SpeltTerm, name_of, number_of, expression_of, term_of, factor_of, action_of, rule_of}
 use Rattle.rbg_syntax.specs.declared.names.Name.{Name}
 use Rattle.rbg_syntax.specs.declared.names.Number.{Number}
 use Rattle.rbg_syntax.specs.declared.expression.Additive.{Additive}
@@ -68,13 +69,6 @@ pub action_of-NegativePattern : (at : ℕ) (b : Box Rule Global) → action_of (
 unfolding action_of rule_of
 action_of-NegativePattern at b = search (rules, actions.the_lemmas)
 
--- a term and a factor as their operators and spelt expressions
-abbrev pub term_of : Term → Additive × SpeltExpression
-term_of t = (t.operator, expression_of t.value)
-
-abbrev pub factor_of : Factor → Multiplicative × SpeltExpression
-factor_of f = (f.operator, expression_of f.value)
-
 pub expression_of-Number : (n : Number) → expression_of (expressions.Number n) ≡ SpeltExpression.number (number_of n)
 unfolding expression_of
 expression_of-Number n = search (rules, expressions.the_lemmas)
@@ -98,6 +92,15 @@ expression_of-Product v = search (rules, expressions.the_lemmas)
 -- rules that are one action
 pub ruleset atoms = (rule_of-Act, action_of-Shift, action_of-On, action_of-Off, action_of-Switch)
 
+-- rules that are one action with arithmetic or a pattern
+pub ruleset inner_atoms = (rule_of-Act, action_of-Assign, action_of-Compare, action_of-PositivePattern, action_of-NegativePattern)
+
+-- the star of a rule
+pub ruleset stars = (rule_of-Star)
+
+-- expressions without parts that are lists
+pub ruleset leaves = (expression_of-Number, expression_of-Name, expression_of-Negated)
+
 many_in_sequence : (rs : List SpeltRule) → (length rs ≡ 1 → ⊥) → SpeltRule.sequence (rules_after no_rules rs) ≡ in_sequence rs
 many_in_sequence [] several = refl
 many_in_sequence (r ∷ []) several = absurd (several refl)
@@ -107,3 +110,33 @@ pub rule_of-in_sequence : (v : Vec Rule Global) → (vec_len v ≡ 1 → ⊥) �
 rule_of-in_sequence v several = rule_of-Then v ∙ many_in_sequence (map rule_of v.items) (λ e. several (omega (arith, e, length-map v.items rule_of, v.ok.0)))
 
 pub ruleset sequences = (rule_of-in_sequence)
+
+many_in_sum : (ts : List SpeltTerm) → (length ts ≡ 1 → ⊥) → SpeltExpression.sum (terms_after no_terms ts) ≡ in_sum ts
+many_in_sum [] several = refl
+many_in_sum (t ∷ []) several = absurd (several refl)
+many_in_sum (t ∷ u ∷ ts) several = refl
+
+pub expression_of-in_sum : (v : Vec Term Global) → (vec_len v ≡ 1 → ⊥) → expression_of (expressions.Sum v) ≡ in_sum (map term_of v.items)
+expression_of-in_sum v several = expression_of-Sum v ∙ many_in_sum (map term_of v.items) (λ e. several (omega (arith, e, length-map v.items term_of, v.ok.0)))
+
+pub ruleset sums = (expression_of-in_sum)
+
+many_in_product : (fs : List SpeltFactor) → (length fs ≡ 1 → ⊥) → SpeltExpression.product (factors_after no_factors fs) ≡ in_product fs
+many_in_product [] several = refl
+many_in_product (f ∷ []) several = absurd (several refl)
+many_in_product (f ∷ g ∷ fs) several = refl
+
+pub expression_of-in_product : (v : Vec Factor Global) → (vec_len v ≡ 1 → ⊥) → expression_of (expressions.Product v) ≡ in_product (map factor_of v.items)
+expression_of-in_product v several = expression_of-Product v ∙ many_in_product (map factor_of v.items) (λ e. several (omega (arith, e, length-map v.items factor_of, v.ok.0)))
+
+pub ruleset products = (expression_of-in_product)
+
+many_in_choice : (rs : List SpeltRule) → (length rs ≡ 1 → ⊥) → SpeltRule.choice (rules_after no_rules rs) ≡ in_choice rs
+many_in_choice [] several = refl
+many_in_choice (r ∷ []) several = absurd (several refl)
+many_in_choice (r ∷ s ∷ rs) several = refl
+
+pub rule_of-in_choice : (v : Vec Rule Global) → (vec_len v ≡ 1 → ⊥) → rule_of (rules'.Or v) ≡ in_choice (map rule_of v.items)
+rule_of-in_choice v several = rule_of-Or v ∙ many_in_choice (map rule_of v.items) (λ e. several (omega (arith, e, length-map v.items rule_of, v.ok.0)))
+
+pub ruleset choices = (rule_of-in_choice)

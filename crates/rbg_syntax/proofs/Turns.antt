@@ -8,7 +8,7 @@ use Rattle.rbg_macro.specs.declared.token.TokenKind.{TokenKind}
 use Rattle.rbg_syntax.specs.declared.error.SyntaxError.{SyntaxError}
 use Rattle.rbg_syntax.specs.declared.error.SyntaxError.TheVariants as errors
 use Rattle.rbg_syntax.proofs.Readers.{bind_ok, symbol_read}
-use Rattle.rbg_syntax.specs.Reading.{Fault, Fails, Gives, Takes, TakesSome, misfit, Reading, ◌>>=◌, next_is, is_symbol, symbol_at, repeated_within, repeated_at, some_at, after_at, separated_at}
+use Rattle.rbg_syntax.specs.internal.Reading.{Fault, Fails, FailsWithin, Gives, GivesWithin, IsMisfit, Takes, TakesSome, further_at, misfit, too_deep, Reading, ◌>>=◌, next_is, is_symbol, symbol_at, repeated_within, repeated_at, after_at, separated_at}
 
 pub after_at-taken : {A : Type 0} (s : Symbol) (read : List Lexeme → Reading A) (ts : List Lexeme) → next_is (is_symbol s) ts ≡ true → after_at s read ts ≡ read (drop 1 ts)
 unfolding after_at symbol_at
@@ -107,14 +107,6 @@ module _ {A : Type 0} (read : List Lexeme → Reading A) (some : TakesSome read)
 
 -- The turns of a loop over parts, as long as the next token passes a test.
 module _ {A : Type 0} (read : List Lexeme → Reading A) (read_some : TakesSome read) (test : TokenKind → Bool) where
-  pub some_begins : (ts rest : List Lexeme) (x : A) → read ts ≡ Ok (x, rest) → some_at test read ts ≡ prepend (x ∷ []) (repeated_at test read rest)
-  unfolding some_at
-  some_begins ts rest x e = rw e
-
-  pub some_begin_fails : (ts : List Lexeme) (f : Fault) → read ts ≡ Err f → some_at test read ts ≡ Err f
-  unfolding some_at
-  some_begin_fails ts f e = rw e
-
   pub some_turn : (whole : Reading (List A)) (xs : List A) (ts rest : List Lexeme) (x : A) → whole ≡ prepend xs (repeated_at test read ts) → next_is test ts ≡ true → read ts ≡ Ok (x, rest)
       → whole ≡ prepend (xs ++ x ∷ []) (repeated_at test read rest)
   some_turn whole xs ts rest x so_far goes_on e = so_far ∙ repeated_turn test read read_some xs ts rest x goes_on e
@@ -151,3 +143,40 @@ taken {s} {flag} {old} {new} h e = (h.found ∙ e, h.rest ∙ ap (λ b. cond b (
 
 pub left : {s : Symbol} {flag : Bool} {old new : List Lexeme} → Takes s flag old new → flag ≡ false → (next_is (is_symbol s) old ≡ false) × (new ≡ old)
 left {s} {flag} {old} {new} h e = (h.found ∙ e, h.rest ∙ ap (λ b. cond b (drop 1 old) old) e)
+
+-- The same, where brackets may be nested too deep.
+pub FailsWithin-from : {A B : Type 0} (e : SyntaxError) (r : Result A Fault) (whole : Result B Fault) → ((f : Fault) → r ≡ Err f → whole ≡ Err f) → FailsWithin e r → FailsWithin e whole
+FailsWithin-from (errors.Expected at what) r whole more h = more misfit h
+FailsWithin-from (errors.MissingSection which) r whole more h = h
+FailsWithin-from (errors.SectionTwice which) r whole more h = h
+FailsWithin-from (errors.TooDeep at) r whole more h = more (too_deep at) h
+FailsWithin-from errors.Memory r whole more h = tt
+
+pub GivesWithin-from_err : {A B C : Type 0} (view : A → B) (r : Result A SyntaxError) (e : SyntaxError) (part : Result C Fault) (whole : Result B Fault)
+    → IsErrAnd r (λ d. d ≡ e) → ((f : Fault) → part ≡ Err f → whole ≡ Err f) → FailsWithin e part → GivesWithin view r whole
+GivesWithin-from_err view (Ok x) e part whole is more h = absurd is
+GivesWithin-from_err view (Err d) e part whole is more h = rw is (FailsWithin-from e part whole more h)
+
+-- an error that no brackets cause
+pub FailsWithin-shallow : {A : Type 0} (e : SyntaxError) (r : Result A Fault) → Fails e r → FailsWithin e r
+FailsWithin-shallow (errors.Expected at what) r h = h
+FailsWithin-shallow (errors.MissingSection which) r h = h
+FailsWithin-shallow (errors.SectionTwice which) r h = h
+FailsWithin-shallow (errors.TooDeep at) r h = absurd h
+FailsWithin-shallow errors.Memory r h = tt
+
+pub FailsWithin-misfit : {A : Type 0} (e : SyntaxError) (r : Result A Fault) → IsMisfit e → r ≡ Err misfit → FailsWithin e r
+FailsWithin-misfit (errors.Expected at what) r h is = is
+FailsWithin-misfit (errors.MissingSection which) r h is = absurd h
+FailsWithin-misfit (errors.SectionTwice which) r h is = absurd h
+FailsWithin-misfit (errors.TooDeep at) r h is = absurd h
+FailsWithin-misfit errors.Memory r h is = absurd h
+
+-- the further parts, after a first one
+pub further_begins : {A : Type 0} (first : A) (read : List Lexeme → Reading A) (test : TokenKind → Bool) (ts : List Lexeme) → further_at first test read ts ≡ prepend (first ∷ []) (repeated_at test read ts)
+unfolding further_at
+further_begins first read test ts = refl
+
+pub GivesWithin-shallow : {A B : Type 0} (view : A → B) (r : Result A SyntaxError) (read : Result B Fault) → Gives view r read → GivesWithin view r read
+GivesWithin-shallow view (Ok x) read h = h
+GivesWithin-shallow view (Err e) read h = FailsWithin-shallow e read h

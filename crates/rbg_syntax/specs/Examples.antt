@@ -7,7 +7,7 @@ use Rattle.rbg_macro.specs.declared.token.TokenKind.TheVariants as kinds
 use Rattle.rbg_syntax.specs.declared.expression.Additive.TheVariants as additive
 use Rattle.rbg_syntax.specs.declared.expression.Multiplicative.TheVariants as multiplicative
 use Rattle.rbg_syntax.specs.Grammar.{IsSum, AreRules}
-use Rattle.rbg_syntax.specs.Spells.{max_brackets}
+use Rattle.rbg_syntax.specs.Spells.{max_brackets, IsTooDeep}
 use Rattle.rbg_syntax.specs.Tree.{SpeltName, SpeltExpression, sum, product, negated, no_terms, more_terms, no_factors, more_factors, SpeltRule, act, shift, assign, star, sequence, no_rules, more_rules}
 
 -- a symbol at a place, and a name of one letter
@@ -78,3 +78,17 @@ abbrev pub TwoMinuses : Type 0
 TwoMinuses =
     (brackets : ℕ) (e : SpeltExpression)
     → IsSum brackets (sign symbols.Minus 0 ∷ sign symbols.Minus 1 ∷ letter 97 2 ∷ []) e [] → ⊥
+
+-- A shift in 129 pairs of parentheses is too deep, and nothing else: with one more bracket it is that shift.
+pub record TooDeepAlone : Type 0 where
+  pub deep : IsTooDeep (in_parentheses 129) 0
+  pub spelt : AreRules 129 (in_parentheses 129) (act (shift (letter_name 97 0))) []
+
+-- a closing parenthesis, and 129 opening ones
+abbrev pub closing_first : List Lexeme
+closing_first = sign symbols.CloseParenthesis 0 ∷ replicate 129 (sign symbols.OpenParenthesis 1)
+
+-- It spells nothing at any depth, and no bracket of it is too deep, since no rules begin so.
+pub record MisspeltAlone : Type 0 where
+  pub spells_nothing : (brackets : ℕ) (r : SpeltRule) → AreRules brackets closing_first r [] → ⊥
+  pub not_deep : (at : ℕ) → IsTooDeep closing_first at → ⊥

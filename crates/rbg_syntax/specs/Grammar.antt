@@ -274,22 +274,3 @@ IsAtom (suc brackets) ts r rest =
 
 abbrev pub AreRules : ℕ → Phrase SpeltRule
 AreRules brackets = AreRulesOver (IsAtom brackets)
-
--- The atoms of rules that are one word: name | "->" name | "->>" | "{" (name ("," name)..)? "}" | "[" name "]"
-pub data IsPlainAtom : List Lexeme → SpeltRule → List Lexeme → Type 0 where
-  open_atom : {ts rest : List Lexeme} {r : SpeltRule}
-      → IsOpenAtom ts r rest
-      → IsPlainAtom ts r rest
-  stands_on : {ts rest : List Lexeme} {ns : List SpeltName}
-      → Within OpenBrace CloseBrace (Listed IsName) ts ns rest
-      → IsPlainAtom ts (act (on ns)) rest
-  puts : {ts rest : List Lexeme} {n : SpeltName}
-      → Within OpenBracket CloseBracket IsName ts n rest
-      → IsPlainAtom ts (act (off n)) rest
-
--- Rules that are one word: a sequence of shifts, ons, offs and switches, without parentheses.
-pub data AreOneWord : List Lexeme → SpeltRule → List Lexeme → Type 0 where
-  one_word : {ts mid rest : List Lexeme} {r : SpeltRule} {rs : List SpeltRule}
-      → IsPlainAtom ts r mid
-      → Repeated IsPlainAtom mid rs rest
-      → AreOneWord ts (sequence_of r rs) rest

@@ -6,9 +6,8 @@ pub mod Grammar
 pub mod Laws
 pub mod Phrase
 pub mod Plain
-pub mod Reading
-pub mod RuleReading
 pub mod Sections
 pub mod Spells
 pub mod Tree
 pub mod Views
+pub mod internal

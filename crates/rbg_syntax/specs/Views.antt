@@ -13,6 +13,8 @@ use Rattle.rbg_syntax.specs.declared.description.Board.TheVariants.{Rectangle, H
 use Rattle.rbg_syntax.specs.declared.expression.Additive.{Additive}
 use Rattle.rbg_syntax.specs.declared.expression.Multiplicative.{Multiplicative}
 use Rattle.rbg_syntax.specs.declared.expression.Expression.{Expression, fold-Expression}
+use Rattle.rbg_syntax.specs.declared.expression.Factor.{Factor}
+use Rattle.rbg_syntax.specs.declared.expression.Term.{Term}
 use Rattle.rbg_syntax.specs.declared.expression.Expression.TheOpen.{Expression-F, Term-F, Factor-F}
 use Rattle.rbg_syntax.specs.declared.rule.Rule.{Rule, fold-Rule}
 use Rattle.rbg_syntax.specs.declared.rule.Action.{Action, fold-Action}
@@ -67,6 +69,13 @@ term_step t = (t.operator, t.value)
 
 unfoldable pub expression_of : Expression → SpeltExpression
 expression_of = fold-Expression SpeltExpression SpeltFactor SpeltTerm expression_step factor_step term_step
+
+-- a term and a factor of the code as their operators and spelt expressions
+abbrev pub term_of : Term → SpeltTerm
+term_of t = (t.operator, expression_of t.value)
+
+abbrev pub factor_of : Factor → SpeltFactor
+factor_of f = (f.operator, expression_of f.value)
 
 -- one level of the rules, with each part already seen as what it spells
 abbrev pub action_step : Action-F SpeltAction SpeltRule → SpeltAction

@@ -1,5 +1,5 @@
 //! The readers of the actions that need no arithmetic and hold no rules.
-ghost use Rattle.rbg_syntax.specs.Reading.{Gives, off_at, on_at, open_atom_at};
+ghost use Rattle.rbg_syntax.specs.internal.Reading.{Gives, off_at, on_at, open_atom_at};
 ghost use Rattle.rbg_syntax.specs.Views.{rule_of};
 
 use crate::error::{Expectation, SyntaxError};
@@ -10,7 +10,7 @@ use std::alloc::Global;
 
 impl Parser<'_> {
     /// A shift or a switch.
-    #[tactic(auto, using(crate::proofs::Trees::atoms), unfolding(crate::specs::Reading::open_atom_at))]
+    #[tactic(auto, using(crate::proofs::Trees::atoms), unfolding(crate::specs::internal::Reading::open_atom_at))]
     pub(crate) fn open_atom(&mut self, alloc: Global) -> Result<Rule, SyntaxError>
         ensures { Gives (λ r. (rule_of r, self.new)) result (open_atom_at self.old) }
     {
@@ -28,7 +28,7 @@ impl Parser<'_> {
     }
 
     /// An on.
-    #[tactic(auto, using(crate::proofs::Trees::atoms, crate::proofs::PhraseLaws::name_takes_some), unfolding(crate::specs::Reading::on_at, crate::specs::Reading::within_at))]
+    #[tactic(auto, using(crate::proofs::Trees::atoms, crate::proofs::PhraseLaws::name_takes_some), unfolding(crate::specs::internal::Reading::on_at, crate::specs::internal::Reading::within_at))]
     pub(crate) fn on(&mut self, alloc: Global) -> Result<Rule, SyntaxError>
         ensures { Gives (λ r. (rule_of r, self.new)) result (on_at self.old) }
     {
@@ -44,7 +44,7 @@ impl Parser<'_> {
     }
 
     /// An off.
-    #[tactic(auto, using(crate::proofs::Trees::atoms), unfolding(crate::specs::Reading::off_at, crate::specs::Reading::within_at))]
+    #[tactic(auto, using(crate::proofs::Trees::atoms), unfolding(crate::specs::internal::Reading::off_at, crate::specs::internal::Reading::within_at))]
     pub(crate) fn off(&mut self, alloc: Global) -> Result<Rule, SyntaxError>
         ensures { Gives (λ r. (rule_of r, self.new)) result (off_at self.old) }
     {

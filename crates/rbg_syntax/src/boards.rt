@@ -1,6 +1,6 @@
 //! The readers of boards.
 ghost use Rattle.std.specs.Prelude.{codes};
-ghost use Rattle.rbg_syntax.specs.Reading.{Gives, direction_at, generated_at, rectangle_at};
+ghost use Rattle.rbg_syntax.specs.internal.Reading.{Gives, board_at, direction_at, generated_at, graph_at, hexagon_at, next_word, rectangle_at};
 ghost use Rattle.rbg_syntax.specs.Views.{board_of, name_of};
 
 use crate::description::Board;
@@ -11,9 +11,22 @@ use rbg_macro::Symbol;
 use std::alloc::Global;
 
 impl Parser<'_> {
-    /// A rectangle.
-    #[tactic(auto, unfolding(crate::specs::Reading::generated_at, crate::specs::Reading::within_at))]
-    pub(crate) fn rectangle_board(&mut self, alloc: Global) -> Result<Board, SyntaxError>
+    /// A board, by the name of its generator.
+    #[tactic(auto, unfolding(crate::specs::internal::Reading::board_at))]
+    pub(crate) fn board(&mut self, alloc: Global) -> Result<Board, SyntaxError>
+        ensures { Gives (λ b. (board_of b, self.new)) result (board_at self.old) }
+    {
+        if self.next_is_word(b"rectangle") {
+            return self.rectangle_board(alloc);
+        }
+        if self.next_is_word(b"hexagon") {
+            return self.hexagon_board(alloc);
+        }
+        self.graph_board(alloc)
+    }
+
+    #[tactic(auto, unfolding(crate::specs::internal::Reading::generated_at, crate::specs::internal::Reading::within_at))]
+    fn rectangle_board(&mut self, alloc: Global) -> Result<Board, SyntaxError>
         ensures { Gives (λ b. (board_of b, self.new)) result (generated_at (codes "rectangle") rectangle_at self.old) }
     {
         self.word(b"rectangle", Expectation::Generator)?;
@@ -23,7 +36,29 @@ impl Parser<'_> {
         Ok(board)
     }
 
-    #[tactic(auto, using(crate::proofs::PhraseLaws::row_takes_some), unfolding(crate::specs::Reading::rectangle_at, crate::specs::Reading::rows_at))]
+    #[tactic(auto, unfolding(crate::specs::internal::Reading::generated_at, crate::specs::internal::Reading::within_at))]
+    fn hexagon_board(&mut self, alloc: Global) -> Result<Board, SyntaxError>
+        ensures { Gives (λ b. (board_of b, self.new)) result (generated_at (codes "hexagon") hexagon_at self.old) }
+    {
+        self.word(b"hexagon", Expectation::Generator)?;
+        self.symbol(Symbol::OpenParenthesis, Expectation::Opening)?;
+        let board = self.hexagon(alloc)?;
+        self.symbol(Symbol::CloseParenthesis, Expectation::Closing)?;
+        Ok(board)
+    }
+
+    #[tactic(auto, unfolding(crate::specs::internal::Reading::generated_at, crate::specs::internal::Reading::within_at))]
+    fn graph_board(&mut self, alloc: Global) -> Result<Board, SyntaxError>
+        ensures { Gives (λ b. (board_of b, self.new)) result (generated_at (codes "graph") graph_at self.old) }
+    {
+        self.word(b"graph", Expectation::Generator)?;
+        self.symbol(Symbol::OpenParenthesis, Expectation::Opening)?;
+        let board = self.graph(alloc)?;
+        self.symbol(Symbol::CloseParenthesis, Expectation::Closing)?;
+        Ok(board)
+    }
+
+    #[tactic(auto, using(crate::proofs::PhraseLaws::row_takes_some), unfolding(crate::specs::internal::Reading::rectangle_at, crate::specs::internal::Reading::rows_at))]
     fn rectangle(&mut self, alloc: Global) -> Result<Board, SyntaxError>
         ensures { Gives (λ b. (board_of b, self.new)) result (rectangle_at self.old) }
     {
@@ -38,8 +73,33 @@ impl Parser<'_> {
         })
     }
 
+    #[tactic(auto, using(crate::proofs::PhraseLaws::row_takes_some), unfolding(crate::specs::internal::Reading::hexagon_at, crate::specs::internal::Reading::rows_at))]
+    fn hexagon(&mut self, alloc: Global) -> Result<Board, SyntaxError>
+        ensures { Gives (λ b. (board_of b, self.new)) result (hexagon_at self.old) }
+    {
+        let north_west = self.direction(alloc)?;
+        let north_east = self.direction(alloc)?;
+        let east = self.direction(alloc)?;
+        let south_east = self.direction(alloc)?;
+        let south_west = self.direction(alloc)?;
+        let west = self.direction(alloc)?;
+        let rows = self.repeated(alloc)?;
+        Ok(Board::Hexagon {
+            directions: [north_west, north_east, east, south_east, south_west, west],
+            rows,
+        })
+    }
+
+    #[tactic(auto, using(crate::proofs::PhraseLaws::vertex_takes_some), unfolding(crate::specs::internal::Reading::graph_at))]
+    fn graph(&mut self, alloc: Global) -> Result<Board, SyntaxError>
+        ensures { Gives (λ b. (board_of b, self.new)) result (graph_at self.old) }
+    {
+        let vertices = self.repeated(alloc)?;
+        Ok(Board::Graph { vertices })
+    }
+
     /// The name of a direction, with its comma.
-    #[tactic(auto, unfolding(crate::specs::Reading::direction_at, crate::specs::Reading::with_comma_at))]
+    #[tactic(auto, unfolding(crate::specs::internal::Reading::direction_at, crate::specs::internal::Reading::with_comma_at))]
     fn direction(&mut self, alloc: Global) -> Result<Name, SyntaxError>
         ensures { Gives (λ n. (name_of n, self.new)) result (direction_at self.old) }
     {

@@ -1,5 +1,5 @@
 //! Examples of the grammar. Each function's contract is an example; its body does nothing.
-ghost use Rattle.rbg_syntax.specs.Examples.{DeepestBrackets, NegatedFactor, StarredAssignments, SumInParentheses, TooManyBrackets, TwoMinuses, TwoStars};
+ghost use Rattle.rbg_syntax.specs.Examples.{DeepestBrackets, MisspeltAlone, NegatedFactor, StarredAssignments, SumInParentheses, TooDeepAlone, TooManyBrackets, TwoMinuses, TwoStars};
 
 /// `(a+b)*c` is a product whose first factor is a sum.
 pub fn a_sum_in_parentheses_is_a_factor()
@@ -34,4 +34,14 @@ pub fn two_stars_are_no_rule()
 /// `--a` is no sum.
 pub fn two_minuses_are_no_sum()
     ensures { TwoMinuses }
+{}
+
+/// 129 pairs of brackets are too deep and nothing else.
+pub fn a_shift_in_129_brackets_is_too_deep()
+    ensures { TooDeepAlone }
+{}
+
+/// A closing bracket before 129 opening ones is misspelt and nothing else.
+pub fn a_closing_bracket_before_129_opening_ones_is_misspelt()
+    ensures { MisspeltAlone }
 {}

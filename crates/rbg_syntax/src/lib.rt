@@ -1,6 +1,8 @@
 //! The parser of game descriptions: the tree that the tokens of a description's sections spell.
 #![tactic(auto)]
 
+mod arithmetic;
+mod assignments;
 mod atoms;
 mod boards;
 mod description;
@@ -14,8 +16,9 @@ mod parser;
 mod parsing;
 mod phrase;
 mod rule;
+mod rules;
 mod sections;
-mod words;
+mod sequences;
 
 pub use description::{Board, Bounded, Description, DescriptionParts, Edge, Vertex};
 pub use error::{Expectation, SyntaxError};

@@ -1,11 +1,11 @@
 //! The phrases of which the sections of players, variables, pieces and boards are lists.
-ghost use Rattle.rbg_syntax.specs.Reading.{bounded_at, is_name, is_symbol, name_at, row_at};
-ghost use Rattle.rbg_syntax.specs.Tree.{SpeltBounded, SpeltName};
-ghost use Rattle.rbg_syntax.specs.Views.{bounded_of, name_of, names_of};
+ghost use Rattle.rbg_syntax.specs.internal.Reading.{bounded_at, edge_at, is_name, is_symbol, name_at, row_at, vertex_at};
+ghost use Rattle.rbg_syntax.specs.Tree.{SpeltBounded, SpeltEdge, SpeltName, SpeltVertex};
+ghost use Rattle.rbg_syntax.specs.Views.{bounded_of, edge_of, name_of, names_of, vertex_of};
 ghost use Rattle.rbg_macro.specs.declared.token.Symbol.TheVariants.{OpenBracket};
 ghost use Rattle.std.specs.Prelude.{List};
 
-use crate::description::Bounded;
+use crate::description::{Bounded, Edge, Vertex};
 use crate::error::{Expectation, SyntaxError};
 use crate::names::Name;
 use crate::parser::Parser;
@@ -41,7 +41,7 @@ impl Phrase for Bounded {
     ghost begins = { is_name };
 
     /// A player or a variable with its bound.
-    #[tactic(auto, unfolding(crate::specs::Reading::bounded_at, crate::specs::Reading::within_at))]
+    #[tactic(auto, unfolding(crate::specs::internal::Reading::bounded_at, crate::specs::internal::Reading::within_at))]
     fn read_from(parser: &mut Parser<'_>, alloc: Global) -> Result<Bounded, SyntaxError> {
         let name = parser.name(alloc)?;
         parser.symbol(Symbol::OpenParenthesis, Expectation::Opening)?;
@@ -65,7 +65,7 @@ impl Phrase for Vec<Name> {
 
     ghost begins = { is_symbol OpenBracket };
 
-    #[tactic(auto, using(crate::proofs::PhraseLaws::name_takes_some), unfolding(crate::specs::Reading::row_at, crate::specs::Reading::within_at))]
+    #[tactic(auto, using(crate::proofs::PhraseLaws::name_takes_some), unfolding(crate::specs::internal::Reading::row_at, crate::specs::internal::Reading::within_at))]
     fn read_from(parser: &mut Parser<'_>, alloc: Global) -> Result<Vec<Name>, SyntaxError> {
         parser.symbol(Symbol::OpenBracket, Expectation::Opening)?;
         let names = parser.listed(alloc)?;
@@ -75,5 +75,55 @@ impl Phrase for Vec<Name> {
 
     fn begins_with(kind: TokenKind) -> bool {
         kind == TokenKind::Symbol(Symbol::OpenBracket)
+    }
+}
+
+impl Phrase for Edge {
+    ghost Spelt = { SpeltEdge };
+
+    ghost view = { edge_of };
+
+    ghost read = { edge_at };
+
+    ghost begins = { is_name };
+
+    /// An edge to a vertex.
+    #[tactic(auto, unfolding(crate::specs::internal::Reading::edge_at, crate::specs::internal::Reading::after_at))]
+    fn read_from(parser: &mut Parser<'_>, alloc: Global) -> Result<Edge, SyntaxError> {
+        let direction = parser.name(alloc)?;
+        parser.symbol(Symbol::Colon, Expectation::Colon)?;
+        let target = parser.name(alloc)?;
+        Ok(Edge { direction, target })
+    }
+
+    fn begins_with(kind: TokenKind) -> bool {
+        kind == TokenKind::Name
+    }
+}
+
+impl Phrase for Vertex {
+    ghost Spelt = { SpeltVertex };
+
+    ghost view = { vertex_of };
+
+    ghost read = { vertex_at };
+
+    ghost begins = { is_name };
+
+    /// A vertex of a graph.
+    #[tactic(auto, using(crate::proofs::PhraseLaws::edge_takes_some), unfolding(crate::specs::internal::Reading::vertex_at, crate::specs::internal::Reading::within_at))]
+    fn read_from(parser: &mut Parser<'_>, alloc: Global) -> Result<Vertex, SyntaxError> {
+        let name = parser.name(alloc)?;
+        parser.symbol(Symbol::OpenBracket, Expectation::Opening)?;
+        let piece = parser.name(alloc)?;
+        parser.symbol(Symbol::CloseBracket, Expectation::Closing)?;
+        parser.symbol(Symbol::OpenBrace, Expectation::Opening)?;
+        let edges = parser.listed(alloc)?;
+        parser.symbol(Symbol::CloseBrace, Expectation::Closing)?;
+        Ok(Vertex { name, piece, edges })
+    }
+
+    fn begins_with(kind: TokenKind) -> bool {
+        kind == TokenKind::Name
     }
 }

@@ -1,8 +1,9 @@
 //! What is left of a section's tokens, and the readers of single tokens.
-ghost use Rattle.std.specs.Prelude.{◌≡◌, [], ◌∷◌, drop, IfErr, IfOk, IfSome, IsTrue, MatchOption};
+ghost use Rattle.std.specs.Prelude.{◌≡◌, [], ◌∷◌, drop, List, IfErr, IfOk, IfSome, IsTrue, MatchOption};
 ghost use Rattle.rbg_base.specs.Names.{is_name as is_a_name};
-ghost use Rattle.rbg_macro.specs.Token.{lexeme_of};
-ghost use Rattle.rbg_syntax.specs.Reading.{Gives, Takes, ended_at, front_at, next_is, is_name, is_symbol, name_at, number_at, symbol_at, word_at};
+ghost use Rattle.rbg_macro.specs.Token.{Lexeme, lexeme_of};
+ghost use Rattle.rbg_syntax.specs.internal.Reading.{FailsWithin, Gives, IsMisfit, Takes, ended_at, front_at, next_is, next_word, is_name, is_number, is_symbol, name_at, number_at, symbol_at, word_at};
+ghost use Rattle.rbg_syntax.specs.internal.RuleReading.{too_deep_at};
 ghost use Rattle.rbg_syntax.specs.Views.{name_of, number_of};
 
 use crate::error::{Expectation, SyntaxError};
@@ -55,6 +56,19 @@ impl<'a> Parser<'a> {
         }
     }
 
+    /// The token after the next one.
+    #[tactic(auto, using(crate::proofs::Fronts::second_from_get, crate::proofs::Fronts::second_past))]
+    fn peek_second(&self) -> Option<Token<'a>>
+        ensures { MatchOption result (drop 1 self.now ≡ [])
+            (λ t. drop 1 self.now ≡ lexeme_of t ∷ drop 1 (drop 1 self.now)) }
+    {
+        if self.section.len() - self.position < 2 {
+            None
+        } else {
+            Some(self.section.token(self.position + 1))
+        }
+    }
+
     /// Passes the next token, if there is one.
     #[tactic(auto, using(crate::proofs::Fronts::drop_one_more, crate::proofs::Fronts::drop_past))]
     pub(crate) fn advance(&mut self)
@@ -85,6 +99,36 @@ impl<'a> Parser<'a> {
         }
     }
 
+    /// Whether the next token is a number.
+    pub(crate) fn next_is_number(&self) -> bool
+        ensures { result ≡ next_is is_number self.now }
+    {
+        match self.peek() {
+            Some(token) => token.kind == TokenKind::Number,
+            None => false,
+        }
+    }
+
+    /// Whether the next token is this word.
+    pub(crate) fn next_is_word(&self, text: &[u8]) -> bool
+        ensures { result ≡ next_word text.now self.now }
+    {
+        match self.peek() {
+            Some(token) => token.kind == TokenKind::Name && token.text == text,
+            None => false,
+        }
+    }
+
+    /// Whether the token after the next one is this symbol.
+    pub(crate) fn second_is(&self, symbol: Symbol) -> bool
+        ensures { result ≡ next_is (is_symbol symbol) (drop 1 self.now) }
+    {
+        match self.peek_second() {
+            Some(token) => token.is(symbol),
+            None => false,
+        }
+    }
+
     /// Passes the next token if it is this symbol.
     pub(crate) fn takes(&mut self, symbol: Symbol) -> bool
         ensures { Takes symbol result self.old self.new }
@@ -97,7 +141,7 @@ impl<'a> Parser<'a> {
     }
 
     /// The next token, or an error if there is none.
-    fn front(&self, what: Expectation) -> Result<Token<'a>, SyntaxError>
+    pub(crate) fn front(&self, what: Expectation) -> Result<Token<'a>, SyntaxError>
         ensures front { Gives (λ t. (lexeme_of t, drop 1 self.now)) result (front_at self.now) }
         ensures name { IfOk result (λ t. t.kind ≡ TokenKind.Name → IsTrue (is_a_name t.text.now)) }
     {
@@ -110,21 +154,39 @@ impl<'a> Parser<'a> {
         }
     }
 
+    /// The error that the next token doesn't fit.
+    pub(crate) fn misfit(&self, what: Expectation) -> SyntaxError
+        ensures { IsMisfit result }
+    {
+        let at = match self.peek() {
+            Some(token) => token.at,
+            None => self.section.at(),
+        };
+        SyntaxError::Expected { at, what }
+    }
+
+    /// The error that the next token is one bracket too many.
+    pub(crate) fn too_deep(&self) -> SyntaxError
+        ensures { FailsWithin {B = Unit {0} × List Lexeme} result (too_deep_at self.now) }
+    {
+        match self.peek() {
+            Some(token) => SyntaxError::TooDeep { at: token.at },
+            None => self.misfit(Expectation::Item),
+        }
+    }
+
     /// Returns an error if a token is left.
-    pub(crate) fn end(&self) -> Result<(), SyntaxError>
+    pub(crate) fn end(&self, what: Expectation) -> Result<(), SyntaxError>
         ensures { Gives (λ x. x) result (ended_at tt self.now) }
     {
         match self.peek() {
-            Some(token) => Err(SyntaxError::Expected {
-                at: token.at,
-                what: Expectation::End,
-            }),
+            Some(token) => Err(SyntaxError::Expected { at: token.at, what }),
             None => Ok(()),
         }
     }
 
     /// Passes the symbol, and returns its offset.
-    #[tactic(auto, unfolding(crate::specs::Reading::symbol_at))]
+    #[tactic(auto, unfolding(crate::specs::internal::Reading::symbol_at))]
     pub(crate) fn symbol(&mut self, symbol: Symbol, what: Expectation) -> Result<usize, SyntaxError>
         ensures { Gives (λ at. (at, self.new)) result (symbol_at symbol self.old) }
     {
@@ -137,7 +199,7 @@ impl<'a> Parser<'a> {
     }
 
     /// Passes a name.
-    #[tactic(auto, unfolding(crate::specs::Reading::name_at))]
+    #[tactic(auto, unfolding(crate::specs::internal::Reading::name_at))]
     pub(crate) fn name(&mut self, alloc: Global) -> Result<Name, SyntaxError>
         ensures { Gives (λ n. (name_of n, self.new)) result (name_at self.old) }
     {
@@ -154,7 +216,7 @@ impl<'a> Parser<'a> {
     }
 
     /// Passes a name that is this word, and returns its offset.
-    #[tactic(auto, unfolding(crate::specs::Reading::word_at))]
+    #[tactic(auto, unfolding(crate::specs::internal::Reading::word_at))]
     pub(crate) fn word(&mut self, text: &[u8], what: Expectation) -> Result<usize, SyntaxError>
         ensures { Gives (λ at. (at, self.new)) result (word_at text.now self.old) }
     {
@@ -167,7 +229,7 @@ impl<'a> Parser<'a> {
     }
 
     /// Passes a number.
-    #[tactic(auto, unfolding(crate::specs::Reading::number_at))]
+    #[tactic(auto, unfolding(crate::specs::internal::Reading::number_at))]
     pub(crate) fn number(&mut self) -> Result<Number, SyntaxError>
         ensures { Gives (λ n. (number_of n, self.new)) result (number_at self.old) }
     {

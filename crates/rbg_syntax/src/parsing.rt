@@ -1,11 +1,12 @@
 //! The reader of a whole description.
-ghost use Rattle.std.specs.Prelude.{◌≡◌, codes, slice_get, IfErr, IfOk};
+ghost use Rattle.std.specs.Prelude.{◌≡◌, slice_get, IfErr, IfOk};
+ghost use Rattle.rbg_macro.specs.declared.source.SectionKind.TheVariants.{Variables};
 ghost use Rattle.rbg_macro.specs.declared.token.Symbol.TheVariants.{Comma};
 ghost use Rattle.rbg_syntax.specs.Descriptions.{description_of};
-ghost use Rattle.rbg_syntax.specs.Plain.{IsPlain};
-ghost use Rattle.rbg_syntax.specs.Reading.{Gives, bounded_at, generated_at, name_at, one_word_at, rectangle_at, separated_at, whole_at};
+ghost use Rattle.rbg_syntax.specs.internal.Reading.{Gives, GivesWithin, board_at, bounded_at, is_name, listed_at, name_at, separated_at, variables_at, whole_at};
+ghost use Rattle.rbg_syntax.specs.internal.RuleReading.{rules_at};
 ghost use Rattle.rbg_syntax.specs.Sections.{IsMissing, sections_of};
-ghost use Rattle.rbg_syntax.specs.Spells.{HasFault, IsAnswer, SpellsOneWord};
+ghost use Rattle.rbg_syntax.specs.Spells.{HasFault, IsAnswer, Spells, max_brackets};
 ghost use Rattle.rbg_syntax.specs.Tree.{SpeltDescription};
 ghost use Rattle.rbg_syntax.specs.Views.{board_of, bounded_list_of, names_of, rule_of};
 
@@ -18,18 +19,17 @@ use crate::sections::{find, refuse_twice};
 use rbg_macro::{Section, SectionKind, Source, Symbol};
 use std::alloc::Global;
 
-/// Reads the description that the sections of a source spell: players, pieces, a rectangle, and
-/// rules that are one sequence of shifts, ons, offs and switches.
+/// How many brackets may be open at once.
+const MAX_BRACKETS: u8 = 128;
+
+/// Reads the description that the sections of a source spell.
 ///
-/// `SectionTwice` comes before `MissingSection`, and that before `Expected`. The sections are read in the
-/// order players, pieces, variables, board and rules, and the first token that doesn't fit is refused.
+/// `SectionTwice` comes before `MissingSection`, and that before the others. The sections are read in the
+/// order players, pieces, variables, board and rules, each from the left, and the first fault decides.
 pub fn parse(alloc: Global, source: &Source) -> Result<Description, SyntaxError>
     // The result is what the sections spell.
-    ensures found { IfOk result (λ d. SpellsOneWord source.now (description_of d)) }
-    ensures only { (d : SpeltDescription) → SpellsOneWord source.now d → IsAnswer d result }
-
-    // Its board is a rectangle, and its rules are one sequence of plain actions.
-    ensures plain { IfOk result (λ d. IsPlain (description_of d)) }
+    ensures found { IfOk result (λ d. Spells source.now (description_of d)) }
+    ensures only { (d : SpeltDescription) → Spells source.now d → IsAnswer d result }
 
     // An error names a fault that the sections have.
     ensures fault { IfErr result (HasFault source.now) }
@@ -41,17 +41,12 @@ pub fn parse(alloc: Global, source: &Source) -> Result<Description, SyntaxError>
     let rules = needed(source, SectionKind::Rules)?;
     let players = read_players(alloc, players)?;
     let pieces = read_pieces(alloc, pieces)?;
-    if let Some(variables) = find(source, SectionKind::Variables) {
-        return Err(SyntaxError::Expected {
-            at: variables.at(),
-            what: Expectation::Name,
-        });
-    }
+    let variables = variables_of(alloc, source)?;
     let board = read_board(alloc, board)?;
     let rules = read_rules(alloc, rules)?;
     Ok(Description {
         players,
-        variables: Vec::new(alloc),
+        variables,
         pieces,
         board,
         rules,
@@ -66,42 +61,67 @@ fn needed(source: &Source, which: SectionKind) -> Result<Section<'_>, SyntaxErro
     find(source, which).ok_or(SyntaxError::MissingSection { which })
 }
 
-#[tactic(auto, using(crate::proofs::Answers::endings), unfolding(crate::specs::Reading::whole_at))]
+#[tactic(auto, using(crate::proofs::Answers::endings), unfolding(crate::specs::internal::Reading::whole_at))]
 fn read_players(alloc: Global, section: Section<'_>) -> Result<Vec<Bounded>, SyntaxError>
     ensures { Gives bounded_list_of result (whole_at (separated_at Comma bounded_at) section.entry.tokens) }
 {
     let mut parser = Parser::new(section);
     let players = parser.separated(alloc, Symbol::Comma)?;
-    parser.end()?;
+    parser.end(Expectation::End)?;
     Ok(players)
 }
 
-#[tactic(auto, using(crate::proofs::Answers::endings), unfolding(crate::specs::Reading::whole_at))]
+#[tactic(auto, using(crate::proofs::Answers::endings), unfolding(crate::specs::internal::Reading::whole_at))]
 fn read_pieces(alloc: Global, section: Section<'_>) -> Result<Vec<Name>, SyntaxError>
     ensures { Gives names_of result (whole_at (separated_at Comma name_at) section.entry.tokens) }
 {
     let mut parser = Parser::new(section);
     let pieces = parser.separated(alloc, Symbol::Comma)?;
-    parser.end()?;
+    parser.end(Expectation::End)?;
     Ok(pieces)
 }
 
-#[tactic(auto, using(crate::proofs::Answers::endings), unfolding(crate::specs::Reading::whole_at))]
-fn read_board(alloc: Global, section: Section<'_>) -> Result<Board, SyntaxError>
-    ensures { Gives board_of result (whole_at (generated_at (codes "rectangle") rectangle_at) section.entry.tokens) }
+/// The variables. There are none where they have no section.
+fn variables_of(alloc: Global, source: &Source) -> Result<Vec<Bounded>, SyntaxError>
+    ensures { Gives bounded_list_of result (variables_at (sections_of Variables source.now)) }
+{
+    match find(source, SectionKind::Variables) {
+        Some(section) => read_variables(alloc, section),
+        None => Ok(Vec::new(alloc)),
+    }
+}
+
+#[tactic(auto, using(crate::proofs::Answers::endings, crate::proofs::PhraseLaws::bounded_takes_some), unfolding(crate::specs::internal::Reading::whole_at))]
+fn read_variables(alloc: Global, section: Section<'_>) -> Result<Vec<Bounded>, SyntaxError>
+    ensures { Gives bounded_list_of result (whole_at (listed_at is_name bounded_at) section.entry.tokens) }
 {
     let mut parser = Parser::new(section);
-    let board = parser.rectangle_board(alloc)?;
-    parser.end()?;
+    let variables = parser.listed(alloc)?;
+    let what = if variables.is_empty() {
+        Expectation::Name
+    } else {
+        Expectation::End
+    };
+    parser.end(what)?;
+    Ok(variables)
+}
+
+#[tactic(auto, using(crate::proofs::Answers::endings), unfolding(crate::specs::internal::Reading::whole_at))]
+fn read_board(alloc: Global, section: Section<'_>) -> Result<Board, SyntaxError>
+    ensures { Gives board_of result (whole_at board_at section.entry.tokens) }
+{
+    let mut parser = Parser::new(section);
+    let board = parser.board(alloc)?;
+    parser.end(Expectation::End)?;
     Ok(board)
 }
 
-#[tactic(auto, using(crate::proofs::Answers::endings), unfolding(crate::specs::Reading::whole_at))]
+#[tactic(auto, using(crate::proofs::Answers::endings), unfolding(crate::specs::internal::Reading::whole_at))]
 fn read_rules(alloc: Global, section: Section<'_>) -> Result<Rule, SyntaxError>
-    ensures { Gives rule_of result (whole_at one_word_at section.entry.tokens) }
+    ensures { GivesWithin rule_of result (whole_at (rules_at max_brackets) section.entry.tokens) }
 {
     let mut parser = Parser::new(section);
-    let rules = parser.one_word(alloc)?;
-    parser.end()?;
+    let rules = parser.rules(alloc, MAX_BRACKETS)?;
+    parser.end(Expectation::End)?;
     Ok(rules)
 }

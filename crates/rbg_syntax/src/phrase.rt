@@ -1,6 +1,6 @@
 //! Phrases, and the loops that read lists of them.
 ghost use Rattle.std.specs.Prelude.{◌≡◌, map};
-ghost use Rattle.rbg_syntax.specs.Reading.{Gives, TakesSome, listed_at, next_is, repeated_at, separated_at};
+ghost use Rattle.rbg_syntax.specs.internal.Reading.{Gives, TakesSome, listed_at, next_is, repeated_at, separated_at};
 
 use crate::error::SyntaxError;
 use crate::parser::Parser;
@@ -12,7 +12,7 @@ pub(crate) trait Phrase: Sized + Drop {
     ghost use Rattle.std.specs.Prelude.{◌≡◌, List, Bool};
     ghost use Rattle.rbg_macro.specs.Token.{Lexeme};
     ghost use Rattle.rbg_macro.specs.declared.token.TokenKind.{TokenKind};
-    ghost use Rattle.rbg_syntax.specs.Reading.{Gives, Reading};
+    ghost use Rattle.rbg_syntax.specs.internal.Reading.{Gives, Reading};
 
     // What such a phrase spells.
     ghost Spelt: { Type 0 };
@@ -63,7 +63,7 @@ impl Parser<'_> {
     }
 
     /// Any number of phrases, with commas between them.
-    #[tactic(auto, unfolding(crate::specs::Reading::listed_at))]
+    #[tactic(auto, unfolding(crate::specs::internal::Reading::listed_at))]
     pub(crate) fn listed<T: Phrase>(&mut self, alloc: Global) -> Result<Vec<T>, SyntaxError>
         requires { TakesSome T.read }
         ensures { Gives (λ v. (map T.view v.items, self.new)) result (listed_at T.begins T.read self.old) }

@@ -152,212 +152,119 @@ fn sections_spell_these_descriptions(rt: HostRuntime) -> Result<(), Fail> {
     Ok(())
 }
 
-/// Sections of which the first has a token that doesn't fit, its offset, and what is expected there.
-const MISFITS: [([&str; 4], usize, Expectation); 52] = [
+/// Sections with a token that doesn't fit, its offset, and what is expected there.
+const MISFITS: [(&str, usize, Expectation); 90] = [
     // players
-    (["#players=", PIECES, BOARD, RULES], 0, Expectation::Name),
-    (["#players=1", PIECES, BOARD, RULES], 9, Expectation::Name),
-    (
-        ["#players=p", PIECES, BOARD, RULES],
-        0,
-        Expectation::Opening,
-    ),
-    (
-        ["#players=p,q(1)", PIECES, BOARD, RULES],
-        10,
-        Expectation::Opening,
-    ),
-    (
-        ["#players=p(", PIECES, BOARD, RULES],
-        0,
-        Expectation::Number,
-    ),
-    (
-        ["#players=p(q)", PIECES, BOARD, RULES],
-        11,
-        Expectation::Number,
-    ),
-    (
-        ["#players=p(1", PIECES, BOARD, RULES],
-        0,
-        Expectation::Closing,
-    ),
-    (
-        ["#players=p(1,2)", PIECES, BOARD, RULES],
-        12,
-        Expectation::Closing,
-    ),
-    (
-        ["#players=p(1),", PIECES, BOARD, RULES],
-        0,
-        Expectation::Name,
-    ),
-    (
-        ["#players=p(1) q(1)", PIECES, BOARD, RULES],
-        14,
-        Expectation::End,
-    ),
+    ("#players=", 0, Expectation::Name),
+    ("#players=1", 9, Expectation::Name),
+    ("#players=p", 0, Expectation::Opening),
+    ("#players=p,q(1)", 10, Expectation::Opening),
+    ("#players=p(", 0, Expectation::Number),
+    ("#players=p(q)", 11, Expectation::Number),
+    ("#players=p(1", 0, Expectation::Closing),
+    ("#players=p(1,2)", 12, Expectation::Closing),
+    ("#players=p(1),", 0, Expectation::Name),
+    ("#players=p(1) q(1)", 14, Expectation::End),
     // pieces
-    (["#pieces=", PLAYERS, BOARD, RULES], 0, Expectation::Name),
-    (["#pieces=e,", PLAYERS, BOARD, RULES], 0, Expectation::Name),
-    (
-        ["#pieces=e,,w", PLAYERS, BOARD, RULES],
-        10,
-        Expectation::Name,
-    ),
-    (["#pieces=e w", PLAYERS, BOARD, RULES], 10, Expectation::End),
+    ("#pieces=", 0, Expectation::Name),
+    ("#pieces=e,", 0, Expectation::Name),
+    ("#pieces=e,,w", 10, Expectation::Name),
+    ("#pieces=e w", 10, Expectation::End),
+    // variables
+    ("#variables=1", 11, Expectation::Name),
+    ("#variables=v", 0, Expectation::Opening),
+    ("#variables=v(w)", 13, Expectation::Number),
+    ("#variables=v(1", 0, Expectation::Closing),
+    ("#variables=v(1),", 0, Expectation::Name),
+    ("#variables=v(1)w(1)", 15, Expectation::End),
     // boards
-    (
-        ["#board=", PLAYERS, PIECES, RULES],
-        0,
-        Expectation::Generator,
-    ),
-    (
-        ["#board=1", PLAYERS, PIECES, RULES],
-        7,
-        Expectation::Generator,
-    ),
-    (
-        ["#board=hexagon(", PLAYERS, PIECES, RULES],
-        7,
-        Expectation::Generator,
-    ),
-    (
-        ["#board=graph()", PLAYERS, PIECES, RULES],
-        7,
-        Expectation::Generator,
-    ),
-    (
-        ["#board=rectangle", PLAYERS, PIECES, RULES],
-        0,
-        Expectation::Opening,
-    ),
-    (
-        ["#board=rectangle[", PLAYERS, PIECES, RULES],
-        16,
-        Expectation::Opening,
-    ),
-    (
-        ["#board=rectangle(a,b,,d,)", PLAYERS, PIECES, RULES],
-        21,
-        Expectation::Name,
-    ),
-    (
-        ["#board=rectangle(a,b,c", PLAYERS, PIECES, RULES],
-        0,
-        Expectation::Comma,
-    ),
-    (
-        ["#board=rectangle(a,b,c,d)", PLAYERS, PIECES, RULES],
-        24,
-        Expectation::Comma,
-    ),
-    (
-        ["#board=rectangle(a,b,c,d,e)", PLAYERS, PIECES, RULES],
-        25,
-        Expectation::Closing,
-    ),
-    (
-        ["#board=rectangle(a,b,c,d,[,])", PLAYERS, PIECES, RULES],
-        26,
-        Expectation::Closing,
-    ),
-    (
-        ["#board=rectangle(a,b,c,d,[e,])", PLAYERS, PIECES, RULES],
-        28,
-        Expectation::Name,
-    ),
-    (
-        ["#board=rectangle(a,b,c,d,[e w])", PLAYERS, PIECES, RULES],
-        28,
-        Expectation::Closing,
-    ),
-    (
-        ["#board=rectangle(a,b,c,d,[e]", PLAYERS, PIECES, RULES],
-        0,
-        Expectation::Closing,
-    ),
-    (
-        ["#board=rectangle(a,b,c,d,),", PLAYERS, PIECES, RULES],
-        26,
-        Expectation::End,
-    ),
+    ("#board=", 0, Expectation::Generator),
+    ("#board=1", 7, Expectation::Generator),
+    ("#board=cube(", 7, Expectation::Generator),
+    ("#board=rectangle", 0, Expectation::Opening),
+    ("#board=rectangle[", 16, Expectation::Opening),
+    ("#board=rectangle(a,b,,d,)", 21, Expectation::Name),
+    ("#board=rectangle(a,b,c", 0, Expectation::Comma),
+    ("#board=rectangle(a,b,c,d)", 24, Expectation::Comma),
+    ("#board=rectangle(a,b,c,d,e)", 25, Expectation::Closing),
+    ("#board=rectangle(a,b,c,d,[,])", 26, Expectation::Closing),
+    ("#board=rectangle(a,b,c,d,[e,])", 28, Expectation::Name),
+    ("#board=rectangle(a,b,c,d,[e w])", 28, Expectation::Closing),
+    ("#board=rectangle(a,b,c,d,[e]", 0, Expectation::Closing),
+    ("#board=rectangle(a,b,c,d,),", 26, Expectation::End),
+    ("#board=hexagon", 0, Expectation::Opening),
+    ("#board=hexagon(", 0, Expectation::Name),
+    ("#board=hexagon(a,b,c,d,e,f)", 26, Expectation::Comma),
+    ("#board=hexagon(a,b,c,d,e,f,g)", 27, Expectation::Closing),
+    ("#board=graph", 0, Expectation::Opening),
+    ("#board=graph(", 0, Expectation::Closing),
+    ("#board=graph(,)", 13, Expectation::Closing),
+    ("#board=graph(a)", 14, Expectation::Opening),
+    ("#board=graph(a[])", 15, Expectation::Name),
+    ("#board=graph(a[e)", 16, Expectation::Closing),
+    ("#board=graph(a[e])", 17, Expectation::Opening),
+    ("#board=graph(a[e]{)", 18, Expectation::Closing),
+    ("#board=graph(a[e]{x}", 19, Expectation::Colon),
+    ("#board=graph(a[e]{x:}", 20, Expectation::Name),
+    ("#board=graph(a[e]{x:b y", 22, Expectation::Closing),
+    ("#board=graph(a[e]{x:b,}", 22, Expectation::Name),
+    ("#board=graph())", 14, Expectation::End),
     // rules
-    (["#rules=", PLAYERS, PIECES, BOARD], 0, Expectation::Item),
-    (["#rules=1", PLAYERS, PIECES, BOARD], 7, Expectation::Item),
-    (["#rules=(a)", PLAYERS, PIECES, BOARD], 7, Expectation::Item),
-    (["#rules=+a", PLAYERS, PIECES, BOARD], 7, Expectation::Item),
-    (["#rules=*", PLAYERS, PIECES, BOARD], 7, Expectation::Item),
-    (["#rules=a(b)", PLAYERS, PIECES, BOARD], 8, Expectation::End),
-    (["#rules=a+b", PLAYERS, PIECES, BOARD], 8, Expectation::End),
-    (["#rules=a*", PLAYERS, PIECES, BOARD], 8, Expectation::End),
-    (["#rules=a]", PLAYERS, PIECES, BOARD], 8, Expectation::End),
-    (["#rules=->", PLAYERS, PIECES, BOARD], 0, Expectation::Name),
-    (
-        ["#rules=->{a}", PLAYERS, PIECES, BOARD],
-        9,
-        Expectation::Name,
-    ),
-    (["#rules={", PLAYERS, PIECES, BOARD], 0, Expectation::Name),
-    (
-        ["#rules={,a}", PLAYERS, PIECES, BOARD],
-        8,
-        Expectation::Name,
-    ),
-    (
-        ["#rules={a,}", PLAYERS, PIECES, BOARD],
-        10,
-        Expectation::Name,
-    ),
-    (
-        ["#rules={a", PLAYERS, PIECES, BOARD],
-        0,
-        Expectation::Closing,
-    ),
-    (
-        ["#rules={a b}", PLAYERS, PIECES, BOARD],
-        10,
-        Expectation::Closing,
-    ),
-    (
-        ["#rules={$a==b}", PLAYERS, PIECES, BOARD],
-        8,
-        Expectation::Name,
-    ),
-    (
-        ["#rules={?a}", PLAYERS, PIECES, BOARD],
-        8,
-        Expectation::Name,
-    ),
-    (
-        ["#rules={!a}", PLAYERS, PIECES, BOARD],
-        8,
-        Expectation::Name,
-    ),
-    (["#rules=[]", PLAYERS, PIECES, BOARD], 8, Expectation::Name),
-    (
-        ["#rules=[$a=1]", PLAYERS, PIECES, BOARD],
-        8,
-        Expectation::Name,
-    ),
-    (
-        ["#rules=[a", PLAYERS, PIECES, BOARD],
-        0,
-        Expectation::Closing,
-    ),
-    (
-        ["#rules=[a,b]", PLAYERS, PIECES, BOARD],
-        9,
-        Expectation::Closing,
-    ),
+    ("#rules=", 0, Expectation::Item),
+    ("#rules=1", 7, Expectation::Item),
+    ("#rules=*", 7, Expectation::Item),
+    ("#rules=+a", 7, Expectation::Item),
+    ("#rules=a+", 0, Expectation::Item),
+    ("#rules=()", 8, Expectation::Item),
+    ("#rules=(a", 0, Expectation::Closing),
+    ("#rules=(a]", 9, Expectation::Closing),
+    ("#rules=(a+)", 10, Expectation::Item),
+    ("#rules=(a**)", 10, Expectation::Closing),
+    ("#rules=a**", 9, Expectation::End),
+    ("#rules=a]", 8, Expectation::End),
+    ("#rules=->", 0, Expectation::Name),
+    ("#rules=->{a}", 9, Expectation::Name),
+    ("#rules={", 0, Expectation::Name),
+    ("#rules={,a}", 8, Expectation::Name),
+    ("#rules={a,}", 10, Expectation::Name),
+    ("#rules={a", 0, Expectation::Closing),
+    ("#rules={a b}", 10, Expectation::Closing),
+    ("#rules={?}", 9, Expectation::Item),
+    ("#rules={!a", 0, Expectation::Closing),
+    ("#rules={?a)", 10, Expectation::Closing),
+    ("#rules=[]", 8, Expectation::Name),
+    ("#rules=[a", 0, Expectation::Closing),
+    ("#rules=[a,b]", 9, Expectation::Closing),
+    // arithmetic
+    ("#rules={$}", 9, Expectation::Factor),
+    ("#rules={$a}", 10, Expectation::Relation),
+    ("#rules={$a=b}", 10, Expectation::Relation),
+    ("#rules={$a==}", 12, Expectation::Factor),
+    ("#rules={$a==b)", 13, Expectation::Closing),
+    ("#rules={$--a==b}", 10, Expectation::Factor),
+    ("#rules={$a+*b==c}", 11, Expectation::Factor),
+    ("#rules={$(a==b}", 11, Expectation::Closing),
+    ("#rules=[$]", 9, Expectation::Name),
+    ("#rules=[$a]", 10, Expectation::Equals),
+    ("#rules=[$a==b]", 10, Expectation::Equals),
+    ("#rules=[$a=]", 11, Expectation::Factor),
+    ("#rules=[$a=1 b]", 13, Expectation::Closing),
+    ("#rules=[$a=1,]", 13, Expectation::Name),
 ];
+
+/// The sections that a description needs.
+const SECTIONS: [&str; 4] = [PLAYERS, PIECES, BOARD, RULES];
 
 #[test]
 fn the_first_token_that_does_not_fit_is_named(rt: HostRuntime) -> Result<(), Fail> {
-    for (sections, at, what) in MISFITS {
+    for (misfit, at, what) in MISFITS {
         let mut text = String::new(rt.alloc());
-        for section in sections {
-            text.push_str(section)?;
+        text.push_str(misfit)?;
+        for section in SECTIONS {
+            // the section that doesn't fit stands for that of its kind
+            if section.as_bytes()[..4] != misfit.as_bytes()[..4] {
+                text.push_str(section)?;
+            }
         }
         let error = parsed(rt.alloc(), &text)?.err();
         assert_eq!(rt; error, Some(SyntaxError::Expected { at, what }), "{text}");
@@ -366,7 +273,7 @@ fn the_first_token_that_does_not_fit_is_named(rt: HostRuntime) -> Result<(), Fai
 }
 
 /// Texts, each with the first of its faults.
-const FAULTS: [(&str, SyntaxError); 12] = [
+const FAULTS: [(&str, SyntaxError); 13] = [
     (
         "#rules=#players=#players=#rules=",
         SyntaxError::SectionTwice {
@@ -424,17 +331,24 @@ const FAULTS: [(&str, SyntaxError); 12] = [
         },
     ),
     (
-        "#rules=#board=#variables=#pieces=e#players=p(1)",
+        "#rules=#board=#variables=1#pieces=e#players=p(1)",
         SyntaxError::Expected {
-            at: 14,
+            at: 25,
             what: Expectation::Name,
         },
     ),
     (
         "#rules=#board=#variables=v(1)#pieces=e#players=p(1)",
         SyntaxError::Expected {
-            at: 14,
-            what: Expectation::Name,
+            at: 7,
+            what: Expectation::Generator,
+        },
+    ),
+    (
+        "#rules=#board=graph()#pieces=e#players=p(1)",
+        SyntaxError::Expected {
+            at: 0,
+            what: Expectation::Item,
         },
     ),
     (
@@ -451,6 +365,42 @@ fn the_first_fault_decides(rt: HostRuntime) -> Result<(), Fail> {
     for (text, want) in FAULTS {
         let error = parsed(rt.alloc(), text)?.err();
         assert_eq!(rt; error, Some(want), "{text}");
+    }
+    Ok(())
+}
+
+/// What stands before so many pairs of parentheses around a name, and how many; and the error.
+const DEPTHS: [(&str, usize, Option<SyntaxError>); 3] = [
+    ("", 128, None),
+    ("", 129, Some(SyntaxError::TooDeep { at: 135 })),
+    (
+        ")",
+        129,
+        Some(SyntaxError::Expected {
+            at: 7,
+            what: Expectation::Item,
+        }),
+    ),
+];
+
+#[test]
+fn the_129th_open_bracket_is_too_deep(rt: HostRuntime) -> Result<(), Fail> {
+    for (before, depth, want) in DEPTHS {
+        let mut text = String::new(rt.alloc());
+        text.push_str("#rules=")?;
+        text.push_str(before)?;
+        for _ in 0..depth {
+            text.push_str("(")?;
+        }
+        text.push_str("a")?;
+        for _ in 0..depth {
+            text.push_str(")")?;
+        }
+        for section in [PLAYERS, PIECES, BOARD] {
+            text.push_str(section)?;
+        }
+        let error = parsed(rt.alloc(), &text)?.err();
+        assert_eq!(rt; error, want, "{text}");
     }
     Ok(())
 }

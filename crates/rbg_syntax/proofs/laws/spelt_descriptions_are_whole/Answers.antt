@@ -1,4 +1,4 @@
-use Rattle.rbg_syntax.proofs.Wider.{spelt_whole}
+use Rattle.rbg_syntax.proofs.Whole.{spelt_whole}
 use Rattle.rbg_syntax.proofs.laws.spelt_descriptions_are_whole.Goals as goal
 
 pub returns : goal.returns

@@ -1,5 +1,5 @@
 use Rattle.std.proofs.Common.{◌≡◌, length, map}
-use Rattle.rbg_syntax.specs.Reading.{repeated_at}
+use Rattle.rbg_syntax.specs.internal.Reading.{repeated_at}
 use Rattle.rbg_syntax.proofs.Turns.{prepend}
 use Rattle.rbg_syntax.proofs.parser.Parser.repeated.Given as goal
 

@@ -1,7 +1,8 @@
 -- What the parser reads of arithmetic and of rules, as deep as brackets may be nested. Only the crate's own proofs
 -- cite it.
-use Rattle.std.specs.Prelude.{ℕ, zero, suc, List, [], ◌∷◌, Bool, true, false, drop, Ok, Err, if◌then◌else◌}
+use Rattle.std.specs.Prelude.{◌≡◌, ℕ, Option, Some, None, zero, suc, List, [], ◌∷◌, Bool, true, false, drop, Ok, Err, if◌then◌else◌}
 use Rattle.rbg_macro.specs.Token.{Lexeme}
+use Rattle.rbg_macro.specs.declared.token.Symbol.{Symbol}
 use Rattle.rbg_macro.specs.declared.token.Symbol.TheVariants.{DoubleArrow, Arrow, DoubleEquals, NotEquals, LessOrEqual, GreaterOrEqual, Equals, LessThan, GreaterThan, Plus, Minus, Star, Slash, OpenParenthesis, CloseParenthesis, OpenBracket, CloseBracket, OpenBrace, CloseBrace, Comma, Dollar, Question, Exclamation}
 use Rattle.rbg_macro.specs.declared.token.TokenKind.{TokenKind}
 use Rattle.rbg_macro.specs.declared.token.TokenKind.TheVariants as kinds
@@ -11,8 +12,8 @@ use Rattle.rbg_syntax.specs.declared.expression.Additive.{Additive}
 use Rattle.rbg_syntax.specs.declared.expression.Additive.TheVariants as additive
 use Rattle.rbg_syntax.specs.declared.expression.Multiplicative.{Multiplicative}
 use Rattle.rbg_syntax.specs.declared.expression.Multiplicative.TheVariants as multiplicative
-use Rattle.rbg_syntax.specs.Tree.{SpeltExpression, SpeltRule, act, assign, compare, positive, negative, star, choice, no_rules, sequence_of, choice_of, sum_of, product_of}
-use Rattle.rbg_syntax.specs.Reading.{misfit, too_deep, Reading, ◌>>=◌, next_is, is_number, is_symbol, front_at, symbol_at, name_at, number_at, repeated_at, after_at, separated_at, within_at, open_atom_at, on_at, off_at, in_sequence}
+use Rattle.rbg_syntax.specs.Tree.{SpeltExpression, SpeltRule, no_terms, no_factors, terms_after, factors_after, act, assign, compare, positive, negative, star, choice, no_rules, sequence_of, choice_of, sum_of, product_of}
+use Rattle.rbg_syntax.specs.internal.Reading.{misfit, too_deep, Reading, ◌>>=◌, next_is, is_number, is_symbol, front_at, symbol_at, name_at, number_at, repeated_at, after_at, separated_at, within_at, open_atom_at, on_at, off_at, in_sequence}
 
 -- the bracket at the front is one too many
 abbrev pub too_deep_at : {A : Type 0} → List Lexeme → Reading A
@@ -75,6 +76,17 @@ further_term_at primary ts =
       e ← after_at Minus (term_at primary) ts
       Ok ((additive.Minus, e.0), e.1))
 
+-- the parts of a product, and of a sum, as one expression
+abbrev pub in_product : List (Multiplicative × SpeltExpression) → SpeltExpression
+in_product [] = SpeltExpression.product no_factors
+in_product (f ∷ []) = f.1
+in_product (f ∷ g ∷ fs) = SpeltExpression.product (factors_after no_factors (f ∷ g ∷ fs))
+
+abbrev pub in_sum : List (Additive × SpeltExpression) → SpeltExpression
+in_sum [] = SpeltExpression.sum no_terms
+in_sum (t ∷ []) = t.1
+in_sum (t ∷ u ∷ ts) = SpeltExpression.sum (terms_after no_terms (t ∷ u ∷ ts))
+
 unfoldable pub sum_over_at : (List Lexeme → Reading SpeltExpression) → List Lexeme → Reading SpeltExpression
 sum_over_at primary ts = do
   e ← term_at primary ts
@@ -115,6 +127,11 @@ is_relation (kinds.Symbol GreaterThan) = true
 is_relation (kinds.Symbol GreaterOrEqual) = true
 is_relation (kinds.Symbol _) = false
 
+-- the relation that a token of this kind is, if it is one
+abbrev pub IsRelationOf : TokenKind → Option Relation → Type 0
+IsRelationOf k (Some r) = (is_relation k ≡ true) × (relation_of k ≡ r)
+IsRelationOf k None = is_relation k ≡ false
+
 unfoldable pub relation_at : List Lexeme → Reading Relation
 relation_at ts = do
   t ← front_at ts
@@ -142,6 +159,14 @@ assignments_at sum ts = do
 abbrev pub in_choice : List SpeltRule → SpeltRule
 in_choice [] = choice no_rules
 in_choice (r ∷ rs) = choice_of r rs
+
+-- the place of a pattern and the rules in it, where this sign is after its brace
+unfoldable pub pattern_at : Symbol → (List Lexeme → Reading SpeltRule) → List Lexeme → Reading (ℕ × SpeltRule)
+pattern_at sign rules ts = do
+  at ← symbol_at OpenBrace ts
+  r ← after_at sign rules at.1
+  end ← symbol_at CloseBrace r.1
+  Ok ((at.0, r.0), end.1)
 
 unfoldable pub positive_at : (List Lexeme → Reading SpeltRule) → List Lexeme → Reading SpeltRule
 positive_at rules ts = do

@@ -3,7 +3,7 @@
 use Rattle.std.specs.Prelude.{◌≡◌, ◌<◌, ◌&&◌, ℕ, zero, suc, List, [], ◌∷◌, Bool, true, false, codes, drop, length, Some, None, Result, Ok, Err, if◌then◌else◌}
 use Rattle.std.specs.Str.{bytes_eq}
 use denote.Enum.Bare.{sameb}
-use Rattle.rbg_macro.specs.Token.{Lexeme}
+use Rattle.rbg_macro.specs.Token.{Lexeme, SectionTokens}
 use Rattle.rbg_macro.specs.contracts.token.Symbol.{the_type}
 use Rattle.rbg_macro.specs.declared.token.Symbol.{Symbol}
 use Rattle.rbg_macro.specs.declared.token.Symbol.TheVariants.{DoubleArrow, Arrow, OpenParenthesis, CloseParenthesis, OpenBracket, CloseBracket, OpenBrace, CloseBrace, Comma, Colon}
@@ -44,6 +44,26 @@ Fails errors.Memory read = Unit {0}
 abbrev pub Gives : {A B : Type 0} → (A → B) → Result A SyntaxError → Result B Fault → Type 0
 Gives view (Ok x) read = read ≡ Ok (view x)
 Gives view (Err e) read = Fails e read
+
+-- The same, where the fault may also be a bracket that is one too many.
+abbrev pub FailsWithin : {B : Type 0} → SyntaxError → Result B Fault → Type 0
+FailsWithin (errors.Expected at what) read = read ≡ Err misfit
+FailsWithin (errors.MissingSection which) read = ⊥
+FailsWithin (errors.SectionTwice which) read = ⊥
+FailsWithin (errors.TooDeep at) read = read ≡ Err (too_deep at)
+FailsWithin errors.Memory read = Unit {0}
+
+abbrev pub GivesWithin : {A B : Type 0} → (A → B) → Result A SyntaxError → Result B Fault → Type 0
+GivesWithin view (Ok x) read = read ≡ Ok (view x)
+GivesWithin view (Err e) read = FailsWithin e read
+
+-- the error is that a token doesn't fit
+abbrev pub IsMisfit : SyntaxError → Type 0
+IsMisfit (errors.Expected at what) = Unit {0}
+IsMisfit (errors.MissingSection which) = ⊥
+IsMisfit (errors.SectionTwice which) = ⊥
+IsMisfit (errors.TooDeep at) = ⊥
+IsMisfit errors.Memory = ⊥
 
 -- the next token, if there is one, passes the test
 abbrev pub next_is : (TokenKind → Bool) → List Lexeme → Bool
@@ -117,12 +137,12 @@ unfoldable pub repeated_at :
     {A : Type 0} → (TokenKind → Bool) → (List Lexeme → Reading A) → List Lexeme → Reading (List A)
 repeated_at test read ts = repeated_within (length ts) test read ts
 
--- at least one phrase, and further ones as long as the next token passes the test
-unfoldable pub some_at : {A : Type 0} → (TokenKind → Bool) → (List Lexeme → Reading A) → List Lexeme → Reading (List A)
-some_at test read ts = do
-  first ← read ts
-  more ← repeated_at test read first.1
-  Ok (first.0 ∷ more.0, more.1)
+-- a first part, and what is read after it
+unfoldable pub further_at :
+    {A : Type 0} → A → (TokenKind → Bool) → (List Lexeme → Reading A) → List Lexeme → Reading (List A)
+further_at first test read ts = do
+  more ← repeated_at test read ts
+  Ok (first ∷ more.0, more.1)
 
 unfoldable pub after_at : {A : Type 0} → Symbol → (List Lexeme → Reading A) → List Lexeme → Reading A
 after_at s read ts = do
@@ -235,6 +255,11 @@ whole_at read ts = do
   x ← read ts
   ended_at x.0 x.1
 
+-- the variables, by the sections that are theirs: none where there is no section
+unfoldable pub variables_at : List SectionTokens → Result (List SpeltBounded) Fault
+variables_at [] = Ok []
+variables_at (s ∷ ss) = whole_at (listed_at is_name bounded_at) s.tokens
+
 -- the parts of a sequence as one rule
 abbrev pub in_sequence : List SpeltRule → SpeltRule
 in_sequence [] = sequence no_rules
@@ -263,24 +288,3 @@ unfoldable pub off_at : List Lexeme → Reading SpeltRule
 off_at ts = do
   n ← within_at OpenBracket CloseBracket name_at ts
   Ok (act (off n.0), n.1)
-
-unfoldable pub plain_atom_at : List Lexeme → Reading SpeltRule
-plain_atom_at ts =
-    if next_is (is_symbol OpenBrace) ts then on_at ts
-    else (if next_is (is_symbol OpenBracket) ts then off_at ts else open_atom_at ts)
-
--- whether a plain atom begins with such a token
-abbrev pub begins_plain_atom : TokenKind → Bool
-begins_plain_atom kinds.Name = true
-begins_plain_atom kinds.Number = false
-begins_plain_atom (kinds.Symbol OpenBrace) = true
-begins_plain_atom (kinds.Symbol OpenBracket) = true
-begins_plain_atom (kinds.Symbol Arrow) = true
-begins_plain_atom (kinds.Symbol DoubleArrow) = true
-begins_plain_atom (kinds.Symbol _) = false
-
--- rules that are one word
-unfoldable pub one_word_at : List Lexeme → Reading SpeltRule
-one_word_at ts = do
-  rs ← some_at begins_plain_atom plain_atom_at ts
-  Ok (in_sequence rs.0, rs.1)

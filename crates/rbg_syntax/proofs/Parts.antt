@@ -1,0 +1,224 @@
+-- A first part and further ones, as the parser reads them.
+use Rattle.std.proofs.Common.{◌≡◌, ◌+◌, ◌-◌, ◌<◌, ℕ, zero, suc, List, [], ◌∷◌, ◌++◌, Bool, true, false, cond, Result, Ok, Err, refl, sym, ap, ◌∙◌, arith, append-nil}
+use Rattle.rbg_macro.specs.Token.{Lexeme}
+use Rattle.rbg_macro.specs.declared.token.Symbol.{Symbol}
+use Rattle.rbg_macro.specs.declared.token.Symbol.TheVariants.{Plus, OpenParenthesis, CloseParenthesis, OpenBrace, CloseBrace, Question, Exclamation}
+use Rattle.rbg_macro.specs.declared.token.TokenKind.{TokenKind}
+use Rattle.rbg_syntax.specs.declared.expression.Additive.{Additive}
+use Rattle.rbg_syntax.specs.declared.expression.Additive.TheVariants as additive
+use Rattle.rbg_syntax.specs.declared.expression.Multiplicative.{Multiplicative}
+use Rattle.rbg_syntax.specs.declared.expression.Multiplicative.TheVariants as multiplicative
+use Rattle.rbg_syntax.specs.Tree.{SpeltExpression, SpeltRule, act, positive, negative, sum_of, product_of, sequence_of}
+use Rattle.rbg_syntax.specs.internal.Reading.{Fault, misfit, too_deep, Reading, ◌>>=◌, next_is, is_symbol, symbol_at, repeated_at, after_at, separated_at, within_at, further_at, in_sequence, open_atom_at}
+use Rattle.rbg_syntax.specs.internal.RuleReading.{too_deep_at, factor_at, further_factor_at, further_term_at, in_choice, in_product, in_sum, is_opening, is_product_sign, is_sum_sign, number_or_name_at, primary_at, sum_at, term_at, sum_over_at, atom_at, begins_atom, bracket_atom_at, item_at, sequence_at, rules_over_at, rules_at, pattern_at, positive_at, negative_at}
+use Rattle.rbg_syntax.proofs.Turns.{repeated_ends, prepend}
+
+further_stops : {X : Type 0} (x : X) (test : TokenKind → Bool) (read : List Lexeme → Reading X) (ts : List Lexeme) → next_is test ts ≡ false → further_at x test read ts ≡ Ok (x ∷ [], ts)
+unfolding further_at
+further_stops x test read ts e = repeated_ends test read (x ∷ []) ts e
+
+-- what is read of a whole, where it is a first part and further ones put together
+module _ {A X : Type 0} (whole r : Reading A) (first : A → X) (test : TokenKind → Bool) (read : List Lexeme → Reading X) (of : List X → A)
+    (same : whole ≡ (r >>= λ e. further_at (first e.0) test read e.1 >>= λ es. Ok (of es.0, es.1))) (one : (x : A) → of (first x ∷ []) ≡ x) where
+  pub parts_fail : (f : Fault) → r ≡ Err f → whole ≡ Err f
+  parts_fail f e = same ∙ ap (λ u. u >>= λ e. further_at (first e.0) test read e.1 >>= λ es. Ok (of es.0, es.1)) e
+
+  pub parts_alone : (x : A) (rest : List Lexeme) → r ≡ Ok (x, rest) → next_is test rest ≡ false → whole ≡ Ok (x, rest)
+  parts_alone x rest e stops =
+      same ∙ ap (λ u. u >>= λ e. further_at (first e.0) test read e.1 >>= λ es. Ok (of es.0, es.1)) e
+      ∙ ap (λ u. u >>= λ es. Ok (of es.0, es.1)) (further_stops (first x) test read rest stops) ∙ ap (λ y. Ok (y, rest)) (one x)
+
+  pub parts_more : (x : A) (rest : List Lexeme) (es : List X) (last : List Lexeme) → r ≡ Ok (x, rest) → further_at (first x) test read rest ≡ Ok (es, last) → whole ≡ Ok (of es, last)
+  parts_more x rest es last e more =
+      same ∙ ap (λ u. u >>= λ e. further_at (first e.0) test read e.1 >>= λ es. Ok (of es.0, es.1)) e ∙ ap (λ u. u >>= λ es. Ok (of es.0, es.1)) more
+
+  pub parts_more_fail : (x : A) (rest : List Lexeme) (f : Fault) → r ≡ Ok (x, rest) → further_at (first x) test read rest ≡ Err f → whole ≡ Err f
+  parts_more_fail x rest f e more =
+      same ∙ ap (λ u. u >>= λ e. further_at (first e.0) test read e.1 >>= λ es. Ok (of es.0, es.1)) e ∙ ap (λ u. u >>= λ es. Ok (of es.0, es.1)) more
+
+-- the same reading, with its parts in a list
+abbrev put_before : {X : Type 0} → X → List X × List Lexeme → Reading (List X)
+put_before x m = Ok (x ∷ m.0, m.1)
+
+module _ {A X : Type 0} (first : A → X) (test : TokenKind → Bool) (read : List Lexeme → Reading X) (of : List X → A) (join : A → List X → A) (same : (x : A) (xs : List X) → join x xs ≡ of (first x ∷ xs)) where
+  joined : (x : A) (r : Reading (List X)) → ◌≡◌ {A = Reading A} (r >>= λ m. Ok (join x m.0, m.1)) ((r >>= put_before (first x)) >>= λ es. Ok (of es.0, es.1))
+  joined x (Ok m) = ap (λ y. Ok (y, m.1)) (same x m.0)
+  joined x (Err f) = refl
+
+  in_parts : (r : Reading A) → ◌≡◌ {A = Reading A} (r >>= λ e. repeated_at test read e.1 >>= λ m. Ok (join e.0 m.0, m.1)) (r >>= λ e. further_at (first e.0) test read e.1 >>= λ es. Ok (of es.0, es.1))
+  unfolding further_at
+  in_parts (Ok e) = joined e.0 (repeated_at test read e.1)
+  in_parts (Err f) = refl
+
+sum_joined : (x : SpeltExpression) (ts : List (Additive × SpeltExpression)) → sum_of x ts ≡ in_sum ((additive.Plus, x) ∷ ts)
+sum_joined x [] = refl
+sum_joined x (t ∷ ts) = refl
+
+product_joined : (x : SpeltExpression) (fs : List (Multiplicative × SpeltExpression)) → product_of x fs ≡ in_product ((multiplicative.Times, x) ∷ fs)
+product_joined x [] = refl
+product_joined x (f ∷ fs) = refl
+
+pub sum_parts : (n : ℕ) (ts : List Lexeme)
+    → sum_at n ts ≡ (term_at (primary_at n) ts >>= λ e. further_at (additive.Plus, e.0) is_sum_sign (further_term_at (primary_at n)) e.1 >>= λ es. Ok (in_sum es.0, es.1))
+unfolding sum_at sum_over_at
+sum_parts n ts = in_parts (λ (x : SpeltExpression). (additive.Plus, x)) is_sum_sign (further_term_at (primary_at n)) in_sum sum_of sum_joined (term_at (primary_at n) ts)
+
+pub term_parts : (n : ℕ) (ts : List Lexeme)
+    → term_at (primary_at n) ts ≡ (factor_at (primary_at n) ts >>= λ e. further_at (multiplicative.Times, e.0) is_product_sign (further_factor_at (primary_at n)) e.1 >>= λ es. Ok (in_product es.0, es.1))
+unfolding term_at
+term_parts n ts = in_parts (λ (x : SpeltExpression). (multiplicative.Times, x)) is_product_sign (further_factor_at (primary_at n)) in_product product_of product_joined (factor_at (primary_at n) ts)
+
+pub sequence_parts : (n : ℕ) (ts : List Lexeme)
+    → sequence_at (atom_at n) ts ≡ (item_at (atom_at n) ts >>= λ e. further_at e.0 begins_atom (item_at (atom_at n)) e.1 >>= λ es. Ok (in_sequence es.0, es.1))
+unfolding sequence_at
+sequence_parts n ts = in_parts (λ (x : SpeltRule). x) begins_atom (item_at (atom_at n)) in_sequence sequence_of (λ x xs. refl) (item_at (atom_at n) ts)
+
+regrouped : {A B C : Type 0} (r : Result A Fault) (f : A → Result B Fault) (g : B → Result C Fault) → ((r >>= f) >>= g) ≡ (r >>= λ x. f x >>= g)
+regrouped (Ok x) f g = refl
+regrouped (Err e) f g = refl
+
+pub rules_parts : (n : ℕ) (ts : List Lexeme)
+    → rules_at n ts ≡ (sequence_at (atom_at n) ts >>= λ e. further_at e.0 (is_symbol Plus) (after_at Plus (sequence_at (atom_at n))) e.1 >>= λ es. Ok (in_choice es.0, es.1))
+unfolding rules_at rules_over_at separated_at further_at
+rules_parts n ts =
+    regrouped (sequence_at (atom_at n) ts) (λ f. repeated_at (is_symbol Plus) (after_at Plus (sequence_at (atom_at n))) f.1 >>= λ more. Ok (f.0 ∷ more.0, more.1)) (λ rs. Ok (in_choice rs.0, rs.1))
+
+-- what is read of each, from its parts
+pub sum_fail : (n : ℕ) (ts : List Lexeme) (f : Fault) → term_at (primary_at n) ts ≡ Err f → sum_at n ts ≡ Err f
+sum_fail n ts = parts_fail (sum_at n ts) (term_at (primary_at n) ts) (λ (x : SpeltExpression). (additive.Plus, x)) is_sum_sign (further_term_at (primary_at n)) in_sum (sum_parts n ts) (λ x. refl)
+
+pub sum_alone : (n : ℕ) (ts : List Lexeme) (x : SpeltExpression) (rest : List Lexeme) → term_at (primary_at n) ts ≡ Ok (x, rest) → next_is is_sum_sign rest ≡ false → sum_at n ts ≡ Ok (x, rest)
+sum_alone n ts = parts_alone (sum_at n ts) (term_at (primary_at n) ts) (λ (x : SpeltExpression). (additive.Plus, x)) is_sum_sign (further_term_at (primary_at n)) in_sum (sum_parts n ts) (λ x. refl)
+
+pub sum_more : (n : ℕ) (ts : List Lexeme) (x : SpeltExpression) (rest : List Lexeme) (es : List (Additive × SpeltExpression)) (last : List Lexeme) → term_at (primary_at n) ts ≡ Ok (x, rest) → further_at (additive.Plus, x) is_sum_sign (further_term_at (primary_at n)) rest ≡ Ok (es, last) → sum_at n ts ≡ Ok (in_sum es, last)
+sum_more n ts = parts_more (sum_at n ts) (term_at (primary_at n) ts) (λ (x : SpeltExpression). (additive.Plus, x)) is_sum_sign (further_term_at (primary_at n)) in_sum (sum_parts n ts) (λ x. refl)
+
+pub sum_more_fail : (n : ℕ) (ts : List Lexeme) (x : SpeltExpression) (rest : List Lexeme) (f : Fault) → term_at (primary_at n) ts ≡ Ok (x, rest) → further_at (additive.Plus, x) is_sum_sign (further_term_at (primary_at n)) rest ≡ Err f → sum_at n ts ≡ Err f
+sum_more_fail n ts = parts_more_fail (sum_at n ts) (term_at (primary_at n) ts) (λ (x : SpeltExpression). (additive.Plus, x)) is_sum_sign (further_term_at (primary_at n)) in_sum (sum_parts n ts) (λ x. refl)
+
+pub term_fail : (n : ℕ) (ts : List Lexeme) (f : Fault) → factor_at (primary_at n) ts ≡ Err f → term_at (primary_at n) ts ≡ Err f
+term_fail n ts = parts_fail (term_at (primary_at n) ts) (factor_at (primary_at n) ts) (λ (x : SpeltExpression). (multiplicative.Times, x)) is_product_sign (further_factor_at (primary_at n)) in_product (term_parts n ts) (λ x. refl)
+
+pub term_alone : (n : ℕ) (ts : List Lexeme) (x : SpeltExpression) (rest : List Lexeme) → factor_at (primary_at n) ts ≡ Ok (x, rest) → next_is is_product_sign rest ≡ false → term_at (primary_at n) ts ≡ Ok (x, rest)
+term_alone n ts = parts_alone (term_at (primary_at n) ts) (factor_at (primary_at n) ts) (λ (x : SpeltExpression). (multiplicative.Times, x)) is_product_sign (further_factor_at (primary_at n)) in_product (term_parts n ts) (λ x. refl)
+
+pub term_more : (n : ℕ) (ts : List Lexeme) (x : SpeltExpression) (rest : List Lexeme) (es : List (Multiplicative × SpeltExpression)) (last : List Lexeme) → factor_at (primary_at n) ts ≡ Ok (x, rest) → further_at (multiplicative.Times, x) is_product_sign (further_factor_at (primary_at n)) rest ≡ Ok (es, last) → term_at (primary_at n) ts ≡ Ok (in_product es, last)
+term_more n ts = parts_more (term_at (primary_at n) ts) (factor_at (primary_at n) ts) (λ (x : SpeltExpression). (multiplicative.Times, x)) is_product_sign (further_factor_at (primary_at n)) in_product (term_parts n ts) (λ x. refl)
+
+pub term_more_fail : (n : ℕ) (ts : List Lexeme) (x : SpeltExpression) (rest : List Lexeme) (f : Fault) → factor_at (primary_at n) ts ≡ Ok (x, rest) → further_at (multiplicative.Times, x) is_product_sign (further_factor_at (primary_at n)) rest ≡ Err f → term_at (primary_at n) ts ≡ Err f
+term_more_fail n ts = parts_more_fail (term_at (primary_at n) ts) (factor_at (primary_at n) ts) (λ (x : SpeltExpression). (multiplicative.Times, x)) is_product_sign (further_factor_at (primary_at n)) in_product (term_parts n ts) (λ x. refl)
+
+pub sequence_fail : (n : ℕ) (ts : List Lexeme) (f : Fault) → item_at (atom_at n) ts ≡ Err f → sequence_at (atom_at n) ts ≡ Err f
+sequence_fail n ts = parts_fail (sequence_at (atom_at n) ts) (item_at (atom_at n) ts) (λ (x : SpeltRule). x) begins_atom (item_at (atom_at n)) in_sequence (sequence_parts n ts) (λ x. refl)
+
+pub sequence_alone : (n : ℕ) (ts : List Lexeme) (x : SpeltRule) (rest : List Lexeme) → item_at (atom_at n) ts ≡ Ok (x, rest) → next_is begins_atom rest ≡ false → sequence_at (atom_at n) ts ≡ Ok (x, rest)
+sequence_alone n ts = parts_alone (sequence_at (atom_at n) ts) (item_at (atom_at n) ts) (λ (x : SpeltRule). x) begins_atom (item_at (atom_at n)) in_sequence (sequence_parts n ts) (λ x. refl)
+
+pub sequence_more : (n : ℕ) (ts : List Lexeme) (x : SpeltRule) (rest : List Lexeme) (es : List (SpeltRule)) (last : List Lexeme) → item_at (atom_at n) ts ≡ Ok (x, rest) → further_at x begins_atom (item_at (atom_at n)) rest ≡ Ok (es, last) → sequence_at (atom_at n) ts ≡ Ok (in_sequence es, last)
+sequence_more n ts = parts_more (sequence_at (atom_at n) ts) (item_at (atom_at n) ts) (λ (x : SpeltRule). x) begins_atom (item_at (atom_at n)) in_sequence (sequence_parts n ts) (λ x. refl)
+
+pub sequence_more_fail : (n : ℕ) (ts : List Lexeme) (x : SpeltRule) (rest : List Lexeme) (f : Fault) → item_at (atom_at n) ts ≡ Ok (x, rest) → further_at x begins_atom (item_at (atom_at n)) rest ≡ Err f → sequence_at (atom_at n) ts ≡ Err f
+sequence_more_fail n ts = parts_more_fail (sequence_at (atom_at n) ts) (item_at (atom_at n) ts) (λ (x : SpeltRule). x) begins_atom (item_at (atom_at n)) in_sequence (sequence_parts n ts) (λ x. refl)
+
+pub rules_fail : (n : ℕ) (ts : List Lexeme) (f : Fault) → sequence_at (atom_at n) ts ≡ Err f → rules_at n ts ≡ Err f
+rules_fail n ts = parts_fail (rules_at n ts) (sequence_at (atom_at n) ts) (λ (x : SpeltRule). x) (is_symbol Plus) (after_at Plus (sequence_at (atom_at n))) in_choice (rules_parts n ts) (λ x. refl)
+
+pub rules_alone : (n : ℕ) (ts : List Lexeme) (x : SpeltRule) (rest : List Lexeme) → sequence_at (atom_at n) ts ≡ Ok (x, rest) → next_is (is_symbol Plus) rest ≡ false → rules_at n ts ≡ Ok (x, rest)
+rules_alone n ts = parts_alone (rules_at n ts) (sequence_at (atom_at n) ts) (λ (x : SpeltRule). x) (is_symbol Plus) (after_at Plus (sequence_at (atom_at n))) in_choice (rules_parts n ts) (λ x. refl)
+
+pub rules_more : (n : ℕ) (ts : List Lexeme) (x : SpeltRule) (rest : List Lexeme) (es : List (SpeltRule)) (last : List Lexeme) → sequence_at (atom_at n) ts ≡ Ok (x, rest) → further_at x (is_symbol Plus) (after_at Plus (sequence_at (atom_at n))) rest ≡ Ok (es, last) → rules_at n ts ≡ Ok (in_choice es, last)
+rules_more n ts = parts_more (rules_at n ts) (sequence_at (atom_at n) ts) (λ (x : SpeltRule). x) (is_symbol Plus) (after_at Plus (sequence_at (atom_at n))) in_choice (rules_parts n ts) (λ x. refl)
+
+pub rules_more_fail : (n : ℕ) (ts : List Lexeme) (x : SpeltRule) (rest : List Lexeme) (f : Fault) → sequence_at (atom_at n) ts ≡ Ok (x, rest) → further_at x (is_symbol Plus) (after_at Plus (sequence_at (atom_at n))) rest ≡ Err f → rules_at n ts ≡ Err f
+rules_more_fail n ts = parts_more_fail (rules_at n ts) (sequence_at (atom_at n) ts) (λ (x : SpeltRule). x) (is_symbol Plus) (after_at Plus (sequence_at (atom_at n))) in_choice (rules_parts n ts) (λ x. refl)
+
+-- a pattern, by its rules
+module _ (f : ℕ → SpeltRule → SpeltRule) (sign : Symbol) (rules' : List Lexeme → Reading SpeltRule) where
+  abbrev pair_of : ℕ → SpeltRule → ℕ × List Lexeme → Reading (ℕ × SpeltRule)
+  pair_of at x end = Ok ((at, x), end.1)
+
+  abbrev made : (ℕ × SpeltRule) × List Lexeme → Reading SpeltRule
+  made p = Ok (f p.0.0 p.0.1, p.1)
+
+  closed : (at : ℕ) (x : SpeltRule) (r : Reading ℕ) → ◌≡◌ {A = Reading SpeltRule} (r >>= λ end. Ok (f at x, end.1)) ((r >>= pair_of at x) >>= made)
+  closed at x (Ok end) = refl
+  closed at x (Err g) = refl
+
+  abbrev closes_pair : ℕ → SpeltRule × List Lexeme → Reading (ℕ × SpeltRule)
+  closes_pair at x = symbol_at CloseBrace x.1 >>= pair_of at x.0
+
+  within : (at : ℕ) (r : Reading SpeltRule) → ◌≡◌ {A = Reading SpeltRule} (r >>= λ x. symbol_at CloseBrace x.1 >>= λ end. Ok (f at x.0, end.1)) ((r >>= closes_pair at) >>= made)
+  within at (Ok x) = closed at x.0 (symbol_at CloseBrace x.1)
+  within at (Err g) = refl
+
+  abbrev opens_pair : ℕ × List Lexeme → Reading (ℕ × SpeltRule)
+  opens_pair at = after_at sign rules' at.1 >>= closes_pair at.0
+
+  opened : (r : Reading ℕ) → ◌≡◌ {A = Reading SpeltRule} (r >>= λ at. after_at sign rules' at.1 >>= λ x. symbol_at CloseBrace x.1 >>= λ end. Ok (f at.0 x.0, end.1)) ((r >>= opens_pair) >>= made)
+  opened (Ok at) = within at.0 (after_at sign rules' at.1)
+  opened (Err g) = refl
+
+pub positive_pattern : (rules' : List Lexeme → Reading SpeltRule) (ts : List Lexeme) → positive_at rules' ts ≡ (pattern_at Question rules' ts >>= λ p. Ok (act (positive p.0.0 p.0.1), p.1))
+unfolding positive_at pattern_at
+positive_pattern rules' ts = opened (λ (at : ℕ) (r : SpeltRule). act (positive at r)) Question rules' (symbol_at OpenBrace ts)
+
+pub negative_pattern : (rules' : List Lexeme → Reading SpeltRule) (ts : List Lexeme) → negative_at rules' ts ≡ (pattern_at Exclamation rules' ts >>= λ p. Ok (act (negative p.0.0 p.0.1), p.1))
+unfolding negative_at pattern_at
+negative_pattern rules' ts = opened (λ (at : ℕ) (r : SpeltRule). act (negative at r)) Exclamation rules' (symbol_at OpenBrace ts)
+
+pub ruleset patterns = (positive_pattern, negative_pattern)
+
+-- one bracket less
+one_less : (n : ℕ) → n ≡ suc n - 1
+one_less n = omega arith
+
+pub primary_inside : (n : ℕ) (ts : List Lexeme) → (n ≡ 0 → ⊥) → next_is (is_symbol OpenParenthesis) ts ≡ true → primary_at n ts ≡ within_at OpenParenthesis CloseParenthesis (sum_at (n - 1)) ts
+unfolding primary_at sum_at
+primary_inside zero ts some e = absurd (some refl)
+primary_inside (suc n) ts some e = rw e (ap (λ k. within_at OpenParenthesis CloseParenthesis (sum_at k) ts) (one_less n))
+
+pub primary_open : (n : ℕ) (ts : List Lexeme) → next_is (is_symbol OpenParenthesis) ts ≡ false → primary_at n ts ≡ number_or_name_at ts
+unfolding primary_at
+primary_open zero ts e = rw e
+primary_open (suc n) ts e = rw e
+
+pub primary_none : (ts : List Lexeme) → next_is (is_symbol OpenParenthesis) ts ≡ true → primary_at 0 ts ≡ too_deep_at ts
+unfolding primary_at
+primary_none ts e = rw e
+
+pub atom_inside : (n : ℕ) (ts : List Lexeme) → (n ≡ 0 → ⊥) → next_is is_opening ts ≡ true → atom_at n ts ≡ bracket_atom_at (rules_at (n - 1)) (sum_at (n - 1)) ts
+unfolding atom_at rules_at
+atom_inside zero ts some e = absurd (some refl)
+atom_inside (suc n) ts some e = rw e (ap (λ k. bracket_atom_at (rules_at k) (sum_at k) ts) (one_less n))
+
+pub atom_open : (n : ℕ) (ts : List Lexeme) → next_is is_opening ts ≡ false → atom_at n ts ≡ open_atom_at ts
+unfolding atom_at
+atom_open zero ts e = rw e
+atom_open (suc n) ts e = rw e
+
+pub atom_none : (ts : List Lexeme) → next_is is_opening ts ≡ true → atom_at 0 ts ≡ too_deep_at ts
+unfolding atom_at
+atom_none ts e = rw e
+
+-- the same bracket is one too many, whatever is read
+pub same_deep : {A B : Type 0} (ts : List Lexeme) (f : Fault) → too_deep_at {A = A} ts ≡ Err f → too_deep_at {A = B} ts ≡ Err f
+same_deep [] f e = let same : misfit ≡ f = cc in ap (λ g. Err g) same
+same_deep (t ∷ ts) f e = let same : too_deep t.at ≡ f = cc in ap (λ g. Err g) same
+
+-- what is read between brackets
+module _ {A : Type 0} (o c : Symbol) (read : List Lexeme → Reading A) (ts : List Lexeme) where
+  pub within_no_opening : (f : Fault) → symbol_at o ts ≡ Err f → within_at o c read ts ≡ Err f
+  unfolding within_at
+  within_no_opening f e = rw e
+
+  pub within_no_inside : (at : ℕ) (us : List Lexeme) (f : Fault) → symbol_at o ts ≡ Ok (at, us) → read us ≡ Err f → within_at o c read ts ≡ Err f
+  unfolding within_at
+  within_no_inside at us f d e = rw (d, e)
+
+  pub within_no_closing : (at : ℕ) (us : List Lexeme) (x : A) (vs : List Lexeme) (f : Fault) → symbol_at o ts ≡ Ok (at, us) → read us ≡ Ok (x, vs) → symbol_at c vs ≡ Err f → within_at o c read ts ≡ Err f
+  unfolding within_at
+  within_no_closing at us x vs f d e h = rw (d, e, h)
+
+  pub within_whole : (at : ℕ) (us : List Lexeme) (x : A) (vs : List Lexeme) (end : ℕ) (rest : List Lexeme) → symbol_at o ts ≡ Ok (at, us) → read us ≡ Ok (x, vs) → symbol_at c vs ≡ Ok (end, rest) → within_at o c read ts ≡ Ok (x, rest)
+  unfolding within_at
+  within_whole at us x vs end rest d e h = rw (d, e, h)

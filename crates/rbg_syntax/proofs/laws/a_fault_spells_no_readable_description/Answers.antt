@@ -1,5 +1,0 @@
-use Rattle.rbg_syntax.proofs.Faults.{fault}
-use Rattle.rbg_syntax.proofs.laws.a_fault_spells_no_readable_description.Goals as goal
-
-pub returns : goal.returns
-returns c = fault

@@ -1,0 +1,3 @@
+-- Definitions that only the crate's own proofs and private contracts cite.
+pub mod Reading
+pub mod RuleReading

@@ -1,0 +1,105 @@
+//! The readers of the actions with arithmetic: comparisons and assignment lists.
+ghost use Rattle.std.specs.Prelude.{◌≡◌, map};
+ghost use Rattle.rbg_macro.specs.declared.token.Symbol.TheVariants as symbols;
+ghost use Rattle.rbg_macro.specs.declared.token.TokenKind.{TokenKind as Kind};
+ghost use Rattle.rbg_base.specs.declared.relation.Relation.{Relation as SpeltRelation};
+ghost use Rattle.rbg_syntax.specs.internal.Reading.{Gives, GivesWithin, after_at, separated_at, within_at};
+ghost use Rattle.rbg_syntax.specs.internal.RuleReading.{IsRelationOf, assignment_at, comparison_at, in_brackets_at, relation_at, sum_at};
+ghost use Rattle.rbg_syntax.specs.Views.{rule_of};
+
+use crate::error::{Expectation, SyntaxError};
+use crate::parser::Parser;
+use crate::rule::{Action, Rule};
+use crate::sequences::in_sequence;
+use rbg_base::Relation;
+use rbg_macro::{Symbol, TokenKind};
+use std::alloc::Global;
+
+impl Parser<'_> {
+    /// A comparison.
+    #[tactic(auto, using(crate::proofs::Trees::inner_atoms), unfolding(crate::specs::internal::RuleReading::comparison_at, crate::specs::internal::Reading::after_at, crate::specs::internal::Reading::within_at))]
+    pub(crate) fn comparison(&mut self, alloc: Global, brackets: u8) -> Result<Rule, SyntaxError>
+        ensures { GivesWithin (λ r. (rule_of r, self.new)) result
+            (within_at symbols.OpenBrace symbols.CloseBrace (after_at symbols.Dollar (comparison_at (sum_at brackets)))
+            self.old) }
+    {
+        self.symbol(Symbol::OpenBrace, Expectation::Item)?;
+        self.symbol(Symbol::Dollar, Expectation::Name)?;
+        let left = self.sum(alloc, brackets)?;
+        let relation = self.relation()?;
+        let right = self.sum(alloc, brackets)?;
+        self.symbol(Symbol::CloseBrace, Expectation::Closing)?;
+        Ok(Rule::Act(Action::Compare {
+            left,
+            relation,
+            right,
+        }))
+    }
+
+    #[tactic(auto, unfolding(crate::specs::internal::RuleReading::relation_at))]
+    fn relation(&mut self) -> Result<Relation, SyntaxError>
+        ensures { Gives (λ r. (r, self.new)) result (relation_at self.old) }
+    {
+        let token = self.front(Expectation::Relation)?;
+        match relation_of(token.kind) {
+            Some(relation) => {
+                self.advance();
+                Ok(relation)
+            }
+            None => Err(self.misfit(Expectation::Relation)),
+        }
+    }
+
+    /// An off, or an assignment list: the sequence of its assignments.
+    #[tactic(auto, unfolding(crate::specs::internal::RuleReading::in_brackets_at, crate::specs::internal::RuleReading::assignments_at, crate::specs::internal::Reading::within_at, crate::specs::internal::Reading::after_at))]
+    pub(crate) fn in_brackets(&mut self, alloc: Global, brackets: u8) -> Result<Rule, SyntaxError>
+        ensures { GivesWithin (λ r. (rule_of r, self.new)) result (in_brackets_at (sum_at brackets) self.old) }
+    {
+        if !self.second_is(Symbol::Dollar) {
+            return self.off(alloc);
+        }
+        self.symbol(Symbol::OpenBracket, Expectation::Item)?;
+        self.symbol(Symbol::Dollar, Expectation::Name)?;
+        let parts = self.assignments(alloc, brackets)?;
+        self.symbol(Symbol::CloseBracket, Expectation::Closing)?;
+        Ok(in_sequence(parts))
+    }
+
+    fn assignments(&mut self, alloc: Global, brackets: u8) -> Result<Vec<Rule>, SyntaxError>
+        ensures { GivesWithin (λ v. (map rule_of v.items, self.new)) result
+            (separated_at symbols.Comma (assignment_at (sum_at brackets)) self.old) }
+    {
+        let mut parts = Vec::new(alloc);
+        parts.push(self.assignment(alloc, brackets)?)?;
+        while self.takes(Symbol::Comma) {
+            parts.push(self.assignment(alloc, brackets)?)?;
+        }
+        Ok(parts)
+    }
+
+    /// An assignment.
+    #[tactic(auto, using(crate::proofs::Trees::inner_atoms), unfolding(crate::specs::internal::RuleReading::assignment_at, crate::specs::internal::Reading::after_at))]
+    fn assignment(&mut self, alloc: Global, brackets: u8) -> Result<Rule, SyntaxError>
+        ensures { GivesWithin (λ r. (rule_of r, self.new)) result (assignment_at (sum_at brackets) self.old) }
+    {
+        let variable = self.name(alloc)?;
+        self.symbol(Symbol::Equals, Expectation::Equals)?;
+        let value = self.sum(alloc, brackets)?;
+        Ok(Rule::Act(Action::Assign { variable, value }))
+    }
+}
+
+/// The relation that a token of this kind is.
+fn relation_of(kind: TokenKind) -> Option<Relation>
+    ensures { IsRelationOf kind result }
+{
+    match kind {
+        TokenKind::Symbol(Symbol::DoubleEquals) => Some(Relation::Equal),
+        TokenKind::Symbol(Symbol::NotEquals) => Some(Relation::NotEqual),
+        TokenKind::Symbol(Symbol::LessThan) => Some(Relation::Less),
+        TokenKind::Symbol(Symbol::LessOrEqual) => Some(Relation::LessOrEqual),
+        TokenKind::Symbol(Symbol::GreaterThan) => Some(Relation::Greater),
+        TokenKind::Symbol(Symbol::GreaterOrEqual) => Some(Relation::GreaterOrEqual),
+        _ => None,
+    }
+}

@@ -1,0 +1,229 @@
+//! The readers of rules. Each takes how many further brackets may be open at once, so a call is never nested deeper
+//! than that.
+ghost use Rattle.std.specs.Prelude.{◌≡◌, map};
+ghost use Rattle.rbg_macro.specs.declared.token.Symbol.TheVariants as symbols;
+ghost use Rattle.rbg_syntax.specs.internal.Reading.{GivesWithin, after_at, further_at, is_symbol, next_is};
+ghost use Rattle.rbg_syntax.specs.internal.RuleReading.{atom_at, begins_atom, bracket_atom_at, in_braces_at, in_choice, is_opening, item_at, pattern_at, rules_at, sequence_at, sum_at};
+ghost use Rattle.rbg_syntax.specs.Views.{rule_of};
+
+use crate::error::{Expectation, SyntaxError};
+use crate::parser::Parser;
+use crate::rule::{Action, Rule};
+use crate::sequences::in_sequence;
+use rbg_macro::{Symbol, TokenKind};
+use std::alloc::Global;
+
+impl Parser<'_> {
+    /// Rules.
+    #[cycle(rules)]
+    pub(crate) fn rules(&mut self, alloc: Global, brackets: u8) -> Result<Rule, SyntaxError>
+        ensures { GivesWithin (λ r. (rule_of r, self.new)) result (rules_at brackets self.old) }
+    {
+        let first = self.sequence(alloc, brackets)?;
+        if !self.next_is(Symbol::Plus) {
+            return Ok(first);
+        }
+        let parts = self.further_sequences(alloc, first, brackets)?;
+        Ok(in_choice(parts))
+    }
+
+    /// The sequences after a first one, and that one before them.
+    #[cycle(rules)]
+    fn further_sequences(
+        &mut self,
+        alloc: Global,
+        first: Rule,
+        brackets: u8,
+    ) -> Result<Vec<Rule>, SyntaxError>
+        ensures { GivesWithin (λ v. (map rule_of v.items, self.new)) result (further_at (rule_of first)
+            (is_symbol symbols.Plus) (after_at symbols.Plus (sequence_at (atom_at brackets))) self.old) }
+    {
+        let mut parts = Vec::new(alloc);
+        parts.push(first)?;
+        while self.takes(Symbol::Plus) {
+            parts.push(self.sequence(alloc, brackets)?)?;
+        }
+        Ok(parts)
+    }
+
+    /// A sequence.
+    #[cycle(rules)]
+    fn sequence(&mut self, alloc: Global, brackets: u8) -> Result<Rule, SyntaxError>
+        ensures { GivesWithin (λ r. (rule_of r, self.new)) result (sequence_at (atom_at brackets) self.old) }
+    {
+        let first = self.item(alloc, brackets)?;
+        if !self.next_begins_atom() {
+            return Ok(first);
+        }
+        let parts = self.further_items(alloc, first, brackets)?;
+        Ok(in_sequence(parts))
+    }
+
+    /// The items after a first one, and that one before them.
+    #[cycle(rules)]
+    fn further_items(
+        &mut self,
+        alloc: Global,
+        first: Rule,
+        brackets: u8,
+    ) -> Result<Vec<Rule>, SyntaxError>
+        ensures { GivesWithin (λ v. (map rule_of v.items, self.new)) result
+            (further_at (rule_of first) begins_atom (item_at (atom_at brackets)) self.old) }
+    {
+        let mut parts = Vec::new(alloc);
+        parts.push(first)?;
+        while self.next_begins_atom() {
+            parts.push(self.item(alloc, brackets)?)?;
+        }
+        Ok(parts)
+    }
+
+    /// An atom, and the `*` after it where there is one.
+    #[cycle(rules)]
+    #[tactic(auto, using(crate::proofs::Trees::stars), unfolding(crate::specs::internal::RuleReading::item_at))]
+    fn item(&mut self, alloc: Global, brackets: u8) -> Result<Rule, SyntaxError>
+        ensures { GivesWithin (λ r. (rule_of r, self.new)) result (item_at (atom_at brackets) self.old) }
+    {
+        let rule = self.atom(alloc, brackets)?;
+        if !self.next_is(Symbol::Star) {
+            return Ok(rule);
+        }
+        self.symbol(Symbol::Star, Expectation::End)?;
+        Ok(Rule::Star(Box::new(alloc, rule)?))
+    }
+
+    /// An atom.
+    #[cycle(rules)]
+    fn atom(&mut self, alloc: Global, brackets: u8) -> Result<Rule, SyntaxError>
+        ensures { GivesWithin (λ r. (rule_of r, self.new)) result (atom_at brackets self.old) }
+    {
+        if !self.next_is_opening() {
+            return self.open_atom(alloc);
+        }
+        if brackets == 0 {
+            return Err(self.too_deep());
+        }
+        self.bracket_atom(alloc, brackets - 1)
+    }
+
+    /// An atom in brackets, in which at most so many further ones may be open.
+    #[cycle(rules)]
+    #[tactic(auto, unfolding(crate::specs::internal::RuleReading::bracket_atom_at, crate::specs::internal::Reading::within_at))]
+    fn bracket_atom(&mut self, alloc: Global, brackets: u8) -> Result<Rule, SyntaxError>
+        ensures { GivesWithin (λ r. (rule_of r, self.new)) result
+            (bracket_atom_at (rules_at brackets) (sum_at brackets) self.old) }
+    {
+        if self.next_is(Symbol::OpenBrace) {
+            return self.in_braces(alloc, brackets);
+        }
+        if !self.next_is(Symbol::OpenParenthesis) {
+            return self.in_brackets(alloc, brackets);
+        }
+        self.symbol(Symbol::OpenParenthesis, Expectation::Item)?;
+        let rules = self.rules(alloc, brackets)?;
+        self.symbol(Symbol::CloseParenthesis, Expectation::Closing)?;
+        Ok(rules)
+    }
+
+    /// A pattern, a comparison or an on.
+    #[cycle(rules)]
+    #[tactic(auto, using(crate::proofs::Trees::inner_atoms, crate::proofs::Parts::patterns), unfolding(crate::specs::internal::RuleReading::in_braces_at))]
+    fn in_braces(&mut self, alloc: Global, brackets: u8) -> Result<Rule, SyntaxError>
+        ensures { GivesWithin (λ r. (rule_of r, self.new)) result
+            (in_braces_at (rules_at brackets) (sum_at brackets) self.old) }
+    {
+        if self.second_is(Symbol::Dollar) {
+            return self.comparison(alloc, brackets);
+        }
+        if self.second_is(Symbol::Question) {
+            let (at, rule) = self.pattern(alloc, Symbol::Question, brackets)?;
+            let rule = Box::new(alloc, rule)?;
+            return Ok(Rule::Act(Action::PositivePattern { at, rule }));
+        }
+        if self.second_is(Symbol::Exclamation) {
+            let (at, rule) = self.pattern(alloc, Symbol::Exclamation, brackets)?;
+            let rule = Box::new(alloc, rule)?;
+            return Ok(Rule::Act(Action::NegativePattern { at, rule }));
+        }
+        self.on(alloc)
+    }
+
+    /// The rules in a pattern that has this sign after its `{`, and the offset of that `{`.
+    #[cycle(rules)]
+    #[tactic(auto, unfolding(crate::specs::internal::RuleReading::pattern_at, crate::specs::internal::Reading::after_at))]
+    fn pattern(
+        &mut self,
+        alloc: Global,
+        sign: Symbol,
+        brackets: u8,
+    ) -> Result<(usize, Rule), SyntaxError>
+        ensures { GivesWithin (λ p. ((p.0, rule_of p.1), self.new)) result
+            (pattern_at sign (rules_at brackets) self.old) }
+    {
+        let at = self.symbol(Symbol::OpenBrace, Expectation::Item)?;
+        self.symbol(sign, Expectation::Name)?;
+        let rules = self.rules(alloc, brackets)?;
+        self.symbol(Symbol::CloseBrace, Expectation::Closing)?;
+        Ok((at, rules))
+    }
+
+    /// Whether the next token begins an atom.
+    fn next_begins_atom(&self) -> bool
+        ensures { result ≡ next_is begins_atom self.now }
+    {
+        match self.peek() {
+            Some(token) => begins_atom(token.kind),
+            None => false,
+        }
+    }
+
+    /// Whether the next token is an opening bracket.
+    fn next_is_opening(&self) -> bool
+        ensures { result ≡ next_is is_opening self.now }
+    {
+        match self.peek() {
+            Some(token) => is_opening(token.kind),
+            None => false,
+        }
+    }
+}
+
+/// Whether an atom begins with a token of this kind.
+fn begins_atom(kind: TokenKind) -> bool
+    ensures { result ≡ begins_atom kind }
+{
+    matches!(
+        kind,
+        TokenKind::Name
+            | TokenKind::Symbol(
+                Symbol::OpenParenthesis
+                    | Symbol::OpenBracket
+                    | Symbol::OpenBrace
+                    | Symbol::Arrow
+                    | Symbol::DoubleArrow
+            )
+    )
+}
+
+fn is_opening(kind: TokenKind) -> bool
+    ensures { result ≡ is_opening kind }
+{
+    matches!(
+        kind,
+        TokenKind::Symbol(Symbol::OpenParenthesis | Symbol::OpenBracket | Symbol::OpenBrace)
+    )
+}
+
+/// The parts of a sum of rules as one rule. One part is that part.
+#[tactic(auto, using(crate::proofs::Trees::choices))]
+fn in_choice(mut parts: Vec<Rule>) -> Rule
+    ensures { rule_of result ≡ in_choice (map rule_of parts.items) }
+{
+    if parts.len() != 1 {
+        return Rule::Or(parts);
+    }
+    match parts.pop() {
+        Some(only) => only,
+        None => unreachable!(),
+    }
+}
