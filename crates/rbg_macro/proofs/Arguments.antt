@@ -6,13 +6,13 @@ use Rattle.std.specs.Borrow.{Bor}
 use Rattle.std.specs.List.{slice_range}
 use Rattle.rbg_macro.specs.declared.token.Token.{Token}
 use Rattle.rbg_macro.specs.Call.{Arguments, arguments, arguments_by, nesting, Within, Cuts, Ends, Mismatched, closing, cutting, with_token, with_argument}
-use Rattle.rbg_macro.specs.Calls.{AreArguments}
+use Rattle.rbg_macro.specs.internal.Calls.{AreArguments}
 use Rattle.rbg_macro.specs.declared.token.TokenKind.{TokenKind}
 use Rattle.rbg_macro.specs.Kinds.{opens, closes, is_semicolon, is_close_parenthesis}
-use Rattle.rbg_macro.specs.Template.{lists_in}
+use Rattle.rbg_macro.specs.internal.Template.{lists_in}
 use Rattle.rbg_macro.specs.Token.{Lexeme, lexeme_of}
 
--- arguments with whole ones and the beginning of one before them
+-- arguments with complete ones, and the beginning of one, before them
 abbrev pub with_front : List (List Lexeme) → List Lexeme → Arguments → Arguments
 with_front [] begun a = record a { first = begun ++ a.first }
 with_front (d ∷ ds) begun a = record { first = d; others = ds ++ (begun ++ a.first) ∷ a.others; rest = a.rest }

@@ -3,9 +3,9 @@ use Rattle.std.proofs.Common.{ℕ, ◌≡◌, ◌+◌, ◌≤◌, true, false, n
 use Rattle.std.proofs.lemmas.Bool.Decides.{nat_tests}
 use Rattle.rbg_macro.specs.declared.macros.Template.{Template}
 use Rattle.rbg_macro.specs.Call.{arguments, Calls, meets, called}
-use Rattle.rbg_macro.specs.Calls.{AreArguments, begins_with_parenthesis}
+use Rattle.rbg_macro.specs.internal.Calls.{AreArguments, begins_with_parenthesis}
 use Rattle.rbg_macro.specs.Macro.{Macro, filled}
-use Rattle.rbg_macro.specs.Template.{piece_in, macro_of, IsNamed}
+use Rattle.rbg_macro.specs.internal.Template.{piece_in, macro_of, IsNamed}
 use Rattle.rbg_macro.specs.Token.{Lexeme}
 
 called_with : (m : Macro) (behind rest : List Lexeme) (lists : List (List Lexeme)) (n : ℕ) → begins_with_parenthesis behind ≡ true → rest ≡ drop 1 behind →

@@ -2,17 +2,18 @@
 use Rattle.std.proofs.Common.{ℕ, ◌≡◌, ◌+◌, ◌-◌, ◌<◌, ◌≤◌, true, false, min, nat_le, List, [], ◌∷◌, ◌++◌, length, get_or, take, drop, map, Some, Err, refl, sym, ap, ◌∙◌, arith, length-append, length-drop}
 use Rattle.std.proofs.Math.Seq.{take-append_seam, drop-append_seam}
 use Rattle.std.proofs.lemmas.Bool.Decides.{nat_tests}
-use Rattle.std.proofs.lemmas.List.{drop-append-le, take-append-le, length-map, drop-map, take-append-drop}
+use Rattle.std.proofs.lemmas.List.{drop-append-le, take-append-le, length-map, drop-map}
 use Rattle.rbg_macro.specs.declared.error.MacroError.{MacroError}
 use Rattle.rbg_macro.specs.declared.limits.TheConstants.{MAX_JOINED}
 use Rattle.rbg_macro.specs.declared.token.Token.{Token}
 use Rattle.rbg_macro.specs.declared.token.TokenKind.{TokenKind}
-use Rattle.rbg_macro.specs.Joined.{word_at, JoinsNext, JoinsChain, FailsChain, begins_with_tilde}
+use Rattle.rbg_macro.specs.internal.Joined.{word_at, JoinsNext, JoinsChain, FailsChain, begins_with_tilde}
 use Rattle.rbg_macro.specs.Joining.{joined_from, joined_kind, joined_token}
 use Rattle.rbg_macro.specs.Token.{Lexeme, lexeme_of}
 use Rattle.rbg_macro.proofs.Heads.{two_tokens}
+use Rattle.rbg_macro.proofs.Spans.{whole_of}
 
--- a word goes on with one more token
+-- a word with one more token
 joins_word : (at : ℕ) (kind k : TokenKind) (word : List ℕ) (right : Lexeme) → Some k ≡ joined_kind kind right.kind → length word + length right.text ≤ MAX_JOINED →
     joined_token (word_at at kind word) right ≡ Some (word_at at k (word ++ right.text))
 joins_word at kind k word right is short =
@@ -37,7 +38,7 @@ next_joined texts new start len kind k (t ∷ u ∷ ts) d within tilde more is m
       rw whole (joins_word at kind k (drop start texts) (lexeme_of u) is fits);
 }
 
--- what joining gives from a word with a `~` behind it
+-- what joining gives from a word with a `~` after it
 joined_further : (at : ℕ) (kind k : TokenKind) (word new : List ℕ) (ts : List Lexeme) → JoinsNext kind k word new ts →
     joined_from (word_at at kind word) ts ≡ joined_from (word_at at k new) (drop 2 ts)
 joined_further at kind k word new ts next =
@@ -70,11 +71,8 @@ first_word (t ∷ ts) d old texts start some is added = record {
       rw word refl;
 }
 
--- texts that grew
-pub whole_of : (old new : List ℕ) → take (length old) new ≡ old → new ≡ old ++ drop (length old) new
-whole_of old new grown = sym (take-append-drop (length old) new) ∙ ap (λ bs. bs ++ drop (length old) new) grown
-
-pub longer_of : (old new : List ℕ) → take (length old) new ≡ old → length old ≤ length new
+-- texts that grew are longer
+longer_of : (old new : List ℕ) → take (length old) new ≡ old → length old ≤ length new
 longer_of old new grown = omega (arith, ap length (whole_of old new grown), length-append old (drop (length old) new))
 
 pub front_of_front : (old texts new : List ℕ) → take (length old) texts ≡ old → take (length texts) new ≡ texts → take (length old) new ≡ old

@@ -9,11 +9,12 @@ use Rattle.rbg_macro.specs.declared.error.MacroError.{MacroError}
 use Rattle.rbg_macro.specs.declared.macros.Template.{Template}
 use Rattle.rbg_macro.specs.declared.source.SectionKind.{SectionKind}
 use Rattle.rbg_macro.specs.declared.token.Token.{Token}
-use Rattle.rbg_macro.specs.Defines.{AddsDefined, with_one_more}
-use Rattle.rbg_macro.specs.Definition.{Definitions, Defined, A_Section, A_Macro, Part, expect, behind_equals, behind_name, section_named, defined, definitions, definitions_of, BeginsDefinition, parts, part_of, is_hash_token, first_at, with_section}
+use Rattle.rbg_macro.specs.internal.Defines.{AddsDefined, with_one_more}
+use Rattle.rbg_macro.specs.Definition.{Definitions, Defined, A_Section, A_Macro, Part, expect, behind_equals, behind_name, section_named, defined, definitions, definitions_of, parts, part_of, is_hash_token, first_at, with_section}
+use Rattle.rbg_macro.specs.internal.Defines.{BeginsDefinition}
 use Rattle.rbg_macro.specs.Kinds.{is_name_kind, is_hash}
 use Rattle.rbg_macro.specs.Macro.{Macro, body_of}
-use Rattle.rbg_macro.specs.Template.{macro_of, piece_in}
+use Rattle.rbg_macro.specs.internal.Template.{macro_of, piece_in}
 use Rattle.rbg_macro.specs.Token.{Lexeme, SectionTokens, lexeme_of}
 
 pub defined_section : (earlier : List Macro) (part : Part) (name : Lexeme) (ts body : List Lexeme) (kind : SectionKind) →
@@ -30,7 +31,7 @@ pub defined_macro : (earlier : List Macro) (part : Part) (name : Lexeme) (ts bod
 defined_macro earlier part name ts body parameters t named is fresh behind many filled =
     rw (named, ← is, fresh, behind, ← many, ← filled) refl
 
--- the tokens behind a `#`, up to the next
+-- the tokens after a `#`, up to the next one
 pub part_len_is : (ts : List Token) → position_or_len (λ t. is_hash t.kind) ts ≡ position_or_len is_hash_token (map lexeme_of ts)
 part_len_is [] = refl
 part_len_is (t ∷ ts) = by_test (not (is_hash t.kind)) (part_len_is ts)

@@ -1,7 +1,7 @@
--- What a call that failed leaves to its caller.
+-- Errors that are passed on to the caller.
 use Rattle.rbg_macro.specs.declared.error.MacroError.{MacroError}
 use Rattle.rbg_macro.specs.declared.error.MacroError.TheVariants.{BadDefinition, Twice, ArgumentCount, Depth, TooManyTokens, BadJoin, Memory}
-use Rattle.rbg_macro.specs.Gives.{UnlessMemory}
+use Rattle.rbg_macro.specs.Errors.{UnlessMemory}
 
 pub unless_weaker : (P Q : MacroError → Type 0) → ((f : MacroError) → P f → Q f) → (e : MacroError) → UnlessMemory P e → UnlessMemory Q e
 unless_weaker P Q weaker (BadDefinition at) h = weaker (BadDefinition at) h

@@ -4,7 +4,7 @@ use Rattle.rbg_macro.specs.declared.error.MacroError.{MacroError}
 use Rattle.rbg_macro.specs.declared.error.MacroError.TheVariants.{TooManyTokens}
 use Rattle.rbg_macro.specs.declared.limits.TheConstants.{MAX_LEVEL, MAX_READ}
 use Rattle.rbg_macro.specs.Call.{Calls, meets}
-use Rattle.rbg_macro.specs.Calls.{IsNoCall}
+use Rattle.rbg_macro.specs.internal.Calls.{IsNoCall}
 use Rattle.rbg_macro.specs.Expansion.{FailsReading, too_many_read, no_call, in_call}
 use Rattle.rbg_macro.specs.Macro.{Macro}
 use Rattle.rbg_macro.specs.Token.{Lexeme}

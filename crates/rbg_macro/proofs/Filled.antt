@@ -7,7 +7,7 @@ use Rattle.std.specs.Borrow.{Bor}
 use Rattle.rbg_macro.specs.declared.macros.Piece.{Piece as KeptPiece}
 use Rattle.rbg_macro.specs.declared.token.Token.{Token}
 use Rattle.rbg_macro.specs.Macro.{filled, filled_piece}
-use Rattle.rbg_macro.specs.Template.{piece_in, lists_in}
+use Rattle.rbg_macro.specs.internal.Template.{piece_in, lists_in}
 use Rattle.rbg_macro.specs.Token.{Lexeme}
 
 -- the length of the pieces so far
@@ -24,7 +24,7 @@ filled-more body lists i d below =
     ∙ flat_map-append (filled_piece lists) (map piece_in (take i body)) (piece_in (get_or body i d) ∷ [])
     ∙ ap (λ (l : List Lexeme). filled (map piece_in (take i body)) lists ++ l) (append-nil (filled_piece lists (piece_in (get_or body i d))))
 
--- where one more piece doesn't fit, the whole body doesn't
+-- if one more piece doesn't fit, the whole body doesn't
 pub too_long : (body : List KeptPiece) (arguments : List (Bor (List Token))) (i len room more : ℕ) (d : KeptPiece) → FilledSoFar body arguments i len room →
     i < length body → more ≡ length (filled_piece (lists_in arguments) (piece_in (get_or body i d))) → room - len < more →
     room < length (filled (map piece_in body) (lists_in arguments))

@@ -1,18 +1,19 @@
 -- The heads of definitions, as the code reads them.
-use Rattle.std.proofs.Common.{ℕ, ◌≡◌, ◌+◌, ◌<◌, ◌≤◌, Bool, true, false, ◌&&◌, ◌||◌, cond, List, [], ◌∷◌, ◌++◌, length, get_or, drop, map, Ok, Err, refl, sym, ap, ◌∙◌, arith, zero, suc, length-drop}
-use Rattle.std.proofs.lemmas.List.{drop-drop, map-append, length-map}
+use Rattle.std.proofs.Common.{ℕ, ◌≡◌, ◌+◌, ◌<◌, ◌≤◌, Bool, true, false, ◌&&◌, ◌||◌, cond, List, [], ◌∷◌, ◌++◌, length, get_or, drop, map, Ok, Err, refl, sym, ap, ◌∙◌, arith, length-drop}
+use Rattle.std.proofs.lemmas.List.{drop-drop, drop-map, map-append, length-map}
 use Rattle.std.specs.Borrow.{Bor}
 use Rattle.std.specs.List.{list_any}
 use Rattle.std.specs.Str.{bytes_eq}
 use Rattle.rbg_macro.specs.declared.error.MacroError.{MacroError}
 use Rattle.rbg_macro.specs.declared.error.MacroError.TheVariants.{BadDefinition}
 use Rattle.rbg_macro.specs.declared.token.Token.{Token}
-use Rattle.rbg_macro.specs.Definition.{parameter_list, is_new_name, AddsParameter}
+use Rattle.rbg_macro.specs.Definition.{parameter_list, is_new_name}
+use Rattle.rbg_macro.specs.internal.Defines.{AddsParameter}
 use Rattle.rbg_macro.specs.Kinds.{is_name_kind, is_semicolon, is_close_parenthesis}
-use Rattle.rbg_macro.specs.Template.{texts_in}
+use Rattle.rbg_macro.specs.internal.Template.{texts_in}
 use Rattle.rbg_macro.specs.Token.{Lexeme, lexeme_of}
 
--- a text among those that references lead to
+-- a text among those behind references
 pub among_texts : (text : List ℕ) (keys : List (Bor (List ℕ))) → list_any (λ k. bytes_eq text k.now) keys ≡ list_any (bytes_eq text) (texts_in keys)
 among_texts text [] = refl
 among_texts text (k ∷ keys) = ap (λ (b : Bool). bytes_eq text k.now || b) (among_texts text keys)
@@ -37,7 +38,7 @@ repeated end keys (t ∷ []) d some seen =
 repeated end keys (t ∷ u ∷ ts) d some seen =
     rw (not_new (texts_in keys) (lexeme_of t) (sym (among_texts t.text.now keys) ∙ seen)) refl
 
--- a parameter with nothing behind it leaves the head unfinished
+-- a parameter without a token after it leaves the head unfinished
 pub unfinished : (end : ℕ) (keys : List (Bor (List ℕ))) (ts : List Token) (d : Token) → length ts ≡ 1 →
     is_name_kind (get_or ts 0 d).kind ≡ true → list_any (λ k. bytes_eq (get_or ts 0 d).text.now k.now) keys ≡ false →
     parameter_list end (texts_in keys) (map lexeme_of ts) ≡ Err (BadDefinition end)
@@ -78,19 +79,14 @@ pub record HasListed (end : ℕ) (tokens : List Token) (at : ℕ) (keys : List (
 
 -- two tokens further on
 pub two_tokens : (ts : List Token) (at : ℕ) → drop 2 (map lexeme_of (drop at ts)) ≡ map lexeme_of (drop (at + 2) ts)
-two_tokens ts at = drop-map 2 (drop at ts) ∙ ap (map lexeme_of) (drop-drop 2 at ts)
-  where
-    drop-map : (n : ℕ) (us : List Token) → drop n (map lexeme_of us) ≡ map lexeme_of (drop n us)
-    drop-map zero us = refl
-    drop-map (suc n) [] = refl
-    drop-map (suc n) (u ∷ us) = drop-map n us
+two_tokens ts at = drop-map lexeme_of 2 (drop at ts) ∙ ap (map lexeme_of) (drop-drop 2 at ts)
 
--- the two tokens of a parameter and what stands behind it are there
+-- a parameter and the token after it are two tokens of the list
 pub two_more : (earlier parameters : List (List ℕ)) (ts : List Token) (at : ℕ) (next : Lexeme) → at ≤ length ts → AddsParameter earlier parameters (map lexeme_of (drop at ts)) next → at + 2 ≤ length ts
 two_more earlier parameters ts at next within adds =
     omega (arith, within, ap length adds.tokens, length-map (drop at ts) lexeme_of, length-drop at ts)
 
--- what is listed behind one more parameter
+-- what is listed after one more parameter
 listed_behind : (end : ℕ) (tokens : List Token) (at : ℕ) (keys new_keys : List (Bor (List ℕ))) (rest : List Token) (next : Lexeme) →
     HasListed end tokens at keys → rest ≡ drop at tokens → AddsParameter (texts_in keys) (texts_in new_keys) (map lexeme_of rest) next →
     parameter_list end [] (map lexeme_of tokens) ≡

@@ -1,6 +1,7 @@
 -- Joined lists, as the code keeps and makes them.
 use Rattle.std.proofs.Common.{ℕ, ◌≡◌, ◌+◌, ◌-◌, ◌<◌, ◌≤◌, true, false, List, [], ◌∷◌, ◌++◌, length, get_or, take, drop, map, Result, Ok, Err, refl, sym, ap, ◌∙◌, arith, append_assoc, add-one, drop-cons, suc, length-drop}
 use Rattle.std.proofs.Math.ListN.{drop_of_length-le}
+use Rattle.std.proofs.lemmas.Bool.{or_parts}
 use Rattle.std.proofs.lemmas.List.{map-append, append-nil, drop-drop, drop-map, length-map}
 use Rattle.std.specs.List.{All, list_any}
 use Rattle.rbg_macro.specs.declared.error.MacroError.{MacroError}
@@ -9,14 +10,12 @@ use Rattle.rbg_macro.specs.declared.joining.JoinedToken.{JoinedToken}
 use Rattle.rbg_macro.specs.declared.joining.JoinedToken.TheVariants.{Single, Joined}
 use Rattle.rbg_macro.specs.declared.token.Token.{Token}
 use Rattle.rbg_macro.specs.declared.token.TokenKind.{TokenKind}
-use Rattle.rbg_macro.specs.Joined.{joined_lexeme, IsJoinedWithin, word_at, JoinsChain, AddsChain, FailsChain, begins_with_tilde}
+use Rattle.rbg_macro.specs.internal.Joined.{joined_lexeme, IsJoinedWithin, word_at, JoinsChain, AddsChain, FailsChain, begins_with_tilde}
 use Rattle.rbg_macro.specs.Joining.{joined, joined_from, behind}
 use Rattle.rbg_macro.specs.Kinds.{is_tilde}
 use Rattle.rbg_macro.specs.Token.{Lexeme, lexeme_of}
-use Rattle.rbg_macro.proofs.Chains.{whole_of, longer_of}
-use Rattle.rbg_macro.proofs.Names.{either}
-use Rattle.rbg_macro.proofs.Rests.{rest_of}
-use Rattle.rbg_macro.proofs.Spans.{same_lexeme}
+use Rattle.std.proofs.lemmas.List.{take_rest}
+use Rattle.rbg_macro.proofs.Spans.{same_lexeme, whole_of}
 
 same_joined_token : (texts more : List ℕ) (t : JoinedToken) → IsJoinedWithin texts t → joined_lexeme (texts ++ more) t ≡ joined_lexeme texts t
 same_joined_token texts more (Single t) is = refl
@@ -45,11 +44,10 @@ adds_chain texts new_texts tokens new_tokens ts d kind count start end all grown
   chain = chain;
   added =
       let whole = whole_of texts new_texts grown in
-      let longer = longer_of texts new_texts grown in
       let old : map (joined_lexeme new_texts) tokens ≡ map (joined_lexeme texts) tokens =
       ap (λ bs. map (joined_lexeme bs) tokens) whole ∙ same_joined texts (drop (length texts) new_texts) tokens all in
       let word : take (end - start) (drop start new_texts) ≡ drop (length texts) new_texts =
-      rw (first, last) (rest_of new_texts (length texts) longer) in
+      rw (first, last) (take_rest new_texts (length texts)) in
       let at : (get_or ts 0 d).at ≡ chain.first.at = sym (first_of ts d chain.first chain.rest chain.tokens) in
       ap (map (joined_lexeme new_texts)) added ∙ map-append (joined_lexeme new_texts) tokens _
       ∙ rw (old, word, at) refl;
@@ -137,7 +135,7 @@ join_fails list rest at done e so_far is fails =
 pub all_joined : (list : List Token) (at : ℕ) (done : List Lexeme) → HasJoinedTo list at done → length list ≤ at → joined (map lexeme_of list) ≡ Ok done
 all_joined list at done so_far all = so_far.goes_on ∙ rw (drop_of_length-le list all) (ap Ok (append-nil done))
 
--- where a `~` stands first
+-- a list that begins with `~`
 pub begins_badly : (list : List Token) (d : Token) → begins_with_tilde (map lexeme_of list) ≡ true → joined (map lexeme_of list) ≡ Err (BadJoin (get_or list 0 d).at)
 begins_badly [] d tilde = cc
 begins_badly (t ∷ ts) d tilde = rw tilde refl
@@ -145,11 +143,11 @@ begins_badly (t ∷ ts) d tilde = rw tilde refl
 -- a list without a `~` is joined already
 no_tilde_first : (ts : List Token) → list_any (λ t. is_tilde t.kind) ts ≡ false → begins_with_tilde (map lexeme_of ts) ≡ false
 no_tilde_first [] none = refl
-no_tilde_first (t ∷ ts) none = (either (is_tilde t.kind) (list_any (λ u. is_tilde u.kind) ts) none).0
+no_tilde_first (t ∷ ts) none = (or_parts (is_tilde t.kind) (list_any (λ u. is_tilde u.kind) ts) none).0
 
 pub joined_already : (ts : List Token) → list_any (λ t. is_tilde t.kind) ts ≡ false → joined (map lexeme_of ts) ≡ Ok (map lexeme_of ts)
 joined_already [] none = refl
 joined_already (t ∷ ts) none =
-    let (first, others) = either (is_tilde t.kind) (list_any (λ u. is_tilde u.kind) ts) none in
+    let (first, others) = or_parts (is_tilde t.kind) (list_any (λ u. is_tilde u.kind) ts) none in
     let rest = joined_already ts others in
     joined_first (lexeme_of t) (map lexeme_of ts) first ∙ joined_from-apart (lexeme_of t) (map lexeme_of ts) (no_tilde_first ts others) ∙ rw rest refl

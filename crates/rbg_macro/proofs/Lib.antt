@@ -14,7 +14,6 @@ pub mod OneFault
 pub mod OneReading
 mod Parts
 mod Reading
-mod Rests
 mod Scan
 mod Sections
 mod Spans

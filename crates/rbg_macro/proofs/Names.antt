@@ -1,5 +1,6 @@
 -- Macros and parameters by name: a map's or a set's look-ups, as those in the lists that contracts see.
 use Rattle.std.proofs.Common.{ℕ, ◌≡◌, ◌+◌, Bool, true, false, ◌||◌, cond, not, List, [], ◌∷◌, ◌++◌, map, Option, None, Some, is_some, MatchOption, position, refl, sym, ap, ◌∙◌, find}
+use Rattle.std.proofs.lemmas.Bool.{or_parts}
 use Rattle.std.proofs.lemmas.List.{length-map}
 use Rattle.std.specs.List.{list_any, position_or_len}
 use Rattle.std.specs.Map.{lookup}
@@ -10,12 +11,8 @@ use Rattle.indexmap.specs.IndexMap.{insert_entry}
 use Rattle.rbg_macro.specs.declared.macros.Template.{Template}
 use Rattle.rbg_macro.specs.Kinds.{is_name_kind}
 use Rattle.rbg_macro.specs.Macro.{macro_named, piece_of, Word, Place}
-use Rattle.rbg_macro.specs.Template.{macro_of, macro_in, texts_in, IsNamed}
+use Rattle.rbg_macro.specs.internal.Template.{macro_of, macro_in, texts_in, IsNamed}
 use Rattle.rbg_macro.specs.Token.{Lexeme}
-
-pub either : (a b : Bool) → (a || b) ≡ false → (a ≡ false) × (b ≡ false)
-either true b h = cc
-either false b h = (refl, h)
 
 -- whether a name is there
 pub has_lookup : (name : List ℕ) (es : List (Bor (List ℕ) × Template)) → is_some (lookup (λ k. bytes_eq name k.now) es) ≡ list_any (λ m. bytes_eq name m.name) (map macro_in es)
@@ -31,7 +28,7 @@ has_lookup name (e ∷ es) = by_test (bytes_eq name e.0.now) (has_lookup name es
 pub insert_entry-fresh : (k : Bor (List ℕ)) (t : Template) (es : List (Bor (List ℕ) × Template)) → list_any (λ m. bytes_eq k.now m.name) (map macro_in es) ≡ false → insert_entry (λ x y. bytes_eq x.now y.now) es k t ≡ es ++ (k, t) ∷ []
 insert_entry-fresh k t [] fresh = refl
 insert_entry-fresh k t (e ∷ es) fresh =
-    let (first, others) = either (bytes_eq k.now e.0.now) (list_any (λ m. bytes_eq k.now m.name) (map macro_in es)) fresh in
+    let (first, others) = or_parts (bytes_eq k.now e.0.now) (list_any (λ m. bytes_eq k.now m.name) (map macro_in es)) fresh in
     rw first (ap (λ (l : List (Bor (List ℕ) × Template)). e ∷ l) (insert_entry-fresh k t es others))
 
 -- the macro of a name

@@ -11,7 +11,7 @@ use Rattle.rbg_macro.specs.Joining.{joined}
 use Rattle.rbg_macro.specs.Macro.{Macro}
 use Rattle.rbg_macro.specs.Token.{Lexeme, SectionTokens}
 
--- a list that expands, joined and read
+-- a list that expands is joined, and the joined list is read
 record IsRead (macros : List Macro) (d : ℕ) (ts us : List Lexeme) (n : ℕ) : Type 0 where
   js : List Lexeme
   spent : ℕ
@@ -19,13 +19,13 @@ record IsRead (macros : List Macro) (d : ℕ) (ts us : List Lexeme) (n : ℕ) : 
   reads : Reads macros d js us spent
   count : n ≡ length ts + spent
 
--- what a first token that stays leaves to the others
+-- a list whose first token stays: how the other tokens are read
 record ReadsBehind (macros : List Macro) (d : ℕ) (t : Lexeme) (ts us : List Lexeme) (n : ℕ) : Type 0 where
   behind : List Lexeme
   reads : Reads macros d ts behind n
   kept_is : us ≡ t ∷ behind
 
--- what a call gives, and what it leaves to the others
+-- a list that begins with a call: what the call gives, and how the tokens after it are read
 record ReadsCall (macros : List Macro) (d : ℕ) (body rest us : List Lexeme) (n : ℕ) : Type 0 where
   given : List Lexeme
   spent : ℕ
@@ -193,7 +193,7 @@ sections_have_no_fault ts sections e has (inr fault) =
     all_have_no_fault fault.definitions.macros 0 0 fault.definitions.sections e fault.fails sections has.expanded.read expands
     (omega (arith, has.expanded.read_within)) (omega (arith, has.expanded.kept_within))
 
--- so they are refused only for want of memory
+-- so the only error for them is out of memory
 pub sections_refused_for_memory : (ts : List Lexeme) (sections : List SectionTokens) → HasSections ts sections → (e : MacroError) → HasMacroFault ts e → e ≡ Memory
 sections_refused_for_memory ts sections has (BadDefinition at) fault = absurd (sections_have_no_fault ts sections (BadDefinition at) has fault)
 sections_refused_for_memory ts sections has (Twice at) fault = absurd (sections_have_no_fault ts sections (Twice at) has fault)

@@ -22,7 +22,7 @@ fails_as macros _ _ _ _ _ (too_many_read d n k ts over) = uncounted over refl
 fails_as macros _ _ _ _ _ (no_join d n k ts e counted joins) = unjoined counted joins
 fails_as macros _ _ _ _ _ (reading d n k ts js e counted joins fails) = unread js counted joins fails
 
--- a fault at or behind a first token that stays
+-- a fault at or after a first token that stays
 data FailsStaying (macros : List Macro) (d n k : ℕ) (ts : List Lexeme) (e : MacroError) : Type 0 where
   full : MAX_KEPT ≤ k → TooManyTokens ≡ e → FailsStaying macros d n k ts e
   behind : k < MAX_KEPT → FailsReading macros d n (k + 1) ts e → FailsStaying macros d n k ts e
@@ -45,7 +45,7 @@ fails_no_call macros _ _ _ _ _ _ (too_deep d n k t ts body rest met deep) is = c
 fails_no_call macros _ _ _ _ _ _ (in_call d n k t ts body rest e met not_deep fails) is = cc
 fails_no_call macros _ _ _ _ _ _ (behind_call d n k l t ts body rest given e met not_deep expands counted room fails) is = cc
 
--- a fault at, in or behind a call
+-- a fault at, in or after a call
 data FailsCall (macros : List Macro) (d n k at : ℕ) (body rest : List Lexeme) (e : MacroError) : Type 0 where
   deep : MAX_LEVEL ≤ d → Depth at ≡ e → FailsCall macros d n k at body rest e
   inside : d < MAX_LEVEL → Fails macros (d + 1) n k body e → FailsCall macros d n k at body rest e
@@ -162,7 +162,7 @@ fault_once ts e f (inr fault) (inr fault') =
     subst (λ (ds : Definitions). FailsAll ds.macros 0 0 ds.sections f) same fault'.fails in
     all_fail_once fault.definitions.macros 0 0 fault.definitions.sections e fault.fails f moved
 
--- the fault behind an error that isn't want of memory
+-- the fault that an error other than out of memory stands for
 fault_of : (ts : List Lexeme) (e : MacroError) → HasMacroFault ts e → e ≢ Memory → HasFault ts e
 fault_of ts (BadDefinition at) fault other = fault
 fault_of ts (Twice at) fault other = fault

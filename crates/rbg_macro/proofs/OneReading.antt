@@ -1,6 +1,6 @@
 -- A text has one list of tokens at most, and one first fault, and not both.
 use Rattle.std.proofs.Common.{ℕ, ◌≡◌, ◌≢◌, ◌+◌, ◌==◌, Bool, true, false, ◌&&◌, List, [], ◌∷◌, ◌++◌, length, get_or, drop, Some, Result, Ok, Err, cond, refl, sym, ap, ◌∙◌, arith, subst}
-use Rattle.std.proofs.lemmas.Bool.{ne_eqb}
+use Rattle.std.proofs.lemmas.Bool.{and_parts, ne_eqb}
 use Rattle.std.specs.Char.{is_ascii_digit}
 use Rattle.std.specs.List.{find, list_all}
 use Rattle.std.specs.Str.{bytes_eq}
@@ -14,9 +14,9 @@ use Rattle.rbg_macro.specs.Text.{Lexes, end, blank, comment, token, zero_byte, z
 use Rattle.rbg_macro.specs.Spelling.{spelling, Spells}
 use Rattle.rbg_base.specs.Names.{is_name_start, is_name_part}
 use Rattle.rbg_macro.specs.Token.{Lexeme}
-use Rattle.rbg_macro.proofs.Words.{both, digit_starts_no_name, symbol_starts_no_name, symbol_starts_no_number}
+use Rattle.rbg_macro.proofs.Words.{digit_starts_no_name, symbol_starts_no_name, symbol_starts_no_number}
 
--- what stands first: nothing, a blank, a zero byte, a comment, or a token or a bad byte
+-- how bytes begin: with nothing, a blank, a zero byte, a comment, or with a token or a bad byte
 data Opening : Type 0 where
   Nothing : Opening
   Blank : Opening
@@ -28,7 +28,7 @@ abbrev opening : List ℕ → Opening
 opening [] = Nothing
 opening (b ∷ bs) = cond (is_blank b) Blank (cond (b == 0) Zero (cond ((b == 47) && (get_or bs 0 0 == 47)) Comment Other))
 
--- a byte that passes a test is none that doesn't
+-- a byte that passes a test differs from one that doesn't
 is_not : (p : ℕ → Bool) (b n : ℕ) → p b ≡ true → p n ≡ false → (b == n) ≡ false
 is_not p b n passes fails = ne_eqb b n (λ same. cc)
 
@@ -55,14 +55,14 @@ opens_symbol _ rest no_comment = refl
 opens_token : (kind : TokenKind) (word rest : List ℕ) → Spells kind word → ((line : List ℕ) → word ++ rest ≡ 47 ∷ 47 ∷ line → ⊥) → opening (word ++ rest) ≡ Other
 opens_token Name [] rest spelt no_comment = cc
 opens_token Name (b ∷ bs) rest spelt no_comment =
-    opens_word is_name_start b (bs ++ rest) (both (is_name_start b) (list_all is_name_part bs) spelt).0 refl refl refl refl refl refl
+    opens_word is_name_start b (bs ++ rest) (and_parts (is_name_start b) (list_all is_name_part bs) spelt).0 refl refl refl refl refl refl
 opens_token Number [] rest spelt no_comment = cc
 opens_token Number (b ∷ bs) rest spelt no_comment =
-    opens_word is_ascii_digit b (bs ++ rest) (both (is_ascii_digit b) (list_all is_ascii_digit bs) spelt).0 refl refl refl refl refl refl
+    opens_word is_ascii_digit b (bs ++ rest) (and_parts (is_ascii_digit b) (list_all is_ascii_digit bs) spelt).0 refl refl refl refl refl refl
 opens_token (A_Symbol s) word rest spelt no_comment =
     rw spelt (opens_symbol s rest (λ line e. no_comment line (ap (λ (w : List ℕ). w ++ rest) spelt ∙ e)))
 
--- the same of a token that stands at the front of some bytes
+-- the same for bytes that begin with a token
 opens_token_at : (kind : TokenKind) (bytes word rest : List ℕ) → bytes ≡ word ++ rest → IsToken kind word rest → opening bytes ≡ Other
 opens_token_at kind bytes word rest begins is = rw begins (opens_token kind word rest is.spelt is.no_comment)
 
@@ -71,18 +71,18 @@ opens_bad b rest not_zero not_blank no_token =
     let no_slash : (b == 47) ≡ false = ne_eqb b 47 (λ same. no_token (A_Symbol Slash) (47 ∷ []) rest refl (ap (λ (x : ℕ). x ∷ rest) (sym same))) in
     rw (not_blank, ne_eqb b 0 not_zero, no_slash) refl
 
--- what a comment at the front leaves to the rest
+-- bytes that begin with a comment: what the rest gives
 data ReadsComment (at : ℕ) (bytes : List ℕ) (read : Result (List Lexeme) TextError) : Type 0 where
   ended : (word line rest : List ℕ) → bytes ≡ word ++ rest → IsComment word line → IsLineEnd rest → Lexes (at + length word) rest read → ReadsComment at bytes read
   zero_inside : (word line rest : List ℕ) → bytes ≡ word ++ 0 ∷ rest → IsComment word line → read ≡ Err ZeroByte → ReadsComment at bytes read
 
--- what a token or a bad byte at the front leaves to the rest
+-- bytes that begin with a token or a bad byte: what the rest gives
 data ReadsOther (at : ℕ) (bytes : List ℕ) (all : Result (List Lexeme) TextError) : Type 0 where
   is_token : (kind : TokenKind) (word rest : List ℕ) (read : Result (List Lexeme) TextError) → bytes ≡ word ++ rest → IsToken kind word rest → Lexes (at + length word) rest read →
       all ≡ behind_token (record { kind = kind; text = word; at = at }) read → ReadsOther at bytes all
   is_bad : BeginsNoToken bytes → all ≡ Err (BadByte at) → ReadsOther at bytes all
 
--- what the bytes give, by what stands first
+-- what the bytes give, by how they begin
 abbrev Reads : Opening → ℕ → List ℕ → Result (List Lexeme) TextError → Type 0
 Reads Nothing at bytes read = Ok [] ≡ read
 Reads Blank at bytes read = Lexes (at + 1) (drop 1 bytes) read
@@ -106,7 +106,7 @@ reads _ _ _ (bad_byte at b rest not_zero not_blank no_token) =
 reads_as : (at : ℕ) (bytes : List ℕ) (read : Result (List Lexeme) TextError) (o : Opening) → opening bytes ≡ o → Lexes at bytes read → Reads o at bytes read
 reads_as at bytes read o is lexes = subst (λ (p : Opening). Reads p at bytes read) is (reads at bytes read lexes)
 
--- a line stops where a byte is none of a comment, or with the text
+-- a line stops at a byte that isn't one of a comment, or with the text
 abbrev Stops : List ℕ → Type 0
 Stops [] = Unit {0}
 Stops (b ∷ bs) = is_comment_byte b ≡ false
@@ -120,21 +120,21 @@ same_line : (line line' rest rest' : List ℕ) → list_all is_comment_byte line
 same_line [] [] rest rest' all all' stops stops' e = (refl, e)
 same_line [] (b ∷ bs) [] rest' all all' stops stops' e = cc
 same_line [] (b ∷ bs) (c ∷ cs) rest' all all' stops stops' e =
-    let passes = (both (is_comment_byte b) (list_all is_comment_byte bs) all').0 in
+    let passes = (and_parts (is_comment_byte b) (list_all is_comment_byte bs) all').0 in
     let same : c ≡ b = cc in
     absurd (cc (passes, stops, same))
 same_line (a ∷ line) [] rest [] all all' stops stops' e = cc
 same_line (a ∷ line) [] rest (c ∷ cs) all all' stops stops' e =
-    let passes = (both (is_comment_byte a) (list_all is_comment_byte line) all).0 in
+    let passes = (and_parts (is_comment_byte a) (list_all is_comment_byte line) all).0 in
     let same : a ≡ c = cc in
     absurd (cc (passes, stops', same))
 same_line (a ∷ line) (b ∷ line') rest rest' all all' stops stops' e =
     let first : a ≡ b = cc in
     let behind : line ++ rest ≡ line' ++ rest' = cc in
-    let (lines, rests) = same_line line line' rest rest' (both (is_comment_byte a) (list_all is_comment_byte line) all).1 (both (is_comment_byte b) (list_all is_comment_byte line') all').1 stops stops' behind in
+    let (lines, rests) = same_line line line' rest rest' (and_parts (is_comment_byte a) (list_all is_comment_byte line) all).1 (and_parts (is_comment_byte b) (list_all is_comment_byte line') all').1 stops stops' behind in
     (cc (first, lines), rests)
 
--- comments at the front of the same bytes are one
+-- two comments at the front of the same bytes are the same
 same_comment : (bytes word word' line line' rest rest' : List ℕ) → bytes ≡ word ++ rest → bytes ≡ word' ++ rest' → IsComment word line → IsComment word' line' → Stops rest → Stops rest' →
     (word ≡ word') × (rest ≡ rest')
 same_comment bytes word word' line line' rest rest' begins begins' is is' stops stops' =
@@ -170,14 +170,14 @@ same_symbol s t e =
 no_name_and_number : (word : List ℕ) → Spells Name word → Spells Number word → ⊥
 no_name_and_number [] name number = cc
 no_name_and_number (b ∷ bs) name number =
-    let start = (both (is_name_start b) (list_all is_name_part bs) name).0 in
-    let none = digit_starts_no_name b (both (is_ascii_digit b) (list_all is_ascii_digit bs) number).0 in
+    let start = (and_parts (is_name_start b) (list_all is_name_part bs) name).0 in
+    let none = digit_starts_no_name b (and_parts (is_ascii_digit b) (list_all is_ascii_digit bs) number).0 in
     cc (start, none)
 
 no_name_and_symbol : (word : List ℕ) (s : Symbol) → Spells Name word → word ≡ spelling s → ⊥
 no_name_and_symbol [] s name is = cc
 no_name_and_symbol (b ∷ bs) s name is =
-    let start = (both (is_name_start b) (list_all is_name_part bs) name).0 in
+    let start = (and_parts (is_name_start b) (list_all is_name_part bs) name).0 in
     let none : is_name_start (get_or (spelling s ++ []) 0 0) ≡ false = symbol_starts_no_name s [] in
     let first = subst (λ (w : List ℕ). is_name_start (get_or (w ++ []) 0 0) ≡ false) (sym is) none in
     cc (start, first)
@@ -185,7 +185,7 @@ no_name_and_symbol (b ∷ bs) s name is =
 no_number_and_symbol : (word : List ℕ) (s : Symbol) → Spells Number word → word ≡ spelling s → ⊥
 no_number_and_symbol [] s number is = cc
 no_number_and_symbol (b ∷ bs) s number is =
-    let start = (both (is_ascii_digit b) (list_all is_ascii_digit bs) number).0 in
+    let start = (and_parts (is_ascii_digit b) (list_all is_ascii_digit bs) number).0 in
     let none : is_ascii_digit (get_or (spelling s ++ []) 0 0) ≡ false = symbol_starts_no_number s [] in
     let first = subst (λ (w : List ℕ). is_ascii_digit (get_or (w ++ []) 0 0) ≡ false) (sym is) none in
     cc (start, first)
@@ -201,7 +201,7 @@ same_kind (A_Symbol s) Name word one other = absurd (no_name_and_symbol word s o
 same_kind (A_Symbol s) Number word one other = absurd (no_number_and_symbol word s other one)
 same_kind (A_Symbol s) (A_Symbol t) word one other = ap A_Symbol (same_symbol s t (sym one ∙ other))
 
--- tokens at the front of the same bytes are one
+-- two tokens at the front of the same bytes are the same
 record AreSame (k l : TokenKind) (u v x y : List ℕ) : Type 0 where
   kinds : k ≡ l
   words : u ≡ v
@@ -219,7 +219,7 @@ same_token k l bytes u v x y begins begins' is is' =
       rests = rests;
     }
 
--- what the rest gives at the same place
+-- equal words leave equal rests
 moved : (at : ℕ) (word word' rest rest' : List ℕ) (read : Result (List Lexeme) TextError) → word ≡ word' → rest ≡ rest' → Lexes (at + length word') rest' read → Lexes (at + length word) rest read
 moved at word word' rest rest' read words rests lexes = rw (words, rests) lexes
 
@@ -272,7 +272,7 @@ tokens_once text a b first second = let same = reads_once 0 text (Ok a) first.re
 no_first_fault : (text : List ℕ) (ts : List Lexeme) (e : TextError) → HasTokens text ts → HasFirstFault text e → ⊥
 no_first_fault text ts e has fault = let same = reads_once 0 text (Ok ts) has.read (Err e) fault.read in cc
 
--- so it is refused only for want of memory
+-- so its only error is out of memory
 pub text_refused_for_memory : (text : List ℕ) (ts : List Lexeme) → HasTokens text ts → (e : TextError) → HasTextFault text e → e ≡ Memory
 text_refused_for_memory text ts has TooLong fault = absurd (omega (arith, has.fits))
 text_refused_for_memory text ts has ZeroByte fault = absurd (no_first_fault text ts ZeroByte has fault)
@@ -282,7 +282,7 @@ text_refused_for_memory text ts has Memory fault = refl
 first_fault_once : (text : List ℕ) (e f : TextError) → HasFirstFault text e → HasFirstFault text f → e ≡ f
 first_fault_once text e f one other = let same = reads_once 0 text (Err e) one.read (Err f) other.read in cc
 
--- a text is refused by one error at most besides want of memory
+-- a text has at most one error other than out of memory
 pub text_error_once : (text : List ℕ) (e f : TextError) → HasTextFault text e → HasTextFault text f → e ≢ Memory → f ≢ Memory → e ≡ f
 text_error_once text TooLong TooLong one other not_memory not_memory' = refl
 text_error_once text TooLong ZeroByte one other not_memory not_memory' = absurd (omega (arith, other.fits))

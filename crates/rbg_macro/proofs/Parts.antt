@@ -9,13 +9,13 @@ use Rattle.rbg_macro.specs.declared.error.TextError.TheVariants.{ZeroByte, BadBy
 use Rattle.rbg_macro.specs.declared.token.Symbol.{Symbol}
 use Rattle.rbg_macro.specs.declared.token.TokenKind.{TokenKind}
 use Rattle.rbg_macro.specs.declared.token.TokenKind.TheVariants.{Name, Number, Symbol as A_Symbol}
-use Rattle.rbg_macro.specs.Part.{Skips, Takes, BeginsComment, IsLongestSymbol}
+use Rattle.rbg_macro.specs.internal.Part.{Skips, Takes, BeginsComment, IsLongestSymbol}
 use Rattle.rbg_macro.specs.Text.{Lexes, blank, comment, token, zero_byte, zero_in_comment, bad_byte, is_blank, is_comment_byte, IsComment, IsLineEnd, IsToken, BeginsNoToken}
 use Rattle.rbg_macro.specs.Spelling.{spelling}
 use Rattle.rbg_base.specs.Names.{is_name_start, is_name_part}
 use Rattle.rbg_macro.proofs.Words.{list_all-prefix_len, start_is_part, name_is_token, number_is_token, symbol_is_token, 0<length-spelling}
 
--- bytes that aren't none are their first one and the rest
+-- at least one byte: the first one and the rest
 front : (bytes : List ℕ) → 0 < length bytes → bytes ≡ get_or bytes 0 0 ∷ drop 1 bytes
 front [] some = absurd (omega arith)
 front (b ∷ bs) some = refl
@@ -32,11 +32,11 @@ blank_first (b ∷ bs) some is = record {
   reads = λ at read behind. blank at b bs read is behind;
 }
 
--- a comment whose line goes on with these bytes
+-- a comment with these bytes after its slashes
 comment_word : (line : List ℕ) → IsComment (47 ∷ 47 ∷ take (prefix_len is_comment_byte line) line) (take (prefix_len is_comment_byte line) line)
 comment_word line = record { begins = refl; goes_on = list_all-prefix_len is_comment_byte line }
 
--- behind the bytes of a comment stands the end of its line, or a zero byte
+-- after the bytes of a comment comes the end of its line, or a zero byte
 line_end : (rest : List ℕ) → (0 < length rest → is_comment_byte (get_or rest 0 0) ≡ false) → (0 < length rest → get_or rest 0 0 ≢ 0) → IsLineEnd rest
 line_end [] stops no_zero = tt
 line_end (b ∷ bs) stops no_zero =

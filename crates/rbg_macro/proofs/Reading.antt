@@ -9,11 +9,11 @@ use Rattle.rbg_macro.specs.declared.token.Token.{Token}
 use Rattle.rbg_macro.specs.Call.{Stays, meets}
 use Rattle.rbg_macro.specs.Expansion.{Expands, list, Reads, nothing, stays, call, Fails, no_join, reading, FailsReading, too_many_kept, behind_kept, in_call, behind_call}
 use Rattle.rbg_macro.specs.Macro.{Macro}
-use Rattle.rbg_macro.specs.Progress.{IsWithinLimits, ReadsOn, ReadsJoined, FailsJoined, GivesWay, IsTooMany, no_join as joins_not, reading as fails_reading}
+use Rattle.rbg_macro.specs.internal.Progress.{IsWithinLimits, ReadsOn, ReadsJoined, FailsJoined, GivesWay, IsTooMany, no_join as joins_not, reading as fails_reading}
 use Rattle.rbg_macro.specs.Token.{Lexeme, lexeme_of}
 
--- The list was read up to a place: whatever the rest gives, behind what was kept it is what the list gives; and
--- a fault that the rest meets is one of the list.
+-- The list was read up to a place. If the rest expands to something, then the list expands to what was kept, followed
+-- by it, and a fault of the rest is a fault of the list.
 pub record HasRead (macros : List Macro) (d : ℕ) (tokens : List Token) (at : ℕ) (old now : Progress) : Type 0 where
   pub within : at ≤ length tokens
   pub limits : IsWithinLimits now

@@ -6,7 +6,7 @@ use Rattle.rbg_macro.specs.declared.error.TextError.{TextError}
 use Rattle.rbg_macro.specs.declared.limits.TheConstants.{MAX_TEXT}
 use Rattle.rbg_macro.specs.declared.token.Token.{Token}
 use Rattle.rbg_macro.specs.declared.token.TokenKind.{TokenKind}
-use Rattle.rbg_macro.specs.Part.{Takes}
+use Rattle.rbg_macro.specs.internal.Part.{Takes}
 use Rattle.rbg_macro.specs.Text.{Lexes, end, behind_token, HasTokens, HasFirstFault}
 use Rattle.rbg_macro.specs.Token.{Lexeme, lexeme_of}
 
@@ -15,8 +15,8 @@ abbrev pub behind_tokens : List Lexeme → Result (List Lexeme) TextError → Re
 behind_tokens ts (Ok us) = Ok (ts ++ us)
 behind_tokens ts (Err e) = Err e
 
--- The text was read up to an offset, and gave these tokens: whatever the rest gives, with them before it
--- it is what the text gives.
+-- The text was read up to an offset, and gave these tokens. If the rest gives something, then the text gives these
+-- tokens followed by it.
 pub record HasReadTo (text : List ℕ) (at : ℕ) (tokens : List Token) : Type 0 where
   pub within : at ≤ length text
   pub reads : (read : Result (List Lexeme) TextError) → Lexes at (drop at text) read → Lexes 0 text (behind_tokens (map lexeme_of tokens) read)

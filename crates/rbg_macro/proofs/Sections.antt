@@ -1,8 +1,9 @@
 -- How far the sections were expanded.
-use Rattle.std.proofs.Common.{ℕ, ◌≡◌, ◌+◌, ◌-◌, ◌<◌, ◌≤◌, List, [], ◌∷◌, ◌++◌, length, get_or, drop, map, refl, sym, ap, ◌∙◌, arith, append_assoc, length-append, drop-cons, zero, suc}
+use Rattle.std.proofs.Common.{ℕ, ◌≡◌, ◌+◌, ◌-◌, ◌<◌, ◌≤◌, List, [], ◌∷◌, ◌++◌, length, get_or, drop, map, refl, sym, ap, ◌∙◌, arith, append_assoc, length-append, drop-cons, suc}
 use Rattle.std.proofs.Math.ListN.{drop_of_length-le}
 use Rattle.std.proofs.lemmas.List.{append-nil, map-append}
-use Rattle.std.proofs.lemmas.List.Sums.{sum_by-append}
+use Rattle.std.proofs.lemmas.List.Elements.{All-push, All-weaker}
+use Rattle.std.proofs.lemmas.List.Sums.{sum_by_push}
 use Rattle.std.specs.List.{All}
 use Rattle.rbg_macro.specs.declared.definition.SectionBody.{SectionBody}
 use Rattle.rbg_macro.specs.declared.error.MacroError.{MacroError}
@@ -10,12 +11,12 @@ use Rattle.rbg_macro.specs.declared.error.MacroError.TheVariants.{TooManyTokens}
 use Rattle.rbg_macro.specs.declared.expansion.Progress.{Progress}
 use Rattle.rbg_macro.specs.declared.limits.TheConstants.{MAX_READ}
 use Rattle.rbg_macro.specs.declared.source.SectionSpan.{SectionSpan}
-use Rattle.rbg_macro.specs.Defines.{section_of}
+use Rattle.rbg_macro.specs.internal.Defines.{section_of}
 use Rattle.rbg_macro.specs.Expansion.{list, Fails, too_many_read, no_join, reading, ExpandsAll, none, one_more, FailsAll, here, later, kept, ExpandsWithin}
-use Rattle.rbg_macro.specs.Gives.{UnlessMemory}
+use Rattle.rbg_macro.specs.Errors.{UnlessMemory}
 use Rattle.rbg_macro.specs.Macro.{Macro}
-use Rattle.rbg_macro.specs.Progress.{IsWithinLimits, ReadsJoined, FailsJoined, ReadsSection, no_join as joins_not, reading as fails_reading}
-use Rattle.rbg_macro.specs.Span.{section_in, IsSectionWithin}
+use Rattle.rbg_macro.specs.internal.Progress.{IsWithinLimits, ReadsJoined, FailsJoined, ReadsSection, no_join as joins_not, reading as fails_reading}
+use Rattle.rbg_macro.specs.internal.Span.{section_in, IsSectionWithin}
 use Rattle.rbg_macro.specs.Token.{Lexeme, SectionTokens}
 use Rattle.rbg_macro.proofs.Exits.{unless_weaker}
 use Rattle.rbg_macro.proofs.Spans.{slice_of_front, slice_of_end}
@@ -47,8 +48,9 @@ section_fails macros tokens old counted e counts within (fails_reading js joins 
     let kept_is : length counted.kept ≡ length old.kept = ap (λ (p : Progress). length p.kept) counts in
     reading 0 old.read (length old.kept) tokens js e within joins (rw (← read_is, ← kept_is) f)
 
--- The sections up to a place were expanded, and their tokens stand in these parts of the kept ones. Whatever the
--- others expand to, behind these it is what all expand to; and a fault of the others is one of all.
+-- The sections up to a place were expanded, and their tokens are in these ranges of the kept tokens. If the other
+-- sections expand to something, then all sections expand to the two together, and a fault of the others is a fault of
+-- all.
 pub record HasExpanded (macros : List Macro) (bodies : List SectionBody) (i : ℕ) (now : Progress) (spans : List SectionSpan) : Type 0 where
   pub limits : IsWithinLimits now
   pub places : All (IsSectionWithin (length now.kept)) spans
@@ -88,18 +90,13 @@ sections_grown kept_before added spans s all =
     (same_sections kept_before added spans all)
     ∙ ap (λ (ts : List Lexeme). map (section_in kept_before) spans ++ record s { tokens = ts } ∷ []) (slice_of_end kept_before added)
 
-kept-append : (ss : List SectionTokens) (s : SectionTokens) → kept (ss ++ s ∷ []) ≡ kept ss + length s.tokens
-kept-append ss s = sum_by-append (λ (x : SectionTokens). length x.tokens) ss (s ∷ []) ∙ ap (λ (n : ℕ). kept ss + n) (omega arith)
-
 -- places stay places, and the new one is one
 places_grown : (len more : ℕ) (spans : List SectionSpan) (s : SectionSpan) → All (IsSectionWithin len) spans → len ≤ more → s.start ≤ s.end → s.end ≤ more →
     All (IsSectionWithin more) (spans ++ s ∷ [])
-places_grown len more [] s all longer ordered within zero d below = record { ordered = ordered; within = within }
-places_grown len more [] s all longer ordered within (suc k) d below = absurd (omega arith)
-places_grown len more (x ∷ spans) s all longer ordered within zero d below =
-    let here = all 0 x (omega arith) in record { ordered = here.ordered; within = omega (arith, here.within) }
-places_grown len more (x ∷ spans) s all longer ordered within (suc k) d below =
-    places_grown len more spans s (λ j e less. all (suc j) e (omega arith)) longer ordered within k d (omega arith)
+places_grown len more spans s all longer ordered within =
+    All-push (IsSectionWithin more) spans s
+    (All-weaker (IsSectionWithin len) (IsSectionWithin more) (λ x is. record { ordered = is.ordered; within = omega (arith, is.within) }) spans all)
+    (record { ordered = ordered; within = within })
 
 pub section_expanded : (macros : List Macro) (bodies : List SectionBody) (i : ℕ) (d : SectionBody) (now new : Progress) (spans new_spans : List SectionSpan) (span : SectionSpan) →
     HasExpanded macros bodies i now spans → i < length bodies → ReadsSection macros (section_of (get_or bodies i d)) now new span → new_spans ≡ spans ++ span ∷ [] →
@@ -108,7 +105,7 @@ section_expanded macros bodies i d now new spans new_spans span so_far below rea
   limits = reads.within;
   places =
       rw (added, reads.span_is) (places_grown (length now.kept) (length new.kept) spans _ so_far.places longer longer (omega arith));
-  total = rw (all_spans, kept-append (map (section_in now.kept) spans) (record s { tokens = reads.added }), so_far.total, reads.kept) (sym (length-append now.kept reads.added));
+  total = rw (all_spans, sum_by_push (λ (x : SectionTokens). length x.tokens) (map (section_in now.kept) spans) (record s { tokens = reads.added }), so_far.total, reads.kept) (sym (length-append now.kept reads.added));
   expands = λ ts m all.
       let one : ExpandsAll macros (map section_of (drop i bodies)) (record s { tokens = reads.added } ∷ ts) (reads.spent + m) =
       rw begins (one_more s reads.added reads.spent (map section_of (drop (i + 1) bodies)) ts m reads.expands all) in

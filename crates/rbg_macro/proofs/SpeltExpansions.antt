@@ -11,10 +11,10 @@ use Rattle.rbg_macro.specs.declared.source.SectionSpan.{SectionSpan}
 use Rattle.rbg_macro.specs.Call.{Arguments, Nesting, Within, Cuts, Ends, Mismatched, nesting, arguments, arguments_by, with_token, with_argument, Meets, Stays, Calls, NoCall, with_arguments, called, met, meets}
 use Rattle.rbg_macro.specs.Definition.{Part, parts, part_of, is_hash_token, expect, behind_equals, is_new_name, parameter_list, behind_name, section_named, Defined, A_Section, A_Macro, defined_as, defined, Definitions, with_section, with_defined, definitions, definitions_of}
 use Rattle.rbg_macro.specs.Expansion.{Expands, list, Reads, nothing, stays, call, ExpandsAll, none, one_more, HasSections}
-use Rattle.rbg_macro.specs.Gives.{◌>>=◌}
+use Rattle.rbg_macro.specs.Steps.{◌>>=◌}
 use Rattle.rbg_macro.specs.Kinds.{is_name_kind, is_hash, is_equals, is_semicolon, is_open_parenthesis, is_close_parenthesis}
 use Rattle.rbg_macro.specs.Macro.{Piece, Word, Place, Macro, parameter_named, word_or_place, body_of, filled, macro_named}
-use Rattle.rbg_macro.specs.Span.{section_in, IsSectionWithin, IsSectionIn}
+use Rattle.rbg_macro.specs.internal.Span.{section_in, IsSectionWithin, IsSectionIn}
 use Rattle.rbg_macro.specs.Spelling.{IsLexeme, AreLexemes}
 use Rattle.rbg_macro.specs.Text.{HasTokens}
 use Rattle.rbg_macro.specs.Token.{Lexeme, SectionTokens}

@@ -1,5 +1,6 @@
 -- Texts that spell a token of their kind, and what joining makes of them.
 use Rattle.std.proofs.Common.{ℕ, ◌≡◌, ◌+◌, Bool, true, false, ◌&&◌, ◌||◌, cond, nat_le, List, [], ◌∷◌, ◌++◌, length, Option, None, Some, Result, Ok, Err, refl, sym, ◌∙◌, ap, subst, arith, zero, suc, slice_get}
+use Rattle.std.proofs.lemmas.Bool.{and_parts}
 use Rattle.std.proofs.lemmas.List.Elements.{All-nil, All-cons}
 use Rattle.std.proofs.lemmas.List.Folds.{list_all-append}
 use Rattle.std.specs.Char.{is_ascii_digit}
@@ -16,7 +17,7 @@ use Rattle.rbg_macro.specs.Kinds.{is_tilde}
 use Rattle.rbg_macro.specs.Spelling.{is_number, Spells, IsLexeme}
 use Rattle.rbg_macro.specs.Text.{Lexes, end, blank, comment, token, zero_byte, zero_in_comment, bad_byte, behind_token, HasTokens}
 use Rattle.rbg_macro.specs.Token.{Lexeme}
-use Rattle.rbg_macro.proofs.Words.{both, name_parts, number_digits}
+use Rattle.rbg_macro.proofs.Words.{name_parts, number_digits}
 use Rattle.rbg_macro.proofs.ZeroBytes.{tokens_behind}
 
 -- each token's text spells a token of its kind
@@ -27,7 +28,7 @@ Spelt ts = AllByRecursion IsLexeme ts
 digits_are_parts : (bytes : List ℕ) → list_all is_ascii_digit bytes ≡ true → list_all is_name_part bytes ≡ true
 digits_are_parts [] digits = refl
 digits_are_parts (b ∷ bs) digits =
-    let (first, others) = both (is_ascii_digit b) (list_all is_ascii_digit bs) digits in
+    let (first, others) = and_parts (is_ascii_digit b) (list_all is_ascii_digit bs) digits in
     rw (first, digits_are_parts bs others) (or_true (is_name_start b))
   where
     or_true : (start : Bool) → ((start || true) && true) ≡ true
@@ -37,13 +38,13 @@ digits_are_parts (b ∷ bs) digits =
 longer_name : (word more : List ℕ) → is_name word ≡ true → list_all is_name_part more ≡ true → is_name (word ++ more) ≡ true
 longer_name [] more name parts = cc
 longer_name (b ∷ bs) more name parts =
-    let (first, others) = both (is_name_start b) (list_all is_name_part bs) name in
+    let (first, others) = and_parts (is_name_start b) (list_all is_name_part bs) name in
     rw (first, list_all-append is_name_part bs more, others, parts) refl
 
 longer_number : (word more : List ℕ) → is_number word ≡ true → list_all is_ascii_digit more ≡ true → is_number (word ++ more) ≡ true
 longer_number [] more number digits = cc
 longer_number (b ∷ bs) more number digits =
-    let (first, others) = both (is_ascii_digit b) (list_all is_ascii_digit bs) number in
+    let (first, others) = and_parts (is_ascii_digit b) (list_all is_ascii_digit bs) number in
     rw (first, list_all-append is_ascii_digit bs more, others, digits) refl
 
 spells_as : (kind made : TokenKind) (text : List ℕ) → kind ≡ made → Spells kind text → Spells made text

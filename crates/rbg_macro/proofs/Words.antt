@@ -1,7 +1,8 @@
--- Which word is the longest that stands at the front of some bytes.
-use Rattle.std.proofs.Common.{ℕ, ◌≡◌, ◌+◌, ◌<◌, ◌≤◌, Bool, true, false, ◌&&◌, List, [], ◌∷◌, ◌++◌, length, get_or, take, drop, refl, sym, ap, ◌∙◌, arith, cond, add_comm, add-one}
+-- The longest token at the front of some bytes.
+use Rattle.std.proofs.Common.{ℕ, ◌≡◌, ◌+◌, ◌<◌, ◌≤◌, Bool, true, false, List, [], ◌∷◌, ◌++◌, length, get_or, take, drop, refl, sym, ap, ◌∙◌, arith, cond, add_comm, add-one}
 use Rattle.std.proofs.Math.Seq.{take-append_seam}
 use Rattle.std.proofs.lemmas.List.{take-append-drop}
+use Rattle.std.proofs.lemmas.Bool.{and_parts}
 use Rattle.std.proofs.lemmas.Bool.Decides.{nat_tests}
 use Rattle.std.proofs.lemmas.List.Folds.{length-prefix_len}
 use Rattle.std.specs.Char.{is_ascii_digit}
@@ -10,7 +11,7 @@ use Rattle.rbg_macro.specs.declared.token.Symbol.{Symbol}
 use Rattle.rbg_macro.specs.declared.token.Symbol.TheVariants.{DoubleArrow}
 use Rattle.rbg_macro.specs.declared.token.TokenKind.{TokenKind}
 use Rattle.rbg_macro.specs.declared.token.TokenKind.TheVariants.{Name, Number, Symbol as A_Symbol}
-use Rattle.rbg_macro.specs.Part.{IsLongestSymbol, BeginsNoSymbol}
+use Rattle.rbg_macro.specs.internal.Part.{IsLongestSymbol, BeginsNoSymbol}
 use Rattle.rbg_macro.specs.Text.{IsToken, BeginsNoToken}
 use Rattle.rbg_macro.specs.Spelling.{is_number, spelling, Spells}
 use Rattle.rbg_base.specs.Names.{is_name, is_name_start, is_name_part}
@@ -33,29 +34,25 @@ pub 0<length-spelling : (s : Symbol) → 0 < length (spelling s)
 pub digit_starts_no_name : (b : ℕ) → is_ascii_digit b ≡ true → is_name_start b ≡ false
 digit_starts_no_name b d = grind (arith, nat_tests)
 
-pub both : (a b : Bool) → (a && b) ≡ true → (a ≡ true) × (b ≡ true)
-both true b h = (refl, h)
-both false b h = cc
-
 pub start_is_part : (b : ℕ) → is_name_start b ≡ true → is_name_part b ≡ true
 start_is_part b h = rw h refl
 
--- every byte of a name is a part of one, and so it is with numbers
+-- every byte of a name may be a part of a name, and every byte of a number is a digit
 pub name_parts : (word : List ℕ) → is_name word ≡ true → list_all is_name_part word ≡ true
 name_parts [] h = refl
 name_parts (b ∷ bs) h =
-    let (first, behind) = both (is_name_start b) (list_all is_name_part bs) h in
+    let (first, behind) = and_parts (is_name_start b) (list_all is_name_part bs) h in
     rw (start_is_part b first) behind
 
 pub number_digits : (word : List ℕ) → is_number word ≡ true → list_all is_ascii_digit word ≡ true
 number_digits [] h = refl
 number_digits (b ∷ bs) h = h
 
--- a front that passes a test is no longer than the longest front that does, which itself passes
+-- a prefix that passes a test is no longer than the longest one that does, and that one passes
 length-le-prefix_len : (p : ℕ → Bool) (front rest : List ℕ) → list_all p front ≡ true → length front ≤ prefix_len p (front ++ rest)
 length-le-prefix_len p [] rest passes = omega arith
 length-le-prefix_len p (b ∷ front) rest passes =
-    let (first, behind) = both (p b) (list_all p front) passes in
+    let (first, behind) = and_parts (p b) (list_all p front) passes in
     let shorter = length-le-prefix_len p front rest behind in
     rw first (omega arith)
 
@@ -67,12 +64,12 @@ list_all-prefix_len p (b ∷ bs) = by_first (p b) refl (list_all-prefix_len p bs
     by_first false e behind = refl
     by_first true e behind = rw (add_comm 1 (prefix_len p bs), add-one, e) behind
 
--- where a name stands at the front, no token is longer than its longest front of name parts
+-- if bytes begin with a name, no token at the front is longer than the longest prefix of name bytes
 longest_name : (k : TokenKind) (longer after : List ℕ) → is_name_start (get_or (longer ++ after) 0 0) ≡ true → Spells k longer → length longer ≤ prefix_len is_name_part (longer ++ after)
 longest_name Name longer after start spelt = length-le-prefix_len is_name_part longer after (name_parts longer spelt)
 longest_name Number [] after start spelt = cc
 longest_name Number (b ∷ bs) after start spelt =
-    let (first, behind) = both (is_ascii_digit b) (list_all is_ascii_digit bs) spelt in
+    let (first, behind) = and_parts (is_ascii_digit b) (list_all is_ascii_digit bs) spelt in
     let none = digit_starts_no_name b first in
     cc
 longest_name (A_Symbol s) longer after start spelt =
@@ -82,7 +79,7 @@ longest_name (A_Symbol s) longer after start spelt =
 longest_number : (k : TokenKind) (longer after : List ℕ) → is_ascii_digit (get_or (longer ++ after) 0 0) ≡ true → Spells k longer → length longer ≤ prefix_len is_ascii_digit (longer ++ after)
 longest_number Name [] after start spelt = cc
 longest_number Name (b ∷ bs) after start spelt =
-    let (first, behind) = both (is_name_start b) (list_all is_name_part bs) spelt in
+    let (first, behind) = and_parts (is_name_start b) (list_all is_name_part bs) spelt in
     let none = digit_starts_no_name b start in
     cc
 longest_number Number longer after start spelt = length-le-prefix_len is_ascii_digit longer after (number_digits longer spelt)
@@ -93,11 +90,11 @@ longest_number (A_Symbol s) longer after start spelt =
 longest_symbol : (k : TokenKind) (symbol : Symbol) (longer after : List ℕ) → is_name_start (get_or (longer ++ after) 0 0) ≡ false → is_ascii_digit (get_or (longer ++ after) 0 0) ≡ false → IsLongestSymbol (longer ++ after) symbol → Spells k longer → length longer ≤ length (spelling symbol)
 longest_symbol Name symbol [] after no_name no_number is spelt = cc
 longest_symbol Name symbol (b ∷ bs) after no_name no_number is spelt =
-    let (first, behind) = both (is_name_start b) (list_all is_name_part bs) spelt in
+    let (first, behind) = and_parts (is_name_start b) (list_all is_name_part bs) spelt in
     cc
 longest_symbol Number symbol [] after no_name no_number is spelt = cc
 longest_symbol Number symbol (b ∷ bs) after no_name no_number is spelt =
-    let (first, behind) = both (is_ascii_digit b) (list_all is_ascii_digit bs) spelt in
+    let (first, behind) = and_parts (is_ascii_digit b) (list_all is_ascii_digit bs) spelt in
     cc
 longest_symbol (A_Symbol s) symbol longer after no_name no_number is spelt =
     rw spelt (is.longest s after (ap (λ (word : List ℕ). word ++ after) (sym spelt)))
@@ -105,16 +102,16 @@ longest_symbol (A_Symbol s) symbol longer after no_name no_number is spelt =
 no_word : (k : TokenKind) (word after : List ℕ) → is_name_start (get_or (word ++ after) 0 0) ≡ false → is_ascii_digit (get_or (word ++ after) 0 0) ≡ false → BeginsNoSymbol (word ++ after) 0 → Spells k word → ⊥
 no_word Name [] after no_name no_number none spelt = cc
 no_word Name (b ∷ bs) after no_name no_number none spelt =
-    let (first, behind) = both (is_name_start b) (list_all is_name_part bs) spelt in
+    let (first, behind) = and_parts (is_name_start b) (list_all is_name_part bs) spelt in
     cc
 no_word Number [] after no_name no_number none spelt = cc
 no_word Number (b ∷ bs) after no_name no_number none spelt =
-    let (first, behind) = both (is_ascii_digit b) (list_all is_ascii_digit bs) spelt in
+    let (first, behind) = and_parts (is_ascii_digit b) (list_all is_ascii_digit bs) spelt in
     cc
 no_word (A_Symbol s) word after no_name no_number none spelt =
     none s after (0<length-spelling s) (ap (λ (w : List ℕ). w ++ after) (sym spelt))
 
--- the longest front of name parts is a name, and that of digits a number
+-- the longest prefix of name bytes is a name, and that of digits a number
 name_front : (bytes : List ℕ) → is_name_start (get_or bytes 0 0) ≡ true → is_name (take (prefix_len is_name_part bytes) bytes) ≡ true
 name_front [] start = cc
 name_front (b ∷ bs) start =

@@ -1,5 +1,6 @@
 -- A text with tokens has no zero byte.
 use Rattle.std.proofs.Common.{ℕ, ◌≡◌, ◌≢◌, ◌==◌, ◌+◌, ◌∙◌, length, Bool, true, false, not, List, [], ◌∷◌, Result, Ok, Err, refl, sym}
+use Rattle.std.proofs.lemmas.Bool.{and_parts}
 use Rattle.std.proofs.lemmas.List.Elements.{All-nil, All-cons, All-append}
 use Rattle.std.specs.Char.{is_ascii_digit}
 use Rattle.std.specs.List.{All, list_all}
@@ -12,7 +13,7 @@ use Rattle.rbg_macro.specs.Text.{Lexes, end, blank, comment, token, zero_byte, z
 use Rattle.rbg_macro.specs.Spelling.{spelling, Spells}
 use Rattle.rbg_base.specs.Names.{is_name_part}
 use Rattle.rbg_macro.specs.Token.{Lexeme}
-use Rattle.rbg_macro.proofs.Words.{both, name_parts, number_digits}
+use Rattle.rbg_macro.proofs.Words.{name_parts, number_digits}
 
 abbrev HasNoZero : List ℕ → Type 0
 HasNoZero bytes = All (λ byte. byte ≢ 0) bytes
@@ -21,7 +22,7 @@ HasNoZero bytes = All (λ byte. byte ≢ 0) bytes
 none_passes : (p : ℕ → Bool) → p 0 ≡ false → (bytes : List ℕ) → list_all p bytes ≡ true → HasNoZero bytes
 none_passes p zero_fails [] all = All-nil (λ byte. byte ≢ 0)
 none_passes p zero_fails (b ∷ bs) all =
-    let (first, behind) = both (p b) (list_all p bs) all in
+    let (first, behind) = and_parts (p b) (list_all p bs) all in
     All-cons (λ byte. byte ≢ 0) b bs (λ is_zero. cc) (none_passes p zero_fails bs behind)
 
 spelling_bytes : (s : Symbol) → list_all (λ byte. not (byte == 0)) (spelling s) ≡ true
@@ -39,7 +40,7 @@ comment_has_none word line is =
     (none_passes (λ byte. not (byte == 0)) refl (47 ∷ 47 ∷ []) refl)
     (none_passes is_comment_byte refl line is.goes_on))
 
--- tokens with one before them were tokens before
+-- if there are tokens after one more is put before them, there were tokens
 pub tokens_behind : (t : Lexeme) (read : Result (List Lexeme) TextError) (ts : List Lexeme) → behind_token t read ≡ Ok ts → (us : List Lexeme) × (read ≡ Ok us)
 tokens_behind t (Ok us) ts is = (us, refl)
 tokens_behind t (Err e) ts is = cc

@@ -6,8 +6,8 @@ use Rattle.rbg_macro.specs.Kinds.{opens, closes, is_semicolon, is_open_parenthes
 use Rattle.rbg_macro.specs.Macro.{Macro, filled, macro_named}
 use Rattle.rbg_macro.specs.Token.{Lexeme}
 
--- the tokens of a call from some place on: the rest of one argument, the arguments after it, and what stands
--- after the closing bracket
+-- the tokens of a call from some place on: the rest of one argument, the arguments after it, and what follows the
+-- closing bracket
 pub record Arguments : Type 0 where
   pub first : List Lexeme
   pub others : List (List Lexeme)
@@ -59,7 +59,7 @@ arguments further [] = None
 arguments further (t ∷ ts) = arguments_by (nesting t.kind further) t ts (λ n. arguments n ts)
 
 -- what reading meets at a token: it stays, or is a call that is replaced by tokens, with what comes after the call,
--- or is a macro's name that no lawful call follows
+-- or is a macro's name without a correct call after it
 pub data Meets : Type 0 where
   Stays : Meets
   Calls : List Lexeme → List Lexeme → Meets

@@ -1,5 +1,5 @@
 -- Definitions: the sections and macros that tokens define, and the first fault in a head.
-use Rattle.std.specs.Prelude.{ℕ, ◌≡◌, IsTrue, Bool, ◌&&◌, not, List, [], ◌∷◌, ◌++◌, take, drop, Option, None, Some}
+use Rattle.std.specs.Prelude.{ℕ, Bool, ◌&&◌, not, List, [], ◌∷◌, ◌++◌, take, drop, Option, None, Some}
 use Rattle.std.specs.Prelude.{Result, Ok, Err, cond, codes, length}
 use Rattle.std.specs.List.{list_any, position_or_len}
 use Rattle.std.specs.Str.{bytes_eq}
@@ -7,7 +7,7 @@ use Rattle.rbg_macro.specs.declared.error.MacroError.{MacroError}
 use Rattle.rbg_macro.specs.declared.error.MacroError.TheVariants.{BadDefinition, Twice}
 use Rattle.rbg_macro.specs.declared.source.SectionKind.{SectionKind}
 use Rattle.rbg_macro.specs.declared.source.SectionKind.TheVariants.{Players, Pieces, Variables, Board, Rules}
-use Rattle.rbg_macro.specs.Gives.{◌>>=◌}
+use Rattle.rbg_macro.specs.Steps.{◌>>=◌}
 use Rattle.rbg_macro.specs.Kinds.{is_name_kind, is_hash, is_equals, is_semicolon, is_open_parenthesis}
 use Rattle.rbg_macro.specs.Kinds.{is_close_parenthesis}
 use Rattle.rbg_macro.specs.Macro.{Macro, body_of}
@@ -42,7 +42,7 @@ abbrev pub parts : List Lexeme → List Part
 parts [] = []
 parts (t ∷ ts) = cond (is_hash t.kind) (part_of t ts ∷ parts ts) (parts ts)
 
--- the next token of a head and what follows it, where the token passes the test; else the fault stands at it
+-- the next token of a head and what follows it, if the token passes the test; else the fault is at that token
 abbrev pub expect : (TokenTest : Lexeme → Bool) → ℕ → List Lexeme → Result (Lexeme × List Lexeme) MacroError
 expect fits end [] = Err (BadDefinition end)
 expect fits end (t ∷ ts) = cond (fits t) (Ok (t, ts)) (Err (BadDefinition t.at))
@@ -54,13 +54,6 @@ behind_equals end ts = expect (λ e. is_equals e.kind) end ts >>= λ found. Ok f
 -- a parameter: a name other than the earlier ones
 abbrev pub is_new_name : List (List ℕ) → Lexeme → Bool
 is_new_name earlier t = is_name_kind t.kind && not (list_any (bytes_eq t.text) earlier)
-
--- a parameter stands first, after the earlier ones, with one more token after it
-pub record AddsParameter (earlier parameters : List (List ℕ)) (ts : List Lexeme) (next : Lexeme) : Type 0 where
-  pub parameter : Lexeme
-  pub tokens : ts ≡ parameter ∷ next ∷ drop 2 ts
-  pub new : IsTrue (is_new_name earlier parameter)
-  pub added : parameters ≡ earlier ++ parameter.text ∷ []
 
 -- parameters after `(`: names with `;` between them and `)` after the last
 abbrev pub parameter_list : ℕ → List (List ℕ) → List Lexeme → Result (List (List ℕ) × List Lexeme) MacroError
@@ -128,11 +121,6 @@ with_defined earlier (Err e) go_on = Err e
 abbrev pub definitions : List Macro → List Part → Result Definitions MacroError
 definitions earlier [] = Ok (record { sections = []; macros = earlier })
 definitions earlier (p ∷ ps) = with_defined earlier (defined earlier p) (λ macros. definitions macros ps)
-
--- the first token, if there is one, is a `#`
-abbrev pub BeginsDefinition : List Lexeme → Type 0
-BeginsDefinition [] = Unit {0}
-BeginsDefinition (t ∷ ts) = IsTrue (is_hash t.kind)
 
 -- what tokens define; a token before the first `#` belongs to no definition
 abbrev pub definitions_of : List Lexeme → Result Definitions MacroError

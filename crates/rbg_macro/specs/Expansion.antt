@@ -5,7 +5,7 @@ use Rattle.rbg_macro.specs.declared.error.MacroError.TheVariants.{ArgumentCount,
 use Rattle.rbg_macro.specs.Limits.{most_kept, deepest_level, most_read}
 use Rattle.rbg_macro.specs.Call.{Stays, Calls, NoCall, meets}
 use Rattle.rbg_macro.specs.Definition.{Definitions, definitions_of}
-use Rattle.rbg_macro.specs.Gives.{UnlessMemory}
+use Rattle.rbg_macro.specs.Errors.{UnlessMemory}
 use Rattle.rbg_macro.specs.Joining.{joined}
 use Rattle.rbg_macro.specs.Macro.{Macro}
 use Rattle.rbg_macro.specs.Token.{Lexeme, SectionTokens}

@@ -48,14 +48,14 @@ join_at at None goes_on = Err (BadJoin at)
 join_at at (Some t) goes_on = goes_on t
 
 -- A token followed by others, joined. It stays where no `~` follows it. Else it and the token after the `~`
--- become one token, which is then followed by what is left; where they can't, the fault stands at the `~`.
+-- become one token, which is then followed by what is left; where they can't, the fault is at the `~`.
 abbrev pub joined_from : Lexeme → List Lexeme → Result (List Lexeme) MacroError
 joined_from t [] = Ok (t ∷ [])
 joined_from t (s ∷ []) = cond (is_tilde s.kind) (Err (BadJoin s.at)) (Ok (t ∷ s ∷ []))
 joined_from t (s ∷ u ∷ ts) =
     cond (is_tilde s.kind) (join_at s.at (joined_token t u) (λ v. joined_from v ts)) (behind t (joined_from s (u ∷ ts)))
 
--- a list, joined over its whole length; a `~` that stands first has no left neighbour
+-- a list, joined over its whole length; a `~` at the front has no left neighbour
 abbrev pub joined : List Lexeme → Result (List Lexeme) MacroError
 joined [] = Ok []
 joined (t ∷ ts) = cond (is_tilde t.kind) (Err (BadJoin t.at)) (joined_from t ts)

@@ -20,12 +20,12 @@ NoZeroByteLaw = (text : List ℕ) (ts : List Lexeme) → HasTokens text ts → A
 abbrev pub OneReadingLaw : Type 0
 OneReadingLaw = (text : List ℕ) (a b : List Lexeme) → HasTokens text a → HasTokens text b → a ≡ b
 
--- a text with tokens has no error besides out of memory
+-- a text with tokens has no error other than out of memory
 abbrev pub TokensOrFaultLaw : Type 0
 TokensOrFaultLaw = (text : List ℕ) (ts : List Lexeme) → HasTokens text ts → (e : TextError) →
     HasTextFault text e → e ≡ text_errors.Memory
 
--- a text has at most one error besides out of memory
+-- a text has at most one error other than out of memory
 abbrev pub OneTextErrorLaw : Type 0
 OneTextErrorLaw = (text : List ℕ) (e f : TextError) → HasTextFault text e → HasTextFault text f →
     e ≢ text_errors.Memory → f ≢ text_errors.Memory → e ≡ f
@@ -39,12 +39,12 @@ OneListLaw = (macros : List Macro) (d : ℕ) (ts us : List Lexeme) (n : ℕ) →
 abbrev pub OneExpansionLaw : Type 0
 OneExpansionLaw = (ts : List Lexeme) (a b : List SectionTokens) → HasSections ts a → HasSections ts b → a ≡ b
 
--- tokens with sections have no error besides out of memory
+-- tokens with sections have no error other than out of memory
 abbrev pub SectionsOrFaultLaw : Type 0
 SectionsOrFaultLaw = (ts : List Lexeme) (sections : List SectionTokens) → HasSections ts sections →
     (e : MacroError) → HasMacroFault ts e → e ≡ macro_errors.Memory
 
--- tokens have at most one error besides out of memory
+-- tokens have at most one error other than out of memory
 abbrev pub OneMacroErrorLaw : Type 0
 OneMacroErrorLaw = (ts : List Lexeme) (e f : MacroError) → HasMacroFault ts e → HasMacroFault ts f →
     e ≢ macro_errors.Memory → f ≢ macro_errors.Memory → e ≡ f

@@ -1,20 +1,15 @@
--- The definitions that contracts cite.
-pub mod Call
-pub mod Calls
-pub mod Defines
-pub mod Definition
-pub mod Expansion
-pub mod Gives
-pub mod Joined
-pub mod Joining
-pub mod Kinds
-pub mod Laws
+-- Tokens of a text, macros and their expansion, by topic. The folder `internal` is for the crate's own proofs.
 pub mod Limits
-pub mod Macro
-pub mod Part
-pub mod Progress
-pub mod Span
-pub mod Spelling
-pub mod Template
-pub mod Text
 pub mod Token
+pub mod Kinds
+pub mod Spelling
+pub mod Text
+pub mod Steps
+pub mod Errors
+pub mod Macro
+pub mod Call
+pub mod Definition
+pub mod Joining
+pub mod Expansion
+pub mod Laws
+pub mod internal

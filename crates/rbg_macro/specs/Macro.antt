@@ -25,7 +25,7 @@ abbrev pub word_or_place : Lexeme → Option ℕ → Piece
 word_or_place t None = Word t
 word_or_place t (Some k) = Place k
 
--- a token that is a parameter's name, whole, is a place of that parameter's argument
+-- a token whose whole text is a parameter's name is a place of that parameter's argument
 abbrev pub piece_of : List (List ℕ) → Lexeme → Piece
 piece_of parameters t = word_or_place t (parameter_named parameters t)
 

@@ -43,7 +43,7 @@ abbrev pub behind_token : Lexeme → Result (List Lexeme) TextError → Result (
 behind_token t (Ok ts) = Ok (t ∷ ts)
 behind_token t (Err e) = Err e
 
--- What the bytes from the offset `at` on give, by what stands first: the tokens in order, or the first fault.
+-- What the bytes from the offset `at` on give, by their first part: the tokens in order, or the first fault.
 pub data Lexes : ℕ → List ℕ → Result (List Lexeme) TextError → Type 0 where
   end : (at : ℕ) → Lexes at [] (Ok [])
   blank : (at b : ℕ) (rest : List ℕ) (read : Result (List Lexeme) TextError) →

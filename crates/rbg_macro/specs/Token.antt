@@ -4,7 +4,7 @@ use Rattle.rbg_macro.specs.declared.source.SectionKind.{SectionKind}
 use Rattle.rbg_macro.specs.declared.token.TokenKind.{TokenKind}
 use Rattle.rbg_macro.specs.declared.token.Token.{Token}
 
--- a token: its kind, its bytes, and the offset where it stands
+-- a token: its kind, its bytes, and its offset in the text
 pub record Lexeme : Type 0 where
   pub kind : TokenKind
   pub text : List ℕ

@@ -1,7 +1,7 @@
 //! A list of tokens that owns their texts, in one buffer that begins with the whole text they came from.
 ghost use Rattle.std.specs.Prelude.{◌≡◌, ◌<◌, ◌↔◌, [], ◌∷◌, ◌++◌, length, take, slice_get, Some, IfOk, OnOk, OnErr};
 ghost use Rattle.std.specs.Prelude.{IsTrue};
-ghost use Rattle.rbg_macro.specs.Span.{StandsAt};
+ghost use Rattle.rbg_macro.specs.internal.Span.{StandsAt};
 ghost use Rattle.rbg_macro.specs.Token.{lexeme_of};
 
 use crate::token::{Token, TokenKind};
@@ -31,7 +31,7 @@ impl Model for TokenBuffer {
 
     ghost Value = { List Lexeme };
 
-    ghost use Rattle.rbg_macro.specs.Span.{lexeme_in, IsSpanWithin};
+    ghost use Rattle.rbg_macro.specs.internal.Span.{lexeme_in, IsSpanWithin};
 
     ghost view = { λ b. map (lexeme_in b.texts.items) b.spans.items };
 
@@ -55,8 +55,8 @@ impl TokenBuffer {
         self.spans.len()
     }
 
-    /// Adds a token at the end. Its bytes are copied only if they aren't found at the token's offset, as those of a joined
-    /// token.
+    /// Adds a token at the end. Its bytes are copied only if they aren't found at the token's offset, as is the case for
+    /// a joined token.
     pub(crate) fn push(&mut self, token: &Token<'_>) -> Result<(), Memory>
         ensures { OnOk result (self.new ≡ self.old ++ lexeme_of token.now ∷ []) }
     {

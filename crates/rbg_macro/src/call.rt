@@ -2,10 +2,10 @@
 ghost use Rattle.std.specs.Prelude.{ℕ, ◌≡◌, ◌+◌, ◌<◌, ◌≤◌, ◌^◌, [], ◌∷◌, ◌++◌, List, length, drop, map, None, Some, Ok};
 ghost use Rattle.std.specs.Prelude.{Err, IfOk, IfErr, MatchOption, OnOk, IsTrue};
 ghost use Rattle.rbg_macro.specs.Call.{Stays, NoCall, arguments, closing, meets, nesting};
-ghost use Rattle.rbg_macro.specs.Calls.{nesting_of, AreArguments, IsCall, IsNoCall, begins_with_parenthesis};
-ghost use Rattle.rbg_macro.specs.Gives.{UnlessMemory};
+ghost use Rattle.rbg_macro.specs.internal.Calls.{nesting_of, AreArguments, IsCall, IsNoCall, begins_with_parenthesis};
+ghost use Rattle.rbg_macro.specs.Errors.{UnlessMemory};
 ghost use Rattle.rbg_macro.specs.Macro.{filled, filled_piece};
-ghost use Rattle.rbg_macro.specs.Template.{piece_in, lists_in};
+ghost use Rattle.rbg_macro.specs.internal.Template.{piece_in, lists_in};
 ghost use Rattle.rbg_macro.specs.Token.{lexeme_of};
 
 use crate::error::MacroError;

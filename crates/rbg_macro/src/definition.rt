@@ -2,12 +2,15 @@
 ghost use Rattle.std.specs.Prelude.{ℕ, ◌≡◌, ◌+◌, ◌<◌, ◌≤◌, [], ◌∷◌, ◌++◌, List, length, map, None, Some, Ok, Err, IfOk};
 ghost use Rattle.std.specs.Prelude.{IfErr, OnOk};
 ghost use Rattle.std.specs.List.{position_or_len};
-ghost use Rattle.rbg_macro.specs.Defines.{defines_of, AddsDefined};
-ghost use Rattle.rbg_macro.specs.Definition.{expect, behind_equals, AddsParameter, parameter_list, behind_name};
-ghost use Rattle.rbg_macro.specs.Definition.{section_named, first_at, defined, definitions_of, BeginsDefinition, Part};
-ghost use Rattle.rbg_macro.specs.Gives.{Gives, UnlessMemory};
+ghost use Rattle.rbg_macro.specs.internal.Defines.{defines_of, AddsDefined};
+ghost use Rattle.rbg_macro.specs.Definition.{expect, behind_equals, parameter_list, behind_name};
+ghost use Rattle.rbg_macro.specs.internal.Defines.{AddsParameter};
+ghost use Rattle.rbg_macro.specs.Definition.{section_named, first_at, defined, definitions_of, Part};
+ghost use Rattle.rbg_macro.specs.internal.Defines.{BeginsDefinition};
+ghost use Rattle.rbg_macro.specs.internal.Gives.{Gives};
+ghost use Rattle.rbg_macro.specs.Errors.{UnlessMemory};
 ghost use Rattle.rbg_macro.specs.Kinds.{is_name_kind, is_equals, is_hash};
-ghost use Rattle.rbg_macro.specs.Template.{macro_of, texts_in};
+ghost use Rattle.rbg_macro.specs.internal.Template.{macro_of, texts_in};
 ghost use Rattle.rbg_macro.specs.Token.{Lexeme, lexeme_of};
 
 use crate::error::MacroError;
@@ -198,7 +201,7 @@ fn define<'a>(
     Ok(())
 }
 
-/// How many tokens stand before the next `#`.
+/// How many tokens there are before the next `#`.
 fn part_len(tokens: &[Token<'_>]) -> usize
     ensures within { result ≤ length tokens.now }
     ensures len { result ≡ position_or_len (λ t. is_hash t.kind) tokens.now }

@@ -4,12 +4,12 @@ ghost use Rattle.std.specs.Prelude.{IfOk, IfErr, OnOk, OnErr, MatchOption};
 ghost use Rattle.std.specs.List.{list_any};
 ghost use Rattle.rbg_macro.specs.Call.{Stays, meets};
 ghost use Rattle.rbg_macro.specs.Expansion.{ExpandsWithin, Fails, FailsReading, FailsAll, HasSections, HasMacroFault};
-ghost use Rattle.rbg_macro.specs.Defines.{section_of};
-ghost use Rattle.rbg_macro.specs.Gives.{UnlessMemory};
+ghost use Rattle.rbg_macro.specs.internal.Defines.{section_of};
+ghost use Rattle.rbg_macro.specs.Errors.{UnlessMemory};
 ghost use Rattle.rbg_macro.specs.Kinds.{is_tilde};
-ghost use Rattle.rbg_macro.specs.Progress.{ReadsOn, ReadsJoined, ReadsSection, FailsJoined, GivesWay, IsTooMany};
-ghost use Rattle.rbg_macro.specs.Progress.{IsWithinLimits};
-ghost use Rattle.rbg_macro.specs.Span.{section_in, IsSectionWithin};
+ghost use Rattle.rbg_macro.specs.internal.Progress.{ReadsOn, ReadsJoined, ReadsSection, FailsJoined, GivesWay};
+ghost use Rattle.rbg_macro.specs.internal.Progress.{IsTooMany, IsWithinLimits};
+ghost use Rattle.rbg_macro.specs.internal.Span.{section_in, IsSectionWithin};
 ghost use Rattle.rbg_macro.specs.Token.{lexeme_of};
 
 use crate::buffer::TokenBuffer;

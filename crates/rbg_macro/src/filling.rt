@@ -2,7 +2,7 @@
 ghost use Rattle.std.specs.Prelude.{ℕ, ◌≡◌, ◌+◌, ◌<◌, ◌≤◌, ◌++◌, List, [], length, map, slice_get, unwrap_or};
 ghost use Rattle.std.specs.Prelude.{MatchOption, IfOk, OnOk};
 ghost use Rattle.rbg_macro.specs.Macro.{filled, filled_piece};
-ghost use Rattle.rbg_macro.specs.Template.{piece_in, lists_in};
+ghost use Rattle.rbg_macro.specs.internal.Template.{piece_in, lists_in};
 ghost use Rattle.rbg_macro.specs.Token.{lexeme_of};
 
 use crate::macros::Piece;

@@ -1,9 +1,10 @@
 //! Joining: each `~` and its two neighbours become one token, from the left.
 ghost use Rattle.std.specs.Prelude.{ℕ, ◌≡◌, ◌+◌, ◌<◌, ◌≤◌, [], ◌∷◌, ◌++◌, List, length, take, drop, map, Ok, Err, IfOk};
 ghost use Rattle.std.specs.Prelude.{IfErr, OnOk, IsTrue, ◌↔◌, All};
-ghost use Rattle.rbg_macro.specs.Gives.{Gives, UnlessMemory};
-ghost use Rattle.rbg_macro.specs.Joined.{AddsChain, JoinsNext, JoinsChain, FailsChain, IsJoinedWithin};
-ghost use Rattle.rbg_macro.specs.Joined.{begins_with_tilde, joined_lexeme, word_at};
+ghost use Rattle.rbg_macro.specs.internal.Gives.{Gives};
+ghost use Rattle.rbg_macro.specs.Errors.{UnlessMemory};
+ghost use Rattle.rbg_macro.specs.internal.Joined.{AddsChain, JoinsNext, JoinsChain, FailsChain, IsJoinedWithin};
+ghost use Rattle.rbg_macro.specs.internal.Joined.{begins_with_tilde, joined_lexeme, word_at};
 ghost use Rattle.rbg_macro.specs.Joining.{joined, joined_from, joined_kind};
 ghost use Rattle.rbg_macro.specs.Kinds.{is_tilde};
 ghost use Rattle.rbg_macro.specs.Token.{Lexeme, lexeme_of};
@@ -16,7 +17,7 @@ use rbg_base::Memory;
 use std::alloc::Global;
 use std::marker::Model;
 
-/// A token that stayed as it was, or one that was joined, whose bytes stand in a buffer.
+/// A token that stayed as it was, or one that was joined, whose bytes are in a buffer.
 #[derive(Clone, Copy, Debug)]
 pub(crate) enum JoinedToken<'a> {
     Single(Token<'a>),
@@ -36,7 +37,7 @@ impl<'a> Model for JoinedList<'a> {
 
     ghost Value = { List Lexeme };
 
-    ghost use Rattle.rbg_macro.specs.Joined.{joined_lexeme, IsJoinedWithin};
+    ghost use Rattle.rbg_macro.specs.internal.Joined.{joined_lexeme, IsJoinedWithin};
 
     ghost view = { λ j. map (joined_lexeme j.texts.items) j.tokens.items };
 
@@ -166,7 +167,7 @@ impl<'a> JoinedList<'a> {
     }
 }
 
-/// The token itself, or the one whose bytes stand in the texts.
+/// The token itself, or the one whose bytes are in the texts.
 fn resolve<'s>(token: &JoinedToken<'s>, texts: &'s [u8]) -> Token<'s>
     requires { IsJoinedWithin texts.now token.now }
     ensures { lexeme_of result ≡ joined_lexeme texts.now token.now }

@@ -6,7 +6,7 @@ ghost use Rattle.std.specs.Char.{is_ascii_digit};
 ghost use Rattle.rbg_macro.specs.Text.{HasTokens, HasTextFault, is_blank, is_comment_byte};
 ghost use Rattle.rbg_macro.specs.Spelling.{spelling};
 ghost use Rattle.rbg_base.specs.Names.{is_name_start, is_name_part};
-ghost use Rattle.rbg_macro.specs.Part.{IsPart, BeginsComment, BeginsNoSymbol, IsLongestSymbol};
+ghost use Rattle.rbg_macro.specs.internal.Part.{IsPart, BeginsComment, BeginsNoSymbol, IsLongestSymbol};
 
 use crate::error::TextError;
 use crate::limits::MAX_TEXT;

@@ -5,7 +5,7 @@ ghost use Rattle.std.specs.Bool.{IsFalse};
 ghost use Rattle.std.specs.List.{list_any};
 ghost use Rattle.std.specs.Str.{bytes_eq};
 ghost use Rattle.rbg_macro.specs.Macro.{macro_named, piece_of, body_of};
-ghost use Rattle.rbg_macro.specs.Template.{macro_of, piece_in, texts_in, IsNamed};
+ghost use Rattle.rbg_macro.specs.internal.Template.{macro_of, piece_in, texts_in, IsNamed};
 ghost use Rattle.rbg_macro.specs.Token.{lexeme_of};
 
 use crate::token::Token;
@@ -40,7 +40,7 @@ impl<'a> Model for Macros<'a> {
 
     ghost Value = { List Macro };
 
-    ghost use Rattle.rbg_macro.specs.Template.{macro_in};
+    ghost use Rattle.rbg_macro.specs.internal.Template.{macro_in};
 
     ghost view = { λ m. map macro_in m.by_name.entries };
 }

@@ -54,7 +54,7 @@ impl Model for Source {
 
     ghost Value = { List SectionTokens };
 
-    ghost use Rattle.rbg_macro.specs.Span.{section_in, IsSectionIn};
+    ghost use Rattle.rbg_macro.specs.internal.Span.{section_in, IsSectionIn};
 
     ghost view = { λ s. map (section_in s.tokens) s.sections.items };
 
@@ -74,7 +74,7 @@ impl<'a> Model for Section<'a> {
 
     ghost Value = { SectionTokens };
 
-    ghost use Rattle.rbg_macro.specs.Span.{section_in, IsSectionIn};
+    ghost use Rattle.rbg_macro.specs.internal.Span.{section_in, IsSectionIn};
 
     ghost view = { λ s. section_in s.tokens.now s.span };
 
@@ -83,7 +83,7 @@ impl<'a> Model for Section<'a> {
 
 impl Source {
     ghost use Rattle.std.specs.Prelude.{◌≡◌, ◌<◌, ◌==◌, All, Some, length, map, slice_get};
-    ghost use Rattle.rbg_macro.specs.Span.{section_in, IsSectionIn};
+    ghost use Rattle.rbg_macro.specs.internal.Span.{section_in, IsSectionIn};
 
     pub(crate) fn new(tokens: TokenBuffer, sections: Vec<SectionSpan>) -> Self
         requires { All (IsSectionIn tokens) sections.items }

@@ -1,4 +1,4 @@
--- What is cut from here on comes behind the arguments so far and the one that has begun.
+-- The arguments of the call are those so far, the one that has begun, and those of the rest.
 use Rattle.std.proofs.Common.{length, ◌-◌}
 use Rattle.rbg_macro.proofs.Arguments.{HasCut}
 use Rattle.rbg_macro.proofs.call.find_arguments.Given as goal

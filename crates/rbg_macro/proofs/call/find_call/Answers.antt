@@ -3,13 +3,13 @@ use Rattle.std.proofs.Common.{◌∙◌, sym, ap, map}
 use Rattle.std.proofs.lemmas.List.{drop-map, length-map}
 use Rattle.rbg_macro.specs.Token.{lexeme_of}
 use Rattle.rbg_macro.proofs.CallLemmas.{call_meets, call_within}
-use Rattle.rbg_macro.proofs.Rests.{behind_first}
+use Rattle.std.proofs.lemmas.List.{take_rest}
 use Rattle.rbg_macro.proofs.call.find_call.Goals as goal
 
 pub returns-clause-ok : goal.returns-clause-ok
 returns-clause-ok c =
     let found = rw c.in-Some-2.is at c.in_ok-arguments.ensures in
-    let rest = ap (map lexeme_of) (behind_first c.args.behind.now) ∙ sym (drop-map lexeme_of 1 c.args.behind.now) in
+    let rest = ap (map lexeme_of) (take_rest c.args.behind.now 1) ∙ sym (drop-map lexeme_of 1 c.args.behind.now) in
     let opens = sym c.begins_with_parenthesis.ensures ∙ c.if-not-begins_with_parenthesis.false in
     record {
       meets =

@@ -1,7 +1,7 @@
--- A part's definition is added behind the earlier ones.
+-- A part's definition is added after the earlier ones.
 use Rattle.std.proofs.Common.{List, ◌∙◌, sym, ap, map}
 use Rattle.std.proofs.lemmas.List.{map-append}
-use Rattle.rbg_macro.specs.Defines.{section_of}
+use Rattle.rbg_macro.specs.internal.Defines.{section_of}
 use Rattle.rbg_macro.specs.Definition.{Definitions}
 use Rattle.rbg_macro.specs.Token.{SectionTokens}
 use Rattle.rbg_macro.specs.Macro.{Macro}

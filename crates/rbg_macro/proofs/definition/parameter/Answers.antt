@@ -1,4 +1,4 @@
--- The parameter that stands first.
+-- The first token is a new parameter.
 use Rattle.std.proofs.Common.{◌∙◌, sym, arith}
 use Rattle.std.proofs.lemmas.Bool.Decides.{nat_tests}
 use Rattle.rbg_macro.proofs.Heads.{repeated, unfinished, adds}

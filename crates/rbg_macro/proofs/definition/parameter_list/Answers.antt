@@ -1,21 +1,21 @@
--- The list ends at a `)`, and goes on behind a `;`.
+-- The list ends at a `)`, and continues after a `;`.
 use Rattle.std.proofs.Common.{◌∙◌, sym, ◌+◌}
 use Rattle.rbg_macro.proofs.Heads.{list_ends, list_goes_on, two_more}
-use Rattle.rbg_macro.proofs.Rests.{rest_of}
+use Rattle.std.proofs.lemmas.List.{take_rest}
 use Rattle.rbg_macro.proofs.definition.parameter_list.Goals as goal
 
 pub returns-then-is_close_parenthesis : goal.returns-then-is_close_parenthesis
 returns-then-is_close_parenthesis c =
-    let rest = rest_of c.args.tokens.now c.loop-names.at c.loop-names.invariant.within in
+    let rest = take_rest c.args.tokens.now c.loop-names.at in
     let adds = c.in_ok-next.ensures.ok in
     let within = two_more _ _ c.args.tokens.now c.loop-names.at _ c.loop-names.invariant.within (rw rest at adds) in
-    rw (rest_of c.args.tokens.now (c.loop-names.at + 2) within)
+    rw (take_rest c.args.tokens.now (c.loop-names.at + 2))
     (list_ends c.args.end c.args.tokens.now c.loop-names.at c.loop-names.names.keys _ _ _ c.loop-names.invariant rest adds
     (sym c.is_close_parenthesis.ensures ∙ c.if-is_close_parenthesis.true))
 
 pub loop-names-preserved : goal.loop-names-preserved
 loop-names-preserved c =
     list_goes_on c.args.end c.args.tokens.now c.loop-names.at c.loop-names.names.keys _ _ _ c.loop-names.invariant
-    (rest_of c.args.tokens.now c.loop-names.at c.loop-names.invariant.within) c.in_ok-next.ensures.ok
+    (take_rest c.args.tokens.now c.loop-names.at) c.in_ok-next.ensures.ok
     (sym c.is_close_parenthesis.ensures ∙ c.if-is_close_parenthesis.false)
     (sym c.is_semicolon.ensures ∙ c.if-not-is_semicolon.false)

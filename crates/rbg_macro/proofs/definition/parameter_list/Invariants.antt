@@ -1,4 +1,4 @@
--- What is listed from here on is listed behind the parameters so far.
+-- The whole list is the parameters so far, followed by those of the rest.
 use Rattle.std.proofs.Common.{◌-◌, length}
 use Rattle.rbg_macro.proofs.Heads.{HasListed}
 use Rattle.rbg_macro.proofs.definition.parameter_list.Given as goal

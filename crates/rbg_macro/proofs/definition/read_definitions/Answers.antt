@@ -1,12 +1,12 @@
 -- Definitions are read part by part.
 use Rattle.std.proofs.Common.{◌≡◌, Err, ◌+◌, ◌≤◌, length, map, arith}
 use Rattle.std.proofs.lemmas.Result.{err_from_is_err_and}
-use Rattle.rbg_macro.specs.Defines.{defines_of}
+use Rattle.rbg_macro.specs.internal.Defines.{defines_of}
 use Rattle.rbg_macro.specs.Definition.{definitions_of}
 use Rattle.rbg_macro.specs.Token.{lexeme_of}
 use Rattle.rbg_macro.proofs.Defined.{first_is_hash, defined_behind, faults_behind}
 use Rattle.rbg_macro.proofs.Exits.{unless_weaker}
-use Rattle.rbg_macro.proofs.Rests.{rest_of}
+use Rattle.std.proofs.lemmas.List.{take_rest}
 use Rattle.rbg_macro.proofs.definition.read_definitions.Goals as goal
 
 pub loop-at-init : goal.loop-at-init
@@ -19,7 +19,7 @@ returns-in_err-define c =
     rw (p.1, p.2) (unless_weaker _ (λ f. definitions_of (map lexeme_of c.args.tokens.now) ≡ Err f)
     (λ f fault. faults_behind c.args.tokens.now c.loop-at.at _ _ c.split_at.result.0.now c.split_at.result.1.now c.part_len-len.result
     c.first_at-end.result (defines_of c.loop-at.definitions) f c.loop-at.invariant c.loop-at-test.true
-    (rest_of c.args.tokens.now (c.loop-at.at + 1) within) c.part_len-len.ensures.len
+    (take_rest c.args.tokens.now (c.loop-at.at + 1)) c.part_len-len.ensures.len
     c.split_at.ensures.front c.split_at.ensures.back c.first_at-end.ensures fault)
     c.in_err-define.field-0.0 c.in_err-define.ensures.err)
 
@@ -28,6 +28,6 @@ loop-at-preserved c =
     let within : c.loop-at.at + 1 ≤ length c.args.tokens.now = omega arith in
     defined_behind c.args.tokens.now c.loop-at.at _ _ c.split_at.result.0.now c.split_at.result.1.now c.part_len-len.result c.first_at-end.result
     (defines_of c.loop-at.definitions) (defines_of c.define.new.definitions)
-    c.loop-at.invariant c.loop-at-test.true (rest_of c.args.tokens.now (c.loop-at.at + 1) within)
+    c.loop-at.invariant c.loop-at-test.true (take_rest c.args.tokens.now (c.loop-at.at + 1))
     c.part_len-len.ensures.within c.part_len-len.ensures.len c.split_at.ensures.front c.split_at.ensures.back c.first_at-end.ensures
     c.in_ok-define.ensures.ok

@@ -1,6 +1,6 @@
--- What the rest defines comes behind what was defined so far.
+-- All definitions are those so far, followed by those of the rest.
 use Rattle.std.proofs.Common.{length, ◌-◌}
-use Rattle.rbg_macro.specs.Defines.{defines_of}
+use Rattle.rbg_macro.specs.internal.Defines.{defines_of}
 use Rattle.rbg_macro.proofs.Defined.{HasDefined}
 use Rattle.rbg_macro.proofs.definition.read_definitions.Given as goal
 

@@ -3,13 +3,13 @@ use Rattle.std.proofs.Common.{ℕ, ◌≡◌, ◌+◌, ◌≤◌, length, map, a
 use Rattle.std.proofs.lemmas.List.{length-map}
 use Rattle.std.proofs.lemmas.Result.{err_from_is_err_and, IfErr-weaker, on_ok_weaker}
 use Rattle.rbg_macro.specs.Expansion.{FailsReading}
-use Rattle.rbg_macro.specs.Gives.{UnlessMemory}
-use Rattle.rbg_macro.specs.Progress.{FailsJoined, reading}
+use Rattle.rbg_macro.specs.Errors.{UnlessMemory}
+use Rattle.rbg_macro.specs.internal.Progress.{FailsJoined, reading}
 use Rattle.rbg_macro.specs.Token.{lexeme_of}
 use Rattle.rbg_macro.proofs.Exits.{unless_weaker}
 use Rattle.rbg_macro.proofs.JoinedLists.{joined_already}
 use Rattle.rbg_macro.proofs.Reading.{nothing_read, token_kept, call_read, call_fails, token_too_many, all_read}
-use Rattle.rbg_macro.proofs.Rests.{rest_of}
+use Rattle.std.proofs.lemmas.List.{take_rest}
 use Rattle.rbg_macro.proofs.expansion.+expansion.Goals as goal
 
 pub read_joined-loop-at-init : goal.read_joined-loop-at-init
@@ -23,7 +23,7 @@ read_joined-returns-in_err-keep-in-None-clause-err t c =
     let met = rw c.in-None.is at c.in_ok-body_of_call.ensures.ok in
     rw (p.1, p.2) (unless_weaker _ (FailsReading c.args.macros.now c.args.level c.args.progress.now.read (length c.args.progress.now.kept) (map lexeme_of c.args.list.now))
     (λ f many. token_too_many c.args.macros.now c.args.level c.args.list.now _ c.loop-at.at _ c.args.progress.now c.loop-at.progress f c.loop-at.invariant c.loop-at-test.true
-    (rest_of c.args.list.now (c.loop-at.at + 1) within) met many)
+    (take_rest c.args.list.now (c.loop-at.at + 1)) met many)
     c.in_err-keep-in-None.field-0.0 c.in_err-keep-in-None.ensures.err)
 
 pub read_joined-loop-at-preserved-in-None : goal.read_joined-loop-at-preserved-in-None
@@ -31,7 +31,7 @@ read_joined-loop-at-preserved-in-None t c =
     let within : c.loop-at.at + 1 ≤ length c.args.list.now = omega arith in
     let met = rw c.in-None.is at c.in_ok-body_of_call.ensures.ok in
     token_kept c.args.macros.now c.args.level c.args.list.now _ c.loop-at.at _ c.args.progress.now c.loop-at.progress c.keep.new.self c.loop-at.invariant c.loop-at-test.true
-    (rest_of c.args.list.now (c.loop-at.at + 1) within) met c.in_ok-keep-in-None.ensures.ok c.in_ok-keep-in-None.ensures.fits
+    (take_rest c.args.list.now (c.loop-at.at + 1)) met c.in_ok-keep-in-None.ensures.ok c.in_ok-keep-in-None.ensures.fits
 
 pub read_joined-returns-in_err-read_list-in-Some-clause-err :
     goal.read_joined-returns-in_err-read_list-in-Some-clause-err
@@ -44,7 +44,7 @@ read_joined-returns-in_err-read_list-in-Some-clause-err t c =
     (c.len.ensures ∙ c.in-Some.body.ok.0 ∙ sym (length-map c.in-Some.body.items lexeme_of)) in
     rw (p.1, p.2) (unless_weaker _ (FailsReading c.args.macros.now c.args.level c.args.progress.now.read (length c.args.progress.now.kept) (map lexeme_of c.args.list.now))
     (λ f fails. call_fails c.args.macros.now c.args.level c.args.list.now _ c.loop-at.at c.in-Some.len _ (map lexeme_of c.in-Some.body.items) c.args.progress.now c.loop-at.progress
-    c.count.new.self f c.loop-at.invariant c.loop-at-test.true (rest_of c.args.list.now (c.loop-at.at + 1) within) way counted fails)
+    c.count.new.self f c.loop-at.invariant c.loop-at-test.true (take_rest c.args.list.now (c.loop-at.at + 1)) way counted fails)
     c.in_err-read_list-in-Some.field-0.0 (rw c.deref.ensures.value at c.in_err-read_list-in-Some.ensures.err))
 
 pub read_joined-loop-at-preserved : goal.read_joined-loop-at-preserved
@@ -55,7 +55,7 @@ read_joined-loop-at-preserved t c =
     c.count.ensures ∙ ap (λ (n : ℕ). record c.loop-at.progress { read = c.loop-at.progress.read + n })
     (c.len.ensures ∙ c.in-Some.body.ok.0 ∙ sym (length-map c.in-Some.body.items lexeme_of)) in
     call_read c.args.macros.now c.args.level c.args.list.now _ c.loop-at.at c.in-Some.len _ (map lexeme_of c.in-Some.body.items) c.args.progress.now c.loop-at.progress
-    c.count.new.self c.read_list.new.progress c.loop-at.invariant c.loop-at-test.true (rest_of c.args.list.now (c.loop-at.at + 1) within) way counted (rw c.deref.ensures.value at c.in_ok-read_list-in-Some.ensures.ok)
+    c.count.new.self c.read_list.new.progress c.loop-at.invariant c.loop-at-test.true (take_rest c.args.list.now (c.loop-at.at + 1)) way counted (rw c.deref.ensures.value at c.in_ok-read_list-in-Some.ensures.ok)
 
 pub read_joined-returns-clause-ok : goal.read_joined-returns-clause-ok
 read_joined-returns-clause-ok t c =

@@ -1,4 +1,4 @@
--- What a call gives way to, and why it may not.
+-- What replaces a call, and why a call is refused.
 use Rattle.std.proofs.Common.{ℕ, ◌∷◌, map}
 use Rattle.std.proofs.lemmas.Result.{err_from_is_err_and}
 use Rattle.rbg_macro.specs.Expansion.{FailsReading, too_deep}

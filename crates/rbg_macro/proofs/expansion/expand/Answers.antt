@@ -1,5 +1,5 @@
 -- The sections are those of the definitions, and their tokens are spelt.
-use Rattle.rbg_macro.specs.Defines.{defines_of}
+use Rattle.rbg_macro.specs.internal.Defines.{defines_of}
 use Rattle.rbg_macro.proofs.SpeltExpansions.{sections_placed}
 use Rattle.rbg_macro.proofs.expansion.expand.Goals as goal
 

@@ -1,4 +1,4 @@
--- What the other sections expand to comes behind those so far.
+-- The expanded sections are those so far, followed by those of the rest.
 use Rattle.rbg_macro.proofs.Sections.{HasExpanded}
 use Rattle.rbg_macro.proofs.expansion.expand_sections.Given as goal
 

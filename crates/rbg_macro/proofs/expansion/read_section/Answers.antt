@@ -2,7 +2,7 @@
 use Rattle.std.proofs.Common.{ℕ, ◌≡◌, ◌+◌, length, ap, sym, refl, ◌∙◌, arith}
 use Rattle.std.proofs.lemmas.List.{length-map}
 use Rattle.std.proofs.lemmas.Result.{err_from_is_err_and}
-use Rattle.rbg_macro.specs.Defines.{section_of}
+use Rattle.rbg_macro.specs.internal.Defines.{section_of}
 use Rattle.rbg_macro.specs.Expansion.{Fails}
 use Rattle.rbg_macro.specs.Token.{lexeme_of}
 use Rattle.rbg_macro.proofs.Exits.{unless_weaker}

@@ -1,7 +1,7 @@
 -- The tokens so far are those of the pieces so far.
 use Rattle.std.proofs.Common.{◌≡◌, map, take}
 use Rattle.rbg_macro.specs.Macro.{filled}
-use Rattle.rbg_macro.specs.Template.{piece_in, lists_in}
+use Rattle.rbg_macro.specs.internal.Template.{piece_in, lists_in}
 use Rattle.rbg_macro.specs.Token.{lexeme_of}
 use Rattle.rbg_macro.proofs.filling.fill.Given as goal
 

@@ -1,4 +1,4 @@
--- A piece that doesn't fit leaves no room for the body.
+-- If a piece doesn't fit, the body doesn't.
 use Rattle.rbg_macro.proofs.Filled.{too_long}
 use Rattle.rbg_macro.proofs.filling.filled_len.Goals as goal
 

@@ -1,4 +1,4 @@
--- What the rest gives comes behind what was joined so far.
+-- The joined list is what was joined so far, followed by what the rest gives.
 use Rattle.std.proofs.Common.{length, ◌-◌}
 use Rattle.rbg_macro.proofs.JoinedLists.{HasJoinedTo}
 use Rattle.rbg_macro.proofs.joining.join.Given as goal

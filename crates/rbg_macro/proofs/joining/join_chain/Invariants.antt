@@ -1,4 +1,4 @@
--- The tokens so far are one word, which the rest goes on from.
+-- The tokens so far are one word, and the rest is joined to it.
 use Rattle.std.proofs.Common.{length, ◌-◌}
 use Rattle.rbg_macro.proofs.Chains.{HasJoined}
 use Rattle.rbg_macro.proofs.joining.join_chain.Given as goal

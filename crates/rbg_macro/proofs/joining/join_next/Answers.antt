@@ -1,4 +1,4 @@
--- The word goes on with the next token's bytes.
+-- The next token's bytes are added to the word.
 use Rattle.std.proofs.Common.{◌∙◌, arith}
 use Rattle.rbg_macro.proofs.Chains.{next_joined}
 use Rattle.rbg_macro.proofs.joining.join_next.Goals as goal

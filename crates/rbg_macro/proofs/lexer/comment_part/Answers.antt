@@ -1,4 +1,4 @@
--- A comment goes on to the end of its line, or to a zero byte.
+-- A comment extends to the end of its line, or to a zero byte.
 use Rattle.std.proofs.Common.{arith}
 use Rattle.rbg_macro.proofs.Parts.{comment_first, zero_in_line}
 use Rattle.rbg_macro.proofs.lexer.comment_part.Goals as goal

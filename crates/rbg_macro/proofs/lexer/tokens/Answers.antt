@@ -1,6 +1,6 @@
 -- A text's tokens are found one by one.
 use Rattle.std.proofs.Common.{refl, arith, map}
-use Rattle.rbg_macro.proofs.Rests.{rest_of}
+use Rattle.std.proofs.lemmas.List.{take_rest}
 use Rattle.rbg_macro.proofs.Scan.{read_token, has_tokens, has_fault}
 use Rattle.rbg_macro.proofs.SpeltTokens.{tokens_are_lexemes}
 use Rattle.rbg_macro.specs.Token.{lexeme_of}
@@ -9,18 +9,18 @@ use Rattle.rbg_macro.proofs.lexer.tokens.Goals as goal
 pub loop-at-preserved : goal.loop-at-preserved
 loop-at-preserved c =
     read_token c.args.text.now c.loop-at.at c.in-Token.len _ c.in-Token.kind _ c.loop-at.tokens.items _
-    c.loop-at.invariant (rest_of c.args.text.now c.loop-at.at c.loop-at.invariant.within) c.in-Token.ensures refl
+    c.loop-at.invariant (take_rest c.args.text.now c.loop-at.at) c.in-Token.ensures refl
     c.in_ok-push-in-Token.ensures.items
 
 pub returns-in-ZeroByte-clause-fault : goal.returns-in-ZeroByte-clause-fault
 returns-in-ZeroByte-clause-fault c =
     has_fault c.args.text.now c.loop-at.at _ c.loop-at.tokens.items _ c.loop-at.invariant
-    (rest_of c.args.text.now c.loop-at.at c.loop-at.invariant.within) (c.in-ZeroByte.ensures c.loop-at.at) (omega arith)
+    (take_rest c.args.text.now c.loop-at.at) (c.in-ZeroByte.ensures c.loop-at.at) (omega arith)
 
 pub returns-in-BadByte-clause-fault : goal.returns-in-BadByte-clause-fault
 returns-in-BadByte-clause-fault c =
     has_fault c.args.text.now c.loop-at.at _ c.loop-at.tokens.items _ c.loop-at.invariant
-    (rest_of c.args.text.now c.loop-at.at c.loop-at.invariant.within) (c.in-BadByte.ensures c.loop-at.at) (omega arith)
+    (take_rest c.args.text.now c.loop-at.at) (c.in-BadByte.ensures c.loop-at.at) (omega arith)
 
 pub returns-clause-tokens : goal.returns-clause-tokens
 returns-clause-tokens c =

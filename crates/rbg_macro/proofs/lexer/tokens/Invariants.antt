@@ -1,4 +1,4 @@
--- Whatever the rest of the text gives, behind the tokens so far it is what the text gives.
+-- The tokens of the text are those so far, followed by those of the rest.
 use Rattle.std.proofs.Common.{length, ◌-◌}
 use Rattle.rbg_macro.proofs.Scan.{HasReadTo}
 use Rattle.rbg_macro.proofs.lexer.tokens.Given as goal

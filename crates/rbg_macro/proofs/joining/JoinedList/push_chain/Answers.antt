@@ -1,4 +1,4 @@
--- The chain's token comes behind those that were there.
+-- The chain's token is added after the earlier ones.
 use Rattle.std.proofs.Common.{◌∙◌}
 use Rattle.rbg_macro.proofs.JoinedLists.{adds_chain}
 use Rattle.rbg_macro.proofs.joining.JoinedList.push_chain.Goals as goal

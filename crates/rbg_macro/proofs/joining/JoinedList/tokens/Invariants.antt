@@ -1,6 +1,6 @@
 -- The tokens so far are those of the list so far.
 use Rattle.std.proofs.Common.{◌≡◌, map, take}
-use Rattle.rbg_macro.specs.Joined.{joined_lexeme}
+use Rattle.rbg_macro.specs.internal.Joined.{joined_lexeme}
 use Rattle.rbg_macro.specs.Token.{lexeme_of}
 use Rattle.rbg_macro.proofs.joining.JoinedList.tokens.Given as goal
 

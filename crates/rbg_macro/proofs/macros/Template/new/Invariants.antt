@@ -1,7 +1,7 @@
 -- The body so far is that of the tokens so far.
 use Rattle.std.proofs.Common.{◌≡◌, map, take}
 use Rattle.rbg_macro.specs.Macro.{body_of}
-use Rattle.rbg_macro.specs.Template.{piece_in, texts_in}
+use Rattle.rbg_macro.specs.internal.Template.{piece_in, texts_in}
 use Rattle.rbg_macro.specs.Token.{lexeme_of}
 use Rattle.rbg_macro.proofs.macros.Template.new.Given as goal
 

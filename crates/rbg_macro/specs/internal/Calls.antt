@@ -8,7 +8,7 @@ use Rattle.rbg_macro.specs.declared.error.MacroError.TheVariants.{ArgumentCount}
 use Rattle.rbg_macro.specs.Kinds.{is_open_parenthesis}
 use Rattle.rbg_macro.specs.Call.{Arguments, arguments, Nesting, Within, Cuts, Ends, Mismatched, Calls, NoCall, meets}
 use Rattle.rbg_macro.specs.Macro.{Macro, filled}
-use Rattle.rbg_macro.specs.Template.{piece_in, lists_in}
+use Rattle.rbg_macro.specs.internal.Template.{piece_in, lists_in}
 use Rattle.rbg_macro.specs.Token.{Lexeme}
 
 abbrev pub nesting_of : Effect → Nesting
@@ -31,12 +31,12 @@ pub record IsCall (macros : List Macro) (t : Lexeme) (ts : List Lexeme) (call : 
       (drop call.len ts)
   pub within : call.len ≤ length ts
 
--- no lawful call follows the macro's name
+-- there is no correct call after the macro's name
 pub record IsNoCall (macros : List Macro) (t : Lexeme) (ts : List Lexeme) (e : MacroError) : Type 0 where
   pub meets : meets macros t ts ≡ NoCall
   pub at_name : e ≡ ArgumentCount t.at
 
--- whether a `(` stands first
+-- whether the first token is `(`
 abbrev pub begins_with_parenthesis : List Lexeme → Bool
 begins_with_parenthesis [] = false
 begins_with_parenthesis (t ∷ ts) = is_open_parenthesis t.kind

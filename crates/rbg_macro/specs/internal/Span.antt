@@ -5,7 +5,7 @@ use Rattle.rbg_macro.specs.declared.source.SectionSpan.{SectionSpan}
 use Rattle.rbg_macro.specs.Spelling.{AreLexemes}
 use Rattle.rbg_macro.specs.Token.{Lexeme, SectionTokens}
 
--- the token whose bytes stand at a place of the buffer
+-- the token whose bytes are at a place of the buffer
 abbrev pub lexeme_in : List ℕ → Span → Lexeme
 lexeme_in texts s = record { kind = s.kind; text = slice_range texts s.start s.end; at = s.at }
 
@@ -14,12 +14,12 @@ pub record IsSpanWithin (texts : List ℕ) (s : Span) : Type 0 where
   pub ordered : s.start ≤ s.end
   pub within : s.end ≤ length texts
 
--- these bytes stand at this place of the buffer
+-- these bytes are at this place of the buffer
 pub record StandsAt (texts bytes : List ℕ) (start : ℕ) : Type 0 where
   pub within : start + length bytes ≤ length texts
   pub same : slice_range texts start (start + length bytes) ≡ bytes
 
--- the section whose tokens stand at a place of the list
+-- the section whose tokens are at a place of the list
 abbrev pub section_in : List Lexeme → SectionSpan → SectionTokens
 section_in tokens s = record { kind = s.kind; at = s.at; tokens = slice_range tokens s.start s.end }
 

@@ -10,17 +10,17 @@ use Rattle.rbg_macro.specs.Text.{Lexes, behind_token}
 use Rattle.rbg_macro.specs.Spelling.{spelling}
 use Rattle.rbg_macro.specs.Token.{Lexeme}
 
--- two slashes stand at the front
+-- the bytes begin with two slashes
 abbrev pub BeginsComment : List ℕ → Type 0
 BeginsComment bytes = (line : List ℕ) × (bytes ≡ 47 ∷ 47 ∷ line)
 
--- the symbol stands at the front, and no longer one does
+-- the bytes begin with the symbol, and with no longer one
 pub record IsLongestSymbol (bytes : List ℕ) (symbol : Symbol) : Type 0 where
   pub stands : spelling symbol ++ drop (length (spelling symbol)) bytes ≡ bytes
   pub longest : (other : Symbol) (rest : List ℕ) → spelling other ++ rest ≡ bytes →
       length (spelling other) ≤ length (spelling symbol)
 
--- no symbol of more than n bytes stands at the front
+-- the bytes begin with no symbol of more than n bytes
 abbrev pub BeginsNoSymbol : List ℕ → ℕ → Type 0
 BeginsNoSymbol bytes n = (symbol : Symbol) (rest : List ℕ) → n < length (spelling symbol) →
     spelling symbol ++ rest ≡ bytes → ⊥

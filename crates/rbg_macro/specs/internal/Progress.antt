@@ -25,7 +25,7 @@ pub record ReadsOn (macros : List Macro) (d : ℕ) (js : List Lexeme) (old new :
   pub read : new.read ≡ old.read + spent
   pub within : IsWithinLimits new
 
--- the same of a list that was counted and not joined yet
+-- the same of a list that was counted but isn't joined yet
 pub record ReadsJoined (macros : List Macro) (d : ℕ) (ts : List Lexeme) (old new : Progress) : Type 0 where
   pub js : List Lexeme
   pub joins : joined ts ≡ Ok js
@@ -37,7 +37,7 @@ pub data FailsJoined (macros : List Macro) (d : ℕ) (ts : List Lexeme) (old : P
   reading : (js : List Lexeme) → joined ts ≡ Ok js → FailsReading macros d old.read (length old.kept) js e →
       FailsJoined macros d ts old e
 
--- the token and what follows it are a call that may be expanded, whose body is counted within the limit
+-- the token begins a call that may be expanded, and the limit on tokens that are read leaves room for its body
 pub record GivesWay (macros : List Macro) (d : ℕ) (t : Lexeme) (ts : List Lexeme) (read : ℕ)
     (body : List Lexeme) (n : ℕ) : Type 0 where
   pub meets : meets macros t ts ≡ Calls body (drop n ts)
@@ -50,7 +50,7 @@ pub record IsTooMany (e : MacroError) (P : Type 0) : Type 0 where
   pub is : e ≡ TooManyTokens
   pub holds : P
 
--- a section was expanded, and its tokens stand at this place
+-- a section was expanded, and its tokens are at this place
 pub record ReadsSection (macros : List Macro) (s : SectionTokens) (old new : Progress)
     (span : SectionSpan) : Type 0 where
   pub added : List Lexeme

@@ -7,7 +7,7 @@ use Rattle.rbg_macro.specs.declared.joining.JoinedToken.TheVariants.{Single, Joi
 use Rattle.rbg_macro.specs.declared.token.TokenKind.{TokenKind}
 use Rattle.rbg_macro.specs.Joining.{joined_from, joined_token}
 use Rattle.rbg_macro.specs.Kinds.{is_tilde}
-use Rattle.rbg_macro.specs.Span.{lexeme_in, IsSpanWithin}
+use Rattle.rbg_macro.specs.internal.Span.{lexeme_in, IsSpanWithin}
 use Rattle.rbg_macro.specs.Token.{Lexeme, lexeme_of}
 
 abbrev pub joined_lexeme : List ℕ → JoinedToken → Lexeme
@@ -18,7 +18,7 @@ abbrev pub IsJoinedWithin : List ℕ → JoinedToken → Type 0
 IsJoinedWithin texts (Single t) = Unit {0}
 IsJoinedWithin texts (Joined s) = IsSpanWithin texts s
 
--- whether a `~` stands first
+-- whether the first token is `~`
 abbrev pub begins_with_tilde : List Lexeme → Bool
 begins_with_tilde [] = false
 begins_with_tilde (t ∷ ts) = is_tilde t.kind
@@ -27,7 +27,7 @@ begins_with_tilde (t ∷ ts) = is_tilde t.kind
 abbrev pub word_at : ℕ → TokenKind → List ℕ → Lexeme
 word_at at kind word = record { kind = kind; text = word; at = at }
 
--- the word goes on with the token after the `~` that stands first
+-- the first token is `~`, and the second one continues the word
 pub record JoinsNext (kind new_kind : TokenKind) (word new_word : List ℕ) (ts : List Lexeme) : Type 0 where
   pub tilde : Lexeme
   pub right : Lexeme

@@ -18,11 +18,11 @@ macro_of name t = record { name = name; parameters = t.parameters; body = map pi
 abbrev pub macro_in : Bor (List ℕ) × Template → Macro
 macro_in e = macro_of e.0.now e.1
 
--- the texts that references lead to
+-- the texts behind references
 abbrev pub texts_in : List (Bor (List ℕ)) → List (List ℕ)
 texts_in texts = map (λ t. t.now) texts
 
--- the tokens of lists that references lead to
+-- the tokens of the lists behind references
 abbrev pub lists_in : List (Bor (List Token)) → List (List Lexeme)
 lists_in lists = map (λ l. map lexeme_of l.now) lists
 

@@ -1,9 +1,10 @@
 -- Sections and macros as the code represents them while it reads definitions.
-use Rattle.std.specs.Prelude.{◌≡◌, [], ◌∷◌, ◌++◌, map, Ok}
+use Rattle.std.specs.Prelude.{ℕ, ◌≡◌, IsTrue, List, [], ◌∷◌, ◌++◌, drop, map, Ok}
 use Rattle.rbg_macro.specs.declared.definition.Definitions.{Definitions as KeptDefinitions}
 use Rattle.rbg_macro.specs.declared.definition.SectionBody.{SectionBody}
-use Rattle.rbg_macro.specs.Definition.{Definitions, Defined, A_Section, A_Macro, Part, defined}
-use Rattle.rbg_macro.specs.Token.{SectionTokens, lexeme_of}
+use Rattle.rbg_macro.specs.Definition.{Definitions, Defined, A_Section, A_Macro, Part, defined, is_new_name}
+use Rattle.rbg_macro.specs.Kinds.{is_hash}
+use Rattle.rbg_macro.specs.Token.{Lexeme, SectionTokens, lexeme_of}
 
 abbrev pub section_of : SectionBody → SectionTokens
 section_of s = record { kind = s.kind; at = s.at; tokens = map lexeme_of s.tokens.now }
@@ -21,3 +22,15 @@ pub record AddsDefined (old new : Definitions) (part : Part) : Type 0 where
   pub what : Defined
   pub defines : defined old.macros part ≡ Ok what
   pub added : new ≡ with_one_more old what
+
+-- the first token is a new parameter, and there is a second token
+pub record AddsParameter (earlier parameters : List (List ℕ)) (ts : List Lexeme) (next : Lexeme) : Type 0 where
+  pub parameter : Lexeme
+  pub tokens : ts ≡ parameter ∷ next ∷ drop 2 ts
+  pub new : IsTrue (is_new_name earlier parameter)
+  pub added : parameters ≡ earlier ++ parameter.text ∷ []
+
+-- the first token, if there is one, is a `#`
+abbrev pub BeginsDefinition : List Lexeme → Type 0
+BeginsDefinition [] = Unit {0}
+BeginsDefinition (t ∷ ts) = IsTrue (is_hash t.kind)

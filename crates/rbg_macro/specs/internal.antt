@@ -1,0 +1,9 @@
+-- What only the contracts of private functions, the models and this crate's proofs cite.
+pub mod Calls
+pub mod Defines
+pub mod Gives
+pub mod Joined
+pub mod Part
+pub mod Progress
+pub mod Span
+pub mod Template
