@@ -5,26 +5,27 @@ use Rattle.std.specs.Prelude.{All}
 use Rattle.std.proofs.Math.Seq.{take-append_seam}
 use Rattle.std.proofs.lemmas.List.{map-append, length-map}
 use Rattle.std.proofs.lemmas.Slice.Zip.{AllZip-long}
-use Rattle.rbg_syntax.specs.Plain.{IsPlain, HasRectangle}
+use Rattle.rbg_syntax.specs.Formed.{IsWhole}
 use Rattle.rbg_syntax.specs.Tree.{SpeltBounded, SpeltBoard, rectangle, hexagon, graph, SpeltName, SpeltDescription}
 use Rattle.rbg_rules.specs.Expression.{Expression}
 use Rattle.rbg_rules.specs.Games.{IsGame, IsWithinLimits}
-use Rattle.rbg_rules.specs.Limits.{greatest_bound, most_nested_patterns}
+use Rattle.rbg_rules.specs.Limits.{greatest_bound}
 use Rattle.rbg_game.specs.declared.checking.boards.NamedBoard.{NamedBoard}
 use Rattle.rbg_game.specs.declared.checking.names.Things.{Things}
 use Rattle.rbg_numbering.specs.declared.error.GameError.{GameError}
 use Rattle.rbg_numbering.specs.Names.{Names, texts_of}
-use Rattle.rbg_game.specs.Descriptions.{NamedBoard as BoardByNames, BoardIs, holder_names, holders_of, AreBounds, IsGameOf}
-use Rattle.rbg_numbering.specs.Faults.{Purpose, as_direction, as_piece, as_player, names_for, HasRuleFault}
+use Rattle.rbg_game.specs.Descriptions.{NamedBoard as BoardByNames, BoardIs, directions_named, holder_names, holders_of, AreBounds, IsGameOf}
+use Rattle.rbg_numbering.specs.Faults.{Purpose, as_direction, as_piece, as_player, as_variable, names_for, HasRuleFault}
 use Rattle.rbg_game.specs.Faults.{HasBoardFault, board_directions, names_spelt, HasFault, in_board, in_rules}
 use Rattle.rbg_game.specs.internal.Boards.{MakesBoard}
-use Rattle.rbg_numbering.specs.PlainRules.{IsRuleByNumbers}
+use Rattle.rbg_numbering.specs.Numbered.{IsRuleByNumbers}
 use Rattle.rbg_game.specs.internal.Things.{AreThingsOf, game_by_numbers}
 use Rattle.rbg_numbering.proofs.RuleFaults.{IsAmong, among_same, rule_fault_by}
+use Rattle.rbg_game.proofs.FaultLaw.{texts_named}
 
--- The names by which plain rules are numbered.
+-- The names by which the rules are numbered.
 abbrev pub rule_names : Things → NamedBoard → Names
-rule_names things board = record { players = things.players; variables = []; pieces = things.pieces; directions = board.directions }
+rule_names things board = record { players = things.players; variables = things.variables; pieces = things.pieces; directions = board.directions }
 
 -- What is wrong with the board is wrong with the description.
 pub board_unlawful : (d : SpeltDescription) (things : Things) → AreThingsOf d things → (error : GameError) → HasBoardFault things.pieces d.board error → HasFault d error
@@ -32,23 +33,24 @@ board_unlawful d things are error fault =
     let P : List (List ℕ) → Type 0 = λ pieces. HasBoardFault pieces d.board error in
     in_board (subst P are.pieces fault)
 
--- a rectangle's directions are those that the rules may speak of
-spelt_directions : (b : BoardByNames) (board : SpeltBoard) → HasRectangle board → BoardIs b board → texts_of (board_directions board) ≡ b.directions
-spelt_directions b (rectangle names rows) four is = sym is.directions
-spelt_directions b (hexagon names rows) none is = absurd none
-spelt_directions b (graph vertices) none is = absurd none
+-- a board's directions are those that are spelt
+directions_known : (b : BoardByNames) (board : SpeltBoard) → BoardIs b board → IsAmong (texts_of (board_directions board)) b.directions
+directions_known b (rectangle names rows) is = among_same (texts_of names) b.directions (sym is.directions)
+directions_known b (hexagon names rows) is = among_same (texts_of names) b.directions (sym is.directions)
+directions_known b (graph vertices) is = λ name has. is.directions.all name (among_same (texts_of (board_directions (graph vertices))) (directions_named vertices) (sym (texts_named vertices)) name has)
 
 -- What is wrong with the rules is wrong with the description.
-module _ (d : SpeltDescription) (things : Things) (board : NamedBoard) (plain : IsPlain d) (are : AreThingsOf d things) (makes : MakesBoard things.pieces d.board board.directions board.board) where
+module _ (d : SpeltDescription) (things : Things) (board : NamedBoard) (whole : IsWhole d) (are : AreThingsOf d things) (makes : MakesBoard things.pieces d.board board.directions board.board) where
   names_known : (purpose : Purpose) → IsAmong (names_for (names_spelt d) purpose) (names_for (rule_names things board) purpose)
-  names_known as_direction = among_same (texts_of (board_directions d.board)) board.directions (spelt_directions _ d.board plain.board makes.is_board)
+  names_known as_direction = directions_known _ d.board makes.is_board
   names_known as_piece = among_same (texts_of d.pieces) things.pieces (sym are.pieces)
   names_known as_player = among_same (holder_names d.players) things.players (sym are.players)
+  names_known as_variable = among_same (holder_names (holders_of d)) things.variables (sym are.variables)
 
   pub rules_unlawful : (error : GameError) → HasRuleFault (rule_names things board) d.rules error → HasFault d error
   rules_unlawful error fault = in_rules (rule_fault_by (names_spelt d) (rule_names things board) d.rules error names_known fault)
 
-module _ (d : SpeltDescription) (things : Things) (board : NamedBoard) (rules : Expression) (plain : IsPlain d) (are : AreThingsOf d things)
+module _ (d : SpeltDescription) (things : Things) (board : NamedBoard) (rules : Expression) (whole : IsWhole d) (are : AreThingsOf d things)
     (makes : MakesBoard things.pieces d.board board.directions board.board) (by_numbers : IsRuleByNumbers (rule_names things board) d.rules rules) where
   limits : IsWithinLimits (game_by_numbers things board rules)
   limits =
@@ -56,16 +58,16 @@ module _ (d : SpeltDescription) (things : Things) (board : NamedBoard) (rules : 
       let pieces = ap length are.pieces ∙ length-map d.pieces (λ (n : SpeltName). n.text) in
       let P : List ℕ → Type 0 = λ bounds. All (λ bound. bound ≤ greatest_bound) bounds in
       record {
-        some_player = omega (arith, players, plain.some_player);
+        some_player = omega (arith, players, whole.some_player);
         players = are.player_limit;
-        some_piece = omega (arith, pieces, plain.some_piece);
+        some_piece = omega (arith, pieces, whole.some_piece);
         pieces = are.piece_limit;
         variables = are.variable_limit;
         bounds = subst P (sym are.bounds.after) are.bounds.limit;
         directions = makes.few;
-        vertices = makes.vertices;
+        vertices = makes.vertices.limit;
         positions = by_numbers.positions;
-        nesting = by_numbers.nesting most_nested_patterns;
+        nesting = by_numbers.nesting;
       }
 
   lawful : IsGame (game_by_numbers things board rules)
@@ -75,8 +77,8 @@ module _ (d : SpeltDescription) (things : Things) (board : NamedBoard) (rules : 
       record {
         numbered = by_numbers.numbered;
         no_empty_sum = by_numbers.no_empty_sum;
-        actions = by_numbers.actions (game_by_numbers things board rules) refl refl refl;
-        switches = λ p x level q n has. by_numbers.no_pattern p x level;
+        actions = by_numbers.actions (game_by_numbers things board rules) (record { players = refl; variables = refl; pieces = refl; directions = refl });
+        switches = by_numbers.switches;
         scores =
             ap (λ players. take (length players) things.variables) are.players
             ∙ ap (take (length (holder_names d.players))) (are.variables ∙ all)
@@ -90,8 +92,8 @@ module _ (d : SpeltDescription) (things : Things) (board : NamedBoard) (rules : 
             ∙ AllZip-long _ (holders_of d) are.bounds.added are.bounds.bounds
             ∙ sym (length-map (holders_of d) (λ (h : SpeltBounded). h.name.text))
             ∙ ap length (sym are.variables);
-        board = makes.closed;
-        some_vertex = makes.some_vertex;
+        board = makes.vertices.closed;
+        some_vertex = makes.vertices.some_vertex;
         first_pieces = makes.first_pieces;
         limits = limits;
       }
@@ -105,6 +107,6 @@ module _ (d : SpeltDescription) (things : Things) (board : NamedBoard) (rules : 
         pieces = are.pieces;
         bounds = subst P (sym are.bounds.after) are.bounds.bounds;
         board = makes.is_board;
-        rules = by_numbers.rules things.variables;
+        rules = by_numbers.is_rule;
         lawful = lawful;
       }

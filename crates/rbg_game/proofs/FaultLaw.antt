@@ -1,31 +1,35 @@
 -- A description with a fault is no game.
-use Rattle.std.proofs.Common.{◌≡◌, ◌≢◌, ◌↔◌, ℕ, ◌<◌, ◌≤◌, List, [], ◌∷◌, ◌++◌, Some, length, get_or, map}
+use Rattle.std.proofs.Common.{◌≡◌, ◌≢◌, ◌↔◌, ℕ, ◌<◌, ◌≤◌, inl, inr, List, [], ◌∷◌, ◌++◌, Some, length, get_or, map}
 use Rattle.std.proofs.Common.{refl, sym, ap, ◌∙◌, subst, arith}
 use Rattle.std.specs.Prelude.{slice_get, slice_index, Contains, All}
 use Rattle.std.proofs.lemmas.List.{length-map, map-append}
 use Rattle.std.proofs.lemmas.Option.{slice_get-get_or}
 use Rattle.std.proofs.lemmas.List.Elements.{All-contains}
+use Rattle.rbg_board.specs.Cells.{HasTwice}
 use Rattle.rbg_board.specs.Rectangle.{MakesRectangle, RectangleRefusal}
+use Rattle.rbg_board.specs.Hexagon.{MakesHexagon, HexagonRefusal}
 use Rattle.rbg_board.specs.declared.error.BoardError.{BoardError}
 use Rattle.rbg_board.specs.declared.error.BoardError.TheVariants as board_errors
 use Rattle.rbg_syntax.specs.Tree.{SpeltName, SpeltBounded, SpeltEdge, SpeltVertex, SpeltBoard, rectangle, hexagon, graph}
 use Rattle.rbg_syntax.specs.Tree.{SpeltDescription}
 use Rattle.rbg_rules.specs.State.{AbstractGame}
-use Rattle.rbg_rules.specs.Limits.{greatest_bound}
+use Rattle.rbg_rules.specs.Limits.{greatest_bound, most_directions}
 use Rattle.rbg_rules.specs.LawfulNames.{AreDifferentNames, AreLawfulNames}
 use Rattle.rbg_numbering.specs.declared.error.GameError.{GameError}
 use Rattle.rbg_numbering.specs.declared.error.GameError.TheVariants.{Memory}
 use Rattle.rbg_numbering.specs.Names.{texts_of}
 use Rattle.rbg_game.specs.Descriptions.{names_in}
-use Rattle.rbg_game.specs.Descriptions.{NamedBoard, board_in, IsRectangleBoard, IsGraphBoard, VertexIs, BoardIs, directions_named}
+use Rattle.rbg_game.specs.Descriptions.{NamedBoard, board_in, IsRectangleBoard, IsHexagonBoard, IsGraphBoard, VertexIs, BoardIs, directions_named}
 use Rattle.rbg_game.specs.Descriptions.{holder_names, holders_of, AreBounds, IsGameOf}
-use Rattle.rbg_game.specs.Faults.{StandsAgain, HasGreatBound, HaveOneName, HasRectangleFault, HasBoardFault, unknown_piece, no_rectangle, board_memory}
-use Rattle.rbg_numbering.specs.Faults.{Purpose, as_direction, as_piece, as_player, names_for}
+use Rattle.rbg_game.specs.Faults.{StandsAgain, HasGreatBound, HaveOneName, HasRowsFault, HasBoardFault, unknown_piece, many_directions, no_rectangle, no_hexagon, no_graph, board_memory}
+use Rattle.rbg_numbering.specs.Faults.{Purpose, as_direction, as_piece, as_player, as_variable, names_for}
 use Rattle.rbg_game.specs.Faults.{board_directions, board_pieces, names_of_holders, names_spelt}
 use Rattle.rbg_game.specs.Faults.{same_holder, same_piece, great_bound, many_players, many_pieces, many_variables, in_board, in_rules, memory}
 use Rattle.rbg_game.specs.OneGame.{NoGameWithFaultLaw}
 use Rattle.rbg_numbering.proofs.Lists.{Contains-from_get, get_from-Contains, slice_get-map_at, map_entry, fellow}
 use Rattle.rbg_game.proofs.NameFaults.{texts_of-names}
+use Rattle.rbg_game.proofs.OneGameLists.{first_use_once}
+use Rattle.rbg_game.proofs.GraphFaults.{graph_fault_fails}
 use Rattle.rbg_numbering.proofs.RuleFaults.{rule_fault_fails, IsAmong, among_same, rule_fault_by}
 use Rattle.rbg_game.proofs.BoardNames.{unnumbered_rows, rows_once}
 
@@ -68,16 +72,11 @@ unknown_piece_fails b (rectangle names rows) name stands unknown is = unnumbered
 unknown_piece_fails b (hexagon names rows) name stands unknown is = unnumbered_rows b.pieces rows name is.cells stands unknown is.named
 unknown_piece_fails b (graph vertices) name stands unknown is = unnumbered_vertex b vertices name stands unknown is
 
--- what a rectangle by numbers is refused for, no rectangle by these names has
-refusal_fails : (names : List SpeltName) (numbers : List ℕ) (cells : List (List ℕ)) (error : BoardError) → length numbers ≡ length names
+-- where two numbers are equal, the names are not different
+twice_fails : (names : List SpeltName) (numbers : List ℕ) → length numbers ≡ length names
     → ((i j : ℕ) → i < length names → j < length names → (slice_index numbers i ≡ slice_index numbers j) ↔ HaveOneName names i j)
-    → RectangleRefusal numbers cells error → error ≢ board_errors.Memory → MakesRectangle (0 ∷ 1 ∷ 2 ∷ 3 ∷ []) cells → ¬ AreDifferentNames (texts_of names)
-unfolding RectangleRefusal
-refusal_fails names numbers cells board_errors.NoCell long numbered lacks is_fault makes differ = omega (arith, makes.first_cell)
-refusal_fails names numbers cells (board_errors.RowLength row) long numbered uneven is_fault makes differ = uneven.1.uneven (makes.even row uneven.1.is_row)
-refusal_fails names numbers cells board_errors.TooManyVertices long numbered many is_fault makes differ = omega (arith, many.2, makes.fits)
-refusal_fails names numbers cells board_errors.SameDirection long numbered twice is_fault makes differ =
-    let t = twice.3 in
+    → HasTwice numbers → ¬ AreDifferentNames (texts_of names)
+twice_fails names numbers long numbered t differ =
     let none : SpeltName = record { text = []; at = 0 } in
     let later : t.later < length names = omega (arith, t.within) in
     let earlier : t.earlier < length names = omega (arith, t.apart) in
@@ -85,20 +84,54 @@ refusal_fails names numbers cells board_errors.SameDirection long numbered twice
     let at : slice_get (texts_of names) t.later ≡ Some (get_or names t.later none).text = slice_get-map_at (λ (m : SpeltName). m.text) names t.later (get_or names t.later none) (slice_get-get_or names t.later none later) in
     let one = differ.one_number t.earlier t.later (get_or names t.later none).text (same ∙ at) at in
     omega (arith, one, t.apart)
-refusal_fails names numbers cells board_errors.UnknownVertex long numbered none is_fault makes differ = none
-refusal_fails names numbers cells board_errors.SameVertex long numbered none is_fault makes differ = none
-refusal_fails names numbers cells board_errors.Memory long numbered refused is_fault makes differ = is_fault refl
 
-rectangle_fails : (b : NamedBoard) (names : List SpeltName) (rows : List (List SpeltName)) (error : BoardError) → AreDifferentNames b.pieces → HasRectangleFault b.pieces names rows error → ¬ IsRectangleBoard b names rows
+-- what rows by numbers are refused for, no board by these names has
+module _ (names : List SpeltName) (numbers : List ℕ) (cells : List (List ℕ)) (long : length numbers ≡ length names)
+    (numbered : (i j : ℕ) → i < length names → j < length names → (slice_index numbers i ≡ slice_index numbers j) ↔ HaveOneName names i j) where
+  rectangle_refusal_fails : (error : BoardError) → RectangleRefusal numbers cells error → error ≢ board_errors.Memory → MakesRectangle (0 ∷ 1 ∷ 2 ∷ 3 ∷ []) cells → ¬ AreDifferentNames (texts_of names)
+  unfolding RectangleRefusal
+  rectangle_refusal_fails board_errors.NoCell lacks is_fault makes differ = omega (arith, makes.first_cell)
+  rectangle_refusal_fails (board_errors.RowLength row) uneven is_fault makes differ = uneven.1.uneven (makes.even row uneven.1.is_row)
+  rectangle_refusal_fails board_errors.TooManyVertices many is_fault makes differ = omega (arith, many.2, makes.fits)
+  rectangle_refusal_fails board_errors.SameDirection twice is_fault makes differ = twice_fails names numbers long numbered twice.3 differ
+  rectangle_refusal_fails board_errors.UnknownVertex none is_fault makes differ = none
+  rectangle_refusal_fails board_errors.SameVertex none is_fault makes differ = none
+  rectangle_refusal_fails board_errors.Memory refused is_fault makes differ = is_fault refl
+
+  hexagon_refusal_fails : (error : BoardError) → HexagonRefusal numbers cells error → error ≢ board_errors.Memory → MakesHexagon (0 ∷ 1 ∷ 2 ∷ 3 ∷ 4 ∷ 5 ∷ []) cells → ¬ AreDifferentNames (texts_of names)
+  unfolding HexagonRefusal
+  hexagon_refusal_fails board_errors.NoCell lacks is_fault makes differ = elim lacks [
+    | inl no_row ↦ omega (arith, no_row, makes.cells.some_row)
+    | inr empty ↦ omega (arith, empty.2, makes.cells.each_row empty.0 empty.1)
+  ]
+  hexagon_refusal_fails (board_errors.RowLength row) misfit is_fault makes differ = misfit.1.misfits (makes.grows_then_shrinks row misfit.1.is_row)
+  hexagon_refusal_fails board_errors.TooManyVertices many is_fault makes differ = omega (arith, many.2, makes.fits)
+  hexagon_refusal_fails board_errors.SameDirection twice is_fault makes differ = twice_fails names numbers long numbered twice.3 differ
+  hexagon_refusal_fails board_errors.UnknownVertex none is_fault makes differ = none
+  hexagon_refusal_fails board_errors.SameVertex none is_fault makes differ = none
+  hexagon_refusal_fails board_errors.Memory refused is_fault makes differ = is_fault refl
+
+rectangle_fails : (b : NamedBoard) (names : List SpeltName) (rows : List (List SpeltName)) (error : BoardError) → AreDifferentNames b.pieces → HasRowsFault RectangleRefusal b.pieces names rows error → ¬ IsRectangleBoard b names rows
 rectangle_fails b names rows error differ h is =
     let same_cells : is.cells ≡ h.cells = rows_once b.pieces differ rows is.cells h.cells is.named h.named in
     let makes : MakesRectangle (0 ∷ 1 ∷ 2 ∷ 3 ∷ []) h.cells = subst (MakesRectangle (0 ∷ 1 ∷ 2 ∷ 3 ∷ [])) same_cells is.makes in
-    refusal_fails names h.directions h.cells error h.one_each h.numbered h.refused h.is_fault makes (subst AreDifferentNames is.directions is.differ)
+    rectangle_refusal_fails names h.directions h.cells h.one_each h.numbered error h.refused h.is_fault makes (subst AreDifferentNames is.directions is.differ)
 
-board_fault_fails : (b : NamedBoard) (board : SpeltBoard) (error : GameError) → HasBoardFault b.pieces board error → error ≢ Memory → AreDifferentNames b.pieces → ¬ BoardIs b board
-board_fault_fails b board _ (unknown_piece h) other differ is = unknown_piece_fails b board h.name h.stands h.unknown is
-board_fault_fails b _ _ (no_rectangle {names = names} {rows = rows} {error = error} h) other differ is = rectangle_fails b names rows error differ h is
-board_fault_fails b board _ board_memory other differ is = other refl
+hexagon_fails : (b : NamedBoard) (names : List SpeltName) (rows : List (List SpeltName)) (error : BoardError) → AreDifferentNames b.pieces → HasRowsFault HexagonRefusal b.pieces names rows error → ¬ IsHexagonBoard b names rows
+hexagon_fails b names rows error differ h is =
+    let same_cells : is.cells ≡ h.cells = rows_once b.pieces differ rows is.cells h.cells is.named h.named in
+    let makes : MakesHexagon (0 ∷ 1 ∷ 2 ∷ 3 ∷ 4 ∷ 5 ∷ []) h.cells = subst (MakesHexagon (0 ∷ 1 ∷ 2 ∷ 3 ∷ 4 ∷ 5 ∷ [])) same_cells is.makes in
+    hexagon_refusal_fails names h.directions h.cells h.one_each h.numbered error h.refused h.is_fault makes (subst AreDifferentNames is.directions is.differ)
+
+board_fault_fails : (b : NamedBoard) (board : SpeltBoard) (error : GameError) → HasBoardFault b.pieces board error → error ≢ Memory → AreDifferentNames b.pieces → length b.directions ≤ most_directions → ¬ BoardIs b board
+board_fault_fails b board _ (unknown_piece h) other differ few is = unknown_piece_fails b board h.name h.stands h.unknown is
+board_fault_fails b _ _ (many_directions {vertices = vertices} {names = names} order many) other differ few is =
+    let same : names ≡ b.directions = first_use_once (directions_named vertices) names b.directions order is.directions in
+    absurd (omega (arith, many, few, ap length same))
+board_fault_fails b _ _ (no_rectangle {names = names} {rows = rows} {error = error} h) other differ few is = rectangle_fails b names rows error differ h is
+board_fault_fails b _ _ (no_hexagon {names = names} {rows = rows} {error = error} h) other differ few is = hexagon_fails b names rows error differ h is
+board_fault_fails b _ _ (no_graph {vertices = vertices} {error = error} h) other differ few is = graph_fault_fails b vertices error h is
+board_fault_fails b board _ board_memory other differ few is = other refl
 
 -- Descriptions.
 
@@ -106,7 +139,7 @@ edge_texts : (edges : List SpeltEdge) → map (λ edge. edge.direction.text) edg
 edge_texts [] = refl
 edge_texts (edge ∷ edges) = ap (λ l. edge.direction.text ∷ l) (edge_texts edges)
 
-texts_named : (vertices : List SpeltVertex) → directions_named vertices ≡ texts_of (board_directions (graph vertices))
+pub texts_named : (vertices : List SpeltVertex) → directions_named vertices ≡ texts_of (board_directions (graph vertices))
 texts_named [] = refl
 texts_named (vertex ∷ vertices) =
     ap (λ l. l ++ directions_named vertices) (edge_texts vertex.edges)
@@ -123,6 +156,7 @@ names_among : (d : SpeltDescription) (game : AbstractGame) → IsGameOf d game �
 names_among d game is as_direction = directions_spelt (board_in game) d.board is.board
 names_among d game is as_piece = among_same game.pieces (texts_of d.pieces) is.pieces
 names_among d game is as_player = among_same game.players (holder_names d.players) is.players
+names_among d game is as_variable = among_same game.variables (holder_names (holders_of d)) is.variables
 
 pub no_game_with_fault : NoGameWithFaultLaw
 no_game_with_fault d _ (same_holder {at = at} h) other game is = again_unlawful (names_of_holders d) at h (lawful_holders d game is).differ
@@ -132,7 +166,7 @@ no_game_with_fault d _ (many_players many) other game is = absurd (omega (arith,
 no_game_with_fault d _ (many_pieces many) other game is = absurd (omega (arith, length-map d.pieces (λ (n : SpeltName). n.text), ap length is.pieces, is.lawful.limits.pieces))
 no_game_with_fault d _ (many_variables many) other game is = absurd (omega (arith, length-map (holders_of d) (λ (h : SpeltBounded). h.name.text), ap length is.variables, is.lawful.limits.variables))
 no_game_with_fault d error (in_board h) other game is =
-    board_fault_fails (board_in game) d.board error (subst (λ pieces. HasBoardFault pieces d.board error) (sym is.pieces) h) other is.lawful.piece_names.differ is.board
+    board_fault_fails (board_in game) d.board error (subst (λ pieces. HasBoardFault pieces d.board error) (sym is.pieces) h) other is.lawful.piece_names.differ is.lawful.limits.directions is.board
 no_game_with_fault d error (in_rules h) other game is =
-    rule_fault_fails (names_in game) d.rules error game.rules (rule_fault_by (names_in game) (names_spelt d) d.rules error (names_among d game is) h) other is.lawful.limits.positions is.rules
+    rule_fault_fails (names_in game) d.rules error game.rules (rule_fault_by (names_in game) (names_spelt d) d.rules error (names_among d game is) h) other is.lawful.limits.positions is.lawful.limits.nesting is.lawful.switches is.rules
 no_game_with_fault d _ memory other game is = other refl

@@ -1,7 +1,11 @@
 -- Lemmas on the definitions of specs/, by topic.
 pub mod NameFaults
 pub mod BoardNames
-pub mod NamedRectangles
+pub mod Joining
+pub mod NamedRows
+pub mod NamedGraphs
+pub mod GraphSteps
+pub mod GraphFaults
 pub mod Assembly
 pub mod FaultLaw
 mod LoadingLemmas

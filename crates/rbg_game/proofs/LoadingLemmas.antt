@@ -1,5 +1,7 @@
 -- A layer that refuses a text leaves it no game.
-use Rattle.std.proofs.Common.{◌≡◌, ◌≢◌, ℕ, List, subst}
+use Rattle.std.proofs.Common.{◌≡◌, ◌≢◌, ℕ, List, sym, subst}
+use Rattle.std.specs.Prelude.{Result, Ok, Err}
+use Rattle.std.specs.Result.{IfErr, IsErrAnd}
 use Rattle.rbg_macro.specs.Token.{Lexeme, SectionTokens}
 use Rattle.rbg_macro.specs.Text.{HasTokens, HasTextFault}
 use Rattle.rbg_macro.specs.Expansion.{HasSections, HasMacroFault}
@@ -17,6 +19,7 @@ use Rattle.rbg_game.specs.Descriptions.{IsGameOf}
 use Rattle.rbg_game.specs.Faults.{HasFault}
 use Rattle.rbg_numbering.specs.declared.error.GameError.{GameError}
 use Rattle.rbg_numbering.specs.declared.error.GameError.TheVariants.{Memory as GameMemory}
+use Rattle.rbg_game.specs.declared.error.LoadError.{LoadError}
 use Rattle.rbg_game.specs.declared.error.LoadError.TheVariants as errors
 use Rattle.rbg_game.specs.Loading.{HasSectionsOf, Describes, IsRefused}
 
@@ -27,6 +30,11 @@ one_source text a b x y = sections_once y.tokens a b (subst (λ ts. HasSections 
 -- a text spells one description
 pub one_spelt : (text : List ℕ) (a b : SpeltDescription) → Describes text a → Describes text b → a ≡ b
 one_spelt text a b x y = one_description y.sections a b (subst (λ ss. SpellsOneWord ss a) (one_source text x.sections y.sections x.has y.has) x.spells) y.spells
+
+-- An error that is passed on.
+pub refused_by : {T : Type 0} (result : Result T LoadError) (text : List ℕ) (error : LoadError) → IsErrAnd result (λ e. e ≡ error) → IsRefused text error → IfErr result (IsRefused text)
+refused_by (Ok x) text error is refused = absurd is
+refused_by (Err e) text error is refused = subst (IsRefused text) (sym is) refused
 
 pub refused_in_text : (text : List ℕ) (e : TextError) → HasTextFault text e → IsRefused text (errors.Text e)
 refused_in_text text e fault = record { fault = fault; no_game = λ other game loads. other (text_refused_for_memory text loads.describes.has.tokens loads.describes.has.cut e fault) }

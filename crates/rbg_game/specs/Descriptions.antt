@@ -62,6 +62,10 @@ pub record VertexIs (b : NamedBoard) (vertices : List (List ℕ)) (vertex : Spel
   pub piece : IsNumberOf b.pieces vertex.piece w.piece
   pub edges : AllZip (EdgeIs b vertices) vertex.edges w.edges
 
+-- the names of vertices
+abbrev pub vertex_names : List SpeltVertex → List (List ℕ)
+vertex_names vertices = map (λ vertex. vertex.name.text) vertices
+
 -- the directions named in a list of vertices, in order of text
 abbrev pub directions_named : List SpeltVertex → List (List ℕ)
 directions_named vertices = flat_map (λ vertex. map (λ edge. edge.direction.text) vertex.edges) vertices
@@ -81,9 +85,9 @@ pub record IsOrderOfFirstUse (used names : List (List ℕ)) : Type 0 where
 
 -- The board is the graph of these vertices, whose names all differ. Directions are numbered in order of first use.
 pub record IsGraphBoard (b : NamedBoard) (vertices : List SpeltVertex) : Type 0 where
-  pub differ : AreDifferentNames (map (λ vertex. vertex.name.text) vertices)
+  pub differ : AreDifferentNames (vertex_names vertices)
   pub written : List Written
-  pub named : AllZip (VertexIs b (map (λ vertex. vertex.name.text) vertices)) vertices written
+  pub named : AllZip (VertexIs b (vertex_names vertices)) vertices written
   pub directions : IsOrderOfFirstUse (directions_named vertices) b.directions
   pub makes : MakesGraph written
   pub board : IsGraphOf b.board (pieces_of written) (WrittenEdge written)

@@ -2,19 +2,21 @@
 use Rattle.std.specs.Prelude.{◌≡◌, ◌≢◌, ℕ, ◌<◌, ◌↔◌, List, Some}
 use Rattle.std.specs.Prelude.{map, length, slice_get, slice_index, Contains, flat_map}
 use Rattle.std.specs.List.{AllZip}
+use Rattle.rbg_board.specs.Cells.{Rows}
 use Rattle.rbg_board.specs.Rectangle.{RectangleRefusal}
+use Rattle.rbg_board.specs.Hexagon.{HexagonRefusal}
 use Rattle.rbg_board.specs.declared.error.BoardError.{BoardError}
 use Rattle.rbg_board.specs.declared.error.BoardError.TheVariants as board_errors
-use Rattle.rbg_syntax.specs.Tree.{SpeltName, SpeltNumber, SpeltBounded, SpeltBoard, rectangle, hexagon, graph}
-use Rattle.rbg_syntax.specs.Tree.{SpeltDescription}
+use Rattle.rbg_syntax.specs.Tree.{SpeltName, SpeltNumber, SpeltBounded, SpeltEdge, SpeltVertex}
+use Rattle.rbg_syntax.specs.Tree.{SpeltBoard, rectangle, hexagon, graph, SpeltDescription}
 use Rattle.rbg_rules.specs.Limits.{most_players, most_pieces, most_variables}
-use Rattle.rbg_rules.specs.Limits.{greatest_bound}
+use Rattle.rbg_rules.specs.Limits.{greatest_bound, most_directions, most_vertices}
 use Rattle.rbg_numbering.specs.declared.error.GameError.{GameError}
 use Rattle.rbg_numbering.specs.declared.error.GameError.TheVariants.{UnknownName, SameName, Bound, TooMany, Memory, Board}
-use Rattle.rbg_numbering.specs.declared.error.Thing.TheVariants.{Players, Pieces, Variables}
+use Rattle.rbg_numbering.specs.declared.error.Thing.TheVariants.{Players, Pieces, Variables, Directions}
 use Rattle.rbg_numbering.specs.Names.{Names, IsNumberOf, texts_of}
 use Rattle.rbg_numbering.specs.Faults.{HasUnknown, HasRuleFault}
-use Rattle.rbg_game.specs.Descriptions.{holder_names, holders_of}
+use Rattle.rbg_game.specs.Descriptions.{holder_names, holders_of, vertex_names, directions_named, IsOrderOfFirstUse}
 
 -- The name stands in the list at this offset, and before it the same name.
 pub record StandsAgain (list : List SpeltName) (at : ℕ) : Type 0 where
@@ -57,8 +59,9 @@ abbrev pub HaveOneName : List SpeltName → ℕ → ℕ → Type 0
 HaveOneName names i j = slice_get (texts_of names) i ≡ slice_get (texts_of names) j
 
 -- The rows by the numbers of the pieces, and the directions by numbers that are equal exactly where the names are, are
--- refused so: for a fault, and not because memory ran out.
-pub record HasRectangleFault
+-- refused so: for a fault, and not because memory ran out. `Refusal` says what the generator of the rows refuses.
+pub record HasRowsFault
+    (Refusal : List ℕ → Rows → BoardError → Type 0)
     (pieces : List (List ℕ))
     (names : List SpeltName)
     (rows : List (List SpeltName))
@@ -73,17 +76,58 @@ pub record HasRectangleFault
       → j < length names
       → (slice_index directions i ≡ slice_index directions j) ↔ HaveOneName names i j
   pub named : AllZip (AllZip (IsNumberOf pieces)) rows cells
-  pub refused : RectangleRefusal directions cells error
+  pub refused : Refusal directions cells error
   pub is_fault : error ≢ board_errors.Memory
 
--- What is wrong with a board, where these are the pieces. (Rectangles are the only boards that are read so far.)
+-- One text stands twice in the list.
+pub record StandsTwice (list : List (List ℕ)) : Type 0 where
+  pub i : ℕ
+  pub j : ℕ
+  pub text : List ℕ
+  pub before : i < j
+  pub first : slice_get list i ≡ Some text
+  pub second : slice_get list j ≡ Some text
+
+-- What is wrong with the vertices of a graph: there is none, there are too many, two have one name, two edges of one of
+-- them have one direction, or an edge leads to a name that no vertex has.
+pub data HasGraphFault (vertices : List SpeltVertex) : BoardError → Type 0 where
+  no_vertex :
+      length vertices ≡ 0
+      → HasGraphFault vertices board_errors.NoCell
+  many_vertices :
+      most_vertices < length vertices
+      → HasGraphFault vertices board_errors.TooManyVertices
+  same_vertex :
+      StandsTwice (vertex_names vertices)
+      → HasGraphFault vertices board_errors.SameVertex
+  same_direction : {vertex : SpeltVertex}
+      → Contains vertices vertex
+      → StandsTwice (map (λ edge. edge.direction.text) vertex.edges)
+      → HasGraphFault vertices board_errors.SameDirection
+  unknown_vertex : {vertex : SpeltVertex} {edge : SpeltEdge}
+      → Contains vertices vertex
+      → Contains vertex.edges edge
+      → ¬ Contains (vertex_names vertices) edge.target.text
+      → HasGraphFault vertices board_errors.UnknownVertex
+
+-- What is wrong with a board, where these are the pieces. (Only a graph can have too many directions.)
 pub data HasBoardFault (pieces : List (List ℕ)) : SpeltBoard → GameError → Type 0 where
   unknown_piece : {board : SpeltBoard} {at : ℕ}
       → HasUnknown pieces (board_pieces board) at
       → HasBoardFault pieces board (UnknownName at)
+  many_directions : {vertices : List SpeltVertex} {names : List (List ℕ)}
+      → IsOrderOfFirstUse (directions_named vertices) names
+      → most_directions < length names
+      → HasBoardFault pieces (graph vertices) (TooMany Directions)
   no_rectangle : {names : List SpeltName} {rows : List (List SpeltName)} {error : BoardError}
-      → HasRectangleFault pieces names rows error
+      → HasRowsFault RectangleRefusal pieces names rows error
       → HasBoardFault pieces (rectangle names rows) (Board error)
+  no_hexagon : {names : List SpeltName} {rows : List (List SpeltName)} {error : BoardError}
+      → HasRowsFault HexagonRefusal pieces names rows error
+      → HasBoardFault pieces (hexagon names rows) (Board error)
+  no_graph : {vertices : List SpeltVertex} {error : BoardError}
+      → HasGraphFault vertices error
+      → HasBoardFault pieces (graph vertices) (Board error)
   board_memory : {board : SpeltBoard}
       → HasBoardFault pieces board Memory
 

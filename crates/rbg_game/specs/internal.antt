@@ -2,3 +2,4 @@
 pub mod Holders
 pub mod Things
 pub mod Boards
+pub mod Graphs

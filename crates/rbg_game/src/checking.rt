@@ -1,7 +1,7 @@
 //! The checks of a description: its names by their numbers, then its board, then its rules.
 ghost use Rattle.std.specs.Prelude.{◌≡◌, ◌≢◌, IfOk, IfErr, length};
 ghost use Rattle.rbg_syntax.specs.Descriptions.{description_of, description_of_parts};
-ghost use Rattle.rbg_syntax.specs.Plain.{IsPlain};
+ghost use Rattle.rbg_syntax.specs.Formed.{IsWhole};
 ghost use Rattle.rbg_rules.specs.Games.{IsGame};
 ghost use Rattle.rbg_rules.specs.Positions.{positions_of};
 ghost use Rattle.rbg_rules.specs.State.{AbstractGame};
@@ -11,6 +11,8 @@ ghost use Rattle.rbg_game.specs.Faults.{HasFault};
 ghost use Rattle.rbg_game.specs.internal.Things.{game_by_numbers};
 
 mod boards;
+mod directions;
+mod graphs;
 mod names;
 
 use boards::{NamedBoard, make_board};
@@ -25,7 +27,6 @@ use std::alloc::{AllocError, Global};
 /// Faults are looked for in this order: names and bounds of players and variables, and names of pieces, in order of
 /// text; too many of them; the board; the rules in order of text.
 pub fn check(alloc: Global, description: Description) -> Result<Game, GameError>
-    requires { IsPlain (description_of description) }
     ensures game { IfOk result (IsGameOf (description_of description)) }
 
     // The description has the fault that an error names, and unless memory ran out it is no game.
@@ -37,7 +38,7 @@ pub fn check(alloc: Global, description: Description) -> Result<Game, GameError>
 
 /// The game of a description in parts.
 fn check_parts(alloc: Global, parts: &DescriptionParts) -> Result<Game, GameError>
-    requires { IsPlain (description_of_parts parts.now) }
+    requires { IsWhole (description_of_parts parts.now) }
     ensures game { IfOk result (IsGameOf (description_of_parts parts.now)) }
     ensures fault { IfErr result (HasFault (description_of_parts parts.now)) }
 {
@@ -45,6 +46,7 @@ fn check_parts(alloc: Global, parts: &DescriptionParts) -> Result<Game, GameErro
     let board = make_board(alloc, &things.pieces, &parts.board)?;
     let names = NameTables {
         players: &things.players,
+        variables: &things.variables,
         pieces: &things.pieces,
         directions: &board.directions,
     };

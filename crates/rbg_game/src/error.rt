@@ -1,5 +1,6 @@
 //! Why a text is no game.
-ghost use Rattle.std.specs.Prelude.{◌↔◌, IsTrue};
+ghost use Rattle.std.specs.Prelude.{◌≡◌, ◌↔◌, IsTrue};
+ghost use Rattle.rbg_game.specs.declared.error.LoadError.TheVariants as load_errors;
 ghost use Rattle.rbg_game.specs.Loading.{IsMemory};
 
 use rbg_macro::{MacroError, TextError};
@@ -19,6 +20,38 @@ pub enum LoadError {
     Syntax(SyntaxError),
     #[error("{0}")]
     Game(GameError),
+}
+
+impl From<TextError> for LoadError {
+    ghost from_gives = { λ cause error. error ≡ load_errors.Text cause };
+
+    fn from(cause: TextError) -> LoadError {
+        LoadError::Text(cause)
+    }
+}
+
+impl From<MacroError> for LoadError {
+    ghost from_gives = { λ cause error. error ≡ load_errors.Macro cause };
+
+    fn from(cause: MacroError) -> LoadError {
+        LoadError::Macro(cause)
+    }
+}
+
+impl From<SyntaxError> for LoadError {
+    ghost from_gives = { λ cause error. error ≡ load_errors.Syntax cause };
+
+    fn from(cause: SyntaxError) -> LoadError {
+        LoadError::Syntax(cause)
+    }
+}
+
+impl From<GameError> for LoadError {
+    ghost from_gives = { λ cause error. error ≡ load_errors.Game cause };
+
+    fn from(cause: GameError) -> LoadError {
+        LoadError::Game(cause)
+    }
 }
 
 impl LoadError {

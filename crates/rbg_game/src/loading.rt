@@ -13,19 +13,14 @@ use std::alloc::Global;
 
 /// The game of a text: its tokens are cut, its macros are expanded, its sections are read, and what they spell is
 /// checked. The error is that of the first layer that refuses the text.
-#[tactic(auto, using(crate::proofs::LoadingLemmas::refused_in_checks))]
 pub fn load(alloc: Global, text: &[u8]) -> Result<Game, LoadError>
     ensures game { IfOk result (Loads text.now) }
     ensures refused { IfErr result (IsRefused text.now) }
 {
     let description = describe(alloc, text)?;
-    match check(alloc, description) {
-        Ok(game) => Ok(game),
-        Err(error) => Err(LoadError::Game(error)),
-    }
+    Ok(check(alloc, description)?)
 }
 
-#[tactic(auto, using(crate::proofs::LoadingLemmas::refused_in_syntax))]
 /// What the text spells.
 fn describe(alloc: Global, text: &[u8]) -> Result<Description, LoadError>
     ensures spelt { IfOk result (λ d. Describes text.now (description_of d)) }
@@ -33,24 +28,14 @@ fn describe(alloc: Global, text: &[u8]) -> Result<Description, LoadError>
     ensures refused { IfErr result (IsRefused text.now) }
 {
     let source = read_sections(alloc, text)?;
-    match parse(alloc, &source) {
-        Ok(description) => Ok(description),
-        Err(error) => Err(LoadError::Syntax(error)),
-    }
+    Ok(parse(alloc, &source)?)
 }
 
-#[tactic(auto, using(crate::proofs::LoadingLemmas::refused_in_text, crate::proofs::LoadingLemmas::refused_in_macros))]
 /// The sections of the text, expanded.
 fn read_sections(alloc: Global, text: &[u8]) -> Result<Source, LoadError>
     ensures sections { IfOk result (HasSectionsOf text.now) }
     ensures refused { IfErr result (IsRefused text.now) }
 {
-    let tokens = match tokens(alloc, text) {
-        Ok(tokens) => tokens,
-        Err(error) => return Err(LoadError::Text(error)),
-    };
-    match expand(alloc, &tokens) {
-        Ok(source) => Ok(source),
-        Err(error) => Err(LoadError::Macro(error)),
-    }
+    let tokens = tokens(alloc, text)?;
+    Ok(expand(alloc, &tokens)?)
 }

@@ -2,7 +2,11 @@
 pub mod Lists
 pub mod NameLemmas
 pub mod LookUps
-pub mod PlainRuleLemmas
+pub mod ArithmeticLemmas
+pub mod ActionLemmas
+pub mod StepLemmas
+pub mod StepFaults
 pub mod RuleNumbering
+pub mod RuleLaws
 pub mod RuleFaults
 pub mod OneNumbering

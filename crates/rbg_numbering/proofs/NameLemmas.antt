@@ -46,14 +46,14 @@ IsUtf8-from_is_name bs h = IsUtf8-from_ascii bs (IsAscii-from_all bs (All-weaker
 
 pub ruleset name_texts = (IsUtf8-from_is_name)
 
-slice_get-push_cases : (xs : List (List ℕ)) (x y : List ℕ) (i : ℕ) → slice_get (xs ++ x ∷ []) i ≡ Some y → (slice_get xs i ≡ Some y) ⊎ ((i ≡ length xs) × (x ≡ y))
+pub slice_get-push_cases : (xs : List (List ℕ)) (x y : List ℕ) (i : ℕ) → slice_get (xs ++ x ∷ []) i ≡ Some y → (slice_get xs i ≡ Some y) ⊎ ((i ≡ length xs) × (x ≡ y))
 slice_get-push_cases [] x y zero is = inr (refl, cc)
 slice_get-push_cases [] x y (suc i) is = cc
 slice_get-push_cases (z ∷ zs) x y zero is = inl is
 slice_get-push_cases (z ∷ zs) x y (suc i) is =
     elim (slice_get-push_cases zs x y i is) [ inl there ↦ inl there | inr last ↦ inr (ap suc last.0, last.1) ]
 
-push_differs : (names : List (List ℕ)) (name : List ℕ) → AreDifferentNames names → ¬ Contains names name → (i j : ℕ) (x : List ℕ) → slice_get (names ++ name ∷ []) i ≡ Some x → slice_get (names ++ name ∷ []) j ≡ Some x → i ≡ j
+pub push_differs : (names : List (List ℕ)) (name : List ℕ) → AreDifferentNames names → ¬ Contains names name → (i j : ℕ) (x : List ℕ) → slice_get (names ++ name ∷ []) i ≡ Some x → slice_get (names ++ name ∷ []) j ≡ Some x → i ≡ j
 push_differs names name differ new i j x first second =
     elim (slice_get-push_cases names name x i first) [
       | inl p ↦ elim (slice_get-push_cases names name x j second) [

@@ -7,16 +7,9 @@ use Rattle.rbg_syntax.specs.Tree.{SpeltExpression, SpeltTerms, no_terms, more_te
 use Rattle.rbg_rules.specs.Expression.{AbstractArithmetic, number, variable, piece_count, negated, AbstractAction, shift, on, off, assignment, comparison, switch, positive, negative, Expression, act, sequence, choice, star}
 use Rattle.rbg_rules.specs.Positions.{positions_of, positions_inside, IsNumbered}
 use Rattle.rbg_rules.specs.LawfulNames.{AreDifferentNames}
-use Rattle.rbg_numbering.specs.Names.{Names, IsNumberOf}
+use Rattle.rbg_numbering.specs.Names.{Names, IsNumberOf, HasDifferentNames}
 use Rattle.rbg_numbering.specs.Rules.{added, multiplied, ArithmeticIs, SumIs, ProductIs, ActionIs, RuleIs, SequenceIs, ChoiceIs}
 use Rattle.rbg_numbering.proofs.Lists.{AllZip-once, Contains-from_get}
-
--- In each of the lists of names all differ.
-pub record HasDifferentNames (names : Names) : Type 0 where
-  pub players : AreDifferentNames names.players
-  pub variables : AreDifferentNames names.variables
-  pub pieces : AreDifferentNames names.pieces
-  pub directions : AreDifferentNames names.directions
 
 mutual
   arithmetic_once : (names : Names) → HasDifferentNames names → (e : SpeltExpression) (a b : AbstractArithmetic) → ArithmeticIs names e a → ArithmeticIs names e b → a ≡ b

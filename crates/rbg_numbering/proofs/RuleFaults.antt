@@ -1,17 +1,24 @@
 -- Where a rule has a fault there are no rules by numbers.
-use Rattle.std.proofs.Common.{◌≡◌, ◌≢◌, ℕ, suc, ◌≤◌, refl, List, [], ◌∷◌, Some, None, length, get_or, ap, ◌∙◌, subst, arith}
+use Rattle.std.proofs.Common.{◌≡◌, ◌≢◌, ℕ, suc, ◌+◌, ◌≤◌, refl, List, [], ◌∷◌, Option, Some, None, inl, inr, length, get_or, ap, sym, ◌∙◌, subst, arith}
 use Rattle.std.specs.Prelude.{Contains}
 use Rattle.std.specs.List.{AllZip}
 use Rattle.std.proofs.lemmas.List.{length-append}
-use Rattle.rbg_syntax.specs.Tree.{SpeltName, SpeltRule, SpeltRules, no_rules, more_rules, SpeltAction}
-use Rattle.rbg_rules.specs.Expression.{AbstractAction, Expression}
-use Rattle.rbg_rules.specs.Positions.{positions_of, positions_inside}
-use Rattle.rbg_rules.specs.Limits.{most_positions}
+use Rattle.rbg_syntax.specs.Tree.{SpeltName, SpeltExpression, SpeltTerms, no_terms, SpeltFactors, no_factors, SpeltRule, SpeltRules, no_rules, more_rules, SpeltAction}
+use Rattle.rbg_rules.specs.Expression.{AbstractArithmetic, AbstractAction, switch, positive, negative, Expression, act, skip, sequence, fail, choice, star}
+use Rattle.rbg_rules.specs.Games.{NestsWithin, InsideNestsWithin}
+use Rattle.rbg_rules.specs.Positions.{HasAction, HasInside, positions_of, positions_inside, IsPatternOf, IsLevel, inside as level_of}
+use Rattle.rbg_rules.specs.Limits.{most_positions, most_nested_patterns}
 use Rattle.rbg_numbering.specs.declared.error.GameError.{GameError}
 use Rattle.rbg_numbering.specs.declared.error.GameError.TheVariants.{Memory}
 use Rattle.rbg_numbering.specs.Names.{Names, IsNumberOf}
-use Rattle.rbg_numbering.specs.Rules.{ActionIs, RuleIs, SequenceIs, ChoiceIs}
-use Rattle.rbg_numbering.specs.Faults.{HasUnknown, Purpose, names_for, Uses, shifts, stands_on, puts, gives_turn, HasSpeltAction, this, in_sequence, in_choice, in_star, in_positive, in_negative, SomeHasSpeltAction, earlier, last, actions_in, actions_in_all, actions_of, HasRuleFault, unknown_use, many_positions, rule_memory}
+use Rattle.rbg_numbering.specs.Rules.{ArithmeticIs, SumIs, ProductIs, ActionIs, RuleIs, SequenceIs, ChoiceIs}
+use Rattle.rbg_numbering.specs.Faults.{HasUnknown, Purpose, as_piece, as_variable, names_for, Uses, shifts, stands_on, puts, assigns, gives_turn}
+use Rattle.rbg_numbering.specs.Faults.{HasPart, itself, in_negated, in_sum, in_product, SomeTermHasPart, earlier_term, last_term, SomeFactorHasPart, earlier_factor, last_factor}
+use Rattle.rbg_numbering.specs.Faults.{HasArithmeticFault, unknown_value, great_number, arithmetic_memory, HasExpression, assigned, left_side, right_side}
+use Rattle.rbg_numbering.specs.Faults.{HasSpeltAction, this, in_sequence, in_choice, in_star, in_positive, in_negative, SomeHasSpeltAction, earlier, last, actions_in, actions_in_all, actions_of}
+use Rattle.rbg_numbering.specs.Faults.{IsSpeltPattern, positive_pattern, negative_pattern, HasPattern, HasPatternInside, in_none, in_one_more, HasSwitch}
+use Rattle.rbg_numbering.specs.Faults.{HasRuleFault, unknown_use, in_arithmetic, switch_in_pattern, deep_pattern, many_positions, rule_memory}
+use Rattle.rbg_numbering.specs.Numbered.{HasNoSwitchInPattern}
 use Rattle.rbg_numbering.proofs.Lists.{Contains-one, Contains-from_get, AllZip-at}
 
 -- a list with an unknown name has no numbers
@@ -21,22 +28,36 @@ unnumbered known names name numbers (k, within, is) unknown all =
     unknown (Contains-from_get known (get_or numbers k 0) name.text (number ∙ ap (λ (n : SpeltName). Some n.text) is))
 
 mutual
-  -- each action that is spelt in a rule is one by numbers
-  action_in_rule : (names : Names) (r : SpeltRule) (x : Expression) (s : SpeltAction) → HasSpeltAction r s → RuleIs names r x → (b : AbstractAction) × ActionIs names s b
-  action_in_rule names _ x s this (p, b, is, e) = (b, is)
+  -- Each action that is spelt in a rule is one by numbers.
+  action_in_rule : (names : Names) (r : SpeltRule) (x : Expression) (s : SpeltAction) → HasSpeltAction r s → RuleIs names r x → (p : ℕ) × (b : AbstractAction) × ActionIs names s b × HasAction x p b
+  action_in_rule names _ x s this (p, b, is, e) = (p, b, is, subst (λ z. HasAction z p b) (sym e) (inl (refl, refl)))
   action_in_rule names _ x s (in_sequence {rs = rs} h) is = action_in_sequence names rs x s h is
   action_in_rule names _ x s (in_choice {rs = rs} h) is = action_in_choice names rs x s h is
-  action_in_rule names _ x s (in_star {r = r} h) (y, is, e) = action_in_rule names r y s h is
-  action_in_rule names _ x s (in_positive {r = r} h) (p, b, (y, is, f), e) = action_in_rule names r y s h is
-  action_in_rule names _ x s (in_negative {r = r} h) (p, b, (y, is, f), e) = action_in_rule names r y s h is
+  action_in_rule names _ x s (in_star {r = r} h) (y, is, e) =
+      let (p, b, named, has) = action_in_rule names r y s h is in
+      (p, b, named, subst (λ z. HasAction z p b) (sym e) has)
+  action_in_rule names _ x s (in_positive {r = r} h) (p, c, (y, is, f), e) =
+      let (q, b, named, has) = action_in_rule names r y s h is in
+      (q, b, named, subst (λ z. HasAction z q b) (sym e) (inr (subst (λ d. HasInside d q b) (sym f) has)))
+  action_in_rule names _ x s (in_negative {r = r} h) (p, c, (y, is, f), e) =
+      let (q, b, named, has) = action_in_rule names r y s h is in
+      (q, b, named, subst (λ z. HasAction z q b) (sym e) (inr (subst (λ d. HasInside d q b) (sym f) has)))
 
-  action_in_sequence : (names : Names) (rs : SpeltRules) (x : Expression) (s : SpeltAction) → SomeHasSpeltAction rs s → SequenceIs names rs x → (b : AbstractAction) × ActionIs names s b
-  action_in_sequence names _ x s (earlier {rs = rs} h) (y, z, before, one, e) = action_in_sequence names rs y s h before
-  action_in_sequence names _ x s (last {r = r} h) (y, z, before, one, e) = action_in_rule names r z s h one
+  action_in_sequence : (names : Names) (rs : SpeltRules) (x : Expression) (s : SpeltAction) → SomeHasSpeltAction rs s → SequenceIs names rs x → (p : ℕ) × (b : AbstractAction) × ActionIs names s b × HasAction x p b
+  action_in_sequence names _ x s (earlier {rs = rs} h) (y, z, before, one, e) =
+      let (p, b, named, has) = action_in_sequence names rs y s h before in
+      (p, b, named, subst (λ w. HasAction w p b) (sym e) (inl has))
+  action_in_sequence names _ x s (last {r = r} h) (y, z, before, one, e) =
+      let (p, b, named, has) = action_in_rule names r z s h one in
+      (p, b, named, subst (λ w. HasAction w p b) (sym e) (inr has))
 
-  action_in_choice : (names : Names) (rs : SpeltRules) (x : Expression) (s : SpeltAction) → SomeHasSpeltAction rs s → ChoiceIs names rs x → (b : AbstractAction) × ActionIs names s b
-  action_in_choice names _ x s (earlier {rs = rs} h) (y, z, before, one, e) = action_in_choice names rs y s h before
-  action_in_choice names _ x s (last {r = r} h) (y, z, before, one, e) = action_in_rule names r z s h one
+  action_in_choice : (names : Names) (rs : SpeltRules) (x : Expression) (s : SpeltAction) → SomeHasSpeltAction rs s → ChoiceIs names rs x → (p : ℕ) × (b : AbstractAction) × ActionIs names s b × HasAction x p b
+  action_in_choice names _ x s (earlier {rs = rs} h) (y, z, before, one, e) =
+      let (p, b, named, has) = action_in_choice names rs y s h before in
+      (p, b, named, subst (λ w. HasAction w p b) (sym e) (inl has))
+  action_in_choice names _ x s (last {r = r} h) (y, z, before, one, e) =
+      let (p, b, named, has) = action_in_rule names r z s h one in
+      (p, b, named, subst (λ w. HasAction w p b) (sym e) (inr has))
 
 one_fails : (known : List (List ℕ)) (n : SpeltName) (number at : ℕ) → HasUnknown known (n ∷ []) at → ¬ IsNumberOf known n number
 one_fails known n number at h is =
@@ -47,6 +68,7 @@ one_fails known n number at h is =
 use_fails : (names : Names) (s : SpeltAction) (purpose : Purpose) (used : List SpeltName) (at : ℕ) (b : AbstractAction) → Uses s purpose used → HasUnknown (names_for names purpose) used at → ¬ ActionIs names s b
 use_fails names _ _ _ at b (shifts {n = n}) h (d, is, e) = one_fails names.directions n d at h is
 use_fails names _ _ _ at b (stands_on {ns = ns}) h (xs, each, e) = unnumbered names.pieces ns h.name xs h.stands h.unknown each
+use_fails names _ _ _ at b (assigns {n = n}) h (v, a, is, is_value, e) = one_fails names.variables n v at h is
 use_fails names _ _ _ at b (puts {n = n}) h (x, is, e) = one_fails names.pieces n x at h is
 use_fails names _ _ _ at b (gives_turn {n = n}) h (k, is, e) = one_fails names.players n k at h is
 
@@ -85,13 +107,139 @@ mutual
       let both = length-append (positions_of y) (positions_of z) in
       rw e (omega arith)
 
+-- Arithmetic.
+
+no_term : (part : SpeltExpression) → SomeTermHasPart no_terms part → ⊥
+no_term part h = elim h [ ]
+
+no_factor : (part : SpeltExpression) → SomeFactorHasPart no_factors part → ⊥
+no_factor part h = elim h [ ]
+
+mutual
+  -- each part of an expression is one by numbers
+  part_is : (names : Names) (e part : SpeltExpression) (a : AbstractArithmetic) → HasPart e part → ArithmeticIs names e a → (b : AbstractArithmetic) × ArithmeticIs names part b
+  part_is names _ part a itself is = (a, is)
+  part_is names _ part a (in_negated {e = e} h) (b, is, f) = part_is names e part b h is
+  part_is names _ part a (in_sum {ts = ts} h) is = part_of_sum names ts part a h is
+  part_is names _ part a (in_product {fs = fs} h) is = part_of_product names fs part a h is
+
+  part_of_sum : (names : Names) (ts : SpeltTerms) (part : SpeltExpression) (a : AbstractArithmetic) → SomeTermHasPart ts part → SumIs names ts a → (b : AbstractArithmetic) × ArithmeticIs names part b
+  part_of_sum names _ part a (earlier_term {ts = ts} h) (inl (none, is)) = absurd (no_term part (subst (λ l. SomeTermHasPart l part) none h))
+  part_of_sum names _ part a (earlier_term {ts = ts} h) (inr (b, c, before, is, f)) = part_of_sum names ts part b h before
+  part_of_sum names _ part a (last_term {e = e} h) (inl (none, is)) = part_is names e part a h is
+  part_of_sum names _ part a (last_term {e = e} h) (inr (b, c, before, is, f)) = part_is names e part c h is
+
+  part_of_product : (names : Names) (fs : SpeltFactors) (part : SpeltExpression) (a : AbstractArithmetic) → SomeFactorHasPart fs part → ProductIs names fs a → (b : AbstractArithmetic) × ArithmeticIs names part b
+  part_of_product names _ part a (earlier_factor {fs = fs} h) (inl (none, is)) = absurd (no_factor part (subst (λ l. SomeFactorHasPart l part) none h))
+  part_of_product names _ part a (earlier_factor {fs = fs} h) (inr (b, c, before, is, f)) = part_of_product names fs part b h before
+  part_of_product names _ part a (last_factor {e = e} h) (inl (none, is)) = part_is names e part a h is
+  part_of_product names _ part a (last_factor {e = e} h) (inr (b, c, before, is, f)) = part_is names e part c h is
+
+-- an expression with a fault has no numbers
+arithmetic_fails : (names : Names) (e : SpeltExpression) (error : GameError) (a : AbstractArithmetic) → HasArithmeticFault names e error → error ≢ Memory → ¬ ArithmeticIs names e a
+arithmetic_fails names e _ a (unknown_value h) other is =
+    let (b, value) = part_is names e (SpeltExpression.name h.name) a h.stands is in
+    elim value [
+      | inl v ↦ h.no_variable (Contains-from_get names.variables v.0 h.name.text v.1)
+      | inr p ↦ h.no_piece (Contains-from_get names.pieces p.1.0 h.name.text p.1.1)
+    ]
+arithmetic_fails names e _ a (great_number h) other is =
+    let (b, (value, spelt, small, f)) = part_is names e (SpeltExpression.number h.number) a h.stands is in
+    let great = h.too_great value spelt in
+    absurd (omega arith)
+arithmetic_fails names e _ a arithmetic_memory other is = other refl
+
+-- an action with such an expression neither
+expression_fails : (names : Names) (s : SpeltAction) (e : SpeltExpression) (error : GameError) (b : AbstractAction) → HasExpression s e → HasArithmeticFault names e error → error ≢ Memory → ¬ ActionIs names s b
+expression_fails names _ e error b assigned h other (v, a, is, is_value, f) = arithmetic_fails names e error a h other is_value
+expression_fails names _ e error b left_side h other (a, c, left, right, f) = arithmetic_fails names e error a h other left
+expression_fails names _ e error b right_side h other (a, c, left, right, f) = arithmetic_fails names e error c h other right
+
+-- Patterns.
+
+-- A pattern of the rule is one of the expression: the pattern of the rule inside.
+record IsPatternThere (names : Names) (inside : SpeltRule) (x : Expression) : Type 0 where
+  pub position : ℕ
+  pub action : AbstractAction
+  pub stands : HasAction x position action
+  pub rule : Expression
+  pub is_rule : RuleIs names inside rule
+  pub is_pattern : IsPatternOf action rule
+
+spelt_pattern : (names : Names) (s : SpeltAction) (at : ℕ) (inside : SpeltRule) (b : AbstractAction) → IsSpeltPattern s at inside → ActionIs names s b → (y : Expression) × RuleIs names inside y × IsPatternOf b y
+spelt_pattern names _ at inside b positive_pattern (y, is, e) = (y, is, inl e)
+spelt_pattern names _ at inside b negative_pattern (y, is, e) = (y, is, inr e)
+
+pattern_there : (names : Names) (r : SpeltRule) (at : ℕ) (inside : SpeltRule) (x : Expression) → HasPattern r at inside → RuleIs names r x → IsPatternThere names inside x
+pattern_there names r at inside x h is =
+    let (p, b, named, has) = action_in_rule names r x h.action h.stands is in
+    let (y, is_rule, pattern) = spelt_pattern names h.action at inside b h.is_pattern named in
+    record { position = p; action = b; stands = has; rule = y; is_rule = is_rule; is_pattern = pattern }
+
+-- the pattern is the inside of its level
+is_level : (x y : Expression) (p : ℕ) (b : AbstractAction) → HasAction x p b → IsPatternOf b y → IsLevel x (level_of p) y
+is_level x y p b has (inl e) = inl (subst (HasAction x p) e has)
+is_level x y p b has (inr e) = inr (subst (HasAction x p) e has)
+
+switch_is : (names : Names) (at : ℕ) (player : Option SpeltName) (b : AbstractAction) → ActionIs names (SpeltAction.switch at player) b → (n : ℕ) × (b ≡ switch n)
+switch_is names at None b e = (0, e)
+switch_is names at (Some name) b (k, is, e) = (k + 1, e)
+
+mutual
+  -- where an action stands, fewer patterns may be opened, or as many
+  nests_at : (limit p : ℕ) (x : Expression) (b : AbstractAction) → NestsWithin limit x → HasAction x p b → (below : ℕ) × (below ≤ limit) × InsideNestsWithin below b
+  nests_at limit p (act q c) b nests (inl (at, same)) = (limit, omega arith, subst (InsideNestsWithin limit) (sym same) nests)
+  nests_at limit p (act q c) b nests (inr has) = nests_inside limit p c b nests has
+  nests_at limit p skip b nests has = absurd has
+  nests_at limit p (sequence x y) b nests (inl has) = nests_at limit p x b nests.0 has
+  nests_at limit p (sequence x y) b nests (inr has) = nests_at limit p y b nests.1 has
+  nests_at limit p fail b nests has = absurd has
+  nests_at limit p (choice x y) b nests (inl has) = nests_at limit p x b nests.0 has
+  nests_at limit p (choice x y) b nests (inr has) = nests_at limit p y b nests.1 has
+  nests_at limit p (star x) b nests has = nests_at limit p x b nests has
+
+  nests_inside : (limit p : ℕ) (c b : AbstractAction) → InsideNestsWithin limit c → HasInside c p b → (below : ℕ) × (below ≤ limit) × InsideNestsWithin below b
+  nests_inside limit p (positive x) b (m, more, nests) has =
+      let (below, few, within) = nests_at m p x b nests has in
+      (below, omega arith, within)
+  nests_inside limit p (negative x) b (m, more, nests) has =
+      let (below, few, within) = nests_at m p x b nests has in
+      (below, omega arith, within)
+  nests_inside limit p _ b nests has = absurd has
+
+pattern_nests : (limit : ℕ) (b : AbstractAction) (y : Expression) → IsPatternOf b y → InsideNestsWithin limit b → (below : ℕ) × (limit ≡ suc below) × NestsWithin below y
+pattern_nests limit b y (inl e) nests = subst (InsideNestsWithin limit) e nests
+pattern_nests limit b y (inr e) nests = subst (InsideNestsWithin limit) e nests
+
+-- a pattern inside as many others as may be nested
+too_deep : (names : Names) (r : SpeltRule) (outer at limit : ℕ) (x : Expression) → HasPatternInside r outer at → limit ≤ outer → NestsWithin limit x → ¬ RuleIs names r x
+too_deep names _ _ at limit x (in_none {r = r} {inside = inside} h) few nests is =
+    let there = pattern_there names r at inside x h is in
+    let (below, fewer, within) = nests_at limit there.position x there.action nests there.stands in
+    let (less, more, nested) = pattern_nests below there.action there.rule there.is_pattern within in
+    absurd (omega arith)
+too_deep names _ _ at limit x (in_one_more {r = r} {inside = inside} {outer = outer} {at_outer = at_outer} h deeper) few nests is =
+    let there = pattern_there names r at_outer inside x h is in
+    let (below, fewer, within) = nests_at limit there.position x there.action nests there.stands in
+    let (less, more, nested) = pattern_nests below there.action there.rule there.is_pattern within in
+    too_deep names inside outer at less there.rule deeper (omega arith) nested there.is_rule
+
 -- Where the fault that is named stands there are no rules by numbers.
-pub rule_fault_fails : (names : Names) (r : SpeltRule) (error : GameError) (x : Expression) → HasRuleFault names r error → error ≢ Memory → length (positions_of x) ≤ most_positions → ¬ RuleIs names r x
-rule_fault_fails names r _ x (unknown_use {action = s} {purpose = purpose} {used = used} {at = at} stands uses h) other few is =
-    let (b, named) = action_in_rule names r x s stands is in
+pub rule_fault_fails : (names : Names) (r : SpeltRule) (error : GameError) (x : Expression) → HasRuleFault names r error → error ≢ Memory → length (positions_of x) ≤ most_positions → NestsWithin most_nested_patterns x → HasNoSwitchInPattern x → ¬ RuleIs names r x
+rule_fault_fails names r _ x (unknown_use {action = s} {purpose = purpose} {used = used} {at = at} stands uses h) other few nests apart is =
+    let (p, b, named, has) = action_in_rule names r x s stands is in
     use_fails names s purpose used at b uses h named
-rule_fault_fails names r _ x (many_positions many) other few is = absurd (omega (arith, positions_spelt names r x is))
-rule_fault_fails names r _ x rule_memory other few is = other refl
+rule_fault_fails names r error x (in_arithmetic {action = s} {e = e} stands has_expression h) other few nests apart is =
+    let (p, b, named, has) = action_in_rule names r x s stands is in
+    expression_fails names s e error b has_expression h other named
+rule_fault_fails names r _ x (switch_in_pattern {at = at} {at_pattern = at_pattern} {inside = within} pattern h) other few nests apart is =
+    let there = pattern_there names r at_pattern within x pattern is in
+    let (q, b, named, has) = action_in_rule names within there.rule (SpeltAction.switch at h.player) h.stands there.is_rule in
+    let (n, e) = switch_is names at h.player b named in
+    apart there.position there.rule (is_level x there.rule there.position there.action there.stands there.is_pattern) q n (subst (HasAction there.rule q) e has)
+rule_fault_fails names r _ x (deep_pattern {at = at} h) other few nests apart is = too_deep names r most_nested_patterns at most_nested_patterns x h (omega arith) nests is
+rule_fault_fails names r _ x (many_positions many) other few nests apart is = absurd (omega (arith, positions_spelt names r x is))
+rule_fault_fails names r _ x rule_memory other few nests apart is = other refl
 
 -- each name of the one list is in the other
 abbrev pub IsAmong : List (List ℕ) → List (List ℕ) → Type 0
@@ -100,9 +248,24 @@ IsAmong few all = (name : List ℕ) → Contains few name → Contains all name
 pub among_same : (few all : List (List ℕ)) → few ≡ all → IsAmong few all
 among_same few all same name has = subst (λ l. Contains l name) same has
 
--- what is wrong with a rule is wrong with it where there are no further names
+-- what is wrong with an expression or a rule is wrong with it where there are no further names
+arithmetic_fault_by : (few all : Names) (e : SpeltExpression) (error : GameError) → ((purpose : Purpose) → IsAmong (names_for few purpose) (names_for all purpose)) → HasArithmeticFault all e error → HasArithmeticFault few e error
+arithmetic_fault_by few all e _ among (unknown_value h) =
+    unknown_value (record {
+      name = h.name;
+      stands = h.stands;
+      no_variable = λ known. h.no_variable (among as_variable h.name.text known);
+      no_piece = λ known. h.no_piece (among as_piece h.name.text known);
+      place = h.place;
+    })
+arithmetic_fault_by few all e _ among (great_number h) = great_number h
+arithmetic_fault_by few all e _ among arithmetic_memory = arithmetic_memory
+
 pub rule_fault_by : (few all : Names) (r : SpeltRule) (error : GameError) → ((purpose : Purpose) → IsAmong (names_for few purpose) (names_for all purpose)) → HasRuleFault all r error → HasRuleFault few r error
 rule_fault_by few all r _ among (unknown_use {purpose = purpose} stands uses h) =
     unknown_use stands uses (record { name = h.name; stands = h.stands; unknown = λ known. h.unknown (among purpose h.name.text known); place = h.place })
+rule_fault_by few all r error among (in_arithmetic stands has h) = in_arithmetic stands has (arithmetic_fault_by few all _ error among h)
+rule_fault_by few all r _ among (switch_in_pattern pattern h) = switch_in_pattern pattern h
+rule_fault_by few all r _ among (deep_pattern h) = deep_pattern h
 rule_fault_by few all r _ among (many_positions many) = many_positions many
 rule_fault_by few all r _ among rule_memory = rule_memory

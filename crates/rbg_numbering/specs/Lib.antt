@@ -3,4 +3,6 @@ pub mod Names
 pub mod Rules
 pub mod Faults
 pub mod NameTables
-pub mod PlainRules
+pub mod Numbered
+pub mod Laws
+pub mod internal

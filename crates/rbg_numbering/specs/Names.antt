@@ -1,6 +1,7 @@
 -- Names and their numbers.
 use Rattle.std.specs.Prelude.{◌≡◌, ℕ, List, Some, map, slice_get}
 use Rattle.rbg_syntax.specs.Tree.{SpeltName}
+use Rattle.rbg_rules.specs.LawfulNames.{AreDifferentNames}
 
 -- the names of things, each list in order of the numbers
 pub record Names : Type 0 where
@@ -16,3 +17,10 @@ IsNumberOf list name n = slice_get list n ≡ Some name.text
 -- the texts of names
 abbrev pub texts_of : List SpeltName → List (List ℕ)
 texts_of names = map (λ name. name.text) names
+
+-- In each of the lists of names all differ.
+pub record HasDifferentNames (names : Names) : Type 0 where
+  pub players : AreDifferentNames names.players
+  pub variables : AreDifferentNames names.variables
+  pub pieces : AreDifferentNames names.pieces
+  pub directions : AreDifferentNames names.directions

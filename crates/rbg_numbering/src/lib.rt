@@ -1,10 +1,15 @@
 //! The rules of a description by numbers: tables of names, look-ups, and actions numbered in order of text.
 #![tactic(auto)]
 
+mod actions;
+mod arithmetic;
 mod error;
+pub mod laws;
 mod name_table;
 mod rules;
+mod tables;
 
 pub use error::{GameError, Thing};
 pub use name_table::NameTable;
-pub use rules::{NameTables, number_rules};
+pub use rules::number_rules;
+pub use tables::NameTables;

@@ -1,30 +1,18 @@
 //! The rules of a description by numbers: names are looked up, and the actions are numbered in order of text.
-ghost use Rattle.std.specs.Prelude.{◌≡◌, ◌<◌, ◌^◌, [], IfOk, IfErr, All, map, option_map, length, false};
-ghost use Rattle.rbg_syntax.specs.Tree.{no_rules, rules_after, sequence};
-ghost use Rattle.rbg_syntax.specs.Views.{name_of, rule_of, action_of as spelt_action_of};
-ghost use Rattle.rbg_syntax.specs.Plain.{IsPlainAction, IsPlainRule, IsPlainWord};
-ghost use Rattle.rbg_rules.specs.Expression.{skip};
-ghost use Rattle.rbg_rules.specs.Translation.{action_of, shows_pattern};
-ghost use Rattle.rbg_numbering.specs.Rules.{ActionIs};
+ghost use Rattle.std.specs.Prelude.{◌≡◌, ◌≤◌, IfOk, IfErr, All, map, length, true};
+ghost use Rattle.rbg_syntax.specs.Formed.{is_formed, is_formed_action};
+ghost use Rattle.rbg_syntax.specs.Tree.{no_rules, rules_after, sequence, act};
+ghost use Rattle.rbg_syntax.specs.Views.{rule_of, action_of};
 ghost use Rattle.rbg_numbering.specs.Faults.{HasRuleFault};
-ghost use Rattle.rbg_numbering.specs.NameTables.{HasLookUpFault};
-ghost use Rattle.rbg_numbering.specs.PlainRules.{names_of, IsWithinLimits, IsPlayer, player_names, HasActionFault};
-ghost use Rattle.rbg_numbering.specs.PlainRules.{AddsPart, AreRulesByNumbers};
+ghost use Rattle.rbg_numbering.specs.Numbered.{names_of, IsWithinLimits, AreRulesByNumbers};
+ghost use Rattle.rbg_numbering.specs.internal.Steps.{AddsRule, AddsParts, HasFaultFrom};
 
-use crate::error::{GameError, Thing};
-use crate::name_table::NameTable;
-use rbg_rules::limits::MAX_POSITIONS;
+use crate::actions::{add_action, open_pattern};
+use crate::error::GameError;
+use crate::tables::NameTables;
+use rbg_rules::limits::{MAX_NESTED_PATTERNS, MAX_POSITIONS};
 use rbg_rules::{Action, Rule, Rules};
-use rbg_syntax::Name;
 use std::alloc::Global;
-
-/// The names that plain rules may use.
-#[derive(Debug, Drop)]
-pub struct NameTables<'a> {
-    pub players: &'a NameTable,
-    pub pieces: &'a NameTable,
-    pub directions: &'a NameTable,
-}
 
 /// The rules by numbers.
 pub fn number_rules(
@@ -32,114 +20,115 @@ pub fn number_rules(
     names: &NameTables<'_>,
     rule: &rbg_syntax::Rule,
 ) -> Result<Rules, GameError>
-    requires plain { IsPlainWord (rule_of rule.now) }
+    requires formed { is_formed (rule_of rule.now) ≡ true }
     requires limits { IsWithinLimits (names_of names.now) }
-    ensures rules { IfOk result (λ x. AreRulesByNumbers (names_of names.now) (rule_of rule.now) x.actions.items x.tree) }
+    ensures rules { IfOk result (AreRulesByNumbers (names_of names.now) (rule_of rule.now)) }
     ensures fault { IfErr result (HasRuleFault (names_of names.now) (rule_of rule.now)) }
 {
     let mut actions = Vec::new(alloc);
+    let tree = number_rule(alloc, names, MAX_NESTED_PATTERNS, rule, &mut actions)?;
+    Ok(Rules { tree, actions })
+}
+
+/// A rule by numbers. Its actions go into the table. So many patterns may still be opened where it stands.
+#[cycle(numbering)]
+fn number_rule(
+    alloc: Global,
+    names: &NameTables<'_>,
+    patterns_left: usize,
+    rule: &rbg_syntax::Rule,
+    actions: &mut Vec<Action>,
+) -> Result<Rule, GameError>
+    requires formed { is_formed (rule_of rule.now) ≡ true }
+    requires limits { IsWithinLimits (names_of names.now) }
+    requires room { length actions.old.items ≤ MAX_POSITIONS }
+    requires nesting { patterns_left ≤ MAX_NESTED_PATTERNS }
+    ensures rule { IfOk result (AddsRule (names_of names.now) patterns_left (rule_of rule.now) actions.old.items actions.new.items) }
+    ensures fault { IfErr result (HasFaultFrom (names_of names.now) patterns_left (length actions.old.items) (rule_of rule.now)) }
+{
     match rule {
-        rbg_syntax::Rule::Act(_) => {
-            let tree = number_part(alloc, names, &mut actions, rule)?;
-            Ok(Rules { tree, actions })
-        }
+        rbg_syntax::Rule::Act(action) => number_act(alloc, names, patterns_left, action, actions),
         rbg_syntax::Rule::Then(parts) => {
-            let tree = number_parts(alloc, names, &mut actions, parts)?;
-            Ok(Rules { tree, actions })
+            let parts = number_parts(alloc, names, patterns_left, parts, actions)?;
+            Ok(Rule::Then(parts))
         }
-        rbg_syntax::Rule::Or(_) | rbg_syntax::Rule::Star(_) => unreachable!(),
+        rbg_syntax::Rule::Or(parts) => {
+            let parts = number_parts(alloc, names, patterns_left, parts, actions)?;
+            Ok(Rule::Or(parts))
+        }
+        rbg_syntax::Rule::Star(part) => {
+            let part = number_rule(alloc, names, patterns_left, part, actions)?;
+            Ok(Rule::Star(Box::new(alloc, part)?))
+        }
     }
 }
 
-/// The parts of a word. Their actions fill the table.
+/// The parts of a sequence or a sum.
+#[cycle(numbering)]
 fn number_parts(
     alloc: Global,
     names: &NameTables<'_>,
-    actions: &mut Vec<Action>,
+    patterns_left: usize,
     parts: &[rbg_syntax::Rule],
-) -> Result<Rule, GameError>
-    requires plain { All (λ part. IsPlainRule (rule_of part)) parts.now }
-    requires limits { IsWithinLimits (names_of names.now) }
-    requires empty { actions.old.items ≡ [] }
-    ensures rules { IfOk result
-        (λ x. AreRulesByNumbers (names_of names.now) (sequence (rules_after no_rules (map rule_of parts.now))) actions.new.items x) }
-    ensures fault { IfErr result (HasRuleFault (names_of names.now) (sequence (rules_after no_rules (map rule_of parts.now)))) }
-{
-    let mut rules = Vec::new(alloc);
-    for part in parts {
-        if actions.len() == MAX_POSITIONS {
-            return Err(GameError::TooMany {
-                what: Thing::Positions,
-            });
-        }
-        rules.push(number_part(alloc, names, actions, part)?)?;
-    }
-    Ok(Rule::Then(rules))
-}
-
-/// One part of a word. Its action takes the next position of the table.
-fn number_part(
-    alloc: Global,
-    names: &NameTables<'_>,
     actions: &mut Vec<Action>,
-    part: &rbg_syntax::Rule,
-) -> Result<Rule, GameError>
-    requires plain { IsPlainRule (rule_of part.now) }
+) -> Result<Vec<Rule>, GameError>
+    requires formed { All (λ part. is_formed (rule_of part) ≡ true) parts.now }
     requires limits { IsWithinLimits (names_of names.now) }
-    requires room { length actions.old.items < MAX_POSITIONS }
-    ensures part { IfOk result (AddsPart (names_of names.now) (rule_of part.now) actions.old.items actions.new.items) }
-    ensures fault { IfErr result (HasRuleFault (names_of names.now) (rule_of part.now)) }
+    requires room { length actions.old.items ≤ MAX_POSITIONS }
+    requires nesting { patterns_left ≤ MAX_NESTED_PATTERNS }
+    ensures parts { IfOk result
+        (λ xs. AddsParts (names_of names.now) patterns_left (map rule_of parts.now) actions.old.items actions.new.items xs.items) }
+    ensures fault { IfErr result
+        (HasFaultFrom (names_of names.now) patterns_left (length actions.old.items) (sequence (rules_after no_rules (map rule_of parts.now)))) }
 {
-    match part {
-        rbg_syntax::Rule::Act(action) => {
-            actions.push(number_action(alloc, names, action)?)?;
-            Ok(Rule::Act(actions.len() as u32))
-        }
-        rbg_syntax::Rule::Then(_) | rbg_syntax::Rule::Or(_) | rbg_syntax::Rule::Star(_) => {
-            unreachable!()
-        }
+    let mut rules = Vec::with_capacity(alloc, parts.len())?;
+    for part in parts {
+        rules.push(number_rule(alloc, names, patterns_left, part, actions)?)?;
     }
+    Ok(rules)
 }
 
-fn number_action(
+/// An action by its position. A pattern takes its position before the actions inside it.
+#[cycle(numbering)]
+fn number_act(
     alloc: Global,
     names: &NameTables<'_>,
+    patterns_left: usize,
     action: &rbg_syntax::Action,
-) -> Result<Action, GameError>
-    requires plain { IsPlainAction (spelt_action_of action.now) }
+    actions: &mut Vec<Action>,
+) -> Result<Rule, GameError>
+    requires formed { is_formed_action (action_of action.now) ≡ true }
     requires limits { IsWithinLimits (names_of names.now) }
-    ensures action { IfOk result (λ a. ActionIs (names_of names.now) (spelt_action_of action.now) (action_of a skip)) }
-    ensures no_pattern { IfOk result (λ a. shows_pattern a ≡ false) }
-    ensures fault { IfErr result (HasActionFault (names_of names.now) (spelt_action_of action.now)) }
+    requires room { length actions.old.items ≤ MAX_POSITIONS }
+    requires nesting { patterns_left ≤ MAX_NESTED_PATTERNS }
+    ensures rule { IfOk result (AddsRule (names_of names.now) patterns_left (act (action_of action.now)) actions.old.items actions.new.items) }
+    ensures fault { IfErr result (HasFaultFrom (names_of names.now) patterns_left (length actions.old.items) (act (action_of action.now))) }
 {
     match action {
-        rbg_syntax::Action::Shift(direction) => Ok(Action::Shift {
-            direction: names.directions.find(direction)?,
-        }),
-        rbg_syntax::Action::On(pieces) => Ok(Action::On {
-            pieces: names.pieces.find_all(alloc, pieces)?,
-        }),
-        rbg_syntax::Action::Off(piece) => Ok(Action::Off {
-            piece: names.pieces.find(piece)?,
-        }),
-        rbg_syntax::Action::Switch { player, .. } => Ok(Action::Switch {
-            player: number_of_player(names.players, player)?,
-        }),
-        rbg_syntax::Action::Assign { .. }
+        rbg_syntax::Action::PositivePattern { at, rule } => {
+            let position = open_pattern(patterns_left, *at, Action::Positive, actions)?;
+            let inside = number_rule(alloc, names, patterns_left - 1, rule, actions)?;
+            Ok(Rule::Pattern {
+                position,
+                inside: Box::new(alloc, inside)?,
+            })
+        }
+        rbg_syntax::Action::NegativePattern { at, rule } => {
+            let position = open_pattern(patterns_left, *at, Action::Negative, actions)?;
+            let inside = number_rule(alloc, names, patterns_left - 1, rule, actions)?;
+            Ok(Rule::Pattern {
+                position,
+                inside: Box::new(alloc, inside)?,
+            })
+        }
+        rbg_syntax::Action::Shift(_)
+        | rbg_syntax::Action::On(_)
+        | rbg_syntax::Action::Off(_)
+        | rbg_syntax::Action::Assign { .. }
         | rbg_syntax::Action::Compare { .. }
-        | rbg_syntax::Action::PositivePattern { .. }
-        | rbg_syntax::Action::NegativePattern { .. } => unreachable!(),
-    }
-}
-
-/// The number of a player, from 1 on. None is the keeper.
-fn number_of_player(table: &NameTable, player: &Option<Name>) -> Result<u16, GameError>
-    requires { length table.now < 2 ^ 16 }
-    ensures number { IfOk result (IsPlayer table.now (option_map name_of player.now)) }
-    ensures fault { IfErr result (HasLookUpFault table.now (player_names (option_map name_of player.now))) }
-{
-    match player {
-        Some(name) => Ok(table.find(name)? + 1),
-        None => Ok(0),
+        | rbg_syntax::Action::Switch { .. } => {
+            let position = add_action(alloc, names, patterns_left, action, actions)?;
+            Ok(Rule::Act(position))
+        }
     }
 }

@@ -1,17 +1,23 @@
 -- A board by the numbers of its names.
-use Rattle.std.specs.Prelude.{◌≡◌, ℕ, ◌<◌, ◌≤◌, ◌⊎◌, List, [], ◌∷◌, ◌++◌, Some, length, slice_get, All}
-use Rattle.std.specs.List.{AllZip}
+use Rattle.std.specs.Prelude.{◌≡◌, ℕ, ◌<◌, ◌≤◌, ◌⊎◌, List, [], ◌∷◌, ◌++◌, Some, length, slice_get, Contains, All}
+use Rattle.std.specs.List.{AllZip, range_with_len}
 use Rattle.rbg_board.specs.Graph.{Graph, IsClosed}
 use Rattle.rbg_board.specs.Cells.{AreDifferent}
 use Rattle.rbg_board.specs.declared.error.BoardError.{BoardError}
 use Rattle.rbg_board.specs.declared.error.BoardError.TheVariants as board_errors
 use Rattle.rbg_syntax.specs.Tree.{SpeltName, SpeltBoard}
 use Rattle.rbg_rules.specs.Limits.{most_directions, most_vertices}
-use Rattle.rbg_rules.specs.LawfulNames.{AreLawfulNames}
+use Rattle.rbg_rules.specs.LawfulNames.{AreDifferentNames, AreLawfulNames}
 use Rattle.rbg_numbering.specs.declared.error.GameError.{GameError}
 use Rattle.rbg_numbering.specs.declared.error.GameError.TheVariants as errors
 use Rattle.rbg_numbering.specs.Names.{IsNumberOf, texts_of}
 use Rattle.rbg_game.specs.Descriptions.{BoardIs}
+
+-- The board has vertices, no more than are allowed, and edges between them alone.
+pub record HasVertices (board : Graph) : Type 0 where
+  pub closed : IsClosed board
+  pub some_vertex : 0 < length board.first
+  pub limit : length board.first ≤ most_vertices
 
 -- The board with these names of directions is the one that is spelt, and has what every game asks of its board.
 pub record MakesBoard
@@ -23,21 +29,23 @@ pub record MakesBoard
   pub is_board : BoardIs (record { directions = directions; pieces = pieces; board = board }) spelt
   pub names : AreLawfulNames directions
   pub few : length directions ≤ most_directions
-  pub closed : IsClosed board
-  pub some_vertex : 0 < length board.first
-  pub vertices : length board.first ≤ most_vertices
+  pub vertices : HasVertices board
   pub first_pieces : All (λ x. x < length pieces) board.first
 
--- n is the number of the text in the new table, which is the old one, or the old one with the text after it.
+-- n is the number of the text in the new table, which is the old one, or, where that lacks the text, the old one with
+-- the text after it.
 pub record Joins (old new : List (List ℕ)) (text : List ℕ) (n : ℕ) : Type 0 where
   pub number : slice_get new n ≡ Some text
-  pub table : ((n < length old) × (new ≡ old)) ⊎ ((n ≡ length old) × (new ≡ old ++ text ∷ []))
+  pub table :
+      ((n < length old) × (new ≡ old))
+      ⊎ ((n ≡ length old) × (new ≡ old ++ text ∷ []) × (¬ Contains old text))
 
--- Four names by their numbers in a table: where the numbers differ, the table is the names in order.
+-- Names by their numbers in a table of different names: where the numbers differ, the table is the names in order.
 pub record NumbersDirections (names : List SpeltName) (numbers : List ℕ) (table : List (List ℕ)) : Type 0 where
-  pub few : length table ≤ 4
+  pub few : length table ≤ length names
+  pub differ : AreDifferentNames table
   pub named : AllZip (IsNumberOf table) names numbers
-  pub in_order : AreDifferent numbers → (numbers ≡ 0 ∷ 1 ∷ 2 ∷ 3 ∷ []) × (table ≡ texts_of names)
+  pub in_order : AreDifferent numbers → (numbers ≡ range_with_len 0 (length names)) × (table ≡ texts_of names)
 
 -- what a board's own refusal is called here: out of memory has one name in every layer
 abbrev pub refusal_of : BoardError → GameError

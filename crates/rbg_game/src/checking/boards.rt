@@ -2,17 +2,19 @@
 ghost use Rattle.std.specs.Prelude.{◌≡◌, ◌<◌, ◌≤◌, ◌^◌, ◌∷◌, [], length, map, flat_map, IfOk, OnOk, IfErr};
 ghost use Rattle.std.specs.List.{AllZip};
 ghost use Rattle.rbg_board.specs.Cells.{rows_of};
-ghost use Rattle.rbg_syntax.specs.Plain.{HasRectangle};
-ghost use Rattle.rbg_syntax.specs.Tree.{rectangle};
+ghost use Rattle.rbg_syntax.specs.Tree.{rectangle, hexagon};
 ghost use Rattle.rbg_syntax.specs.Views.{name_of, names_of, board_of};
+ghost use Rattle.rbg_rules.specs.LawfulNames.{AreLawfulNames};
 ghost use Rattle.rbg_numbering.specs.Names.{IsNumberOf};
-ghost use Rattle.rbg_game.specs.Faults.{HasBoardFault};
 ghost use Rattle.rbg_numbering.specs.NameTables.{HasLookUpFault};
-ghost use Rattle.rbg_game.specs.internal.Boards.{MakesBoard, Joins, NumbersDirections, refusal_of};
+ghost use Rattle.rbg_game.specs.Faults.{HasBoardFault};
+ghost use Rattle.rbg_game.specs.internal.Boards.{MakesBoard, HasVertices, refusal_of};
 
-use rbg_board::{Board, BoardError, rectangle};
+use crate::checking::directions::number_directions;
+use crate::checking::graphs::make_graph;
+use rbg_board::{Board, BoardError, MAX_VERTICES, hexagon, rectangle};
 use rbg_numbering::{GameError, NameTable};
-use rbg_rules::limits::{MAX_DIRECTIONS, MAX_PIECES};
+use rbg_rules::limits::MAX_PIECES;
 use rbg_syntax::Name;
 use std::alloc::Global;
 
@@ -40,47 +42,26 @@ fn number_rows(
     Ok(numbers)
 }
 
-/// The number of a direction. A name that is new joins the table.
-fn number_direction(table: &mut NameTable, name: &Name) -> Result<u16, GameError>
-    requires { length table.old < 4 }
-    ensures number { IfOk result (Joins table.old table.new name.now.text.items) }
-    ensures memory { IfErr result (λ error. error ≡ GameError.Memory) }
-{
-    let number = match table.number_of(&name.text) {
-        Some(number) => number,
-        None => {
-            let number = table.len();
-            table.insert(name)?;
-            number
-        }
-    };
-    Ok(number as u16)
-}
-
-/// The numbers of four directions, and the table in which they are numbered.
-fn number_directions(alloc: Global, names: &[Name; 4]) -> Result<([u16; 4], NameTable), GameError>
-    ensures numbers { IfOk result (λ numbered. NumbersDirections (map name_of names.now) numbered.0 numbered.1) }
-    ensures memory { IfErr result (λ error. error ≡ GameError.Memory) }
-{
-    let mut table = NameTable::new(alloc);
-    let [up, down, left, right] = names;
-    let numbers = [
-        number_direction(&mut table, up)?,
-        number_direction(&mut table, down)?,
-        number_direction(&mut table, left)?,
-        number_direction(&mut table, right)?,
-    ];
-    Ok((numbers, table))
-}
-
 /// What a board is refused for. Out of memory has one name in every layer.
-fn refusal_of(error: BoardError) -> GameError
+pub(crate) fn refusal_of(error: BoardError) -> GameError
     ensures { result ≡ refusal_of error }
 {
     match error {
         BoardError::Memory => GameError::Memory,
         error => GameError::Board { error },
     }
+}
+
+/// A board with the names of its directions.
+pub(crate) fn name_board(directions: NameTable, board: Board) -> NamedBoard
+    ensures directions { result.directions ≡ directions }
+    ensures board { result.board ≡ board }
+    ensures names { AreLawfulNames directions }
+    ensures vertices { HasVertices board }
+{
+    prove!(directions.len() <= usize::MAX);
+    prove!(board.len() <= MAX_VERTICES);
+    NamedBoard { directions, board }
 }
 
 /// The board of a rectangle.
@@ -96,11 +77,31 @@ fn make_rectangle(
     ensures fault { IfErr result (HasBoardFault pieces.now (rectangle (map name_of names.now) (map names_of rows.now))) }
 {
     let cells = number_rows(alloc, pieces, rows)?;
-    let (numbers, directions) = number_directions(alloc, names)?;
-    prove!(pieces.len() <= MAX_PIECES);
-    prove!(directions.len() <= MAX_DIRECTIONS);
+    let mut numbers = [0; 4];
+    let directions = number_directions(alloc, names, &mut numbers)?;
     match rectangle(alloc, numbers, &cells) {
-        Ok(board) => Ok(NamedBoard { directions, board }),
+        Ok(board) => Ok(name_board(directions, board)),
+        Err(error) => Err(refusal_of(error)),
+    }
+}
+
+/// The board of a hexagon.
+fn make_hexagon(
+    alloc: Global,
+    pieces: &NameTable,
+    names: &[Name; 6],
+    rows: &[Vec<Name>],
+) -> Result<NamedBoard, GameError>
+    requires { length pieces.now ≤ MAX_PIECES }
+    ensures board { IfOk result
+        (λ b. MakesBoard pieces.now (hexagon (map name_of names.now) (map names_of rows.now)) b.directions b.board) }
+    ensures fault { IfErr result (HasBoardFault pieces.now (hexagon (map name_of names.now) (map names_of rows.now))) }
+{
+    let cells = number_rows(alloc, pieces, rows)?;
+    let mut numbers = [0; 6];
+    let directions = number_directions(alloc, names, &mut numbers)?;
+    match hexagon(alloc, numbers, &cells) {
+        Ok(board) => Ok(name_board(directions, board)),
         Err(error) => Err(refusal_of(error)),
     }
 }
@@ -112,8 +113,7 @@ pub(crate) fn make_board(
     pieces: &NameTable,
     board: &rbg_syntax::Board,
 ) -> Result<NamedBoard, GameError>
-    requires rectangle { HasRectangle (board_of board.now) }
-    requires few { length pieces.now ≤ MAX_PIECES }
+    requires { length pieces.now ≤ MAX_PIECES }
     ensures board { IfOk result (λ b. MakesBoard pieces.now (board_of board.now) b.directions b.board) }
     ensures fault { IfErr result (HasBoardFault pieces.now (board_of board.now)) }
 {
@@ -121,6 +121,9 @@ pub(crate) fn make_board(
         rbg_syntax::Board::Rectangle { directions, rows } => {
             make_rectangle(alloc, pieces, directions, rows)
         }
-        rbg_syntax::Board::Hexagon { .. } | rbg_syntax::Board::Graph { .. } => unreachable!(),
+        rbg_syntax::Board::Hexagon { directions, rows } => {
+            make_hexagon(alloc, pieces, directions, rows)
+        }
+        rbg_syntax::Board::Graph { vertices } => make_graph(alloc, pieces, vertices),
     }
 }

@@ -3,16 +3,12 @@ use Rattle.std.specs.Prelude.{◌≢◌, IfOk, IfErr}
 use Rattle.std.proofs.lemmas.Result.{IfErr-weaker}
 use Rattle.rbg_syntax.specs.Tree.{SpeltDescription}
 use Rattle.rbg_syntax.specs.Descriptions.{description_of}
-use Rattle.rbg_syntax.specs.Plain.{IsPlain}
 use Rattle.rbg_rules.specs.State.{AbstractGame}
 use Rattle.rbg_numbering.specs.declared.error.GameError.TheVariants.{Memory}
 use Rattle.rbg_game.specs.Descriptions.{IsGameOf}
 use Rattle.rbg_game.specs.Faults.{HasFault}
 use Rattle.rbg_game.proofs.FaultLaw.{no_game_with_fault}
 use Rattle.rbg_game.proofs.checking.check.Goals as goal
-
-pub check_parts-requires : goal.check_parts-requires
-check_parts-requires c = subst IsPlain (sym c.into_parts.ensures.same) c.requires
 
 pub returns-clause-game : goal.returns-clause-game
 returns-clause-game c =

@@ -1,40 +1,45 @@
 use Rattle.std.proofs.Common.{◌≡◌, length, map, subst, sym, arith}
 use Rattle.std.proofs.lemmas.List.{length-map}
-use Rattle.std.proofs.lemmas.Result.{err_from_is_err_and}
 use Rattle.rbg_board.specs.Cells.{rows_of}
 use Rattle.rbg_board.specs.Rectangle.{IsRectangle, MakesRectangle, RectangleRefusal}
 use Rattle.rbg_syntax.specs.Views.{name_of, names_of}
 use Rattle.rbg_syntax.specs.Tree.{rectangle}
 use Rattle.rbg_numbering.specs.declared.error.GameError.{GameError}
-use Rattle.rbg_game.specs.Faults.{HasBoardFault, board_memory}
 use Rattle.rbg_numbering.proofs.LookUps.{passed_on}
-use Rattle.rbg_game.proofs.NamedRectangles.{cells_fault, rectangle_made, rectangle_fault}
+use Rattle.rbg_game.specs.Faults.{HasBoardFault, no_rectangle, board_memory}
+use Rattle.rbg_game.proofs.NamedRows.{cells_fault, rectangle_made, by_refusal, rows_fault}
 use Rattle.rbg_game.proofs.checking.boards.make_rectangle.Goals as goal
 
 pub returns-in_err-cells-clause-fault : goal.returns-in_err-cells-clause-fault
 returns-in_err-cells-clause-fault c =
-    let p = err_from_is_err_and c.from_residual.result c.from_residual.ensures.1 in
-    rw (p.1, p.2) (cells_fault c.args.pieces.now (map name_of c.args.names.now) (map names_of c.args.rows.now) c.in_err-cells.field-0.0 c.in_err-cells.ensures.fault)
-
-pub returns-in_err-numbers-clause-fault : goal.returns-in_err-numbers-clause-fault
-returns-in_err-numbers-clause-fault c =
     let P : GameError → Type 0 = λ e. HasBoardFault c.args.pieces.now (rectangle (map name_of c.args.names.now) (map names_of c.args.rows.now)) e in
-    passed_on c.from_residual-in_err-numbers.result c.in_err-numbers.field-0.0 P c.from_residual-in_err-numbers.ensures.1
-    (subst P (sym c.in_err-numbers.ensures.memory) board_memory)
+    passed_on c.from_residual.result c.in_err-cells.field-0.0 P c.from_residual.ensures.1
+    (cells_fault c.args.pieces.now (rectangle (map name_of c.args.names.now) (map names_of c.args.rows.now)) c.in_err-cells.field-0.0 c.in_err-cells.ensures.fault)
+
+pub returns-in_err-directions-clause-fault : goal.returns-in_err-directions-clause-fault
+returns-in_err-directions-clause-fault c =
+    let P : GameError → Type 0 = λ e. HasBoardFault c.args.pieces.now (rectangle (map name_of c.args.names.now) (map names_of c.args.rows.now)) e in
+    passed_on c.from_residual-in_err-directions.result c.in_err-directions.field-0.0 P c.from_residual-in_err-directions.ensures.1
+    (subst P (sym c.in_err-directions.ensures.memory) board_memory)
 
 pub returns-in-Ok-clause-board : goal.returns-in-Ok-clause-board
 returns-in-Ok-clause-board c =
-    let numbers = c.in_ok-numbers.numbers in
+    let names = map name_of c.args.names.now in
+    let rows = map names_of c.args.rows.now in
+    let numbers = c.number_directions.new.numbers in
     let board = c.in-Ok.board in
     let four : length (map name_of c.args.names.now) ≡ 4 = omega (arith, length-map c.args.names.now name_of) in
     let makes = subst (λ cells. MakesRectangle numbers (rows_of cells)) c.deref.ensures.value c.in-Ok.ensures.lawful in
     let is = subst (λ cells. IsRectangle numbers (rows_of cells) board) c.deref.ensures.value c.in-Ok.ensures.board in
-    rectangle_made c.args.pieces.now (map name_of c.args.names.now) (map names_of c.args.rows.now) (rows_of c.in_ok-cells.cells.items) numbers c.in_ok-numbers.directions board four c.in_ok-cells.ensures.numbers c.in_ok-numbers.ensures.numbers c.len-2.ensures.lawful makes is c.in-Ok.ensures.width
+    rw (c.name_board.ensures.directions, c.name_board.ensures.board)
+    (rectangle_made c.args.pieces.now names rows (rows_of c.in_ok-cells.cells.items) numbers c.in_ok-directions.directions board c.in_ok-cells.ensures.numbers c.in_ok-directions.ensures.numbers c.name_board.ensures.names c.name_board.ensures.vertices four makes is c.in-Ok.ensures.width)
 
 pub returns-clause-fault : goal.returns-clause-fault
 returns-clause-fault c =
-    let numbers = c.in_ok-numbers.numbers in
+    let names = map name_of c.args.names.now in
+    let rows = map names_of c.args.rows.now in
+    let numbers = c.number_directions.new.numbers in
     let error = c.in-Err.error in
     let refused = subst (λ cells. RectangleRefusal numbers (rows_of cells) error) c.deref.ensures.value c.in-Err.ensures.refusal in
     rw c.refusal_of.ensures
-    (rectangle_fault c.args.pieces.now (map name_of c.args.names.now) (map names_of c.args.rows.now) numbers (rows_of c.in_ok-cells.cells.items) c.in_ok-numbers.directions error c.in_ok-cells.ensures.numbers c.in_ok-numbers.ensures.numbers c.len-2.ensures.lawful.differ refused)
+    (by_refusal c.args.pieces.now (rectangle names rows) error (λ is_fault. no_rectangle (rows_fault RectangleRefusal c.args.pieces.now names rows numbers (rows_of c.in_ok-cells.cells.items) c.in_ok-directions.directions error c.in_ok-cells.ensures.numbers c.in_ok-directions.ensures.numbers refused is_fault)))

@@ -1,0 +1,118 @@
+-- Boards of rows by the numbers of their names: the board, and what is wrong with it.
+use Rattle.std.proofs.Common.{◌≡◌, ◌≢◌, ◌↔◌, ℕ, ◌<◌, List, [], ◌∷◌, Some, length, get_or, slice_get, slice_index, All, sym, ap, ◌∙◌, subst, arith}
+use Rattle.std.specs.List.{AllZip, range_with_len}
+use Rattle.std.proofs.lemmas.List.{length-map, get_or-map}
+use Rattle.std.proofs.lemmas.Option.{slice_get-get_or}
+use Rattle.std.proofs.lemmas.Slice.Zip.{AllZip-long}
+use Rattle.rbg_syntax.specs.Tree.{SpeltName, SpeltBoard, rectangle, hexagon}
+use Rattle.rbg_board.specs.Graph.{Graph, HasWidth}
+use Rattle.rbg_board.specs.Cells.{Rows, width_of}
+use Rattle.rbg_board.specs.Rectangle.{IsRectangle, MakesRectangle}
+use Rattle.rbg_board.specs.Hexagon.{IsHexagon, MakesHexagon}
+use Rattle.rbg_board.specs.declared.error.BoardError.{BoardError}
+use Rattle.rbg_board.specs.declared.error.BoardError.TheVariants as board_errors
+use Rattle.rbg_rules.specs.LawfulNames.{AreDifferentNames, AreLawfulNames}
+use Rattle.rbg_numbering.specs.declared.error.GameError.{GameError}
+use Rattle.rbg_numbering.specs.declared.error.GameError.TheVariants as errors
+use Rattle.rbg_numbering.specs.Names.{IsNumberOf, texts_of}
+use Rattle.rbg_game.specs.Faults.{board_pieces, HasRowsFault, HasBoardFault, unknown_piece, board_memory}
+use Rattle.rbg_numbering.specs.NameTables.{HasLookUpFault, not_there, no_memory as look_up_memory}
+use Rattle.rbg_game.specs.internal.Boards.{HasVertices, MakesBoard, NumbersDirections, refusal_of}
+use Rattle.rbg_numbering.proofs.Lists.{AllZip-at}
+use Rattle.rbg_game.proofs.BoardNames.{rows_below}
+
+-- Directions.
+
+-- the text of the name at a place
+text_at : (names : List SpeltName) (i : ℕ) (d : SpeltName) → i < length names → slice_get (texts_of names) i ≡ Some (get_or names i d).text
+text_at names i d within = slice_get-get_or (texts_of names) i d.text (omega (arith, length-map names (λ (name : SpeltName). name.text))) ∙ ap Some (get_or-map (λ (name : SpeltName). name.text) names i d d.text within)
+
+-- numbers are equal exactly where the names are
+numbers_agree : (table : List (List ℕ)) (names : List SpeltName) (numbers : List ℕ) → AreDifferentNames table → AllZip (IsNumberOf table) names numbers → (i j : ℕ) → i < length names → j < length names → (slice_index numbers i ≡ slice_index numbers j) ↔ (slice_get (texts_of names) i ≡ slice_get (texts_of names) j)
+numbers_agree table names numbers differ named i j i_within j_within =
+    let none : SpeltName = record { text = []; at = 0 } in
+    let at_i : slice_get table (get_or numbers i 0) ≡ Some (get_or names i none).text = AllZip-at (IsNumberOf table) names numbers i none 0 named i_within in
+    let at_j : slice_get table (get_or numbers j 0) ≡ Some (get_or names j none).text = AllZip-at (IsNumberOf table) names numbers j none 0 named j_within in
+    let text_i = text_at names i none i_within in
+    let text_j = text_at names j none j_within in (
+      λ same. text_i ∙ sym at_i ∙ ap (slice_get table) same ∙ at_j ∙ sym text_j,
+      λ same. differ.one_number (get_or numbers i 0) (get_or numbers j 0) (get_or names i none).text at_i (at_j ∙ sym text_j ∙ sym same ∙ text_i),
+    )
+
+-- numbers that differ are the first numbers in turn
+in_turn : (names : List SpeltName) (numbers : List ℕ) (count : ℕ) → length names ≡ count → numbers ≡ range_with_len 0 (length names) → numbers ≡ range_with_len 0 count
+in_turn names numbers count long is = is ∙ ap (range_with_len 0) long
+
+-- The board.
+
+module _ (pieces : List (List ℕ)) (names : List SpeltName) (rows : List (List SpeltName)) (cells : List (List ℕ)) (numbers : List ℕ) (table : List (List ℕ)) (board : Graph)
+    (named : AllZip (AllZip (IsNumberOf pieces)) rows cells) (numbered : NumbersDirections names numbers table) (lawful : AreLawfulNames table) (vertices : HasVertices board) where
+  pub rectangle_made : length names ≡ 4 → MakesRectangle numbers cells → IsRectangle numbers cells board → HasWidth (width_of numbers) board → MakesBoard pieces (rectangle names rows) table board
+  rectangle_made four makes is wide =
+      let in_order = numbered.in_order makes.different in
+      let first : numbers ≡ 0 ∷ 1 ∷ 2 ∷ 3 ∷ [] = in_turn names numbers 4 four in_order.0 in
+      record {
+        is_board = record {
+          cells = cells;
+          named = named;
+          directions = in_order.1;
+          differ = lawful.differ;
+          makes = subst (λ ds. MakesRectangle ds cells) first makes;
+          board = subst (λ ds. IsRectangle ds cells board) first is;
+          width = subst (λ ds. HasWidth (width_of ds) board) first wide;
+        };
+        names = lawful;
+        few = omega (arith, numbered.few, four);
+        vertices = vertices;
+        first_pieces = subst (All (λ x. x < length pieces)) (sym is.first_pieces) (rows_below pieces rows cells named);
+      }
+
+  pub hexagon_made : length names ≡ 6 → MakesHexagon numbers cells → IsHexagon numbers cells board → HasWidth (width_of numbers) board → MakesBoard pieces (hexagon names rows) table board
+  hexagon_made six makes is wide =
+      let in_order = numbered.in_order makes.different in
+      let first : numbers ≡ 0 ∷ 1 ∷ 2 ∷ 3 ∷ 4 ∷ 5 ∷ [] = in_turn names numbers 6 six in_order.0 in
+      record {
+        is_board = record {
+          cells = cells;
+          named = named;
+          directions = in_order.1;
+          differ = lawful.differ;
+          makes = subst (λ ds. MakesHexagon ds cells) first makes;
+          board = subst (λ ds. IsHexagon ds cells board) first is;
+          width = subst (λ ds. HasWidth (width_of ds) board) first wide;
+        };
+        names = lawful;
+        few = omega (arith, numbered.few, six);
+        vertices = vertices;
+        first_pieces = subst (All (λ x. x < length pieces)) (sym is.first_pieces) (rows_below pieces rows cells named);
+      }
+
+-- Faults.
+
+-- an unknown piece is a fault of the board
+pub cells_fault : (pieces : List (List ℕ)) (board : SpeltBoard) (error : GameError) → HasLookUpFault pieces (board_pieces board) error → HasBoardFault pieces board error
+cells_fault pieces board _ (not_there h) = unknown_piece h
+cells_fault pieces board _ look_up_memory = board_memory
+
+-- what a generator refuses is a fault of the board, unless memory ran out
+pub by_refusal : (pieces : List (List ℕ)) (board : SpeltBoard) (error : BoardError) → (error ≢ board_errors.Memory → HasBoardFault pieces board (errors.Board error)) → HasBoardFault pieces board (refusal_of error)
+by_refusal pieces board board_errors.NoCell fault = fault (λ memory. cc)
+by_refusal pieces board (board_errors.RowLength row) fault = fault (λ memory. cc)
+by_refusal pieces board board_errors.TooManyVertices fault = fault (λ memory. cc)
+by_refusal pieces board board_errors.SameDirection fault = fault (λ memory. cc)
+by_refusal pieces board board_errors.UnknownVertex fault = fault (λ memory. cc)
+by_refusal pieces board board_errors.SameVertex fault = fault (λ memory. cc)
+by_refusal pieces board board_errors.Memory fault = board_memory
+
+-- what a generator refuses is a fault of the rows
+pub rows_fault : (Refusal : List ℕ → Rows → BoardError → Type 0) (pieces : List (List ℕ)) (names : List SpeltName) (rows : List (List SpeltName)) (numbers : List ℕ) (cells : List (List ℕ)) (table : List (List ℕ)) (error : BoardError) → AllZip (AllZip (IsNumberOf pieces)) rows cells → NumbersDirections names numbers table → Refusal numbers cells error → error ≢ board_errors.Memory → HasRowsFault Refusal pieces names rows error
+rows_fault Refusal pieces names rows numbers cells table error named numbered refused is_fault =
+    record {
+      directions = numbers;
+      cells = cells;
+      one_each = AllZip-long (IsNumberOf table) names numbers numbered.named;
+      numbered = numbers_agree table names numbers numbered.differ numbered.named;
+      named = named;
+      refused = refused;
+      is_fault = is_fault;
+    }

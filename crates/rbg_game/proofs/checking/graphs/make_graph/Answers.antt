@@ -1,0 +1,83 @@
+use Rattle.std.proofs.Common.{◌≡◌, ℕ, List, length, map, ap, ◌∙◌, subst, sym, arith}
+use Rattle.std.specs.List.{AllZip}
+use Rattle.std.proofs.lemmas.List.{length-map}
+use Rattle.std.proofs.lemmas.Slice.Zip.{AllZip-long}
+use Rattle.rbg_board.specs.Cells.{width_of}
+use Rattle.rbg_board.specs.Graph.{HasWidth}
+use Rattle.rbg_board.specs.Vertices.{written_of}
+use Rattle.rbg_board.specs.Written.{Written, directions_of, IsWritten, MakesGraph, GraphRefusal}
+use Rattle.rbg_board.specs.declared.graphs.Cell.{Cell}
+use Rattle.rbg_syntax.specs.Tree.{SpeltVertex, graph}
+use Rattle.rbg_syntax.specs.Views.{vertex_of}
+use Rattle.rbg_rules.specs.LawfulNames.{AreDifferentNames}
+use Rattle.rbg_numbering.specs.declared.error.GameError.{GameError}
+use Rattle.rbg_numbering.specs.Names.{IsNumberOf}
+use Rattle.rbg_numbering.proofs.LookUps.{passed_on}
+use Rattle.rbg_game.specs.Descriptions.{vertex_names}
+use Rattle.rbg_game.specs.Faults.{board_pieces, HasBoardFault, many_directions, no_graph, many_vertices, board_memory}
+use Rattle.rbg_game.specs.internal.Graphs.{IsCell}
+use Rattle.rbg_game.proofs.NamedRows.{cells_fault, by_refusal}
+use Rattle.rbg_game.proofs.NamedGraphs.{graph_made, graph_fault}
+use Rattle.rbg_game.proofs.checking.graphs.make_graph.Goals as goal
+
+pub returns-in_err-first-clause-fault : goal.returns-in_err-first-clause-fault
+returns-in_err-first-clause-fault c =
+    let P : GameError → Type 0 = λ e. HasBoardFault c.args.pieces.now (graph (map vertex_of c.args.vertices.now)) e in
+    passed_on c.from_residual.result c.in_err-first.field-0.0 P c.from_residual.ensures.1 (cells_fault c.args.pieces.now (graph (map vertex_of c.args.vertices.now)) c.in_err-first.field-0.0 c.in_err-first.ensures.fault)
+
+pub returns-in_err-directions-clause-fault : goal.returns-in_err-directions-clause-fault
+returns-in_err-directions-clause-fault c =
+    let P : GameError → Type 0 = λ e. HasBoardFault c.args.pieces.now (graph (map vertex_of c.args.vertices.now)) e in
+    passed_on c.from_residual-in_err-directions.result c.in_err-directions.field-0.0 P c.from_residual-in_err-directions.ensures.1 (subst P (sym c.in_err-directions.ensures.memory) board_memory)
+
+pub returns-then-len-gt-MAX_DIRECTIONS-clause-fault : goal.returns-then-len-gt-MAX_DIRECTIONS-clause-fault
+returns-then-len-gt-MAX_DIRECTIONS-clause-fault c = many_directions c.in_ok-directions.ensures.order (omega (arith, c.if-len-gt-MAX_DIRECTIONS.true, c.len.ensures.count))
+
+pub returns-then-vertices-gt-MAX_VERTICES-clause-fault : goal.returns-then-vertices-gt-MAX_VERTICES-clause-fault
+returns-then-vertices-gt-MAX_VERTICES-clause-fault c = no_graph (many_vertices (omega (arith, c.if-vertices-gt-MAX_VERTICES.true, length-map c.args.vertices.now vertex_of)))
+
+pub number_cells-requires-clause-pieces : goal.number_cells-requires-clause-pieces
+number_cells-requires-clause-pieces c =
+    let vertices = c.args.vertices.now in
+    ap length c.deref.ensures.value
+    ∙ AllZip-long (IsNumberOf c.args.pieces.now) (board_pieces (graph (map vertex_of vertices))) c.in_ok-first.first.items c.in_ok-first.ensures.numbers
+    ∙ length-map (map vertex_of vertices) (λ (v : SpeltVertex). v.piece)
+    ∙ length-map vertices vertex_of
+
+pub returns-in_err-cells-clause-fault : goal.returns-in_err-cells-clause-fault
+returns-in_err-cells-clause-fault c =
+    let P : GameError → Type 0 = λ e. HasBoardFault c.args.pieces.now (graph (map vertex_of c.args.vertices.now)) e in
+    passed_on c.from_residual-in_err-cells.result c.in_err-cells.field-0.0 P c.from_residual-in_err-cells.ensures.1 (subst P (sym c.in_err-cells.ensures.memory) board_memory)
+
+-- the cells are numbered by the names of the vertices
+numbered_cells : (pieces directions names : List (List ℕ)) (vertices : List SpeltVertex) (written : List Written) → names ≡ vertex_names vertices → AllZip (IsCell pieces directions names) vertices written → AllZip (IsCell pieces directions (vertex_names vertices)) vertices written
+numbered_cells pieces directions names vertices written are all = subst (λ ns. AllZip (IsCell pieces directions ns) vertices written) are all
+
+pub returns-in-Ok-clause-board : goal.returns-in-Ok-clause-board
+returns-in-Ok-clause-board c =
+    let pieces = c.args.pieces.now in
+    let vertices = map vertex_of c.args.vertices.now in
+    let directions = c.in_ok-directions.directions in
+    let written = written_of c.in_ok-cells.cells.items in
+    let board = c.in-Ok.board in
+    let differ : AreDifferentNames (vertex_names vertices) = subst AreDifferentNames c.in_ok-names.ensures.names c.in_ok-names.ensures.differ in
+    let named = subst (λ (ns : List ℕ). AllZip (IsNumberOf pieces) (board_pieces (graph vertices)) ns) (sym c.deref.ensures.value) c.in_ok-first.ensures.numbers in
+    let cells = numbered_cells pieces directions c.in_ok-names.names vertices written c.in_ok-names.ensures.names (c.in_ok-cells.ensures.cells pieces named) in
+    let makes = subst (λ (cs : List Cell). MakesGraph (written_of cs)) c.deref-2.ensures.value c.in-Ok.ensures.lawful in
+    let is = subst (λ (cs : List Cell). IsWritten (written_of cs) board) c.deref-2.ensures.value c.in-Ok.ensures.board in
+    let wide = subst (λ (cs : List Cell). HasWidth (width_of (directions_of (written_of cs))) board) c.deref-2.ensures.value c.in-Ok.ensures.width in
+    rw (c.name_board.ensures.directions, c.name_board.ensures.board)
+    (graph_made pieces directions vertices written differ cells board c.in_ok-directions.ensures.order c.name_board.ensures.names (omega (arith, c.if-len-gt-MAX_DIRECTIONS.false, c.len.ensures.count)) c.name_board.ensures.vertices makes is wide)
+
+pub returns-clause-fault : goal.returns-clause-fault
+returns-clause-fault c =
+    let pieces = c.args.pieces.now in
+    let vertices = map vertex_of c.args.vertices.now in
+    let directions = c.in_ok-directions.directions in
+    let written = written_of c.in_ok-cells.cells.items in
+    let error = c.in-Err.error in
+    let differ : AreDifferentNames (vertex_names vertices) = subst AreDifferentNames c.in_ok-names.ensures.names c.in_ok-names.ensures.differ in
+    let named = subst (λ (ns : List ℕ). AllZip (IsNumberOf pieces) (board_pieces (graph vertices)) ns) (sym c.deref.ensures.value) c.in_ok-first.ensures.numbers in
+    let cells = numbered_cells pieces directions c.in_ok-names.names vertices written c.in_ok-names.ensures.names (c.in_ok-cells.ensures.cells pieces named) in
+    let refused = subst (λ (cs : List Cell). GraphRefusal (written_of cs) error) c.deref-2.ensures.value c.in-Err.ensures.refusal in
+    rw c.refusal_of.ensures (by_refusal pieces (graph vertices) error (λ is_fault. no_graph (graph_fault pieces directions vertices written differ cells error refused is_fault)))

@@ -1,0 +1,16 @@
+use Rattle.std.proofs.Common.{ℕ, List, map, take}
+use Rattle.std.specs.List.{AllZip}
+use Rattle.rbg_board.specs.Vertices.{written_of}
+use Rattle.rbg_syntax.specs.Tree.{graph}
+use Rattle.rbg_syntax.specs.Views.{vertex_of}
+use Rattle.rbg_numbering.specs.Names.{IsNumberOf}
+use Rattle.rbg_game.specs.Faults.{board_pieces}
+use Rattle.rbg_game.specs.internal.Graphs.{IsCell}
+use Rattle.rbg_game.proofs.checking.graphs.number_cells.Given as goal
+
+-- where the numbers are those of the pieces in a table
+abbrev pub invariant-loop-place : goal.invariant-loop-place
+invariant-loop-place l =
+    (table : List (List ℕ))
+    → AllZip (IsNumberOf table) (board_pieces (graph (map vertex_of l.vertices))) l.pieces
+    → AllZip (IsCell table l.directions l.names) (map vertex_of (take l.place l.vertices)) (written_of l.cells.items)

@@ -1,0 +1,10 @@
+use Rattle.rbg_game.specs.declared.error.LoadError.TheVariants as errors
+use Rattle.rbg_game.proofs.LoadingLemmas.{refused_by, refused_in_checks}
+use Rattle.rbg_game.proofs.loading.load.Goals as goal
+
+pub returns-in_err-check-clause-refused : goal.returns-in_err-check-clause-refused
+returns-in_err-check-clause-refused c =
+    let text = c.args.text.now in
+    let error = c.in_err-check.field-0.0 in
+    refused_by c.from_residual-in_err-check.result text (errors.Game error) c.from_residual-in_err-check.ensures.1
+    (refused_in_checks text _ error c.in_ok-description.ensures.spelt c.in_err-check.ensures.fault c.in_err-check.ensures.refused)

@@ -1,0 +1,10 @@
+-- The actions so far are those of the parts that were read.
+use Rattle.std.proofs.Common.{map, take}
+use Rattle.rbg_syntax.specs.Views.{rule_of}
+use Rattle.rbg_numbering.specs.Numbered.{names_of}
+use Rattle.rbg_numbering.specs.internal.Steps.{AddsParts}
+use Rattle.rbg_numbering.proofs.rules.+numbering.Given as goal
+
+abbrev pub invariant-number_parts-loop-part : goal.invariant-number_parts-loop-part
+invariant-number_parts-loop-part l =
+    AddsParts (names_of l.names) l.patterns_left (map rule_of (take l.part-index l.parts)) l.initial.actions.items l.actions.items l.rules.items

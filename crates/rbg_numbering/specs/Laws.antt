@@ -1,0 +1,27 @@
+-- Laws: a rule is one expression by numbers at most; with a fault it is none.
+use Rattle.std.specs.Prelude.{◌≡◌, ◌≢◌}
+use Rattle.rbg_syntax.specs.Tree.{SpeltRule}
+use Rattle.rbg_rules.specs.Expression.{Expression}
+use Rattle.rbg_numbering.specs.declared.error.GameError.{GameError}
+use Rattle.rbg_numbering.specs.declared.error.GameError.TheVariants.{Memory}
+use Rattle.rbg_numbering.specs.Names.{Names, HasDifferentNames}
+use Rattle.rbg_numbering.specs.Faults.{HasRuleFault}
+use Rattle.rbg_numbering.specs.Numbered.{IsRuleByNumbers}
+
+-- Where names differ, a rule is at most one expression by numbers.
+abbrev pub OneNumberingLaw : Type 0
+OneNumberingLaw =
+    (names : Names) (rule : SpeltRule) (x y : Expression)
+    → HasDifferentNames names
+    → IsRuleByNumbers names rule x
+    → IsRuleByNumbers names rule y
+    → x ≡ y
+
+-- A rule with a fault has no numbers.
+abbrev pub NoNumbersWithFaultLaw : Type 0
+NoNumbersWithFaultLaw =
+    (names : Names) (rule : SpeltRule) (error : GameError)
+    → HasRuleFault names rule error
+    → error ≢ Memory
+    → (x : Expression)
+    → ¬ IsRuleByNumbers names rule x
