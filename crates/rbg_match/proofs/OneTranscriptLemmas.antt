@@ -1,7 +1,10 @@
--- Two transcripts of the same inputs in which the keeper makes the same moves, and of which none ends with `E4`, are equal.
-use Rattle.std.proofs.Common.{◌≡◌, ◌≢◌, ℕ, suc, ◌<◌, ◌≤◌, ◌==◌, true, List, [], ◌∷◌, ◌++◌, length, Some, refl, sym, ap, ◌∙◌, subst, append_assoc, arith}
-use Rattle.std.proofs.lemmas.List.{append-nil, append_cancel_left}
-use Rattle.std.proofs.lemmas.List.Elements.{filter-append}
+-- Two transcripts of the same inputs are equal if the keeper makes the same moves in both and neither ends because a
+-- question was above the limits.
+use Rattle.std.proofs.Common.{◌≡◌, ◌-◌, ℕ, suc, ◌<◌, ◌≤◌, ◌==◌, Bool, true, false, set, List, [], ◌∷◌, ◌++◌, length, Some, refl, sym, ap, ◌∙◌, subst, append_assoc, arith}
+use Rattle.std.proofs.lemmas.Bool.{ne_eqb}
+use Rattle.std.specs.Prelude.{if◌then◌else◌, All}
+use Rattle.std.proofs.lemmas.List.{append-nil, append_cancel_left, length-set, length-replicate}
+use Rattle.std.proofs.lemmas.List.Elements.{filter-append, All-nil, All-head, All-tail, All-append, All-weaker}
 use Rattle.rbg_wire.specs.declared.message.Reason.{Reason}
 use Rattle.rbg_wire.specs.declared.outcome.Outcome.{Outcome}
 use Rattle.rbg_wire.specs.declared.outcome.Outcome.TheVariants.{Heavy}
@@ -14,14 +17,16 @@ use Rattle.rbg_rules.proofs.PlaceLemmas.{one_place_law}
 use Rattle.rbg_match.specs.declared.config.Config.{Config}
 use Rattle.rbg_match.specs.declared.made.Made.{Made}
 use Rattle.rbg_match.specs.Deliveries.{Delivery, to_each}
-use Rattle.rbg_match.specs.Limits.{most_pairs}
-use Rattle.rbg_match.specs.Play.{AbstractPlay, mover_of, moved}
-use Rattle.rbg_match.specs.PlayingOn.{PlaysOn, seats_of}
+use Rattle.rbg_match.specs.Limits.{most_keeper_moves, most_pairs}
+use Rattle.rbg_match.specs.Play.{AbstractPlay, mover_of, ended, moved}
+use Rattle.rbg_match.specs.PlayingOn.{PlaysOn, MayBeAsked, seats_of}
 use Rattle.rbg_match.specs.PlayingOn as on
 use Rattle.rbg_match.specs.Handling.{AbstractInput, Refuses, Judges, HandlesInTime, Handles}
 use Rattle.rbg_match.specs.Handling as handling
-use Rattle.rbg_match.specs.Inputs.{TimedInput, streams_at_start, timed_inputs_of}
-use Rattle.rbg_match.specs.Laws.{keeper_moves, OneTranscript}
+use Rattle.rbg_match.specs.Inputs.{AbstractEvent, piece, end_of_stream, moment_alone, TimedInput, Streams, streams_at_start, streams_after, counted, moment_of, has_seat, cut_of, rests_after, timed_inputs_in, timed_inputs_of}
+use Rattle.rbg_match.specs.Laws.{keeper_moves, keeper_run, IsHeavyEnd, OneTranscript}
+use Rattle.rbg_wire.specs.Streams.{Rest, incomplete}
+use Rattle.rbg_match.proofs.Histories.{IsInputOf, IsInputAt, timed_of_event}
 use Rattle.rbg_match.specs.Transcript.{greetings}
 use Rattle.rbg_match.proofs.EndedLemmas.{not_both, stays_at_input}
 use Rattle.rbg_match.proofs.OneByOne.{HandlesEach, none, more, all_to_each}
@@ -73,14 +78,38 @@ each_grows {play = play} none = grows_not play
 each_grows {play = play} {after = after} (more {middle = middle} handles rest) = grows_both play middle after (handles_grows handles) (each_grows rest)
 
 -- what has ended stays so
-each_ends : {game : AbstractGame} {config : Config} {play after : AbstractPlay} {inputs : List TimedInput} {said : List Delivery} (outcome : Outcome) → play.outcome ≡ Some outcome → HandlesEach game config play inputs after said → after.outcome ≡ Some outcome
-each_ends outcome is none = is
-each_ends outcome is (more handles rest) = each_ends outcome (ap (λ (one : AbstractPlay). one.outcome) (stays_at_input outcome is handles).0 ∙ is) rest
+each_stays : {game : AbstractGame} {config : Config} {play after : AbstractPlay} {inputs : List TimedInput} {said : List Delivery} (outcome : Outcome) → play.outcome ≡ Some outcome → HandlesEach game config play inputs after said → after ≡ play
+each_stays outcome is none = refl
+each_stays outcome is (more handles rest) =
+    let here = stays_at_input outcome is handles in
+    each_stays outcome (ap (λ (one : AbstractPlay). one.outcome) here.0 ∙ is) rest ∙ here.0
 
--- Neither of these has ended with `E4`, and the keeper's moves in both are the beginnings of the same list.
+-- the keeper's moves in a row, and one move more
+run_more : (before : ℕ) (moves : List Made) (made : Made) → keeper_run before (moves ++ made ∷ []) ≡ (if made.player == 0 then suc (keeper_run before moves) else 0)
+run_more before [] made = refl
+run_more before (one ∷ moves) made = run_more (if one.player == 0 then suc before else 0) moves made
+
+run_of_keeper : (play : AbstractPlay) (moment n : ℕ) (pairs : List (ℕ × ℕ)) (to : AbstractPlace) → mover_of play ≡ 0 → keeper_run 0 play.made ≡ n → keeper_run 0 (moved play moment pairs to).made ≡ suc n
+run_of_keeper play moment n pairs to keeper run =
+    let test : (mover_of play == 0) ≡ true = rw keeper refl in
+    run_more 0 play.made (record { player = mover_of play; at = moment; pairs = pairs }) ∙ rw test (ap suc run)
+
+run_of_player : (play : AbstractPlay) (moment : ℕ) (pairs : List (ℕ × ℕ)) (to : AbstractPlace) → 1 ≤ mover_of play → keeper_run 0 (moved play moment pairs to).made ≡ 0
+run_of_player play moment pairs to player =
+    let test : (mover_of play == 0) ≡ false = ne_eqb (mover_of play) 0 (λ keeper. omega (arith, keeper, player)) in
+    run_more 0 play.made (record { player = mover_of play; at = moment; pairs = pairs }) ∙ rw test refl
+
+-- the end because of a question
+heavy_end : (play : AbstractPlay) {n : ℕ} → MayBeAsked n play → keeper_run 0 play.made ≡ n → IsHeavyEnd (ended play Heavy)
+heavy_end play may run = record { heavy = refl; not_endless = λ keeper many. let few = may keeper in omega (arith, few, run, many) }
+
+not_asked : (play : AbstractPlay) {n : ℕ} → MayBeAsked n play → mover_of play ≡ 0 → most_keeper_moves ≤ n → ⊥
+not_asked play may keeper many = let few = may keeper in omega (arith, few, many)
+
+-- Neither of these has ended because of a question, and the keeper's moves in both are the beginnings of the same list.
 record AreLight (one other : AbstractPlay) : Type 0 where
-  pub one_light : one.outcome ≢ Some Heavy
-  pub other_light : other.outcome ≢ Some Heavy
+  pub one_light : ¬ IsHeavyEnd one
+  pub other_light : ¬ IsHeavyEnd other
   pub one_later : List Made
   pub other_later : List Made
   pub same : keeper_moves (one.made ++ one_later) ≡ keeper_moves (other.made ++ other_later)
@@ -125,73 +154,81 @@ not_long_and_short ps qs is long short =
     omega (arith, same, long, short)
 
 module _ (game : AbstractGame) (numbered : IsNumbered game.rules) where
-  plays_on_same : {moment n : ℕ} {play one other : AbstractPlay} {said others : List Delivery} → PlaysOn game moment n play one said → PlaysOn game moment n play other others → AreLight one other → AreSame one other said others
-  plays_on_same (on.endless is_keeper many) goes' light = absurd (light.one_light refl)
-  plays_on_same (on.heavy may hard) goes' light = absurd (light.one_light refl)
-  plays_on_same goes (on.endless is_keeper many) light = absurd (light.other_light refl)
-  plays_on_same goes (on.heavy may hard) light = absurd (light.other_light refl)
-  plays_on_same (on.finished may never) (on.finished may' never') light = (refl, refl)
-  plays_on_same (on.finished may never) (on.keeper {pairs = pairs} {to = to} keeper may' legal short goes') light = absurd (never.no_move pairs to legal)
-  plays_on_same (on.finished may never) (on.turn {pairs = pairs} {to = to} player legal) light = absurd (never.no_move pairs to legal)
-  plays_on_same (on.keeper {pairs = pairs} {to = to} keeper may legal short goes) (on.finished may' never) light = absurd (never.no_move pairs to legal)
-  plays_on_same {moment = moment} {n = n} {play = play} {one = one} {other = other} (on.keeper {pairs = pairs} {to = to} {more = said} keeper may legal short goes) (on.keeper {pairs = pairs'} {to = to'} {more = others} keeper' may' legal' short' goes') light =
+  plays_on_same : {moment n : ℕ} {play one other : AbstractPlay} {said others : List Delivery} → PlaysOn game moment n play one said → PlaysOn game moment n play other others → keeper_run 0 play.made ≡ n → AreLight one other → AreSame one other said others
+  plays_on_same {play = play} (on.heavy may hard) goes' run light = absurd (light.one_light (heavy_end play may run))
+  plays_on_same {play = play} goes (on.heavy may hard) run light = absurd (light.other_light (heavy_end play may run))
+  plays_on_same (on.endless keeper many) (on.endless keeper' many') run light = (refl, refl)
+  plays_on_same {play = play} (on.endless keeper many) (on.finished may never) run light = absurd (not_asked play may keeper many)
+  plays_on_same (on.endless keeper many) (on.keeper keeper' may legal short goes) run light = absurd (omega (arith, may, many))
+  plays_on_same (on.endless keeper many) (on.turn player legal) run light = absurd (player keeper)
+  plays_on_same {play = play} (on.finished may never) (on.endless keeper many) run light = absurd (not_asked play may keeper many)
+  plays_on_same (on.keeper keeper' may legal short goes) (on.endless keeper many) run light = absurd (omega (arith, may, many))
+  plays_on_same (on.turn player legal) (on.endless keeper many) run light = absurd (player keeper)
+  plays_on_same (on.finished may never) (on.finished may' never') run light = (refl, refl)
+  plays_on_same (on.finished may never) (on.keeper {pairs = pairs} {to = to} keeper may' legal short goes') run light = absurd (never.no_move pairs to legal)
+  plays_on_same (on.finished may never) (on.turn {pairs = pairs} {to = to} player legal) run light = absurd (never.no_move pairs to legal)
+  plays_on_same (on.keeper {pairs = pairs} {to = to} keeper may legal short goes) (on.finished may' never) run light = absurd (never.no_move pairs to legal)
+  plays_on_same {moment = moment} {n = n} {play = play} {one = one} {other = other} (on.keeper {pairs = pairs} {to = to} {more = said} keeper may legal short goes) (on.keeper {pairs = pairs'} {to = to'} {more = others} keeper' may' legal' short' goes') run light =
       let same = same_pairs play one other moment pairs pairs' to to' keeper light (plays_on_grows goes) (plays_on_grows goes') in
       let place : to' ≡ to = one_place_law game numbered play.place pairs to' to (subst (λ (ps : List (ℕ × ℕ)). Legal game play.place ps to') (sym same) legal') legal in
       let with_pairs = subst (λ (ps : List (ℕ × ℕ)). PlaysOn game moment (suc n) (moved play moment ps to') other others) (sym same) goes' in
       let goes_there = subst (λ (there : AbstractPlace). PlaysOn game moment (suc n) (moved play moment pairs there) other others) place with_pairs in
-      let rest = plays_on_same goes goes_there light in
+      let rest = plays_on_same goes goes_there (run_of_keeper play moment n pairs to keeper run) light in
       (rest.0, ap (λ (ps : List (ℕ × ℕ)). to_each (seats_of game) (move_message ps) ++ said) same ∙ ap (λ (next : List Delivery). to_each (seats_of game) (move_message pairs') ++ next) rest.1)
-  plays_on_same (on.keeper keeper may legal short goes) (on.turn player legal') light = absurd (player keeper)
-  plays_on_same (on.turn {pairs = pairs} {to = to} player legal) (on.finished may never) light = absurd (never.no_move pairs to legal)
-  plays_on_same (on.turn player legal) (on.keeper keeper may legal' short goes) light = absurd (player keeper)
-  plays_on_same (on.turn player legal) (on.turn player' legal') light = (refl, refl)
+  plays_on_same (on.keeper keeper may legal short goes) (on.turn player legal') run light = absurd (player keeper)
+  plays_on_same (on.turn {pairs = pairs} {to = to} player legal) (on.finished may never) run light = absurd (never.no_move pairs to legal)
+  plays_on_same (on.turn player legal) (on.keeper keeper may legal' short goes) run light = absurd (player keeper)
+  plays_on_same (on.turn player legal) (on.turn player' legal') run light = (refl, refl)
 
   module _ (config : Config) where
-    judges_same : {play : AbstractPlay} {moment : ℕ} {pairs : List (ℕ × ℕ)} {one other : AbstractPlay} {said others : List Delivery} → Judges game config play moment pairs one said → Judges game config play moment pairs other others → AreLight one other → AreSame one other said others
-    judges_same (handling.heavy hard) judges' light = absurd (light.one_light refl)
-    judges_same judges (handling.heavy hard) light = absurd (light.other_light refl)
-    judges_same (handling.illegal never refuses) (handling.illegal never' refuses') light = refuses_same refuses refuses'
-    judges_same (handling.illegal never refuses) (handling.legal {to = to} legal goes) light = absurd (never to legal)
-    judges_same (handling.legal {to = to} legal goes) (handling.illegal never refuses) light = absurd (never to legal)
-    judges_same {play = play} {moment = moment} {pairs = pairs} {other = other} (handling.legal {to = to} legal goes) (handling.legal {to = to'} {more = others} legal' goes') light =
+    heavy_question : (play : AbstractPlay) → 1 ≤ mover_of play → IsHeavyEnd (ended play Heavy)
+    heavy_question play player = record { heavy = refl; not_endless = λ keeper many. omega (arith, player, keeper) }
+
+    judges_same : {play : AbstractPlay} {moment : ℕ} {pairs : List (ℕ × ℕ)} {one other : AbstractPlay} {said others : List Delivery} → Judges game config play moment pairs one said → Judges game config play moment pairs other others → 1 ≤ mover_of play → AreLight one other → AreSame one other said others
+    judges_same {play = play} (handling.heavy hard) judges' player light = absurd (light.one_light (heavy_question play player))
+    judges_same {play = play} judges (handling.heavy hard) player light = absurd (light.other_light (heavy_question play player))
+    judges_same (handling.illegal never refuses) (handling.illegal never' refuses') player light = refuses_same refuses refuses'
+    judges_same (handling.illegal never refuses) (handling.legal {to = to} legal goes) player light = absurd (never to legal)
+    judges_same (handling.legal {to = to} legal goes) (handling.illegal never refuses) player light = absurd (never to legal)
+    judges_same {play = play} {moment = moment} {pairs = pairs} {other = other} (handling.legal {to = to} legal goes) (handling.legal {to = to'} {more = others} legal' goes') player light =
         let place : to' ≡ to = one_place_law game numbered play.place pairs to' to legal' legal in
         let goes_there = subst (λ (there : AbstractPlace). PlaysOn game moment 0 (moved play moment pairs there) other others) place goes' in
-        let rest = plays_on_same goes goes_there light in
+        let rest = plays_on_same goes goes_there (run_of_player play moment pairs to player) light in
         (rest.0, ap (λ (next : List Delivery). to_each (seats_of game) (move_message pairs) ++ next) rest.1)
 
-    judged_alike : {play : AbstractPlay} {moment : ℕ} {one other : AbstractPlay} {said others : List Delivery} (pairs pairs' : List (ℕ × ℕ)) → pairs' ≡ pairs → Judges game config play moment pairs one said → Judges game config play moment pairs' other others → AreLight one other → AreSame one other said others
-    judged_alike {play = play} {moment = moment} {other = other} {others = others} pairs pairs' same judges judges' light = judges_same judges (subst (λ (ps : List (ℕ × ℕ)). Judges game config play moment ps other others) same judges') light
+    judged_alike : {play : AbstractPlay} {moment : ℕ} {one other : AbstractPlay} {said others : List Delivery} (pairs pairs' : List (ℕ × ℕ)) → pairs' ≡ pairs → Judges game config play moment pairs one said → Judges game config play moment pairs' other others → 1 ≤ mover_of play → AreLight one other → AreSame one other said others
+    judged_alike {play = play} {moment = moment} {other = other} {others = others} pairs pairs' same judges judges' player light = judges_same judges (subst (λ (ps : List (ℕ × ℕ)). Judges game config play moment ps other others) same judges') player light
 
-    in_time_same : {play : AbstractPlay} {moment : ℕ} {input : AbstractInput} {one other : AbstractPlay} {said others : List Delivery} → HandlesInTime game config play moment input one said → HandlesInTime game config play moment input other others → AreLight one other → AreSame one other said others
-    in_time_same handling.nothing handling.nothing light = (refl, refl)
-    in_time_same handling.leaving handling.leaving light = (refl, refl)
-    in_time_same (handling.out_of_turn not_mover refuses) (handling.out_of_turn not_mover' refuses') light = refuses_same refuses refuses'
-    in_time_same (handling.out_of_turn not_mover refuses) (handling.unreadable mover no_move refuses') light = absurd (not_mover mover)
-    in_time_same (handling.out_of_turn not_mover refuses) (handling.too_many mover spells long refuses') light = absurd (not_mover mover)
-    in_time_same (handling.out_of_turn not_mover refuses) (handling.judged mover spells short judges) light = absurd (not_mover mover)
-    in_time_same (handling.unreadable mover no_move refuses) (handling.out_of_turn not_mover refuses') light = absurd (not_mover mover)
-    in_time_same (handling.unreadable mover no_move refuses) (handling.unreadable mover' no_move' refuses') light = refuses_same refuses refuses'
-    in_time_same (handling.unreadable mover no_move refuses) (handling.too_many {pairs = pairs} mover' spells long refuses') light = absurd (no_move pairs spells)
-    in_time_same (handling.unreadable mover no_move refuses) (handling.judged {pairs = pairs} mover' spells short judges) light = absurd (no_move pairs spells)
-    in_time_same (handling.too_many mover spells long refuses) (handling.out_of_turn not_mover refuses') light = absurd (not_mover mover)
-    in_time_same (handling.too_many {pairs = pairs} mover spells long refuses) (handling.unreadable mover' no_move refuses') light = absurd (no_move pairs spells)
-    in_time_same (handling.too_many mover spells long refuses) (handling.too_many mover' spells' long' refuses') light = refuses_same refuses refuses'
-    in_time_same (handling.too_many {text = text} {pairs = pairs} mover spells long refuses) (handling.judged {pairs = pairs'} mover' spells' short judges) light = absurd (not_long_and_short pairs pairs' (one_move text pairs pairs' spells spells') long short)
-    in_time_same (handling.judged mover spells short judges) (handling.out_of_turn not_mover refuses') light = absurd (not_mover mover)
-    in_time_same (handling.judged {pairs = pairs} mover spells short judges) (handling.unreadable mover' no_move refuses') light = absurd (no_move pairs spells)
-    in_time_same (handling.judged {text = text} {pairs = pairs} mover spells short judges) (handling.too_many {pairs = pairs'} mover' spells' long refuses') light = absurd (not_long_and_short pairs' pairs (one_move text pairs' pairs spells' spells) long short)
-    in_time_same (handling.judged {text = text} {pairs = pairs} mover spells short judges) (handling.judged {pairs = pairs'} mover' spells' short' judges') light = judged_alike pairs pairs' (one_move text pairs' pairs spells' spells) judges judges' light
+    in_time_same : {play : AbstractPlay} {moment : ℕ} {input : AbstractInput} {one other : AbstractPlay} {said others : List Delivery} → HandlesInTime game config play moment input one said → HandlesInTime game config play moment input other others → IsInputOf game input → AreLight one other → AreSame one other said others
+    in_time_same handling.nothing handling.nothing is_input light = (refl, refl)
+    in_time_same handling.leaving handling.leaving is_input light = (refl, refl)
+    in_time_same (handling.out_of_turn not_mover refuses) (handling.out_of_turn not_mover' refuses') is_input light = refuses_same refuses refuses'
+    in_time_same (handling.out_of_turn not_mover refuses) (handling.unreadable mover no_move refuses') is_input light = absurd (not_mover mover)
+    in_time_same (handling.out_of_turn not_mover refuses) (handling.too_many mover spells long refuses') is_input light = absurd (not_mover mover)
+    in_time_same (handling.out_of_turn not_mover refuses) (handling.judged mover spells short judges) is_input light = absurd (not_mover mover)
+    in_time_same (handling.unreadable mover no_move refuses) (handling.out_of_turn not_mover refuses') is_input light = absurd (not_mover mover)
+    in_time_same (handling.unreadable mover no_move refuses) (handling.unreadable mover' no_move' refuses') is_input light = refuses_same refuses refuses'
+    in_time_same (handling.unreadable mover no_move refuses) (handling.too_many {pairs = pairs} mover' spells long refuses') is_input light = absurd (no_move pairs spells)
+    in_time_same (handling.unreadable mover no_move refuses) (handling.judged {pairs = pairs} mover' spells short judges) is_input light = absurd (no_move pairs spells)
+    in_time_same (handling.too_many mover spells long refuses) (handling.out_of_turn not_mover refuses') is_input light = absurd (not_mover mover)
+    in_time_same (handling.too_many {pairs = pairs} mover spells long refuses) (handling.unreadable mover' no_move refuses') is_input light = absurd (no_move pairs spells)
+    in_time_same (handling.too_many mover spells long refuses) (handling.too_many mover' spells' long' refuses') is_input light = refuses_same refuses refuses'
+    in_time_same (handling.too_many {text = text} {pairs = pairs} mover spells long refuses) (handling.judged {pairs = pairs'} mover' spells' short judges) is_input light = absurd (not_long_and_short pairs pairs' (one_move text pairs pairs' spells spells') long short)
+    in_time_same (handling.judged mover spells short judges) (handling.out_of_turn not_mover refuses') is_input light = absurd (not_mover mover)
+    in_time_same (handling.judged {pairs = pairs} mover spells short judges) (handling.unreadable mover' no_move refuses') is_input light = absurd (no_move pairs spells)
+    in_time_same (handling.judged {text = text} {pairs = pairs} mover spells short judges) (handling.too_many {pairs = pairs'} mover' spells' long refuses') is_input light = absurd (not_long_and_short pairs' pairs (one_move text pairs' pairs spells' spells) long short)
+    in_time_same (handling.judged {text = text} {pairs = pairs} mover spells short judges) (handling.judged {pairs = pairs'} mover' spells' short' judges') is_input light = judged_alike pairs pairs' (one_move text pairs' pairs spells' spells) judges judges' (subst (λ (seat : ℕ). 1 ≤ seat) mover is_input.0) light
 
-    handles_same : {play : AbstractPlay} {moment : ℕ} {input : AbstractInput} {one other : AbstractPlay} {said others : List Delivery} → Handles game config play moment input one said → Handles game config play moment input other others → AreLight one other → AreSame one other said others
-    handles_same (handling.after_end ended) (handling.after_end ended') light = (refl, refl)
-    handles_same {play = play} (handling.after_end {outcome = outcome} ended) (handling.overdue going late) light = absurd (not_both play.outcome outcome ended going)
-    handles_same {play = play} (handling.after_end {outcome = outcome} ended) (handling.in_time going early handles) light = absurd (not_both play.outcome outcome ended going)
-    handles_same {play = play} (handling.overdue going late) (handling.after_end {outcome = outcome} ended) light = absurd (not_both play.outcome outcome ended going)
-    handles_same (handling.overdue going late) (handling.overdue going' late') light = (refl, refl)
-    handles_same (handling.overdue going late) (handling.in_time going' early handles) light = absurd (omega (arith, late, early))
-    handles_same {play = play} (handling.in_time going early handles) (handling.after_end {outcome = outcome} ended) light = absurd (not_both play.outcome outcome ended going)
-    handles_same (handling.in_time going early handles) (handling.overdue going' late) light = absurd (omega (arith, late, early))
-    handles_same (handling.in_time going early handles) (handling.in_time going' early' handles') light = in_time_same handles handles' light
+    handles_same : {play : AbstractPlay} {moment : ℕ} {input : AbstractInput} {one other : AbstractPlay} {said others : List Delivery} → Handles game config play moment input one said → Handles game config play moment input other others → IsInputOf game input → AreLight one other → AreSame one other said others
+    handles_same (handling.after_end ended) (handling.after_end ended') is_input light = (refl, refl)
+    handles_same {play = play} (handling.after_end {outcome = outcome} ended) (handling.overdue going late) is_input light = absurd (not_both play.outcome outcome ended going)
+    handles_same {play = play} (handling.after_end {outcome = outcome} ended) (handling.in_time going early handles) is_input light = absurd (not_both play.outcome outcome ended going)
+    handles_same {play = play} (handling.overdue going late) (handling.after_end {outcome = outcome} ended) is_input light = absurd (not_both play.outcome outcome ended going)
+    handles_same (handling.overdue going late) (handling.overdue going' late') is_input light = (refl, refl)
+    handles_same (handling.overdue going late) (handling.in_time going' early handles) is_input light = absurd (omega (arith, late, early))
+    handles_same {play = play} (handling.in_time going early handles) (handling.after_end {outcome = outcome} ended) is_input light = absurd (not_both play.outcome outcome ended going)
+    handles_same (handling.in_time going early handles) (handling.overdue going' late) is_input light = absurd (omega (arith, late, early))
+    handles_same (handling.in_time going early handles) (handling.in_time going' early' handles') is_input light = in_time_same handles handles' is_input light
 
     -- what two matches have reached is light where what they reach later is
     light_before : {one one' other other' : AbstractPlay} {inputs inputs' : List TimedInput} {said said' : List Delivery} → HandlesEach game config one inputs one' said → HandlesEach game config other inputs' other' said' → AreLight one' other' → AreLight one other
@@ -199,8 +236,8 @@ module _ (game : AbstractGame) (numbered : IsNumbered game.rules) where
         let grows = each_grows rest in
         let grows' = each_grows rest' in
         record {
-          one_light = λ heavy. light.one_light (each_ends Heavy heavy rest);
-          other_light = λ heavy. light.other_light (each_ends Heavy heavy rest');
+          one_light = λ heavy. light.one_light (subst IsHeavyEnd (sym (each_stays Heavy heavy.heavy rest)) heavy);
+          other_light = λ heavy. light.other_light (subst IsHeavyEnd (sym (each_stays Heavy heavy.heavy rest')) heavy);
           one_later = grows.0 ++ light.one_later;
           other_later = grows'.0 ++ light.other_later;
           same =
@@ -209,13 +246,34 @@ module _ (game : AbstractGame) (numbered : IsNumbered game.rules) where
               ∙ ap keeper_moves (ap (λ (moves : List Made). moves ++ light.other_later) grows'.1 ∙ append_assoc other.made grows'.0 light.other_later);
         }
 
-    each_same : {play one other : AbstractPlay} {inputs : List TimedInput} {said others : List Delivery} → HandlesEach game config play inputs one said → HandlesEach game config play inputs other others → AreLight one other → AreSame one other said others
-    each_same none none light = (refl, refl)
-    each_same {other = other} (more {inputs = inputs} {first = first} {next = next} handles rest) (more {first = first'} {next = next'} handles' rest') light =
-        let here = handles_same handles handles' (light_before rest rest' light) in
+    each_same : {play one other : AbstractPlay} {inputs : List TimedInput} {said others : List Delivery} → HandlesEach game config play inputs one said → HandlesEach game config play inputs other others → All (λ (one : TimedInput). IsInputOf game one.input) inputs → AreLight one other → AreSame one other said others
+    each_same none none all light = (refl, refl)
+    each_same {other = other} (more {input = input} {inputs = inputs} {first = first} {next = next} handles rest) (more {first = first'} {next = next'} handles' rest') all light =
+        let own : TimedInput → Type 0 = λ one. IsInputOf game one.input in
+        let here = handles_same handles handles' (All-head own input inputs all) (light_before rest rest' light) in
         let moved_rest = subst (λ (from : AbstractPlay). HandlesEach game config from inputs other next') (sym here.0) rest' in
-        let later = each_same rest moved_rest light in
+        let later = each_same rest moved_rest (All-tail own input inputs all) light in
         (later.0, ap (λ (l : List Delivery). l ++ next) here.1 ∙ ap (λ (l : List Delivery). first' ++ l) later.1)
+
+-- an event leaves the number of streams
+as_many_if : (rests : List Rest) (i : ℕ) (rest : Rest) (test : Bool) → length (if test then set rests i rest else rests) ≡ length rests
+as_many_if rests i rest true = length-set rests i rest
+as_many_if rests i rest false = refl
+
+as_many : (rests : List Rest) (event : AbstractEvent) → length (rests_after rests event) ≡ length rests
+as_many rests (piece seat at bytes) = as_many_if rests (seat - 1) (cut_of rests seat bytes).rest (has_seat rests seat)
+as_many rests (end_of_stream seat at) = refl
+as_many rests (moment_alone at) = refl
+
+-- events stand for inputs of the game's seats alone
+all_timed : (game : AbstractGame) (streams : Streams) (events : List AbstractEvent) → length streams.rests ≡ seats_of game → All (λ (one : TimedInput). IsInputOf game one.input) (timed_inputs_of streams events)
+all_timed game streams [] same = All-nil (λ (one : TimedInput). IsInputOf game one.input)
+all_timed game streams (event ∷ events) same =
+    let own : TimedInput → Type 0 = λ one. IsInputOf game one.input in
+    let moment = counted streams (moment_of event) in
+    let first = All-weaker (IsInputAt game moment) own (λ one both. both.0) (timed_inputs_in streams event) (timed_of_event game streams.rests same moment event) in
+    let rest = all_timed game (streams_after streams event) events (as_many streams.rests event ∙ same) in
+    All-append own (timed_inputs_in streams event) (timed_inputs_of (streams_after streams event) events) first rest
 
 pub one_transcript : OneTranscript
 one_transcript game text config now events play play' said said' numbered one other one_light other_light same =
@@ -229,9 +287,9 @@ one_transcript game text config now events play play' said said' numbered one ot
       other_later = [];
       same = ap keeper_moves (append-nil play.made) ∙ same ∙ sym (ap keeper_moves (append-nil play'.made));
     } in
-    let opened = plays_on_same game numbered one.opens other.opens (light_before game numbered config each each' light) in
+    let opened = plays_on_same game numbered one.opens other.opens refl (light_before game numbered config each each' light) in
     let from_there = subst (λ (from : AbstractPlay). HandlesEach game config from inputs play' other.replies) (sym opened.0) each' in
-    let later = each_same game numbered config each from_there light in (
+    let later = each_same game numbered config each from_there (all_timed game (streams_at_start (seats_of game) now) events (length-replicate (seats_of game) (incomplete []))) light in (
       later.0,
       one.whole
           ∙ ap (λ (opening : List Delivery). greetings text config game.players ++ opening ++ one.replies) opened.1

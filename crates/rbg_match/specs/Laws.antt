@@ -1,5 +1,5 @@
 -- Laws of a whole match.
-use Rattle.std.specs.Prelude.{◌≡◌, ◌≢◌, ◌==◌, ◌↔◌, ℕ, List, [], ◌∷◌, ◌++◌, map, Some}
+use Rattle.std.specs.Prelude.{◌≡◌, ◌≤◌, ◌==◌, ◌↔◌, ℕ, suc, if◌then◌else◌, List, [], ◌∷◌, ◌++◌, map, Some}
 use Rattle.std.specs.List.{concat, filter}
 use Rattle.rbg_wire.specs.declared.outcome.Outcome.{Outcome}
 use Rattle.rbg_wire.specs.declared.outcome.Outcome.TheVariants.{Heavy}
@@ -10,8 +10,9 @@ use Rattle.rbg_match.specs.declared.made.Made.{Made}
 use Rattle.rbg_match.specs.Config.{IsWithinLimits}
 use Rattle.rbg_match.specs.Deliveries.{Delivery}
 use Rattle.rbg_match.specs.Inputs.{AbstractEvent, piece, TimedInput}
+use Rattle.rbg_match.specs.Limits.{most_keeper_moves}
 use Rattle.rbg_match.specs.Matches.{MatchState, StepsAll}
-use Rattle.rbg_match.specs.Play.{AbstractPlay}
+use Rattle.rbg_match.specs.Play.{AbstractPlay, mover_of}
 use Rattle.rbg_match.specs.Transcript.{HandlesAll, Transcript}
 
 -- How a seat's stream is cut does not matter. A piece may be replaced by one or more pieces of the same seat and
@@ -29,8 +30,20 @@ Cutting =
 abbrev pub keeper_moves : List Made → List Made
 keeper_moves moves = filter (λ made. made.player == 0) moves
 
--- Apart from the keeper's moves and `E4`, text, config, first moment and events decide everything: two transcripts of
--- them in which the keeper has made the same moves, and of which none has ended with `E4`, are the same.
+-- how many of these moves at their end are the keeper's, where that many before them are
+abbrev pub keeper_run : (before : ℕ) → List Made → ℕ
+keeper_run before [] = before
+keeper_run before (made ∷ moves) = keeper_run (if made.player == 0 then suc before else 0) moves
+
+-- The match has ended with `E4` because a question was above the limits, and not because the keeper was to move after
+-- 1,000 moves in a row.
+pub record IsHeavyEnd (play : AbstractPlay) : Type 0 where
+  pub heavy : play.outcome ≡ Some Heavy
+  pub not_endless : mover_of play ≡ 0 → most_keeper_moves ≤ keeper_run 0 play.made → ⊥
+
+-- Apart from the keeper's moves and from questions above the limits, the text, the config, the first moment and the
+-- events decide everything: two transcripts of them are the same if the keeper has made the same moves in both and
+-- neither has ended because a question was above the limits.
 abbrev pub OneTranscript : Type 0
 OneTranscript =
     (game : AbstractGame) (text : List ℕ) (config : Config) (now : ℕ) (events : List AbstractEvent) →
@@ -38,8 +51,8 @@ OneTranscript =
     IsNumbered game.rules →
     Transcript game text config now events play said →
     Transcript game text config now events play' said' →
-    play.outcome ≢ Some Heavy →
-    play'.outcome ≢ Some Heavy →
+    ¬ IsHeavyEnd play →
+    ¬ IsHeavyEnd play' →
     keeper_moves play.made ≡ keeper_moves play'.made →
     (play ≡ play') × (said ≡ said')
 

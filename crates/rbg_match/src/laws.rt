@@ -6,7 +6,8 @@ pub fn cutting_changes_nothing()
     ensures { Cutting }
 {}
 
-/// Apart from the keeper's moves and `E4`, a match is a function of its text, its config and its events.
+/// Apart from the keeper's moves and from questions above the limits, a match is a function of its text, its config and
+/// its events.
 pub fn one_transcript()
     ensures { OneTranscript }
 {}

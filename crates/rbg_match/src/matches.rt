@@ -177,7 +177,8 @@ impl Match {
         self.play.made.as_slice()
     }
 
-    /// How the match ended, once it has.
+    /// How the match ended, once it has. A message that was read may name any number as a player's, so an `Outcome` has
+    /// the number in 64 bits.
     pub fn outcome(&self) -> Option<Outcome>
         ensures { result ≡ self.now.play.outcome }
     {
