@@ -1,12 +1,10 @@
 -- Laying the parts of an expression lays the whole.
-use Rattle.std.proofs.Common.{◌≡◌, ℕ, ◌<◌, List, [], ◌∷◌, ◌++◌, refl, sym, ap, ◌∙◌, subst, inl, inr, ◌⊎◌, Bool, true, false}
-use Rattle.std.specs.Prelude.{◌&&◌}
+use Rattle.std.proofs.Common.{◌≡◌, ℕ, List, [], refl, ap, ◌∙◌, inl, inr, Bool, true}
 use Rattle.rbg_rules.specs.Expression.{AbstractAction, shift, on, off, assignment, comparison, switch, positive, negative, Expression, act, skip, sequence, fail, choice, star}
 use Rattle.rbg_rules.specs.Positions.{positions_of, positions_inside}
-use Rattle.rbg_rules.specs.Games.{HasNoEmptySum}
-use Rattle.rbg_rules.proofs.PositionLemmas.{Among, Among_left, Among_right, Among_cases}
+use Rattle.rbg_rules.proofs.PositionLemmas.{Among, Among_left, Among_right}
 use Rattle.rbg_auto.specs.internal.Orders.{Ascends, Joins}
-use Rattle.rbg_auto.specs.internal.Firsts.{may_be_empty, past, firsts}
+use Rattle.rbg_auto.specs.internal.Firsts.{firsts}
 use Rattle.rbg_auto.specs.internal.Laying.{Laid, ComesBefore, IsLaid, IsLaidInside, IsLawful, Lays}
 use Rattle.rbg_auto.proofs.OrderLemmas.{Ascends_left, Ascends_right, Ascends_apart}
 

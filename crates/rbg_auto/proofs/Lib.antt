@@ -8,4 +8,5 @@ pub mod WholeLemmas
 pub mod LayLemmas
 pub mod TreeLemmas
 pub mod WalkLemmas
+pub mod CompactLemmas
 pub mod UnionLemmas

@@ -1,6 +1,6 @@
 -- What is laid at a position is what comes after it in the words.
-use Rattle.std.proofs.Common.{◌≡◌, ℕ, List, [], ◌∷◌, ◌++◌, refl, sym, ap, ◌∙◌, subst, inl, inr, ◌⊎◌, Bool, true, false, append_assoc}
-use Rattle.std.specs.Prelude.{◌↔◌, ◌&&◌}
+use Rattle.std.proofs.Common.{◌≡◌, ℕ, List, [], ◌∷◌, ◌++◌, refl, sym, ◌∙◌, subst, inl, inr, ◌⊎◌, Bool, true, append_assoc}
+use Rattle.std.specs.Prelude.{◌&&◌}
 use Rattle.std.proofs.lemmas.List.{append-nil}
 use Rattle.rbg_rules.specs.Expression.{AbstractAction, Expression, act, skip, sequence, fail, choice, star}
 use Rattle.rbg_rules.specs.Positions.{positions_of, HasOwnAction}
@@ -9,11 +9,11 @@ use Rattle.rbg_rules.specs.Words.{Word, Repeats, done, again}
 use Rattle.rbg_rules.proofs.PositionLemmas.{Among, Among_right, has_position}
 use Rattle.rbg_rules.proofs.PatternLemmas.{own_stands, word_own}
 use Rattle.rbg_rules.proofs.StateLemmas.{word_law}
-use Rattle.rbg_auto.specs.internal.Orders.{Ascends, IsUnion, Joins}
+use Rattle.rbg_auto.specs.internal.Orders.{Ascends, IsUnion}
 use Rattle.rbg_auto.specs.internal.Firsts.{may_be_empty, past, firsts}
-use Rattle.rbg_auto.specs.internal.Laying.{Laid, ComesBefore, IsLaid}
+use Rattle.rbg_auto.specs.internal.Laying.{Laid, IsLaid}
 use Rattle.rbg_auto.proofs.OrderLemmas.{Ascends_left, Ascends_right, Ascends_apart}
-use Rattle.rbg_auto.proofs.CutLemmas.{Cut, in_first, in_second, cut_at, not_empty, single, Through, through}
+use Rattle.rbg_auto.proofs.CutLemmas.{Cut, in_first, in_second, cut_at, single, Through, through}
 use Rattle.rbg_auto.proofs.FirstLemmas.{Begins, empty_word, may_be_empty_by, past_member, member_past, star_begins, begins_among, among_begins, Ascends-firsts, Ascends-past, both, left_of, right_of}
 
 -- j comes directly after i in some word, and some word ends with i.

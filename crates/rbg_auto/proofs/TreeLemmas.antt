@@ -1,18 +1,18 @@
 -- What is read off the trees of the program.
-use Rattle.std.proofs.Common.{◌≡◌, ℕ, ◌+◌, ◌<◌, ◌≤◌, List, [], ◌∷◌, ◌++◌, length, map, fold, take, drop, get_or, refl, sym, ap, ◌∙◌, subst, inl, inr, ◌⊎◌, Bool, true, false, arith, append_assoc, take-append-drop}
+use Rattle.std.proofs.Common.{◌≡◌, ℕ, ◌+◌, ◌<◌, ◌≤◌, List, [], ◌∷◌, ◌++◌, length, map, fold, take, drop, get_or, refl, sym, ap, ◌∙◌, subst, Bool, true, false, append_assoc, take-append-drop}
 use Rattle.std.specs.Prelude.{Box, Vec, All, ◌&&◌, ◌||◌}
 use Rattle.std.specs.Global.{Global}
-use Rattle.std.proofs.lemmas.List.{append-nil, take_more, take_all, get_or-map, length-map, take-map}
+use Rattle.std.proofs.lemmas.List.{append-nil, take_more, take_all, get_or-map, length-map}
 use Rattle.std.proofs.lemmas.List.Sums.{fold-append, fold_push}
 use Rattle.rbg_rules.specs.declared.rule.Action.{Action}
 use Rattle.rbg_rules.specs.declared.rule.Action.TheVariants.{Positive}
 use Rattle.rbg_rules.specs.declared.rule.Rule.{Rule}
 use Rattle.rbg_rules.specs.declared.rule.Rule.TheVariants.{Act, Pattern, Then, Or, Star}
-use Rattle.rbg_rules.specs.Expression.{Expression, act, skip, sequence, fail, choice, star, sequence_of, choice_of}
-use Rattle.rbg_rules.specs.Translation.{action_of, expression_of}
+use Rattle.rbg_rules.specs.Expression.{Expression, skip, sequence, fail, choice, sequence_of, choice_of}
+use Rattle.rbg_rules.specs.Translation.{expression_of}
 use Rattle.rbg_rules.specs.Games.{HasNoEmptySum}
 use Rattle.rbg_rules.proofs.Bridge.{expression_of-Then, expression_of-Or, expression_of-Star}
-use Rattle.rbg_rules.proofs.TreeLemmas.{IsPlainAt, IsPatternIn, plain_at, pattern_in, none_in_sequence, none_in_choice}
+use Rattle.rbg_rules.proofs.TreeLemmas.{plain_at, pattern_in, none_in_sequence, none_in_choice}
 use Rattle.rbg_auto.specs.internal.Firsts.{may_be_empty, past, firsts}
 use Rattle.rbg_auto.specs.internal.Trees.{AppendsFirsts, GivesFirsts, GivesFirstsOfSequence, GivesFirstsOfSum}
 

@@ -1,6 +1,6 @@
 -- What the steps of the walk make of the table.
-use Rattle.std.proofs.Common.{◌≡◌, ◌≢◌, ℕ, ◌+◌, ◌-◌, ◌<◌, ◌≤◌, List, [], ◌∷◌, ◌++◌, length, map, fold, take, drop, get_or, refl, sym, ap, ◌∙◌, subst, inl, inr, ◌⊎◌, Bool, true, false, arith, append_assoc, length-append, length-drop, take-append-drop}
-use Rattle.std.specs.Prelude.{Box, Vec, Option, Some, None, slice_range, ◌&&◌}
+use Rattle.std.proofs.Common.{◌≡◌, ℕ, ◌+◌, ◌-◌, ◌<◌, ◌≤◌, List, [], ◌∷◌, ◌++◌, length, map, fold, take, drop, get_or, refl, sym, ap, ◌∙◌, subst, inl, inr, Bool, true, false, arith, append_assoc, length-append, length-drop, take-append-drop}
+use Rattle.std.specs.Prelude.{Box, Vec, Option, Some, None, slice_range}
 use Rattle.std.specs.Global.{Global}
 use Rattle.std.proofs.lemmas.List.{append-nil, take-append-le, drop-append-le, take_all, length-map}
 use Rattle.std.proofs.lemmas.List.Sums.{fold-append}
@@ -8,7 +8,7 @@ use Rattle.rbg_rules.specs.declared.rule.Action.{Action}
 use Rattle.rbg_rules.specs.declared.rule.Action.TheVariants.{Shift, On, Off, Assign, Compare, Switch, Positive, Negative}
 use Rattle.rbg_rules.specs.declared.rule.Rule.{Rule}
 use Rattle.rbg_rules.specs.declared.rule.Rule.TheVariants.{Act, Pattern, Then, Or, Star}
-use Rattle.rbg_rules.specs.Expression.{AbstractAction, Expression, act, skip, sequence, fail, choice, star, sequence_of, choice_of}
+use Rattle.rbg_rules.specs.Expression.{Expression, act, skip, sequence, fail, choice, star, sequence_of, choice_of}
 use Rattle.rbg_rules.specs.Positions.{positions_of, positions_inside}
 use Rattle.rbg_rules.specs.Translation.{action_of, shows_pattern, expression_of}
 use Rattle.rbg_rules.specs.Games.{HasNoEmptySum}
@@ -19,7 +19,7 @@ use Rattle.rbg_auto.specs.declared.span.Span.{Span}
 use Rattle.rbg_auto.specs.declared.span.Opening.{Opening}
 use Rattle.rbg_auto.specs.declared.span.Node.{Node}
 use Rattle.rbg_auto.specs.declared.table.Table.{Table}
-use Rattle.rbg_auto.specs.internal.Orders.{Ascends, IsUnion, Joins}
+use Rattle.rbg_auto.specs.internal.Orders.{Ascends, Joins}
 use Rattle.rbg_auto.specs.internal.Firsts.{may_be_empty, past, firsts}
 use Rattle.rbg_auto.specs.internal.Laying.{Laid, ComesBefore, IsLaid, IsLaidInside, IsLawful, Lays}
 use Rattle.rbg_auto.specs.internal.Trees.{GivesFirsts}

@@ -1,14 +1,12 @@
 -- Rules that are laid whole have the steps of their words.
 use Rattle.std.proofs.Common.{◌≡◌, ℕ, List, [], ◌∷◌, ◌++◌, length, refl, sym, ap, ◌∙◌, subst, inl, inr, ◌⊎◌, Bool, true, false, arith}
-use Rattle.std.specs.Prelude.{◌↔◌, IsTrue, Contains}
-use Rattle.std.specs.List.Sorted.{IsStrictlyIncreasing}
 use Rattle.std.proofs.lemmas.Bool.{cases_lt}
 use Rattle.rbg_rules.specs.Expression.{AbstractAction, shift, on, off, assignment, comparison, switch, positive, negative, Expression, act, skip, sequence, fail, choice, star}
 use Rattle.rbg_rules.specs.Positions.{HasAction, HasInside, HasOwnAction, positions_of, positions_inside, IsNumbered, Level, outermost, inside, IsLevel}
 use Rattle.rbg_rules.specs.Games.{HasNoEmptySum, HasNoEmptySumInside}
-use Rattle.rbg_rules.specs.Words.{Word, WordOf, Start, beginning, after, Follows, Ends}
-use Rattle.rbg_rules.proofs.PositionLemmas.{Among, Among_right, Among_cases, has_position}
-use Rattle.rbg_rules.proofs.PatternLemmas.{own_stands, word_own}
+use Rattle.rbg_rules.specs.Words.{WordOf, Start, beginning, after, Follows, Ends}
+use Rattle.rbg_rules.proofs.PositionLemmas.{Among, Among_right, Among_cases}
+use Rattle.rbg_rules.proofs.PatternLemmas.{word_own}
 use Rattle.rbg_rules.proofs.LevelLemmas.{some_level_law}
 use Rattle.rbg_auto.specs.Steps.{AreAllThatFollow, AreStepsOf}
 use Rattle.rbg_auto.specs.internal.Orders.{Ascends}
@@ -89,7 +87,7 @@ record IsLevelLaid (at : ℕ → Laid) (x : Expression) (first : List ℕ) (may 
   order : Ascends (positions_of x)
   laid : IsLaid at x [] true
 
-numbered_ascends : (x : Expression) → IsNumbered x → Ascends (positions_of x)
+pub numbered_ascends : (x : Expression) → IsNumbered x → Ascends (positions_of x)
 numbered_ascends x numbered = subst Ascends (sym numbered.in_order) (Ascends-range_with_len 1 (length (positions_of x)))
 
 module _ (rules : Expression) (numbered : IsNumbered rules) (none : HasNoEmptySum rules) (first : List ℕ) (may : Bool) (at : ℕ → Laid) (whole : IsWhole rules first may at) where

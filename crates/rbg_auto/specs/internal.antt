@@ -5,3 +5,4 @@ pub mod Laying
 pub mod Trees
 pub mod Tables
 pub mod Walks
+pub mod Compacts

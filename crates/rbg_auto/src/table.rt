@@ -1,5 +1,5 @@
 //! All lists of an automaton in one array, by position.
-ghost use Rattle.std.specs.Prelude.{◌≡◌, All, length, IfOk, slice_index_or};
+ghost use Rattle.std.specs.Prelude.{◌≡◌, All, length, IfOk, IsTrue, slice_index_or};
 ghost use Rattle.rbg_auto.specs.internal.Tables.{AreWithin};
 
 use crate::span::{Node, Span};
@@ -36,6 +36,16 @@ impl Table {
         ensures { result.now ≡ listed self.now.entries.items span }
     {
         &self.entries[span.start..span.end]
+    }
+
+    /// Whether a span of the array holds the positions.
+    pub(crate) fn holds(&self, span: Span, positions: &[Position]) -> bool
+        ensures { IsTrue result → Keeps self.now.entries.items span positions.now }
+    {
+        if span.start <= span.end && span.end <= self.entries.len() {
+            return &self.entries[span.start..span.end] == positions;
+        }
+        false
     }
 
     /// What was laid at a position.

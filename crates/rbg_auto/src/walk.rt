@@ -1,8 +1,9 @@
 //! The walk over the rules that lays down what comes after each position.
-ghost use Rattle.std.specs.Prelude.{◌≡◌, ◌<◌, List, [], length, slice_index_or, IfOk};
-ghost use Rattle.rbg_auto.specs.internal.Tables.{Keeps, IsKept};
+ghost use Rattle.std.specs.Prelude.{◌≡◌, ◌<◌, List, [], length, replicate, slice_index_or, IfOk};
+ghost use Rattle.rbg_auto.specs.internal.Tables.{Keeps, IsKept, no_node};
 ghost use Rattle.rbg_auto.specs.internal.Walks.{AddsList, LaysTree, LaysSequence, LaysSum, IsBefore, LaysLevel, Extends};
 
+use crate::shelf::{Shelf, hash_of};
 use crate::span::{Node, Opening, Span};
 use crate::table::Table;
 use crate::tree::push_first;
@@ -24,17 +25,36 @@ pub(crate) struct Rest {
 /// share it from then on: `kept` says where it is.
 #[derive(Debug, Drop)]
 pub(crate) struct Walk {
-    pub(crate) alloc: Global,
+    alloc: Global,
     pub(crate) table: Table,
+    shelf: Shelf,
 }
 
 impl Walk {
+    /// With nothing laid, at that many positions with position 0.
+    pub(crate) fn new(alloc: Global, positions: usize) -> Result<Walk, Memory>
+        ensures nodes { IfOk result (λ walk. walk.table.nodes.items ≡ replicate positions no_node) }
+        ensures entries { IfOk result (λ walk. walk.table.entries.items ≡ []) }
+    {
+        Ok(Walk {
+            alloc,
+            table: Table::new(alloc, positions)?,
+            shelf: Shelf::new(alloc, positions)?,
+        })
+    }
+
     /// Where the list of positions is in the table.
     fn intern(&mut self, positions: &[Position]) -> Result<Span, Memory>
         ensures adds { IfOk result (λ _. AddsList self.old.table self.new.table) }
         ensures keeps { IfOk result (λ span. Keeps self.new.table.entries.items span positions.now) }
     {
-        self.table.push(positions)
+        let hash = hash_of(positions);
+        if let Some(span) = self.shelf.find(&self.table, hash, positions) {
+            return Ok(span);
+        }
+        let span = self.table.push(positions)?;
+        self.shelf.store(hash, span)?;
+        Ok(span)
     }
 
     /// Where the list of what comes next is in the table.

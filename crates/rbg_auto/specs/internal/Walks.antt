@@ -1,8 +1,8 @@
 -- What the walk over a tree of the program does to the table.
-use Rattle.std.specs.Prelude.{◌≡◌, ℕ, ◌<◌, List, [], length, take, map, Bool, true}
+use Rattle.std.specs.Prelude.{◌≡◌, ℕ, ◌<◌, List, [], length, map, Bool, true}
 use Rattle.rbg_rules.specs.declared.rule.Action.{Action}
 use Rattle.rbg_rules.specs.declared.rule.Rule.{Rule}
-use Rattle.rbg_rules.specs.Expression.{Expression, sequence_of, choice_of}
+use Rattle.rbg_rules.specs.Expression.{sequence_of, choice_of}
 use Rattle.rbg_rules.specs.Translation.{expression_of}
 use Rattle.rbg_rules.specs.Games.{HasNoEmptySum}
 use Rattle.rbg_auto.specs.declared.span.Node.{Node}

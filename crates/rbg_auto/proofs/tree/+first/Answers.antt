@@ -1,10 +1,10 @@
 -- The proofs of `tree::push_first` and the two functions over parts.
-use Rattle.std.proofs.Common.{rules, IfOk, ◌≡◌, ℕ, ◌+◌, ◌<◌, ◌≤◌, length, Bool, true, false, List, [], ◌∷◌, ◌++◌, slice_index_or, sym, subst, arith}
+use Rattle.std.proofs.Common.{rules, ◌≡◌, Bool, true, false, List, subst, arith}
 use Rattle.std.proofs.lemmas.Result.{IfOk-weaker}
 use Rattle.rbg_rules.specs.declared.rule.Rule.{Rule}
 use Rattle.rbg_rules.specs.declared.rule.Rule.TheVariants.{Then, Or}
 use Rattle.rbg_auto.specs.internal.Trees.{GivesFirsts, GivesFirstsOfSequence, GivesFirstsOfSum}
-use Rattle.rbg_auto.proofs.TreeLemmas.{firsts_act, firsts_pattern, firsts_then, firsts_or, firsts_star, sequence_none, sequence_goes_on, sequence_stops, sequence_all, sum_none, sum_with_empty, sum_without_empty, sum_all}
+use Rattle.rbg_auto.proofs.TreeLemmas.{firsts_act, firsts_pattern, firsts_then, firsts_or, firsts_star, sequence_goes_on, sequence_stops, sum_with_empty, sum_without_empty}
 use Rattle.rbg_auto.proofs.tree.+first.Goals.{push_first_of_sum-then-branch, push_first_of_sum-else-branch}
 use Rattle.rbg_auto.proofs.tree.+first.Goals as goal
 

@@ -1,5 +1,5 @@
 -- The proof of `union::union`.
-use Rattle.std.proofs.Common.{rules, ◌≡◌, ◌<◌, ◌≤◌, length, get_or, ◌⊎◌, inl, inr, arith, ap, ◌∙◌, drop, List, ℕ, ◌++◌}
+use Rattle.std.proofs.Common.{◌≡◌, ◌≤◌, length, get_or, ◌⊎◌, inl, inr, arith, ap, ◌∙◌, drop, List, ℕ, ◌++◌}
 use Rattle.rbg_auto.specs.internal.Orders.{Joins}
 use Rattle.rbg_auto.proofs.UnionLemmas.{merged_left, merged_right, merged_both, merged_all, rest_of}
 use Rattle.rbg_auto.proofs.union.union.Goals.{then-loop-in_left-test+else-in_right-right, else-loop-in_left-test}

@@ -1,13 +1,13 @@
 -- The proofs of the walk.
-use Rattle.std.proofs.Common.{rules, ◌≡◌, ◌<◌, List, [], length, IfOk, ℕ, ◌+◌, ◌-◌, Bool, true, false, ap, sym, subst, arith}
+use Rattle.std.proofs.Common.{rules, ◌≡◌, ◌<◌, List, [], length, ℕ, ◌+◌, ◌-◌, true, subst, arith}
 use Rattle.std.proofs.lemmas.Result.{IfOk-weaker}
 use Rattle.rbg_rules.specs.declared.rule.Rule.{Rule}
 use Rattle.rbg_rules.specs.declared.rule.Rule.TheVariants.{Then, Or, Star}
 use Rattle.rbg_auto.specs.internal.Orders.{Joins}
 use Rattle.rbg_auto.specs.internal.Trees.{GivesFirsts}
 use Rattle.rbg_auto.specs.internal.Tables.{Keeps, IsKept}
-use Rattle.rbg_auto.specs.internal.Walks.{AddsList, LaysTree, LaysSequence, LaysSum, IsBefore, LaysLevel, Extends}
-use Rattle.rbg_auto.proofs.WalkLemmas.{IsKept-grows, Extends-trans, lays_act, lays_pattern, lays_then, lays_or, lays_star_tree, lays_level_by, SequenceOwes, sequence_begins, sequence_owes_fewer, sequence_ends, sum_goes_on}
+use Rattle.rbg_auto.specs.internal.Walks.{LaysTree, LaysSequence, LaysSum, LaysLevel}
+use Rattle.rbg_auto.proofs.WalkLemmas.{IsKept-grows, lays_act, lays_pattern, lays_then, lays_or, lays_star_tree, lays_level_by, SequenceOwes, sequence_begins, sequence_owes_fewer, sequence_ends, sum_goes_on}
 use Rattle.rbg_auto.proofs.walk.Walk.+laying.Goals as goal
 
 pub lay-keep-requires-in-Pattern : goal.lay-keep-requires-in-Pattern

@@ -1,5 +1,5 @@
 -- What the loops over parts keep.
-use Rattle.std.proofs.Common.{◌≡◌, ◌<◌, length}
+use Rattle.std.proofs.Common.{◌<◌, length}
 use Rattle.rbg_auto.specs.internal.Tables.{IsKept}
 use Rattle.rbg_auto.proofs.WalkLemmas.{SumSoFar, SequenceOwes}
 use Rattle.rbg_auto.proofs.walk.Walk.+laying.Given as goal

@@ -1,0 +1,10 @@
+-- The proof of `may_be_empty` of `arrays::Compact`.
+use Rattle.rbg_rules.specs.Positions.{outermost, inside}
+use Rattle.rbg_auto.specs.internal.Compacts.{IsCompactOf}
+use Rattle.rbg_auto.proofs.arrays.CompactSteps.may_be_empty.Goals as goal
+
+pub returns-in-Rules : goal.returns-in-Rules
+returns-in-Rules c = λ rules is. let h : IsCompactOf c.args.self.now rules = is in rw c.in-Rules.is (h.steps.empty outermost)
+
+pub returns-in-Inside : goal.returns-in-Inside
+returns-in-Inside c = λ rules is. let h : IsCompactOf c.args.self.now rules = is in rw c.in-Inside.is (rw c.node.ensures.node (h.steps.empty (inside c.in-Inside.position)))

@@ -1,0 +1,16 @@
+-- The steps that an array of lists has.
+use Rattle.rbg_rules.specs.Expression.{Expression}
+use Rattle.rbg_auto.specs.declared.arrays.Compact.{Compact}
+use Rattle.rbg_auto.specs.Steps.{AreStepsOf}
+use Rattle.rbg_auto.specs.internal.Laying.{first_at, empty_at}
+use Rattle.rbg_auto.specs.internal.Tables.{listed}
+use Rattle.rbg_auto.specs.internal.Walks.{laid_in}
+
+-- The lists of the automaton are the steps of the rules.
+pub record IsCompactOf (c : Compact) (rules : Expression) : Type 0 where
+  pub steps :
+      AreStepsOf rules
+      (first_at (listed c.table.entries.items c.rules.first) (laid_in c.table))
+      (λ i. (laid_in c.table i).next)
+      (λ i. (laid_in c.table i).may_end)
+      (empty_at c.rules.may_be_empty (laid_in c.table))

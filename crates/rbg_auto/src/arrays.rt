@@ -1,0 +1,54 @@
+//! The automaton of a game with all its lists in one array.
+ghost use Rattle.std.specs.Prelude.{◌≡◌, length};
+ghost use Rattle.rbg_auto.specs.internal.Tables.{IsSpan};
+
+use crate::span::Opening;
+use crate::steps::{Expr, Steps};
+use crate::table::Table;
+use rbg_base::Position;
+
+/// The steps of a game's rules, with all lists in one array. Equal lists are in it once, and positions behind which the
+/// rules go on in the same way share one from the start.
+#[derive(Debug, Drop)]
+pub struct Compact {
+    pub(crate) table: Table,
+    pub(crate) rules: Opening,
+    ghost begins: { IsSpan (length table.entries.items) rules.first },
+}
+
+impl Compact {
+    /// How many entries the array has.
+    pub fn entries(&self) -> usize
+        ensures { result ≡ length self.now.table.entries.items }
+    {
+        self.table.entries.len()
+    }
+}
+
+impl Steps for Compact {
+    ghost use Rattle.rbg_auto.specs.internal.Compacts.{IsCompactOf};
+
+    ghost of_rules = { IsCompactOf };
+
+    fn first(&self, expr: Expr) -> &[Position] {
+        match expr {
+            Expr::Rules => self.table.list(self.rules.first),
+            Expr::Inside(position) => self.table.list(self.table.node(position).inside.first),
+        }
+    }
+
+    fn next(&self, position: Position) -> &[Position] {
+        self.table.list(self.table.node(position).next)
+    }
+
+    fn may_end(&self, position: Position) -> bool {
+        self.table.node(position).may_end
+    }
+
+    fn may_be_empty(&self, expr: Expr) -> bool {
+        match expr {
+            Expr::Rules => self.rules.may_be_empty,
+            Expr::Inside(position) => self.table.node(position).inside.may_be_empty,
+        }
+    }
+}
