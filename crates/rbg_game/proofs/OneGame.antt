@@ -13,7 +13,8 @@ use Rattle.rbg_game.specs.OneGame.{OneGameOfDescriptionLaw, OneGameLaw}
 use Rattle.rbg_game.proofs.LoadingLemmas.{one_spelt}
 use Rattle.rbg_numbering.proofs.Lists.{AllZip-once}
 use Rattle.rbg_game.proofs.OneGameLists.{front_differs}
-use Rattle.rbg_numbering.proofs.OneNumbering.{HasDifferentNames, numbered_rule_once}
+use Rattle.rbg_numbering.specs.Names.{HasDifferentNames}
+use Rattle.rbg_numbering.proofs.OneNumbering.{numbered_rule_once}
 use Rattle.rbg_game.proofs.OneGameBoards.{IsSameBoard, board_once, board_directions_differ}
 
 bounds_once : (holders : List SpeltBounded) (a b : List ℕ) → AreBounds holders a → AreBounds holders b → a ≡ b
