@@ -10,13 +10,13 @@ use thiserror::Error;
 /// Why a description is no game. Offsets are those of the text.
 #[derive(Clone, Copy, Debug, PartialEq, Eq, Error)]
 pub enum GameError {
-    /// The name at this offset is not that of a direction, a piece or a player, whichever is needed there.
+    /// The name at this offset is not that of a direction, piece, player or variable, whichever is needed there.
     #[error("the name at byte {at} is unknown")]
     UnknownName { at: usize },
     /// The name at this offset was given before to a player, a variable or a piece.
     #[error("the name at byte {at} was given before")]
     SameName { at: usize },
-    /// The number at this offset is greater than the greatest bound.
+    /// The number at this offset is greater than the greatest bound, or in arithmetic greater than 2^63 - 1.
     #[error("the number at byte {at} is too great")]
     Bound { at: usize },
     /// The switch at this offset is in a pattern.
