@@ -11,7 +11,7 @@ use Rattle.rbg_macro.proofs.OneReading.{tokens_once, text_refused_for_memory}
 use Rattle.rbg_macro.proofs.OneExpansion.{sections_once, sections_refused_for_memory}
 use Rattle.rbg_syntax.specs.Tree.{SpeltDescription}
 use Rattle.rbg_syntax.proofs.OneDescription.{one_description}
-use Rattle.rbg_syntax.specs.Spells.{SpellsOneWord, HasFault as HasSyntaxFault}
+use Rattle.rbg_syntax.specs.Spells.{Spells, HasFault as HasSyntaxFault}
 use Rattle.rbg_syntax.specs.declared.error.SyntaxError.{SyntaxError}
 use Rattle.rbg_syntax.specs.declared.error.SyntaxError.TheVariants.{Memory as SyntaxMemory}
 use Rattle.rbg_rules.specs.State.{AbstractGame}
@@ -29,7 +29,7 @@ one_source text a b x y = sections_once y.tokens a b (subst (λ ts. HasSections 
 
 -- a text spells one description
 pub one_spelt : (text : List ℕ) (a b : SpeltDescription) → Describes text a → Describes text b → a ≡ b
-one_spelt text a b x y = one_description y.sections a b (subst (λ ss. SpellsOneWord ss a) (one_source text x.sections y.sections x.has y.has) x.spells) y.spells
+one_spelt text a b x y = one_description y.sections a b (subst (λ ss. Spells ss a) (one_source text x.sections y.sections x.has y.has) x.spells) y.spells
 
 -- An error that is passed on.
 pub refused_by : {T : Type 0} (result : Result T LoadError) (text : List ℕ) (error : LoadError) → IsErrAnd result (λ e. e ≡ error) → IsRefused text error → IfErr result (IsRefused text)
@@ -47,11 +47,11 @@ refused_in_macros text ts e cut fault =
     }
 
 pub refused_in_syntax : (text : List ℕ) (sections : List SectionTokens) (e : SyntaxError) → HasSectionsOf text sections → HasSyntaxFault sections e
-    → ((d : SpeltDescription) → SpellsOneWord sections d → e ≡ SyntaxMemory) → IsRefused text (errors.Syntax e)
+    → ((d : SpeltDescription) → Spells sections d → e ≡ SyntaxMemory) → IsRefused text (errors.Syntax e)
 refused_in_syntax text sections e has fault only =
     record {
       fault = (sections, has, fault);
-      no_game = λ other game loads. other (only loads.description (subst (λ ss. SpellsOneWord ss loads.description) (one_source text loads.describes.sections sections loads.describes.has has) loads.describes.spells));
+      no_game = λ other game loads. other (only loads.description (subst (λ ss. Spells ss loads.description) (one_source text loads.describes.sections sections loads.describes.has has) loads.describes.spells));
     }
 
 pub refused_in_checks : (text : List ℕ) (d : SpeltDescription) (e : GameError) → Describes text d → HasFault d e

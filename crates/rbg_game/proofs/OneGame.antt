@@ -5,7 +5,7 @@ use Rattle.std.proofs.lemmas.List.{map-append}
 use Rattle.rbg_syntax.specs.Tree.{SpeltBounded, SpeltDescription}
 use Rattle.rbg_rules.specs.State.{AbstractGame}
 use Rattle.rbg_rules.specs.LawfulNames.{AreDifferentNames}
-use Rattle.rbg_numbering.specs.Names.{Names}
+use Rattle.rbg_numbering.specs.Names.{Names, HasDifferentNames}
 use Rattle.rbg_numbering.specs.Rules.{RuleIs}
 use Rattle.rbg_game.specs.Descriptions.{names_in}
 use Rattle.rbg_game.specs.Descriptions.{board_in, holder_names, holders_of, AreBounds, IsGameOf}
@@ -13,7 +13,7 @@ use Rattle.rbg_game.specs.OneGame.{OneGameOfDescriptionLaw, OneGameLaw}
 use Rattle.rbg_game.proofs.LoadingLemmas.{one_spelt}
 use Rattle.rbg_numbering.proofs.Lists.{AllZip-once}
 use Rattle.rbg_game.proofs.OneGameLists.{front_differs}
-use Rattle.rbg_numbering.proofs.OneNumbering.{HasDifferentNames, numbered_rule_once}
+use Rattle.rbg_numbering.proofs.OneNumbering.{numbered_rule_once}
 use Rattle.rbg_game.proofs.OneGameBoards.{IsSameBoard, board_once, board_directions_differ}
 
 bounds_once : (holders : List SpeltBounded) (a b : List ℕ) → AreBounds holders a → AreBounds holders b → a ≡ b

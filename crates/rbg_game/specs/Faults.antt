@@ -147,8 +147,6 @@ names_spelt d =
     }
 
 -- The description has the fault that an error names. Memory is no fault of the description, and may run out with any.
--- (Said of the descriptions that are read so far: their rules have no pattern and no arithmetic, and their boards,
--- rectangles, have four directions.)
 pub data HasFault (d : SpeltDescription) : GameError → Type 0 where
   same_holder : {at : ℕ}
       → StandsAgain (names_of_holders d) at

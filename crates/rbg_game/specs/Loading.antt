@@ -6,7 +6,7 @@ use Rattle.rbg_macro.specs.Expansion.{HasSections, HasMacroFault}
 use Rattle.rbg_macro.specs.declared.error.TextError.TheVariants.{Memory as TextMemory}
 use Rattle.rbg_macro.specs.declared.error.MacroError.TheVariants.{Memory as MacroMemory}
 use Rattle.rbg_syntax.specs.Tree.{SpeltDescription}
-use Rattle.rbg_syntax.specs.Spells.{SpellsOneWord, HasFault as HasSyntaxFault}
+use Rattle.rbg_syntax.specs.Spells.{Spells, HasFault as HasSyntaxFault}
 use Rattle.rbg_syntax.specs.declared.error.SyntaxError.TheVariants.{Memory as SyntaxMemory}
 use Rattle.rbg_rules.specs.State.{AbstractGame}
 use Rattle.rbg_game.specs.Descriptions.{IsGameOf}
@@ -21,14 +21,13 @@ pub record HasSectionsOf (text : List ℕ) (sections : List SectionTokens) : Typ
   pub cut : HasTokens text tokens
   pub expanded : HasSections tokens sections
 
--- the text spells the description, which is one of those that this version reads
+-- the text spells the description
 pub record Describes (text : List ℕ) (d : SpeltDescription) : Type 0 where
   pub sections : List SectionTokens
   pub has : HasSectionsOf text sections
-  pub spells : SpellsOneWord sections d
+  pub spells : Spells sections d
 
--- The text is the game's: its tokens expand to sections that spell a description of the game, one of those that this
--- version reads.
+-- The text is the game's: its tokens expand to sections that spell a description of the game.
 pub record Loads (text : List ℕ) (game : AbstractGame) : Type 0 where
   pub description : SpeltDescription
   pub describes : Describes text description

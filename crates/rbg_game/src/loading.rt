@@ -1,6 +1,5 @@
 //! From the text of a game to the game.
 ghost use Rattle.std.specs.Prelude.{◌≡◌, IfOk, IfErr};
-ghost use Rattle.rbg_syntax.specs.Plain.{IsPlain};
 ghost use Rattle.rbg_syntax.specs.Descriptions.{description_of};
 ghost use Rattle.rbg_game.specs.Loading.{HasSectionsOf, Describes, Loads, IsRefused};
 
@@ -24,7 +23,6 @@ pub fn load(alloc: Global, text: &[u8]) -> Result<Game, LoadError>
 /// What the text spells.
 fn describe(alloc: Global, text: &[u8]) -> Result<Description, LoadError>
     ensures spelt { IfOk result (λ d. Describes text.now (description_of d)) }
-    ensures plain { IfOk result (λ d. IsPlain (description_of d)) }
     ensures refused { IfErr result (IsRefused text.now) }
 {
     let source = read_sections(alloc, text)?;

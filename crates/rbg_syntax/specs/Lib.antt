@@ -5,7 +5,6 @@ pub mod Formed
 pub mod Grammar
 pub mod Laws
 pub mod Phrase
-pub mod Plain
 pub mod Sections
 pub mod Spells
 pub mod Tree

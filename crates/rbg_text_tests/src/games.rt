@@ -77,8 +77,7 @@ fn texts_are_these_games(rt: HostRuntime) -> Result<(), Fail> {
 }
 
 /// The error of a game, with the place of the mark `|`, and the text without it.
-fn marked(alloc: Global, parts: [&str; 4], fault: &str) -> Result<(String, String), Fail> {
-    let text = text_of(alloc, parts)?;
+fn marked(alloc: Global, text: String, fault: &str) -> Result<(String, String), Fail> {
     match text.as_str().split_once('|') {
         Some((before, after)) => {
             let at = before.len();
@@ -167,7 +166,99 @@ const FAULTS: [([&str; 4], &str); 19] = [
 #[test]
 fn the_first_fault_of_a_description_decides(rt: HostRuntime) -> Result<(), Fail> {
     for (parts, fault) in FAULTS {
-        let (text, want) = marked(rt.alloc(), parts, fault)?;
+        let (text, want) = marked(rt.alloc(), text_of(rt.alloc(), parts)?, fault)?;
+        let found = answer(rt.alloc(), text.as_str())?;
+        assert_eq!(rt; found.as_str(), want.as_str(), "{text}");
+    }
+    Ok(())
+}
+
+/// A text with these variables and this board.
+fn text_with(alloc: Global, variables: &str, board: &str) -> Result<String, AllocError> {
+    format!(in alloc;
+        "#players = w(1)\n#variables = {variables}\n#pieces = e, p\n#board = {board}\n#rules = ->w"
+    )
+}
+
+/// The piece of each vertex, and where the directions lead from it.
+fn shown_board(alloc: Global, game: &Game) -> Result<String, Fail> {
+    let board = game.board();
+    let mut text = String::new(alloc);
+    for vertex in 0..board.len() {
+        let piece = board.piece_at_start(vertex as u32);
+        write!(text, "{piece}")?;
+        for direction in 0..game.directions() {
+            let to = board.step(vertex as u32, direction as u16);
+            write!(text, " {to:?}")?;
+        }
+        write!(text, ";")?;
+    }
+    Ok(text)
+}
+
+#[test]
+fn texts_have_these_boards(rt: HostRuntime) -> Result<(), Fail> {
+    for (board, want) in [
+        (
+            "hexagon(nw,ne,e,se,sw,w,[e][e,p])",
+            "0 None None None Some(2) Some(1) None;0 None Some(0) Some(2) None None None;1 Some(0) None None None None Some(1);",
+        ),
+        // Directions are numbered where they are first used, and vertices where they are written.
+        (
+            "graph(a[e]{r: b, l: a} b[p]{l: a})",
+            "0 Some(1) Some(0);1 None Some(0);",
+        ),
+    ] {
+        let text = text_with(rt.alloc(), "x(3)", board)?;
+        let found = match load(rt.alloc(), text.as_bytes()) {
+            Ok(game) => shown_board(rt.alloc(), &game)?,
+            Err(error) => format!(in rt.alloc(); "{error:?}")?,
+        };
+        assert_eq!(rt; found.as_str(), want);
+    }
+    Ok(())
+}
+
+/// Variables and a board, and the fault, which is at the mark `|` where there is one.
+const BOARD_FAULTS: [(&str, &str, &str); 12] = [
+    ("|w(1)", "graph()", "SameName"),
+    ("x(1), |x(2)", "graph()", "SameName"),
+    ("x(|1000000001)", "graph()", "Bound"),
+    ("", "hexagon(a,b,c,d,e,f,[e][e,|x][])", "UnknownName"),
+    ("", "hexagon(a,a,c,d,e,f,[e][])", "Board { error: NoCell }"),
+    (
+        "",
+        "hexagon(a,a,c,d,e,f,[e][e])",
+        "Board { error: RowLength { row: 1 } }",
+    ),
+    (
+        "",
+        "hexagon(a,b,c,d,e,a,[e][e,e])",
+        "Board { error: SameDirection }",
+    ),
+    ("", "graph()", "Board { error: NoCell }"),
+    ("", "graph(a[e]{} a[|x]{})", "UnknownName"),
+    (
+        "",
+        "graph(a[e]{r: c} a[e]{r: a, r: a})",
+        "Board { error: SameVertex }",
+    ),
+    (
+        "",
+        "graph(a[e]{r: c} b[e]{r: a, r: a})",
+        "Board { error: SameDirection }",
+    ),
+    (
+        "",
+        "graph(a[e]{r: a} b[e]{r: c})",
+        "Board { error: UnknownVertex }",
+    ),
+];
+
+#[test]
+fn the_first_fault_of_a_board_decides(rt: HostRuntime) -> Result<(), Fail> {
+    for (variables, board, fault) in BOARD_FAULTS {
+        let (text, want) = marked(rt.alloc(), text_with(rt.alloc(), variables, board)?, fault)?;
         let found = answer(rt.alloc(), text.as_str())?;
         assert_eq!(rt; found.as_str(), want.as_str(), "{text}");
     }
