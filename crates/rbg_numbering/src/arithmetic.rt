@@ -67,11 +67,7 @@ fn number_terms(
 
 /// What a term adds to the terms before it, or takes away.
 #[cycle(arithmetic)]
-fn number_term(
-    alloc: Global,
-    names: &NameTables<'_>,
-    term: &Term,
-) -> Result<Operation, GameError>
+fn number_term(alloc: Global, names: &NameTables<'_>, term: &Term) -> Result<Operation, GameError>
     requires formed { is_formed_expression (expression_of term.now.value) ≡ true }
     requires limits { IsWithinLimits (names_of names.now) }
     ensures value { IfOk result (AddsTerm (names_of names.now) (term_of term.now)) }
