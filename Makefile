@@ -1,19 +1,21 @@
 # What a person does with this repository. Plain `make` prints the targets.
 RT ?= rt
 PROGRAM := crates/rbg_manager
+AUTHOR := crates/rbg_author_main
 CRATES := $(wildcard crates/*)
-# The programs with a stored run, and the crates with tests.
-STORED := $(patsubst crates/%/stdin,%,$(wildcard crates/*/stdin))
+# The programs with a stored run, and the crates with tests. Stored runs with words of their own are the gate's.
+STORED := $(filter-out $(patsubst crates/%/args,%,$(wildcard crates/*/args)) rbg_games,$(patsubst crates/%/stdin,%,$(wildcard crates/*/stdin)))
 TESTED := $(sort $(foreach file,$(shell grep -rl --include='*.rt' '^ *#\[test\]' crates),$(word 2,$(subst /, ,$(file)))))
 # How long a test may take without the proof: its build checks each step.
 SECONDS := 600
 
-.PHONY: help run try build test check fmt clean
+.PHONY: help run games try build test check fmt clean
 
 help:
 	@echo 'make run    referees the stored match (crates/rbg_manager/stdin), with no proof'
+	@echo 'make games  checks each game of games/ and prints its counts, with no proof'
 	@echo 'make try    runs every stored run and every test, with no proof; make -j4 try runs four at once'
-	@echo 'make build  proves the program and what it stands on, and leaves it as ./rbg'
+	@echo 'make build  proves the programs and what they stand on, and leaves them as ./rbg and ./rbg_author'
 	@echo 'make test   the gate: every proof from nothing, the must-fail edits, each test, each program'
 	@echo 'make check  proves what changed since the last check, lowest crates first'
 	@echo 'make fmt    lays out the sources and the proofs'
@@ -21,6 +23,9 @@ help:
 
 run:
 	@cd $(PROGRAM) && $(RT) try < stdin
+
+games:
+	@cd crates/rbg_games && $(RT) try --seconds $(SECONDS) $(foreach game,$(wildcard games/*.rbg),--data $(notdir $(game))=../../$(game)) < stdin
 
 try: $(STORED:%=try-run-%) $(TESTED:%=try-test-%)
 
@@ -33,6 +38,8 @@ try-test-%:
 build:
 	cd $(PROGRAM) && $(RT) run < stdin
 	cp $(PROGRAM)/out/rbg_manager rbg
+	cd $(AUTHOR) && $(RT) run -- --help
+	cp $(AUTHOR)/out/rbg_author_main rbg_author
 
 test:
 	$(RT) ci
@@ -44,4 +51,4 @@ fmt:
 	@for crate in $(CRATES); do (cd $$crate && $(RT) fmt) || exit 1; done
 
 clean:
-	rm -rf $(addsuffix /out,$(CRATES)) rbg
+	rm -rf $(addsuffix /out,$(CRATES)) rbg rbg_author

@@ -1,7 +1,7 @@
 //! Small facts of small games, which show what the definitions say. Each function does nothing: its contract is the
 //! fact.
 ghost use Rattle.std.specs.Prelude.{◌≡◌, ℕ, ◌-◌, ◌^◌, List, [], ◌∷◌, All, Contains, Some, None, Bool, pos, negsuc};
-ghost use Rattle.rbg_rules.specs.Expression.{number, variable, piece_count, sum, difference, product, quotient, off, on, sequence_of, choice_of, act, star};
+ghost use Rattle.rbg_rules.specs.Expression.{number, variable, piece_count, negated, sum, difference, product, quotient, off, on, sequence_of, choice_of, act, star};
 ghost use Rattle.rbg_rules.specs.Positions.{IsNumbered, inside};
 ghost use Rattle.rbg_rules.specs.Words.{Word, after, beginning};
 ghost use Rattle.rbg_rules.specs.State.{AbstractState, start_of};
@@ -62,6 +62,11 @@ pub fn numbers_of_64_bits()
         Some (negsuc (2 ^ 63 - 1)) }
     ensures below { value_of (difference (difference (number 0) (number (2 ^ 63 - 1))) (number 2)) (state_of 1 [] 0) ≡
         None }
+    ensures negated_least { value_of (quotient (difference (negated (number (2 ^ 63 - 1))) (number 1))
+        (negated (number 1))) (state_of 1 [] 0) ≡ None }
+    ensures product { value_of (product (number (2 ^ 32)) (number (2 ^ 31 - 1))) (state_of 1 [] 0) ≡
+        Some (pos (2 ^ 63 - 2 ^ 32)) }
+    ensures wide_product { value_of (product (number (2 ^ 32)) (number (2 ^ 31))) (state_of 1 [] 0) ≡ None }
 {}
 
 /// A piece in arithmetic is the number of vertices that hold it.

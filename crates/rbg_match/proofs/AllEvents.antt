@@ -1,6 +1,6 @@
 -- Events handled in turn: what is sent in all, and the streams after them.
 use Rattle.std.proofs.Common.{◌≡◌, ℕ, ◌+◌, ◌<◌, true, false, List, [], ◌∷◌, ◌++◌, length, map, take, get_or, Option, Some, None, is_some, Result, Ok, Err, Bool, refl, sym, ap, ◌∙◌, subst, append_assoc}
-use Rattle.std.specs.Result.{is_err, OnOk, OnErr}
+use Rattle.std.specs.Result.{is_err, IsOk, OnOk, OnErr}
 use Rattle.std.proofs.lemmas.Bool.{true≢false, false≢true}
 use Rattle.std.proofs.lemmas.List.{append-nil, map_more, take-map}
 use Rattle.rbg_wire.specs.declared.outcome.Outcome.{Outcome}
@@ -90,6 +90,16 @@ at_ok (Err error) refused test is holds = absurd (true≢false (sym test ∙ is)
 pub at_err : {T E P : Type 0} (result : Result T E) (refused : Bool) → refused ≡ is_err result → refused ≡ true → OnErr result P → P
 at_err (Ok value) refused test is holds = absurd (false≢true (sym test ∙ is))
 at_err (Err error) refused test is holds = holds
+
+-- a call that was refused was not `Ok`
+pub at_err_not_ok : {T E : Type 0} (result : Result T E) (refused : Bool) → refused ≡ is_err result → refused ≡ true → ¬ IsOk result
+at_err_not_ok (Ok value) refused test is ok = false≢true (sym test ∙ is)
+at_err_not_ok (Err error) refused test is ok = false≢true ok
+
+-- what is no outcome
+pub no_outcome : (outcome : Option Outcome) → ((one : Outcome) → outcome ≡ Some one → ⊥) → outcome ≡ None
+no_outcome None never = refl
+no_outcome (Some one) never = absurd (never one refl)
 
 -- the events so far, and one more
 pub one_more_step : {old middle new : MatchState} {before between after : List (List ℕ)} (events : List Event) (done : ℕ) (d : Event) → done < length events → StepsAll old before (map event_of (take done events)) middle between → Steps middle (event_of (get_or events done d)) new between after → StepsAll old before (map event_of (take (done + 1) events)) new after

@@ -57,12 +57,13 @@ handles_piece moment inboxes event seat at bytes inbox is test there first handl
     ap (inputs_in (rests_of inboxes)) is ∙ inputs_of_piece (rests_of inboxes) seat at bytes test ∙ ap (λ (c : Cut). tick ∷ map (sent seat) c.items) (cut_of_inbox inboxes seat bytes inbox there) in
     handles_as moment _ _ same (handles-append (one_handled first) handles)
 
+-- what a piece leaves of the streams
+pub left_of_piece : (rests : List Rest) (seat at : ℕ) (bytes : List ℕ) → has_seat rests seat ≡ true → rests_after rests (piece seat at bytes) ≡ set rests (seat - 1) (cut_of rests seat bytes).rest
+left_of_piece rests seat at bytes test = rw test refl
+
 -- what is left of the streams after a piece
 pub rests_after_piece : (inboxes : List Stream) (event : AbstractEvent) (seat at : ℕ) (bytes : List ℕ) (inbox after : Stream) → event ≡ piece seat at bytes → has_seat (rests_of inboxes) seat ≡ true → seat - 1 < length inboxes → after.rest ≡ (cut message_limit (get_or inboxes (seat - 1) inbox).rest bytes).rest → rests_of (set inboxes (seat - 1) after) ≡ rests_after (rests_of inboxes) event
 rests_after_piece inboxes event seat at bytes inbox after is test there rest =
     map-set (λ (one : Stream). one.rest) inboxes (seat - 1) after
     ∙ ap (λ one. set (rests_of inboxes) (seat - 1) one) (rest ∙ ap (λ (c : Cut). c.rest) (sym (cut_of_inbox inboxes seat bytes inbox there)))
     ∙ sym (ap (rests_after (rests_of inboxes)) is ∙ left_of_piece (rests_of inboxes) seat at bytes test)
-  where
-    left_of_piece : (rests : List Rest) (seat at : ℕ) (bytes : List ℕ) → has_seat rests seat ≡ true → rests_after rests (piece seat at bytes) ≡ set rests (seat - 1) (cut_of rests seat bytes).rest
-    left_of_piece rests seat at bytes test = rw test refl

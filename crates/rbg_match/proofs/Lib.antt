@@ -26,3 +26,8 @@ pub mod OpeningLemmas
 pub mod GameText
 pub mod AllEvents
 pub mod WholeMatch
+pub mod EndedLemmas
+pub mod OneByOne
+pub mod Settling
+pub mod CuttingLemmas
+pub mod OneTranscriptLemmas

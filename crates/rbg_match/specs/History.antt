@@ -27,6 +27,18 @@ pub data LeadsTo (game : AbstractGame) : List Made → AbstractPlace → Type 0 
       length made.pairs ≤ most_pairs →
       LeadsTo game (moves ++ made ∷ []) to
 
+-- These moves were made from the first moment to the last one: none of them before the first one, before the move that
+-- precedes it, or after the last one.
+pub data MadeBetween (first : ℕ) : List Made → (last : ℕ) → Type 0 where
+  nothing : {last : ℕ} →
+      first ≤ last →
+      MadeBetween first [] last
+  next : {moves : List Made} {last : ℕ} →
+      (made : Made) →
+      MadeBetween first moves made.at →
+      made.at ≤ last →
+      MadeBetween first (moves ++ made ∷ []) last
+
 -- A player is to move, and has a legal move.
 pub record HasTurn (game : AbstractGame) (place : AbstractPlace) : Type 0 where
   pub player : place.state.player ≢ 0
@@ -47,7 +59,8 @@ FitsOutcome game play (Some (Refusals seat)) = HasTurn game play.place × (1 ≤
 FitsOutcome game play (Some (Gone seat)) = HasTurn game play.place × (1 ≤ seat) × (seat ≤ seats_of game)
 FitsOutcome game play (Some Heavy) = Unit {0}
 
--- The history that a state of play tells.
-pub record IsHistory (game : AbstractGame) (play : AbstractPlay) : Type 0 where
+-- The history that a state of play tells, where the match began at a moment and its greatest moment is another.
+pub record IsHistory (game : AbstractGame) (began moment : ℕ) (play : AbstractPlay) : Type 0 where
   pub leads : LeadsTo game play.made play.place
+  pub in_order : MadeBetween began play.made moment
   pub fits : FitsOutcome game play play.outcome

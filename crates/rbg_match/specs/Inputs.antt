@@ -1,5 +1,6 @@
 -- What a list of events stands for: inputs, each at its counted moment.
 use Rattle.std.specs.Prelude.{
+  ◌≡◌,
   ℕ,
   ◌-◌,
   ◌&&◌,
@@ -14,6 +15,7 @@ use Rattle.std.specs.Prelude.{
   min,
   replicate,
   Bool,
+  false,
   slice_index_or,
   slice_set,
   if◌then◌else◌,
@@ -71,6 +73,13 @@ inputs_in rests (piece seat at bytes) =
     tick ∷ (if has_seat rests seat then map (sent seat) (cut_of rests seat bytes).items else [])
 inputs_in rests (end_of_stream seat at) = (if has_seat rests seat then gone seat else tick) ∷ []
 inputs_in rests (moment_alone at) = tick ∷ []
+
+-- The event is a moment of the clock, or of a seat that the match doesn't have. So it stands for a tick, and no stream
+-- goes on.
+abbrev pub IsTickAlone : List Rest → AbstractEvent → Type 0
+IsTickAlone rests (piece seat at bytes) = has_seat rests seat ≡ false
+IsTickAlone rests (end_of_stream seat at) = has_seat rests seat ≡ false
+IsTickAlone rests (moment_alone at) = Unit {0}
 
 -- the rests of the streams after an event
 abbrev pub rests_after : List Rest → AbstractEvent → List Rest

@@ -11,4 +11,5 @@ pub mod Inputs
 pub mod Transcript
 pub mod Matches
 pub mod Refereed
+pub mod Laws
 pub mod internal

@@ -5,6 +5,7 @@ use Rattle.rbg_rules.specs.State.{AbstractGame}
 use Rattle.rbg_match.specs.declared.config.Config.{Config}
 use Rattle.rbg_match.specs.Config.{IsWithinLimits}
 use Rattle.rbg_match.specs.Deliveries.{Delivery, queued, delivered}
+use Rattle.rbg_match.specs.History.{IsHistory}
 use Rattle.rbg_match.specs.Inputs.{
   AbstractEvent,
   Streams,
@@ -30,6 +31,10 @@ pub record MatchState : Type 0 where
   pub play : AbstractPlay
   pub streams : Streams
   pub failed : Bool
+
+-- The history that a match tells.
+abbrev pub HasHistory : MatchState → Type 0
+HasHistory state = IsHistory state.game state.began state.streams.moment state.play
 
 -- A match of this game, text and config opens at a moment: each seat is greeted, and play goes on from the start.
 pub record Opens (game : AbstractGame) (text : List ℕ) (config : Config) (now : ℕ)

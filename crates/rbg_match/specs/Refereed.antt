@@ -1,5 +1,5 @@
 -- A whole match, from the text of its game and the events to the bytes of each seat.
-use Rattle.std.specs.Prelude.{◌≡◌, ℕ, ◌<◌, ◌⊎◌, List, [], length, take}
+use Rattle.std.specs.Prelude.{◌≡◌, ℕ, ◌<◌, ◌⊎◌, List, [], length, take, None}
 use Rattle.rbg_rules.specs.State.{AbstractGame}
 use Rattle.rbg_game.specs.Loading.{Loads, IsRefused, IsMemory}
 use Rattle.rbg_match.specs.declared.config.Config.{Config}
@@ -26,18 +26,24 @@ pub record IsRefereed (text : List ℕ) (config : Config) (now : ℕ) (events : 
   pub transcript : Transcript game text config now events play said
   pub bytes : outbox ≡ queued (seats_of game) said
 
+-- The same, and the match has not ended after these events.
+pub record IsStillInPlay (text : List ℕ) (config : Config) (now : ℕ) (events : List AbstractEvent)
+    (outbox : List (List ℕ)) : Type 0 where
+  pub refereed : IsRefereed text config now events outbox
+  pub going : refereed.play.outcome ≡ None
+
 -- Why a match is not refereed to its end.
 --   Load: the text is no game's, and the fault that the error names is in it. The error is not out of memory.
 --   Config: the text is a game's, and a number of the config is outside its limits.
---   Memory: either the match wasn't made, or this number of events was handled, and each seat has what a match of those
---   sends.
+--   Memory: either the number is 0 and the outbox has no seat, or this number of events was handled, the match had not
+--   ended after them, and each seat has what a match of those sends.
 --   NotYet: the text is a game's, and this is the first position that is not played yet.
 abbrev pub IsRefusedFor : (text : List ℕ) → Config → (now : ℕ) → List AbstractEvent → RefereeError → Type 0
 IsRefusedFor text config now events (Load error) = IsRefused text error × ¬ IsMemory error
 IsRefusedFor text config now events ConfigRefused = (game : AbstractGame) × Loads text game × ¬ IsWithinLimits config
 IsRefusedFor text config now events (Memory done said) =
     (done ≡ 0) × (said ≡ [])
-    ⊎ (done < length events) × IsRefereed text config now (take done events) said
+    ⊎ (done < length events) × IsStillInPlay text config now (take done events) said
 IsRefusedFor text config now events (NotYet position) =
     (game : AbstractGame) × Loads text game × IsWithinLimits config × IsFirstNotPlayed game.rules position
 

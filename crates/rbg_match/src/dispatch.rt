@@ -1,9 +1,9 @@
 //! How a match handles an event: the inputs that the event stands for, in turn.
-ghost use Rattle.std.specs.Prelude.{◌≡◌, ℕ, ◌≤◌, ◌<◌, ◌&&◌, ◌↔◌, nat_le, IsTrue, IsOk, length, map, None, OnOk};
+ghost use Rattle.std.specs.Prelude.{◌≡◌, ◌≤◌, ◌<◌, ◌&&◌, ◌↔◌, nat_le, IsTrue, IsOk, length, map, None, OnOk};
 ghost use Rattle.rbg_wire.specs.Streams.{cut};
 ghost use Rattle.rbg_match.specs.Handling.{sent};
 ghost use Rattle.rbg_match.specs.internal.Inboxes.{IsReady, AreReady, rests_of};
-ghost use Rattle.rbg_match.specs.Inputs.{event_of, inputs_in, inputs_at, moment_alone, rests_after};
+ghost use Rattle.rbg_match.specs.Inputs.{IsTickAlone, event_of, inputs_in, inputs_at, rests_after};
 ghost use Rattle.rbg_match.specs.Limits.{message_limit};
 ghost use Rattle.rbg_match.specs.Play.{due_of};
 ghost use Rattle.rbg_match.specs.internal.PlayOf.{play_of};
@@ -74,8 +74,7 @@ pub(crate) fn handle_event(
         HandlesAll context.entry.game.now context.entry.config (play_of play.old)
         (inputs_at context.entry.moment (inputs_in (rests_of inboxes.old) (event_of event.entry)))
         (play_of play.new) said) }
-    ensures quiet { (at : ℕ) →
-        event_of event.entry ≡ moment_alone at →
+    ensures quiet { IsTickAlone (rests_of inboxes.old) (event_of event.entry) →
         context.entry.moment < due_of context.entry.config (play_of play.old) →
         IsOk result }
     ensures ready { OnOk result (AreReady inboxes.new) }

@@ -38,8 +38,8 @@ pub enum RefereeError {
     /// A number of the config is outside its limits.
     #[error("a number of the config is outside its limits")]
     Config,
-    /// A request for memory failed. The first `done` events were handled, and `said` is the outbox after them. It has
-    /// no seat if the match wasn't made.
+    /// A request for memory failed. Either `done` is 0 and `said` has no seat, or the first `done` events were handled,
+    /// the match had not ended after them, and `said` is the outbox after them.
     #[error("out of memory after {done} events")]
     Memory { done: usize, said: Outbox },
     /// The action at this position, or a sum or star that holds it, is not played yet.

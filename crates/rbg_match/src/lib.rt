@@ -9,6 +9,7 @@ mod error;
 mod event;
 mod handling;
 mod input;
+pub mod laws;
 mod made;
 mod matches;
 mod opening;

@@ -85,12 +85,11 @@ impl Match {
       IsOk,
     };
     ghost use Rattle.rbg_match.specs.Config.{IsWithinLimits};
-    ghost use Rattle.rbg_match.specs.History.{IsHistory};
-    ghost use Rattle.rbg_match.specs.Inputs.{counted, moment_alone};
+    ghost use Rattle.rbg_match.specs.Inputs.{IsTickAlone, counted, moment_of};
     ghost use Rattle.rbg_rules.specs.Places.{IsPlaceOf};
     ghost use Rattle.rbg_match.specs.Play.{due_of, refusals_of};
     ghost use Rattle.rbg_match.specs.OneWord.{IsOneWord, IsFirstNotPlayed};
-    ghost use Rattle.rbg_match.specs.Matches.{Opens, Steps};
+    ghost use Rattle.rbg_match.specs.Matches.{HasHistory, Opens, Steps};
     ghost use Rattle.rbg_wire.specs.declared.outcome.Outcome.{Outcome};
 
     /// Makes a match of a game at the moment `now`. Each seat is greeted, and play goes on from the start. Returns the
@@ -105,7 +104,7 @@ impl Match {
         requires { Loads text.now game }
         ensures opens { IfOk result (λ made. Opens game text.now config now made.0 made.1) }
         ensures seats { IfOk result (λ made. length made.1 ≡ seats_of made.0.game) }
-        ensures history { IfOk result (λ made. IsHistory made.0.game made.0.play) }
+        ensures history { IfOk result (λ made. HasHistory made.0) }
         ensures config { IsErrOf result MatchError.Config ↔ (¬ IsWithinLimits config) }
         ensures not_yet { (position : ℕ) →
             IsErrOf result (MatchError.NotYet position)
@@ -127,19 +126,17 @@ impl Match {
         ensures ok { OnOk result (Steps self.old (event_of event.entry) self.new outbox.old outbox.new) }
         ensures err { OnErr result
             ((outbox.new ≡ outbox.old) × (self.new.failed ≡ true) × (self.new.game ≡ self.old.game)) }
-        ensures history { OnOk result
-            (IsHistory self.old.game self.old.play → IsHistory self.new.game self.new.play) }
+        ensures history { OnOk result (HasHistory self.old → HasHistory self.new) }
         ensures failed { self.old.failed ≡ true → IsErr result }
         ensures seats { length outbox.new ≡ length outbox.old }
 
-        // Neither an ended match nor a moment before the due one needs memory.
+        // Neither an ended match nor a tick before the due moment needs memory.
         ensures ended { (outcome : Outcome) →
             self.old.play.outcome ≡ Some outcome →
             self.old.failed ≡ false →
             IsOk result }
-        ensures quiet { (at : ℕ) →
-            event_of event.entry ≡ moment_alone at →
-            counted self.old.streams at < due_of self.old.config self.old.play →
+        ensures quiet { IsTickAlone self.old.streams.rests (event_of event.entry) →
+            counted self.old.streams (moment_of (event_of event.entry)) < due_of self.old.config self.old.play →
             self.old.failed ≡ false →
             IsOk result }
     {

@@ -1,5 +1,5 @@
 //! A whole match, from the text of its game and a list of events to the bytes of each seat.
-ghost use Rattle.std.specs.Prelude.{◌≡◌, ◌<◌, ℕ, List, length, map, take, IfOk, IfErr, OnOk};
+ghost use Rattle.std.specs.Prelude.{◌≡◌, ◌<◌, ℕ, List, length, map, take, false, None, IfOk, IfErr, OnOk};
 ghost use Rattle.rbg_game.specs.Loading.{IsRefused};
 ghost use Rattle.rbg_match.specs.declared.config.Config.{Config};
 ghost use Rattle.rbg_match.specs.PlayingOn.{seats_of};
@@ -70,14 +70,16 @@ fn not_loaded(alloc: Global, error: LoadError) -> RefereeError
     RefereeError::Load(error)
 }
 
-/// Handles the events in turn. An `Err` holds how many events were handled.
+/// Handles the events in turn. An `Err` holds how many events were handled. The match had not ended after them.
 fn handle_all(refereed: &mut Match, events: &[Event<'_>], outbox: &mut Outbox) -> Result<(), usize>
-    requires { length outbox.old ≡ seats_of refereed.old.game }
+    requires works { refereed.old.failed ≡ false }
+    requires seats { length outbox.old ≡ seats_of refereed.old.game }
     ensures all { OnOk result (StepsAll refereed.old outbox.old (map event_of events.now) refereed.new outbox.new) }
     ensures some { IfErr result (λ done.
         (done < length events.now)
         × (state : MatchState)
-        × StepsAll refereed.old outbox.old (take done (map event_of events.now)) state outbox.new) }
+        × StepsAll refereed.old outbox.old (take done (map event_of events.now)) state outbox.new
+        × (state.play.outcome ≡ None)) }
 {
     for (done, event) in events.iter().enumerate() {
         if refereed.step(*event, outbox).is_err() {

@@ -67,7 +67,7 @@ pub(crate) fn make(
         pairs: pairs.clone()?,
     };
     outbox.tell_each(&message)?;
-    let player = play.mover();
+    let player = play.place.state.player();
     let at = context.moment;
     play.made.push(Made { player, at, pairs })?;
     play.place = to;

@@ -35,3 +35,21 @@ impl Place {
         })
     }
 }
+
+impl PartialEq for Place {
+    ghost use Rattle.rbg_moves.specs.Equality.{is_same_place, same_place_laws};
+
+    ghost eq = { is_same_place };
+
+    ghost laws = { same_place_laws };
+
+    fn eq(&self, other: &Place) -> bool {
+        self.state == other.state && self.after == other.after
+    }
+}
+
+impl Eq for Place {
+    ghost use Rattle.rbg_moves.specs.Equality.{same_place_equiv};
+
+    ghost laws = { same_place_equiv };
+}

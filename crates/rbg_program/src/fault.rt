@@ -1,14 +1,14 @@
-//! Why nothing is done: each fault's printed line and its status.
+//! Why a task is not done: each fault's printed line and its status.
 
-use crate::refusal::Refusal;
 use crate::script::ScriptError;
+use rbg_console::{DEVICE, Refusal, WordsError, write_text};
 use rbg_game::LoadError;
 use rbg_match::RefereeError;
 use std::alloc::AllocError;
 use std::io::{self, Write};
 use thiserror::Error;
 
-/// Why the program does not do what it is asked for. Its text is the printed line.
+/// Why the program does no task. Its text is the printed line.
 #[derive(Debug, Drop, Error)]
 pub enum Fault {
     /// The description is refused.
@@ -25,9 +25,12 @@ pub enum Fault {
     Device,
     #[error("memory")]
     Memory(#[from(alloc)] AllocError),
-    /// The words are not those of a command.
-    #[error("command line")]
-    CommandLine,
+    /// The words ask for help or for the version, which is this text.
+    #[error("{0}")]
+    Help(String),
+    /// The words are not those of a command, as this text says.
+    #[error("{0}")]
+    CommandLine(String),
 }
 
 impl Fault {
@@ -38,13 +41,11 @@ impl Fault {
             Fault::Script(_) => 2,
             Fault::Device => DEVICE,
             Fault::Memory(_) => 4,
-            Fault::CommandLine => 64,
+            Fault::Help(_) => 0,
+            Fault::CommandLine(_) => 64,
         }
     }
 }
-
-/// The status where a file or a stream fails.
-const DEVICE: u8 = 3;
 
 impl From<LoadError> for Fault {
     fn from(error: LoadError) -> Fault {
@@ -76,27 +77,32 @@ impl From<ScriptError> for Fault {
     }
 }
 
-/// Writes the lines or the fault's line, and gives the status. A fault of the command line has no line. Where the
-/// output fails, the status is that of a device.
-pub fn report<W: Write>(output: &mut W, outcome: &Result<Vec<u8>, Fault>) -> u8 {
-    match write_outcome(output, outcome) {
-        Ok(status) => status,
-        Err(_) => DEVICE,
+impl From<WordsError> for Fault {
+    fn from(error: WordsError) -> Fault {
+        match error {
+            WordsError::Shown(text) => Fault::Help(text),
+            WordsError::Wrong(text) => Fault::CommandLine(text),
+            WordsError::Memory(error) => Fault::Memory(error),
+        }
     }
 }
 
-fn write_outcome<W: Write>(output: &mut W, outcome: &Result<Vec<u8>, Fault>) -> io::Result<u8> {
-    let status = match outcome {
-        Ok(lines) => {
-            output.write_all(lines.as_slice())?;
-            0
-        }
-        Err(Fault::CommandLine) => Fault::CommandLine.status(),
-        Err(fault) => {
-            writeln!(output, "{fault}")?;
-            fault.status()
-        }
-    };
-    output.flush()?;
-    Ok(status)
+/// Writes the lines or the fault's line, and gives the status, or that of a device where the output fails.
+pub fn report<W: Write>(output: &mut W, outcome: &Result<Vec<u8>, Fault>) -> u8 {
+    match outcome {
+        Ok(lines) => write_text(output, lines.as_slice(), 0),
+        Err(fault) => match write_fault(output, fault) {
+            Ok(()) => fault.status(),
+            Err(_) => DEVICE,
+        },
+    }
+}
+
+fn write_fault<W: Write>(output: &mut W, fault: &Fault) -> io::Result<()> {
+    match fault {
+        // these texts end with a line feed of their own
+        Fault::Help(text) | Fault::CommandLine(text) => output.write_all(text.as_bytes())?,
+        _ => writeln!(output, "{fault}")?,
+    }
+    output.flush()
 }

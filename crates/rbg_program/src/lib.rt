@@ -2,12 +2,10 @@
 #![tactic(auto)]
 
 mod fault;
-mod input;
 mod printed;
 mod program;
-mod refusal;
 mod script;
+mod task;
 
 pub use fault::{Fault, report};
-pub use input::{Input, MAX_INPUT, read_input};
-pub use program::{Files, run};
+pub use program::run;

@@ -12,13 +12,13 @@ use Rattle.rbg_syntax.specs.Grammar.{ArePlayers, AreVariables, ArePieces, IsBoar
 use Rattle.rbg_syntax.specs.internal.Reading.{Gives, GivesWithin, Fails, is_name, is_symbol, bounded_at, name_at, separated_at, listed_at, board_at, whole_at, variables_at}
 use Rattle.rbg_syntax.specs.internal.RuleReading.{rules_at}
 use Rattle.rbg_syntax.specs.Sections.{sections_of, AreDifferent}
-use Rattle.rbg_syntax.specs.Spells.{HasSection, IsSection, MayHaveVariables, IsSpelt, HasFault}
+use Rattle.rbg_syntax.specs.Spells.{HasSection, MayHaveVariables, IsSpelt, HasFault}
 use Rattle.rbg_syntax.proofs.Readers.{Always}
 use Rattle.rbg_syntax.proofs.Combinators.{EndsList, Stops}
 use Rattle.rbg_syntax.proofs.SectionReaders.{players_read, names_read, board_read}
 use Rattle.rbg_syntax.proofs.Answers.{Reads, Reads-from_gives, ok_value, whole_sound, whole_complete}
 use Rattle.rbg_syntax.proofs.Depths.{spells_nothing, too_deep_here}
-use Rattle.rbg_syntax.proofs.OneDescription.{spelt_here, one_variables, variables_read}
+use Rattle.rbg_syntax.proofs.OneDescription.{one_variables, variables_read}
 use Rattle.rbg_syntax.proofs.RuleReaders.{EndsRules, nothing_ends_rules, rules_read}
 
 -- a section of a kind is the only one where none stands twice

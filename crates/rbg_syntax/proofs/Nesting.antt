@@ -1,5 +1,5 @@
 -- How deep brackets are open along tokens.
-use Rattle.std.proofs.Common.{◌≡◌, ◌<◌, ◌+◌, ◌-◌, ℕ, List, [], ◌∷◌, ◌++◌, Bool, true, false, cond, refl, ap, ◌∙◌, arith}
+use Rattle.std.proofs.Common.{◌≡◌, ◌<◌, ◌+◌, ℕ, List, [], ◌∷◌, ◌++◌, true, false, refl, arith}
 use Rattle.rbg_macro.specs.Token.{Lexeme}
 use Rattle.rbg_macro.specs.declared.token.TokenKind.{TokenKind}
 use Rattle.rbg_syntax.specs.Spells.{opens, closes, open_with, open_after}

@@ -1,5 +1,5 @@
 -- A first part and further ones, as the parser reads them.
-use Rattle.std.proofs.Common.{◌≡◌, ◌+◌, ◌-◌, ◌<◌, ℕ, zero, suc, List, [], ◌∷◌, ◌++◌, Bool, true, false, cond, Result, Ok, Err, refl, sym, ap, ◌∙◌, arith, append-nil}
+use Rattle.std.proofs.Common.{◌≡◌, ◌-◌, ℕ, zero, suc, List, [], ◌∷◌, Bool, true, false, Result, Ok, Err, refl, ap, ◌∙◌, arith}
 use Rattle.rbg_macro.specs.Token.{Lexeme}
 use Rattle.rbg_macro.specs.declared.token.Symbol.{Symbol}
 use Rattle.rbg_macro.specs.declared.token.Symbol.TheVariants.{Plus, OpenParenthesis, CloseParenthesis, OpenBrace, CloseBrace, Question, Exclamation}
@@ -11,7 +11,7 @@ use Rattle.rbg_syntax.specs.declared.expression.Multiplicative.TheVariants as mu
 use Rattle.rbg_syntax.specs.Tree.{SpeltExpression, SpeltRule, act, positive, negative, sum_of, product_of, sequence_of}
 use Rattle.rbg_syntax.specs.internal.Reading.{Fault, misfit, too_deep, Reading, ◌>>=◌, next_is, is_symbol, symbol_at, repeated_at, after_at, separated_at, within_at, further_at, in_sequence, open_atom_at}
 use Rattle.rbg_syntax.specs.internal.RuleReading.{too_deep_at, factor_at, further_factor_at, further_term_at, in_choice, in_product, in_sum, is_opening, is_product_sign, is_sum_sign, number_or_name_at, primary_at, sum_at, term_at, sum_over_at, atom_at, begins_atom, bracket_atom_at, item_at, sequence_at, rules_over_at, rules_at, pattern_at, positive_at, negative_at}
-use Rattle.rbg_syntax.proofs.Turns.{repeated_ends, prepend}
+use Rattle.rbg_syntax.proofs.Turns.{repeated_ends}
 
 further_stops : {X : Type 0} (x : X) (test : TokenKind → Bool) (read : List Lexeme → Reading X) (ts : List Lexeme) → next_is test ts ≡ false → further_at x test read ts ≡ Ok (x ∷ [], ts)
 unfolding further_at

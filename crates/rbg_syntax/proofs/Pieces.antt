@@ -1,11 +1,11 @@
 -- A phrase's own tokens, apart from what follows; and tokens that begin a phrase up to a bracket that is one too many.
-use Rattle.std.proofs.Common.{◌≡◌, ◌+◌, ℕ, suc, List, [], ◌∷◌, ◌++◌, Bool, true, false, Result, Ok, Err, refl, sym, ap, ◌∙◌, subst, arith, append_assoc}
+use Rattle.std.proofs.Common.{◌≡◌, ◌+◌, ℕ, suc, List, [], ◌∷◌, ◌++◌, true, false, Ok, Err, refl, sym, ap, ◌∙◌, subst, arith, append_assoc}
 use Rattle.rbg_macro.specs.Token.{Lexeme}
 use Rattle.rbg_macro.specs.declared.token.Symbol.{Symbol}
 use Rattle.rbg_macro.specs.declared.token.TokenKind.TheVariants as kinds
 use Rattle.rbg_syntax.specs.Phrase.{IsSymbol, symbol}
 use Rattle.rbg_syntax.specs.Spells.{opens, closes, open_with, open_after}
-use Rattle.rbg_syntax.specs.internal.Reading.{Fault, misfit, too_deep, Reading, ◌>>=◌}
+use Rattle.rbg_syntax.specs.internal.Reading.{misfit, too_deep, Reading, ◌>>=◌}
 use Rattle.rbg_syntax.proofs.Nesting.{Fits, open_after-append, fits_append, opened, closed, passed, plain_fits}
 
 -- The tokens of a phrase spell it whatever follows them. Their brackets match, and at most so many are open at once.
@@ -50,13 +50,6 @@ pub bind : {A C : Type 0} (P : List Lexeme → A → List Lexeme → Type 0) (R 
 bind P R n us ts (Ok q) r' next next' o more deeper = subst (λ u. Outcome R n ts (next q) (u >>= next')) (sym o.0) (more q o.1)
 bind P R n us ts (Err misfit) r' next next' o more deeper = ap (λ u. u >>= next') o
 bind P R n us ts (Err (too_deep at)) r' next next' o more deeper = deeper at o
-
--- what is read without brackets is the same
-pub shallow : {A : Type 0} (P : List Lexeme → A → List Lexeme → Type 0) (n : ℕ) (ts : List Lexeme) (r : Reading A)
-    → ((x : A) (rest : List Lexeme) → r ≡ Ok (x, rest) → Piece P n ts x rest) → ((at : ℕ) → r ≡ Err (too_deep at) → ⊥) → Outcome P n ts r r
-shallow P n ts (Ok q) piece never = (refl, piece q.0 q.1 refl)
-shallow P n ts (Err misfit) piece never = refl
-shallow P n ts (Err (too_deep at)) piece never = absurd (never at refl)
 
 -- a phrase seen as another one
 pub seen_piece : {A C : Type 0} (P : List Lexeme → A → List Lexeme → Type 0) (R : List Lexeme → C → List Lexeme → Type 0) (f : A → C) (n : ℕ)

@@ -3,7 +3,7 @@ use Rattle.std.proofs.Common.{◌≡◌, ◌≤◌, ◌+◌, ℕ, zero, suc, Lis
 use Rattle.std.specs.Prelude.{slice_get, IfErr}
 use Rattle.std.specs.Option.{ok_or}
 use Rattle.rbg_syntax.specs.declared.error.SyntaxError.{SyntaxError}
-use denote.Enum.Bare.{sameb, same_true, true_same, false_same}
+use denote.Enum.Bare.{sameb, same_true, true_same}
 use Rattle.rbg_macro.specs.Token.{SectionTokens}
 use Rattle.rbg_macro.specs.contracts.source.SectionKind.{the_type}
 use Rattle.rbg_macro.specs.declared.source.SectionKind.{SectionKind}
@@ -25,9 +25,6 @@ same_kind-sameb Rules _ = refl
 
 pub same_kind-same : (a b : SectionKind) → a ≡ b → same_kind a b ≡ true
 same_kind-same a b e = sym (same_kind-sameb a b) ∙ true_same the_type a b e
-
-pub same_kind-other : (a b : SectionKind) → (a ≡ b → ⊥) → same_kind a b ≡ false
-same_kind-other a b e = sym (same_kind-sameb a b) ∙ false_same the_type tt a b e
 
 pub kind_from-same : (a b : SectionKind) → same_kind a b ≡ true → a ≡ b
 kind_from-same a b e = same_true the_type tt a b (same_kind-sameb a b ∙ e)

@@ -1,17 +1,17 @@
 -- What one more bracket makes of readings that are put together of others.
-use Rattle.std.proofs.Common.{◌≡◌, ◌+◌, ℕ, zero, suc, List, [], ◌∷◌, ◌++◌, length, Bool, true, false, cond, Result, Ok, Err, refl, sym, ap, ◌∙◌, subst}
+use Rattle.std.proofs.Common.{◌≡◌, ◌+◌, ℕ, zero, suc, List, [], ◌∷◌, length, Bool, true, false, cond, Result, Ok, Err, refl, sym, ap, subst}
 use Rattle.rbg_macro.specs.Token.{Lexeme}
 use Rattle.rbg_macro.specs.declared.token.Symbol.{Symbol}
 use Rattle.rbg_macro.specs.declared.token.Symbol.TheVariants.{Comma}
 use Rattle.rbg_macro.specs.declared.token.TokenKind.{TokenKind}
 use Rattle.rbg_macro.specs.declared.token.TokenKind.TheVariants as kinds
 use Rattle.rbg_base.specs.Decimals.{number_of_digits}
-use Rattle.rbg_syntax.specs.Phrase.{IsSymbol, IsName, name, IsNumber, number, Repeated, done, again as more_of, After, after, Separated, separated, Listed, nothing, listed, Within}
-use Rattle.rbg_syntax.specs.Spells.{opens, closes, open_after}
+use Rattle.rbg_syntax.specs.Phrase.{IsSymbol, IsName, name, IsNumber, number, Repeated, done, again as more_of, After, after, Separated, separated, Listed, nothing, listed}
+use Rattle.rbg_syntax.specs.Spells.{opens, closes}
 use Rattle.rbg_syntax.specs.Tree.{SpeltName, SpeltNumber}
 use Rattle.rbg_syntax.specs.internal.Reading.{Fault, misfit, too_deep, Reading, ◌>>=◌, next_is, is_name, is_number, is_symbol, token_at, symbol_at, name_at, number_at, repeated_within, repeated_at, after_at, separated_at, listed_at}
-use Rattle.rbg_syntax.proofs.Nesting.{Fits, passed, plain_fits}
-use Rattle.rbg_syntax.proofs.Pieces.{Piece, Deep, Sample, Outcome, bind, seen_piece, seen_deep, pieces, second_deep, first_deep, symbol_piece, within_piece, within_deep}
+use Rattle.rbg_syntax.proofs.Nesting.{passed, plain_fits}
+use Rattle.rbg_syntax.proofs.Pieces.{Piece, Sample, Outcome, bind, seen_piece, seen_deep, pieces, second_deep, first_deep, symbol_piece, within_piece, within_deep}
 use Rattle.rbg_syntax.proofs.Readers.{symbol_read, name_read, number_read}
 
 -- a reading that is the same with one more bracket, and then another

@@ -1,5 +1,5 @@
 -- What one more bracket makes of readings of arithmetic.
-use Rattle.std.proofs.Common.{◌≡◌, ℕ, zero, suc, List, [], ◌∷◌, ◌++◌, Bool, true, false, cond, Result, Ok, Err, refl, ap, ◌∙◌, inl, inr, arith}
+use Rattle.std.proofs.Common.{◌≡◌, ℕ, zero, suc, List, [], ◌∷◌, Bool, true, false, cond, Ok, Err, refl, ap, inl, inr, arith}
 use Rattle.rbg_macro.specs.Token.{Lexeme}
 use Rattle.rbg_macro.specs.declared.token.Symbol.TheVariants.{Plus, Minus, Star, Slash, OpenParenthesis, CloseParenthesis}
 use Rattle.rbg_macro.specs.declared.token.TokenKind.TheVariants as kinds
@@ -7,13 +7,13 @@ use Rattle.rbg_syntax.specs.declared.expression.Additive.{Additive}
 use Rattle.rbg_syntax.specs.declared.expression.Additive.TheVariants as additive
 use Rattle.rbg_syntax.specs.declared.expression.Multiplicative.{Multiplicative}
 use Rattle.rbg_syntax.specs.declared.expression.Multiplicative.TheVariants as multiplicative
-use Rattle.rbg_syntax.specs.Tree.{SpeltName, SpeltNumber, SpeltExpression, sum_of, product_of}
+use Rattle.rbg_syntax.specs.Tree.{SpeltExpression, sum_of, product_of}
 use Rattle.rbg_syntax.specs.Phrase.{IsName, name, IsNumber, symbol, Repeated, done, After, Within, within}
 use Rattle.rbg_syntax.specs.Grammar.{IsFactor, plain, minus, IsFurtherFactor, times, over, IsTerm, term, IsFurtherTerm, plus, minus as less, IsSumOver, sum, IsNumberOrName, number as a_number, name as a_name, IsPrimary, IsSum}
 use Rattle.rbg_syntax.specs.Spells.{opens}
-use Rattle.rbg_syntax.specs.internal.Reading.{misfit, too_deep, Reading, ◌>>=◌, next_is, is_number, is_symbol, name_at, number_at, repeated_at, after_at, within_at}
-use Rattle.rbg_syntax.specs.internal.RuleReading.{too_deep_at, is_product_sign, is_sum_sign, number_or_name_at, factor_at, further_factor_at, term_at, further_term_at, sum_over_at, primary_at, sum_at}
-use Rattle.rbg_syntax.proofs.Pieces.{Deep, Sample, Outcome}
+use Rattle.rbg_syntax.specs.internal.Reading.{too_deep, Reading, ◌>>=◌, next_is, is_number, is_symbol, name_at, number_at, repeated_at, after_at, within_at}
+use Rattle.rbg_syntax.specs.internal.RuleReading.{is_product_sign, is_sum_sign, number_or_name_at, factor_at, further_factor_at, term_at, further_term_at, sum_over_at, primary_at, sum_at}
+use Rattle.rbg_syntax.proofs.Pieces.{Deep, Outcome}
 use Rattle.rbg_syntax.proofs.Readers.{kind_of-is_symbol}
 use Rattle.rbg_syntax.proofs.SharedOutcomes.{map_outcome, seen_outcome, both_outcome, none_sample, name_outcome, number_outcome, repeated_outcome, after_outcome, bracket_outcome}
 

@@ -9,8 +9,6 @@ use Rattle.rbg_syntax.specs.Tree.{SpeltExpression, SpeltRule, SpeltAction, no_ru
 use Rattle.rbg_syntax.specs.Views.{SpeltFactor, SpeltTerm, name_of, number_of, expression_of, term_of, factor_of, action_of, rule_of}
 use Rattle.rbg_syntax.specs.declared.names.Name.{Name}
 use Rattle.rbg_syntax.specs.declared.names.Number.{Number}
-use Rattle.rbg_syntax.specs.declared.expression.Additive.{Additive}
-use Rattle.rbg_syntax.specs.declared.expression.Multiplicative.{Multiplicative}
 use Rattle.rbg_syntax.specs.declared.expression.Expression.{Expression}
 use Rattle.rbg_syntax.specs.declared.expression.Expression as expressions
 use Rattle.rbg_syntax.specs.declared.expression.Term.{Term}

@@ -1,4 +1,4 @@
-use Rattle.std.proofs.Common.{length, ap, ◌∙◌, sym}
+use Rattle.std.proofs.Common.{rules, ◌≤◌, length, ap, ◌∙◌, sym}
 use Rattle.rbg_match.proofs.Sayings.{length-says}
 use Rattle.rbg_match.proofs.Stepping.{steps_after_end}
 use Rattle.rbg_match.proofs.Histories.{event_keeps, on_ok}
@@ -15,6 +15,7 @@ returns-else-is_err-clause-seats c = length-says c.handle_event-handled.ensures.
 pub returns-else-is_err-clause-history : goal.returns-else-is_err-clause-history
 returns-else-is_err-clause-history c =
     let handled = c.handle_event-handled in
+    let before : c.self.inside.moment ≤ c.max-moment.result = search rules in
     rw (← c.self.view_is)
     (on_ok handled.result handled.ensures.says.whole
-    (λ handles has. event_keeps c.self.inside.game c.self.inside.config (play_of c.self.inside.play) (play_of handled.new.play) c.deref_mut.result.now c.max-moment.result (event_of c.args.event) handled.ensures.says.said (ap length c.deref_mut.ensures.value ∙ c.self.invariant.seats) has handles))
+    (λ handles has. event_keeps c.self.inside.game c.self.inside.config (play_of c.self.inside.play) (play_of handled.new.play) c.deref_mut.result.now c.self.inside.began c.self.inside.moment c.max-moment.result (event_of c.args.event) handled.ensures.says.said before (ap length c.deref_mut.ensures.value ∙ c.self.invariant.seats) has handles))

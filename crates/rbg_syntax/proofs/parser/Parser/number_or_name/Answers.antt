@@ -1,4 +1,4 @@
-use Rattle.std.proofs.Common.{◌≡◌, false, sym, ◌∙◌}
+use Rattle.std.proofs.Common.{sym, ◌∙◌}
 use Rattle.rbg_syntax.proofs.SumReaders.{no_number_or_name}
 use Rattle.rbg_syntax.proofs.Turns.{FailsWithin-misfit}
 use Rattle.rbg_syntax.proofs.parser.Parser.number_or_name.Goals as goal

@@ -1,0 +1,93 @@
+//! A line of a text, with carets below a place in it.
+ghost use Rattle.std.specs.Prelude.{◌≡◌, IfOk, map};
+ghost use Rattle.rbg_author.specs.Excerpts.{shown_as, padded_as};
+
+use std::alloc::{AllocError, Global};
+
+/// How many bytes of a line are shown before the place.
+const MOST_BEFORE: usize = 80;
+
+/// How many bytes of a line are shown from the place on.
+const MOST_AFTER: usize = 80;
+
+/// A part of a line: what stands at a place in it.
+#[derive(Clone, Copy, Debug)]
+pub struct Excerpt<'a> {
+    /// The line's number.
+    pub number: usize,
+    /// The line.
+    pub bytes: &'a [u8],
+    /// The offset of the place in the line.
+    pub offset: usize,
+    /// How many bytes stand there.
+    pub width: usize,
+}
+
+impl Excerpt<'_> {
+    /// Writes the line's number and the line, and below them the carets. Of a long line the part around the place is
+    /// written.
+    pub fn write(&self, alloc: Global, output: &mut Vec<u8>) -> Result<(), AllocError> {
+        let first = self.offset.saturating_sub(MOST_BEFORE);
+        let before = self.bytes.get(first..self.offset).unwrap_or(&[]);
+        let rest = self.bytes.get(self.offset..).unwrap_or(&[]);
+        let after = rest.get(..MOST_AFTER).unwrap_or(rest);
+        let mark = cut_mark(first > 0);
+        let number = self.number.to_string(alloc)?;
+        output.extend_from_slice(number.as_bytes())?;
+        output.extend_from_slice(b" | ")?;
+        output.extend_from_slice(mark)?;
+        output.extend_from_slice(shown_bytes(alloc, before)?.as_slice())?;
+        output.extend_from_slice(shown_bytes(alloc, after)?.as_slice())?;
+        output.extend_from_slice(cut_mark(after.len() < rest.len()))?;
+        output.push(b'\n')?;
+        push_repeated(output, b' ', number.len())?;
+        output.extend_from_slice(b" | ")?;
+        push_repeated(output, b' ', mark.len())?;
+        output.extend_from_slice(padding(alloc, before)?.as_slice())?;
+        push_repeated(output, b'^', self.width.min(after.len()).max(1))?;
+        output.push(b'\n')?;
+        Ok(())
+    }
+}
+
+/// What stands where a part of the line is left out.
+fn cut_mark(is_cut: bool) -> &'static [u8] {
+    if is_cut { b".." } else { b"" }
+}
+
+/// The bytes as they are written: a control byte other than a tab is a `?`.
+fn shown_bytes(alloc: Global, bytes: &[u8]) -> Result<Vec<u8>, AllocError>
+    ensures { IfOk result (λ shown. shown.items ≡ map shown_as bytes.now) }
+{
+    bytes.iter().map(|byte| shown_byte(*byte)).collect(alloc)
+}
+
+fn shown_byte(byte: u8) -> u8
+    ensures { result ≡ shown_as byte }
+{
+    if byte < b' ' && byte != b'\t' || byte == 127 {
+        b'?'
+    } else {
+        byte
+    }
+}
+
+/// A blank as wide as each byte: a tab for a tab, else a space.
+fn padding(alloc: Global, bytes: &[u8]) -> Result<Vec<u8>, AllocError>
+    ensures { IfOk result (λ blanks. blanks.items ≡ map padded_as bytes.now) }
+{
+    bytes.iter().map(|byte| blank_below(*byte)).collect(alloc)
+}
+
+fn blank_below(byte: u8) -> u8
+    ensures { result ≡ padded_as byte }
+{
+    if byte == b'\t' { b'\t' } else { b' ' }
+}
+
+fn push_repeated(output: &mut Vec<u8>, byte: u8, count: usize) -> Result<(), AllocError> {
+    for _ in 0..count {
+        output.push(byte)?;
+    }
+    Ok(())
+}

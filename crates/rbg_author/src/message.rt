@@ -1,0 +1,254 @@
+//! What is said of a refusal: what was expected, and what stands there.
+
+use crate::spot::{Needed, Spot};
+use rbg_board::BoardError;
+use rbg_game::limits::{
+    MAX_BOUND, MAX_DIRECTIONS, MAX_NESTED_PATTERNS, MAX_PIECES, MAX_PLAYERS, MAX_POSITIONS,
+    MAX_VARIABLES, MAX_VERTICES,
+};
+use rbg_game::{GameError, LoadError, Thing};
+use rbg_macro::{
+    MAX_JOINED, MAX_KEPT, MAX_LEVEL, MAX_READ, MAX_TEXT, MacroError, Symbol, TextError, Token,
+};
+use rbg_syntax::{Expectation, SyntaxError};
+use std::fmt::{self, Formatter};
+use std::str;
+
+/// A refusal in words. Its text is one line without a line feed.
+#[derive(Clone, Copy, Debug)]
+pub struct Message<'a> {
+    pub error: LoadError,
+    /// What stands at the refusal's place.
+    pub spot: Option<Spot<'a>>,
+}
+
+impl fmt::Display for Message<'_> {
+    fn fmt<W: fmt::Write>(&self, f: &mut Formatter<W>) -> fmt::Result {
+        let found = Found(self.spot.map(|spot| spot.token));
+        match self.error {
+            LoadError::Text(error) => write_text(f, &error),
+            LoadError::Macro(error) => write_macro(f, &error, self.spot, &found),
+            LoadError::Syntax(error) => write_syntax(f, &error, &found),
+            LoadError::Game(error) => write_game(f, &error, self.spot, &found),
+        }
+    }
+}
+
+/// A token's text between back quotes; of a long one the beginning.
+#[derive(Clone, Copy, Debug)]
+pub struct Found<'a>(pub Option<Token<'a>>);
+
+/// How many bytes of a token are written.
+const MOST_SHOWN: usize = 40;
+
+impl fmt::Display for Found<'_> {
+    fn fmt<W: fmt::Write>(&self, f: &mut Formatter<W>) -> fmt::Result {
+        let Some(token) = self.0 else {
+            return write!(f, "nothing");
+        };
+        let text = token.text;
+        let start = text.get(..MOST_SHOWN).unwrap_or(text);
+        let mark = if start.len() < text.len() { ".." } else { "" };
+        let start = str::from_utf8(start).unwrap_or("");
+        write!(f, "`{start}{mark}`")
+    }
+}
+
+fn write_text<W: fmt::Write>(f: &mut Formatter<W>, error: &TextError) -> fmt::Result {
+    match error {
+        TextError::TooLong => write!(f, "the text has more than {MAX_TEXT} bytes"),
+        TextError::ZeroByte => write!(f, "expected no zero byte in the text"),
+        TextError::BadByte { .. } => write!(f, "expected a token, found a byte that begins none"),
+        TextError::Memory => write!(f, "out of memory"),
+    }
+}
+
+fn write_macro<W: fmt::Write>(
+    f: &mut Formatter<W>,
+    error: &MacroError,
+    spot: Option<Spot<'_>>,
+    found: &Found<'_>,
+) -> fmt::Result {
+    match error {
+        MacroError::BadDefinition { .. } => write_head(f, spot, found),
+        MacroError::Twice { .. } => write!(f, "a second macro has the name {found}"),
+        MacroError::ArgumentCount { .. } => {
+            write!(
+                f,
+                "expected a call of {found} with as many arguments as it has parameters"
+            )
+        }
+        MacroError::Depth { .. } => {
+            write!(
+                f,
+                "the call of {found} is more than {MAX_LEVEL} levels deep"
+            )
+        }
+        MacroError::TooManyTokens => write!(
+            f,
+            "the macros expand to more than {MAX_KEPT} tokens, or more than {MAX_READ} are read"
+        ),
+        MacroError::BadJoin { .. } => write!(
+            f,
+            "expected two tokens beside `~` that make a name or a number of at most {MAX_JOINED} bytes"
+        ),
+        MacroError::Memory => write!(f, "out of memory"),
+    }
+}
+
+/// What is wrong with the head of a definition.
+fn write_head<W: fmt::Write>(
+    f: &mut Formatter<W>,
+    spot: Option<Spot<'_>>,
+    found: &Found<'_>,
+) -> fmt::Result {
+    let Some(spot) = spot else {
+        return write!(f, "expected a definition");
+    };
+    match spot.definition() {
+        _ if spot.starts_definition() => {
+            write!(
+                f,
+                "expected a whole head of a definition, found the end of the text"
+            )
+        }
+        [] => write!(f, "expected `#`, found {found}"),
+        [_] => write!(
+            f,
+            "expected the name of a section or a macro, found {found}"
+        ),
+        [_, _] => write!(f, "expected `=` or a macro's parameters, found {found}"),
+        [.., last] if last.is(Symbol::OpenParenthesis) || last.is(Symbol::Semicolon) => {
+            write!(f, "expected the name of one more parameter, found {found}")
+        }
+        [.., last] if last.is(Symbol::CloseParenthesis) => {
+            write!(f, "expected `=`, found {found}")
+        }
+        _ => write!(f, "expected `;` or `)`, found {found}"),
+    }
+}
+
+fn write_syntax<W: fmt::Write>(
+    f: &mut Formatter<W>,
+    error: &SyntaxError,
+    found: &Found<'_>,
+) -> fmt::Result {
+    match error {
+        SyntaxError::Expected { what, .. } => write_expected(f, *what, found),
+        SyntaxError::MissingSection { which } => write!(f, "expected a section `#{which}`"),
+        SyntaxError::SectionTwice { which } => write!(f, "a second section has the name `{which}`"),
+        SyntaxError::TooDeep { .. } => write!(f, "more than 128 brackets are open at {found}"),
+        SyntaxError::Memory => write!(f, "out of memory"),
+    }
+}
+
+fn write_expected<W: fmt::Write>(
+    f: &mut Formatter<W>,
+    what: Expectation,
+    found: &Found<'_>,
+) -> fmt::Result {
+    let expected = expectation_words(what);
+    match found.0 {
+        Some(token) if token.is(Symbol::Hash) => {
+            write!(f, "expected {expected}, found the end of the section")
+        }
+        _ => write!(f, "expected {expected}, found {found}"),
+    }
+}
+
+fn expectation_words(what: Expectation) -> &'static str {
+    match what {
+        Expectation::Name => "a name",
+        Expectation::Number => "a number",
+        Expectation::Opening => "an opening bracket",
+        Expectation::Closing => "the list's next part or its closing bracket",
+        Expectation::Equals => "`=`",
+        Expectation::Comma => "`,`",
+        Expectation::Colon => "`:`",
+        Expectation::Item => "an action or a `(`",
+        Expectation::Factor => "a number, a name, `(` or `-`",
+        Expectation::Relation => "one of `==`, `!=`, `<`, `<=`, `>` and `>=`",
+        Expectation::Generator => "`rectangle`, `hexagon` or `graph`",
+        Expectation::End => "the end of the section",
+    }
+}
+
+fn write_game<W: fmt::Write>(
+    f: &mut Formatter<W>,
+    error: &GameError,
+    spot: Option<Spot<'_>>,
+    found: &Found<'_>,
+) -> fmt::Result {
+    match error {
+        GameError::UnknownName { .. } => {
+            let expected = needed_words(spot);
+            write!(f, "expected the name of {expected}, found {found}")
+        }
+        GameError::SameName { .. } => write!(f, "expected a new name, found {found} again"),
+        GameError::Bound { .. } => write!(
+            f,
+            "expected a bound of at most {MAX_BOUND}, or in arithmetic a number of at most {}, found {found}",
+            i64::MAX
+        ),
+        GameError::SwitchInPattern { .. } => {
+            write!(
+                f,
+                "expected an action that may be in a pattern, found the switch {found}"
+            )
+        }
+        GameError::PatternTooDeep { .. } => {
+            write!(
+                f,
+                "more than {MAX_NESTED_PATTERNS} patterns are one inside the other"
+            )
+        }
+        GameError::TooMany { what } => {
+            let most = most_of(*what);
+            write!(f, "expected at most {most} {what}")
+        }
+        GameError::Board { error } => write_board(f, error),
+        GameError::Memory => write!(f, "out of memory"),
+    }
+}
+
+fn needed_words(spot: Option<Spot<'_>>) -> &'static str {
+    let needed = match spot {
+        Some(spot) => spot.needed(),
+        None => Needed::Anything,
+    };
+    match needed {
+        Needed::Direction => "a direction",
+        Needed::Piece => "a piece",
+        Needed::Player => "a player",
+        Needed::Variable => "a variable",
+        Needed::Value => "a variable or a piece",
+        Needed::Anything => "a direction, a piece, a player or a variable",
+    }
+}
+
+fn most_of(thing: Thing) -> usize {
+    match thing {
+        Thing::Players => MAX_PLAYERS,
+        Thing::Pieces => MAX_PIECES,
+        Thing::Variables => MAX_VARIABLES,
+        Thing::Directions => MAX_DIRECTIONS,
+        Thing::Positions => MAX_POSITIONS,
+    }
+}
+
+fn write_board<W: fmt::Write>(f: &mut Formatter<W>, error: &BoardError) -> fmt::Result {
+    match error {
+        BoardError::NoCell => write!(f, "expected a cell, found a board or a row without one"),
+        BoardError::RowLength { row } => {
+            write!(
+                f,
+                "row {row}, counted from 0, has a length that doesn't fit"
+            )
+        }
+        BoardError::TooManyVertices => write!(f, "expected at most {MAX_VERTICES} vertices"),
+        BoardError::SameDirection => write!(f, "expected different directions, found one twice"),
+        BoardError::UnknownVertex => write!(f, "an edge leads to a vertex that is not listed"),
+        BoardError::SameVertex => write!(f, "two vertices have one name"),
+        BoardError::Memory => write!(f, "out of memory"),
+    }
+}

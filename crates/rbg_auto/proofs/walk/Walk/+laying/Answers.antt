@@ -1,0 +1,159 @@
+-- The proofs of the walk.
+use Rattle.std.proofs.Common.{rules, ◌≡◌, ◌<◌, List, [], length, IfOk, ℕ, ◌+◌, ◌-◌, Bool, true, false, ap, sym, subst, arith}
+use Rattle.std.proofs.lemmas.Result.{IfOk-weaker}
+use Rattle.rbg_rules.specs.declared.rule.Rule.{Rule}
+use Rattle.rbg_rules.specs.declared.rule.Rule.TheVariants.{Then, Or, Star}
+use Rattle.rbg_auto.specs.internal.Orders.{Joins}
+use Rattle.rbg_auto.specs.internal.Trees.{GivesFirsts}
+use Rattle.rbg_auto.specs.internal.Tables.{Keeps, IsKept}
+use Rattle.rbg_auto.specs.internal.Walks.{AddsList, LaysTree, LaysSequence, LaysSum, IsBefore, LaysLevel, Extends}
+use Rattle.rbg_auto.proofs.WalkLemmas.{IsKept-grows, Extends-trans, lays_act, lays_pattern, lays_then, lays_or, lays_star_tree, lays_level_by, SequenceOwes, sequence_begins, sequence_owes_fewer, sequence_ends, sum_goes_on}
+use Rattle.rbg_auto.proofs.walk.Walk.+laying.Goals as goal
+
+pub lay-keep-requires-in-Pattern : goal.lay-keep-requires-in-Pattern
+lay-keep-requires-in-Pattern t c =
+    let level : LaysLevel c.args.self.now.table c.lay_level.new.self.table c.deref.result.now c.in_ok-inside-in-Pattern.inside = c.in_ok-inside-in-Pattern.ensures in
+    IsKept-grows c.args.self.now.table.entries.items c.lay_level.new.self.table.entries.items c.args.kept.now c.args.rest.now.positions.items level.extends.entries c.requires
+
+pub lay-returns-in_ok-next-in-Act-clause-lays : goal.lay-returns-in_ok-next-in-Act-clause-lays
+lay-returns-in_ok-next-in-Act-clause-lays t c =
+    rw c.in-Act.is
+    (lays_act c.in-Act.position c.args.self.now.table c.keep.new.self.table c.set.new.self c.in_ok-next-in-Act.next c.args.rest.now.positions.items c.args.rest.now.may_end c.in_ok-next-in-Act.ensures.adds c.in_ok-next-in-Act.ensures.keeps c.set.ensures)
+
+pub lay-returns-in_ok-next-in-Act-clause-kept : goal.lay-returns-in_ok-next-in-Act-clause-kept
+lay-returns-in_ok-next-in-Act-clause-kept t c = IsKept-grows c.keep.new.self.table.entries.items c.set.new.self.entries.items c.keep.new.kept c.args.rest.now.positions.items c.set.ensures.extends.entries c.in_ok-next-in-Act.ensures.kept
+
+pub lay-returns-in_ok-next-in-Pattern-clause-lays :
+    goal.lay-returns-in_ok-next-in-Pattern-clause-lays
+lay-returns-in_ok-next-in-Pattern-clause-lays t c =
+    let level = subst (λ (r : Rule). LaysLevel c.args.self.now.table c.lay_level.new.self.table r c.in_ok-inside-in-Pattern.inside) c.deref.ensures c.in_ok-inside-in-Pattern.ensures in
+    rw c.in-Pattern.is
+    (lays_pattern c.in-Pattern.position c.in-Pattern.inside c.args.self.now.table c.lay_level.new.self.table c.keep-in-Pattern.new.self.table c.set-in-Pattern.new.self c.in_ok-next-in-Pattern.next c.args.rest.now.positions.items c.args.rest.now.may_end c.in_ok-inside-in-Pattern.inside level c.in_ok-next-in-Pattern.ensures.adds c.in_ok-next-in-Pattern.ensures.keeps c.set-in-Pattern.ensures)
+
+pub lay-returns-in_ok-next-in-Pattern-clause-kept :
+    goal.lay-returns-in_ok-next-in-Pattern-clause-kept
+lay-returns-in_ok-next-in-Pattern-clause-kept t c = IsKept-grows c.keep-in-Pattern.new.self.table.entries.items c.set-in-Pattern.new.self.entries.items c.keep-in-Pattern.new.kept c.args.rest.now.positions.items c.set-in-Pattern.ensures.extends.entries c.in_ok-next-in-Pattern.ensures.kept
+
+pub lay-returns-in-Then-clause-lays : goal.lay-returns-in-Then-clause-lays
+lay-returns-in-Then-clause-lays t c =
+    let old = c.args.self.now.table in
+    let new = c.lay_sequence.new.self.table in
+    let k = c.args.rest.now.positions.items in
+    let end = c.args.rest.now.may_end in
+    let parts = c.in-Then.parts in
+    rw c.in-Then.is (IfOk-weaker c.lay_sequence.result (λ _. LaysSequence old new c.as_slice.result.now k end) (λ _. LaysTree old new (Then parts) k end)
+    (λ _ one. lays_then parts old new k end (subst (λ (rs : List Rule). LaysSequence old new rs k end) c.as_slice.ensures.value one)) c.lay_sequence.ensures.lays)
+
+pub lay-returns-in-Or-clause-lays : goal.lay-returns-in-Or-clause-lays
+lay-returns-in-Or-clause-lays t c =
+    let old = c.args.self.now.table in
+    let new = c.lay_sum.new.self.table in
+    let k = c.args.rest.now.positions.items in
+    let end = c.args.rest.now.may_end in
+    let parts = c.in-Or.parts in
+    rw c.in-Or.is (IfOk-weaker c.lay_sum.result (λ _. LaysSum old new c.as_slice-in-Or.result.now k end) (λ _. LaysTree old new (Or parts) k end)
+    (λ _ one. lays_or parts old new k end (subst (λ (rs : List Rule). LaysSum old new rs k end) c.as_slice-in-Or.ensures.value one)) c.lay_sum.ensures.lays)
+
+pub lay-returns-in_ok-union-in-Star-clause-lays : goal.lay-returns-in_ok-union-in-Star-clause-lays
+lay-returns-in_ok-union-in-Star-clause-lays t c =
+    let old = c.args.self.now.table in
+    let new = c.lay.new.self.table in
+    let k = c.args.rest.now.positions.items in
+    let end = c.args.rest.now.may_end in
+    let part = c.in-Star.part in
+    let first = c.push_first.new.first.items in
+    let m = c.in_ok-union-in-Star.field-0.items in
+    let empty = c.in_ok-push_first-in-Star.field-0 in
+    let gives_at : GivesFirsts c.deref-in-Star.result.now c.new-first.result.items first empty = c.in_ok-push_first-in-Star.ensures in
+    let gives_fresh : GivesFirsts c.deref-in-Star.result.now [] first empty = subst (λ (xs : List ℕ). GivesFirsts c.deref-in-Star.result.now xs first empty) c.new-first.ensures.items gives_at in
+    let gives : GivesFirsts part.value [] first empty = subst (λ (r : Rule). GivesFirsts r [] first empty) c.deref-in-Star.ensures gives_fresh in
+    let joins_at : Joins c.as_slice-in-Star.result.now c.as_slice-in-Star-2.result.now m = c.in_ok-union-in-Star.ensures in
+    let joins_first : Joins first c.as_slice-in-Star-2.result.now m = subst (λ (xs : List ℕ). Joins xs c.as_slice-in-Star-2.result.now m) c.as_slice-in-Star.ensures.value joins_at in
+    let joins : Joins first k m = subst (λ (xs : List ℕ). Joins first xs m) c.as_slice-in-Star-2.ensures.value joins_first in
+    rw c.in-Star.is (IfOk-weaker c.lay.result (λ _. LaysTree old new c.deref-in-Star-2.result.now m end) (λ _. LaysTree old new (Star part) k end)
+    (λ _ one. lays_star_tree part old new k m first end empty gives joins (subst (λ (r : Rule). LaysTree old new r m end) c.deref-in-Star-2.ensures one)) c.lay.ensures.lays)
+
+pub lay-returns-in_ok-union-in-Star-clause-kept : goal.lay-returns-in_ok-union-in-Star-clause-kept
+lay-returns-in_ok-union-in-Star-clause-kept t c =
+    let old = c.args.self.now.table in
+    let new = c.lay.new.self.table in
+    let k = c.args.rest.now.positions.items in
+    IfOk-weaker c.lay.result (λ _. LaysTree old new c.deref-in-Star-2.result.now c.in_ok-union-in-Star.field-0.items c.args.rest.now.may_end) (λ _. IsKept new.entries.items c.args.kept.now k)
+    (λ _ one. let lays : LaysTree old new c.deref-in-Star-2.result.now c.in_ok-union-in-Star.field-0.items c.args.rest.now.may_end = one in IsKept-grows old.entries.items new.entries.items c.args.kept.now k lays.extends.entries c.requires) c.lay.ensures.lays
+
+pub lay_level-returns : goal.lay_level-returns
+lay_level-returns t c =
+    let first = c.push_first.new.first.items in
+    let empty = c.in_ok-may_be_empty.may_be_empty in
+    let rule = c.args.rule.now in
+    let gives_at : GivesFirsts rule c.new-first.result.items first empty = c.in_ok-may_be_empty.ensures in
+    let gives : GivesFirsts rule [] first empty = subst (λ (xs : List ℕ). GivesFirsts rule xs first empty) c.new-first.ensures.items gives_at in
+    let keeps_at : Keeps c.intern.new.self.table.entries.items c.in_ok-first.first c.as_slice.result.now = c.in_ok-first.ensures.keeps in
+    let keeps : Keeps c.intern.new.self.table.entries.items c.in_ok-first.first first = subst (Keeps c.intern.new.self.table.entries.items c.in_ok-first.first) c.as_slice.ensures.value keeps_at in
+    let lays_at : LaysTree c.intern.new.self.table c.lay.new.self.table rule c.new.result.items true = c.in_ok-lay.ensures.lays in
+    let lays : LaysTree c.intern.new.self.table c.lay.new.self.table rule [] true = subst (λ (xs : List ℕ). LaysTree c.intern.new.self.table c.lay.new.self.table rule xs true) c.new.ensures.items lays_at in
+    lays_level_by c.args.self.now.table c.intern.new.self.table c.lay.new.self.table rule first c.in_ok-first.first empty gives c.in_ok-first.ensures.adds keeps lays
+
+pub lay_sequence-loop-left-init : goal.lay_sequence-loop-left-init
+lay_sequence-loop-left-init t c =
+    let old = c.args.self.now.table in
+    let new = c.lay_part.new.self.table in
+    let parts = c.args.parts.now in
+    let k = c.args.rest.now.positions.items in
+    let end = c.args.rest.now.may_end in
+    let i = length parts - 1 in
+    let some : i < length parts = search rules in
+    record {
+      owes = sequence_owes_fewer old old new parts i c.index-parts-left.result k end k end c.in_ok-before.before.positions.items c.in_ok-before.before.may_end some c.index-parts-left.is (sequence_begins old parts (i + 1) k end (omega (arith, some))) c.in_ok-before.ensures.lays c.in_ok-before.ensures.before;
+      kept = c.in_ok-before.ensures.kept;
+      below = some;
+    }
+
+pub lay_sequence-loop-left-preserved : goal.lay_sequence-loop-left-preserved
+lay_sequence-loop-left-preserved t c =
+    let old = c.args.self.now.table in
+    let now = c.loop-left.self.table in
+    let new = c.lay_part-in-loop-left.new.self.table in
+    let parts = c.args.parts.now in
+    let k = c.args.rest.now.positions.items in
+    let end = c.args.rest.now.may_end in
+    let m = c.loop-left.before.positions.items in
+    let may_end = c.loop-left.before.may_end in
+    let i = c.loop-left.left - 1 in
+    let some : 0 < c.loop-left.left = c.loop-left-test.true in
+    let was : c.loop-left.left < length parts = c.loop-left.invariant.below in
+    let here : i < length parts = omega (arith, was) in
+    let one : c.loop-left.left ≡ i + 1 = omega (arith, some) in
+    let owed : SequenceOwes old now parts (i + 1) k end m may_end = subst (λ (n : ℕ). SequenceOwes old now parts n k end m may_end) one c.loop-left.invariant.owes in
+    let lays : LaysTree now new c.index-parts-left-in-loop-left.result m may_end = c.in_ok-before-2.ensures.lays in
+    record {
+      owes = sequence_owes_fewer old now new parts i c.index-parts-left-in-loop-left.result k end m may_end c.in_ok-before-2.before.positions.items c.in_ok-before-2.before.may_end here c.index-parts-left-in-loop-left.is owed lays c.in_ok-before-2.ensures.before;
+      kept = IsKept-grows now.entries.items new.entries.items c.lay_part.new.kept k lays.extends.entries c.loop-left.invariant.kept;
+      below = here;
+    }
+
+pub lay_sequence-returns-clause-lays : goal.lay_sequence-returns-clause-lays
+lay_sequence-returns-clause-lays t c =
+    let old = c.args.self.now.table in
+    let now = c.loop-left.self.table in
+    let parts = c.args.parts.now in
+    let k = c.args.rest.now.positions.items in
+    let end = c.args.rest.now.may_end in
+    let m = c.loop-left.before.positions.items in
+    let may_end = c.loop-left.before.may_end in
+    let test = c.loop-left-test.false in
+    let none : c.loop-left.left ≡ 0 = omega (arith, test) in
+    sequence_ends old now parts k end m may_end (subst (λ (n : ℕ). SequenceOwes old now parts n k end m may_end) none c.loop-left.invariant.owes)
+
+pub lay_sum-loop-part-preserved : goal.lay_sum-loop-part-preserved
+lay_sum-loop-part-preserved t c =
+    let old = c.args.self.now.table in
+    let now = c.loop-part.self.table in
+    let new = c.lay.new.self.table in
+    let parts = c.args.parts.now in
+    let k = c.args.rest.now.positions.items in
+    let end = c.args.rest.now.may_end in
+    record {
+      so_far = sum_goes_on old now new parts c.loop-part.part-index c.part-item.result k end (omega arith) c.part-item.is c.loop-part.invariant.so_far c.in_ok-lay.ensures.lays;
+      kept = c.in_ok-lay.ensures.kept;
+    }

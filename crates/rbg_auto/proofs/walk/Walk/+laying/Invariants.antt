@@ -1,0 +1,21 @@
+-- What the loops over parts keep.
+use Rattle.std.proofs.Common.{◌≡◌, ◌<◌, length}
+use Rattle.rbg_auto.specs.internal.Tables.{IsKept}
+use Rattle.rbg_auto.proofs.WalkLemmas.{SumSoFar, SequenceOwes}
+use Rattle.rbg_auto.proofs.walk.Walk.+laying.Given as goal
+
+abbrev pub invariant-lay_sequence-loop-left : goal.invariant-lay_sequence-loop-left
+invariant-lay_sequence-loop-left l = record {
+  owes : SequenceOwes l.fn.self.table l.self.table l.parts l.left l.fn.rest.positions.items l.fn.rest.may_end l.before.positions.items l.before.may_end;
+  kept : IsKept l.self.table.entries.items l.kept l.fn.rest.positions.items;
+  below : l.left < length l.parts;
+}
+
+abbrev pub decreases-lay_sequence-loop-left : goal.decreases-lay_sequence-loop-left
+decreases-lay_sequence-loop-left l = l.left
+
+abbrev pub invariant-lay_sum-loop-part : goal.invariant-lay_sum-loop-part
+invariant-lay_sum-loop-part l = record {
+  so_far : SumSoFar l.initial.self.table l.self.table l.parts l.part-index l.rest.positions.items l.rest.may_end;
+  kept : IsKept l.self.table.entries.items l.kept l.rest.positions.items;
+}

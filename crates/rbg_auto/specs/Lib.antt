@@ -1,0 +1,4 @@
+-- The steps of the rules, by topic.
+pub mod Steps
+pub mod Laws
+pub mod internal

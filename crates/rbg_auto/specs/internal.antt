@@ -1,0 +1,7 @@
+-- Definitions that the crate's own proofs use.
+pub mod Orders
+pub mod Firsts
+pub mod Laying
+pub mod Trees
+pub mod Tables
+pub mod Walks

@@ -1,0 +1,44 @@
+//! The lists of one array, and what they are for.
+
+/// A list of the array: where it starts and where it ends.
+#[derive(Debug, Clone, Copy, Drop)]
+pub(crate) struct Span {
+    pub(crate) start: usize,
+    pub(crate) end: usize,
+}
+
+/// How the words of a level begin.
+#[derive(Debug, Clone, Copy, Drop)]
+pub(crate) struct Opening {
+    pub(crate) first: Span,
+    pub(crate) may_be_empty: bool,
+}
+
+/// What comes after a position, and how the words of its inside begin.
+#[derive(Debug, Clone, Copy, Drop)]
+pub(crate) struct Node {
+    pub(crate) next: Span,
+    pub(crate) may_end: bool,
+    pub(crate) inside: Opening,
+}
+
+impl Span {
+    pub(crate) const EMPTY: Span = Span { start: 0, end: 0 };
+}
+
+impl Opening {
+    /// Of a position without a pattern, whose inside has no words.
+    pub(crate) const NONE: Opening = Opening {
+        first: Span::EMPTY,
+        may_be_empty: false,
+    };
+}
+
+impl Node {
+    /// Of a position that doesn't stand in the rules.
+    pub(crate) const NONE: Node = Node {
+        next: Span::EMPTY,
+        may_end: false,
+        inside: Opening::NONE,
+    };
+}

@@ -1,0 +1,77 @@
+//! All lists of an automaton in one array, by position.
+ghost use Rattle.std.specs.Prelude.{◌≡◌, All, length, IfOk, slice_index_or};
+ghost use Rattle.rbg_auto.specs.internal.Tables.{AreWithin};
+
+use crate::span::{Node, Span};
+use rbg_base::{Memory, Position};
+use std::alloc::Global;
+
+/// The array, and what was laid at each position. Nothing is laid at position 0.
+#[derive(Debug, Drop)]
+pub(crate) struct Table {
+    pub(crate) entries: Vec<Position>,
+    pub(crate) nodes: Vec<Node>,
+    ghost within: { All (AreWithin (length entries.items)) nodes.items },
+}
+
+impl Table {
+    ghost use Rattle.std.specs.Prelude.{[], replicate};
+    ghost use Rattle.rbg_auto.specs.internal.Tables.{Keeps, IsSpan, AreWithin, listed, laid_at, no_node};
+    ghost use Rattle.rbg_auto.specs.internal.Walks.{AddsList, SetsNode};
+
+    /// A table of that many nodes, with nothing laid.
+    pub(crate) fn new(alloc: Global, nodes: usize) -> Result<Table, Memory>
+        ensures nodes { IfOk result (λ t. t.nodes.items ≡ replicate nodes no_node) }
+        ensures entries { IfOk result (λ t. t.entries.items ≡ []) }
+    {
+        Ok(Table {
+            entries: Vec::new(alloc),
+            nodes: vec![in alloc; Node::NONE; nodes]?,
+        })
+    }
+
+    /// The list of a span.
+    pub(crate) fn list(&self, span: Span) -> &[Position]
+        requires { IsSpan (length self.now.entries.items) span }
+        ensures { result.now ≡ listed self.now.entries.items span }
+    {
+        &self.entries[span.start..span.end]
+    }
+
+    /// What was laid at a position.
+    pub(crate) fn node(&self, position: Position) -> Node
+        ensures node { result ≡ slice_index_or self.now.nodes.items position no_node }
+        ensures within { AreWithin (length self.now.entries.items) result }
+    {
+        let index = position as usize;
+        if index < self.nodes.len() {
+            self.nodes[index]
+        } else {
+            Node::NONE
+        }
+    }
+
+    /// Lays a node at a position, if the table has it.
+    pub(crate) fn set(&mut self, position: Position, node: Node)
+        requires { AreWithin (length self.old.entries.items) node }
+        ensures { SetsNode self.old self.new position node }
+    {
+        let index = position as usize;
+        if index < self.nodes.len() {
+            self.nodes[index] = node;
+        }
+    }
+
+    /// Puts a list into the array.
+    pub(crate) fn push(&mut self, positions: &[Position]) -> Result<Span, Memory>
+        ensures kept { IfOk result (λ span. Keeps self.new.entries.items span positions.now) }
+        ensures adds { AddsList self.old self.new }
+    {
+        let start = self.entries.len();
+        self.entries.extend_from_slice(positions)?;
+        Ok(Span {
+            start,
+            end: self.entries.len(),
+        })
+    }
+}

@@ -1,0 +1,189 @@
+//! The walk over the rules that lays down what comes after each position.
+ghost use Rattle.std.specs.Prelude.{◌≡◌, ◌<◌, List, [], length, slice_index_or, IfOk};
+ghost use Rattle.rbg_auto.specs.internal.Tables.{Keeps, IsKept};
+ghost use Rattle.rbg_auto.specs.internal.Walks.{AddsList, LaysTree, LaysSequence, LaysSum, IsBefore, LaysLevel, Extends};
+
+use crate::span::{Node, Opening, Span};
+use crate::table::Table;
+use crate::tree::push_first;
+use crate::union::union;
+use rbg_base::{Memory, Position};
+use rbg_rules::Rule;
+use std::alloc::Global;
+
+/// What may come directly after a part of the rules, and whether its words may end there.
+#[derive(Debug, Drop)]
+pub(crate) struct Rest {
+    pub(crate) positions: Vec<Position>,
+    pub(crate) may_end: bool,
+}
+
+/// The table as far as it is laid.
+///
+/// A list goes into the table when the first action asks for it. Positions behind which the rules go on in the same way
+/// share it from then on: `kept` says where it is.
+#[derive(Debug, Drop)]
+pub(crate) struct Walk {
+    pub(crate) alloc: Global,
+    pub(crate) table: Table,
+}
+
+impl Walk {
+    /// Where the list of positions is in the table.
+    fn intern(&mut self, positions: &[Position]) -> Result<Span, Memory>
+        ensures adds { IfOk result (λ _. AddsList self.old.table self.new.table) }
+        ensures keeps { IfOk result (λ span. Keeps self.new.table.entries.items span positions.now) }
+    {
+        self.table.push(positions)
+    }
+
+    /// Where the list of what comes next is in the table.
+    fn keep(&mut self, rest: &Rest, kept: &mut Option<Span>) -> Result<Span, Memory>
+        requires { IsKept self.old.table.entries.items kept.old rest.now.positions.items }
+        ensures adds { IfOk result (λ _. AddsList self.old.table self.new.table) }
+        ensures keeps { IfOk result (λ span. Keeps self.new.table.entries.items span rest.now.positions.items) }
+        ensures kept { IfOk result (λ _. IsKept self.new.table.entries.items kept.new rest.now.positions.items) }
+    {
+        if let Some(span) = *kept {
+            return Ok(span);
+        }
+        let span = self.intern(rest.positions.as_slice())?;
+        *kept = Some(span);
+        Ok(span)
+    }
+
+    /// Lays a part of the rules.
+    #[cycle(laying)]
+    fn lay(&mut self, rule: &Rule, rest: &Rest, kept: &mut Option<Span>) -> Result<(), Memory>
+        requires { IsKept self.old.table.entries.items kept.old rest.now.positions.items }
+        ensures lays { IfOk result (λ _. LaysTree self.old.table self.new.table rule.now rest.now.positions.items rest.now.may_end) }
+        ensures kept { IfOk result (λ _. IsKept self.new.table.entries.items kept.new rest.now.positions.items) }
+    {
+        match rule {
+            Rule::Act(position) => {
+                let next = self.keep(rest, kept)?;
+                let node = Node {
+                    next,
+                    may_end: rest.may_end,
+                    inside: Opening::NONE,
+                };
+                self.table.set(*position, node);
+                Ok(())
+            }
+            Rule::Pattern { position, inside } => {
+                let inside = self.lay_level(inside)?;
+                let next = self.keep(rest, kept)?;
+                let node = Node {
+                    next,
+                    may_end: rest.may_end,
+                    inside,
+                };
+                self.table.set(*position, node);
+                Ok(())
+            }
+            Rule::Then(parts) => self.lay_sequence(parts.as_slice(), rest, kept),
+            Rule::Or(parts) => self.lay_sum(parts.as_slice(), rest, kept),
+            Rule::Star(part) => {
+                let mut first = Vec::new(self.alloc);
+                let _ = push_first(part, &mut first)?;
+                let again = Rest {
+                    positions: union(self.alloc, first.as_slice(), rest.positions.as_slice())?,
+                    may_end: rest.may_end,
+                };
+                let mut own = None;
+                self.lay(part, &again, &mut own)
+            }
+        }
+    }
+
+    /// Lays a level: the rules, or the inside of a pattern. Nothing comes after it.
+    #[cycle(laying)]
+    pub(crate) fn lay_level(&mut self, rule: &Rule) -> Result<Opening, Memory>
+        ensures { IfOk result (λ opening. LaysLevel self.old.table self.new.table rule.now opening) }
+    {
+        let mut first = Vec::new(self.alloc);
+        let may_be_empty = push_first(rule, &mut first)?;
+        let first = self.intern(first.as_slice())?;
+        let rest = Rest {
+            positions: Vec::new(self.alloc),
+            may_end: true,
+        };
+        let mut kept = None;
+        self.lay(rule, &rest, &mut kept)?;
+        Ok(Opening {
+            first,
+            may_be_empty,
+        })
+    }
+
+    /// Lays a part of a sequence, and returns what comes before it.
+    #[cycle(laying)]
+    fn lay_part(
+        &mut self,
+        part: &Rule,
+        rest: &Rest,
+        kept: &mut Option<Span>,
+    ) -> Result<Rest, Memory>
+        requires { IsKept self.old.table.entries.items kept.old rest.now.positions.items }
+        ensures lays { IfOk result (λ _. LaysTree self.old.table self.new.table part.now rest.now.positions.items rest.now.may_end) }
+        ensures kept { IfOk result (λ _. IsKept self.new.table.entries.items kept.new rest.now.positions.items) }
+        ensures before { IfOk result (λ before. IsBefore part.now rest.now.positions.items rest.now.may_end before.positions.items before.may_end) }
+    {
+        self.lay(part, rest, kept)?;
+        let mut first = Vec::new(self.alloc);
+        if push_first(part, &mut first)? {
+            let positions = union(self.alloc, first.as_slice(), rest.positions.as_slice())?;
+            return Ok(Rest {
+                positions,
+                may_end: rest.may_end,
+            });
+        }
+        Ok(Rest {
+            positions: first,
+            may_end: false,
+        })
+    }
+
+    /// Lays the parts of a sequence from the last to the first.
+    #[cycle(laying)]
+    fn lay_sequence(
+        &mut self,
+        parts: &[Rule],
+        rest: &Rest,
+        kept: &mut Option<Span>,
+    ) -> Result<(), Memory>
+        requires { IsKept self.old.table.entries.items kept.old rest.now.positions.items }
+        ensures lays { IfOk result (λ _. LaysSequence self.old.table self.new.table parts.now rest.now.positions.items rest.now.may_end) }
+        ensures kept { IfOk result (λ _. IsKept self.new.table.entries.items kept.new rest.now.positions.items) }
+    {
+        if parts.is_empty() {
+            return Ok(());
+        }
+        let mut left = parts.len() - 1;
+        let mut before = self.lay_part(&parts[left], rest, kept)?;
+        while left > 0 {
+            left -= 1;
+            let mut own = None;
+            before = self.lay_part(&parts[left], &before, &mut own)?;
+        }
+        Ok(())
+    }
+
+    /// Lays the parts of a sum, all with the same rest.
+    #[cycle(laying)]
+    fn lay_sum(
+        &mut self,
+        parts: &[Rule],
+        rest: &Rest,
+        kept: &mut Option<Span>,
+    ) -> Result<(), Memory>
+        requires { IsKept self.old.table.entries.items kept.old rest.now.positions.items }
+        ensures lays { IfOk result (λ _. LaysSum self.old.table self.new.table parts.now rest.now.positions.items rest.now.may_end) }
+        ensures kept { IfOk result (λ _. IsKept self.new.table.entries.items kept.new rest.now.positions.items) }
+    {
+        for part in parts {
+            self.lay(part, rest, kept)?;
+        }
+        Ok(())
+    }
+}

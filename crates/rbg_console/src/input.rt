@@ -1,0 +1,55 @@
+//! Reading a whole input or a file, up to a limit.
+
+use std::alloc::{AllocError, Global};
+use std::io::{ErrorKind, Read};
+
+/// The most bytes of standard input.
+pub const MAX_INPUT: usize = 16_777_216;
+
+/// A reading ends as a fault of the device after this many reads.
+const MAX_READS: u32 = 20_000_000;
+
+/// How many bytes are asked for at once.
+const CHUNK: usize = 65_536;
+
+/// What a reading gives.
+#[derive(Debug, Drop)]
+pub enum Input {
+    /// All the bytes that there are.
+    Whole(Vec<u8>),
+    /// There are more bytes than the limit.
+    TooLong,
+    /// The device failed, or gave no end.
+    Device,
+}
+
+/// Where a program reads named files.
+pub trait Files {
+    /// Reads a file to its end, or until more than `limit` bytes have come.
+    fn read_file(&mut self, alloc: Global, name: &str, limit: usize) -> Result<Input, AllocError>;
+}
+
+/// Reads to the end, or until more than `limit` bytes have come.
+pub fn read_input<R: Read>(
+    alloc: Global,
+    reader: &mut R,
+    limit: usize,
+) -> Result<Input, AllocError> {
+    let mut chunk = vec![in alloc; 0u8; CHUNK]?;
+    let mut bytes = Vec::new(alloc);
+    for _ in 0..MAX_READS {
+        match reader.read(chunk.as_mut_slice()) {
+            Ok(0) => return Ok(Input::Whole(bytes)),
+            Ok(count) => bytes.extend_from_slice(&chunk[..count])?,
+            Err(fault) => {
+                if fault.kind() != ErrorKind::Interrupted {
+                    return Ok(Input::Device);
+                }
+            }
+        }
+        if bytes.len() > limit {
+            return Ok(Input::TooLong);
+        }
+    }
+    Ok(Input::Device)
+}

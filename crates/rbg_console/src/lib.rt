@@ -1,0 +1,16 @@
+//! What the programs share: their words, the files and the input that they read, and what they say of a description.
+#![tactic(auto)]
+
+mod command_line;
+mod counts;
+mod input;
+mod output;
+mod refusal;
+mod system;
+
+pub use command_line::{WordsError, file_argument, match_words};
+pub use counts::count_line;
+pub use input::{Files, Input, MAX_INPUT, read_input};
+pub use output::{DEVICE, write_text};
+pub use refusal::Refusal;
+pub use system::{SystemFiles, words};

@@ -1,0 +1,2 @@
+-- Places of play.
+pub mod Equality
