@@ -1,0 +1,2 @@
+-- What only the proofs and the private contracts of this crate cite.
+pub mod Closure
