@@ -1,2 +1,3 @@
 -- What only the proofs and the private contracts of this crate cite.
 pub mod Closure
+pub mod Meeting
