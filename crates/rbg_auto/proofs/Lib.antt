@@ -1,0 +1,2 @@
+-- Lemmas on the definitions of specs/, by topic.
+pub mod ChainLemmas

@@ -1,0 +1,3 @@
+-- The steps of the rules, by topic.
+pub mod Steps
+pub mod Laws

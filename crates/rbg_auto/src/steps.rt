@@ -1,0 +1,39 @@
+//! What every automaton of positions answers, and the law that ties its answers to the words of the rules.
+ghost use Rattle.std.specs.Prelude.{[], IsTrue, ◌↔◌};
+ghost use Rattle.rbg_rules.specs.Expression.{Expression};
+ghost use Rattle.rbg_rules.specs.Words.{beginning, after, Ends};
+ghost use Rattle.rbg_auto.specs.Steps.{level_of, AreFirst, AreNext};
+
+use rbg_base::Position;
+
+/// An expression whose words are asked for: the rules, or the inside of the pattern at a position.
+#[derive(Debug, Clone, Copy, PartialEq, Eq, Drop)]
+pub enum Expr {
+    Rules,
+    Inside(Position),
+}
+
+/// The steps of the rules: where words begin, what comes directly after a position in them, and where they end.
+///
+/// Every position may be asked for: one that doesn't stand in the rules has nothing after it. The inside of a position
+/// without a pattern has no words. An answer takes no memory.
+pub trait Steps {
+    /// These are the steps of the rules.
+    ghost of_rules: { Self → Expression → Type 0 };
+
+    /// The positions with which words of the expression begin.
+    fn first(&self, expr: Expr) -> &[Position]
+        ensures { (rules : Expression) → of_rules self.now rules → AreFirst rules (level_of expr) result.now };
+
+    /// The positions that come directly after the position in some word of the expression to which it belongs.
+    fn next(&self, position: Position) -> &[Position]
+        ensures { (rules : Expression) → of_rules self.now rules → AreNext rules position result.now };
+
+    /// Whether a word of the expression to which the position belongs ends there.
+    fn may_end(&self, position: Position) -> bool
+        ensures { (rules : Expression) → of_rules self.now rules → IsTrue result ↔ Ends rules (after position) [] };
+
+    /// Whether the empty list is a word of the expression.
+    fn may_be_empty(&self, expr: Expr) -> bool
+        ensures { (rules : Expression) → of_rules self.now rules → IsTrue result ↔ Ends rules (beginning (level_of expr)) [] };
+}
