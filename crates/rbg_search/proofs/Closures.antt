@@ -1,7 +1,6 @@
 -- What is reached step by step is what runs without a modifier reach.
 use Rattle.std.proofs.Common.{◌≡◌, ℕ, ◌⊎◌, List, [], ◌∷◌, ◌++◌, Bool, true, false, refl, sym, ap, ◌∙◌, subst, inl, inr, append_assoc}
-use Rattle.std.proofs.lemmas.List.Elements.{All-nil, All-cons, All-head, All-tail, All-push}
-use Rattle.rbg_rules.specs.Expression.{AbstractAction}
+use Rattle.std.proofs.lemmas.List.Elements.{All-nil, All-head, All-tail, All-push}
 use Rattle.rbg_rules.specs.Positions.{IsNumbered, IsModifierAt, HasNoModifier, is_modifier}
 use Rattle.rbg_rules.specs.Words.{Start, after, Follows, Ends}
 use Rattle.rbg_rules.specs.State.{AbstractGame, AbstractState}
@@ -14,7 +13,7 @@ use Rattle.rbg_rules.proofs.PositionLemmas.{one_stands}
 use Rattle.rbg_rules.proofs.PlaceLemmas.{quiet_acts, same_state, RunPairs_join, Runs-RunPairs}
 use Rattle.rbg_rules.proofs.LocalityLemmas.{locality_law}
 use Rattle.rbg_search.specs.Flat.{IsNext, MayEnd}
-use Rattle.rbg_search.specs.internal.Closure.{at_vertex, Leads, Reached, first, then, IsFound, LeadsToEnd, ReachedEnd, EndsFlat, RunsBehind}
+use Rattle.rbg_search.specs.internal.Closure.{at_vertex, Leads, Reached, first, then, IsFound, EndsFlat, RunsBehind}
 
 -- An action that stands where no modifier does is none.
 pub quiet_action : (game : AbstractGame) (p : ℕ) {s t : AbstractState} (applied : Applies game p s t) → ¬ IsModifierAt game.rules p → is_modifier applied.action ≡ false

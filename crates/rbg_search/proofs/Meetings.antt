@@ -1,12 +1,12 @@
 -- What a mark says of the pairs that were met.
-use Rattle.std.proofs.Common.{◌≡◌, ◌≢◌, ℕ, zero, suc, ◌+◌, ◌*◌, ◌/◌, ◌%◌, ◌<◌, ◌≤◌, ◌⊎◌, List, [], ◌∷◌, ◌++◌, length, get_or, set, Bool, true, false, refl, sym, ap, ◌∙◌, subst, inl, inr, arith}
+use Rattle.std.proofs.Common.{◌≡◌, ◌≢◌, ℕ, ◌+◌, ◌*◌, ◌/◌, ◌%◌, ◌<◌, ◌≤◌, ◌⊎◌, List, [], ◌∷◌, ◌++◌, length, get_or, take, set, append_assoc, Bool, true, false, refl, sym, ap, ◌∙◌, subst, inl, inr, arith}
 use Rattle.std.proofs.lemmas.Bool.Decides.{Decides-eqb}
-use Rattle.std.specs.Prelude.{◌==◌, Decides, All, AllPairs, Contains, ◌↔◌}
-use Rattle.std.proofs.lemmas.Nat.{div-mul-add, mod-mul-add}
-use Rattle.std.proofs.lemmas.List.{get_or-set_same, get_or-set_other, length-set, length_push}
-use Rattle.std.proofs.lemmas.List.Elements.{All-nil, All-push, Contains-append_left, Contains-push, Contains-push_cases, Contains-get_or, All-contains}
+use Rattle.std.specs.Prelude.{◌==◌, Decides, All, AllPairs, Contains}
+use Rattle.std.proofs.lemmas.Nat.{div-mul-add, mod-mul-add, rows}
+use Rattle.std.proofs.lemmas.List.{get_or-set_same, get_or-set_other, length-set, length-take, get_or-take, append-nil}
+use Rattle.std.proofs.lemmas.List.Elements.{All-nil, All-push, Contains-append_left, Contains-push, Contains-push_cases, Contains-get_or, All-contains, All-weaker}
 use Rattle.std.proofs.lemmas.List.Quantifiers.{all_pairs_push}
-use Rattle.rbg_search.specs.internal.Meeting.{HasMark, AreMarked}
+use Rattle.rbg_search.specs.internal.Meeting.{HasMark, Adds, MeetsAll, AreMarked}
 
 abbrev pub pair : ℕ → ℕ → ℕ × ℕ
 pair v p = (v, p)
@@ -100,3 +100,45 @@ all_unmarked n marks left pairs are gone kept = none_met n left (λ v p below. b
     by_kind : (v p : ℕ) → v < n → (r : Bool) → get_or left (p * n + v) false ≡ r → get_or left (p * n + v) false ≡ false
     by_kind v p below false e = e
     by_kind v p below true e = All-contains (λ q. get_or left (q.1 * n + q.0) false ≡ false) pairs (v, p) gone ((are.marked v p below).0 (kept (p * n + v) e))
+
+-- A pair stands for the first time where it was met.
+pub met_once : (pairs : List (ℕ × ℕ)) (k : ℕ) (q : ℕ × ℕ) → AllPairs (λ a b. a ≢ b) pairs → k < length pairs → get_or pairs k q ≡ q → ¬ Contains (take k pairs) q
+met_once pairs k q different below is (i, under, same) =
+    let before : i < k = omega (arith, under, length-take k pairs) in
+    different i k q before below (sym (get_or-take k pairs i q before) ∙ same ∙ sym is)
+
+-- No position was gone over, and one more.
+pub meets_none : (xs : List (ℕ × ℕ)) (v : ℕ) → MeetsAll xs xs v []
+meets_none xs v = record { more = []; grown = sym (append-nil xs); only = All-nil (λ q. (q.0 ≡ v) × Contains [] q.1); all = All-nil (λ p. Contains xs (v, p)) }
+
+pub meets_one : (old xs ys : List (ℕ × ℕ)) (v p : ℕ) (ps : List ℕ) → MeetsAll old xs v ps → Adds xs ys (v, p) → MeetsAll old ys v (ps ++ p ∷ [])
+meets_one old xs ys v p ps meets (inl (there, same)) = record {
+  more = meets.more;
+  grown = same ∙ meets.grown;
+  only = All-weaker (λ q. (q.0 ≡ v) × Contains ps q.1) (λ q. (q.0 ≡ v) × Contains (ps ++ p ∷ []) q.1) (λ q h. (h.0, Contains-append_left ps (p ∷ []) q.1 h.1)) meets.more meets.only;
+  all = All-push (λ r. Contains ys (v, r)) ps p (subst (λ (zs : List (ℕ × ℕ)). All (λ r. Contains zs (v, r)) ps) (sym same) meets.all) (subst (λ (zs : List (ℕ × ℕ)). Contains zs (v, p)) (sym same) there);
+}
+meets_one old xs ys v p ps meets (inr (new, same)) = record {
+  more = meets.more ++ (v, p) ∷ [];
+  grown = same ∙ ap (λ (zs : List (ℕ × ℕ)). zs ++ (v, p) ∷ []) meets.grown ∙ append_assoc old meets.more ((v, p) ∷ []);
+  only = All-push (λ q. (q.0 ≡ v) × Contains (ps ++ p ∷ []) q.1) meets.more (v, p)
+      (All-weaker (λ q. (q.0 ≡ v) × Contains ps q.1) (λ q. (q.0 ≡ v) × Contains (ps ++ p ∷ []) q.1) (λ q h. (h.0, Contains-append_left ps (p ∷ []) q.1 h.1)) meets.more meets.only)
+      (refl, Contains-push ps p);
+  all =
+      subst (λ (zs : List (ℕ × ℕ)). All (λ r. Contains zs (v, r)) (ps ++ p ∷ [])) (sym same)
+      (All-push (λ r. Contains (xs ++ (v, p) ∷ []) (v, r)) ps p
+      (All-weaker (λ r. Contains xs (v, r)) (λ r. Contains (xs ++ (v, p) ∷ []) (v, r)) (λ r h. Contains-append_left xs ((v, p) ∷ []) (v, r) h) ps meets.all)
+      (Contains-push xs (v, p)));
+}
+
+-- The mark of a pair and its position.
+pub mark_there : (n marks last v p : ℕ) → marks ≡ (last + 1) * n → v < n → 0 < p → p ≤ last → HasMark n marks (v, p)
+mark_there n marks last v p size below from_one under = record { vertex = below; from_one = from_one; mark = grind (arith, rows) }
+
+pub mark_position : (n marks last v p : ℕ) → marks ≡ (last + 1) * n → HasMark n marks (v, p) → p ≤ last
+mark_position n marks last v p size has =
+    let vertex = has.vertex in
+    let mark = has.mark in
+    let row : (p * n + v) / n < last + 1 = grind (arith, rows) in
+    let is = div-mul-add p n v vertex in
+    omega (arith, row, is)

@@ -1,5 +1,5 @@
 -- The flat part of an opening: what is reached from a semi-state without a modifier.
-use Rattle.std.specs.Prelude.{◌≡◌, ℕ, List, [], ◌∷◌, ◌++◌}
+use Rattle.std.specs.Prelude.{◌≡◌, ◌≢◌, ℕ, ◌↔◌, List, [], ◌∷◌, ◌++◌, Contains, AllPairs, Bool, Decides}
 use Rattle.rbg_rules.specs.Positions.{IsModifierAt, HasNoModifier}
 use Rattle.rbg_rules.specs.Words.{Start, Follows, Ends}
 use Rattle.rbg_rules.specs.State.{AbstractGame, AbstractState}
@@ -26,3 +26,12 @@ pub record MayEnd (game : AbstractGame) (s : AbstractState) (f : Start) : Type 0
   pub no_modifier : HasNoModifier game.rules before
   pub runs : Run game before s here
   pub ends : Ends game.rules f before
+
+-- Found are the modifiers that come next, each once; and `ends` tells whether a word may end with no modifier more.
+pub record IsFlatPart
+    (game : AbstractGame) (s : AbstractState) (f : Start) (found : List (ℕ × ℕ)) (ends : Bool)
+    : Type 0
+  where
+    pub next : (v p : ℕ) → Contains found (v, p) ↔ IsNext game s f v p
+    pub different : AllPairs (λ a b. a ≢ b) found
+    pub may_end : Decides ends (MayEnd game s f)

@@ -1,6 +1,6 @@
 //! The pairs of a vertex and a position that a flat part meets, each once, in the order in which they are met.
-ghost use Rattle.std.specs.Prelude.{◌≡◌, ℕ, ◌<◌, ◌≤◌, ◌+◌, ◌*◌, ◌^◌, [], length, slice_get, slice_index_or, Some, All, true, false, OnOk, OnErr, IfOk};
-ghost use Rattle.rbg_search.specs.internal.Meeting.{HasMark, Adds};
+ghost use Rattle.std.specs.Prelude.{◌≡◌, ℕ, ◌<◌, ◌≤◌, ◌+◌, ◌*◌, ◌^◌, [], length, slice_get, slice_index_or, Some, take, All, Contains, true, false, OnOk, OnErr, IfOk};
+ghost use Rattle.rbg_search.specs.internal.Meeting.{HasMark, Adds, MeetsAll};
 
 use rbg_base::{Memory, Position, Vertex};
 use std::alloc::Global;
@@ -56,6 +56,8 @@ impl Queue {
         requires { index < length self.now.pairs }
         ensures pair { slice_get self.now.pairs index ≡ Some result }
         ensures there { HasMark self.now.vertices self.now.marks result }
+        ensures once { ¬ Contains (take index self.now.pairs) result }
+        ensures small { index + 1 < 2 ^ 64 }
     {
         self.pairs[index]
     }
@@ -71,6 +73,18 @@ impl Queue {
         if !self.marks[mark] {
             self.pairs.push((vertex, position))?;
             self.marks[mark] = true;
+        }
+        Ok(())
+    }
+
+    /// Meets the pairs of a vertex and each of these positions.
+    pub(crate) fn meet_all(&mut self, vertex: Vertex, positions: &[Position]) -> Result<(), Memory>
+        requires { All (λ p. HasMark self.old.vertices self.old.marks (vertex, p)) positions.now }
+        ensures kept { (self.new.vertices ≡ self.old.vertices) × (self.new.marks ≡ self.old.marks) }
+        ensures met { OnOk result (MeetsAll self.old.pairs self.new.pairs vertex positions.now) }
+    {
+        for position in positions {
+            self.meet(vertex, *position)?;
         }
         Ok(())
     }

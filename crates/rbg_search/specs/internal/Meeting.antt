@@ -10,11 +10,19 @@ pub record Met : Type 0 where
 -- there is a mark for the pair
 pub record HasMark (vertices marks : ℕ) (pair : ℕ × ℕ) : Type 0 where
   pub vertex : pair.0 < vertices
+  pub from_one : 0 < pair.1
   pub mark : pair.1 * vertices + pair.0 < marks
 
 -- The new list is the old one with the pair, which is there once.
 abbrev pub Adds : List (ℕ × ℕ) → List (ℕ × ℕ) → ℕ × ℕ → Type 0
 Adds old new pair = (Contains old pair × (new ≡ old)) ⊎ ((¬ Contains old pair) × (new ≡ old ++ pair ∷ []))
+
+-- The new list is the old one with pairs of the vertex and these positions, and has each of those.
+pub record MeetsAll (old new : List (ℕ × ℕ)) (v : ℕ) (positions : List ℕ) : Type 0 where
+  pub more : List (ℕ × ℕ)
+  pub grown : new ≡ old ++ more
+  pub only : All (λ q. (q.0 ≡ v) × Contains positions q.1) more
+  pub all : All (λ p. Contains new (v, p)) positions
 
 -- Each pair is there once, and is marked: no other one is.
 pub record AreMarked (vertices : ℕ) (marks : List Bool) (pairs : List (ℕ × ℕ)) : Type 0 where

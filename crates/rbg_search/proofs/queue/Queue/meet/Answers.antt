@@ -1,4 +1,4 @@
-use Rattle.std.proofs.Common.{◌≡◌, ◌*◌, ◌+◌, ℕ, List, get_or, length, false, true, ap, sym, ◌∙◌, subst, inl, inr, refl}
+use Rattle.std.proofs.Common.{◌≡◌, ◌*◌, ◌+◌, get_or, length, false, true, ap, sym, ◌∙◌, subst, inl, inr, refl}
 use Rattle.std.proofs.lemmas.List.{get_or_default}
 use Rattle.rbg_search.specs.internal.Meeting.{Met, HasMark, AreMarked}
 use Rattle.rbg_search.proofs.Meetings.{added, not_met}
