@@ -1,0 +1,30 @@
+use Rattle.std.proofs.Common.{◌≡◌, ℕ, List, take, ◌∙◌, subst, arith}
+use Rattle.std.proofs.lemmas.List.{take_all}
+use Rattle.rbg_rules.specs.State.{AbstractGame}
+use Rattle.rbg_state.specs.History.{History}
+use Rattle.rbg_search.specs.internal.Part.{IsOutcome, IsPart}
+use Rattle.rbg_search.proofs.Parts.{whole_part}
+use Rattle.rbg_search.proofs.flat.Flat.advance.Goals as goal
+
+pub loop-self-preserved : goal.loop-self-preserved
+loop-self-preserved g c =
+    let v = c.pair-vertex.result.0 in
+    let q = c.pair-vertex.result.1 in
+    let in_game : IsOutcome c.args.rules.now c.loop-self.state.state v q c.tried-outcome.result =
+    subst (λ (x : AbstractGame). IsOutcome x c.loop-self.state.state v q c.tried-outcome.result) c.game-in-loop-self.ensures.game c.tried-outcome.ensures.outcome in
+    let outcome : IsOutcome c.args.rules.now c.args.state.now.state v q c.tried-outcome.result =
+    subst (λ (h : History). IsOutcome c.args.rules.now h.state v q c.tried-outcome.result) c.loop-self.invariant.given_back in_game in
+    record {
+      marks = c.take.ensures.marks;
+      given_back = c.tried-outcome.ensures.given_back ∙ c.loop-self.invariant.given_back;
+      part = λ f part. c.in_ok-take.ensures.part c.args.state.now.state f v q c.pair-vertex.ensures.pair outcome (c.loop-self.invariant.part f part);
+      within = c.in_ok-take.ensures.within;
+      further = omega (arith, c.in_ok-take.ensures.taken, c.loop-self.invariant.further);
+    }
+
+pub returns-clause-whole : goal.returns-clause-whole
+returns-clause-whole g c = λ f part.
+    let all : take c.loop-self.self.taken c.loop-self.self.queue.pairs ≡ c.loop-self.self.queue.pairs = take_all c.loop-self.self.taken c.loop-self.self.queue.pairs (omega (arith, c.loop-self-test.false, c.len.ensures)) in
+    let here = c.loop-self.invariant.part f part in
+    whole_part c.args.rules.now c.args.state.now.state f c.requires.lawful.numbered c.loop-self.self.queue.pairs c.loop-self.self.found.items c.loop-self.self.ends
+    (subst (λ (ds : List (ℕ × ℕ)). IsPart c.args.rules.now c.args.state.now.state f c.loop-self.self.queue.pairs ds c.loop-self.self.found.items c.loop-self.self.ends) all here)

@@ -1,0 +1,33 @@
+-- Pairs of a vertex and a position that are met one after another, each once.
+use Rattle.std.specs.Prelude.{◌≡◌, ◌≢◌, ℕ, ◌+◌, ◌*◌, ◌<◌, ◌⊎◌, ◌↔◌, List, [], ◌∷◌, ◌++◌, length, All, AllPairs, Contains, Bool, true, false, slice_index_or}
+
+-- The pairs that were met, in order, and how many vertices and marks there are.
+pub record Met : Type 0 where
+  pub vertices : ℕ
+  pub marks : ℕ
+  pub pairs : List (ℕ × ℕ)
+
+-- there is a mark for the pair
+pub record HasMark (vertices marks : ℕ) (pair : ℕ × ℕ) : Type 0 where
+  pub vertex : pair.0 < vertices
+  pub from_one : 0 < pair.1
+  pub mark : pair.1 * vertices + pair.0 < marks
+
+-- The new list is the old one with the pair, which is there once.
+abbrev pub Adds : List (ℕ × ℕ) → List (ℕ × ℕ) → ℕ × ℕ → Type 0
+Adds old new pair = (Contains old pair × (new ≡ old)) ⊎ ((¬ Contains old pair) × (new ≡ old ++ pair ∷ []))
+
+-- The new list is the old one with pairs of the vertex and these positions, and has each of those.
+pub record MeetsAll (old new : List (ℕ × ℕ)) (v : ℕ) (positions : List ℕ) : Type 0 where
+  pub more : List (ℕ × ℕ)
+  pub grown : new ≡ old ++ more
+  pub only : All (λ q. (q.0 ≡ v) × Contains positions q.1) more
+  pub all : All (λ p. Contains new (v, p)) positions
+
+-- Each pair is there once, and is marked: no other one is.
+pub record AreMarked (vertices : ℕ) (marks : List Bool) (pairs : List (ℕ × ℕ)) : Type 0 where
+  pub within : All (HasMark vertices (length marks)) pairs
+  pub marked :
+      (v p : ℕ) → v < vertices →
+      (slice_index_or marks (p * vertices + v) false ≡ true) ↔ Contains pairs (v, p)
+  pub different : AllPairs (λ a b. a ≢ b) pairs

@@ -1,0 +1,207 @@
+//! One flat part: the pairs that are reached without a modifier, the modifiers found among them, and whether a word may
+//! end.
+ghost use Rattle.std.specs.Prelude.{◌≡◌, ℕ, ◌<◌, ◌≤◌, ◌+◌, ◌↔◌, length, take, slice_get, Some, IfOk, IfSome, IfNone, OnOk, IsTrue};
+ghost use Rattle.rbg_rules.specs.State.{AbstractState, IsStateOf};
+ghost use Rattle.rbg_rules.specs.Positions.{IsModifierAt, IsPatternAt};
+ghost use Rattle.rbg_rules.specs.Words.{Start};
+ghost use Rattle.rbg_rules.specs.Games.{IsGame};
+ghost use Rattle.rbg_search.specs.internal.Shown.{shows_modifier};
+ghost use Rattle.rbg_search.specs.Flat.{IsFlatPart};
+ghost use Rattle.rbg_search.specs.internal.Part.{IsOutcome, IsPart, HasMarksOf};
+ghost use Rattle.rbg_search.specs.internal.Start.{start_of, IsPositionOf};
+
+use crate::game_steps::GameSteps;
+use crate::origin::Origin;
+use crate::outcome::Outcome;
+use crate::queue::Queue;
+use rbg_auto::Steps;
+use rbg_base::{Memory, Position, Vertex};
+use rbg_rules::{Action, Game};
+use rbg_state::{Applied, SemiState};
+use std::alloc::Global;
+
+/// A flat part that is being found.
+#[derive(Debug, Drop)]
+pub struct Flat {
+    queue: Queue,
+    /// How many of the queue's pairs were taken.
+    taken: usize,
+    /// The modifiers among them that are valid.
+    found: Vec<(Vertex, Position)>,
+    /// Whether a word may end with no modifier more.
+    ends: bool,
+}
+
+impl Flat {
+    /// A flat part of a game, not begun.
+    pub fn new(alloc: Global, game: &Game) -> Result<Flat, Memory>
+        ensures { IfOk result (λ flat. HasMarksOf game.now flat.queue) }
+    {
+        Ok(Flat {
+            queue: Queue::new(alloc, game.positions() as Position, game.board().len())?,
+            taken: 0,
+            found: Vec::new(alloc),
+            ends: false,
+        })
+    }
+
+    /// The valid modifiers that were found, each with the vertex where it is valid.
+    pub fn found(&self) -> &[(Vertex, Position)]
+        ensures { result.now ≡ self.now.found.items }
+    {
+        &self.found
+    }
+
+    /// Whether a word may end with no modifier more.
+    pub fn ends(&self) -> bool
+        ensures { result ≡ self.now.ends }
+    {
+        self.ends
+    }
+
+    /// Begins anew, at a vertex: meets the positions that may come first.
+    pub fn begin<S: Steps>(
+        &mut self,
+        rules: &GameSteps<'_, S>,
+        origin: Origin,
+        vertex: Vertex,
+    ) -> Result<(), Memory>
+        requires marks { HasMarksOf rules.now self.old.queue }
+        requires there { vertex < length rules.now.board.first }
+        ensures marks { HasMarksOf rules.now self.new.queue }
+        ensures begun { OnOk result ((s : AbstractState) → s.vertex ≡ vertex
+            → IsPart rules.now s (start_of origin) self.new.queue.pairs (take self.new.taken self.new.queue.pairs)
+            self.new.found.items self.new.ends) }
+        ensures taken { OnOk result (self.new.taken ≤ length self.new.queue.pairs) }
+        ensures lawful { IsGame rules.now }
+    {
+        self.queue.clear();
+        self.found.clear();
+        self.taken = 0;
+        self.ends = rules.may_end(origin);
+        self.queue.meet_all(vertex, rules.following(origin))?;
+        Ok(())
+    }
+
+    /// Takes the next pair, of which this became.
+    pub fn take<S: Steps>(
+        &mut self,
+        rules: &GameSteps<'_, S>,
+        outcome: Outcome,
+    ) -> Result<(), Memory>
+        requires marks { HasMarksOf rules.now self.old.queue }
+        requires left { self.old.taken < length self.old.queue.pairs }
+        requires there { (u : ℕ) → outcome ≡ Outcome.LeadsTo u → u < length rules.now.board.first }
+        ensures marks { HasMarksOf rules.now self.new.queue }
+        ensures part { OnOk result ((s : AbstractState) (f : Start) (v q : ℕ)
+            → slice_get self.old.queue.pairs self.old.taken ≡ Some (v, q)
+            → IsOutcome rules.now s v q outcome
+            → IsPart rules.now s f self.old.queue.pairs (take self.old.taken self.old.queue.pairs)
+            self.old.found.items self.old.ends
+            → IsPart rules.now s f self.new.queue.pairs (take self.new.taken self.new.queue.pairs)
+            self.new.found.items self.new.ends) }
+        ensures taken { OnOk result (self.new.taken ≡ self.old.taken + 1) }
+        ensures within { OnOk result (self.new.taken ≤ length self.new.queue.pairs) }
+    {
+        let (vertex, position) = self.queue.pair(self.taken);
+        self.taken += 1;
+        match outcome {
+            Outcome::Invalid => {}
+            Outcome::Modifies => self.found.push((vertex, position))?,
+            Outcome::LeadsTo(to) => {
+                let here = Origin::After(position);
+                self.ends |= rules.may_end(here);
+                self.queue.meet_all(to, rules.following(here))?;
+            }
+        }
+        Ok(())
+    }
+
+    /// Takes pairs up to the next one at a pattern, and returns that; none where each pair was taken.
+    pub fn advance<S: Steps>(
+        &mut self,
+        rules: &GameSteps<'_, S>,
+        state: &mut SemiState,
+    ) -> Result<Option<(Vertex, Position)>, Memory>
+        requires lawful { IsGame rules.now }
+        requires marks { HasMarksOf rules.now self.old.queue }
+        requires fits { IsStateOf rules.now state.old.state }
+        requires room { 2 ≤ state.old.room }
+        requires within { self.old.taken ≤ length self.old.queue.pairs }
+        ensures marks { HasMarksOf rules.now self.new.queue }
+        ensures given_back { state.new ≡ state.old }
+        ensures part { OnOk result ((f : Start)
+            → IsPart rules.now state.old.state f self.old.queue.pairs (take self.old.taken self.old.queue.pairs)
+            self.old.found.items self.old.ends
+            → IsPart rules.now state.old.state f self.new.queue.pairs (take self.new.taken self.new.queue.pairs)
+            self.new.found.items self.new.ends) }
+        ensures within { OnOk result (self.new.taken ≤ length self.new.queue.pairs) }
+        ensures further { OnOk result (self.old.taken ≤ self.new.taken) }
+        ensures asked { IfOk result (λ next. IfSome next (λ pair.
+            (slice_get self.new.queue.pairs self.new.taken ≡ Some pair)
+            × (pair.0 < length rules.now.board.first)
+            × IsPatternAt rules.now.rules pair.1)) }
+        ensures done { IfOk result (λ next. IfNone next (self.new.taken ≡ length self.new.queue.pairs)) }
+        ensures whole { IfOk result (λ next. IfNone next ((f : Start)
+            → IsPart rules.now state.old.state f self.old.queue.pairs (take self.old.taken self.old.queue.pairs)
+            self.old.found.items self.old.ends
+            → IsFlatPart rules.now state.old.state f self.new.found.items self.new.ends)) }
+    {
+        while self.taken < self.queue.len() {
+            let (vertex, position) = self.queue.pair(self.taken);
+            if rules.game().is_pattern(position) {
+                return Ok(Some((vertex, position)));
+            }
+            let outcome = tried(rules.game(), state, vertex, position);
+            self.take(rules, outcome)?;
+        }
+        Ok(None)
+    }
+}
+
+/// Tries an action that is no pattern at a vertex, and takes it back.
+fn tried(game: &Game, state: &mut SemiState, vertex: Vertex, position: Position) -> Outcome
+    requires lawful { IsGame game.now }
+    requires fits { IsStateOf game.now state.old.state }
+    requires there { vertex < length game.now.board.first }
+    requires position { IsPositionOf game.now.rules position }
+    requires no_pattern { ¬ IsPatternAt game.now.rules position }
+    requires room { 2 ≤ state.old.room }
+    ensures outcome { IsOutcome game.now state.old.state vertex position result }
+    ensures there { (u : ℕ) → result ≡ Outcome.LeadsTo u → u < length game.now.board.first }
+    ensures given_back { state.new ≡ state.old }
+{
+    let mark = state.mark();
+    state.stand_at(vertex);
+    let applied = state.apply(game, position);
+    let to = state.vertex();
+    state.undo_to(mark);
+    match applied {
+        Applied::Invalid => Outcome::Invalid,
+        Applied::Valid if modifies(game, position) => Outcome::Modifies,
+        Applied::Valid => Outcome::LeadsTo(to),
+    }
+}
+
+/// Whether a modifier stands at a position.
+fn modifies(game: &Game, position: Position) -> bool
+    requires lawful { IsGame game.now }
+    requires position { IsPositionOf game.now.rules position }
+    ensures { IsTrue result ↔ IsModifierAt game.now.rules position }
+{
+    is_modifier(game.action(position))
+}
+
+/// Whether the action is a modifier.
+fn is_modifier(action: &Action) -> bool
+    ensures { result ≡ shows_modifier action.now }
+{
+    match action {
+        Action::Off { .. } | Action::Assign { .. } | Action::Switch { .. } => true,
+        Action::Shift { .. }
+        | Action::On { .. }
+        | Action::Compare { .. }
+        | Action::Positive
+        | Action::Negative => false,
+    }
+}

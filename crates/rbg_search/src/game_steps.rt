@@ -1,0 +1,75 @@
+//! A game and the steps of its rules.
+ghost use Rattle.std.specs.Prelude.{◌≡◌, [], All, IsTrue, ◌↔◌};
+ghost use Rattle.rbg_rules.specs.Games.{IsGame};
+ghost use Rattle.rbg_rules.specs.Words.{Ends};
+ghost use Rattle.rbg_auto.specs.Steps.{AreAllThatFollow};
+ghost use Rattle.rbg_search.specs.internal.Start.{start_of, IsPositionOf};
+
+use crate::origin::Origin;
+use rbg_auto::Steps;
+use rbg_base::Position;
+use rbg_rules::Game;
+use std::marker::Model;
+
+/// A game and the steps of its rules.
+#[derive(Drop)]
+pub struct GameSteps<'a, S: Steps> {
+    game: &'a Game,
+    steps: &'a S,
+}
+
+impl<'a, S: Steps> Model for GameSteps<'a, S> {
+    ghost use Rattle.rbg_rules.specs.State.{AbstractGame};
+
+    ghost Value = { AbstractGame };
+
+    ghost use Rattle.rbg_rules.specs.Codes.{coded_game};
+
+    ghost coded = { coded_game };
+
+    ghost view = { λ g. g.game.now };
+
+    ghost use Rattle.rbg_rules.specs.Games.{IsGame};
+
+    ghost invariant = { λ g. S.of_rules g.steps.now g.game.now.rules × IsGame g.game.now };
+}
+
+impl<'a, S: Steps> GameSteps<'a, S> {
+    /// The steps are those of the game's rules.
+    pub fn new(game: &'a Game, steps: &'a S) -> GameSteps<'a, S>
+        requires steps { S.of_rules steps.now game.now.rules }
+        requires lawful { IsGame game.now }
+        ensures { result ≡ game.now }
+    {
+        GameSteps { game, steps }
+    }
+
+    pub fn game(&self) -> &'a Game
+        ensures game { result.now ≡ self.now }
+        ensures lawful { IsGame self.now }
+    {
+        self.game
+    }
+
+    /// The positions that may come next.
+    pub fn following(&self, origin: Origin) -> &'a [Position]
+        ensures follow { AreAllThatFollow self.now.rules (start_of origin) result.now }
+        ensures within { All (IsPositionOf self.now.rules) result.now }
+        ensures lawful { IsGame self.now }
+    {
+        match origin {
+            Origin::Begin(expr) => self.steps.first(expr),
+            Origin::After(position) => self.steps.next(position),
+        }
+    }
+
+    /// Whether a word may end where one stands.
+    pub fn may_end(&self, origin: Origin) -> bool
+        ensures { IsTrue result ↔ Ends self.now.rules (start_of origin) [] }
+    {
+        match origin {
+            Origin::Begin(expr) => self.steps.may_be_empty(expr),
+            Origin::After(position) => self.steps.may_end(position),
+        }
+    }
+}
