@@ -13,4 +13,4 @@ mod spot;
 
 pub use explanation::explain;
 pub use line::Line;
-pub use program::run;
+pub use program::{Report, print, run};

@@ -8,7 +8,7 @@ use rbg_game::limits::{
 };
 use rbg_game::{GameError, LoadError, Thing};
 use rbg_macro::{
-    MAX_JOINED, MAX_KEPT, MAX_LEVEL, MAX_READ, MAX_TEXT, MacroError, Symbol, TextError,
+    MAX_JOINED, MAX_KEPT, MAX_LEVEL, MAX_READ, MAX_TEXT, MacroError, Symbol, TextError, Token,
 };
 use rbg_syntax::{Expectation, SyntaxError};
 use std::fmt::{self, Formatter};
@@ -24,7 +24,7 @@ pub struct Message<'a> {
 
 impl fmt::Display for Message<'_> {
     fn fmt<W: fmt::Write>(&self, f: &mut Formatter<W>) -> fmt::Result {
-        let found = Found(self.spot);
+        let found = Found(self.spot.map(|spot| spot.token));
         match self.error {
             LoadError::Text(error) => write_text(f, &error),
             LoadError::Macro(error) => write_macro(f, &error, self.spot, &found),
@@ -34,18 +34,18 @@ impl fmt::Display for Message<'_> {
     }
 }
 
-/// A token of the text between back quotes.
-struct Found<'a>(Option<Spot<'a>>);
+/// A token's text between back quotes; of a long one the beginning.
+pub struct Found<'a>(pub Option<Token<'a>>);
 
 /// How many bytes of a token are written.
 const MOST_SHOWN: usize = 40;
 
 impl fmt::Display for Found<'_> {
     fn fmt<W: fmt::Write>(&self, f: &mut Formatter<W>) -> fmt::Result {
-        let Some(spot) = self.0 else {
+        let Some(token) = self.0 else {
             return write!(f, "nothing");
         };
-        let text = spot.token.text;
+        let text = token.text;
         let start = text.get(..MOST_SHOWN).unwrap_or(text);
         let mark = if start.len() < text.len() { ".." } else { "" };
         let start = str::from_utf8(start).unwrap_or("");
@@ -72,10 +72,16 @@ fn write_macro<W: fmt::Write>(
         MacroError::BadDefinition { .. } => write_head(f, spot, found),
         MacroError::Twice { .. } => write!(f, "a second macro has the name {found}"),
         MacroError::ArgumentCount { .. } => {
-            write!(f, "expected a call of {found} with as many arguments as it has parameters")
+            write!(
+                f,
+                "expected a call of {found} with as many arguments as it has parameters"
+            )
         }
         MacroError::Depth { .. } => {
-            write!(f, "the call of {found} is more than {MAX_LEVEL} levels deep")
+            write!(
+                f,
+                "the call of {found} is more than {MAX_LEVEL} levels deep"
+            )
         }
         MacroError::TooManyTokens => write!(
             f,
@@ -103,7 +109,10 @@ fn write_head<W: fmt::Write>(
             write!(f, "expected a definition, found the end of the text")
         }
         [] => write!(f, "expected `#`, found {found}"),
-        [_] => write!(f, "expected the name of a section or a macro, found {found}"),
+        [_] => write!(
+            f,
+            "expected the name of a section or a macro, found {found}"
+        ),
         [_, _] => write!(f, "expected `=` or a macro's parameters, found {found}"),
         [.., last] if last.is(Symbol::OpenParenthesis) || last.is(Symbol::Semicolon) => {
             write!(f, "expected the name of one more parameter, found {found}")
@@ -136,7 +145,7 @@ fn write_expected<W: fmt::Write>(
 ) -> fmt::Result {
     let expected = expectation_words(what);
     match found.0 {
-        Some(spot) if spot.token.is(Symbol::Hash) => {
+        Some(token) if token.is(Symbol::Hash) => {
             write!(f, "expected {expected}, found the end of the section")
         }
         _ => write!(f, "expected {expected}, found {found}"),
@@ -178,10 +187,16 @@ fn write_game<W: fmt::Write>(
             i64::MAX
         ),
         GameError::SwitchInPattern { .. } => {
-            write!(f, "expected an action that may be in a pattern, found the switch {found}")
+            write!(
+                f,
+                "expected an action that may be in a pattern, found the switch {found}"
+            )
         }
         GameError::PatternTooDeep { .. } => {
-            write!(f, "more than {MAX_NESTED_PATTERNS} patterns are one inside the other")
+            write!(
+                f,
+                "more than {MAX_NESTED_PATTERNS} patterns are one inside the other"
+            )
         }
         GameError::TooMany { what } => {
             let most = most_of(*what);
@@ -221,7 +236,10 @@ fn write_board<W: fmt::Write>(f: &mut Formatter<W>, error: &BoardError) -> fmt::
     match error {
         BoardError::NoCell => write!(f, "expected a cell, found a board or a row without one"),
         BoardError::RowLength { row } => {
-            write!(f, "row {row}, counted from 0, has a length that doesn't fit")
+            write!(
+                f,
+                "row {row}, counted from 0, has a length that doesn't fit"
+            )
         }
         BoardError::TooManyVertices => write!(f, "expected at most {MAX_VERTICES} vertices"),
         BoardError::SameDirection => write!(f, "expected different directions, found one twice"),

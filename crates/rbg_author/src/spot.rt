@@ -45,12 +45,12 @@ impl<'a> Spot<'a> {
     }
 
     /// The name of the macro in whose definition the token stands.
-    pub fn macro_name(&self) -> Option<&'a [u8]> {
+    pub fn macro_name(&self) -> Option<Token<'a>> {
         let name = self.definition().get(1)?;
         if is_section(name.text) {
             None
         } else {
-            Some(name.text)
+            Some(*name)
         }
     }
 
