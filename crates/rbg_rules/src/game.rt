@@ -7,7 +7,7 @@ ghost use Rattle.rbg_rules.specs.Positions.{positions_of, IsPatternAt};
 ghost use Rattle.rbg_rules.specs.Texts.{texts};
 
 use crate::rule::{Action, Rules};
-use rbg_base::{Player, Position, Variable};
+use rbg_base::{Direction, Piece, Player, Position, Variable};
 use rbg_board::Board;
 use std::marker::Model;
 
@@ -111,12 +111,28 @@ impl Game {
         self.pieces.len()
     }
 
+    /// The name of a piece.
+    pub fn piece_name(&self, piece: Piece) -> &str
+        requires { piece < length self.now.pieces }
+        ensures { slice_get self.now.pieces piece ≡ Some result.now }
+    {
+        self.pieces[piece as usize].as_str()
+    }
+
     /// How many variables there are, numbered from 0: the players' scores in order, and then the others.
     pub fn variables(&self) -> usize
         ensures count { result ≡ length self.now.variables }
         ensures lawful { IsGame self.now }
     {
         self.variables.len()
+    }
+
+    /// The name of a variable.
+    pub fn variable_name(&self, variable: Variable) -> &str
+        requires { variable < length self.now.variables }
+        ensures { slice_get self.now.variables variable ≡ Some result.now }
+    {
+        self.variables[variable as usize].as_str()
     }
 
     /// The greatest value of a variable.
@@ -133,6 +149,14 @@ impl Game {
         ensures lawful { IsGame self.now }
     {
         self.directions.len()
+    }
+
+    /// The name of a direction.
+    pub fn direction_name(&self, direction: Direction) -> &str
+        requires { direction < length self.now.directions }
+        ensures { slice_get self.now.directions direction ≡ Some result.now }
+    {
+        self.directions[direction as usize].as_str()
     }
 
     pub fn board(&self) -> &Board
