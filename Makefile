@@ -1,9 +1,10 @@
 # What a person does with this repository. Plain `make` prints the targets.
 RT ?= rt
 PROGRAM := crates/rbg_manager
+AUTHOR := crates/rbg_author_main
 CRATES := $(wildcard crates/*)
-# The programs with a stored run, and the crates with tests.
-STORED := $(patsubst crates/%/stdin,%,$(wildcard crates/*/stdin))
+# The programs with a stored run, and the crates with tests. Stored runs with words and files of their own are the gate's.
+STORED := $(filter-out $(patsubst crates/%/args,%,$(wildcard crates/*/args)),$(patsubst crates/%/stdin,%,$(wildcard crates/*/stdin)))
 TESTED := $(sort $(foreach file,$(shell grep -rl --include='*.rt' '^ *#\[test\]' crates),$(word 2,$(subst /, ,$(file)))))
 # How long a test may take without the proof: its build checks each step.
 SECONDS := 600
@@ -13,7 +14,7 @@ SECONDS := 600
 help:
 	@echo 'make run    referees the stored match (crates/rbg_manager/stdin), with no proof'
 	@echo 'make try    runs every stored run and every test, with no proof; make -j4 try runs four at once'
-	@echo 'make build  proves the program and what it stands on, and leaves it as ./rbg'
+	@echo 'make build  proves the programs and what they stand on, and leaves them as ./rbg and ./rbg_author'
 	@echo 'make test   the gate: every proof from nothing, the must-fail edits, each test, each program'
 	@echo 'make check  proves what changed since the last check, lowest crates first'
 	@echo 'make fmt    lays out the sources and the proofs'
@@ -33,6 +34,8 @@ try-test-%:
 build:
 	cd $(PROGRAM) && $(RT) run < stdin
 	cp $(PROGRAM)/out/rbg_manager rbg
+	cd $(AUTHOR) && $(RT) run -- --help
+	cp $(AUTHOR)/out/rbg_author_main rbg_author
 
 test:
 	$(RT) ci
@@ -44,4 +47,4 @@ fmt:
 	@for crate in $(CRATES); do (cd $$crate && $(RT) fmt) || exit 1; done
 
 clean:
-	rm -rf $(addsuffix /out,$(CRATES)) rbg
+	rm -rf $(addsuffix /out,$(CRATES)) rbg rbg_author

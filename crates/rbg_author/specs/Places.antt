@@ -1,5 +1,5 @@
 -- Lines of a text. A line ends at its line feed.
-use Rattle.std.specs.Prelude.{ℕ, List, Bool, ◌==◌, ◌+◌, ◌≢◌, filter, length, take, All, codes}
+use Rattle.std.specs.Prelude.{ℕ, List, ◌==◌, ◌≢◌, filter, length, All}
 
 -- How many line feeds the bytes hold.
 abbrev pub line_feeds : List ℕ → ℕ

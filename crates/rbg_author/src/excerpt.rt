@@ -1,5 +1,5 @@
 //! A line of a text, with carets below a place in it.
-ghost use Rattle.std.specs.Prelude.{◌≡◌, ◌++◌, OnOk, map};
+ghost use Rattle.std.specs.Prelude.{◌≡◌, IfOk, map};
 ghost use Rattle.rbg_author.specs.Excerpts.{shown_as, padded_as};
 
 use std::alloc::{AllocError, Global};
@@ -29,43 +29,60 @@ impl Excerpt<'_> {
     pub fn write(&self, alloc: Global, output: &mut Vec<u8>) -> Result<(), AllocError> {
         let first = self.offset.saturating_sub(MOST_BEFORE);
         let before = self.bytes.get(first..self.offset).unwrap_or(&[]);
-        let after = self.bytes.get(self.offset..).unwrap_or(&[]);
-        let after = after.get(..MOST_AFTER).unwrap_or(after);
-        let mark = if first > 0 { ".." } else { "" };
-        let number = format!(in alloc; "{} | {mark}", self.number)?;
+        let rest = self.bytes.get(self.offset..).unwrap_or(&[]);
+        let after = rest.get(..MOST_AFTER).unwrap_or(rest);
+        let mark = cut_mark(first > 0);
+        let number = self.number.to_string(alloc)?;
         output.extend_from_slice(number.as_bytes())?;
-        push_shown(output, before)?;
-        push_shown(output, after)?;
+        output.extend_from_slice(b" | ")?;
+        output.extend_from_slice(mark)?;
+        output.extend_from_slice(shown_bytes(alloc, before)?.as_slice())?;
+        output.extend_from_slice(shown_bytes(alloc, after)?.as_slice())?;
+        output.extend_from_slice(cut_mark(after.len() < rest.len()))?;
         output.push(b'\n')?;
-        push_repeated(output, b' ', number.len() - mark.len() - 3)?;
+        push_repeated(output, b' ', number.len())?;
         output.extend_from_slice(b" | ")?;
         push_repeated(output, b' ', mark.len())?;
-        push_padding(output, before)?;
+        output.extend_from_slice(padding(alloc, before)?.as_slice())?;
         push_repeated(output, b'^', self.width.min(after.len()).max(1))?;
         output.push(b'\n')?;
         Ok(())
     }
 }
 
-/// Writes bytes of a line. A control byte other than a tab is written as `?`.
-fn push_shown(output: &mut Vec<u8>, bytes: &[u8]) -> Result<(), AllocError>
-    ensures { OnOk result (output.new.items ≡ output.old.items ++ map shown_as bytes.now) }
-{
-    for byte in bytes {
-        let is_control = *byte < b' ' && *byte != b'\t' || *byte == 127;
-        output.push(if is_control { b'?' } else { *byte })?;
-    }
-    Ok(())
+/// What stands where a part of the line is left out.
+fn cut_mark(is_cut: bool) -> &'static [u8] {
+    if is_cut { b".." } else { b"" }
 }
 
-/// Writes a blank as wide as each byte: a tab for a tab, else a space.
-fn push_padding(output: &mut Vec<u8>, bytes: &[u8]) -> Result<(), AllocError>
-    ensures { OnOk result (output.new.items ≡ output.old.items ++ map padded_as bytes.now) }
+/// The bytes as they are written: a control byte other than a tab is a `?`.
+fn shown_bytes(alloc: Global, bytes: &[u8]) -> Result<Vec<u8>, AllocError>
+    ensures { IfOk result (λ shown. shown.items ≡ map shown_as bytes.now) }
 {
-    for byte in bytes {
-        output.push(if *byte == b'\t' { b'\t' } else { b' ' })?;
+    bytes.iter().map(|byte| shown_byte(*byte)).collect(alloc)
+}
+
+fn shown_byte(byte: u8) -> u8
+    ensures { result ≡ shown_as byte }
+{
+    if byte < b' ' && byte != b'\t' || byte == 127 {
+        b'?'
+    } else {
+        byte
     }
-    Ok(())
+}
+
+/// A blank as wide as each byte: a tab for a tab, else a space.
+fn padding(alloc: Global, bytes: &[u8]) -> Result<Vec<u8>, AllocError>
+    ensures { IfOk result (λ blanks. blanks.items ≡ map padded_as bytes.now) }
+{
+    bytes.iter().map(|byte| blank_below(*byte)).collect(alloc)
+}
+
+fn blank_below(byte: u8) -> u8
+    ensures { result ≡ padded_as byte }
+{
+    if byte == b'\t' { b'\t' } else { b' ' }
 }
 
 fn push_repeated(output: &mut Vec<u8>, byte: u8, count: usize) -> Result<(), AllocError> {

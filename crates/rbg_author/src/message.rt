@@ -35,6 +35,7 @@ impl fmt::Display for Message<'_> {
 }
 
 /// A token's text between back quotes; of a long one the beginning.
+#[derive(Clone, Copy, Debug)]
 pub struct Found<'a>(pub Option<Token<'a>>);
 
 /// How many bytes of a token are written.
@@ -105,8 +106,11 @@ fn write_head<W: fmt::Write>(
         return write!(f, "expected a definition");
     };
     match spot.definition() {
-        [] if spot.token.is(Symbol::Hash) => {
-            write!(f, "expected a definition, found the end of the text")
+        _ if spot.starts_definition() => {
+            write!(
+                f,
+                "expected a whole head of a definition, found the end of the text"
+            )
         }
         [] => write!(f, "expected `#`, found {found}"),
         [_] => write!(

@@ -62,6 +62,13 @@ impl<'a> Spot<'a> {
         }
     }
 
+    /// Whether the token is the `#` of a definition: the head before it, if there is one, has its `=`.
+    pub fn starts_definition(&self) -> bool {
+        let before = self.definition();
+        let is_whole = before.is_empty() || before.iter().any(|token| token.is(Symbol::Equals));
+        self.token.is(Symbol::Hash) && is_whole
+    }
+
     /// What a name must be here, as far as the tokens before it in the same definition show.
     pub fn needed(&self) -> Needed {
         let Some(inside) = innermost(self.definition()) else {
@@ -86,9 +93,19 @@ impl<'a> Spot<'a> {
         }
     }
 
+    /// What a name must be outside of brackets. One that follows a name or a closed bracket is an item of rules.
     fn needed_in_rules(&self) -> Needed {
-        match self.last() {
-            Some(last) if last.is(Symbol::Arrow) => Needed::Player,
+        match self.last().map(|last| last.kind) {
+            Some(TokenKind::Symbol(Symbol::Arrow)) => Needed::Player,
+            Some(
+                TokenKind::Name
+                | TokenKind::Symbol(
+                    Symbol::DoubleArrow
+                    | Symbol::CloseParenthesis
+                    | Symbol::CloseBracket
+                    | Symbol::CloseBrace,
+                ),
+            ) => Needed::Direction,
             _ if self.macro_name().is_some() => Needed::Anything,
             _ => Needed::Direction,
         }

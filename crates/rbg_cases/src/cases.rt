@@ -21,10 +21,18 @@ pub struct Text<'a> {
     pub bytes: Vec<u8>,
 }
 
-/// One run of the program: its words, its files and its standard input.
+/// A program that a case runs.
+#[derive(Clone, Copy, Debug, PartialEq, Eq)]
+pub enum Program {
+    Rbg,
+    RbgAuthor,
+}
+
+/// One run of a program: its words, its files and its standard input.
 #[derive(Debug, Drop)]
 pub struct Case<'a> {
     pub name: &'a [u8],
+    pub program: Program,
     /// How many of the lines are shown, from the end.
     pub shown: usize,
     pub words: Vec<String>,
@@ -90,6 +98,9 @@ impl<'a> Reader<'a> {
         if let Some(words) = line.strip_prefix(b"words ") {
             return self.add_words(alloc, words);
         }
+        if line == b"author".as_slice() {
+            return Ok(self.run_author());
+        }
         if let Some(count) = line.strip_prefix(b"last ") {
             return Ok(self.show_last(count));
         }
@@ -97,6 +108,7 @@ impl<'a> Reader<'a> {
         if let Some(name) = line.strip_prefix(b"case ") {
             self.cases.push(Case {
                 name,
+                program: Program::Rbg,
                 shown: usize::MAX,
                 words: Vec::new(alloc),
                 files: Vec::new(alloc),
@@ -123,6 +135,17 @@ impl<'a> Reader<'a> {
             _ => {}
         }
         Ok(())
+    }
+
+    /// The case is one of the author's program.
+    fn run_author(&mut self) -> bool {
+        match self.cases.last_mut() {
+            Some(case) => {
+                case.program = Program::RbgAuthor;
+                true
+            }
+            None => false,
+        }
     }
 
     fn add_words(&mut self, alloc: Global, words: &[u8]) -> Result<bool, AllocError> {

@@ -1,4 +1,4 @@
-//! Runs the program `rbg` on many cases and prints what each of them prints, and its status.
+//! Runs the programs `rbg` and `rbg_author` on many cases and prints what each of them prints, and its status.
 //!
 //! Standard input is a list of cases, read line by line:
 //!
@@ -6,6 +6,7 @@
 //! |---|---|
 //! | `case NAME` | a case begins; what follows is its standard input |
 //! | `words WORD ..` | the words of the case's command line, with single spaces between them |
+//! | `author` | the case runs `rbg_author`, else it runs `rbg` |
 //! | `last COUNT` | of what the case prints only this many lines are shown, the last ones |
 //! | `file NAME` | a file of the case begins; what follows is its bytes |
 //! | `text NAME` | a text begins, which later lines can use; what follows is its bytes |
@@ -22,9 +23,8 @@
 
 mod cases;
 
-use crate::cases::{Case, CasesError, Text, read_cases};
+use crate::cases::{Case, CasesError, Program, Text, read_cases};
 use rbg_console::{Files, Input, MAX_INPUT, read_input};
-use rbg_program::run;
 use std::alloc::{AllocError, Global};
 use std::io::{self, Write};
 use std::process::ExitCode;
@@ -58,23 +58,28 @@ fn last_lines(text: &[u8], count: usize) -> &[u8] {
     text
 }
 
+/// Runs the case's program, and gives its status.
+fn run_program(alloc: Global, case: &Case<'_>, printed: &mut Vec<u8>) -> u8 {
+    let words = case.words.as_slice();
+    let mut files = CaseFiles {
+        files: case.files.as_slice(),
+    };
+    match case.program {
+        Program::Rbg => {
+            let mut input = case.input.as_slice();
+            rbg_program::run(alloc, words, &mut files, &mut input, printed)
+        }
+        Program::RbgAuthor => rbg_author::run(alloc, words, &mut files, printed),
+    }
+}
+
 /// Runs a case and adds its lines to the output.
 fn run_case(alloc: Global, case: &Case<'_>, output: &mut Vec<u8>) -> Result<(), AllocError> {
     output.extend_from_slice(b"case ")?;
     output.extend_from_slice(case.name)?;
     output.push(b'\n')?;
-    let mut files = CaseFiles {
-        files: case.files.as_slice(),
-    };
-    let mut input = case.input.as_slice();
     let mut printed = Vec::new(alloc);
-    let status = run(
-        alloc,
-        case.words.as_slice(),
-        &mut files,
-        &mut input,
-        &mut printed,
-    );
+    let status = run_program(alloc, case, &mut printed);
     output.extend_from_slice(last_lines(printed.as_slice(), case.shown))?;
     let line = format!(in alloc; "status {status}\n")?;
     output.extend_from_slice(line.as_bytes())

@@ -29,7 +29,9 @@ pub fn match_words<'a>(
     command: Command<'a>,
     words: &'a [String],
 ) -> Result<ArgMatches<'a>, WordsError> {
-    match command.no_binary_name(true).try_get_matches_from(words) {
+    let name = command.get_name();
+    let command = command.no_binary_name(true).bin_name(name)?;
+    match command.try_get_matches_from(words) {
         Ok(matches) => Ok(matches),
         Err(error) => Err(refusal_of(alloc, &error)?),
     }
