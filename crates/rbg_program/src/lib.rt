@@ -9,3 +9,4 @@ mod task;
 
 pub use fault::{Fault, report};
 pub use program::run;
+pub use rbg_console::{Files, Input};
