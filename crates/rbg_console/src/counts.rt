@@ -29,9 +29,11 @@ fn write_counts(
     vertices: usize,
     positions: usize,
 ) -> Result<String, AllocError>
-    ensures { IfOk result (λ line. string_bytes line ≡ counts players pieces variables directions vertices positions) }
+    ensures { IfOk result (λ line.
+        string_bytes line ≡ counts players pieces variables directions vertices positions) }
 {
     format!(in alloc;
-        "players {players} pieces {pieces} variables {variables} directions {directions} vertices {vertices} positions {positions}"
+        "players {} pieces {} variables {} directions {} vertices {} positions {}",
+        players, pieces, variables, directions, vertices, positions
     )
 }
