@@ -28,7 +28,13 @@ fn check_file(rt: &HostRuntime, name: &[u8], output: &mut Vec<u8>) -> Result<boo
         return Ok(false);
     };
     let mut files = SystemFiles::new(rt);
-    let status = run(alloc, words.as_slice(), &mut files, &mut [].as_slice(), output);
+    let status = run(
+        alloc,
+        words.as_slice(),
+        &mut files,
+        &mut [].as_slice(),
+        output,
+    );
     Ok(status == 0)
 }
 

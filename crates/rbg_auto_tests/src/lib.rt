@@ -1,0 +1,5 @@
+//! Tests of the automaton of positions.
+#![tactic(auto)]
+
+#[cfg(test)]
+mod lists;
