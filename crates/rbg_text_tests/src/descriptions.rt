@@ -262,7 +262,7 @@ fn the_first_token_that_does_not_fit_is_named(rt: HostRuntime) -> Result<(), Fai
         text.push_str(misfit)?;
         for section in SECTIONS {
             // the section that doesn't fit stands for that of its kind
-            if section.as_bytes()[..4] != misfit.as_bytes()[..4] {
+            if section.as_bytes().get(..4) != misfit.as_bytes().get(..4) {
                 text.push_str(section)?;
             }
         }
