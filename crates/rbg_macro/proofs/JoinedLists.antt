@@ -1,5 +1,5 @@
 -- Joined lists, as the code keeps and makes them.
-use Rattle.std.proofs.Common.{ℕ, ◌≡◌, ◌+◌, ◌-◌, ◌<◌, ◌≤◌, true, false, List, [], ◌∷◌, ◌++◌, length, get_or, take, drop, map, Result, Ok, Err, refl, sym, ap, ◌∙◌, arith, append_assoc, add-one, drop-cons, suc, length-drop}
+use Rattle.std.proofs.Common.{ℕ, ◌≡◌, ◌+◌, ◌-◌, ◌<◌, ◌≤◌, true, false, List, [], ◌∷◌, ◌++◌, length, get_or, take, drop, map, Option, Result, Ok, Err, refl, sym, subst, ap, ◌∙◌, arith, append_assoc, add-one, drop-cons, suc, length-drop}
 use Rattle.std.proofs.Math.ListN.{drop_of_length-le}
 use Rattle.std.proofs.lemmas.Bool.{or_parts}
 use Rattle.std.proofs.lemmas.List.{map-append, append-nil, drop-drop, drop-map, length-map}
@@ -10,18 +10,25 @@ use Rattle.rbg_macro.specs.declared.joining.JoinedToken.{JoinedToken}
 use Rattle.rbg_macro.specs.declared.joining.JoinedToken.TheVariants.{Single, Joined}
 use Rattle.rbg_macro.specs.declared.token.Token.{Token}
 use Rattle.rbg_macro.specs.declared.token.TokenKind.{TokenKind}
-use Rattle.rbg_macro.specs.internal.Joined.{joined_lexeme, IsJoinedWithin, word_at, JoinsChain, AddsChain, FailsChain, begins_with_tilde}
+use Rattle.rbg_macro.specs.internal.Joined.{joined_word, IsJoinedWithin, word_at, JoinsChain, AddsChain, FailsChain, begins_with_tilde}
+use Rattle.rbg_macro.specs.internal.Marks.{IsMarked, IsMarkedWord, Word, lexeme_in_word, word_of}
+use Rattle.rbg_macro.specs.internal.Span.{lexeme_in}
+use Rattle.rbg_macro.specs.declared.buffer.Span.{Span}
+use Rattle.rbg_macro.specs.Macro.{Macro}
 use Rattle.rbg_macro.specs.Joining.{joined, joined_from, behind}
 use Rattle.rbg_macro.specs.Kinds.{is_tilde}
 use Rattle.rbg_macro.specs.Token.{Lexeme, lexeme_of}
 use Rattle.std.proofs.lemmas.List.{take_rest}
+use Rattle.std.proofs.lemmas.List.Elements.{All-push}
+use Rattle.rbg_macro.proofs.Marks.{word_added}
 use Rattle.rbg_macro.proofs.Spans.{same_lexeme, whole_of}
 
-same_joined_token : (texts more : List ℕ) (t : JoinedToken) → IsJoinedWithin texts t → joined_lexeme (texts ++ more) t ≡ joined_lexeme texts t
+same_joined_token : (texts more : List ℕ) (t : JoinedToken) → IsJoinedWithin texts t → joined_word (texts ++ more) t ≡ joined_word texts t
 same_joined_token texts more (Single t) is = refl
-same_joined_token texts more (Joined s) is = same_lexeme texts more s is
+same_joined_token texts more (Joined s number) is =
+    ap (λ (l : Lexeme). let w : Word = record { lexeme = l; macro_number = number } in w) (same_lexeme texts more s is)
 
-same_joined : (texts more : List ℕ) (ts : List JoinedToken) → All (IsJoinedWithin texts) ts → map (joined_lexeme (texts ++ more)) ts ≡ map (joined_lexeme texts) ts
+same_joined : (texts more : List ℕ) (ts : List JoinedToken) → All (IsJoinedWithin texts) ts → map (joined_word (texts ++ more)) ts ≡ map (joined_word texts) ts
 same_joined texts more [] all = refl
 same_joined texts more (t ∷ ts) all =
     let first = same_joined_token texts more t (all 0 t (omega arith)) in
@@ -33,24 +40,43 @@ first_of : (ts : List Token) (d : Token) (first : Lexeme) (rest : List Lexeme) �
 first_of [] d first rest is = cc
 first_of (t ∷ ts) d first rest is = let same : lexeme_of t ≡ first = cc in ap (λ (l : Lexeme). l.at) (sym same)
 
-pub adds_chain : (texts new_texts : List ℕ) (tokens new_tokens : List JoinedToken) (ts : List Token) (d : Token) (kind : TokenKind) (count start end : ℕ) →
+-- a word is added whose bytes are in the new texts, which begin with the old ones
+pub adds_word : (texts new_texts : List ℕ) (tokens new_tokens : List JoinedToken) (s : Span) (number : Option ℕ) →
+    All (IsJoinedWithin texts) tokens → take (length texts) new_texts ≡ texts → new_tokens ≡ tokens ++ Joined s number ∷ [] →
+    map (joined_word new_texts) new_tokens ≡ map (joined_word texts) tokens ++ record { lexeme = lexeme_in new_texts s; macro_number = number } ∷ []
+adds_word texts new_texts tokens new_tokens s number all grown added =
+    let whole = whole_of texts new_texts grown in
+    let old : map (joined_word new_texts) tokens ≡ map (joined_word texts) tokens =
+    ap (λ bs. map (joined_word bs) tokens) whole ∙ same_joined texts (drop (length texts) new_texts) tokens all in
+    ap (map (joined_word new_texts)) added ∙ map-append (joined_word new_texts) tokens _ ∙ rw old refl
+
+-- the new word is marked like the others
+pub adds_mark : (macros : List Macro) (texts new_texts : List ℕ) (tokens new_tokens : List JoinedToken) (s : Span) (t u : Token) →
+    All (IsJoinedWithin texts) tokens → take (length texts) new_texts ≡ texts → new_tokens ≡ tokens ++ Joined s t.macro_number ∷ [] →
+    lexeme_of t ≡ lexeme_of u → lexeme_of u ≡ lexeme_in new_texts s → IsMarked macros t →
+    All (IsMarkedWord macros) (map (joined_word texts) tokens) → All (IsMarkedWord macros) (map (joined_word new_texts) new_tokens)
+adds_mark macros texts new_texts tokens new_tokens s t u all grown added same is marked earlier =
+    let w : Word = record { lexeme = lexeme_in new_texts s; macro_number = t.macro_number } in
+    let word : word_of t ≡ w = ap (λ (l : Lexeme). let v : Word = record { lexeme = l; macro_number = t.macro_number } in v) (same ∙ is) in
+    subst (All (IsMarkedWord macros)) (sym (adds_word texts new_texts tokens new_tokens s t.macro_number all grown added))
+    (All-push (IsMarkedWord macros) (map (joined_word texts) tokens) w earlier (subst (IsMarkedWord macros) word marked))
+
+pub adds_chain : (texts new_texts : List ℕ) (tokens new_tokens : List JoinedToken) (ts : List Token) (d : Token) (kind : TokenKind) (count start end : ℕ) (number : Option ℕ) →
     All (IsJoinedWithin texts) tokens → take (length texts) new_texts ≡ texts →
     JoinsChain (map lexeme_of ts) kind (drop (length texts) new_texts) count → start ≡ length texts → end ≡ length new_texts →
-    new_tokens ≡ tokens ++ Joined (record { kind = kind; start = start; end = end; at = (get_or ts 0 d).at }) ∷ [] →
-    AddsChain (map (joined_lexeme texts) tokens) (map (joined_lexeme new_texts) new_tokens) (map lexeme_of ts) count
-adds_chain texts new_texts tokens new_tokens ts d kind count start end all grown chain first last added = record {
+    new_tokens ≡ tokens ++ Joined (record { kind = kind; start = start; end = end; at = (get_or ts 0 d).at }) number ∷ [] →
+    AddsChain (map lexeme_in_word (map (joined_word texts) tokens)) (map lexeme_in_word (map (joined_word new_texts) new_tokens)) (map lexeme_of ts) count
+adds_chain texts new_texts tokens new_tokens ts d kind count start end number all grown chain first last added = record {
   kind = kind;
   word = drop (length texts) new_texts;
   chain = chain;
   added =
-      let whole = whole_of texts new_texts grown in
-      let old : map (joined_lexeme new_texts) tokens ≡ map (joined_lexeme texts) tokens =
-      ap (λ bs. map (joined_lexeme bs) tokens) whole ∙ same_joined texts (drop (length texts) new_texts) tokens all in
+      let s : Span = record { kind = kind; start = start; end = end; at = (get_or ts 0 d).at } in
       let word : take (end - start) (drop start new_texts) ≡ drop (length texts) new_texts =
       rw (first, last) (take_rest new_texts (length texts)) in
       let at : (get_or ts 0 d).at ≡ chain.first.at = sym (first_of ts d chain.first chain.rest chain.tokens) in
-      ap (map (joined_lexeme new_texts)) added ∙ map-append (joined_lexeme new_texts) tokens _
-      ∙ rw (old, word, at) refl;
+      word_added (map (joined_word texts) tokens) (map (joined_word new_texts) new_tokens) _ (adds_word texts new_texts tokens new_tokens s number all grown added)
+      ∙ rw (word, at) refl;
 }
 
 -- the list with several tokens before it

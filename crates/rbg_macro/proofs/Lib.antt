@@ -8,6 +8,7 @@ mod Failing
 mod Filled
 mod Heads
 mod JoinedLists
+mod Marks
 mod Names
 pub mod OneExpansion
 pub mod OneFault

@@ -32,7 +32,7 @@ insert_entry-fresh k t (e ∷ es) fresh =
     rw first (ap (λ (l : List (Bor (List ℕ) × Template)). e ∷ l) (insert_entry-fresh k t es others))
 
 -- the macro of a name
-lookup_none : (name : List ℕ) (es : List (Bor (List ℕ) × Template)) → lookup (λ k. bytes_eq name k.now) es ≡ None → find (λ m. bytes_eq name m.name) (map macro_in es) ≡ None
+pub lookup_none : (name : List ℕ) (es : List (Bor (List ℕ) × Template)) → lookup (λ k. bytes_eq name k.now) es ≡ None → find (λ m. bytes_eq name m.name) (map macro_in es) ≡ None
 lookup_none name [] none = refl
 lookup_none name (e ∷ es) none = by_test (bytes_eq name e.0.now) none (lookup_none name es)
   where
@@ -42,7 +42,7 @@ lookup_none name (e ∷ es) none = by_test (bytes_eq name e.0.now) none (lookup_
     by_test true h others = cc
     by_test false h others = others h
 
-lookup_some : (name : List ℕ) (es : List (Bor (List ℕ) × Template)) (t : Template) → lookup (λ k. bytes_eq name k.now) es ≡ Some t → (own : List ℕ) × (find (λ m. bytes_eq name m.name) (map macro_in es) ≡ Some (macro_of own t))
+pub lookup_some : (name : List ℕ) (es : List (Bor (List ℕ) × Template)) (t : Template) → lookup (λ k. bytes_eq name k.now) es ≡ Some t → (own : List ℕ) × (find (λ m. bytes_eq name m.name) (map macro_in es) ≡ Some (macro_of own t))
 lookup_some name [] t found = cc
 lookup_some name (e ∷ es) t found = by_test (bytes_eq name e.0.now) found (lookup_some name es t)
   where

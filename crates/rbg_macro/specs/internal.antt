@@ -3,6 +3,7 @@ pub mod Calls
 pub mod Defines
 pub mod Gives
 pub mod Joined
+pub mod Marks
 pub mod Part
 pub mod Progress
 pub mod Span

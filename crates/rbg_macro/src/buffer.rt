@@ -81,6 +81,7 @@ impl TokenBuffer {
             kind: span.kind,
             text: &self.texts[span.start..span.end],
             at: span.at,
+            macro_number: None,
         }
     }
 }

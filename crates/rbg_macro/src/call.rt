@@ -1,15 +1,17 @@
 //! Calls of macros: a macro's name, and the arguments in parentheses after it.
 ghost use Rattle.std.specs.Prelude.{ℕ, ◌≡◌, ◌+◌, ◌<◌, ◌≤◌, ◌^◌, [], ◌∷◌, ◌++◌, List, length, drop, map, None, Some, Ok};
-ghost use Rattle.std.specs.Prelude.{Err, IfOk, IfErr, MatchOption, OnOk, IsTrue};
+ghost use Rattle.std.specs.Prelude.{All, Err, IfOk, IfErr, IfSome, MatchOption, OnOk, IsTrue};
 ghost use Rattle.rbg_macro.specs.Call.{Stays, NoCall, arguments, closing, meets, nesting};
 ghost use Rattle.rbg_macro.specs.internal.Calls.{nesting_of, AreArguments, IsCall, IsNoCall, begins_with_parenthesis};
 ghost use Rattle.rbg_macro.specs.Errors.{UnlessMemory};
 ghost use Rattle.rbg_macro.specs.Macro.{filled, filled_piece};
+ghost use Rattle.rbg_macro.specs.internal.Marks.{IsMarked, IsMarkedCall, KeepsMarks};
 ghost use Rattle.rbg_macro.specs.internal.Template.{piece_in, lists_in};
 ghost use Rattle.rbg_macro.specs.Token.{lexeme_of};
 
 use crate::error::MacroError;
-use crate::macros::{Macros, Piece};
+use crate::macros::Piece;
+use crate::marking::MarkedMacros;
 use crate::token::{Token, TokenKind};
 use rbg_base::Memory;
 use smallvec::SmallVec;
@@ -74,8 +76,9 @@ fn find_arguments<'a>(
     alloc: Global,
     tokens: &'a [Token<'a>],
 ) -> Result<Option<(Arguments<'a>, usize)>, Memory>
-    ensures { IfOk result (λ o. MatchOption o (arguments 0 (map lexeme_of tokens.now) ≡ None)
+    ensures arguments { IfOk result (λ o. MatchOption o (arguments 0 (map lexeme_of tokens.now) ≡ None)
         (λ x. AreArguments (map lexeme_of tokens.now) (lists_in x.0.items) x.1)) }
+    ensures marks { IfOk result (λ o. IfSome o (λ x. KeepsMarks tokens.now x.0.items)) }
 {
     let mut found = SmallVec::new(alloc);
     let mut further = 0;
@@ -103,13 +106,16 @@ fn find_arguments<'a>(
 /// name alone, else the arguments follow.
 pub(crate) fn find_call<'m, 'a>(
     alloc: Global,
-    macros: &'m Macros<'a>,
+    macros: &'m MarkedMacros<'a>,
     name: &Token<'a>,
     behind: &'a [Token<'a>],
 ) -> Result<Option<Call<'m, 'a>>, MacroError>
+    requires named { IsMarked macros.now name.now }
+    requires behind { All (IsMarked macros.now) behind.now }
     ensures ok { IfOk result (λ o. MatchOption o
         (meets macros.now (lexeme_of name.now) (map lexeme_of behind.now) ≡ Stays)
         (IsCall macros.now (lexeme_of name.now) (map lexeme_of behind.now))) }
+    ensures marked { IfOk result (λ o. IfSome o (IsMarkedCall macros.now)) }
     ensures err { IfErr result (UnlessMemory (λ e. IsNoCall macros.now (lexeme_of name.now)
         (map lexeme_of behind.now) e)) }
 {

@@ -1,12 +1,13 @@
 //! Expansion: the sections, with the calls of macros replaced.
 ghost use Rattle.std.specs.Prelude.{All, ℕ, ◌≡◌, ◌+◌, ◌*◌, ◌-◌, ◌<◌, ◌≤◌, [], ◌∷◌, ◌++◌, List, length, map, Ok, Err};
-ghost use Rattle.std.specs.Prelude.{IfOk, IfErr, OnOk, OnErr, MatchOption};
+ghost use Rattle.std.specs.Prelude.{IfOk, IfErr, IfSome, OnOk, OnErr, MatchOption};
 ghost use Rattle.std.specs.List.{list_any};
 ghost use Rattle.rbg_macro.specs.Call.{Stays, meets};
 ghost use Rattle.rbg_macro.specs.Expansion.{ExpandsWithin, Fails, FailsReading, FailsAll, HasSections, HasMacroFault};
 ghost use Rattle.rbg_macro.specs.internal.Defines.{section_of};
 ghost use Rattle.rbg_macro.specs.Errors.{UnlessMemory};
 ghost use Rattle.rbg_macro.specs.Kinds.{is_tilde};
+ghost use Rattle.rbg_macro.specs.internal.Marks.{IsMarked, IsMarkedWord};
 ghost use Rattle.rbg_macro.specs.internal.Progress.{ReadsOn, ReadsJoined, ReadsSection, FailsJoined, GivesWay};
 ghost use Rattle.rbg_macro.specs.internal.Progress.{IsTooMany, IsWithinLimits};
 ghost use Rattle.rbg_macro.specs.internal.Span.{section_in, IsSectionWithin};
@@ -19,7 +20,7 @@ use crate::error::MacroError;
 use crate::filling::{fill, filled_len};
 use crate::joining::join;
 use crate::limits::{MAX_KEPT, MAX_LEVEL, MAX_READ};
-use crate::macros::Macros;
+use crate::marking::MarkedMacros;
 use crate::source::{SectionSpan, Source};
 use crate::token::{Token, Tokens};
 use std::alloc::Global;
@@ -58,17 +59,20 @@ impl Progress {
 /// token isn't the name of a macro.
 fn body_of_call<'a>(
     alloc: Global,
-    macros: &Macros<'a>,
+    macros: &MarkedMacros<'a>,
     level: usize,
     name: &Token<'a>,
     behind: &'a [Token<'a>],
     read: usize,
 ) -> Result<Option<(Vec<Token<'a>>, usize)>, MacroError>
-    requires { read ≤ MAX_READ }
+    requires within { read ≤ MAX_READ }
+    requires named { IsMarked macros.now name.now }
+    requires behind { All (IsMarked macros.now) behind.now }
     ensures ok { IfOk result (λ o. MatchOption o
         (meets macros.now (lexeme_of name.now) (map lexeme_of behind.now) ≡ Stays)
         (λ x. GivesWay macros.now level (lexeme_of name.now) (map lexeme_of behind.now) read
         (map lexeme_of x.0.items) x.1)) }
+    ensures marked { IfOk result (λ o. IfSome o (λ x. All (IsMarked macros.now) x.0.items)) }
     ensures err { IfErr result (UnlessMemory (λ e. (k : ℕ) →
         FailsReading macros.now level read k (lexeme_of name.now ∷ map lexeme_of behind.now) e)) }
 {
@@ -97,20 +101,21 @@ fn has_tilde(list: &[Token<'_>]) -> bool
 #[cycle(expansion)]
 fn read_list<'a>(
     alloc: Global,
-    macros: &Macros<'a>,
+    macros: &MarkedMacros<'a>,
     level: usize,
     list: &'a [Token<'a>],
     progress: &mut Progress,
 ) -> Result<(), MacroError>
     requires level { level ≤ MAX_LEVEL }
     requires within { IsWithinLimits progress.old }
+    requires marked { All (IsMarked macros.now) list.now }
     ensures ok { OnOk result (ReadsJoined macros.now level (map lexeme_of list.now) progress.old progress.new) }
     ensures err { IfErr result (UnlessMemory (FailsJoined macros.now level (map lexeme_of list.now) progress.old)) }
 {
     if !has_tilde(list) {
         return read_joined(alloc, macros, level, list, progress);
     }
-    let joined = join(alloc, list)?;
+    let joined = join(alloc, macros, list)?;
     let tokens = joined.tokens(alloc)?;
     read_joined(alloc, &*macros, level, &tokens, progress)
 }
@@ -119,13 +124,14 @@ fn read_list<'a>(
 #[cycle(expansion)]
 fn read_joined<'a>(
     alloc: Global,
-    macros: &Macros<'a>,
+    macros: &MarkedMacros<'a>,
     level: usize,
     list: &'a [Token<'a>],
     progress: &mut Progress,
 ) -> Result<(), MacroError>
     requires level { level ≤ MAX_LEVEL }
     requires within { IsWithinLimits progress.old }
+    requires marked { All (IsMarked macros.now) list.now }
     ensures ok { OnOk result (ReadsOn macros.now level (map lexeme_of list.now) progress.old progress.new) }
     ensures err { IfErr result (UnlessMemory (FailsReading macros.now level progress.old.read
         (length progress.old.kept) (map lexeme_of list.now))) }
@@ -157,7 +163,7 @@ fn read_joined<'a>(
 /// Expands a section. Its tokens are kept after those of the earlier sections.
 fn read_section<'a>(
     alloc: Global,
-    macros: &Macros<'a>,
+    macros: &MarkedMacros<'a>,
     section: &SectionBody<'a>,
     progress: &mut Progress,
 ) -> Result<SectionSpan, MacroError>
@@ -166,13 +172,13 @@ fn read_section<'a>(
     ensures err { IfErr result (UnlessMemory (Fails macros.now 0 progress.old.read (length progress.old.kept)
         (section_of section.now).tokens)) }
 {
-    let tokens = section.tokens;
-    if tokens.len() > MAX_READ - progress.read {
+    if section.tokens.len() > MAX_READ - progress.read {
         return Err(MacroError::TooManyTokens);
     }
+    let tokens = macros.mark_all(alloc, section.tokens)?;
     let start = progress.kept.len();
     progress.count(tokens.len());
-    read_list(alloc, macros, 0, tokens, progress)?;
+    read_list(alloc, &*macros, 0, &tokens, progress)?;
     Ok(SectionSpan {
         kind: section.kind,
         at: section.at,
@@ -186,7 +192,7 @@ fn read_section<'a>(
 fn expand_sections<'a>(
     alloc: Global,
     text: &[u8],
-    macros: &Macros<'a>,
+    macros: &MarkedMacros<'a>,
     bodies: &[SectionBody<'a>],
 ) -> Result<(TokenBuffer, Vec<SectionSpan>), MacroError>
     ensures within { IfOk result (λ x. All (IsSectionWithin (length x.0)) x.1.items) }
@@ -213,11 +219,7 @@ pub fn expand(alloc: Global, tokens: &Tokens<'_>) -> Result<Source, MacroError>
     ensures fault { IfErr result (HasMacroFault tokens.now) }
 {
     let definitions = read_definitions(alloc, tokens.as_slice())?;
-    let (kept, sections) = expand_sections(
-        alloc,
-        tokens.text(),
-        &definitions.macros,
-        &definitions.sections,
-    )?;
+    let macros = MarkedMacros::new(alloc, definitions.macros)?;
+    let (kept, sections) = expand_sections(alloc, tokens.text(), &macros, &definitions.sections)?;
     Ok(Source::new(kept, sections))
 }

@@ -1,7 +1,8 @@
 //! Fills a macro's body with the arguments of a call.
 ghost use Rattle.std.specs.Prelude.{ℕ, ◌≡◌, ◌+◌, ◌<◌, ◌≤◌, ◌++◌, List, [], length, map, slice_get, unwrap_or};
-ghost use Rattle.std.specs.Prelude.{MatchOption, IfOk, OnOk};
-ghost use Rattle.rbg_macro.specs.Macro.{filled, filled_piece};
+ghost use Rattle.std.specs.Prelude.{All, MatchOption, IfOk, OnOk};
+ghost use Rattle.rbg_macro.specs.Macro.{Macro, filled, filled_piece};
+ghost use Rattle.rbg_macro.specs.internal.Marks.{AreMarkedLists, FillsMarks, IsMarked, IsMarkedPiece};
 ghost use Rattle.rbg_macro.specs.internal.Template.{piece_in, lists_in};
 ghost use Rattle.rbg_macro.specs.Token.{lexeme_of};
 
@@ -12,7 +13,8 @@ use std::alloc::Global;
 
 /// The argument with this index, or no tokens.
 fn argument_at<'a>(arguments: &[&'a [Token<'a>]], index: usize) -> &'a [Token<'a>]
-    ensures { map lexeme_of result.now ≡ unwrap_or (slice_get (lists_in arguments.now) index) [] }
+    ensures tokens { map lexeme_of result.now ≡ unwrap_or (slice_get (lists_in arguments.now) index) [] }
+    ensures marks { (macros : List Macro) → AreMarkedLists macros arguments.now → All (IsMarked macros) result.now }
 {
     if index < arguments.len() {
         return arguments[index];
@@ -56,8 +58,10 @@ fn push_piece<'a>(
     piece: &Piece<'a>,
     arguments: &[&'a [Token<'a>]],
 ) -> Result<(), Memory>
-    ensures { OnOk result (map lexeme_of tokens.new.items ≡ map lexeme_of tokens.old.items ++ filled_piece
+    ensures tokens { OnOk result (map lexeme_of tokens.new.items ≡ map lexeme_of tokens.old.items ++ filled_piece
         (lists_in arguments.now) (piece_in piece.now)) }
+    ensures marks { OnOk result ((macros : List Macro) → All (IsMarked macros) tokens.old.items →
+        IsMarkedPiece macros piece.now → AreMarkedLists macros arguments.now → All (IsMarked macros) tokens.new.items) }
 {
     match piece {
         Piece::Word(token) => tokens.push(*token)?,
@@ -73,7 +77,9 @@ pub(crate) fn fill<'a>(
     arguments: &[&'a [Token<'a>]],
     len: usize,
 ) -> Result<Vec<Token<'a>>, Memory>
-    ensures { IfOk result (λ v. map lexeme_of v.items ≡ filled (map piece_in body.now) (lists_in arguments.now)) }
+    ensures tokens { IfOk result (λ v.
+        map lexeme_of v.items ≡ filled (map piece_in body.now) (lists_in arguments.now)) }
+    ensures marks { IfOk result (λ v. FillsMarks body.now arguments.now v.items) }
 {
     let mut tokens = Vec::with_capacity(alloc, len)?;
     for piece in body {

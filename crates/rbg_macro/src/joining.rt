@@ -4,7 +4,9 @@ ghost use Rattle.std.specs.Prelude.{IfErr, OnOk, IsTrue, ◌↔◌, All};
 ghost use Rattle.rbg_macro.specs.internal.Gives.{Gives};
 ghost use Rattle.rbg_macro.specs.Errors.{UnlessMemory};
 ghost use Rattle.rbg_macro.specs.internal.Joined.{AddsChain, JoinsNext, JoinsChain, FailsChain, IsJoinedWithin};
-ghost use Rattle.rbg_macro.specs.internal.Joined.{begins_with_tilde, joined_lexeme, word_at};
+ghost use Rattle.rbg_macro.specs.internal.Joined.{begins_with_tilde, joined_word, word_at};
+ghost use Rattle.rbg_macro.specs.internal.Marks.{IsMarked, IsMarkedWord, word_of, lexeme_in_word};
+ghost use Rattle.rbg_macro.specs.internal.Span.{lexeme_in, IsSpanWithin};
 ghost use Rattle.rbg_macro.specs.Joining.{joined, joined_from, joined_kind};
 ghost use Rattle.rbg_macro.specs.Kinds.{is_tilde};
 ghost use Rattle.rbg_macro.specs.Token.{Lexeme, lexeme_of};
@@ -12,6 +14,7 @@ ghost use Rattle.rbg_macro.specs.Token.{Lexeme, lexeme_of};
 use crate::buffer::Span;
 use crate::error::MacroError;
 use crate::limits::MAX_JOINED;
+use crate::marking::MarkedMacros;
 use crate::token::{Token, TokenKind};
 use rbg_base::Memory;
 use std::alloc::Global;
@@ -21,7 +24,8 @@ use std::marker::Model;
 #[derive(Clone, Copy, Debug)]
 pub(crate) enum JoinedToken<'a> {
     Single(Token<'a>),
-    Joined(Span),
+    /// With the number of the macro that it names.
+    Joined(Span, Option<usize>),
 }
 
 /// A joined list, with the texts of its joined tokens.
@@ -33,13 +37,13 @@ pub(crate) struct JoinedList<'a> {
 
 impl<'a> Model for JoinedList<'a> {
     ghost use Rattle.std.specs.Prelude.{List, map, All};
-    ghost use Rattle.rbg_macro.specs.Token.{Lexeme};
+    ghost use Rattle.rbg_macro.specs.internal.Marks.{Word};
 
-    ghost Value = { List Lexeme };
+    ghost Value = { List Word };
 
-    ghost use Rattle.rbg_macro.specs.internal.Joined.{joined_lexeme, IsJoinedWithin};
+    ghost use Rattle.rbg_macro.specs.internal.Joined.{joined_word, IsJoinedWithin};
 
-    ghost view = { λ j. map (joined_lexeme j.texts.items) j.tokens.items };
+    ghost view = { λ j. map (joined_word j.texts.items) j.tokens.items };
 
     ghost invariant = { λ j. All (IsJoinedWithin j.texts.items) j.tokens.items };
 }
@@ -129,7 +133,7 @@ impl<'a> JoinedList<'a> {
 
     /// Adds a token that stays as it is.
     fn push(&mut self, token: Token<'a>) -> Result<(), Memory>
-        ensures { OnOk result (self.new ≡ self.old ++ lexeme_of token.entry ∷ []) }
+        ensures { OnOk result (self.new ≡ self.old ++ word_of token.entry ∷ []) }
     {
         self.tokens.push(JoinedToken::Single(token))?;
         Ok(())
@@ -137,27 +141,36 @@ impl<'a> JoinedList<'a> {
 
     /// Adds the token that the first tokens make together, where each but the first follows a `~`, and returns the
     /// number of tokens that it took.
-    fn push_chain(&mut self, tokens: &[Token<'_>]) -> Result<usize, MacroError>
+    fn push_chain(
+        &mut self,
+        macros: &MarkedMacros<'_>,
+        tokens: &[Token<'_>],
+    ) -> Result<usize, MacroError>
         requires { 0 < length tokens.now }
-        ensures ok { IfOk result (AddsChain self.old self.new (map lexeme_of tokens.now)) }
+        ensures ok { IfOk result (AddsChain (map lexeme_in_word self.old) (map lexeme_in_word self.new)
+            (map lexeme_of tokens.now)) }
+        ensures marks { OnOk result (All (IsMarkedWord macros.now) self.old → All (IsMarkedWord macros.now) self.new) }
         ensures err { IfErr result (UnlessMemory (λ e. FailsChain (map lexeme_of tokens.now) e)) }
     {
         let at = tokens[0].at;
         let start = self.texts.len();
         let (kind, count) = join_chain(&mut self.texts, tokens)?;
         let end = self.texts.len();
-        self.tokens.push(JoinedToken::Joined(Span {
+        let word = Span {
             kind,
             start,
             end,
             at,
-        }))?;
+        };
+        let token = macros.mark(&token_at(&word, &self.texts));
+        self.tokens
+            .push(JoinedToken::Joined(word, token.macro_number))?;
         Ok(count)
     }
 
     /// The tokens of the list, which borrow its texts.
     pub(crate) fn tokens(&self, alloc: Global) -> Result<Vec<Token<'_>>, Memory>
-        ensures { IfOk result (λ v. map lexeme_of v.items ≡ self.now) }
+        ensures { IfOk result (λ v. map word_of v.items ≡ self.now) }
     {
         let mut tokens = Vec::with_capacity(alloc, self.tokens.len())?;
         for token in &self.tokens {
@@ -170,21 +183,39 @@ impl<'a> JoinedList<'a> {
 /// The token itself, or the one whose bytes are in the texts.
 fn resolve<'s>(token: &JoinedToken<'s>, texts: &'s [u8]) -> Token<'s>
     requires { IsJoinedWithin texts.now token.now }
-    ensures { lexeme_of result ≡ joined_lexeme texts.now token.now }
+    ensures { word_of result ≡ joined_word texts.now token.now }
 {
     match token {
         JoinedToken::Single(token) => *token,
-        JoinedToken::Joined(span) => Token {
-            kind: span.kind,
-            text: &texts[span.start..span.end],
-            at: span.at,
+        JoinedToken::Joined(span, number) => Token {
+            macro_number: *number,
+            ..token_at(span, texts)
         },
     }
 }
 
+/// The token whose bytes are at a place of the texts.
+fn token_at<'s>(span: &Span, texts: &'s [u8]) -> Token<'s>
+    requires { IsSpanWithin texts.now span.now }
+    ensures { lexeme_of result ≡ lexeme_in texts.now span.now }
+{
+    Token {
+        kind: span.kind,
+        text: &texts[span.start..span.end],
+        at: span.at,
+        macro_number: None,
+    }
+}
+
 /// The list, joined over its whole length from the left.
-pub(crate) fn join<'a>(alloc: Global, list: &'a [Token<'a>]) -> Result<JoinedList<'a>, MacroError>
-    ensures { Gives (λ j. j) result (joined (map lexeme_of list.now)) }
+pub(crate) fn join<'a>(
+    alloc: Global,
+    macros: &MarkedMacros<'_>,
+    list: &'a [Token<'a>],
+) -> Result<JoinedList<'a>, MacroError>
+    requires { All (IsMarked macros.now) list.now }
+    ensures joined { Gives (map lexeme_in_word) result (joined (map lexeme_of list.now)) }
+    ensures marked { IfOk result (All (IsMarkedWord macros.now)) }
 {
     let mut joined = JoinedList::new(alloc);
     if begins_with_tilde(list) {
@@ -193,7 +224,7 @@ pub(crate) fn join<'a>(alloc: Global, list: &'a [Token<'a>]) -> Result<JoinedLis
     let mut at = 0;
     while at < list.len() {
         if begins_with_tilde(&list[at + 1..]) {
-            at += joined.push_chain(&list[at..])?;
+            at += joined.push_chain(macros, &list[at..])?;
         } else {
             joined.push(list[at])?;
             at += 1;

@@ -42,7 +42,12 @@ pub fn tokens(alloc: Global, text: &[u8]) -> Result<Tokens<'_>, TextError>
             Part::Skipped(len) => at += len,
             Part::Token(kind, len) => {
                 let text = &rest[..len];
-                tokens.push(Token { kind, text, at })?;
+                tokens.push(Token {
+                    kind,
+                    text,
+                    at,
+                    macro_number: None,
+                })?;
                 at += len;
             }
             Part::ZeroByte => return Err(TextError::ZeroByte),

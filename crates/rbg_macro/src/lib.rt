@@ -12,6 +12,7 @@ pub mod laws;
 mod lexer;
 mod limits;
 mod macros;
+mod marking;
 mod source;
 mod token;
 

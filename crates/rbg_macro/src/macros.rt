@@ -5,7 +5,8 @@ ghost use Rattle.std.specs.Bool.{IsFalse};
 ghost use Rattle.std.specs.List.{list_any};
 ghost use Rattle.std.specs.Str.{bytes_eq};
 ghost use Rattle.rbg_macro.specs.Macro.{macro_named, piece_of, body_of};
-ghost use Rattle.rbg_macro.specs.internal.Template.{macro_of, piece_in, texts_in, IsNamed};
+ghost use Rattle.rbg_macro.specs.internal.Template.{macro_of, piece_in, texts_in};
+ghost use Rattle.rbg_macro.specs.internal.Marks.{IsNumberOf, IsTemplateAt};
 ghost use Rattle.rbg_macro.specs.Token.{lexeme_of};
 
 use crate::token::Token;
@@ -105,14 +106,24 @@ impl<'a> Macros<'a> {
         Ok(())
     }
 
-    /// The macro that the token names.
-    pub(crate) fn get(&self, token: &Token<'_>) -> Option<&Template<'a>>
+    /// The number of the macro that the token names. It costs the token's bytes.
+    pub(crate) fn number_of(&self, token: &Token<'_>) -> Option<usize>
         ensures { MatchOption result (macro_named self.now (lexeme_of token.now) ≡ None)
-            (λ t. IsNamed self.now (lexeme_of token.now) t.now) }
+            (IsNumberOf self.now (lexeme_of token.now)) }
     {
         if token.kind.is_name() {
-            return self.by_name.get(token.text);
+            return self.by_name.get_index_of(token.text);
         }
         None
+    }
+
+    /// The template of the macro with this number.
+    pub(crate) fn template(&self, number: usize) -> Option<&Template<'a>>
+        ensures { MatchOption result (length self.now ≤ number) (λ t. IsTemplateAt self.now number t.now) }
+    {
+        match self.by_name.get_index(number) {
+            Some((_, template)) => Some(template),
+            None => None,
+        }
     }
 }

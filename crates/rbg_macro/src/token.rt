@@ -167,6 +167,8 @@ pub struct Token<'a> {
     pub kind: TokenKind,
     pub text: &'a [u8],
     pub at: usize,
+    /// The number of the macro that it names. It is set while macros are expanded.
+    pub(crate) macro_number: Option<usize>,
 }
 
 impl Token<'_> {

@@ -7,16 +7,17 @@ use Rattle.rbg_macro.specs.declared.joining.JoinedToken.TheVariants.{Single, Joi
 use Rattle.rbg_macro.specs.declared.token.TokenKind.{TokenKind}
 use Rattle.rbg_macro.specs.Joining.{joined_from, joined_token}
 use Rattle.rbg_macro.specs.Kinds.{is_tilde}
+use Rattle.rbg_macro.specs.internal.Marks.{Word, word_of}
 use Rattle.rbg_macro.specs.internal.Span.{lexeme_in, IsSpanWithin}
-use Rattle.rbg_macro.specs.Token.{Lexeme, lexeme_of}
+use Rattle.rbg_macro.specs.Token.{Lexeme}
 
-abbrev pub joined_lexeme : List ℕ → JoinedToken → Lexeme
-joined_lexeme texts (Single t) = lexeme_of t
-joined_lexeme texts (Joined s) = lexeme_in texts s
+abbrev pub joined_word : List ℕ → JoinedToken → Word
+joined_word texts (Single t) = word_of t
+joined_word texts (Joined s number) = record { lexeme = lexeme_in texts s; macro_number = number }
 
 abbrev pub IsJoinedWithin : List ℕ → JoinedToken → Type 0
 IsJoinedWithin texts (Single t) = Unit {0}
-IsJoinedWithin texts (Joined s) = IsSpanWithin texts s
+IsJoinedWithin texts (Joined s number) = IsSpanWithin texts s
 
 -- whether the first token is `~`
 abbrev pub begins_with_tilde : List Lexeme → Bool

@@ -8,6 +8,7 @@ use Rattle.rbg_macro.specs.internal.Progress.{FailsJoined, reading}
 use Rattle.rbg_macro.specs.Token.{lexeme_of}
 use Rattle.rbg_macro.proofs.Exits.{unless_weaker}
 use Rattle.rbg_macro.proofs.JoinedLists.{joined_already}
+use Rattle.rbg_macro.proofs.Marks.{lexemes_of_words, marks_of_words}
 use Rattle.rbg_macro.proofs.Reading.{nothing_read, token_kept, call_read, call_fails, token_too_many, all_read}
 use Rattle.std.proofs.lemmas.List.{take_rest}
 use Rattle.rbg_macro.proofs.expansion.+expansion.Goals as goal
@@ -74,9 +75,27 @@ read_list-returns-then-not-has_tilde-clause-err t c =
     (λ f h. reading _ (joined_already c.args.list.now (sym c.has_tilde.ensures ∙ c.if-not-has_tilde.true)) h) e fails)
     c.read_joined.ensures.err
 
+pub read_list-read_joined-requires-2 : goal.read_list-read_joined-requires-2
+read_list-read_joined-requires-2 t c = (
+  omega arith,
+  (
+    c.requires.level,
+    (
+      c.requires.within,
+      rw c.deref.ensures.value (marks_of_words c.args.macros.now c.in_ok-tokens.tokens.items c.in_ok-joined.joined c.in_ok-tokens.ensures c.in_ok-joined.ensures.marked),
+    ),
+  ),
+)
+
+pub read_list-returns-clause-ok : goal.read_list-returns-clause-ok
+read_list-returns-clause-ok t c =
+    on_ok_weaker c.read_joined-2.result
+    (λ reads. record { js = _; joins = c.in_ok-joined.ensures.joined; reads = rw (← lexemes_of_words c.in_ok-tokens.tokens.items c.in_ok-joined.joined c.in_ok-tokens.ensures) reads })
+    (rw c.deref.ensures.value at c.read_joined-2.ensures.ok)
+
 pub read_list-returns-clause-err : goal.read_list-returns-clause-err
 read_list-returns-clause-err t c =
     IfErr-weaker c.read_joined-2.result _ (UnlessMemory (FailsJoined c.args.macros.now c.args.level (map lexeme_of c.args.list.now) c.args.progress.now))
     (λ e fails. unless_weaker _ (FailsJoined c.args.macros.now c.args.level (map lexeme_of c.args.list.now) c.args.progress.now)
-    (λ f h. reading _ c.in_ok-joined.ensures (rw (← c.in_ok-tokens.ensures) h)) e fails)
+    (λ f h. reading _ c.in_ok-joined.ensures.joined (rw (← lexemes_of_words c.in_ok-tokens.tokens.items c.in_ok-joined.joined c.in_ok-tokens.ensures) h)) e fails)
     (rw c.deref.ensures.value at c.read_joined-2.ensures.err)

@@ -23,4 +23,4 @@ pub returns-in_default-filled_len-clause-err : goal.returns-in_default-filled_le
 returns-in_default-filled_len-clause-err c k =
     let is = rw c.in-Some.is at c.in_ok-call.ensures.ok in
     fails_too_long c.args.macros.now c.args.level c.args.read k (lexeme_of c.args.name.now) (map lexeme_of c.args.behind.now) _ _ is.meets c.if-level-ge-MAX_LEVEL.false
-    c.requires (rw (← c.deref.ensures) c.in_default-filled_len.ensures)
+    c.requires.within (rw (← c.deref.ensures) c.in_default-filled_len.ensures)

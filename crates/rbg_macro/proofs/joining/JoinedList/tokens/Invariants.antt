@@ -1,8 +1,8 @@
 -- The tokens so far are those of the list so far.
 use Rattle.std.proofs.Common.{◌≡◌, map, take}
-use Rattle.rbg_macro.specs.internal.Joined.{joined_lexeme}
-use Rattle.rbg_macro.specs.Token.{lexeme_of}
+use Rattle.rbg_macro.specs.internal.Joined.{joined_word}
+use Rattle.rbg_macro.specs.internal.Marks.{word_of}
 use Rattle.rbg_macro.proofs.joining.JoinedList.tokens.Given as goal
 
 abbrev pub invariant-loop-token : goal.invariant-loop-token
-invariant-loop-token l = map lexeme_of l.tokens.items ≡ map (joined_lexeme l.self-inside.texts.items) (take l.token-index l.token-items)
+invariant-loop-token l = map word_of l.tokens.items ≡ map (joined_word l.self-inside.texts.items) (take l.token-index l.token-items)

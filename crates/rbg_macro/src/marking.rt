@@ -1,0 +1,125 @@
+//! Marks tokens with the numbers of the macros that they name, so that their bytes aren't looked at wherever they are
+//! read.
+ghost use Rattle.std.specs.Prelude.{◌≡◌, ◌≤◌, List, length, map, None, Some, MatchOption, IfOk, IfSome, All};
+ghost use Rattle.rbg_macro.specs.Macro.{macro_named};
+ghost use Rattle.rbg_macro.specs.internal.Marks.{IsMarked, IsMarkedPiece, IsMarkedTemplate};
+ghost use Rattle.rbg_macro.specs.internal.Template.{piece_in, IsNamed};
+ghost use Rattle.rbg_macro.specs.Token.{lexeme_of};
+
+use crate::macros::{Macros, Piece, Template};
+use crate::token::Token;
+use rbg_base::Memory;
+use std::alloc::Global;
+use std::marker::Model;
+
+/// The macros, with the tokens of their bodies marked.
+#[derive(Drop)]
+pub(crate) struct MarkedMacros<'a> {
+    macros: Macros<'a>,
+    templates: Vec<Template<'a>>,
+}
+
+impl<'a> Model for MarkedMacros<'a> {
+    ghost use Rattle.std.specs.Prelude.{List};
+    ghost use Rattle.rbg_macro.specs.Macro.{Macro};
+
+    ghost Value = { List Macro };
+
+    ghost view = { λ m. m.macros };
+
+    ghost use Rattle.std.specs.List.{AllZip};
+    ghost use Rattle.rbg_macro.specs.internal.Marks.{IsMarkedTemplate};
+
+    ghost invariant = { λ m. AllZip (IsMarkedTemplate m.macros) m.macros m.templates.items };
+}
+
+impl<'a> Macros<'a> {
+    /// The token with its mark.
+    pub(crate) fn mark<'b>(&self, token: &Token<'b>) -> Token<'b>
+        ensures token { lexeme_of result ≡ lexeme_of token.now }
+        ensures marked { IsMarked self.now result }
+    {
+        Token {
+            macro_number: self.number_of(token),
+            ..*token
+        }
+    }
+
+    /// The piece with its mark.
+    fn mark_piece(&self, piece: &Piece<'a>) -> Piece<'a>
+        ensures piece { piece_in result ≡ piece_in piece.now }
+        ensures marked { IsMarkedPiece self.now result }
+    {
+        match piece {
+            Piece::Word(token) => Piece::Word(self.mark(token)),
+            Piece::Place(index) => Piece::Place(*index),
+        }
+    }
+
+    /// The template with marks.
+    fn mark_template(&self, alloc: Global, template: &Template<'a>) -> Result<Template<'a>, Memory>
+        ensures parameters { IfOk result (λ t. t.parameters ≡ template.now.parameters) }
+        ensures body { IfOk result (λ t. map piece_in t.body.items ≡ map piece_in template.now.body.items) }
+        ensures marked { IfOk result (λ t. All (IsMarkedPiece self.now) t.body.items) }
+    {
+        let mut body = Vec::with_capacity(alloc, template.body.len())?;
+        for piece in &template.body {
+            body.push(self.mark_piece(piece))?;
+        }
+        Ok(Template {
+            parameters: template.parameters,
+            body,
+        })
+    }
+}
+
+impl<'a> MarkedMacros<'a> {
+    /// The macros, marked.
+    pub(crate) fn new(alloc: Global, macros: Macros<'a>) -> Result<Self, Memory>
+        ensures { IfOk result (λ m. m ≡ macros.entry) }
+    {
+        let mut templates = Vec::new(alloc);
+        while let Some(template) = macros.template(templates.len()) {
+            let marked = macros.mark_template(alloc, template)?;
+            templates.push(marked)?;
+        }
+        Ok(MarkedMacros { macros, templates })
+    }
+
+    /// The token with its mark.
+    pub(crate) fn mark<'b>(&self, token: &Token<'b>) -> Token<'b>
+        ensures token { lexeme_of result ≡ lexeme_of token.now }
+        ensures marked { IsMarked self.now result }
+    {
+        self.macros.mark(token)
+    }
+
+    /// The tokens with their marks.
+    pub(crate) fn mark_all<'b>(
+        &self,
+        alloc: Global,
+        tokens: &[Token<'b>],
+    ) -> Result<Vec<Token<'b>>, Memory>
+        ensures tokens { IfOk result (λ v. map lexeme_of v.items ≡ map lexeme_of tokens.now) }
+        ensures marked { IfOk result (λ v. All (IsMarked self.now) v.items) }
+    {
+        let mut marked = Vec::with_capacity(alloc, tokens.len())?;
+        for token in tokens {
+            marked.push(self.mark(token))?;
+        }
+        Ok(marked)
+    }
+
+    /// The macro that the token names, whatever the length of its name.
+    pub(crate) fn get(&self, token: &Token<'_>) -> Option<&Template<'a>>
+        requires { IsMarked self.now token.now }
+        ensures named { MatchOption result (macro_named self.now (lexeme_of token.now) ≡ None)
+            (λ t. IsNamed self.now (lexeme_of token.now) t.now) }
+        ensures marked { IfSome result (λ t. All (IsMarkedPiece self.now) t.now.body.items) }
+    {
+        match token.macro_number {
+            Some(number) => Some(&self.templates[number]),
+            None => None,
+        }
+    }
+}
