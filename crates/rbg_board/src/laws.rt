@@ -1,5 +1,14 @@
-//! Laws of the edges of boards. Each function's contract is a law over the definitions; its body does nothing.
+//! Laws of boards and their edges. Each function's contract is a law over the definitions; its body does nothing.
+ghost use Rattle.std.specs.Prelude.{◌≡◌};
+ghost use Rattle.rbg_board.specs.Limits.{most_vertices};
 ghost use Rattle.rbg_board.specs.Laws.{RectanglesLeadOneWay, HexagonsLeadOneWay, GraphsLeadOneWay, RectanglesLeadBack, HexagonsLeadBack};
+
+use crate::MAX_VERTICES;
+
+/// The limit is the number that the definitions state.
+pub fn limits_are_as_stated()
+    ensures { MAX_VERTICES ≡ most_vertices }
+{}
 
 /// A vertex of a rectangle has at most one edge in a direction.
 pub fn rectangles_lead_one_way()
