@@ -26,7 +26,8 @@ use Rattle.rbg_numbering.specs.Faults.{Purpose, as_direction, as_piece, as_playe
 use Rattle.rbg_game.specs.Faults.{board_directions, board_pieces, names_of_holders, names_spelt}
 use Rattle.rbg_game.specs.Faults.{same_holder, same_piece, great_bound, many_players, many_pieces, many_variables, in_board, in_rules, memory}
 use Rattle.rbg_game.specs.OneGame.{NoGameWithFaultLaw}
-use Rattle.rbg_numbering.proofs.Lists.{Contains-from_get, get_from-Contains, slice_get-map_at, map_entry, fellow}
+use Rattle.rbg_base.proofs.CallerLemmas.{Contains-from_get, get_from-Contains, slice_get-map_at}
+use Rattle.rbg_numbering.proofs.Lists.{map_entry, fellow}
 use Rattle.rbg_game.proofs.NameFaults.{texts_of-names}
 use Rattle.rbg_game.proofs.OneGameLists.{first_use_once}
 use Rattle.rbg_game.proofs.GraphFaults.{graph_fault_fails}

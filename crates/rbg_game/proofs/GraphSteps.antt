@@ -14,7 +14,8 @@ use Rattle.rbg_numbering.specs.declared.error.GameError.{GameError}
 use Rattle.rbg_numbering.specs.declared.error.GameError.TheVariants as errors
 use Rattle.rbg_numbering.specs.Names.{IsNumberOf}
 use Rattle.rbg_numbering.specs.NameTables.{HasLookUpFault, not_there, no_memory}
-use Rattle.rbg_numbering.proofs.Lists.{map-take_more, slice_get-map_at, slice_get-map_read, Contains-one, entry_of_front, Contains-flat_map, Contains-map, Contains-map_read, AllZip-at}
+use Rattle.rbg_base.proofs.CallerLemmas.{map-take_more, slice_get-map_at, Contains-map}
+use Rattle.rbg_numbering.proofs.Lists.{slice_get-map_read, Contains-one, entry_of_front, Contains-flat_map, Contains-map_read, AllZip-at}
 use Rattle.rbg_game.specs.Descriptions.{vertex_names, directions_named, IsOrderOfFirstUse}
 use Rattle.rbg_game.specs.Faults.{board_pieces, HasGraphFault, same_vertex}
 use Rattle.rbg_game.specs.internal.Boards.{Joins}

@@ -11,4 +11,4 @@ pub mod FaultLaw
 mod LoadingLemmas
 mod OneGameLists
 mod OneGameBoards
-mod OneGame
+pub mod OneGame

@@ -16,7 +16,8 @@ use Rattle.rbg_numbering.specs.NameTables.{StandsBehind, HasNameFault, same_name
 use Rattle.rbg_game.specs.internal.Holders.{HasHolderFault, by_name, by_bound}
 use Rattle.rbg_numbering.proofs.LookUps.{name_fault_at}
 use Rattle.rbg_game.specs.internal.Things.{AddsBounds}
-use Rattle.rbg_numbering.proofs.Lists.{slice_get-map_at, Contains-one, Contains-from_get, get_from-Contains, map_entry, slice_get-append_left, slice_get-append_right, entry_of_front, AllZip-append}
+use Rattle.rbg_base.proofs.CallerLemmas.{slice_get-map_at, Contains-from_get, get_from-Contains, slice_get-append_left, slice_get-append_right, AllZip-append}
+use Rattle.rbg_numbering.proofs.Lists.{Contains-one, map_entry, entry_of_front}
 
 -- Names that are added.
 

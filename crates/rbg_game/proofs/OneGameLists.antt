@@ -2,7 +2,7 @@
 use Rattle.std.proofs.Common.{◌≡◌, ℕ, zero, suc, ◌<◌, ◌⊎◌, inl, inr, List, [], ◌∷◌, ◌++◌, Some, slice_get, Contains, refl, sym, ◌∙◌, subst, arith}
 use Rattle.rbg_rules.specs.LawfulNames.{AreDifferentNames}
 use Rattle.rbg_game.specs.Descriptions.{IsOrderOfFirstUse}
-use Rattle.rbg_numbering.proofs.Lists.{Contains-from_get, get_from-Contains}
+use Rattle.rbg_base.proofs.CallerLemmas.{Contains-from_get, get_from-Contains}
 
 -- the first of two lists in one has no name twice, where the whole has none
 pub front_differs : (xs ys : List (List ℕ)) → AreDifferentNames (xs ++ ys) → AreDifferentNames xs

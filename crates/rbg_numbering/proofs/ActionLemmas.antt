@@ -1,20 +1,19 @@
 -- Actions by numbers, and what is wrong with one.
-use Rattle.std.proofs.Common.{◌≡◌, ◌≢◌, ℕ, suc, ◌+◌, ◌<◌, ◌≤◌, List, [], ◌∷◌, ◌++◌, Option, Some, None, Vec, option_map, true, false, length, map, refl, sym, ap, ◌∙◌, subst, arith}
-use Rattle.std.specs.Prelude.{Box, slice_get}
+use Rattle.std.proofs.Common.{◌≡◌, ℕ, suc, ◌+◌, ◌<◌, List, [], ◌∷◌, ◌++◌, Option, Some, None, Vec, option_map, true, false, length, map, refl, sym, ap, ◌∙◌, subst, arith}
+use Rattle.std.specs.Prelude.{slice_get}
 use Rattle.std.specs.Global.{Global}
 use Rattle.std.specs.List.{AllZip, range_with_len}
 use Rattle.std.proofs.lemmas.Bool.{and_parts}
 use Rattle.std.proofs.lemmas.List.{length-append}
 use Rattle.rbg_base.specs.declared.relation.Relation.{Relation}
-use Rattle.rbg_syntax.specs.Formed.{is_formed_action, is_formed_expression, is_formed}
-use Rattle.rbg_syntax.specs.Tree.{SpeltName, SpeltExpression, SpeltRule, SpeltAction}
-use Rattle.rbg_syntax.specs.Views.{name_of, expression_of as spelt_expression_of, rule_of, action_of as spelt_action_of}
+use Rattle.rbg_syntax.specs.Formed.{is_formed_action, is_formed_expression}
+use Rattle.rbg_syntax.specs.Tree.{SpeltName, SpeltRule, SpeltAction}
+use Rattle.rbg_syntax.specs.Views.{name_of, expression_of as spelt_expression_of, action_of as spelt_action_of}
 use Rattle.rbg_syntax.specs.declared.expression.Expression.{Expression as SyntaxExpression}
 use Rattle.rbg_syntax.specs.declared.names.Name.{Name}
 use Rattle.rbg_syntax.specs.declared.rule.Action.{Action as SyntaxAction}
 use Rattle.rbg_syntax.specs.declared.rule.Action as actions
-use Rattle.rbg_syntax.specs.declared.rule.Rule.{Rule as SyntaxRule}
-use Rattle.rbg_syntax.proofs.Trees.{action_of-Shift, action_of-On, action_of-Off, action_of-Assign, action_of-Compare, action_of-Switch, action_of-PositivePattern, action_of-NegativePattern}
+use Rattle.rbg_syntax.proofs.Trees.{action_of-Shift, action_of-On, action_of-Off, action_of-Assign, action_of-Compare, action_of-Switch}
 use Rattle.rbg_rules.specs.Expression.{switch, skip, act}
 use Rattle.rbg_rules.specs.Limits.{most_positions, most_nested_patterns}
 use Rattle.rbg_rules.specs.Positions.{positions_of, positions_inside}

@@ -1,12 +1,11 @@
 -- Arithmetic by numbers: sums and products that grow at their ends, and faults of parts.
-use Rattle.std.proofs.Common.{◌≡◌, ◌≢◌, ℕ, zero, suc, ◌+◌, ◌<◌, ◌≤◌, ◌^◌, List, [], ◌∷◌, ◌++◌, inl, inr, true, false, Some, None, Option, length, map, take, drop, fold, get_or, ◌-◌, refl, sym, ap, ◌∙◌, subst, arith, Vec}
-use Rattle.std.specs.Prelude.{slice_get, Contains, All, Box, ◌&&◌}
+use Rattle.std.proofs.Common.{◌≡◌, ℕ, zero, suc, ◌+◌, ◌<◌, ◌≤◌, ◌^◌, List, [], ◌∷◌, ◌++◌, inl, inr, true, Some, length, map, take, drop, get_or, ◌-◌, refl, sym, ap, ◌∙◌, subst, arith, Vec}
+use Rattle.std.specs.Prelude.{Contains, All, Box}
 use Rattle.std.specs.Global.{Global}
 use Rattle.std.proofs.lemmas.Bool.{and_parts}
 use Rattle.std.proofs.lemmas.List.{get_or-map, length-map, get_or-take, length-take, take_all}
 use Rattle.std.proofs.lemmas.List.Elements.{All-nil, All-cons}
-use Rattle.std.proofs.lemmas.List.Sums.{fold_push}
-use Rattle.rbg_syntax.specs.Formed.{is_formed_expression, are_formed_terms, are_formed_factors, has_two_terms, has_two_factors}
+use Rattle.rbg_syntax.specs.Formed.{is_formed_expression, are_formed_terms, are_formed_factors, make_a_sum, make_a_product}
 use Rattle.rbg_syntax.specs.Tree.{SpeltName, SpeltNumber, SpeltExpression, SpeltTerms, no_terms, more_terms, terms_after, SpeltFactors, no_factors, more_factors, factors_after}
 use Rattle.rbg_syntax.specs.Views.{name_of, number_of, expression_of}
 use Rattle.rbg_syntax.specs.declared.expression.Additive.{Additive}
@@ -25,15 +24,16 @@ use Rattle.rbg_rules.specs.declared.arithmetic.Arithmetic.TheViews.{roll-Operati
 use Rattle.rbg_rules.specs.declared.arithmetic.Arithmetic.{Arithmetic}
 use Rattle.rbg_rules.specs.declared.arithmetic.Arithmetic.TheVariants as arithmetics
 use Rattle.rbg_rules.specs.declared.arithmetic.Operation.{Operation}
-use Rattle.rbg_rules.proofs.Bridge.{arithmetic_of-Number, arithmetic_of-Variable, arithmetic_of-PieceCount, arithmetic_of-Negated, arithmetic_of-Chain, operation_of_roll}
+use Rattle.rbg_rules.proofs.Bridge.{arithmetic_of-Negated, arithmetic_of-Chain, operation_of_roll}
 use Rattle.rbg_numbering.specs.declared.error.GameError.{GameError}
-use Rattle.rbg_numbering.specs.declared.error.GameError.TheVariants.{UnknownName, Bound, Memory}
-use Rattle.rbg_numbering.specs.Names.{Names, IsNumberOf}
+use Rattle.rbg_numbering.specs.declared.error.GameError.TheVariants.{Bound}
+use Rattle.rbg_numbering.specs.Names.{Names}
 use Rattle.rbg_numbering.specs.Rules.{added, multiplied, ArithmeticIs, SumIs, ProductIs}
 use Rattle.rbg_numbering.specs.Faults.{HasPart, itself, in_negated, in_sum, in_product, SomeTermHasPart, earlier_term, last_term, SomeFactorHasPart, earlier_factor, last_factor, HasArithmeticFault, unknown_value, great_number, arithmetic_memory}
 use Rattle.rbg_numbering.specs.NameTables.{HasLookUpFault, not_there, no_memory}
 use Rattle.rbg_numbering.specs.internal.Arithmetic.{term_of, factor_of, AddsTerm, AddsFactor}
-use Rattle.rbg_numbering.proofs.Lists.{Contains-one, map-take_more}
+use Rattle.rbg_base.proofs.CallerLemmas.{map-take_more}
+use Rattle.rbg_numbering.proofs.Lists.{Contains-one}
 
 -- Faults.
 
@@ -143,11 +143,11 @@ factors_parts first (f ∷ fs) formed =
     let (first_formed, here) = and_parts (are_formed_factors first) (is_formed_expression f.1) before in
     (first_formed, All-cons (λ f. is_formed_expression f.1 ≡ true) f fs here others)
 
-some_term : (terms : List Term) → has_two_terms (terms_after no_terms (map term_of terms)) ≡ true → 0 < length terms
+some_term : (terms : List Term) → make_a_sum (terms_after no_terms (map term_of terms)) ≡ true → 0 < length terms
 some_term [] two = cc
 some_term (t ∷ terms) two = omega arith
 
-some_factor : (factors : List Factor) → has_two_factors (factors_after no_factors (map factor_of factors)) ≡ true → 0 < length factors
+some_factor : (factors : List Factor) → make_a_product (factors_after no_factors (map factor_of factors)) ≡ true → 0 < length factors
 some_factor [] two = cc
 some_factor (f ∷ factors) two = omega arith
 
@@ -155,9 +155,9 @@ module _ (e : Expression) (v : Vec Term Global) (terms : List Term) (is : e ≡ 
   pub is_sum : expression_of e ≡ SpeltExpression.sum (terms_after no_terms (map term_of terms))
   is_sum = ap expression_of is ∙ expression_of-Sum v ∙ ap (λ (l : List Term). SpeltExpression.sum (terms_after no_terms (map term_of l))) (sym same)
 
-  sum_formed : is_formed_expression (expression_of e) ≡ true → (has_two_terms (terms_after no_terms (map term_of terms)) ≡ true) × (are_formed_terms (terms_after no_terms (map term_of terms)) ≡ true)
+  sum_formed : is_formed_expression (expression_of e) ≡ true → (make_a_sum (terms_after no_terms (map term_of terms)) ≡ true) × (are_formed_terms (terms_after no_terms (map term_of terms)) ≡ true)
   sum_formed formed =
-      and_parts (has_two_terms (terms_after no_terms (map term_of terms))) (are_formed_terms (terms_after no_terms (map term_of terms))) (sym (ap is_formed_expression is_sum) ∙ formed)
+      and_parts (make_a_sum (terms_after no_terms (map term_of terms))) (are_formed_terms (terms_after no_terms (map term_of terms))) (sym (ap is_formed_expression is_sum) ∙ formed)
 
   pub terms_formed : is_formed_expression (expression_of e) ≡ true → (0 < length terms) × All (λ t. is_formed_expression (expression_of t.value) ≡ true) terms
   terms_formed formed =
@@ -169,9 +169,9 @@ module _ (e : Expression) (v : Vec Factor Global) (factors : List Factor) (is : 
   pub is_product : expression_of e ≡ SpeltExpression.product (factors_after no_factors (map factor_of factors))
   is_product = ap expression_of is ∙ expression_of-Product v ∙ ap (λ (l : List Factor). SpeltExpression.product (factors_after no_factors (map factor_of l))) (sym same)
 
-  product_formed : is_formed_expression (expression_of e) ≡ true → (has_two_factors (factors_after no_factors (map factor_of factors)) ≡ true) × (are_formed_factors (factors_after no_factors (map factor_of factors)) ≡ true)
+  product_formed : is_formed_expression (expression_of e) ≡ true → (make_a_product (factors_after no_factors (map factor_of factors)) ≡ true) × (are_formed_factors (factors_after no_factors (map factor_of factors)) ≡ true)
   product_formed formed =
-      and_parts (has_two_factors (factors_after no_factors (map factor_of factors))) (are_formed_factors (factors_after no_factors (map factor_of factors))) (sym (ap is_formed_expression is_product) ∙ formed)
+      and_parts (make_a_product (factors_after no_factors (map factor_of factors))) (are_formed_factors (factors_after no_factors (map factor_of factors))) (sym (ap is_formed_expression is_product) ∙ formed)
 
   pub factors_formed : is_formed_expression (expression_of e) ≡ true → (0 < length factors) × All (λ f. is_formed_expression (expression_of f.value) ≡ true) factors
   factors_formed formed =

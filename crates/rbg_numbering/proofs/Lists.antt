@@ -1,37 +1,23 @@
 -- Entries of lists: where they stand in a front, in a list made of another and in a list after another; lists that go together.
 use Rattle.std.proofs.Common.{◌≡◌, ℕ, zero, suc, ◌+◌, ◌<◌, List, [], ◌∷◌, ◌++◌, Some, length, get_or, take, drop, map, flat_map}
 use Rattle.std.proofs.Common.{refl, sym, ap, ◌∙◌, subst, arith}
-use Rattle.std.specs.Prelude.{slice_get, Contains, option_map}
+use Rattle.std.specs.Prelude.{slice_get, Contains}
 use Rattle.std.specs.List.{AllZip}
-use Rattle.std.proofs.lemmas.List.{get_or-append-add, get_or-map, length-append, length-map, length-take, map_more, take-append-drop}
+use Rattle.std.proofs.lemmas.List.{get_or-map, length-map, length-take, take-append-drop}
 use Rattle.std.proofs.lemmas.List.Elements.{Contains-append_left, Contains-append_right}
-use Rattle.std.proofs.lemmas.Option.{slice_get-map, slice_get_within, get_or_from_slice_get, slice_get_read}
+use Rattle.std.proofs.lemmas.Option.{slice_get_within, slice_get_read}
 use Rattle.std.proofs.lemmas.Slice.Zip.{all_zipped_more}
+use Rattle.rbg_base.proofs.CallerLemmas.{Contains-from_get, get_from-Contains, slice_get-map_at, slice_get-append_left, map-take_more}
 
--- Entries.
-
-pub Contains-from_get : {A : Type 0} (xs : List A) (i : ℕ) (x : A) → slice_get xs i ≡ Some x → Contains xs x
-Contains-from_get xs i x there = (i, slice_get_within xs i x there, get_or_from_slice_get xs i x x there)
-
-pub get_from-Contains : {A : Type 0} (xs : List A) (x : A) → Contains xs x → (i : ℕ) × (slice_get xs i ≡ Some x)
-get_from-Contains xs x h = (h.0, slice_get_read xs (length xs) h.0 x refl h.1 (sym h.2))
+-- Entries (rbg_base has those that are shared).
 
 -- the only element of a list of one
 pub Contains-one : {A : Type 0} (x y : A) → Contains (x ∷ []) y → x ≡ y
 Contains-one x y (zero, within, is) = is
 Contains-one x y (suc k, within, is) = absurd (omega arith)
 
--- An entry of a list is found at its place in what is made of the list.
-pub slice_get-map_at : {A B : Type 0} (f : A → B) (xs : List A) (i : ℕ) (x : A) → slice_get xs i ≡ Some x → slice_get (map f xs) i ≡ Some (f x)
-slice_get-map_at f xs i x there = slice_get-map f xs i ∙ ap (option_map f) there
-
 pub slice_get-map_read : {A B : Type 0} (f : A → B) (xs : List A) (i : ℕ) (x : A) → i < length xs → x ≡ get_or xs i x → slice_get (map f xs) i ≡ Some (f x)
 slice_get-map_read f xs i x below is = slice_get-map_at f xs i x (slice_get_read xs (length xs) i x refl below is)
-
-pub Contains-map : {A B : Type 0} (f : A → B) (xs : List A) (x : A) → Contains xs x → Contains (map f xs) (f x)
-Contains-map f xs x h =
-    let there = get_from-Contains xs x h in
-    Contains-from_get (map f xs) there.0 (f x) (slice_get-map_at f xs there.0 x there.1)
 
 pub Contains-map_read : {A B : Type 0} (f : A → B) (xs : List A) (i : ℕ) (x : A) → i < length xs → x ≡ get_or xs i x → Contains (map f xs) (f x)
 Contains-map_read f xs i x below is = (i, omega (arith, length-map xs f), get_or-map f xs i x (f x) below ∙ ap f (sym is))
@@ -41,16 +27,6 @@ pub map_entry : {A B : Type 0} (f : A → B) (xs : List A) (i : ℕ) (y : B) →
 map_entry f [] i y there = cc
 map_entry f (x ∷ xs) zero y there = (x, refl, cc)
 map_entry f (x ∷ xs) (suc i) y there = map_entry f xs i y there
-
-pub slice_get-append_left : {A : Type 0} (xs ys : List A) (i : ℕ) (x : A) → slice_get xs i ≡ Some x → slice_get (xs ++ ys) i ≡ Some x
-slice_get-append_left [] ys i x there = cc
-slice_get-append_left (y ∷ xs) ys zero x there = there
-slice_get-append_left (y ∷ xs) ys (suc i) x there = slice_get-append_left xs ys i x there
-
-pub slice_get-append_right : {A : Type 0} (xs ys : List A) (i : ℕ) (y : A) → slice_get ys i ≡ Some y → slice_get (xs ++ ys) (length xs + i) ≡ Some y
-slice_get-append_right xs ys i y there =
-    let within : i < length ys = slice_get_within ys i y there in
-    slice_get_read (xs ++ ys) (length (xs ++ ys)) (length xs + i) y refl (omega (arith, length-append xs ys)) (sym (get_or-append-add xs ys i y ∙ get_or_from_slice_get ys i y y there))
 
 pub slice_get-last : {A : Type 0} (xs : List A) (x : A) → slice_get (xs ++ x ∷ []) (length xs) ≡ Some x
 slice_get-last [] x = refl
@@ -69,21 +45,11 @@ Contains-flat_map f [] x y list here = absurd (omega (arith, list.1))
 Contains-flat_map f (z ∷ zs) x y (zero, within, is) here = Contains-append_left (f z) (flat_map f zs) y (subst (λ l. Contains (f l) y) (sym is) here)
 Contains-flat_map f (z ∷ zs) x y (suc k, within, is) here = Contains-append_right (f z) (flat_map f zs) y (Contains-flat_map f zs x y (k, omega arith, is) here)
 
--- What is made of one more item of a list.
-pub map-take_more : {A B : Type 0} (f : A → B) (xs : List A) (i : ℕ) (x : A) → i < length xs → x ≡ get_or xs i x → map f (take (i + 1) xs) ≡ map f (take i xs) ++ f x ∷ []
-map-take_more f xs i x below is = map_more f xs i x below ∙ ap (λ y. map f (take i xs) ++ f y ∷ []) (sym is)
-
 -- Lists that go together.
 
 -- a loop's step: one more element with its fellow
 pub AllZip-step : {A B D : Type 0} (P : B → D → Type 0) (f : A → B) (xs : List A) (ys : List D) (i : ℕ) (x : A) (y : D) → i < length xs → x ≡ get_or xs i x → AllZip P (map f (take i xs)) ys → P (f x) y → AllZip P (map f (take (i + 1) xs)) (ys ++ y ∷ [])
 AllZip-step P f xs ys i x y within is so_far here = rw (map-take_more f xs i x within is) (all_zipped_more P (map f (take i xs)) ys (f x) y so_far here)
-
-pub AllZip-append : {A B : Type 0} (P : A → B → Type 0) (xs xs' : List A) (ys ys' : List B) → AllZip P xs ys → AllZip P xs' ys' → AllZip P (xs ++ xs') (ys ++ ys')
-AllZip-append P [] xs' [] ys' h k = k
-AllZip-append P [] xs' (y ∷ ys) ys' h k = absurd h
-AllZip-append P (x ∷ xs) xs' [] ys' h k = absurd h
-AllZip-append P (x ∷ xs) xs' (y ∷ ys) ys' h k = (h.0, AllZip-append P xs xs' ys ys' h.1 k)
 
 pub AllZip-at : {A B : Type 0} (P : A → B → Type 0) (xs : List A) (ys : List B) (i : ℕ) (d : A) (e : B) → AllZip P xs ys → i < length xs → P (get_or xs i d) (get_or ys i e)
 AllZip-at P [] [] i d e all within = absurd (omega arith)

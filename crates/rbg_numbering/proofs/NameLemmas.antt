@@ -1,13 +1,12 @@
 -- Names of the language are ASCII, and so texts; lists of different names.
-use Rattle.std.proofs.Common.{◌≡◌, ℕ, zero, suc, ◌<◌, List, [], ◌∷◌, ◌++◌, ◌⊎◌, inl, inr, true, Bool, ◌&&◌, ◌||◌, Some, None, length, get_or, refl, sym, ◌∙◌, ap, arith, slice_get}
+use Rattle.std.proofs.Common.{◌≡◌, ℕ, zero, suc, ◌<◌, List, [], ◌∷◌, ◌++◌, ◌⊎◌, inl, inr, true, Bool, ◌||◌, Some, None, length, get_or, refl, sym, ◌∙◌, ap, arith, slice_get}
 use Rattle.std.proofs.Common.{Vec, Option, option_map, MatchOption, is_some, false}
 use Rattle.std.specs.Global.{Global}
 use Rattle.std.specs.Bool.{Decides}
-use Rattle.std.specs.List.{list_all, list_any, position, Contains}
+use Rattle.std.specs.List.{list_any, position, Contains}
 use Rattle.indexmap.specs.IndexSet.{insert_key}
-use Rattle.std.specs.Char.{is_ascii_digit}
 use Rattle.std.specs.Str.{IsUtf8, bytes_eq}
-use Rattle.std.proofs.lemmas.Bool.{and_parts, true≢false}
+use Rattle.std.proofs.lemmas.Bool.{true≢false}
 use Rattle.std.proofs.lemmas.Bool.Decides.{nat_tests}
 use Rattle.std.proofs.lemmas.Slice.Eq.{bytes_eq-Decides}
 use Rattle.std.proofs.lemmas.List.Quantifiers.{position-Some}
@@ -17,10 +16,10 @@ use Rattle.std.proofs.lemmas.List.Sums.{AllPass-from_list_all}
 use Rattle.std.proofs.lemmas.Option.{slice_get-get_or, slice_get-map}
 use Rattle.std.proofs.lemmas.Str.{IsUtf8-from_ascii}
 use Rattle.std.proofs.lemmas.Str.Ascii.{IsAscii-from_all}
-use Rattle.rbg_base.specs.Names.{is_name, is_name_start, is_name_part}
+use Rattle.rbg_base.specs.Names.{is_name, is_name_part}
+use Rattle.rbg_base.proofs.CallerLemmas.{name_parts, Contains-from_get, get_from-Contains}
 use Rattle.rbg_rules.specs.LawfulNames.{AreDifferentNames, AreLawfulNames, AreNames}
 use Rattle.rbg_numbering.specs.NameTables.{bytes_of}
-use Rattle.rbg_numbering.proofs.Lists.{Contains-from_get, get_from-Contains}
 
 differs : (a b : List ℕ) → (a ≡ b → ⊥) → bytes_eq a b ≡ false
 differs a b other = by_test (bytes_eq a b) (bytes_eq-Decides a b)
@@ -31,15 +30,6 @@ differs a b other = by_test (bytes_eq a b) (bytes_eq-Decides a b)
 
 name_part_is_ascii : (b : ℕ) → is_name_part b ≡ true → b < 128
 name_part_is_ascii b h = grind (arith, nat_tests)
-
-start_is_part : (b : ℕ) → is_name_start b ≡ true → is_name_part b ≡ true
-start_is_part b h = rw h refl
-
-name_parts : (bs : List ℕ) → is_name bs ≡ true → list_all is_name_part bs ≡ true
-name_parts [] h = refl
-name_parts (b ∷ bs) h =
-    let (first, behind) = and_parts (is_name_start b) (list_all is_name_part bs) h in
-    rw (start_is_part b first) behind
 
 pub IsUtf8-from_is_name : (bs : List ℕ) → is_name bs ≡ true → IsUtf8 bs
 IsUtf8-from_is_name bs h = IsUtf8-from_ascii bs (IsAscii-from_all bs (All-weaker (λ b. is_name_part b ≡ true) (λ b. b < 128) name_part_is_ascii bs (AllPass-from_list_all is_name_part bs (name_parts bs h))))

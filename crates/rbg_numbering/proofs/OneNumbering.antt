@@ -6,10 +6,10 @@ use Rattle.std.proofs.lemmas.Option.{same_Some}
 use Rattle.rbg_syntax.specs.Tree.{SpeltExpression, SpeltTerms, no_terms, more_terms, SpeltFactors, no_factors, more_factors, SpeltRule, SpeltRules, no_rules, more_rules, SpeltAction}
 use Rattle.rbg_rules.specs.Expression.{AbstractArithmetic, number, variable, piece_count, negated, AbstractAction, shift, on, off, assignment, comparison, switch, positive, negative, Expression, act, sequence, choice, star}
 use Rattle.rbg_rules.specs.Positions.{positions_of, positions_inside, IsNumbered}
-use Rattle.rbg_rules.specs.LawfulNames.{AreDifferentNames}
 use Rattle.rbg_numbering.specs.Names.{Names, IsNumberOf, HasDifferentNames}
 use Rattle.rbg_numbering.specs.Rules.{added, multiplied, ArithmeticIs, SumIs, ProductIs, ActionIs, RuleIs, SequenceIs, ChoiceIs}
-use Rattle.rbg_numbering.proofs.Lists.{AllZip-once, Contains-from_get}
+use Rattle.rbg_base.proofs.CallerLemmas.{Contains-from_get}
+use Rattle.rbg_numbering.proofs.Lists.{AllZip-once}
 
 mutual
   arithmetic_once : (names : Names) → HasDifferentNames names → (e : SpeltExpression) (a b : AbstractArithmetic) → ArithmeticIs names e a → ArithmeticIs names e b → a ≡ b

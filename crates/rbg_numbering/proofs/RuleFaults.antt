@@ -16,10 +16,11 @@ use Rattle.rbg_numbering.specs.Faults.{HasUnknown, Purpose, as_piece, as_variabl
 use Rattle.rbg_numbering.specs.Faults.{HasPart, itself, in_negated, in_sum, in_product, SomeTermHasPart, earlier_term, last_term, SomeFactorHasPart, earlier_factor, last_factor}
 use Rattle.rbg_numbering.specs.Faults.{HasArithmeticFault, unknown_value, great_number, arithmetic_memory, HasExpression, assigned, left_side, right_side}
 use Rattle.rbg_numbering.specs.Faults.{HasSpeltAction, this, in_sequence, in_choice, in_star, in_positive, in_negative, SomeHasSpeltAction, earlier, last, actions_in, actions_in_all, actions_of}
-use Rattle.rbg_numbering.specs.Faults.{IsSpeltPattern, positive_pattern, negative_pattern, HasPattern, HasPatternInside, in_none, in_one_more, HasSwitch}
+use Rattle.rbg_numbering.specs.Faults.{IsSpeltPattern, positive_pattern, negative_pattern, HasPattern, HasPatternInside, in_none, in_one_more}
 use Rattle.rbg_numbering.specs.Faults.{HasRuleFault, unknown_use, in_arithmetic, switch_in_pattern, deep_pattern, many_positions, rule_memory}
 use Rattle.rbg_numbering.specs.Numbered.{HasNoSwitchInPattern}
-use Rattle.rbg_numbering.proofs.Lists.{Contains-one, Contains-from_get, AllZip-at}
+use Rattle.rbg_base.proofs.CallerLemmas.{Contains-from_get}
+use Rattle.rbg_numbering.proofs.Lists.{Contains-one, AllZip-at}
 
 -- a list with an unknown name has no numbers
 pub unnumbered : (known : List (List ℕ)) (names : List SpeltName) (name : SpeltName) (numbers : List ℕ) → Contains names name → ¬ Contains known name.text → ¬ AllZip (IsNumberOf known) names numbers

@@ -1,5 +1,5 @@
 -- What every rule by numbers has: names of the game, no empty sum, patterns nested within the limit, no switch in a pattern.
-use Rattle.std.proofs.Common.{◌≡◌, ◌≢◌, ℕ, suc, ◌+◌, ◌<◌, ◌≤◌, ◌⊎◌, inl, inr, List, [], ◌∷◌, true, false, Some, None, length, refl, sym, ap, ◌∙◌, subst, arith, ◌&&◌}
+use Rattle.std.proofs.Common.{◌≡◌, ℕ, ◌+◌, ◌<◌, ◌≤◌, ◌⊎◌, inl, inr, List, [], ◌∷◌, true, Some, None, length, sym, ap, ◌∙◌, subst, arith}
 use Rattle.std.specs.Prelude.{All}
 use Rattle.std.specs.List.{AllZip, range_with_len}
 use Rattle.std.proofs.lemmas.Bool.{and_parts}
@@ -14,7 +14,7 @@ use Rattle.rbg_syntax.specs.Formed.{is_formed, are_formed, is_formed_action, has
 use Rattle.rbg_syntax.specs.Tree.{SpeltName, SpeltExpression, SpeltTerms, no_terms, more_terms, SpeltFactors, no_factors, more_factors, SpeltRule, SpeltRules, no_rules, more_rules, SpeltAction}
 use Rattle.rbg_rules.specs.Expression.{AbstractArithmetic, AbstractAction, shift, on, off, assignment, comparison, switch, positive, negative, Expression, act, skip, sequence, fail, choice, star}
 use Rattle.rbg_rules.specs.Games.{HasNoEmptySum, HasNoEmptySumInside, NestsWithin, InsideNestsWithin, HasNamesOf, IsActionOf}
-use Rattle.rbg_rules.specs.Limits.{most_positions, most_nested_patterns}
+use Rattle.rbg_rules.specs.Limits.{most_nested_patterns}
 use Rattle.rbg_rules.specs.Positions.{HasAction, HasInside, positions_of}
 use Rattle.rbg_rules.specs.State.{AbstractGame}
 use Rattle.rbg_rules.specs.Translation.{expression_of}

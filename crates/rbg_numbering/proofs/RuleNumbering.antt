@@ -1,5 +1,5 @@
 -- The trees of the code and what they spell: rules by numbers, part for part.
-use Rattle.std.proofs.Common.{◌≡◌, ℕ, suc, ◌+◌, ◌-◌, ◌<◌, ◌≤◌, List, [], ◌∷◌, ◌++◌, Vec, true, false, length, map, take, get_or, refl, sym, ap, ◌∙◌, subst, arith}
+use Rattle.std.proofs.Common.{◌≡◌, ℕ, suc, ◌+◌, ◌-◌, ◌<◌, ◌≤◌, List, [], ◌∷◌, ◌++◌, Vec, true, length, map, take, get_or, sym, ap, ◌∙◌, subst, arith}
 use Rattle.std.specs.Prelude.{Box, All, ◌&&◌}
 use Rattle.std.specs.Global.{Global}
 use Rattle.std.proofs.lemmas.Bool.{and_parts}
@@ -20,7 +20,7 @@ use Rattle.rbg_numbering.specs.declared.error.GameError.{GameError}
 use Rattle.rbg_numbering.specs.Names.{Names}
 use Rattle.rbg_numbering.specs.internal.Actions.{OpensPattern}
 use Rattle.rbg_numbering.specs.internal.Steps.{actions_in_list, AddsRule, AddsParts, HasFaultFrom}
-use Rattle.rbg_numbering.proofs.Lists.{map-take_more}
+use Rattle.rbg_base.proofs.CallerLemmas.{map-take_more}
 use Rattle.rbg_numbering.proofs.StepLemmas.{parts_more, Opens, opens_positive, opens_negative, spelt_pattern_of}
 use Rattle.rbg_numbering.proofs.StepFaults.{fault_in_parts, fault_inside}
 

@@ -1,10 +1,10 @@
 -- What is wrong with a part of the rules is wrong with the whole.
-use Rattle.std.proofs.Common.{◌≡◌, ℕ, zero, suc, ◌+◌, ◌-◌, ◌<◌, ◌≤◌, List, [], ◌∷◌, length, take, get_or, refl, sym, ap, ◌∙◌, subst, arith}
+use Rattle.std.proofs.Common.{◌≡◌, ℕ, zero, suc, ◌+◌, ◌<◌, ◌≤◌, List, [], ◌∷◌, length, take, get_or, refl, sym, ap, subst, arith}
 use Rattle.rbg_syntax.specs.Tree.{SpeltRule, SpeltRules, no_rules, more_rules, rules_after, SpeltAction}
-use Rattle.rbg_rules.specs.Limits.{most_positions, most_nested_patterns}
+use Rattle.rbg_rules.specs.Limits.{most_nested_patterns}
 use Rattle.rbg_numbering.specs.declared.error.GameError.{GameError}
 use Rattle.rbg_numbering.specs.Names.{Names}
-use Rattle.rbg_numbering.specs.Faults.{HasSpeltAction, this, in_sequence, in_choice, in_star, in_positive, in_negative, SomeHasSpeltAction, earlier, last, IsSpeltPattern, positive_pattern, negative_pattern, HasPattern, HasPatternInside, in_none, in_one_more, HasSwitch, actions_in, actions_in_all, actions_of}
+use Rattle.rbg_numbering.specs.Faults.{HasSpeltAction, this, in_sequence, in_choice, in_star, in_positive, in_negative, SomeHasSpeltAction, earlier, last, IsSpeltPattern, positive_pattern, negative_pattern, HasPattern, HasPatternInside, in_none, in_one_more, HasSwitch, actions_in, actions_of}
 use Rattle.rbg_numbering.specs.Faults.{HasRuleFault, unknown_use, in_arithmetic, switch_in_pattern, deep_pattern, many_positions, rule_memory}
 use Rattle.rbg_numbering.specs.internal.Actions.{HasOpeningFault, too_many, too_deep, no_memory_left}
 use Rattle.rbg_numbering.specs.internal.Steps.{actions_in_list, HasFaultFrom, from_use, from_arithmetic, from_switch, from_inner_switch, from_depth, from_positions, from_memory}

@@ -1,13 +1,13 @@
 -- What parts of the rules add to the table of actions, put together.
-use Rattle.std.proofs.Common.{◌≡◌, ◌≢◌, ℕ, zero, suc, ◌+◌, ◌-◌, ◌<◌, ◌≤◌, List, [], ◌∷◌, ◌++◌, Vec, true, false, length, map, take, fold, get_or, refl, sym, ap, ◌∙◌, subst, append_assoc, append-nil, arith, Some}
-use Rattle.std.specs.Prelude.{Box, slice_get, All}
+use Rattle.std.proofs.Common.{◌≡◌, ℕ, zero, suc, ◌+◌, ◌-◌, ◌<◌, ◌≤◌, List, [], ◌∷◌, ◌++◌, Vec, true, length, map, take, fold, get_or, refl, sym, ap, ◌∙◌, subst, append_assoc, append-nil, arith, Some}
+use Rattle.std.specs.Prelude.{Box, slice_get}
 use Rattle.std.specs.Global.{Global}
 use Rattle.std.specs.List.{range_with_len}
 use Rattle.std.proofs.lemmas.List.{length-append, map-append}
 use Rattle.std.proofs.lemmas.List.Elements.{All-nil, All-push}
 use Rattle.rbg_syntax.specs.Tree.{SpeltRule, SpeltRules, no_rules, more_rules, rules_after, SpeltAction}
-use Rattle.rbg_rules.specs.Expression.{Expression, act, skip, sequence, fail, choice, star, sequence_of, choice_of}
-use Rattle.rbg_rules.specs.Limits.{most_positions, most_nested_patterns}
+use Rattle.rbg_rules.specs.Expression.{Expression, act, skip, sequence, fail, choice, star}
+use Rattle.rbg_rules.specs.Limits.{most_positions}
 use Rattle.rbg_rules.specs.Positions.{positions_of}
 use Rattle.rbg_rules.specs.Table.{IsWithin}
 use Rattle.rbg_rules.specs.Translation.{expression_of, action_of, action_at, shows_pattern}
@@ -16,13 +16,14 @@ use Rattle.rbg_rules.specs.declared.rule.Action.TheVariants.{Positive, Negative}
 use Rattle.rbg_rules.specs.declared.rule.Rule.{Rule}
 use Rattle.rbg_rules.specs.declared.rule.Rule.TheVariants.{Pattern, Then, Or, Star}
 use Rattle.rbg_rules.proofs.Bridge.{expression_of-Then, expression_of-Or, expression_of-Star}
-use Rattle.rbg_rules.proofs.TreeLemmas.{pattern_is, within_Pattern, within_Then, within_Or, within_Star, all_within_more, same_with_more, all_same_with_more}
+use Rattle.rbg_rules.proofs.TreeLemmas.{pattern_is, within_Pattern, within_Then, within_Or, within_Star, all_within_more, all_same_with_more}
 use Rattle.rbg_numbering.specs.Names.{Names}
 use Rattle.rbg_numbering.specs.Rules.{RuleIs, SequenceIs, ChoiceIs}
 use Rattle.rbg_numbering.specs.Faults.{actions_in, actions_in_all, actions_of, IsSpeltPattern, positive_pattern, negative_pattern}
 use Rattle.rbg_numbering.specs.internal.Actions.{OpensPattern}
 use Rattle.rbg_numbering.specs.internal.Steps.{IsLawful, actions_in_list, Numbers, AddsRule, AreNumbered, AddsParts}
-use Rattle.rbg_numbering.proofs.Lists.{slice_get-last, slice_get-append_left}
+use Rattle.rbg_base.proofs.CallerLemmas.{slice_get-append_left}
+use Rattle.rbg_numbering.proofs.Lists.{slice_get-last}
 
 -- Numbers in a row.
 

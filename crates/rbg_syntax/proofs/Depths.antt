@@ -1,12 +1,13 @@
 -- Rules at all depths of brackets, from what is read at one.
-use Rattle.std.proofs.Common.{◌≡◌, ◌+◌, ℕ, zero, suc, List, [], ◌∷◌, ◌++◌, true, Result, Ok, Err, refl, sym, ap, ◌∙◌, subst, arith, append-nil}
+use Rattle.std.proofs.Common.{◌≡◌, ◌≤◌, ◌+◌, ℕ, zero, suc, List, [], ◌∷◌, ◌++◌, true, Result, Ok, Err, refl, sym, ap, ◌∙◌, subst, arith, append-nil}
 use Rattle.rbg_macro.specs.Token.{Lexeme}
 use Rattle.rbg_syntax.specs.Grammar.{AreRules}
-use Rattle.rbg_syntax.specs.Spells.{IsTooDeep, opens, open_after}
+use Rattle.rbg_syntax.specs.Laws.{OneTooDeepLaw}
+use Rattle.rbg_syntax.specs.Spells.{IsTooDeep, opens, open_with, open_after}
 use Rattle.rbg_syntax.specs.Tree.{SpeltRule}
 use Rattle.rbg_syntax.specs.internal.Reading.{Fault, misfit, too_deep, Reading, ◌>>=◌, ended_at, whole_at}
 use Rattle.rbg_syntax.specs.internal.RuleReading.{rules_at}
-use Rattle.rbg_syntax.proofs.Nesting.{Fits, fits_bracket}
+use Rattle.rbg_syntax.proofs.Nesting.{Fits, fits_bracket, front_fits, opened}
 use Rattle.rbg_syntax.proofs.Pieces.{Piece, Deep, Outcome}
 use Rattle.rbg_syntax.proofs.Readers.{ok_one}
 use Rattle.rbg_syntax.proofs.RuleOutcomes.{rules_outcome}
@@ -61,7 +62,7 @@ deep_place n at ts e = go (rules_at n ts) refl e
         let same : b ≡ at = cc in
         subst (λ j. Deep (AreRules (suc n)) n j ts) same (outcome_of n ts (Err (too_deep b)) is)
 
--- a bracket that is one too many is opened where 128 are open, and rules may go on with it
+-- a bracket that is one too many is the first that is opened where 128 are open, and rules may go on with it
 pub too_deep_here : (at : ℕ) (ts : List Lexeme) → whole_at (rules_at 128) ts ≡ Err (too_deep at) → IsTooDeep ts at
 too_deep_here at ts e = from 128 refl (deep_place 128 at ts e)
   where
@@ -74,9 +75,36 @@ too_deep_here at ts e = from 128 refl (deep_place 128 at ts e)
       place = d.place;
       is_bracket = d.is_bracket;
       depth = d.depth 0 ∙ omega (arith, same);
+      first = λ front rest is. let few : open_after 0 front ≤ 0 + n = front_fits (0 + n) 0 front rest (omega arith) (subst (λ us. Fits (0 + n) 0 us) is (d.fits 0)) in omega (arith, same, few);
       other = d.other ++ [];
       fits = (suc n, (d.value, d.spells []));
     }
+
+-- two lists with a bracket behind each front, where the fronts leave the same number of brackets open and neither leaves more before
+one_bracket : (m n : ℕ) (xs ys : List Lexeme) (x y : Lexeme) (us vs : List Lexeme) → xs ++ x ∷ us ≡ ys ++ y ∷ vs → opens x.kind ≡ true → opens y.kind ≡ true → open_after n xs ≡ m → open_after n ys ≡ m
+    → ((front rest : List Lexeme) → xs ≡ front ++ rest → open_after n front ≤ m) → ((front rest : List Lexeme) → ys ≡ front ++ rest → open_after n front ≤ m) → x ≡ y
+one_bracket m n [] [] x y us vs same is_x is_y depth_x depth_y first_x first_y = cc
+one_bracket m n [] (b ∷ ys) x y us vs same is_x is_y depth_x depth_y first_x first_y =
+    let head : x ≡ b = cc in
+    let few : open_with n b.kind ≤ m = first_y (b ∷ []) ys refl in
+    let more : open_with n b.kind ≡ n + 1 = opened n b.kind (subst (λ (t : Lexeme). opens t.kind ≡ true) head is_x) in
+    absurd (omega (arith, few, more, depth_x))
+one_bracket m n (a ∷ xs) [] x y us vs same is_x is_y depth_x depth_y first_x first_y =
+    let head : a ≡ y = cc in
+    let few : open_with n a.kind ≤ m = first_x (a ∷ []) xs refl in
+    let more : open_with n a.kind ≡ n + 1 = opened n a.kind (subst (λ (t : Lexeme). opens t.kind ≡ true) (sym head) is_y) in
+    absurd (omega (arith, few, more, depth_y))
+one_bracket m n (a ∷ xs) (b ∷ ys) x y us vs same is_x is_y depth_x depth_y first_x first_y =
+    let head : b ≡ a = cc in
+    let tails : xs ++ x ∷ us ≡ ys ++ y ∷ vs = cc in
+    let with_a : open_after (open_with n a.kind) ys ≡ m = subst (λ (t : Lexeme). open_after (open_with n t.kind) ys ≡ m) head depth_y in
+    one_bracket m (open_with n a.kind) xs ys x y us vs tails is_x is_y depth_x with_a (λ front rest is. first_x (a ∷ front) rest (ap (λ ts. a ∷ ts) is))
+    (λ front rest is. subst (λ (t : Lexeme). open_after (open_with n t.kind) front ≤ m) head (first_y (b ∷ front) rest (ap (λ ts. b ∷ ts) is)))
+
+pub one_too_deep : OneTooDeepLaw
+one_too_deep ts a b one other =
+    let same = one_bracket 128 0 one.before other.before one.bracket other.bracket one.behind other.behind (sym one.whole ∙ other.whole) one.is_bracket other.is_bracket one.depth other.depth one.first other.first in
+    sym one.place ∙ ap (λ (t : Lexeme). t.at) same ∙ other.place
 
 -- where a bracket is opened too deep nothing is spelt within the depth
 no_bracket_above : (n : ℕ) (ts before : List Lexeme) (bracket : Lexeme) (behind : List Lexeme) (r : SpeltRule) → ts ≡ before ++ bracket ∷ behind → opens bracket.kind ≡ true → open_after 0 before ≡ n → AreRules n ts r [] → ⊥

@@ -1,16 +1,15 @@
 -- The examples, by what is read of their tokens.
 use Rattle.std.proofs.Common.{◌≡◌, ℕ, zero, suc, List, [], ◌∷◌, Result, Ok, Err, ◌++◌, refl, ap, sym, ◌∙◌, subst, arith}
-use Rattle.std.specs.Prelude.{replicate}
 use Rattle.rbg_macro.specs.Token.{Lexeme}
 use Rattle.rbg_macro.specs.declared.token.Symbol.TheVariants as symbols
-use Rattle.rbg_syntax.specs.Examples.{sign, letter, letter_name, in_parentheses, SumInParentheses, NegatedFactor, StarredAssignments, DeepestBrackets, TooManyBrackets, TwoStars, TwoMinuses, TooDeepAlone, MisspeltAlone}
+use Rattle.rbg_syntax.specs.Examples.{sign, signs, letter, letter_name, in_parentheses, SumInParentheses, NegatedFactor, StarredAssignments, DeepestBrackets, TooManyBrackets, TwoStars, TwoMinuses, TooDeepAlone, MisspeltAlone}
 use Rattle.rbg_syntax.specs.internal.Reading.{Fault, misfit, too_deep, symbol_at, name_at, repeated_at, after_at, separated_at, within_at, open_atom_at, whole_at}
 use Rattle.rbg_syntax.specs.internal.RuleReading.{number_or_name_at, factor_at, further_factor_at, term_at, further_term_at, sum_over_at, primary_at, sum_at, assignment_at, assignments_at, in_brackets_at, bracket_atom_at, item_at, sequence_at, rules_over_at, atom_at, rules_at}
 use Rattle.rbg_syntax.specs.Tree.{SpeltRule, act, shift, star}
 use Rattle.rbg_macro.specs.declared.source.SectionKind.TheVariants.{Rules}
 use Rattle.rbg_syntax.specs.Grammar.{AreRules}
 use Rattle.rbg_syntax.specs.Spells.{IsSpelt, open_after}
-use Rattle.rbg_syntax.proofs.Depths.{spells_nothing, too_deep_here}
+use Rattle.rbg_syntax.proofs.Depths.{spells_nothing, too_deep_here, one_too_deep}
 use Rattle.rbg_syntax.proofs.Readers.{ok_one}
 use Rattle.rbg_syntax.proofs.RuleReaders.{rules_read, nothing_ends_rules}
 use Rattle.rbg_syntax.proofs.SumReaders.{sum_read, EndsSum}
@@ -39,7 +38,7 @@ err_no_ok r f x e g = cc
 
 pub too_many_brackets : TooManyBrackets
 unfolding rules_at atom_at rules_over_at sequence_at item_at bracket_atom_at open_atom_at separated_at symbol_at name_at repeated_at after_at within_at
-too_many_brackets r d = err_no_ok (rules_at 128 (in_parentheses 129)) (too_deep 0) (r, []) refl ((rules_read 128).complete (in_parentheses 129) r [] d nothing_ends_rules)
+too_many_brackets r d = err_no_ok (rules_at 128 (in_parentheses 129)) (too_deep 128) (r, []) refl ((rules_read 128).complete (in_parentheses 129) r [] d nothing_ends_rules)
 
 -- what is left of tokens is one list
 one_rest : (n : ℕ) (x y : SpeltRule) (ts us : List Lexeme) → rules_at n ts ≡ Ok (x, us) → rules_at n ts ≡ Ok (y, []) → us ≡ []
@@ -71,7 +70,8 @@ two_minuses (suc n) e d = err_no_ok (sum_at (suc n) minuses) misfit (e, []) refl
 pub too_deep_alone : TooDeepAlone
 unfolding whole_at rules_at atom_at rules_over_at sequence_at item_at bracket_atom_at open_atom_at separated_at symbol_at name_at repeated_at after_at within_at
 too_deep_alone = record {
-  deep = too_deep_here 0 (in_parentheses 129) refl;
+  deep = too_deep_here 128 (in_parentheses 129) refl;
+  only = λ at deep. one_too_deep (in_parentheses 129) at 128 deep (too_deep_here 128 (in_parentheses 129) refl);
   spelt = (rules_read 129).sound _ _ [] refl;
 }
 
@@ -92,6 +92,6 @@ closing_not_deep ts (t ∷ before) bracket behind rest whole depth spelt =
 
 pub misspelt_alone : MisspeltAlone
 misspelt_alone = record {
-  spells_nothing = λ k r d. closing_spells_nothing k (replicate 129 (sign symbols.OpenParenthesis 1)) r d;
-  not_deep = λ at h. closing_not_deep (replicate 129 (sign symbols.OpenParenthesis 1)) h.before h.bracket h.behind h.other h.whole h.depth h.fits;
+  spells_nothing = λ k r d. closing_spells_nothing k (signs symbols.OpenParenthesis 1 129) r d;
+  not_deep = λ at h. closing_not_deep (signs symbols.OpenParenthesis 1 129) h.before h.bracket h.behind h.other h.whole h.depth h.fits;
 }

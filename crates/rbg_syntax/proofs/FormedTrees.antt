@@ -11,7 +11,7 @@ use Rattle.rbg_syntax.specs.declared.expression.Multiplicative.TheVariants.{Time
 use Rattle.rbg_syntax.specs.Tree.{SpeltExpression, SpeltTerms, no_terms, more_terms, SpeltFactors, no_factors, more_factors, SpeltRule, SpeltRules, no_rules, more_rules, SpeltBoard, terms_after, factors_after, rules_after, sum_of, product_of, sequence_of, choice_of}
 use Rattle.rbg_syntax.specs.Phrase.{Repeated, done, again, After, after, Separated, separated, Within, within}
 use Rattle.rbg_syntax.specs.Grammar.{IsFactor, plain, minus, IsFurtherFactor, times, over, IsTerm, term, IsFurtherTerm, plus, minus as less, IsSumOver, sum, IsNumberOrName, number, name, IsPrimary, IsSum, IsOpenAtom, moves, switches, keeps, IsComparison, comparison, IsAssignment, assignment, AreAssignments, assignments, IsBracketAtom, groups, stands_on, puts, compares, assigns, holds, fails, IsItem, once, starred, IsSequence, in_turn, AreRulesOver, either, IsAtom, AreRules, IsRectangle, four, IsHexagon, six, IsGraph, vertices, generated, IsBoard, rectangular, hexagonal, graphic}
-use Rattle.rbg_syntax.specs.Formed.{has_two_terms, has_two_factors, has_two_rules, is_formed_expression, are_formed_terms, are_formed_factors, is_formed, are_formed, has_its_directions}
+use Rattle.rbg_syntax.specs.Formed.{make_a_sum, make_a_product, has_two_rules, is_formed_expression, are_formed_terms, are_formed_factors, is_formed, are_formed, has_its_directions}
 
 pub both : {a b : Bool} → a ≡ true → b ≡ true → (a && b) ≡ true
 both h k = rw (h, k)
@@ -44,11 +44,12 @@ IsFormedTerm t = is_formed_expression t.1 ≡ true
 abbrev IsFormedFactor : Multiplicative × SpeltExpression → Type 0
 IsFormedFactor f = is_formed_expression f.1 ≡ true
 
-two_terms-more : (ts : SpeltTerms) (p : Additive) (e : SpeltExpression) → has_two_terms ts ≡ true → has_two_terms (more_terms ts p e) ≡ true
+two_terms-more : (ts : SpeltTerms) (p : Additive) (e : SpeltExpression) → make_a_sum ts ≡ true → make_a_sum (more_terms ts p e) ≡ true
 two_terms-more no_terms p e h = cc
-two_terms-more (more_terms ts q f) p e h = refl
+two_terms-more (more_terms no_terms q f) p e h = cc
+two_terms-more (more_terms (more_terms ts r g) q f) p e h = h
 
-terms-two : (first : SpeltTerms) (ts : List (Additive × SpeltExpression)) → has_two_terms first ≡ true → has_two_terms (terms_after first ts) ≡ true
+terms-two : (first : SpeltTerms) (ts : List (Additive × SpeltExpression)) → make_a_sum first ≡ true → make_a_sum (terms_after first ts) ≡ true
 terms-two first [] h = h
 terms-two first (t ∷ ts) h = terms-two (more_terms first t.0 t.1) ts (two_terms-more first t.0 t.1 h)
 
@@ -62,11 +63,12 @@ sum-formed e (t ∷ ts) h k =
     both (terms-two (more_terms (more_terms no_terms Plus e) t.0 t.1) ts refl)
     (terms-formed no_terms ((Plus, e) ∷ t ∷ ts) refl (All-cons IsFormedTerm (Plus, e) (t ∷ ts) h k))
 
-two_factors-more : (fs : SpeltFactors) (p : Multiplicative) (e : SpeltExpression) → has_two_factors fs ≡ true → has_two_factors (more_factors fs p e) ≡ true
+two_factors-more : (fs : SpeltFactors) (p : Multiplicative) (e : SpeltExpression) → make_a_product fs ≡ true → make_a_product (more_factors fs p e) ≡ true
 two_factors-more no_factors p e h = cc
-two_factors-more (more_factors fs q f) p e h = refl
+two_factors-more (more_factors no_factors q f) p e h = cc
+two_factors-more (more_factors (more_factors fs r g) q f) p e h = h
 
-factors-two : (first : SpeltFactors) (fs : List (Multiplicative × SpeltExpression)) → has_two_factors first ≡ true → has_two_factors (factors_after first fs) ≡ true
+factors-two : (first : SpeltFactors) (fs : List (Multiplicative × SpeltExpression)) → make_a_product first ≡ true → make_a_product (factors_after first fs) ≡ true
 factors-two first [] h = h
 factors-two first (f ∷ fs) h = factors-two (more_factors first f.0 f.1) fs (two_factors-more first f.0 f.1 h)
 

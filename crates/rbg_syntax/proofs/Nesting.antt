@@ -1,5 +1,6 @@
 -- How deep brackets are open along tokens.
-use Rattle.std.proofs.Common.{◌≡◌, ◌<◌, ◌+◌, ℕ, List, [], ◌∷◌, ◌++◌, true, false, refl, arith}
+use Rattle.std.proofs.Common.{◌≡◌, ◌<◌, ◌≤◌, ◌+◌, ◌-◌, ℕ, Bool, List, [], ◌∷◌, ◌++◌, true, false, refl, arith}
+use Rattle.std.specs.Prelude.{if◌then◌else◌}
 use Rattle.rbg_macro.specs.Token.{Lexeme}
 use Rattle.rbg_macro.specs.declared.token.TokenKind.{TokenKind}
 use Rattle.rbg_syntax.specs.Spells.{opens, closes, open_with, open_after}
@@ -29,6 +30,16 @@ closed n k no_opening e = rw (no_opening, e) (omega arith)
 
 pub passed : (n : ℕ) (k : TokenKind) → opens k ≡ false → closes k ≡ false → open_with n k ≡ n
 passed n k no_opening no_closing = rw (no_opening, no_closing)
+
+-- where each opening bracket fits, no more are open at any place
+pub front_fits : (limit n : ℕ) (front rest : List Lexeme) → n ≤ limit → Fits limit n (front ++ rest) → open_after n front ≤ limit
+front_fits limit n [] rest few f = few
+front_fits limit n (t ∷ front) rest few f = front_fits limit (open_with n t.kind) front rest (after (opens t.kind) (closes t.kind) f.0) f.1
+  where
+    after : (opening closing : Bool) → (opening ≡ true → n < limit) → (if opening then n + 1 else (if closing then n - 1 else n)) ≤ limit
+    after true closing fits = let room : n < limit = fits refl in omega (arith, room)
+    after false true fits = omega (arith, few)
+    after false false fits = few
 
 -- a token that is no bracket
 pub plain_fits : (limit n : ℕ) (t : Lexeme) → opens t.kind ≡ false → Fits limit n (t ∷ [])

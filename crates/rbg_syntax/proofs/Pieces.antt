@@ -16,7 +16,7 @@ pub record Piece {A : Type 0} (P : List Lexeme → A → List Lexeme → Type 0)
   pub balanced : (k : ℕ) → open_after k used ≡ k
   pub fits : (k : ℕ) → Fits (k + n) k used
 
--- The bracket at this place is opened where so many are open, and with other tokens after it there is a phrase.
+-- The bracket at this place is the first that is opened where so many are open, and with other tokens after it there is a phrase.
 pub record Deep {A : Type 0} (P : List Lexeme → A → List Lexeme → Type 0) (n at : ℕ) (ts : List Lexeme) : Type 0 where
   pub before : List Lexeme
   pub bracket : Lexeme
@@ -27,6 +27,7 @@ pub record Deep {A : Type 0} (P : List Lexeme → A → List Lexeme → Type 0) 
   pub place : bracket.at ≡ at
   pub is_bracket : opens bracket.kind ≡ true
   pub depth : (k : ℕ) → open_after k before ≡ k + n
+  pub fits : (k : ℕ) → Fits (k + n) k before
   pub spells : (tail : List Lexeme) → P (before ++ bracket ∷ (other ++ tail)) value tail
 
 -- some tokens that are a phrase
@@ -68,6 +69,7 @@ seen_deep P R f n at see ts d = record {
   place = d.place;
   is_bracket = d.is_bracket;
   depth = d.depth;
+  fits = d.fits;
   spells = λ tail. see (d.before ++ d.bracket ∷ (d.other ++ tail)) d.value tail (d.spells tail);
 }
 
@@ -94,6 +96,7 @@ module _ {A B C : Type 0} (P : List Lexeme → A → List Lexeme → Type 0) (Q 
     place = d.place;
     is_bracket = d.is_bracket;
     depth = λ k. open_after-append k p.used d.before ∙ ap (λ j. open_after j d.before) (p.balanced k) ∙ d.depth k;
+    fits = λ k. fits_append (k + n) k p.used d.before (p.fits k) (subst (λ j. Fits (k + n) j d.before) (sym (p.balanced k)) (d.fits k));
     spells = λ tail. let after = d.bracket ∷ (d.other ++ tail) in
         subst (λ us. R us (f x d.value) tail) (sym (append_assoc p.used d.before after)) (join _ x (d.before ++ after) d.value tail (p.again (d.before ++ after)) (d.spells tail));
   }
@@ -109,6 +112,7 @@ module _ {A B C : Type 0} (P : List Lexeme → A → List Lexeme → Type 0) (Q 
     place = d.place;
     is_bracket = d.is_bracket;
     depth = d.depth;
+    fits = d.fits;
     spells = λ tail. subst (λ us. R (d.before ++ d.bracket ∷ us) (f d.value s.value) tail) (sym (append_assoc d.other s.tokens tail))
         (join _ d.value (s.tokens ++ tail) s.value tail (d.spells (s.tokens ++ tail)) (s.spells tail));
   }
@@ -154,6 +158,7 @@ module _ {A C : Type 0} (o c : Symbol) (opening : opens (kinds.Symbol o) ≡ tru
     place = d.place;
     is_bracket = d.is_bracket;
     depth = λ j. ap (λ i. open_after i d.before) (opened j t.kind (ap opens k ∙ opening)) ∙ d.depth (j + 1) ∙ same j;
+    fits = λ j. (λ is. omega arith, subst (λ i. Fits (j + suc n) i d.before) (sym (opened j t.kind (ap opens k ∙ opening))) (subst (λ m. Fits m (j + 1) d.before) (same j) (d.fits (j + 1))));
     spells = λ tail. subst (λ us. R (t ∷ (d.before ++ d.bracket ∷ us)) (f t.at d.value) tail) (sym (append_assoc d.other (mark ∷ []) tail))
         (join _ t.at (d.before ++ d.bracket ∷ (d.other ++ mark ∷ tail)) d.value (mark ∷ tail) mark.at tail (symbol k) (d.spells (mark ∷ tail)) (symbol l));
   }

@@ -273,6 +273,7 @@ deep_atom t ts other' value' is spells' = record {
   place = refl;
   is_bracket = is;
   depth = λ j. omega arith;
+  fits = λ j. tt;
   spells = spells';
 }
 

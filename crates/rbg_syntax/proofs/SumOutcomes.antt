@@ -110,6 +110,7 @@ deep_primary t ts k = record {
   place = refl;
   is_bracket = ap opens k;
   depth = λ j. omega arith;
+  fits = λ j. tt;
   spells = λ tail. group_spells t a_token closing_token k refl refl tail;
 }
 

@@ -1,5 +1,6 @@
 -- Examples of what the grammar spells, and of what it doesn't.
-use Rattle.std.specs.Prelude.{ℕ, List, [], ◌∷◌, ◌++◌, replicate}
+use Rattle.std.specs.Prelude.{◌≡◌, ◌+◌, ℕ, List, [], ◌∷◌, ◌++◌, map}
+use Rattle.std.specs.List.{range_with_len}
 use Rattle.rbg_macro.specs.Token.{Lexeme}
 use Rattle.rbg_macro.specs.declared.token.Symbol.{Symbol}
 use Rattle.rbg_macro.specs.declared.token.Symbol.TheVariants as symbols
@@ -54,14 +55,17 @@ StarredAssignments =
     (act (assign (letter_name 97 2) (named 98 4)))) (act (assign (letter_name 99 6) (named 100 8))))))
     []
 
+-- this symbol so many times, at places that follow one another
+abbrev pub signs : Symbol → (at count : ℕ) → List Lexeme
+signs s at count = map (sign s) (range_with_len at count)
+
 -- so many opening parentheses, the name a, and as many closing ones
 abbrev pub in_parentheses : ℕ → List Lexeme
-in_parentheses n =
-    replicate n (sign symbols.OpenParenthesis 0) ++ letter 97 0 ∷ replicate n (sign symbols.CloseParenthesis 0)
+in_parentheses n = signs symbols.OpenParenthesis 0 n ++ letter 97 n ∷ signs symbols.CloseParenthesis (n + 1) n
 
 -- A shift in 128 pairs of parentheses is that shift.
 abbrev pub DeepestBrackets : Type 0
-DeepestBrackets = AreRules max_brackets (in_parentheses 128) (act (shift (letter_name 97 0))) []
+DeepestBrackets = AreRules max_brackets (in_parentheses 128) (act (shift (letter_name 97 128))) []
 
 -- In 129 it is nothing.
 abbrev pub TooManyBrackets : Type 0
@@ -79,14 +83,16 @@ TwoMinuses =
     (brackets : ℕ) (e : SpeltExpression)
     → IsSum brackets (sign symbols.Minus 0 ∷ sign symbols.Minus 1 ∷ letter 97 2 ∷ []) e [] → ⊥
 
--- A shift in 129 pairs of parentheses is too deep, and nothing else: with one more bracket it is that shift.
+-- A shift in 129 pairs of parentheses is too deep at the last opening one, and at no other place. Nothing else is wrong
+-- with it: with one more bracket it is that shift.
 pub record TooDeepAlone : Type 0 where
-  pub deep : IsTooDeep (in_parentheses 129) 0
-  pub spelt : AreRules 129 (in_parentheses 129) (act (shift (letter_name 97 0))) []
+  pub deep : IsTooDeep (in_parentheses 129) 128
+  pub only : (at : ℕ) → IsTooDeep (in_parentheses 129) at → at ≡ 128
+  pub spelt : AreRules 129 (in_parentheses 129) (act (shift (letter_name 97 129))) []
 
 -- a closing parenthesis, and 129 opening ones
 abbrev pub closing_first : List Lexeme
-closing_first = sign symbols.CloseParenthesis 0 ∷ replicate 129 (sign symbols.OpenParenthesis 1)
+closing_first = sign symbols.CloseParenthesis 0 ∷ signs symbols.OpenParenthesis 1 129
 
 -- It spells nothing at any depth, and no bracket of it is too deep, since no rules begin so.
 pub record MisspeltAlone : Type 0 where

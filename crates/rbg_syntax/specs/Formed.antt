@@ -1,31 +1,48 @@
 -- What holds of each description that the grammar can spell, whatever its names are.
 use Rattle.std.specs.Prelude.{◌≡◌, ◌<◌, ◌&&◌, Bool, true, false, length, nat_eq}
+use Rattle.rbg_syntax.specs.declared.expression.Additive.{Additive}
+use Rattle.rbg_syntax.specs.declared.expression.Additive.TheVariants.{Plus, Minus}
+use Rattle.rbg_syntax.specs.declared.expression.Multiplicative.{Multiplicative}
+use Rattle.rbg_syntax.specs.declared.expression.Multiplicative.TheVariants.{Times, Over}
 use Rattle.rbg_syntax.specs.Tree.{SpeltExpression, SpeltTerms, no_terms, more_terms, SpeltFactors, no_factors, more_factors, SpeltRule, SpeltRules, no_rules, more_rules, SpeltAction, SpeltBoard, rectangle, hexagon, graph, SpeltDescription}
 
+abbrev is_plus : Additive → Bool
+is_plus Plus = true
+is_plus Minus = false
+
+abbrev is_times : Multiplicative → Bool
+is_times Times = true
+is_times Over = false
+
+-- at least two terms, of which the first has a plus
+abbrev pub make_a_sum : SpeltTerms → Bool
+make_a_sum no_terms = false
+make_a_sum (more_terms no_terms p e) = false
+make_a_sum (more_terms (more_terms no_terms p e) q f) = is_plus p
+make_a_sum (more_terms (more_terms (more_terms ts p e) q f) r g) = make_a_sum (more_terms (more_terms ts p e) q f)
+
+-- at least two factors, of which the first is one to multiply by
+abbrev pub make_a_product : SpeltFactors → Bool
+make_a_product no_factors = false
+make_a_product (more_factors no_factors p e) = false
+make_a_product (more_factors (more_factors no_factors p e) q f) = is_times p
+make_a_product (more_factors (more_factors (more_factors fs p e) q f) r g) =
+    make_a_product (more_factors (more_factors fs p e) q f)
+
 -- at least two parts
-abbrev pub has_two_terms : SpeltTerms → Bool
-has_two_terms no_terms = false
-has_two_terms (more_terms no_terms p e) = false
-has_two_terms (more_terms (more_terms ts p e) q f) = true
-
-abbrev pub has_two_factors : SpeltFactors → Bool
-has_two_factors no_factors = false
-has_two_factors (more_factors no_factors p e) = false
-has_two_factors (more_factors (more_factors fs p e) q f) = true
-
 abbrev pub has_two_rules : SpeltRules → Bool
 has_two_rules no_rules = false
 has_two_rules (more_rules no_rules r) = false
 has_two_rules (more_rules (more_rules rs r) s) = true
 
 abbrev mutual
-  -- each sum and each product in the expression has at least two parts
+  -- each sum and each product in the expression has at least two parts, of which the first has `Plus` or `Times`
   pub is_formed_expression : SpeltExpression → Bool
   is_formed_expression (SpeltExpression.number n) = true
   is_formed_expression (SpeltExpression.name n) = true
   is_formed_expression (SpeltExpression.negated e) = is_formed_expression e
-  is_formed_expression (SpeltExpression.sum ts) = has_two_terms ts && are_formed_terms ts
-  is_formed_expression (SpeltExpression.product fs) = has_two_factors fs && are_formed_factors fs
+  is_formed_expression (SpeltExpression.sum ts) = make_a_sum ts && are_formed_terms ts
+  is_formed_expression (SpeltExpression.product fs) = make_a_product fs && are_formed_factors fs
 
   pub are_formed_terms : SpeltTerms → Bool
   are_formed_terms no_terms = true

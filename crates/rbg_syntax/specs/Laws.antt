@@ -1,8 +1,8 @@
 -- Laws that the definitions have to obey. The module `laws` proves each.
-use Rattle.std.specs.Prelude.{◌≡◌, List}
-use Rattle.rbg_macro.specs.Token.{SectionTokens}
+use Rattle.std.specs.Prelude.{◌≡◌, ℕ, List}
+use Rattle.rbg_macro.specs.Token.{Lexeme, SectionTokens}
 use Rattle.rbg_syntax.specs.Formed.{IsWhole}
-use Rattle.rbg_syntax.specs.Spells.{Spells, HasFault}
+use Rattle.rbg_syntax.specs.Spells.{Spells, HasFault, IsTooDeep}
 use Rattle.rbg_syntax.specs.declared.error.SyntaxError.{SyntaxError}
 use Rattle.rbg_syntax.specs.declared.error.SyntaxError.TheVariants as errors
 use Rattle.rbg_syntax.specs.Tree.{SpeltDescription}
@@ -22,3 +22,7 @@ abbrev pub FaultLaw : Type 0
 FaultLaw =
     (sections : List SectionTokens) (d : SpeltDescription) (e : SyntaxError)
     → Spells sections d → HasFault sections e → e ≡ errors.Memory
+
+-- At most one bracket of a list of tokens is too deep.
+abbrev pub OneTooDeepLaw : Type 0
+OneTooDeepLaw = (ts : List Lexeme) (a b : ℕ) → IsTooDeep ts a → IsTooDeep ts b → a ≡ b

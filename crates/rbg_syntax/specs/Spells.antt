@@ -1,5 +1,5 @@
 -- Which sections spell which description, and why others spell none.
-use Rattle.std.specs.Prelude.{◌≡◌, ◌≢◌, ◌+◌, ◌-◌, ℕ, List, [], ◌∷◌, ◌++◌, ◌⊎◌, Bool, true, false, Result, Ok, Err, if◌then◌else◌}
+use Rattle.std.specs.Prelude.{◌≡◌, ◌≢◌, ◌≤◌, ◌+◌, ◌-◌, ℕ, List, [], ◌∷◌, ◌++◌, ◌⊎◌, Bool, true, false, Result, Ok, Err, if◌then◌else◌}
 use Rattle.rbg_macro.specs.Token.{Lexeme, SectionTokens}
 use Rattle.rbg_macro.specs.declared.source.SectionKind.{SectionKind}
 use Rattle.rbg_macro.specs.declared.source.SectionKind.TheVariants.{Players, Pieces, Variables, Board, Rules}
@@ -84,8 +84,9 @@ abbrev pub open_after : ℕ → List Lexeme → ℕ
 open_after n [] = n
 open_after n (t ∷ ts) = open_after (open_with n t.kind) ts
 
--- The bracket at this place of the tokens is opened where 128 are open, and rules may go on with it: with some other
--- tokens after it they are spelt, if more brackets may be open. No other section nests brackets so deep.
+-- The bracket at this place of the tokens is the first that is opened where 128 are open, and rules may go on with it:
+-- with some other tokens after it they are spelt, if more brackets may be open. No other section nests brackets so
+-- deep.
 pub record IsTooDeep (ts : List Lexeme) (at : ℕ) : Type 0 where
   pub before : List Lexeme
   pub bracket : Lexeme
@@ -94,6 +95,7 @@ pub record IsTooDeep (ts : List Lexeme) (at : ℕ) : Type 0 where
   pub place : bracket.at ≡ at
   pub is_bracket : opens bracket.kind ≡ true
   pub depth : open_after 0 before ≡ max_brackets
+  pub first : (front rest : List Lexeme) → before ≡ front ++ rest → open_after 0 front ≤ max_brackets
   pub other : List Lexeme
   pub fits : IsSpelt Rules (before ++ bracket ∷ other)
 

@@ -1,5 +1,5 @@
 //! Laws of what sections spell. Each function's contract is a law over the definitions; its body does nothing.
-ghost use Rattle.rbg_syntax.specs.Laws.{FaultLaw, OneDescriptionLaw, WholeLaw};
+ghost use Rattle.rbg_syntax.specs.Laws.{FaultLaw, OneDescriptionLaw, OneTooDeepLaw, WholeLaw};
 
 /// Sections spell at most one description.
 pub fn sections_spell_one_description()
@@ -15,4 +15,9 @@ pub fn spelt_descriptions_are_whole()
 /// spell no description.
 pub fn a_fault_spells_no_description()
     ensures { FaultLaw }
+{}
+
+/// At most one bracket of the rules is too deep.
+pub fn one_bracket_is_too_deep()
+    ensures { OneTooDeepLaw }
 {}

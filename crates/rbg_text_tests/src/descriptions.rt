@@ -369,12 +369,15 @@ fn the_first_fault_decides(rt: HostRuntime) -> Result<(), Fail> {
     Ok(())
 }
 
-/// What stands before so many pairs of parentheses around a name, and how many; and the error.
-const DEPTHS: [(&str, usize, Option<SyntaxError>); 3] = [
-    ("", 128, None),
-    ("", 129, Some(SyntaxError::TooDeep { at: 135 })),
+/// What stands before the parentheses around a name, how many are opened, and how many are closed; and the error. The
+/// third text has two faults.
+const DEPTHS: [(&str, usize, usize, Option<SyntaxError>); 4] = [
+    ("", 128, 128, None),
+    ("", 129, 129, Some(SyntaxError::TooDeep { at: 135 })),
+    ("", 129, 0, Some(SyntaxError::TooDeep { at: 135 })),
     (
         ")",
+        129,
         129,
         Some(SyntaxError::Expected {
             at: 7,
@@ -385,15 +388,15 @@ const DEPTHS: [(&str, usize, Option<SyntaxError>); 3] = [
 
 #[test]
 fn the_129th_open_bracket_is_too_deep(rt: HostRuntime) -> Result<(), Fail> {
-    for (before, depth, want) in DEPTHS {
+    for (before, opened, closed, want) in DEPTHS {
         let mut text = String::new(rt.alloc());
         text.push_str("#rules=")?;
         text.push_str(before)?;
-        for _ in 0..depth {
+        for _ in 0..opened {
             text.push_str("(")?;
         }
         text.push_str("a")?;
-        for _ in 0..depth {
+        for _ in 0..closed {
             text.push_str(")")?;
         }
         for section in [PLAYERS, PIECES, BOARD] {

@@ -1,4 +1,4 @@
-use Rattle.std.proofs.Common.{◌∙◌, ap, inl, inr, arith, true, false}
+use Rattle.std.proofs.Common.{◌∙◌, ap, inl, inr, arith}
 use Rattle.rbg_syntax.specs.Views.{action_of as spelt_action_of}
 use Rattle.rbg_syntax.proofs.Trees.{action_of-PositivePattern, action_of-NegativePattern}
 use Rattle.rbg_numbering.specs.Numbered.{names_of}

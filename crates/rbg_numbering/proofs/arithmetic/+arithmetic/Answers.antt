@@ -3,12 +3,9 @@ use Rattle.rbg_syntax.specs.declared.expression.Expression.{the_lemmas}
 use Rattle.rbg_syntax.specs.Tree.{SpeltExpression, no_terms, terms_after, no_factors, factors_after}
 use Rattle.rbg_syntax.specs.Views.{expression_of}
 use Rattle.rbg_syntax.specs.Formed.{is_formed_expression}
-use Rattle.rbg_rules.specs.Translation.{arithmetic_of, operated}
-use Rattle.rbg_rules.specs.Expression.{AbstractArithmetic}
-use Rattle.rbg_rules.specs.declared.arithmetic.Operator.{Operator}
+use Rattle.rbg_rules.specs.Translation.{arithmetic_of}
 use Rattle.rbg_numbering.specs.declared.error.GameError.TheVariants.{Memory}
 use Rattle.rbg_numbering.specs.Numbered.{names_of}
-use Rattle.rbg_numbering.specs.Rules.{added, multiplied}
 use Rattle.rbg_numbering.specs.Faults.{HasArithmeticFault, arithmetic_memory}
 use Rattle.rbg_numbering.specs.internal.Arithmetic.{term_of, factor_of}
 use Rattle.rbg_numbering.proofs.LookUps.{passed_on}

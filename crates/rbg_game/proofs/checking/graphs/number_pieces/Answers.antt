@@ -1,12 +1,12 @@
 use Rattle.std.proofs.Common.{◌++◌, ◌∷◌, [], List, map, take, subst, sym}
 use Rattle.std.specs.List.{AllZip}
-use Rattle.rbg_base.proofs.CallerLemmas.{AllZip-push_one}
+use Rattle.rbg_base.proofs.CallerLemmas.{AllZip-push_one, Contains-map}
 use Rattle.rbg_syntax.specs.Tree.{SpeltName, SpeltVertex, graph}
 use Rattle.rbg_syntax.specs.Views.{name_of, vertex_of}
 use Rattle.rbg_numbering.specs.declared.error.GameError.TheVariants.{Memory}
 use Rattle.rbg_numbering.specs.Names.{IsNumberOf}
 use Rattle.rbg_numbering.specs.NameTables.{HasLookUpFault, no_memory}
-use Rattle.rbg_numbering.proofs.Lists.{Contains-map, Contains-map_read}
+use Rattle.rbg_numbering.proofs.Lists.{Contains-map_read}
 use Rattle.rbg_numbering.proofs.LookUps.{passed_on, look_up_one}
 use Rattle.rbg_game.specs.Faults.{board_pieces}
 use Rattle.rbg_game.proofs.GraphSteps.{pieces_more}
