@@ -35,7 +35,7 @@ range_below first zero q h = absurd h
 range_below first (suc many) q (inl e) = omega (arith, e)
 range_below first (suc many) q (inr h) = let later : q < first + 1 + many = range_below (first + 1) many q h in omega (arith, later)
 
-numbered_below : (x : Expression) → IsNumbered x → (q : ℕ) → Among q (positions_of x) → q < length (positions_of x) + 1
+pub numbered_below : (x : Expression) → IsNumbered x → (q : ℕ) → Among q (positions_of x) → q < length (positions_of x) + 1
 numbered_below x numbered q h = let below : q < 1 + length (positions_of x) = range_below 1 (length (positions_of x)) q (subst (Among q) numbered.in_order h) in omega (arith, below)
 
 pub compact_steps : (actions : List Action) (tree : Rule) (positions : ℕ) → IsNumbered (expression_of actions tree) → HasNoEmptySum (expression_of actions tree) → positions ≡ length (positions_of (expression_of actions tree)) → (old new : Table) (opening : Opening) → old.nodes.items ≡ replicate (positions + 1) no_node → old.entries.items ≡ [] → LaysLevel old new tree opening → AreStepsOf (expression_of actions tree) (first_at (listed new.entries.items opening.first) (laid_in new)) (λ i. (laid_in new i).next) (λ i. (laid_in new i).may_end) (empty_at opening.may_be_empty (laid_in new))

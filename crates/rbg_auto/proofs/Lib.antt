@@ -7,6 +7,8 @@ pub mod StepLemmas
 pub mod WholeLemmas
 pub mod LayLemmas
 pub mod TreeLemmas
+pub mod LayTreeLemmas
 pub mod WalkLemmas
 pub mod CompactLemmas
 pub mod UnionLemmas
+pub mod PlaceLemmas

@@ -6,3 +6,4 @@ pub mod Trees
 pub mod Tables
 pub mod Walks
 pub mod Compacts
+pub mod Places

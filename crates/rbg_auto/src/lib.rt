@@ -2,8 +2,11 @@
 #![tactic(auto)]
 
 mod arrays;
+mod compiling;
 pub mod laws;
 mod packing;
+mod plain;
+mod rest;
 mod shelf;
 mod span;
 pub mod steps;
@@ -13,5 +16,7 @@ mod union;
 mod walk;
 
 pub use arrays::Compact;
+pub use compiling::{compile, compile_tree};
 pub use packing::{compact, compact_tree};
+pub use plain::Automaton;
 pub use steps::{Expr, Steps};

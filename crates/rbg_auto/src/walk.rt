@@ -1,23 +1,17 @@
 //! The walk over the rules that lays down what comes after each position.
 ghost use Rattle.std.specs.Prelude.{◌≡◌, ◌<◌, List, [], length, replicate, slice_index_or, IfOk};
 ghost use Rattle.rbg_auto.specs.internal.Tables.{Keeps, IsKept, no_node};
-ghost use Rattle.rbg_auto.specs.internal.Walks.{AddsList, LaysTree, LaysSequence, LaysSum, IsBefore, LaysLevel, Extends};
+ghost use Rattle.rbg_auto.specs.internal.Trees.{IsBefore};
+ghost use Rattle.rbg_auto.specs.internal.Walks.{AddsList, LaysTree, LaysSequence, LaysSum, LaysLevel, Extends};
 
+use crate::rest::{Rest, again, before};
 use crate::shelf::{Shelf, hash_of};
 use crate::span::{Node, Opening, Span};
 use crate::table::Table;
 use crate::tree::push_first;
-use crate::union::union;
 use rbg_base::{Memory, Position};
 use rbg_rules::Rule;
 use std::alloc::Global;
-
-/// What may come directly after a part of the rules, and whether its words may end there.
-#[derive(Debug, Drop)]
-pub(crate) struct Rest {
-    pub(crate) positions: Vec<Position>,
-    pub(crate) may_end: bool,
-}
 
 /// The table as far as it is laid.
 ///
@@ -76,7 +70,8 @@ impl Walk {
     #[cycle(laying)]
     fn lay(&mut self, rule: &Rule, rest: &Rest, kept: &mut Option<Span>) -> Result<(), Memory>
         requires { IsKept self.old.table.entries.items kept.old rest.now.positions.items }
-        ensures lays { IfOk result (λ _. LaysTree self.old.table self.new.table rule.now rest.now.positions.items rest.now.may_end) }
+        ensures lays { IfOk result (λ _.
+            LaysTree self.old.table self.new.table rule.now rest.now.positions.items rest.now.may_end) }
         ensures kept { IfOk result (λ _. IsKept self.new.table.entries.items kept.new rest.now.positions.items) }
     {
         match rule {
@@ -104,12 +99,7 @@ impl Walk {
             Rule::Then(parts) => self.lay_sequence(parts.as_slice(), rest, kept),
             Rule::Or(parts) => self.lay_sum(parts.as_slice(), rest, kept),
             Rule::Star(part) => {
-                let mut first = Vec::new(self.alloc);
-                let _ = push_first(part, &mut first)?;
-                let again = Rest {
-                    positions: union(self.alloc, first.as_slice(), rest.positions.as_slice())?,
-                    may_end: rest.may_end,
-                };
+                let again = again(self.alloc, part, rest)?;
                 let mut own = None;
                 self.lay(part, &again, &mut own)
             }
@@ -145,23 +135,14 @@ impl Walk {
         kept: &mut Option<Span>,
     ) -> Result<Rest, Memory>
         requires { IsKept self.old.table.entries.items kept.old rest.now.positions.items }
-        ensures lays { IfOk result (λ _. LaysTree self.old.table self.new.table part.now rest.now.positions.items rest.now.may_end) }
+        ensures lays { IfOk result (λ _.
+            LaysTree self.old.table self.new.table part.now rest.now.positions.items rest.now.may_end) }
         ensures kept { IfOk result (λ _. IsKept self.new.table.entries.items kept.new rest.now.positions.items) }
-        ensures before { IfOk result (λ before. IsBefore part.now rest.now.positions.items rest.now.may_end before.positions.items before.may_end) }
+        ensures before { IfOk result (λ before.
+            IsBefore part.now rest.now.positions.items rest.now.may_end before.positions.items before.may_end) }
     {
         self.lay(part, rest, kept)?;
-        let mut first = Vec::new(self.alloc);
-        if push_first(part, &mut first)? {
-            let positions = union(self.alloc, first.as_slice(), rest.positions.as_slice())?;
-            return Ok(Rest {
-                positions,
-                may_end: rest.may_end,
-            });
-        }
-        Ok(Rest {
-            positions: first,
-            may_end: false,
-        })
+        before(self.alloc, part, rest)
     }
 
     /// Lays the parts of a sequence from the last to the first.
@@ -173,7 +154,8 @@ impl Walk {
         kept: &mut Option<Span>,
     ) -> Result<(), Memory>
         requires { IsKept self.old.table.entries.items kept.old rest.now.positions.items }
-        ensures lays { IfOk result (λ _. LaysSequence self.old.table self.new.table parts.now rest.now.positions.items rest.now.may_end) }
+        ensures lays { IfOk result (λ _.
+            LaysSequence self.old.table self.new.table parts.now rest.now.positions.items rest.now.may_end) }
         ensures kept { IfOk result (λ _. IsKept self.new.table.entries.items kept.new rest.now.positions.items) }
     {
         if parts.is_empty() {
@@ -198,7 +180,8 @@ impl Walk {
         kept: &mut Option<Span>,
     ) -> Result<(), Memory>
         requires { IsKept self.old.table.entries.items kept.old rest.now.positions.items }
-        ensures lays { IfOk result (λ _. LaysSum self.old.table self.new.table parts.now rest.now.positions.items rest.now.may_end) }
+        ensures lays { IfOk result (λ _.
+            LaysSum self.old.table self.new.table parts.now rest.now.positions.items rest.now.may_end) }
         ensures kept { IfOk result (λ _. IsKept self.new.table.entries.items kept.new rest.now.positions.items) }
     {
         for part in parts {

@@ -5,7 +5,9 @@ use Rattle.rbg_rules.specs.declared.rule.Rule.{Rule}
 use Rattle.rbg_rules.specs.Expression.{Expression, sequence_of, choice_of}
 use Rattle.rbg_rules.specs.Translation.{expression_of}
 use Rattle.rbg_rules.specs.Games.{HasNoEmptySum}
+use Rattle.rbg_auto.specs.internal.Orders.{Joins}
 use Rattle.rbg_auto.specs.internal.Firsts.{may_be_empty, firsts}
+use Rattle.rbg_auto.specs.internal.Laying.{Laid, ComesBefore, IsLawful, Lays}
 
 -- The positions with which words of the expression begin were appended.
 pub record AppendsFirsts (x : Expression) (old new : List ℕ) (empty : Bool) : Type 0 where
@@ -27,3 +29,31 @@ pub record GivesFirstsOfSum (parts : List Rule) (old new : List ℕ) (empty : Bo
   pub gives :
       (actions : List Action) → HasNoEmptySum (choice_of (map (expression_of actions) parts)) →
       AppendsFirsts (choice_of (map (expression_of actions) parts)) old new empty
+
+-- What each table of actions makes of a tree is laid, where it is lawful.
+abbrev pub LaysAll :
+    ℕ → (ℕ → Laid) → (ℕ → Laid) → (List Action → Expression) → List ℕ → Bool → Type 0
+LaysAll size old new x k end =
+    (actions : List Action) → IsLawful size (x actions) → Lays old new (x actions) k end
+
+-- The expressions of a tree, and of trees in a sequence and in a sum.
+abbrev pub of_tree : Rule → List Action → Expression
+of_tree tree actions = expression_of actions tree
+
+abbrev pub in_sequence : List Rule → List Action → Expression
+in_sequence parts actions = sequence_of (map (expression_of actions) parts)
+
+abbrev pub in_sum : List Rule → List Action → Expression
+in_sum parts actions = choice_of (map (expression_of actions) parts)
+
+-- What comes before the tree, where k comes after it.
+pub record IsBefore (tree : Rule) (k : List ℕ) (end : Bool) (m : List ℕ) (may_end : Bool) : Type 0 where
+  pub before :
+      (actions : List Action) → HasNoEmptySum (expression_of actions tree) →
+      ComesBefore (expression_of actions tree) k end m may_end
+
+-- What comes after each turn of a star of the tree, where k comes after the star.
+pub record IsAgain (tree : Rule) (k m : List ℕ) : Type 0 where
+  pub again :
+      (actions : List Action) → HasNoEmptySum (expression_of actions tree) →
+      Joins (firsts (expression_of actions tree)) k m

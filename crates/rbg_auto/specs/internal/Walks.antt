@@ -1,15 +1,15 @@
 -- What the walk over a tree of the program does to the table.
-use Rattle.std.specs.Prelude.{◌≡◌, ℕ, ◌<◌, List, [], length, map, Bool, true}
+use Rattle.std.specs.Prelude.{◌≡◌, ℕ, ◌<◌, List, [], length, Bool, true}
 use Rattle.rbg_rules.specs.declared.rule.Action.{Action}
 use Rattle.rbg_rules.specs.declared.rule.Rule.{Rule}
-use Rattle.rbg_rules.specs.Expression.{sequence_of, choice_of}
 use Rattle.rbg_rules.specs.Translation.{expression_of}
 use Rattle.rbg_rules.specs.Games.{HasNoEmptySum}
 use Rattle.rbg_auto.specs.declared.span.Node.{Node}
 use Rattle.rbg_auto.specs.declared.span.Opening.{Opening}
 use Rattle.rbg_auto.specs.declared.table.Table.{Table}
 use Rattle.rbg_auto.specs.internal.Firsts.{may_be_empty, firsts}
-use Rattle.rbg_auto.specs.internal.Laying.{Laid, ComesBefore, IsLawful, Lays}
+use Rattle.rbg_auto.specs.internal.Laying.{Laid}
+use Rattle.rbg_auto.specs.internal.Trees.{LaysAll, of_tree, in_sequence, in_sum}
 use Rattle.rbg_auto.specs.internal.Tables.{IsSpan, Keeps, Grows, laid_at, laid_of}
 
 -- What the table has at each position.
@@ -32,39 +32,24 @@ pub record SetsNode (old new : Table) (p : ℕ) (node : Node) : Type 0 where
   pub there : p < length old.nodes.items → laid_in new p ≡ laid_of old.entries.items node
   pub others : (q : ℕ) → ¬ (q ≡ p) → laid_in new q ≡ laid_in old q
 
--- The expression that a table of actions makes of the tree is laid, where it is lawful. So is that of trees in a
--- sequence and in a sum.
+-- The tree is laid, or trees in a sequence or in a sum.
 pub record LaysTree (old new : Table) (tree : Rule) (k : List ℕ) (end : Bool) : Type 0 where
   pub extends : Extends old new
-  pub lays :
-      (actions : List Action) → IsLawful (length old.nodes.items) (expression_of actions tree) →
-      Lays (laid_in old) (laid_in new) (expression_of actions tree) k end
+  pub lays : LaysAll (length old.nodes.items) (laid_in old) (laid_in new) (of_tree tree) k end
 
 pub record LaysSequence (old new : Table) (parts : List Rule) (k : List ℕ) (end : Bool) : Type 0 where
   pub extends : Extends old new
-  pub lays :
-      (actions : List Action) → IsLawful (length old.nodes.items) (sequence_of (map (expression_of actions) parts)) →
-      Lays (laid_in old) (laid_in new) (sequence_of (map (expression_of actions) parts)) k end
+  pub lays : LaysAll (length old.nodes.items) (laid_in old) (laid_in new) (in_sequence parts) k end
 
 pub record LaysSum (old new : Table) (parts : List Rule) (k : List ℕ) (end : Bool) : Type 0 where
   pub extends : Extends old new
-  pub lays :
-      (actions : List Action) → IsLawful (length old.nodes.items) (choice_of (map (expression_of actions) parts)) →
-      Lays (laid_in old) (laid_in new) (choice_of (map (expression_of actions) parts)) k end
-
--- What comes before the tree, where k comes after it.
-pub record IsBefore (tree : Rule) (k : List ℕ) (end : Bool) (m : List ℕ) (may_end : Bool) : Type 0 where
-  pub before :
-      (actions : List Action) → HasNoEmptySum (expression_of actions tree) →
-      ComesBefore (expression_of actions tree) k end m may_end
+  pub lays : LaysAll (length old.nodes.items) (laid_in old) (laid_in new) (in_sum parts) k end
 
 -- The tree is laid as a level of its own, whose words begin as the opening says.
 pub record LaysLevel (old new : Table) (tree : Rule) (opening : Opening) : Type 0 where
   pub extends : Extends old new
   pub within : IsSpan (length new.entries.items) opening.first
-  pub lays :
-      (actions : List Action) → IsLawful (length old.nodes.items) (expression_of actions tree) →
-      Lays (laid_in old) (laid_in new) (expression_of actions tree) [] true
+  pub lays : LaysAll (length old.nodes.items) (laid_in old) (laid_in new) (of_tree tree) [] true
   pub first :
       (actions : List Action) → HasNoEmptySum (expression_of actions tree) →
       Keeps new.entries.items opening.first (firsts (expression_of actions tree))

@@ -1,10 +1,9 @@
 -- The proofs of the walk.
-use Rattle.std.proofs.Common.{rules, ◌≡◌, ◌<◌, List, [], length, ℕ, ◌+◌, ◌-◌, true, subst, arith}
+use Rattle.std.proofs.Common.{rules, ◌≡◌, ◌<◌, List, [], length, ℕ, ◌+◌, ◌-◌, Bool, true, subst, arith}
 use Rattle.std.proofs.lemmas.Result.{IfOk-weaker}
 use Rattle.rbg_rules.specs.declared.rule.Rule.{Rule}
 use Rattle.rbg_rules.specs.declared.rule.Rule.TheVariants.{Then, Or, Star}
-use Rattle.rbg_auto.specs.internal.Orders.{Joins}
-use Rattle.rbg_auto.specs.internal.Trees.{GivesFirsts}
+use Rattle.rbg_auto.specs.internal.Trees.{GivesFirsts, IsAgain}
 use Rattle.rbg_auto.specs.internal.Tables.{Keeps, IsKept}
 use Rattle.rbg_auto.specs.internal.Walks.{LaysTree, LaysSequence, LaysSum, LaysLevel}
 use Rattle.rbg_auto.proofs.WalkLemmas.{IsKept-grows, lays_act, lays_pattern, lays_then, lays_or, lays_star_tree, lays_level_by, SequenceOwes, sequence_begins, sequence_owes_fewer, sequence_ends, sum_goes_on}
@@ -54,32 +53,27 @@ lay-returns-in-Or-clause-lays t c =
     rw c.in-Or.is (IfOk-weaker c.lay_sum.result (λ _. LaysSum old new c.as_slice-in-Or.result.now k end) (λ _. LaysTree old new (Or parts) k end)
     (λ _ one. lays_or parts old new k end (subst (λ (rs : List Rule). LaysSum old new rs k end) c.as_slice-in-Or.ensures.value one)) c.lay_sum.ensures.lays)
 
-pub lay-returns-in_ok-union-in-Star-clause-lays : goal.lay-returns-in_ok-union-in-Star-clause-lays
-lay-returns-in_ok-union-in-Star-clause-lays t c =
+pub lay-returns-in_ok-again-in-Star-clause-lays : goal.lay-returns-in_ok-again-in-Star-clause-lays
+lay-returns-in_ok-again-in-Star-clause-lays t c =
     let old = c.args.self.now.table in
     let new = c.lay.new.self.table in
     let k = c.args.rest.now.positions.items in
     let end = c.args.rest.now.may_end in
     let part = c.in-Star.part in
-    let first = c.push_first.new.first.items in
-    let m = c.in_ok-union-in-Star.field-0.items in
-    let empty = c.in_ok-push_first-in-Star.field-0 in
-    let gives_at : GivesFirsts c.deref-in-Star.result.now c.new-first.result.items first empty = c.in_ok-push_first-in-Star.ensures in
-    let gives_fresh : GivesFirsts c.deref-in-Star.result.now [] first empty = subst (λ (xs : List ℕ). GivesFirsts c.deref-in-Star.result.now xs first empty) c.new-first.ensures.items gives_at in
-    let gives : GivesFirsts part.value [] first empty = subst (λ (r : Rule). GivesFirsts r [] first empty) c.deref-in-Star.ensures gives_fresh in
-    let joins_at : Joins c.as_slice-in-Star.result.now c.as_slice-in-Star-2.result.now m = c.in_ok-union-in-Star.ensures in
-    let joins_first : Joins first c.as_slice-in-Star-2.result.now m = subst (λ (xs : List ℕ). Joins xs c.as_slice-in-Star-2.result.now m) c.as_slice-in-Star.ensures.value joins_at in
-    let joins : Joins first k m = subst (λ (xs : List ℕ). Joins first xs m) c.as_slice-in-Star-2.ensures.value joins_first in
-    rw c.in-Star.is (IfOk-weaker c.lay.result (λ _. LaysTree old new c.deref-in-Star-2.result.now m end) (λ _. LaysTree old new (Star part) k end)
-    (λ _ one. lays_star_tree part old new k m first end empty gives joins (subst (λ (r : Rule). LaysTree old new r m end) c.deref-in-Star-2.ensures one)) c.lay.ensures.lays)
+    let m = c.in_ok-again-in-Star.again.positions.items in
+    let again : IsAgain part.value k m = subst (λ (r : Rule). IsAgain r k m) c.deref-in-Star.ensures c.in_ok-again-in-Star.ensures.positions in
+    rw c.in-Star.is (IfOk-weaker c.lay.result (λ _. LaysTree old new c.deref-in-Star-2.result.now m c.in_ok-again-in-Star.again.may_end) (λ _. LaysTree old new (Star part) k end)
+    (λ _ one. lays_star_tree part old new k m end again (subst (λ (e : Bool). LaysTree old new part.value m e) c.in_ok-again-in-Star.ensures.may_end (subst (λ (r : Rule). LaysTree old new r m c.in_ok-again-in-Star.again.may_end) c.deref-in-Star-2.ensures one))) c.lay.ensures.lays)
 
-pub lay-returns-in_ok-union-in-Star-clause-kept : goal.lay-returns-in_ok-union-in-Star-clause-kept
-lay-returns-in_ok-union-in-Star-clause-kept t c =
+pub lay-returns-in_ok-again-in-Star-clause-kept : goal.lay-returns-in_ok-again-in-Star-clause-kept
+lay-returns-in_ok-again-in-Star-clause-kept t c =
     let old = c.args.self.now.table in
     let new = c.lay.new.self.table in
     let k = c.args.rest.now.positions.items in
-    IfOk-weaker c.lay.result (λ _. LaysTree old new c.deref-in-Star-2.result.now c.in_ok-union-in-Star.field-0.items c.args.rest.now.may_end) (λ _. IsKept new.entries.items c.args.kept.now k)
-    (λ _ one. let lays : LaysTree old new c.deref-in-Star-2.result.now c.in_ok-union-in-Star.field-0.items c.args.rest.now.may_end = one in IsKept-grows old.entries.items new.entries.items c.args.kept.now k lays.extends.entries c.requires) c.lay.ensures.lays
+    let m = c.in_ok-again-in-Star.again.positions.items in
+    let end = c.in_ok-again-in-Star.again.may_end in
+    IfOk-weaker c.lay.result (λ _. LaysTree old new c.deref-in-Star-2.result.now m end) (λ _. IsKept new.entries.items c.args.kept.now k)
+    (λ _ one. let lays : LaysTree old new c.deref-in-Star-2.result.now m end = one in IsKept-grows old.entries.items new.entries.items c.args.kept.now k lays.extends.entries c.requires) c.lay.ensures.lays
 
 pub lay_level-returns : goal.lay_level-returns
 lay_level-returns t c =

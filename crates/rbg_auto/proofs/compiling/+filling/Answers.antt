@@ -1,0 +1,112 @@
+-- The proofs of `compiling::fill` and the two functions over parts.
+use Rattle.std.proofs.Common.{rules, ◌≡◌, ◌<◌, ◌-◌, ◌+◌, [], length, List, ℕ, Bool, true, refl, sym, subst, arith}
+use Rattle.std.proofs.lemmas.List.Elements.{same_from_all_zip}
+use Rattle.std.proofs.lemmas.Result.{IfOk-weaker}
+use Rattle.rbg_rules.specs.declared.rule.Rule.{Rule}
+use Rattle.rbg_rules.specs.declared.rule.Rule.TheVariants.{Then, Or, Star}
+use Rattle.rbg_auto.specs.internal.Trees.{GivesFirsts, IsAgain}
+use Rattle.rbg_auto.specs.internal.Places.{FillsTree, FillsSequence, FillsSum}
+use Rattle.rbg_auto.proofs.PlaceLemmas.{fills_act, fills_pattern, fills_then, fills_or, fills_star, OwesPlaces, filled_more, owes_places_all, owes_places_fewer, owes_places_none}
+use Rattle.rbg_auto.proofs.compiling.+filling.Goals as goal
+
+pub fill-returns-in_ok-clone-in-Act : goal.fill-returns-in_ok-clone-in-Act
+fill-returns-in_ok-clone-in-Act t c =
+    let next : c.in_ok-clone-in-Act.field-0.items ≡ c.args.rest.now.positions.items = same_from_all_zip _ _ _ c.in_ok-clone-in-Act.ensures.cases.0 (λ x y e. search rules) in
+    rw c.in-Act.is (fills_act c.args.places.now c.set.new.places c.in-Act.position _ c.args.rest.now.positions.items c.args.rest.now.may_end next refl c.new.ensures.items refl c.set.ensures)
+
+pub fill-returns-in_ok-clone-in-Pattern : goal.fill-returns-in_ok-clone-in-Pattern
+fill-returns-in_ok-clone-in-Pattern t c =
+    let old = c.args.places.now in
+    let level = c.fill.new.places in
+    let inside = c.in-Pattern.inside in
+    let first = c.push_first.new.first.items in
+    let empty = c.in_ok-may_be_empty-in-Pattern.may_be_empty in
+    let next : c.in_ok-clone-in-Pattern.field-0.items ≡ c.args.rest.now.positions.items = same_from_all_zip _ _ _ c.in_ok-clone-in-Pattern.ensures.cases.0 (λ x y e. search rules) in
+    let fills_at : FillsTree old level c.deref.result.now c.new-in-Pattern.result.items true = c.in_ok-fill-in-Pattern.ensures in
+    let fills_rule : FillsTree old level inside.value c.new-in-Pattern.result.items true = subst (λ (r : Rule). FillsTree old level r c.new-in-Pattern.result.items true) c.deref.ensures fills_at in
+    let fills : FillsTree old level inside.value [] true = subst (λ (xs : List ℕ). FillsTree old level inside.value xs true) c.new-in-Pattern.ensures.items fills_rule in
+    let gives_at : GivesFirsts c.deref-in-Pattern.result.now c.new-first.result.items first empty = c.in_ok-may_be_empty-in-Pattern.ensures in
+    let gives_rule : GivesFirsts inside.value c.new-first.result.items first empty = subst (λ (r : Rule). GivesFirsts r c.new-first.result.items first empty) c.deref-in-Pattern.ensures gives_at in
+    let gives : GivesFirsts inside.value [] first empty = subst (λ (xs : List ℕ). GivesFirsts inside.value xs first empty) c.new-first.ensures.items gives_rule in
+    rw c.in-Pattern.is (fills_pattern old level c.set-in-Pattern.new.places c.in-Pattern.position inside _ c.args.rest.now.positions.items c.args.rest.now.may_end fills gives next refl c.set-in-Pattern.ensures)
+
+pub fill-returns-in-Then : goal.fill-returns-in-Then
+fill-returns-in-Then t c =
+    let old = c.args.places.now in
+    let new = c.fill_sequence.new.places in
+    let k = c.args.rest.now.positions.items in
+    let end = c.args.rest.now.may_end in
+    let parts = c.in-Then.parts in
+    rw c.in-Then.is (IfOk-weaker c.fill_sequence.result (λ _. FillsSequence old new c.as_slice.result.now k end) (λ _. FillsTree old new (Then parts) k end)
+    (λ _ one. fills_then old new k end parts (subst (λ (rs : List Rule). FillsSequence old new rs k end) c.as_slice.ensures.value one)) c.fill_sequence.ensures)
+
+pub fill-returns-in-Or : goal.fill-returns-in-Or
+fill-returns-in-Or t c =
+    let old = c.args.places.now in
+    let new = c.fill_sum.new.places in
+    let k = c.args.rest.now.positions.items in
+    let end = c.args.rest.now.may_end in
+    let parts = c.in-Or.parts in
+    rw c.in-Or.is (IfOk-weaker c.fill_sum.result (λ _. FillsSum old new c.as_slice-in-Or.result.now k end) (λ _. FillsTree old new (Or parts) k end)
+    (λ _ one. fills_or old new k end parts (subst (λ (rs : List Rule). FillsSum old new rs k end) c.as_slice-in-Or.ensures.value one)) c.fill_sum.ensures)
+
+pub fill-returns-in_ok-again-in-Star : goal.fill-returns-in_ok-again-in-Star
+fill-returns-in_ok-again-in-Star t c =
+    let old = c.args.places.now in
+    let new = c.fill-in-Star.new.places in
+    let k = c.args.rest.now.positions.items in
+    let end = c.args.rest.now.may_end in
+    let part = c.in-Star.part in
+    let m = c.in_ok-again-in-Star.field-0.positions.items in
+    let last = c.in_ok-again-in-Star.field-0.may_end in
+    let again : IsAgain part.value k m = subst (λ (r : Rule). IsAgain r k m) c.deref-in-Star-2.ensures c.in_ok-again-in-Star.ensures.positions in
+    rw c.in-Star.is (IfOk-weaker c.fill-in-Star.result (λ _. FillsTree old new c.deref-in-Star.result.now m last) (λ _. FillsTree old new (Star part) k end)
+    (λ _ one. fills_star old new k end part m again (subst (λ (e : Bool). FillsTree old new part.value m e) c.in_ok-again-in-Star.ensures.may_end (subst (λ (r : Rule). FillsTree old new r m last) c.deref-in-Star.ensures one))) c.fill-in-Star.ensures)
+
+pub fill_sequence-loop-left-init : goal.fill_sequence-loop-left-init
+fill_sequence-loop-left-init t c =
+    let old = c.args.places.now in
+    let parts = c.args.parts.now in
+    let k = c.args.rest.now.positions.items in
+    let end = c.args.rest.now.may_end in
+    let same : k ≡ c.in_ok-clone.field-0.items = sym (same_from_all_zip _ _ _ c.in_ok-clone.ensures.cases.0 (λ x y e. search rules)) in
+    record {
+      owes = subst (λ (m : List ℕ). OwesPlaces old old parts (length parts) k end m end) same (owes_places_all old parts k end (length parts) (omega arith));
+      below = omega arith;
+    }
+
+pub fill_sequence-loop-left-preserved : goal.fill_sequence-loop-left-preserved
+fill_sequence-loop-left-preserved t c =
+    let old = c.args.places.now in
+    let now = c.loop-left.places in
+    let parts = c.args.parts.now in
+    let k = c.args.rest.now.positions.items in
+    let end = c.args.rest.now.may_end in
+    let m = c.loop-left.later.positions.items in
+    let may_end = c.loop-left.later.may_end in
+    let i = c.loop-left.left - 1 in
+    let some : 0 < c.loop-left.left = c.loop-left-test.true in
+    let was = c.loop-left.invariant.below in
+    let here : i < length parts = omega (arith, some, was) in
+    let one : c.loop-left.left ≡ i + 1 = omega (arith, some) in
+    let owed : OwesPlaces old now parts (i + 1) k end m may_end = subst (λ (n : ℕ). OwesPlaces old now parts n k end m may_end) one c.loop-left.invariant.owes in
+    record {
+      owes = owes_places_fewer old parts k end now c.fill.new.places i c.index-parts-left.result m may_end c.in_ok-later.later.positions.items c.in_ok-later.later.may_end here c.index-parts-left.is owed c.in_ok-fill.ensures c.in_ok-later.ensures;
+      below = omega (arith, was);
+    }
+
+pub fill_sequence-returns : goal.fill_sequence-returns
+fill_sequence-returns t c =
+    let old = c.args.places.now in
+    let now = c.loop-left.places in
+    let parts = c.args.parts.now in
+    let k = c.args.rest.now.positions.items in
+    let end = c.args.rest.now.may_end in
+    let m = c.loop-left.later.positions.items in
+    let may_end = c.loop-left.later.may_end in
+    let test = c.loop-left-test.false in
+    let none : c.loop-left.left ≡ 0 = omega (arith, test) in
+    owes_places_none old parts k end now m may_end (subst (λ (n : ℕ). OwesPlaces old now parts n k end m may_end) none c.loop-left.invariant.owes)
+
+pub fill_sum-loop-part-preserved : goal.fill_sum-loop-part-preserved
+fill_sum-loop-part-preserved t c = filled_more c.args.places.now c.args.parts.now c.args.rest.now.positions.items c.args.rest.now.may_end c.loop-part.places c.fill.new.places c.loop-part.part-index c.part-item.result (omega arith) c.part-item.is c.loop-part.invariant c.in_ok-fill.ensures

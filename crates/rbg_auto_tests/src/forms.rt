@@ -1,0 +1,97 @@
+//! Both forms of the automaton give the same answers.
+use crate::generated::Generator;
+use rbg_auto::{Expr, Steps, compact, compact_tree, compile, compile_tree};
+use rbg_base::Position;
+use rbg_game::load;
+use std::alloc::{AllocError, Global};
+use std::process::Abort;
+use std::test::Fail;
+
+/// Whether two automata give the same answers for an expression.
+fn same_first(one: &impl Steps, other: &impl Steps, expr: Expr) -> bool {
+    one.first(expr) == other.first(expr) && one.may_be_empty(expr) == other.may_be_empty(expr)
+}
+
+/// Whether two automata give the same answers for the rules and for each position to the last, and for one on either
+/// side.
+fn agree(one: &impl Steps, other: &impl Steps, last: Position) -> bool {
+    let mut same = same_first(one, other, Expr::Rules);
+    for position in 0..=last.saturating_add(1) {
+        same = same
+            && one.next(position) == other.next(position)
+            && one.may_end(position) == other.may_end(position)
+            && same_first(one, other, Expr::Inside(position));
+    }
+    same
+}
+
+/// Whether both forms agree on the expression that a seed makes.
+fn agree_on_seed(alloc: Global, seed: u64) -> Result<bool, AllocError> {
+    let mut generator = Generator::new(seed);
+    let tree = generator.rule(alloc, 4)?;
+    let last = generator.positions;
+    let plain = compile_tree(alloc, &tree, last as usize)?;
+    let compact = compact_tree(alloc, &tree, last as usize)?;
+    Ok(agree(&plain, &compact, last))
+}
+
+#[test]
+fn both_forms_agree_on_generated_rules(rt: HostRuntime) -> Result<(), Fail> {
+    for seed in 0..4_000 {
+        let same = agree_on_seed(rt.alloc(), seed)?;
+        assert!(rt; same, "at {seed}");
+    }
+    Ok(())
+}
+
+/// How many entries the array of a game with these rules has, where both forms agree.
+fn entries(rt: &impl Abort, alloc: Global, rules: &str) -> Result<usize, AllocError> {
+    let text = format!(in alloc;
+        "#players = white(100), black(100)\n#pieces = e, w, b\n#variables = n(3)\n#board = rectangle(up,down,left,right,[w,e])\n#rules = {rules}"
+    )?;
+    let Ok(game) = load(alloc, text.as_bytes()) else {
+        return Ok(0);
+    };
+    let plain = compile(alloc, &game)?;
+    let compact = compact(alloc, &game)?;
+    let same = agree(&plain, &compact, game.positions() as Position);
+    assert!(rt; same, "at {rules}");
+    Ok(compact.entries())
+}
+
+#[test]
+fn both_forms_agree_on_games(rt: HostRuntime) -> Result<(), Fail> {
+    for (rules, want) in [
+        ("->white {w} right [w] ->black", 5),
+        ("->white ([w])* ->black", 3),
+        ("->white (([w])* ([e])*)* ->black", 4),
+        ("->white ([w] + ([e])* right)* [$ n = n + 1] ->>", 8),
+        ("->white {? right [w]} right {e} [w] ->black", 8),
+        (
+            "->white (right + left)* {! {? right} {! left}} [w] ->black",
+            10,
+        ),
+    ] {
+        let found = entries(&rt, rt.alloc(), rules)?;
+        assert_eq!(rt; found, want, "at {rules}");
+    }
+    Ok(())
+}
+
+/// A sum of that many times `[w]`.
+fn sum_of_offs(alloc: Global, count: usize) -> Result<String, AllocError> {
+    let mut sum = String::from_str(alloc, "[w]")?;
+    for _ in 1..count {
+        sum.push_str("+[w]")?;
+    }
+    Ok(sum)
+}
+
+#[test]
+fn a_starred_sum_of_a_game_shares_one_list(rt: HostRuntime) -> Result<(), Fail> {
+    let sum = sum_of_offs(rt.alloc(), 1_000)?;
+    let rules = format!(in rt.alloc(); "->white ({sum})* ->black")?;
+    let found = entries(&rt, rt.alloc(), rules.as_str())?;
+    assert_eq!(rt; found, 1_002);
+    Ok(())
+}
