@@ -4,3 +4,16 @@ pub mod Meetings
 pub mod Starts
 pub mod Parts
 pub mod Modifiers
+pub mod Nesting
+pub mod Behinds
+pub mod Asking
+pub mod Answering
+pub mod Openings
+pub mod Counts
+pub mod CallerLemmas
+pub mod Patterns
+pub mod Countings
+pub mod Counted
+pub mod CountedSteps
+pub mod Orders
+pub mod Kept

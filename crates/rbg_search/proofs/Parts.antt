@@ -14,7 +14,7 @@ use Rattle.rbg_auto.specs.Steps.{AreAllThatFollow}
 use Rattle.rbg_search.specs.Flat.{IsFlatPart}
 use Rattle.rbg_search.specs.internal.Closure.{at_vertex, Leads, Reached, first, then, IsFound, LeadsToEnd, EndsFlat}
 use Rattle.rbg_search.specs.internal.Meeting.{Met, HasMark, MeetsAll}
-use Rattle.rbg_search.specs.internal.Start.{IsPositionOf}
+use Rattle.rbg_search.specs.Start.{IsPositionOf}
 use Rattle.rbg_search.specs.internal.Part.{IsOutcome, SomeLeadsToEnd, IsPart, HasMarksOf}
 use Rattle.rbg_search.specs.declared.outcome.Outcome.TheVariants.{Invalid, Modifies, LeadsTo}
 use Rattle.rbg_search.proofs.Closures.{found_next, next_found, may_end_flat, flat_may_end}

@@ -6,7 +6,7 @@ use Rattle.rbg_rules.specs.Positions.{HasAction, IsNumbered, positions_of, Level
 use Rattle.rbg_rules.specs.Words.{WordOf, Start, beginning, after, Follows}
 use Rattle.rbg_rules.proofs.PositionLemmas.{Among, Among_right, has_position}
 use Rattle.rbg_rules.proofs.PatternLemmas.{own_stands, stands_inside, word_own}
-use Rattle.rbg_search.specs.internal.Start.{IsPositionOf}
+use Rattle.rbg_search.specs.Start.{IsPositionOf}
 
 -- An action of a level stands in the rules.
 pub level_stands : (rules : Expression) (level : Level) (x : Expression) → IsLevel rules level x → (p : ℕ) (a : AbstractAction) → HasAction x p a → HasAction rules p a

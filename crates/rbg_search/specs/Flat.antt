@@ -1,5 +1,5 @@
 -- The flat part of an opening: what is reached from a semi-state without a modifier.
-use Rattle.std.specs.Prelude.{◌≡◌, ◌≢◌, ℕ, ◌↔◌, List, [], ◌∷◌, ◌++◌, Contains, AllPairs, Bool, Decides}
+use Rattle.std.specs.Prelude.{◌≡◌, ◌≢◌, ℕ, ◌<◌, ◌⊎◌, ◌↔◌, List, [], ◌∷◌, ◌++◌, Contains, AllPairs, Bool, Decides}
 use Rattle.rbg_rules.specs.Positions.{IsModifierAt, HasNoModifier}
 use Rattle.rbg_rules.specs.Words.{Start, Follows, Ends}
 use Rattle.rbg_rules.specs.State.{AbstractGame, AbstractState}
@@ -35,3 +35,7 @@ pub record IsFlatPart
     pub next : (v p : ℕ) → Contains found (v, p) ↔ IsNext game s f v p
     pub different : AllPairs (λ a b. a ≢ b) found
     pub may_end : Decides ends (MayEnd game s f)
+
+-- The first pair stands before the other: by its vertex, then by its position.
+abbrev pub IsBefore : ℕ × ℕ → ℕ × ℕ → Type 0
+IsBefore a b = (a.0 < b.0) ⊎ ((a.0 ≡ b.0) × (a.1 < b.1))

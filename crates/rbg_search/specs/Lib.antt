@@ -1,3 +1,7 @@
 -- What the contracts of this crate cite beside the meaning of a game.
 pub mod Flat
+pub mod Start
+pub mod Searching
+pub mod Counting
+pub mod Passing
 pub mod internal

@@ -1,6 +1,6 @@
 //! One flat part: the pairs that are reached without a modifier, the modifiers found among them, and whether a word may
 //! end.
-ghost use Rattle.std.specs.Prelude.{◌≡◌, ℕ, ◌<◌, ◌≤◌, ◌+◌, ◌↔◌, length, take, slice_get, Some, IfOk, IfSome, IfNone, OnOk, IsTrue};
+ghost use Rattle.std.specs.Prelude.{◌≡◌, ℕ, ◌<◌, ◌≤◌, ◌+◌, ◌↔◌, [], ◌∷◌, ◌++◌, length, take, slice_get, Contains, Some, IfOk, IfSome, IfNone, OnOk, IsTrue};
 ghost use Rattle.rbg_rules.specs.State.{AbstractState, IsStateOf};
 ghost use Rattle.rbg_rules.specs.Positions.{IsModifierAt, IsPatternAt};
 ghost use Rattle.rbg_rules.specs.Words.{Start};
@@ -8,7 +8,7 @@ ghost use Rattle.rbg_rules.specs.Games.{IsGame};
 ghost use Rattle.rbg_search.specs.internal.Shown.{shows_modifier};
 ghost use Rattle.rbg_search.specs.Flat.{IsFlatPart};
 ghost use Rattle.rbg_search.specs.internal.Part.{IsOutcome, IsPart, HasMarksOf};
-ghost use Rattle.rbg_search.specs.internal.Start.{start_of, IsPositionOf};
+ghost use Rattle.rbg_search.specs.Start.{start_of, IsPositionOf};
 
 use crate::game_steps::GameSteps;
 use crate::origin::Origin;
@@ -22,19 +22,19 @@ use std::alloc::Global;
 
 /// A flat part that is being found.
 #[derive(Debug, Drop)]
-pub struct Flat {
+pub(crate) struct Flat {
     queue: Queue,
     /// How many of the queue's pairs were taken.
-    taken: usize,
+    pub(crate) taken: usize,
     /// The modifiers among them that are valid.
-    found: Vec<(Vertex, Position)>,
+    pub(crate) found: Vec<(Vertex, Position)>,
     /// Whether a word may end with no modifier more.
-    ends: bool,
+    pub(crate) ends: bool,
 }
 
 impl Flat {
     /// A flat part of a game, not begun.
-    pub fn new(alloc: Global, game: &Game) -> Result<Flat, Memory>
+    pub(crate) fn new(alloc: Global, game: &Game) -> Result<Flat, Memory>
         ensures { IfOk result (λ flat. HasMarksOf game.now flat.queue) }
     {
         Ok(Flat {
@@ -45,22 +45,8 @@ impl Flat {
         })
     }
 
-    /// The valid modifiers that were found, each with the vertex where it is valid.
-    pub fn found(&self) -> &[(Vertex, Position)]
-        ensures { result.now ≡ self.now.found.items }
-    {
-        &self.found
-    }
-
-    /// Whether a word may end with no modifier more.
-    pub fn ends(&self) -> bool
-        ensures { result ≡ self.now.ends }
-    {
-        self.ends
-    }
-
     /// Begins anew, at a vertex: meets the positions that may come first.
-    pub fn begin<S: Steps>(
+    pub(crate) fn begin<S: Steps>(
         &mut self,
         rules: &GameSteps<'_, S>,
         origin: Origin,
@@ -84,7 +70,7 @@ impl Flat {
     }
 
     /// Takes the next pair, of which this became.
-    pub fn take<S: Steps>(
+    pub(crate) fn take<S: Steps>(
         &mut self,
         rules: &GameSteps<'_, S>,
         outcome: Outcome,
@@ -101,6 +87,10 @@ impl Flat {
             → IsPart rules.now s f self.new.queue.pairs (take self.new.taken self.new.queue.pairs)
             self.new.found.items self.new.ends) }
         ensures taken { OnOk result (self.new.taken ≡ self.old.taken + 1) }
+        ensures done { OnOk result ((v q : ℕ)
+            → slice_get self.old.queue.pairs self.old.taken ≡ Some (v, q)
+            → take self.new.taken self.new.queue.pairs
+            ≡ take self.old.taken self.old.queue.pairs ++ (v, q) ∷ []) }
         ensures within { OnOk result (self.new.taken ≤ length self.new.queue.pairs) }
     {
         let (vertex, position) = self.queue.pair(self.taken);
@@ -118,7 +108,7 @@ impl Flat {
     }
 
     /// Takes pairs up to the next one at a pattern, and returns that; none where each pair was taken.
-    pub fn advance<S: Steps>(
+    pub(crate) fn advance<S: Steps>(
         &mut self,
         rules: &GameSteps<'_, S>,
         state: &mut SemiState,
@@ -137,10 +127,15 @@ impl Flat {
             self.new.found.items self.new.ends) }
         ensures within { OnOk result (self.new.taken ≤ length self.new.queue.pairs) }
         ensures further { OnOk result (self.old.taken ≤ self.new.taken) }
+        ensures still_done { OnOk result ((x : ℕ × ℕ)
+            → Contains (take self.old.taken self.old.queue.pairs) x
+            → Contains (take self.new.taken self.new.queue.pairs) x) }
         ensures asked { IfOk result (λ next. IfSome next (λ pair.
             (slice_get self.new.queue.pairs self.new.taken ≡ Some pair)
             × (pair.0 < length rules.now.board.first)
             × IsPatternAt rules.now.rules pair.1)) }
+        ensures fresh { IfOk result (λ next. IfSome next (λ pair.
+            ¬ Contains (take self.new.taken self.new.queue.pairs) pair)) }
         ensures done { IfOk result (λ next. IfNone next (self.new.taken ≡ length self.new.queue.pairs)) }
         ensures whole { IfOk result (λ next. IfNone next ((f : Start)
             → IsPart rules.now state.old.state f self.old.queue.pairs (take self.old.taken self.old.queue.pairs)

@@ -1,19 +1,21 @@
 //! A game and the steps of its rules.
-ghost use Rattle.std.specs.Prelude.{◌≡◌, [], All, IsTrue, ◌↔◌};
+ghost use Rattle.std.specs.Prelude.{◌≡◌, ◌≤◌, [], All, IsTrue, ◌↔◌};
 ghost use Rattle.rbg_rules.specs.Games.{IsGame};
-ghost use Rattle.rbg_rules.specs.Words.{Ends};
+ghost use Rattle.rbg_rules.specs.Words.{Start, Ends};
+ghost use Rattle.rbg_search.specs.internal.Nesting.{NestsFrom};
 ghost use Rattle.rbg_auto.specs.Steps.{AreAllThatFollow};
-ghost use Rattle.rbg_search.specs.internal.Start.{start_of, IsPositionOf};
+ghost use Rattle.rbg_search.specs.Start.{start_of, IsPositionOf};
 
 use crate::origin::Origin;
 use rbg_auto::Steps;
 use rbg_base::Position;
 use rbg_rules::Game;
+use rbg_rules::limits::MAX_NESTED_PATTERNS;
 use std::marker::Model;
 
 /// A game and the steps of its rules.
 #[derive(Drop)]
-pub struct GameSteps<'a, S: Steps> {
+pub(crate) struct GameSteps<'a, S: Steps> {
     game: &'a Game,
     steps: &'a S,
 }
@@ -36,7 +38,7 @@ impl<'a, S: Steps> Model for GameSteps<'a, S> {
 
 impl<'a, S: Steps> GameSteps<'a, S> {
     /// The steps are those of the game's rules.
-    pub fn new(game: &'a Game, steps: &'a S) -> GameSteps<'a, S>
+    pub(crate) fn new(game: &'a Game, steps: &'a S) -> GameSteps<'a, S>
         requires steps { S.of_rules steps.now game.now.rules }
         requires lawful { IsGame game.now }
         ensures { result ≡ game.now }
@@ -44,15 +46,25 @@ impl<'a, S: Steps> GameSteps<'a, S> {
         GameSteps { game, steps }
     }
 
-    pub fn game(&self) -> &'a Game
+    pub(crate) fn game(&self) -> &'a Game
         ensures game { result.now ≡ self.now }
         ensures lawful { IsGame self.now }
     {
         self.game
     }
 
+    /// The most patterns that stand one inside the other.
+    pub(crate) fn nesting(&self) -> u8
+        ensures nests { (f : Start) → NestsFrom self.now.rules result f }
+        ensures small { result ≤ 8 }
+    {
+        // The limit is that of every game.
+        let _game = self.game;
+        MAX_NESTED_PATTERNS as u8
+    }
+
     /// The positions that may come next.
-    pub fn following(&self, origin: Origin) -> &'a [Position]
+    pub(crate) fn following(&self, origin: Origin) -> &'a [Position]
         ensures follow { AreAllThatFollow self.now.rules (start_of origin) result.now }
         ensures within { All (IsPositionOf self.now.rules) result.now }
         ensures lawful { IsGame self.now }
@@ -64,7 +76,7 @@ impl<'a, S: Steps> GameSteps<'a, S> {
     }
 
     /// Whether a word may end where one stands.
-    pub fn may_end(&self, origin: Origin) -> bool
+    pub(crate) fn may_end(&self, origin: Origin) -> bool
         ensures { IsTrue result ↔ Ends self.now.rules (start_of origin) [] }
     {
         match origin {

@@ -1,14 +1,15 @@
-//! What is reached from a semi-state of a game along its rules with no modifier: one flat part of a search.
+//! What is reached from a semi-state of a game along its rules, and whether patterns hold there.
 #![tactic(auto)]
 
 mod flat;
 mod game_steps;
 mod origin;
 mod outcome;
+mod over;
 mod queue;
+mod search;
 
-pub use flat::Flat;
-pub use game_steps::GameSteps;
 pub use origin::Origin;
-pub use outcome::Outcome;
+pub use over::Over;
 pub use rbg_base::Memory;
+pub use search::{Budget, Reached, Search};

@@ -4,7 +4,7 @@ use rbg_base::Vertex;
 
 /// What becomes of an action that is tried at a vertex.
 #[derive(Debug, Clone, Copy, PartialEq, Eq, Drop)]
-pub enum Outcome {
+pub(crate) enum Outcome {
     /// It isn't valid.
     Invalid,
     /// It is a valid modifier.

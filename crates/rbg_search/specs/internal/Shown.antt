@@ -1,4 +1,4 @@
--- Which actions of the program are modifiers.
+-- Which actions of the program are modifiers, and which are negative patterns.
 use Rattle.std.specs.Prelude.{Bool, true, false}
 use Rattle.rbg_rules.specs.declared.rule.Action.{Action}
 use Rattle.rbg_rules.specs.declared.rule.Action.TheVariants.{Shift, On, Off, Assign, Compare, Switch, Positive, Negative}
@@ -12,3 +12,13 @@ shows_modifier (On pieces) = false
 shows_modifier (Compare e r f) = false
 shows_modifier Positive = false
 shows_modifier Negative = false
+
+abbrev pub shows_negative : Action → Bool
+shows_negative Negative = true
+shows_negative (Off x) = false
+shows_negative (Assign v e) = false
+shows_negative (Switch n) = false
+shows_negative (Shift d) = false
+shows_negative (On pieces) = false
+shows_negative (Compare e r f) = false
+shows_negative Positive = false

@@ -1,4 +1,6 @@
-use Rattle.std.proofs.Common.{◌≡◌, ℕ, List, take, ◌∙◌, subst, arith}
+use Rattle.std.proofs.Common.{◌≡◌, ℕ, List, [], ◌∷◌, take, sym, ◌∙◌, subst, arith}
+use Rattle.std.specs.Prelude.{Contains}
+use Rattle.std.proofs.lemmas.List.Elements.{Contains-append_left}
 use Rattle.std.proofs.lemmas.List.{take_all}
 use Rattle.rbg_rules.specs.State.{AbstractGame}
 use Rattle.rbg_state.specs.History.{History}
@@ -20,6 +22,9 @@ loop-self-preserved g c =
       part = λ f part. c.in_ok-take.ensures.part c.args.state.now.state f v q c.pair-vertex.ensures.pair outcome (c.loop-self.invariant.part f part);
       within = c.in_ok-take.ensures.within;
       further = omega (arith, c.in_ok-take.ensures.taken, c.loop-self.invariant.further);
+      still_done = λ x h.
+          let one_more = c.in_ok-take.ensures.done v q c.pair-vertex.ensures.pair in
+          subst (λ (ds : List (ℕ × ℕ)). Contains ds x) (sym one_more) (Contains-append_left (take c.loop-self.self.taken c.loop-self.self.queue.pairs) ((v, q) ∷ []) x (c.loop-self.invariant.still_done x h));
     }
 
 pub returns-clause-whole : goal.returns-clause-whole

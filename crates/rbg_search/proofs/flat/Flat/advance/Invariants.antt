@@ -1,5 +1,6 @@
 -- Each pair so far is done, and the semi-state is given back.
-use Rattle.std.proofs.Common.{◌≡◌, ◌≤◌, ◌-◌, ◌^◌, length, take}
+use Rattle.std.proofs.Common.{◌≡◌, ℕ, ◌≤◌, ◌-◌, ◌^◌, length, take}
+use Rattle.std.specs.Prelude.{Contains}
 use Rattle.rbg_rules.specs.Words.{Start}
 use Rattle.rbg_search.specs.internal.Part.{IsPart, HasMarksOf}
 use Rattle.rbg_search.proofs.flat.Flat.advance.Given as goal
@@ -14,6 +15,10 @@ invariant-loop-self g l = record {
       IsPart l.rules l.initial.state.state f l.self.queue.pairs (take l.self.taken l.self.queue.pairs) l.self.found.items l.self.ends;
   within : l.self.taken ≤ length l.self.queue.pairs;
   further : l.initial.self.taken ≤ l.self.taken;
+  still_done :
+      (x : ℕ × ℕ) →
+      Contains (take l.initial.self.taken l.initial.self.queue.pairs) x →
+      Contains (take l.self.taken l.self.queue.pairs) x;
 }
 
 abbrev pub decreases-loop-self : goal.decreases-loop-self

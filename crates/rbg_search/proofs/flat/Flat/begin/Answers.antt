@@ -1,6 +1,6 @@
 use Rattle.std.proofs.Common.{◌≡◌, ℕ, List, [], sym, ap, subst}
 use Rattle.rbg_search.specs.internal.Meeting.{Met, MeetsAll}
-use Rattle.rbg_search.specs.internal.Start.{start_of}
+use Rattle.rbg_search.specs.Start.{start_of}
 use Rattle.rbg_search.proofs.Parts.{begin_part}
 use Rattle.rbg_search.proofs.flat.Flat.begin.Goals as goal
 

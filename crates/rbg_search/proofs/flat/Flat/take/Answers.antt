@@ -46,3 +46,15 @@ returns-in_ok-meet_all-in-LeadsTo-clause-part g c = λ s f v q at outcome part.
     (leads_part c.args.rules.now s f pairs c.meet_all.new.self.pairs done c.args.self.now.found.items c.args.self.now.ends c.may_end.result v q c.in-LeadsTo.to c.following.result.now part there
     (subst (IsOutcome c.args.rules.now s v q) c.in-LeadsTo.is outcome)
     (rw (← position) c.following.ensures.follow) meets (rw (← position) c.may_end.ensures))
+
+pub returns-in-Invalid-clause-done : goal.returns-in-Invalid-clause-done
+returns-in-Invalid-clause-done g c = λ v q at. done_more c.args.self.now.queue.pairs c.args.self.now.taken v q at
+
+pub returns-in_ok-push-in-Modifies-clause-done : goal.returns-in_ok-push-in-Modifies-clause-done
+returns-in_ok-push-in-Modifies-clause-done g c = λ v q at. done_more c.args.self.now.queue.pairs c.args.self.now.taken v q at
+
+pub returns-in_ok-meet_all-in-LeadsTo-clause-done :
+    goal.returns-in_ok-meet_all-in-LeadsTo-clause-done
+returns-in_ok-meet_all-in-LeadsTo-clause-done g c = λ v q at.
+    let meets : MeetsAll c.args.self.now.queue.pairs c.meet_all.new.self.pairs c.in-LeadsTo.to c.following.result.now = c.in_ok-meet_all-in-LeadsTo.ensures.met in
+    done_grown c.args.self.now.queue.pairs c.meet_all.new.self.pairs meets.more c.args.self.now.taken v q at meets.grown

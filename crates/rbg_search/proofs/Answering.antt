@@ -1,0 +1,49 @@
+-- What a pattern's answer is by the words of its inside.
+use Rattle.std.proofs.Common.{◌≡◌, ℕ, Bool, true, false, not, refl, sym}
+use Rattle.std.specs.Prelude.{IsTrue, ◌↔◌}
+use Rattle.rbg_rules.specs.Expression.{AbstractAction, shift, off, switch}
+use Rattle.rbg_rules.specs.Positions.{HasAction, IsNumbered, IsPatternAt, inside, is_pattern}
+use Rattle.rbg_rules.specs.Words.{beginning}
+use Rattle.rbg_rules.specs.State.{AbstractGame, AbstractState}
+use Rattle.rbg_rules.specs.Actions.{Applies}
+use Rattle.rbg_rules.specs.Questions.{SomeWordRuns}
+use Rattle.rbg_rules.specs.Table.{Stands}
+use Rattle.rbg_rules.specs.declared.rule.Action.{Action}
+use Rattle.rbg_rules.specs.declared.rule.Action.TheVariants.{Shift, On, Off, Assign, Compare, Switch, Positive, Negative}
+use Rattle.rbg_rules.proofs.AnswerLemmas.{answer_law}
+use Rattle.rbg_rules.proofs.TableLemmas.{plain_stands}
+use Rattle.rbg_search.specs.internal.Shown.{shows_negative}
+
+false_not_true : false ≡ true → ⊥
+false_not_true e = cc
+
+-- A test of the contrary.
+none_true : (runs : Bool) (S A : Type 0) → IsTrue runs ↔ S → A ↔ (¬ S) → IsTrue (not runs) ↔ A
+none_true true S A decides valid = ((λ e. absurd (false_not_true e)), (λ a. absurd (valid.0 a (decides.0 refl))))
+none_true false S A decides valid = ((λ e. valid.1 (λ s. false_not_true (decides.1 s))), (λ a. refl))
+
+module _ (game : AbstractGame) (numbered : IsNumbered game.rules) (p : ℕ) (pattern : IsPatternAt game.rules p) (s : AbstractState) (runs : Bool) (decides : IsTrue runs ↔ SomeWordRuns game s (beginning (inside p))) where
+  plain : {B : Type 0} (a : AbstractAction) → is_pattern a ≡ false → HasAction game.rules p a → B
+  plain a is stands = absurd (plain_stands game.rules numbered p a is stands pattern)
+
+  pub negative_valid : (i : Action) → Stands game.rules p i → shows_negative i ≡ true → IsTrue (not runs) ↔ Applies game p s s
+  negative_valid Negative (x, stands) e = none_true runs (SomeWordRuns game s (beginning (inside p))) (Applies game p s s) decides ((answer_law game numbered p x s).1 stands)
+  negative_valid Positive stands e = absurd (false_not_true e)
+  negative_valid (Shift d) stands e = absurd (false_not_true e)
+  negative_valid (On pieces) stands e = absurd (false_not_true e)
+  negative_valid (Off x) stands e = absurd (false_not_true e)
+  negative_valid (Assign v x) stands e = absurd (false_not_true e)
+  negative_valid (Compare x r y) stands e = absurd (false_not_true e)
+  negative_valid (Switch n) stands e = absurd (false_not_true e)
+
+  pub positive_valid : (i : Action) → Stands game.rules p i → shows_negative i ≡ false → IsTrue runs ↔ Applies game p s s
+  positive_valid Negative stands e = absurd (false_not_true (sym e))
+  positive_valid Positive (x, stands) e =
+      let law = (answer_law game numbered p x s).0 stands in
+      ((λ is. law.1 (decides.0 is)), (λ applies. decides.1 (law.0 applies)))
+  positive_valid (Shift d) stands e = plain (shift d) refl stands
+  positive_valid (On pieces) stands e = plain _ refl stands
+  positive_valid (Off x) stands e = plain (off x) refl stands
+  positive_valid (Assign v x) stands e = plain _ refl stands
+  positive_valid (Compare x r y) stands e = plain _ refl stands
+  positive_valid (Switch n) stands e = plain (switch n) refl stands

@@ -1,0 +1,129 @@
+-- What is asked of a pattern that was taken, and of a modifier that is applied.
+use Rattle.std.proofs.Common.{◌≡◌, ℕ, suc, ◌+◌, ◌<◌, ◌≤◌, List, take, length, get_or, Bool, true, false, refl, sym, ap, ◌∙◌, subst, inl, inr, arith}
+use Rattle.std.specs.Prelude.{Some, slice_get, All, Contains, IsTrue, ◌↔◌}
+use Rattle.std.proofs.lemmas.List.Elements.{All-contains, All-more, Contains-get_or}
+use Rattle.std.proofs.lemmas.List.{take_all}
+use Rattle.std.proofs.lemmas.Option.{slice_get_within, get_or_from_slice_get}
+use Rattle.rbg_rules.specs.Expression.{positive, negative, Expression}
+use Rattle.rbg_rules.specs.Positions.{IsNumbered, IsModifierAt, IsPatternAt, is_modifier, inside, IsLevel}
+use Rattle.rbg_rules.specs.Words.{Start, beginning, after}
+use Rattle.rbg_rules.specs.Questions.{SomeWordRuns}
+use Rattle.rbg_rules.specs.State.{AbstractGame, AbstractState}
+use Rattle.rbg_rules.specs.Actions.{Applies}
+use Rattle.rbg_rules.proofs.PositionLemmas.{one_stands}
+use Rattle.rbg_rules.proofs.MoveLemmas.{pattern_law}
+use Rattle.rbg_state.specs.History.{History, states_of, capacity_of, IsAfter}
+use Rattle.rbg_state.proofs.Histories.{no_shorter}
+use Rattle.rbg_search.specs.Flat.{IsFlatPart}
+use Rattle.rbg_search.specs.internal.Closure.{at_vertex, Reached}
+use Rattle.rbg_search.specs.internal.Behind.{IsReady, RunsBehindPair, SomeRunsBehind}
+use Rattle.rbg_search.specs.Start.{IsPositionOf}
+use Rattle.rbg_search.specs.internal.Part.{IsPart, IsOutcome}
+use Rattle.rbg_search.specs.internal.Nesting.{NestsFrom}
+use Rattle.rbg_search.specs.declared.outcome.Outcome.TheVariants.{Invalid, LeadsTo}
+use Rattle.rbg_search.proofs.Closures.{by_words}
+use Rattle.rbg_search.proofs.Starts.{action_position}
+use Rattle.rbg_search.proofs.Nesting.{nests_inside}
+use Rattle.rbg_search.proofs.Behinds.{runs_at_end, runs_behind, only_behind}
+
+true_not_false : true ≡ false → ⊥
+true_not_false e = cc
+
+-- No modifier stands where a pattern does.
+pub no_modifier : (rules : Expression) → IsNumbered rules → (p : ℕ) → IsPatternAt rules p → ¬ IsModifierAt rules p
+no_modifier rules numbered p pattern other = by_sign pattern.stands
+  where
+    by_sign : IsLevel rules (inside p) pattern.inside_it → ⊥
+    by_sign (inl has) = true_not_false (sym other.modifies ∙ ap is_modifier (one_stands rules numbered p other.action (positive pattern.inside_it) other.stands has))
+    by_sign (inr has) = true_not_false (sym other.modifies ∙ ap is_modifier (one_stands rules numbered p other.action (negative pattern.inside_it) other.stands has))
+
+pub pattern_position : (rules : Expression) → IsNumbered rules → (p : ℕ) → IsPatternAt rules p → IsPositionOf rules p
+pattern_position rules numbered p pattern = by_sign pattern.stands
+  where
+    by_sign : IsLevel rules (inside p) pattern.inside_it → IsPositionOf rules p
+    by_sign (inl has) = action_position rules numbered p (positive pattern.inside_it) has
+    by_sign (inr has) = action_position rules numbered p (negative pattern.inside_it) has
+
+-- A pattern that is valid leads to its own vertex, and one that is not leads nowhere.
+pub pattern_leads : (game : AbstractGame) → IsNumbered game.rules → (s : AbstractState) (v p : ℕ) → IsPatternAt game.rules p → Applies game p (at_vertex s v) (at_vertex s v) → IsOutcome game s v p (LeadsTo v)
+pattern_leads game numbered s v p pattern applies = (
+  record { quiet = no_modifier game.rules numbered p pattern; applies = applies },
+  (λ w leads. ap (λ (t : AbstractState). t.vertex) (pattern_law game numbered p pattern.inside_it pattern.stands (at_vertex s v) (at_vertex s w) leads.applies)),
+)
+
+pub pattern_fails : (game : AbstractGame) → IsNumbered game.rules → (s : AbstractState) (v p : ℕ) → IsPatternAt game.rules p → ¬ Applies game p (at_vertex s v) (at_vertex s v) → IsOutcome game s v p Invalid
+pattern_fails game numbered s v p pattern fails = λ t applies.
+    fails (subst (λ (u : AbstractState). Applies game p (at_vertex s v) u) (pattern_law game numbered p pattern.inside_it pattern.stands (at_vertex s v) t applies) applies)
+
+-- In a pattern that was met patterns nest one less deep.
+pub asked_nests : (game : AbstractGame) → IsNumbered game.rules → (s : AbstractState) (f : Start) (n : ℕ) → NestsFrom game.rules n f → (pairs done found : List (ℕ × ℕ)) (ends : Bool) → IsPart game s f pairs done found ends → (k v p : ℕ) → slice_get pairs k ≡ Some (v, p) → IsPatternAt game.rules p → (less : ℕ) × (n ≡ suc less) × NestsFrom game.rules less (beginning (inside p))
+asked_nests game numbered s f n nests pairs done found ends part k v p at pattern =
+    let under = slice_get_within pairs k (v, p) at in
+    let there : Contains pairs (v, p) = (k, under, get_or_from_slice_get pairs k (v, p) (v, p) at) in
+    let reached : Reached game s f v p = All-contains (λ q. Reached game s f q.0 q.1) pairs (v, p) part.sound there in
+    let words = by_words game numbered s f v p reached in
+    nests_inside game.rules numbered n f nests words.before p words.follows pattern.inside_it pattern.stands
+
+pub some_nested : (rules : Expression) (n p : ℕ) → ((less : ℕ) × (n ≡ suc less) × NestsFrom rules less (beginning (inside p))) → (0 < n) × ((k : ℕ) → n ≡ suc k → NestsFrom rules k (beginning (inside p)))
+some_nested rules n p (less, is, nests) = (omega (arith, is), (λ k is'. subst (λ (i : ℕ). NestsFrom rules i (beginning (inside p))) (suc_same less k (sym is ∙ is')) nests))
+  where
+    suc_same : (i j : ℕ) → suc i ≡ suc j → i ≡ j
+    suc_same i j e = omega (arith, e)
+
+-- Room for more changes changes nothing of what came before.
+pub after_room : (h k l : History) → IsAfter h k → l ≡ record k { room = l.room } → IsAfter h l
+after_room h k l comes is = record { states = ap (λ (x : History). take (length h.past + 1) (states_of x)) is ∙ comes.states }
+
+-- What is given back in two steps has as much room as before.
+pub given_room : (h k l m : History) → capacity_of k ≡ capacity_of h → l ≡ record k { room = l.room } → k.room ≤ l.room → capacity_of m ≡ capacity_of l → m ≡ record h { room = m.room } → h.room ≤ m.room
+given_room h k l m first is more last back =
+    let past : length l.past ≡ length k.past = ap (λ (x : History). length x.past) is in
+    let past' : length m.past ≡ length h.past = ap (λ (x : History). length x.past) back in
+    omega (arith, first, more, last, past, past')
+
+-- Two changes of room are one.
+pub room_twice : (h k l : History) → k ≡ record h { room = k.room } → l ≡ record k { room = l.room } → l ≡ record h { room = l.room }
+room_twice h k l first second = second ∙ ap (λ (x : History). let y : History = record x { room = l.room } in y) first
+
+-- What is undone to a mark is given back, but for the room.
+pub back : (h k l m : History) (mark : ℕ) → mark ≡ length h.past → IsAfter h k → l ≡ record k { room = l.room } → ((marked : History) → mark ≡ length marked.past → IsAfter marked l → m ≡ record marked { room = m.room }) → m ≡ record h { room = m.room }
+back h k l m mark is comes kept given = given h is (after_room h k l comes kept)
+
+pub mark_within : (h k l : History) (mark : ℕ) → mark ≡ length h.past → IsAfter h k → l ≡ record k { room = l.room } → mark ≤ length l.past
+mark_within h k l mark is comes kept =
+    let shorter = no_shorter h l (after_room h k l comes kept) in
+    omega (arith, is, shorter)
+
+-- Behind one pair some word runs exactly where one runs from where it leads.
+pub runs_one : (game : AbstractGame) (s t : AbstractState) (limit v p : ℕ) (runs : Bool) → IsReady game s limit (v, p) → ((u : AbstractState) → Applies game p (at_vertex s v) u → u ≡ t) → IsTrue runs ↔ SomeWordRuns game t (after p) → IsTrue runs ↔ RunsBehindPair game s v p
+runs_one game s t limit v p runs is only decides = (
+  (λ yes. record { later = t; applies = subst (λ (u : AbstractState). Applies game p (at_vertex s v) u) (only is.later is.applies) is.applies; runs = decides.0 yes }),
+  (λ behind. decides.1 (subst (λ (u : AbstractState). SomeWordRuns game u (after p)) (only behind.later behind.applies) behind.runs)),
+)
+
+-- Behind the pairs so far none runs, and behind one more.
+pub none_more : (game : AbstractGame) (s : AbstractState) (pairs : List (ℕ × ℕ)) (k : ℕ) (d : ℕ × ℕ) (runs : Bool) → k < length pairs → All (λ q. ¬ RunsBehindPair game s q.0 q.1) (take k pairs) → IsTrue runs ↔ RunsBehindPair game s (get_or pairs k d).0 (get_or pairs k d).1 → runs ≡ false → All (λ q. ¬ RunsBehindPair game s q.0 q.1) (take (k + 1) pairs)
+none_more game s pairs k d runs under none decides is =
+    All-more (λ q. ¬ RunsBehindPair game s q.0 q.1) pairs k d under none (λ behind. true_not_false (sym (decides.1 behind) ∙ is))
+
+pub some_behind : (game : AbstractGame) (s : AbstractState) (pairs : List (ℕ × ℕ)) (k : ℕ) (d : ℕ × ℕ) (runs : Bool) → k < length pairs → IsTrue runs ↔ RunsBehindPair game s (get_or pairs k d).0 (get_or pairs k d).1 → runs ≡ true → IsTrue true ↔ SomeRunsBehind game s pairs
+some_behind game s pairs k d runs under decides is = (
+  (λ _. record { vertex = (get_or pairs k d).0; position = (get_or pairs k d).1; there = Contains-get_or pairs k d under; behind = decides.0 is }),
+  (λ _. refl),
+)
+
+pub none_behind : (game : AbstractGame) (s : AbstractState) (pairs : List (ℕ × ℕ)) (k : ℕ) → length pairs ≤ k → All (λ q. ¬ RunsBehindPair game s q.0 q.1) (take k pairs) → IsTrue false ↔ SomeRunsBehind game s pairs
+none_behind game s pairs k over none = (
+  (λ e. absurd (true_not_false (sym e))),
+  (λ some. absurd (All-contains (λ q. ¬ RunsBehindPair game s q.0 q.1) pairs (some.vertex, some.position) (subst (All (λ q. ¬ RunsBehindPair game s q.0 q.1)) (take_all k pairs over) none) some.there some.behind)),
+)
+
+-- Some word runs: in the flat part, or behind its modifiers.
+pub runs_here : (game : AbstractGame) → IsNumbered game.rules → (s : AbstractState) (f : Start) (found : List (ℕ × ℕ)) (ends : Bool) → IsFlatPart game s f found ends → ends ≡ true → IsTrue true ↔ SomeWordRuns game s f
+runs_here game numbered s f found ends part is = ((λ _. runs_at_end game numbered s f found ends part is), (λ _. refl))
+
+pub runs_there : (game : AbstractGame) → IsNumbered game.rules → (s : AbstractState) (f : Start) (found : List (ℕ × ℕ)) (ends runs : Bool) → IsFlatPart game s f found ends → ends ≡ false → IsTrue runs ↔ SomeRunsBehind game s found → IsTrue runs ↔ SomeWordRuns game s f
+runs_there game numbered s f found ends runs part not_here decides = (
+  (λ yes. runs_behind game numbered s f found ends part (decides.0 yes)),
+  (λ some. decides.1 (only_behind game numbered s f found ends part not_here some)),
+)

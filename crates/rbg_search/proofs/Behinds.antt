@@ -1,0 +1,73 @@
+-- What a flat part says of words, with what runs behind its modifiers.
+use Rattle.std.proofs.Common.{◌≡◌, ℕ, ◌<◌, ◌⊎◌, List, length, Bool, true, false, sym, ap, ◌∙◌, subst, inl, inr}
+use Rattle.std.specs.Prelude.{All, Contains}
+use Rattle.std.proofs.lemmas.List.Elements.{All-weaker, All-contains_itself}
+use Rattle.rbg_rules.specs.Positions.{IsNumbered}
+use Rattle.rbg_rules.specs.Words.{Start}
+use Rattle.rbg_rules.specs.State.{AbstractGame, AbstractState, IsStateOf}
+use Rattle.rbg_rules.specs.Actions.{rest, step, Applies, Run}
+use Rattle.rbg_rules.specs.Questions.{SomeWordRuns}
+use Rattle.rbg_rules.specs.Games.{IsGame}
+use Rattle.rbg_rules.proofs.StateLemmas.{state_law}
+use Rattle.rbg_search.specs.Flat.{IsNext, IsFlatPart}
+use Rattle.rbg_search.specs.internal.Closure.{at_vertex, EndsFlat, RunsBehind}
+use Rattle.rbg_search.specs.internal.Nesting.{NestsFrom}
+use Rattle.rbg_search.specs.internal.Behind.{IsReady, SomeRunsBehind}
+use Rattle.rbg_search.proofs.Closures.{next_found, found_next, some_word_runs, end_runs, behind_runs, may_end_flat, flat_may_end, ends_at}
+use Rattle.rbg_search.proofs.Starts.{action_position}
+use Rattle.rbg_search.proofs.Nesting.{nests_onward}
+
+-- A run stays in the game.
+run_stays : (game : AbstractGame) → IsGame game → {w : List ℕ} {s t : AbstractState} → Run game w s t → IsStateOf game s → IsStateOf game t
+run_stays game lawful rest fits = fits
+run_stays game lawful (step {p = p} {s = s} {middle = middle} applied run) fits = run_stays game lawful run ((state_law game lawful).1 p s middle fits applied)
+
+-- The modifiers of a flat part are ready to be applied.
+ready : (game : AbstractGame) → IsGame game → (s : AbstractState) → IsStateOf game s → (f : Start) (limit : ℕ) → NestsFrom game.rules limit f → (v p : ℕ) → IsNext game s f v p → IsReady game s limit (v, p)
+ready game lawful s fits f limit nests v p next =
+    let there = run_stays game lawful next.runs fits in
+    let here : next.here ≡ at_vertex s v = ends_at game lawful.numbered s next.here next.before next.no_modifier next.runs ∙ ap (λ (x : ℕ). at_vertex s x) next.vertex in
+    let under : v < length s.pieces = subst (λ (t : AbstractState). t.vertex < length t.pieces) here there.vertex in
+    record {
+      later = next.later;
+      vertex = under;
+      position = action_position game.rules lawful.numbered p next.modifies.action next.modifies.stands;
+      modifies = next.modifies;
+      applies = subst (λ (t : AbstractState). Applies game p t next.later) here next.applies;
+      nests = nests_onward game.rules lawful.numbered limit f nests next.before p next.follows;
+    }
+
+pub all_ready : (game : AbstractGame) → IsGame game → (s : AbstractState) → IsStateOf game s → (f : Start) (limit : ℕ) → NestsFrom game.rules limit f → (found : List (ℕ × ℕ)) (ends : Bool) → IsFlatPart game s f found ends → All (IsReady game s limit) found
+all_ready game lawful s fits f limit nests found ends part =
+    All-weaker (Contains found) (IsReady game s limit)
+    (λ q h. ready game lawful s fits f limit nests q.0 q.1 ((part.next q.0 q.1).0 h)) found (All-contains_itself found)
+
+-- Some word runs where the flat part may end.
+pub runs_at_end : (game : AbstractGame) → IsNumbered game.rules → (s : AbstractState) (f : Start) (found : List (ℕ × ℕ)) (ends : Bool) → IsFlatPart game s f found ends → ends ≡ true → SomeWordRuns game s f
+runs_at_end game numbered s f found ends part is = end_runs game numbered s f (may_end_flat game numbered s f (part.may_end.0 is))
+
+-- Elsewhere some word runs exactly where one runs behind one of the modifiers.
+pub runs_behind : (game : AbstractGame) → IsNumbered game.rules → (s : AbstractState) (f : Start) (found : List (ℕ × ℕ)) (ends : Bool) → IsFlatPart game s f found ends → SomeRunsBehind game s found → SomeWordRuns game s f
+runs_behind game numbered s f found ends part some =
+    let is = next_found game numbered s f some.vertex some.position ((part.next some.vertex some.position).0 some.there) in
+    behind_runs game numbered s f (record {
+      vertex = some.vertex;
+      position = some.position;
+      found = record { later = some.behind.later; reached = is.reached; modifies = is.modifies; applies = some.behind.applies };
+      runs = some.behind.runs;
+    })
+
+pub only_behind : (game : AbstractGame) → IsNumbered game.rules → (s : AbstractState) (f : Start) (found : List (ℕ × ℕ)) (ends : Bool) → IsFlatPart game s f found ends → ends ≡ false → SomeWordRuns game s f → SomeRunsBehind game s found
+only_behind game numbered s f found ends part not_here some = by_place (some_word_runs game numbered s f some)
+  where
+    true_not_false : true ≡ false → ⊥
+    true_not_false e = cc
+
+    by_place : EndsFlat game s f ⊎ RunsBehind game s f → SomeRunsBehind game s found
+    by_place (inl end) = absurd (true_not_false (sym (part.may_end.1 (flat_may_end game numbered s f end)) ∙ not_here))
+    by_place (inr behind) = record {
+      vertex = behind.vertex;
+      position = behind.position;
+      there = (part.next behind.vertex behind.position).1 (found_next game numbered s f behind.vertex behind.position behind.found);
+      behind = record { later = behind.found.later; applies = behind.found.applies; runs = behind.runs };
+    }

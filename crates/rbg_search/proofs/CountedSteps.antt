@@ -1,0 +1,156 @@
+-- Each step of a search that asks, by what it began with.
+use Rattle.std.proofs.Common.{◌≡◌, ◌≢◌, ℕ, suc, ◌+◌, ◌-◌, ◌<◌, ◌≤◌, List, [], ◌∷◌, ◌++◌, length, get_or, take, Bool, false, sym, ap, ◌∙◌, subst, arith}
+use Rattle.std.specs.Prelude.{All, Contains, Some, slice_get, Result, Ok, Err, IsErrAnd}
+use Rattle.std.proofs.lemmas.List.{get_or_default}
+use Rattle.std.proofs.lemmas.List.Elements.{All-contains}
+use Rattle.std.proofs.lemmas.Option.{slice_get_within, get_or_from_slice_get}
+use Rattle.rbg_rules.specs.Positions.{IsPatternAt, inside}
+use Rattle.rbg_rules.specs.Words.{Start, beginning, after}
+use Rattle.rbg_rules.specs.State.{AbstractGame, AbstractState}
+use Rattle.rbg_rules.specs.Actions.{Applies}
+use Rattle.rbg_rules.specs.Games.{IsGame}
+use Rattle.rbg_rules.specs.Questions.{Question, reach, pattern, IsDeep}
+use Rattle.rbg_state.specs.History.{History}
+use Rattle.rbg_search.specs.Flat.{IsFlatPart}
+use Rattle.rbg_search.specs.Searching.{Searching}
+use Rattle.rbg_search.specs.Counting.{CountsOpenings, IsOverBudget}
+use Rattle.rbg_search.specs.Passing.{CountsUpTo, IsTooDeep, from_here, somewhere}
+use Rattle.rbg_search.specs.internal.Begun.{IsBegun}
+use Rattle.rbg_search.specs.internal.Closure.{at_vertex, Reached}
+use Rattle.rbg_search.specs.internal.Asked.{StandsInPattern, CountsAsked, GoesBehind, IsCounted}
+use Rattle.rbg_search.specs.declared.flat.Flat.{Flat}
+use Rattle.rbg_search.specs.declared.over.Over.{Over}
+use Rattle.rbg_search.specs.declared.over.Over.TheVariants.{Memory}
+use Rattle.rbg_search.proofs.CallerLemmas.{pattern_begins}
+use Rattle.rbg_search.proofs.Openings.{reach_opens}
+use Rattle.rbg_search.proofs.Counts.{begin_joined, has_counted}
+use Rattle.rbg_search.proofs.Countings.{asked_more, asked_weaker}
+use Rattle.rbg_search.proofs.Counted.{same_error, counted_only, asked_counted, found_behind, found_inside, behind_more, behind_counted, behind_deep, search_before, onward_search}
+
+-- ---- which error is handed on
+
+pub returned_is : {X : Type 0} (r : Result X Over) (e e' : Over) → IsErrAnd r (λ y. y ≡ e) → r ≡ Err e' → e ≡ e'
+returned_is (Ok x) e e' is back = absurd is
+returned_is (Err y) e e' is back = sym is ∙ same_error y e' back
+
+-- The callee gave up for the same reason.
+pub given_up : {X Y : Type 0} (callee : Result X Over) (r : Result Y Over) (e e' : Over) → callee ≡ Err e → IsErrAnd r (λ y. y ≡ e) → r ≡ Err e' → callee ≡ Err e'
+given_up callee r e e' was is back = was ∙ ap (λ (x : Over). let q = Err x in q) (returned_is r e e' is back)
+
+-- Memory was refused, so it is nothing else.
+pub not_memory : {X : Type 0} (r : Result X Over) (e e' : Over) → IsErrAnd r (λ y. y ≡ e) → e ≡ Memory → Memory ≢ e' → ¬ (r ≡ Err e')
+not_memory r e e' is memory other back = other (sym memory ∙ returned_is r e e' is back)
+
+-- ---- a flat part
+
+pub taken_reached : (game : AbstractGame) (s : AbstractState) (f : Start) (flat : Flat) (v p : ℕ) → IsBegun game s f flat → slice_get flat.queue.pairs flat.taken ≡ Some (v, p) → Reached game s f v p
+taken_reached game s f flat v p begun at =
+    let pairs = flat.queue.pairs in
+    let there : Contains pairs (v, p) = (flat.taken, slice_get_within pairs flat.taken (v, p) at, get_or_from_slice_get pairs flat.taken (v, p) (v, p) at) in
+    All-contains (λ q. Reached game s f q.0 q.1) pairs (v, p) begun.part.sound there
+
+-- A pattern was asked in a flat part.
+pub record AskStep (h : Searching) (s : AbstractState) (f : Start) (done : List (ℕ × ℕ)) (a b : ℕ) (D W : Type 0) : Type 0 where
+  pub counts : CountsAsked h.game s f done a b
+  pub gave_up : IsCounted h.game reach s f a b h.modifiers h.openings h.modifiers D W
+
+pub ask_step : (h k : Searching) (s l u : History) (f : Start) (flat flat' : Flat) (v p a b : ℕ) (D W : Type 0) → k ≡ record h { opened = k.opened } → l ≡ record s { room = l.room } → u ≡ record s { room = u.room } → IsGame h.game → IsBegun k.game l.state f flat' → slice_get flat'.queue.pairs flat'.taken ≡ Some (v, p) → IsPatternAt k.game.rules p → ((x : ℕ × ℕ) → Contains (take flat.taken flat.queue.pairs) x → Contains (take flat'.taken flat'.queue.pairs) x) → ¬ Contains (take flat'.taken flat'.queue.pairs) (v, p) → CountsAsked h.game s.state f (take flat.taken flat.queue.pairs) a k.opened → IsCounted k.game pattern (at_vertex u.state v) (beginning (inside p)) k.opened b k.modifiers k.openings k.modifiers D W → AskStep h s.state f (take flat'.taken flat'.queue.pairs ++ (v, p) ∷ []) a b D W
+ask_step h k s l u f flat flat' v p a b D W kept given given' lawful begun at is still fresh counts asked =
+    let done : List (ℕ × ℕ) = take flat'.taken flat'.queue.pairs in
+    let here : IsBegun h.game s.state f flat' = search_before (λ y w. IsBegun y.game w f flat') h k s l kept given begun in
+    let met : Reached h.game s.state f v p = taken_reached h.game s.state f flat' v p here at in
+    let is_here : IsPatternAt h.game.rules p = search_before (λ y w. IsPatternAt y.game.rules p) h k s l kept given is in
+    let so_far : CountsAsked h.game s.state f done a k.opened = asked_weaker h.game s.state f (take flat.taken flat.queue.pairs) done a k.opened still counts in
+    let asked_here : IsCounted h.game pattern (at_vertex s.state v) (beginning (inside p)) k.opened b h.modifiers h.openings h.modifiers D W =
+    search_before (λ y w. IsCounted y.game pattern (at_vertex w v) (beginning (inside p)) k.opened b y.modifiers y.openings y.modifiers D W) h k s u kept given' asked in
+    record {
+      counts = asked_more h.game lawful.numbered s.state f v p met is_here done a k.opened b so_far fresh asked_here.counted;
+      gave_up = asked_counted h.game lawful.numbered s.state f v p met is_here done fresh a k.opened b h.modifiers h.openings D W so_far asked_here;
+    }
+
+-- The whole number of modifiers in a row is left, so an opening has it.
+pub deep_is : (game : AbstractGame) (question : Question) (s : AbstractState) (f : Start) (most : ℕ) → IsTooDeep game question s f most most → IsDeep game question s f most
+deep_is game question s f most (from_here has) = record { before = []; row = has.row; later = has.later; opened = has.opened; count = has.count }
+deep_is game question s f most (somewhere deep) = deep
+
+-- ---- a pattern's question
+
+deep_all : (game : AbstractGame) (s : AbstractState) (f : Start) (most : ℕ) → IsTooDeep game reach s f most most → IsDeep game pattern s f most
+deep_all game s f most (from_here has) = record { before = []; row = has.row; later = has.later; opened = reach_opens game pattern s f (pattern_begins game s f) _ has.opened; count = has.count }
+deep_all game s f most (somewhere deep) = record { before = deep.before; row = deep.row; later = deep.later; opened = reach_opens game pattern s f (pattern_begins game s f) _ deep.opened; count = deep.count }
+
+-- What the flat part counts is counted by the question.
+pub asks_reached : (game : AbstractGame) (s : AbstractState) (f : Start) (a b left most openings : ℕ) (D W : Type 0) → IsCounted game reach s f a b most openings most D W → IsCounted game pattern s f a b left openings most D W
+asks_reached game s f a b left most openings D W counts = record {
+  counted = asks_counted counts.counted;
+  deep = λ d. somewhere (deep_all game s f most (counts.deep d));
+  wide = λ w. asks_wide (counts.wide w);
+}
+  where
+    asks_counted : CountsOpenings game reach s f a b → CountsOpenings game pattern s f a b
+    asks_counted has =
+        let joined = begin_joined game pattern s f a has.added (pattern_begins game s f) has.openings in
+        record { added = length joined.openings; sum = has.sum ∙ joined.sum; openings = has_counted game pattern s f [] a (a + has.added) joined }
+
+    asks_wide : IsOverBudget game reach s f a openings → IsOverBudget game pattern s f a openings
+    asks_wide over =
+        let joined = begin_joined game pattern s f a over.added (pattern_begins game s f) over.openings in
+        record { added = length joined.openings; more = omega (arith, over.more, joined.sum); openings = has_counted game pattern s f [] a (a + over.added) joined }
+
+-- The same, where nothing was given up for what was found.
+pub asks_only : (game : AbstractGame) (s : AbstractState) (f : Start) (a b b' left most openings : ℕ) (D W D' W' : Type 0) → b' ≡ b → IsCounted game reach s f a b most openings most D W → ¬ D' → ¬ W' → IsCounted game pattern s f a b' left openings most D' W'
+asks_only game s f a b b' left most openings D W D' W' same counts deep wide =
+    counted_only game pattern s f a b' left openings most D' W'
+    (subst (λ (x : ℕ). CountsOpenings game pattern s f a x) (sym same) (asks_reached game s f a b left most openings D W counts).counted) deep wide
+
+-- The search went on behind the modifiers that were found.
+pub behind_step : (h k : Searching) (s l : History) (f : Start) (pairs pairs' : List (ℕ × ℕ)) (ends : Bool) (b left : ℕ) (D W : Type 0) → k ≡ record h { opened = k.opened } → l ≡ record s { room = l.room } → pairs' ≡ pairs → IsGame h.game → StandsInPattern h.game.rules f → IsFlatPart h.game s.state f pairs ends → ends ≡ false → CountsOpenings h.game reach s.state f h.opened k.opened → ((e : Start) (a : ℕ) → GoesBehind k.game l.state e pairs' → CountsOpenings k.game reach l.state e a k.opened → IsCounted k.game pattern l.state e a b left k.openings k.modifiers D W) → IsCounted h.game pattern s.state f h.opened b left h.openings h.modifiers D W
+behind_step h k s l f pairs pairs' ends b left D W kept given same lawful in_one part not_here counts behind =
+    let goes : GoesBehind h.game s.state f pairs' = subst (λ (ps : List (ℕ × ℕ)). GoesBehind h.game s.state f ps) (sym same) (found_behind h.game lawful s.state f pairs ends in_one part not_here) in
+    search_before (λ y w. IsCounted y.game pattern w f h.opened b left y.openings y.modifiers D W) h k s l kept given
+    (behind f h.opened
+    (onward_search (λ y w. GoesBehind y.game w f pairs') h k s l kept given goes)
+    (onward_search (λ y w. CountsOpenings y.game reach w f h.opened k.opened) h k s l kept given counts))
+
+pub inside_pairs : (h k : Searching) (s l : History) (f : Start) (pairs pairs' : List (ℕ × ℕ)) (ends : Bool) → k ≡ record h { opened = k.opened } → l ≡ record s { room = l.room } → pairs' ≡ pairs → IsGame h.game → StandsInPattern h.game.rules f → IsFlatPart h.game s.state f pairs ends → All (λ q. StandsInPattern k.game.rules (after q.1)) pairs'
+inside_pairs h k s l f pairs pairs' ends kept given same lawful in_one part =
+    subst (λ (ps : List (ℕ × ℕ)). All (λ q. StandsInPattern k.game.rules (after q.1)) ps) (sym same)
+    (onward_search (λ y w. All (λ q. StandsInPattern y.game.rules (after q.1)) pairs) h k s l kept given (found_inside h.game lawful.numbered s.state f pairs ends in_one part))
+
+-- ---- behind the modifiers of a flat part
+
+pub record BehindStep (h : Searching) (s : AbstractState) (f : Start) (done : List (ℕ × ℕ)) (a b left : ℕ) (D W : Type 0) : Type 0 where
+  pub counts : CountsUpTo h.game pattern s f done a b
+  pub gave_up : IsCounted h.game pattern s f a b left h.openings h.modifiers D W
+
+less_one : (n : ℕ) → 0 < n → n ≡ suc (n - 1)
+less_one n some = omega (arith, some)
+
+-- The question was asked behind one more of the pairs.
+pub one_behind : (h k : Searching) (s l : History) (f : Start) (pairs : List (ℕ × ℕ)) (i : ℕ) (d : ℕ × ℕ) (a b left : ℕ) (later : AbstractState) (D W : Type 0) → k ≡ record h { opened = k.opened } → l ≡ record s { room = l.room } → GoesBehind h.game s.state f pairs → i < length pairs → Applies h.game (get_or pairs i d).1 (at_vertex s.state (get_or pairs i d).0) later → 0 < left → CountsUpTo h.game pattern s.state f (take i pairs) a k.opened → ((t : AbstractState) (n : ℕ) → Applies k.game (get_or pairs i d).1 (at_vertex l.state (get_or pairs i d).0) t → left ≡ suc n → IsCounted k.game pattern t (after (get_or pairs i d).1) k.opened b n k.openings k.modifiers D W) → BehindStep h s.state f (take (i + 1) pairs) a b left D W
+one_behind h k s l f pairs i d a b left later D W kept given goes under applies some counts behind =
+    let x : ℕ × ℕ = get_or pairs i d in
+    let there : get_or pairs i x ≡ x = get_or_default pairs i x d under in
+    let applies' : Applies k.game x.1 (at_vertex l.state x.0) later = onward_search (λ y w. Applies y.game x.1 (at_vertex w x.0) later) h k s l kept given applies in
+    let asked : IsCounted h.game pattern later (after x.1) k.opened b (left - 1) h.openings h.modifiers D W =
+    search_before (λ y w. IsCounted y.game pattern later (after x.1) k.opened b (left - 1) y.openings y.modifiers D W) h k s l kept given (behind later (left - 1) applies' (less_one left some)) in
+    let gave_up : IsCounted h.game pattern s.state f a b (suc (left - 1)) h.openings h.modifiers D W = behind_counted h.game s.state later f pairs goes i x.0 x.1 under there applies a k.opened b (left - 1) h.openings h.modifiers D W counts asked in
+    record {
+      counts = behind_more h.game s.state later f pairs goes i x.0 x.1 under there applies a k.opened b counts asked.counted;
+      gave_up = subst (λ (n : ℕ). IsCounted h.game pattern s.state f a b n h.openings h.modifiers D W) (sym (less_one left some)) gave_up;
+    }
+
+-- One more of the pairs would be too many.
+pub one_too_many : (h : Searching) (s : AbstractState) (f : Start) (pairs : List (ℕ × ℕ)) (i : ℕ) (d : ℕ × ℕ) (a b left : ℕ) (later : AbstractState) (D W : Type 0) → GoesBehind h.game s f pairs → i < length pairs → Applies h.game (get_or pairs i d).1 (at_vertex s (get_or pairs i d).0) later → left ≤ 1 → CountsUpTo h.game pattern s f (take i pairs) a b → ¬ W → IsCounted h.game pattern s f a b left h.openings h.modifiers D W
+one_too_many h s f pairs i d a b left later D W goes under applies few counts wide =
+    let x : ℕ × ℕ = get_or pairs i d in
+    behind_deep h.game s later f pairs goes i x.0 x.1 under (get_or_default pairs i x d under) applies (take i pairs) a b left h.openings h.modifiers D W few counts wide
+
+-- ---- the question behind one modifier, and that of one pattern
+
+pub counted_there : (h : Searching) (later t : AbstractState) (f : Start) (a b n n' : ℕ) (D W D' W' : Type 0) → later ≡ t → n ≡ n' → (D' → D) → (W' → W) → IsCounted h.game pattern t f a b n h.openings h.modifiers D W → IsCounted h.game pattern later f a b n' h.openings h.modifiers D' W'
+counted_there h later t f a b n n' D W D' W' same left deep wide counts =
+    let here : IsCounted h.game pattern later f a b n' h.openings h.modifiers D W =
+    subst (λ (u : AbstractState). IsCounted h.game pattern u f a b n' h.openings h.modifiers D W) (sym same)
+    (subst (λ (m : ℕ). IsCounted h.game pattern t f a b m h.openings h.modifiers D W) left counts) in
+    record { counted = here.counted; deep = λ d. here.deep (deep d); wide = λ w. here.wide (wide w) }

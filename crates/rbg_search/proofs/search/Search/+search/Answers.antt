@@ -1,0 +1,557 @@
+use Rattle.std.proofs.Common.{rules, ◌≡◌, ℕ, ◌^◌, ◌<◌, ◌≤◌, List, length, get_or, take, Bool, sym, ap, ◌∙◌, subst, arith, [], ◌∷◌, ◌++◌, ◌-◌, refl, ◌+◌, false, true}
+use Rattle.std.specs.Prelude.{IsTrue, ◌↔◌, All, Some, slice_get, Contains}
+use Rattle.rbg_rules.specs.Positions.{inside, IsPatternAt}
+use Rattle.rbg_rules.specs.Words.{Start, beginning, after}
+use Rattle.rbg_rules.specs.State.{AbstractState, IsStateOf}
+use Rattle.rbg_rules.specs.Actions.{Applies}
+use Rattle.rbg_rules.specs.Questions.{SomeWordRuns, reach, pattern}
+use Rattle.rbg_rules.specs.Games.{IsGame}
+use Rattle.rbg_state.specs.History.{History}
+use Rattle.rbg_search.specs.Flat.{IsFlatPart}
+use Rattle.rbg_search.specs.Start.{start_of}
+use Rattle.rbg_search.specs.internal.Begun.{IsBegun}
+use Rattle.rbg_search.specs.internal.Behind.{IsReady, RunsBehindPair, SomeRunsBehind}
+use Rattle.rbg_search.specs.internal.Closure.{at_vertex}
+use Rattle.rbg_search.specs.internal.Nesting.{NestsFrom}
+use Rattle.rbg_search.specs.internal.Part.{HasMarksOf}
+use Rattle.rbg_search.proofs.Asking.{back, mark_within, given_room, room_twice, asked_nests, some_nested, runs_one, none_more, some_behind, none_behind, runs_here, runs_there}
+use Rattle.rbg_search.proofs.Behinds.{all_ready}
+use Rattle.rbg_search.proofs.Kept.{kept_same, kept_twice, back_same, onward, before, onward_rules, rules_before, further_on}
+use Rattle.rbg_search.specs.Counting.{CountsOpenings}
+use Rattle.rbg_search.specs.internal.Asked.{StandsInPattern, CountsAsked}
+use Rattle.rbg_search.specs.declared.over.Over.TheVariants.{Deep, Wide, Memory}
+use Rattle.rbg_search.proofs.Patterns.{pattern_inside, inside_start}
+use Rattle.rbg_search.proofs.Countings.{asked_begin, reach_pairs}
+use Rattle.rbg_search.proofs.Counted.{memory_not_deep, memory_not_wide, deep_not_wide, ok_not_err, same_error, counted_as, counted_only, opened_one, asked_only, behind_begin, behind_only}
+use Rattle.rbg_search.proofs.CountedSteps.{given_up, not_memory, ask_step, asks_reached, asks_only, behind_step, inside_pairs, one_behind, one_too_many, counted_there}
+use Rattle.rbg_search.specs.Searching.{Searching}
+use Rattle.rbg_search.proofs.search.Search.+search.Goals as goal
+
+pub ask-undo_to-requires : goal.ask-undo_to-requires
+ask-undo_to-requires g t c = mark_within c.args.state.now c.stand_at.new.self c.word_runs-runs.new.state c.mark-mark.result c.mark-mark.ensures c.stand_at.ensures.after c.word_runs-runs.ensures.given_back
+
+pub ask-returns-in_err-runs-clause-given_back : goal.ask-returns-in_err-runs-clause-given_back
+ask-returns-in_err-runs-clause-given_back g t c =
+    back c.args.state.now c.stand_at.new.self c.word_runs-runs.new.state c.undo_to.new.self c.mark-mark.result c.mark-mark.ensures c.stand_at.ensures.after c.word_runs-runs.ensures.given_back c.undo_to.ensures.given_back
+
+pub ask-returns-in_err-runs-clause-room : goal.ask-returns-in_err-runs-clause-room
+ask-returns-in_err-runs-clause-room g t c =
+    given_room c.args.state.now c.stand_at.new.self c.word_runs-runs.new.state c.undo_to.new.self c.stand_at.ensures.capacity c.word_runs-runs.ensures.given_back c.word_runs-runs.ensures.room c.undo_to.ensures.capacity
+    (back c.args.state.now c.stand_at.new.self c.word_runs-runs.new.state c.undo_to.new.self c.mark-mark.result c.mark-mark.ensures c.stand_at.ensures.after c.word_runs-runs.ensures.given_back c.undo_to.ensures.given_back)
+
+pub ask-is_valid-requires : goal.ask-is_valid-requires
+ask-is_valid-requires g t c = record {
+  there = onward_rules (λ x. IsPatternAt x.rules c.args.position) c.args.self.now c.word_runs-runs.new.self c.word_runs-runs.ensures.kept c.requires.there;
+}
+
+pub ask-returns-clause-given_back : goal.ask-returns-clause-given_back
+ask-returns-clause-given_back g t c =
+    back c.args.state.now c.stand_at.new.self c.word_runs-runs.new.state c.undo_to.new.self c.mark-mark.result c.mark-mark.ensures c.stand_at.ensures.after c.word_runs-runs.ensures.given_back c.undo_to.ensures.given_back
+
+pub ask-returns-clause-room : goal.ask-returns-clause-room
+ask-returns-clause-room g t c =
+    given_room c.args.state.now c.stand_at.new.self c.word_runs-runs.new.state c.undo_to.new.self c.stand_at.ensures.capacity c.word_runs-runs.ensures.given_back c.word_runs-runs.ensures.room c.undo_to.ensures.capacity
+    (back c.args.state.now c.stand_at.new.self c.word_runs-runs.new.state c.undo_to.new.self c.mark-mark.result c.mark-mark.ensures c.stand_at.ensures.after c.word_runs-runs.ensures.given_back c.undo_to.ensures.given_back)
+
+pub ask-returns-clause-valid : goal.ask-returns-clause-valid
+ask-returns-clause-valid g t c =
+    let here : AbstractState = at_vertex c.args.state.now.state c.args.vertex in
+    let moved : c.stand_at.new.self.state ≡ here = ap (λ (h : History). h.state) c.stand_at.ensures.moved in
+    let decides : IsTrue c.in_ok-runs.field-0 ↔ SomeWordRuns c.word_runs-runs.new.self.game here (beginning (inside c.args.position)) =
+    onward_rules (λ x. IsTrue c.in_ok-runs.field-0 ↔ SomeWordRuns x here (beginning (inside c.args.position))) c.args.self.now c.word_runs-runs.new.self c.word_runs-runs.ensures.kept
+    (subst (λ (s : AbstractState). IsTrue c.in_ok-runs.field-0 ↔ SomeWordRuns c.args.self.now.game s (beginning (inside c.args.position))) moved c.in_ok-runs.ensures.answer) in
+    rules_before (λ x. IsTrue c.is_valid.result ↔ Applies x c.args.position here here) c.args.self.now c.word_runs-runs.new.self c.word_runs-runs.ensures.kept (c.is_valid.ensures here decides)
+
+pub flat_part-begun-requires : goal.flat_part-begun-requires
+flat_part-begun-requires g t c =
+    let fits : IsStateOf c.enter.new.self.game c.enter.new.state.state = onward IsStateOf c.args.self.now c.enter.new.self c.args.state.now c.enter.new.state c.enter.ensures.kept c.enter.ensures.given_back c.requires.fits in
+    let under : c.enter.new.state.state.vertex < length c.enter.new.state.state.pieces = fits.vertex in
+    let size : length c.enter.new.state.state.pieces ≡ length c.enter.new.self.game.board.first = fits.vertices in
+    omega (arith, under, size, c.vertex.ensures)
+
+pub flat_part-loop-flat-init : goal.flat_part-loop-flat-init
+flat_part-loop-flat-init g t c =
+    let here : c.args.state.now.state.vertex ≡ c.vertex.result = sym (c.vertex.ensures ∙ ap (λ (h : History). h.state.vertex) c.enter.ensures.given_back) in
+    record {
+      kept = kept_twice c.args.self.now c.enter.new.self c.begun.new.self c.enter.ensures.kept (kept_same c.enter.new.self c.begun.new.self c.begun.ensures.kept);
+      given_back = c.enter.ensures.given_back;
+      room = c.enter.ensures.room;
+      enough = c.in_ok-enter.ensures.enough;
+      begun =
+          rules_before (λ x. IsBegun x c.args.state.now.state (start_of c.args.origin) c.in_ok-flat.flat) c.args.self.now c.enter.new.self c.enter.ensures.kept
+          (c.in_ok-flat.ensures.begun c.args.state.now.state here);
+      lawful = rules_before IsGame c.args.self.now c.enter.new.self c.enter.ensures.kept c.in_ok-flat.ensures.lawful;
+      counted =
+          asked_begin c.args.self.now.game c.enter.ensures.lawful c.args.state.now.state (start_of c.args.origin) c.requires.start (take c.in_ok-flat.flat.taken c.in_ok-flat.flat.queue.pairs) c.args.self.now.opened c.begun.new.self.opened
+          (ap (λ (x : Searching). x.opened) c.begun.ensures.kept ∙ c.in_ok-enter.ensures.opened);
+    }
+
+pub flat_part-advance-requires-clause-fits : goal.flat_part-advance-requires-clause-fits
+flat_part-advance-requires-clause-fits g t c =
+    onward IsStateOf c.args.self.now c.loop-flat.self c.args.state.now c.loop-flat.state c.loop-flat.invariant.kept c.loop-flat.invariant.given_back c.requires.fits
+
+pub flat_part-advance-requires-clause-room : goal.flat_part-advance-requires-clause-room
+flat_part-advance-requires-clause-room g t c = c.loop-flat.invariant.enough
+
+pub flat_part-advance-requires-clause-marks : goal.flat_part-advance-requires-clause-marks
+flat_part-advance-requires-clause-marks g t c =
+    onward_rules (λ x. HasMarksOf x c.loop-flat.flat.queue) c.args.self.now c.loop-flat.self c.loop-flat.invariant.kept c.loop-flat.invariant.begun.marks
+
+pub flat_part-advance-requires-clause-within : goal.flat_part-advance-requires-clause-within
+flat_part-advance-requires-clause-within g t c = c.loop-flat.invariant.begun.within
+
+pub flat_part-returns-in_err-vertex-clause-given_back : goal.flat_part-returns-in_err-vertex-clause-given_back
+flat_part-returns-in_err-vertex-clause-given_back g t c =
+    room_twice c.args.state.now c.loop-flat.state c.advance.new.state c.loop-flat.invariant.given_back (back_same c.loop-flat.state c.advance.new.state c.advance.ensures.given_back)
+
+pub flat_part-returns-in_err-vertex-clause-room : goal.flat_part-returns-in_err-vertex-clause-room
+flat_part-returns-in_err-vertex-clause-room g t c =
+    let same : c.advance.new.state.room ≡ c.loop-flat.state.room = ap (λ (h : History). h.room) c.advance.ensures.given_back in
+    omega (arith, same, c.loop-flat.invariant.room)
+
+pub flat_part-ask-requires : goal.flat_part-ask-requires
+flat_part-ask-requires g t c κs within =
+    let given : c.advance.new.state ≡ (record c.args.state.now { room = c.advance.new.state.room }) = room_twice c.args.state.now c.loop-flat.state c.advance.new.state c.loop-flat.invariant.given_back (back_same c.loop-flat.state c.advance.new.state c.advance.ensures.given_back) in
+    let fits : IsStateOf c.loop-flat.self.game c.advance.new.state.state = onward IsStateOf c.args.self.now c.loop-flat.self c.args.state.now c.advance.new.state c.loop-flat.invariant.kept given c.requires.fits in
+    let asked : (slice_get c.advance.new.flat.queue.pairs c.advance.new.flat.taken ≡ Some (c.in-Some.vertex, c.in-Some.position)) × (c.in-Some.vertex < length c.loop-flat.self.game.board.first) × IsPatternAt c.loop-flat.self.game.rules c.in-Some.position = search rules in
+    let lawful : IsGame c.loop-flat.self.game = onward_rules IsGame c.args.self.now c.loop-flat.self c.loop-flat.invariant.kept c.loop-flat.invariant.lawful in
+    let nests : NestsFrom c.loop-flat.self.game.rules c.args.nested (start_of c.args.origin) = onward_rules (λ x. NestsFrom x.rules c.args.nested (start_of c.args.origin)) c.args.self.now c.loop-flat.self c.loop-flat.invariant.kept c.requires.nested in
+    let begun : IsBegun c.loop-flat.self.game c.loop-flat.state.state (start_of c.args.origin) c.advance.new.flat = c.in_ok-vertex.ensures.begun (start_of c.args.origin)
+    (onward (λ x s. IsBegun x s (start_of c.args.origin) c.loop-flat.flat) c.args.self.now c.loop-flat.self c.args.state.now c.loop-flat.state c.loop-flat.invariant.kept c.loop-flat.invariant.given_back c.loop-flat.invariant.begun) in
+    let inner = asked_nests c.loop-flat.self.game lawful.numbered c.loop-flat.state.state (start_of c.args.origin) c.args.nested nests c.advance.new.flat.queue.pairs (take c.advance.new.flat.taken c.advance.new.flat.queue.pairs) c.advance.new.flat.found.items c.advance.new.flat.ends begun.part c.advance.new.flat.taken c.in-Some.vertex c.in-Some.position asked.0 asked.2 in
+    let need = some_nested c.loop-flat.self.game.rules c.args.nested c.in-Some.position inner in
+    let room : 1 ≤ c.advance.new.state.room = (let same : c.advance.new.state.room ≡ c.loop-flat.state.room = ap (λ (h : History). h.room) c.advance.ensures.given_back in omega (arith, same, c.loop-flat.invariant.enough)) in
+    let size : length c.advance.new.state.state.pieces ≡ length c.loop-flat.self.game.board.first = fits.vertices in
+    let under : c.in-Some.vertex < length c.advance.new.state.state.pieces = omega (arith, size, asked.1) in
+    (search rules, (within, (fits, (room, (under, (asked.2, need))))))
+
+pub flat_part-returns-in_err-valid-clause-kept : goal.flat_part-returns-in_err-valid-clause-kept
+flat_part-returns-in_err-valid-clause-kept g t c = kept_twice c.args.self.now c.loop-flat.self c.ask.new.self c.loop-flat.invariant.kept c.ask.ensures.kept
+
+pub flat_part-returns-in_err-valid-clause-given_back : goal.flat_part-returns-in_err-valid-clause-given_back
+flat_part-returns-in_err-valid-clause-given_back g t c =
+    room_twice c.args.state.now c.advance.new.state c.ask.new.state
+    (room_twice c.args.state.now c.loop-flat.state c.advance.new.state c.loop-flat.invariant.given_back (back_same c.loop-flat.state c.advance.new.state c.advance.ensures.given_back))
+    c.ask.ensures.given_back
+
+pub flat_part-returns-in_err-valid-clause-room : goal.flat_part-returns-in_err-valid-clause-room
+flat_part-returns-in_err-valid-clause-room g t c =
+    let same : c.advance.new.state.room ≡ c.loop-flat.state.room = ap (λ (h : History). h.room) c.advance.ensures.given_back in
+    omega (arith, same, c.loop-flat.invariant.room, c.ask.ensures.room)
+
+pub flat_part-take-requires-clause-marks : goal.flat_part-take-requires-clause-marks
+flat_part-take-requires-clause-marks g t c = onward_rules (λ x. HasMarksOf x c.advance.new.flat.queue) c.loop-flat.self c.ask.new.self c.ask.ensures.kept c.advance.ensures.marks
+
+pub flat_part-take-requires-clause-vertex : goal.flat_part-take-requires-clause-vertex
+flat_part-take-requires-clause-vertex g t c =
+    let asked : (slice_get c.advance.new.flat.queue.pairs c.advance.new.flat.taken ≡ Some (c.in-Some.vertex, c.in-Some.position)) × (c.in-Some.vertex < length c.loop-flat.self.game.board.first) × IsPatternAt c.loop-flat.self.game.rules c.in-Some.position = search rules in
+    onward_rules (λ x. c.in-Some.vertex < length x.board.first) c.loop-flat.self c.ask.new.self c.ask.ensures.kept asked.1
+
+pub flat_part-take-requires-clause-there : goal.flat_part-take-requires-clause-there
+flat_part-take-requires-clause-there g t c =
+    let asked : (slice_get c.advance.new.flat.queue.pairs c.advance.new.flat.taken ≡ Some (c.in-Some.vertex, c.in-Some.position)) × (c.in-Some.vertex < length c.loop-flat.self.game.board.first) × IsPatternAt c.loop-flat.self.game.rules c.in-Some.position = search rules in
+    onward_rules (λ x. IsPatternAt x.rules c.in-Some.position) c.loop-flat.self c.ask.new.self c.ask.ensures.kept asked.2
+
+pub flat_part-loop-flat-preserved : goal.flat_part-loop-flat-preserved
+flat_part-loop-flat-preserved g t c =
+    let f : Start = start_of c.args.origin in
+    let v : ℕ = c.in-Some.vertex in
+    let same : c.advance.new.state.room ≡ c.loop-flat.state.room = ap (λ (h : History). h.room) c.advance.ensures.given_back in
+    let given : c.advance.new.state ≡ (record c.args.state.now { room = c.advance.new.state.room }) = room_twice c.args.state.now c.loop-flat.state c.advance.new.state c.loop-flat.invariant.given_back (back_same c.loop-flat.state c.advance.new.state c.advance.ensures.given_back) in
+    let kept : c.ask.new.self ≡ (record c.args.self.now { opened = c.ask.new.self.opened }) = kept_twice c.args.self.now c.loop-flat.self c.ask.new.self c.loop-flat.invariant.kept c.ask.ensures.kept in
+    let there : AbstractState = at_vertex c.advance.new.state.state v in
+    let decides : IsTrue c.in_ok-valid.valid ↔ Applies c.ask.new.self.game c.in-Some.position there there = onward_rules (λ x. IsTrue c.in_ok-valid.valid ↔ Applies x c.in-Some.position there there) c.loop-flat.self c.ask.new.self c.ask.ensures.kept c.in_ok-valid.ensures.valid in
+    let begun : IsBegun c.loop-flat.self.game c.loop-flat.state.state f c.advance.new.flat = c.in_ok-vertex.ensures.begun f
+    (onward (λ x s. IsBegun x s f c.loop-flat.flat) c.args.self.now c.loop-flat.self c.args.state.now c.loop-flat.state c.loop-flat.invariant.kept c.loop-flat.invariant.given_back c.loop-flat.invariant.begun) in
+    let asked : IsBegun c.ask.new.self.game c.advance.new.state.state f c.advance.new.flat =
+    onward (λ x s. IsBegun x s f c.advance.new.flat) c.loop-flat.self c.ask.new.self c.loop-flat.state c.advance.new.state c.ask.ensures.kept (back_same c.loop-flat.state c.advance.new.state c.advance.ensures.given_back) begun in
+    record {
+      kept = kept;
+      given_back = room_twice c.args.state.now c.advance.new.state c.ask.new.state given c.ask.ensures.given_back;
+      room = omega (arith, same, c.loop-flat.invariant.room, c.ask.ensures.room);
+      enough = omega (arith, same, c.loop-flat.invariant.enough, c.ask.ensures.room);
+      begun =
+          before (λ x s. IsBegun x s f c.take.new.flat) c.args.self.now c.ask.new.self c.args.state.now c.advance.new.state kept given
+          (c.in_ok-take.ensures.begun c.advance.new.state.state f decides asked);
+      lawful = c.loop-flat.invariant.lawful;
+      counted =
+          let pair : (slice_get c.advance.new.flat.queue.pairs c.advance.new.flat.taken ≡ Some (c.in-Some.vertex, c.in-Some.position)) × (c.in-Some.vertex < length c.loop-flat.self.game.board.first) × IsPatternAt c.loop-flat.self.game.rules c.in-Some.position = search rules in
+          let fresh : ¬ Contains (take c.advance.new.flat.taken c.advance.new.flat.queue.pairs) (c.in-Some.vertex, c.in-Some.position) = search rules in
+          subst (λ (ds : List (ℕ × ℕ)). CountsAsked c.args.self.now.game c.args.state.now.state f ds c.args.self.now.opened c.ask.new.self.opened) (sym c.in_ok-take.ensures.done)
+          (ask_step c.args.self.now c.loop-flat.self c.args.state.now c.loop-flat.state c.advance.new.state f c.loop-flat.flat c.advance.new.flat c.in-Some.vertex c.in-Some.position c.args.self.now.opened c.ask.new.self.opened _ _ c.loop-flat.invariant.kept c.loop-flat.invariant.given_back given c.loop-flat.invariant.lawful begun pair.0 pair.2 c.in_ok-vertex.ensures.still_done fresh c.loop-flat.invariant.counted c.ask.ensures.counts).counts;
+    }
+
+pub flat_part-returns-in_err-take-clause-kept : goal.flat_part-returns-in_err-take-clause-kept
+flat_part-returns-in_err-take-clause-kept g t c = kept_twice c.args.self.now c.loop-flat.self c.ask.new.self c.loop-flat.invariant.kept c.ask.ensures.kept
+
+pub flat_part-returns-in_err-take-clause-given_back : goal.flat_part-returns-in_err-take-clause-given_back
+flat_part-returns-in_err-take-clause-given_back g t c =
+    room_twice c.args.state.now c.advance.new.state c.ask.new.state
+    (room_twice c.args.state.now c.loop-flat.state c.advance.new.state c.loop-flat.invariant.given_back (back_same c.loop-flat.state c.advance.new.state c.advance.ensures.given_back))
+    c.ask.ensures.given_back
+
+pub flat_part-returns-in_err-take-clause-room : goal.flat_part-returns-in_err-take-clause-room
+flat_part-returns-in_err-take-clause-room g t c =
+    let same : c.advance.new.state.room ≡ c.loop-flat.state.room = ap (λ (h : History). h.room) c.advance.ensures.given_back in
+    omega (arith, same, c.loop-flat.invariant.room, c.ask.ensures.room)
+
+pub flat_part-finish-requires : goal.flat_part-finish-requires
+flat_part-finish-requires g t c = c.advance.ensures.marks
+
+pub flat_part-returns-in_err-reached-clause-kept : goal.flat_part-returns-in_err-reached-clause-kept
+flat_part-returns-in_err-reached-clause-kept g t c =
+    kept_twice c.args.self.now c.loop-flat.self c.finish.new.self c.loop-flat.invariant.kept (kept_same c.loop-flat.self c.finish.new.self c.finish.ensures.kept)
+
+pub flat_part-returns-in_err-reached-clause-given_back : goal.flat_part-returns-in_err-reached-clause-given_back
+flat_part-returns-in_err-reached-clause-given_back g t c =
+    room_twice c.args.state.now c.loop-flat.state c.advance.new.state c.loop-flat.invariant.given_back (back_same c.loop-flat.state c.advance.new.state c.advance.ensures.given_back)
+
+pub flat_part-returns-in_err-reached-clause-room : goal.flat_part-returns-in_err-reached-clause-room
+flat_part-returns-in_err-reached-clause-room g t c =
+    let same : c.advance.new.state.room ≡ c.loop-flat.state.room = ap (λ (h : History). h.room) c.advance.ensures.given_back in
+    omega (arith, same, c.loop-flat.invariant.room)
+
+pub flat_part-returns-clause-kept : goal.flat_part-returns-clause-kept
+flat_part-returns-clause-kept g t c =
+    kept_twice c.args.self.now c.loop-flat.self c.finish.new.self c.loop-flat.invariant.kept (kept_same c.loop-flat.self c.finish.new.self c.finish.ensures.kept)
+
+pub flat_part-returns-clause-given_back : goal.flat_part-returns-clause-given_back
+flat_part-returns-clause-given_back g t c =
+    room_twice c.args.state.now c.loop-flat.state c.advance.new.state c.loop-flat.invariant.given_back (back_same c.loop-flat.state c.advance.new.state c.advance.ensures.given_back)
+
+pub flat_part-returns-clause-room : goal.flat_part-returns-clause-room
+flat_part-returns-clause-room g t c =
+    let same : c.advance.new.state.room ≡ c.loop-flat.state.room = ap (λ (h : History). h.room) c.advance.ensures.given_back in
+    omega (arith, same, c.loop-flat.invariant.room)
+
+pub flat_part-returns-clause-enough : goal.flat_part-returns-clause-enough
+flat_part-returns-clause-enough g t c =
+    let same : c.advance.new.state.room ≡ c.loop-flat.state.room = ap (λ (h : History). h.room) c.advance.ensures.given_back in
+    omega (arith, same, c.loop-flat.invariant.enough)
+
+pub flat_part-returns-clause-reached : goal.flat_part-returns-clause-reached
+flat_part-returns-clause-reached g t c =
+    let f : Start = start_of c.args.origin in
+    let whole : (e : Start) → IsBegun c.loop-flat.self.game c.loop-flat.state.state e c.loop-flat.flat → IsFlatPart c.loop-flat.self.game c.loop-flat.state.state e c.advance.new.flat.found.items c.advance.new.flat.ends = search rules in
+    let begun : IsBegun c.loop-flat.self.game c.loop-flat.state.state f c.loop-flat.flat = onward (λ x s. IsBegun x s f c.loop-flat.flat) c.args.self.now c.loop-flat.self c.args.state.now c.loop-flat.state c.loop-flat.invariant.kept c.loop-flat.invariant.given_back c.loop-flat.invariant.begun in
+    let part : IsFlatPart c.args.self.now.game c.args.state.now.state f c.advance.new.flat.found.items c.advance.new.flat.ends =
+    before (λ x s. IsFlatPart x s f c.advance.new.flat.found.items c.advance.new.flat.ends) c.args.self.now c.loop-flat.self c.args.state.now c.loop-flat.state c.loop-flat.invariant.kept c.loop-flat.invariant.given_back (whole f begun) in
+    subst (λ (ps : List (ℕ × ℕ)). IsFlatPart c.args.self.now.game c.args.state.now.state f ps c.in_ok-reached.reached.ends) (sym c.in_ok-reached.ensures.pairs)
+    (subst (λ (e : Bool). IsFlatPart c.args.self.now.game c.args.state.now.state f c.advance.new.flat.found.items e) (sym c.in_ok-reached.ensures.ends) part)
+
+pub flat_part-returns-clause-ready : goal.flat_part-returns-clause-ready
+flat_part-returns-clause-ready g t c =
+    let f : Start = start_of c.args.origin in
+    let whole : (e : Start) → IsBegun c.loop-flat.self.game c.loop-flat.state.state e c.loop-flat.flat → IsFlatPart c.loop-flat.self.game c.loop-flat.state.state e c.advance.new.flat.found.items c.advance.new.flat.ends = search rules in
+    let begun : IsBegun c.loop-flat.self.game c.loop-flat.state.state f c.loop-flat.flat = onward (λ x s. IsBegun x s f c.loop-flat.flat) c.args.self.now c.loop-flat.self c.args.state.now c.loop-flat.state c.loop-flat.invariant.kept c.loop-flat.invariant.given_back c.loop-flat.invariant.begun in
+    let part : IsFlatPart c.args.self.now.game c.args.state.now.state f c.advance.new.flat.found.items c.advance.new.flat.ends =
+    before (λ x s. IsFlatPart x s f c.advance.new.flat.found.items c.advance.new.flat.ends) c.args.self.now c.loop-flat.self c.args.state.now c.loop-flat.state c.loop-flat.invariant.kept c.loop-flat.invariant.given_back (whole f begun) in
+    subst (λ (ps : List (ℕ × ℕ)). All (IsReady c.args.self.now.game c.args.state.now.state c.args.nested) ps) (sym c.in_ok-reached.ensures.pairs)
+    (all_ready c.args.self.now.game c.loop-flat.invariant.lawful c.args.state.now.state c.requires.fits f c.args.nested c.requires.nested c.advance.new.flat.found.items c.advance.new.flat.ends part)
+
+pub runs_behind-runs_behind_one-requires : goal.runs_behind-runs_behind_one-requires
+runs_behind-runs_behind_one-requires g t c κs within =
+    let fits : IsStateOf c.loop-vertex.self.game c.loop-vertex.state.state = onward IsStateOf c.args.self.now c.loop-vertex.self c.args.state.now c.loop-vertex.state c.loop-vertex.invariant.kept c.loop-vertex.invariant.given_back c.requires.fits in
+    let room : 2 ≤ c.loop-vertex.state.room = omega (arith, c.requires.room, c.loop-vertex.invariant.room) in
+    let ready = onward (λ x s. All (IsReady x s c.args.nested) c.args.pairs.now) c.args.self.now c.loop-vertex.self c.args.state.now c.loop-vertex.state c.loop-vertex.invariant.kept c.loop-vertex.invariant.given_back c.requires.ready in
+    let some : 0 < c.args.modifiers = omega (arith, c.if-modifiers-le1.false) in (
+      search rules,
+      (
+        within,
+        (
+          fits,
+          (
+            room,
+            (
+              ready c.loop-vertex.vertex-index (0, 0) c.loop-vertex-test.true,
+              (onward (λ x s. All (λ q. StandsInPattern x.rules (after q.1)) c.args.pairs.now) c.args.self.now c.loop-vertex.self c.args.state.now c.loop-vertex.state c.loop-vertex.invariant.kept c.loop-vertex.invariant.given_back c.requires.inside c.loop-vertex.vertex-index (0, 0) c.loop-vertex-test.true, some),
+            ),
+          ),
+        ),
+      ),
+    )
+
+pub runs_behind-returns-in_err-runs_behind_one-clause-kept : goal.runs_behind-returns-in_err-runs_behind_one-clause-kept
+runs_behind-returns-in_err-runs_behind_one-clause-kept g t c = kept_twice c.args.self.now c.loop-vertex.self c.runs_behind_one.new.self c.loop-vertex.invariant.kept c.runs_behind_one.ensures.kept
+
+pub runs_behind-returns-in_err-runs_behind_one-clause-given_back : goal.runs_behind-returns-in_err-runs_behind_one-clause-given_back
+runs_behind-returns-in_err-runs_behind_one-clause-given_back g t c = room_twice c.args.state.now c.loop-vertex.state c.runs_behind_one.new.state c.loop-vertex.invariant.given_back c.runs_behind_one.ensures.given_back
+
+pub runs_behind-returns-then-branch-clause-kept : goal.runs_behind-returns-then-branch-clause-kept
+runs_behind-returns-then-branch-clause-kept g t c = kept_twice c.args.self.now c.loop-vertex.self c.runs_behind_one.new.self c.loop-vertex.invariant.kept c.runs_behind_one.ensures.kept
+
+pub runs_behind-returns-then-branch-clause-given_back : goal.runs_behind-returns-then-branch-clause-given_back
+runs_behind-returns-then-branch-clause-given_back g t c = room_twice c.args.state.now c.loop-vertex.state c.runs_behind_one.new.state c.loop-vertex.invariant.given_back c.runs_behind_one.ensures.given_back
+
+pub runs_behind-returns-then-branch-clause-answer : goal.runs_behind-returns-then-branch-clause-answer
+runs_behind-returns-then-branch-clause-answer g t c =
+    let decides = before (λ x s. IsTrue c.in_ok-runs_behind_one.field-0 ↔ RunsBehindPair x s (get_or c.args.pairs.now c.loop-vertex.vertex-index (0, 0)).0 (get_or c.args.pairs.now c.loop-vertex.vertex-index (0, 0)).1) c.args.self.now c.loop-vertex.self c.args.state.now c.loop-vertex.state c.loop-vertex.invariant.kept c.loop-vertex.invariant.given_back c.in_ok-runs_behind_one.ensures.answer in
+    some_behind c.args.self.now.game c.args.state.now.state c.args.pairs.now c.loop-vertex.vertex-index (0, 0) c.in_ok-runs_behind_one.field-0 c.loop-vertex-test.true decides c.if-branch.true
+
+pub runs_behind-loop-vertex-preserved : goal.runs_behind-loop-vertex-preserved
+runs_behind-loop-vertex-preserved g t c =
+    let decides = before (λ x s. IsTrue c.in_ok-runs_behind_one.field-0 ↔ RunsBehindPair x s (get_or c.args.pairs.now c.loop-vertex.vertex-index (0, 0)).0 (get_or c.args.pairs.now c.loop-vertex.vertex-index (0, 0)).1) c.args.self.now c.loop-vertex.self c.args.state.now c.loop-vertex.state c.loop-vertex.invariant.kept c.loop-vertex.invariant.given_back c.in_ok-runs_behind_one.ensures.answer in
+    record {
+      kept = kept_twice c.args.self.now c.loop-vertex.self c.runs_behind_one.new.self c.loop-vertex.invariant.kept c.runs_behind_one.ensures.kept;
+      given_back = room_twice c.args.state.now c.loop-vertex.state c.runs_behind_one.new.state c.loop-vertex.invariant.given_back c.runs_behind_one.ensures.given_back;
+      room = omega (arith, c.loop-vertex.invariant.room, c.runs_behind_one.ensures.room);
+      none = none_more c.args.self.now.game c.args.state.now.state c.args.pairs.now c.loop-vertex.vertex-index (0, 0) c.in_ok-runs_behind_one.field-0 c.loop-vertex-test.true c.loop-vertex.invariant.none decides c.if-branch.false;
+      counted = λ f a goes counts.
+          let ready = c.requires.ready c.loop-vertex.vertex-index (0, 0) c.loop-vertex-test.true in
+          (one_behind c.args.self.now c.loop-vertex.self c.args.state.now c.loop-vertex.state f c.args.pairs.now c.loop-vertex.vertex-index (0, 0) a c.runs_behind_one.new.self.opened c.args.modifiers ready.later _ _ c.loop-vertex.invariant.kept c.loop-vertex.invariant.given_back goes c.loop-vertex-test.true ready.applies (omega (arith, c.if-modifiers-le1.false)) (c.loop-vertex.invariant.counted f a goes counts) c.runs_behind_one.ensures.counts).counts;
+    }
+
+pub runs_behind-returns-clause-answer : goal.runs_behind-returns-clause-answer
+runs_behind-returns-clause-answer g t c =
+    none_behind c.args.self.now.game c.args.state.now.state c.args.pairs.now c.loop-vertex.vertex-index (omega (arith, c.loop-vertex-test.false)) c.loop-vertex.invariant.none
+
+pub runs_behind_one-undo_to-requires : goal.runs_behind_one-undo_to-requires
+runs_behind_one-undo_to-requires g t c =
+    mark_within c.args.state.now c.apply_at.new.state c.word_runs-runs.new.state c.mark-mark.result c.mark-mark.ensures c.apply_at.ensures.after c.word_runs-runs.ensures.given_back
+
+pub runs_behind_one-returns-in_err-runs-clause-given_back : goal.runs_behind_one-returns-in_err-runs-clause-given_back
+runs_behind_one-returns-in_err-runs-clause-given_back g t c =
+    back c.args.state.now c.apply_at.new.state c.word_runs-runs.new.state c.undo_to.new.self c.mark-mark.result c.mark-mark.ensures c.apply_at.ensures.after c.word_runs-runs.ensures.given_back c.undo_to.ensures.given_back
+
+pub runs_behind_one-returns-in_err-runs-clause-room : goal.runs_behind_one-returns-in_err-runs-clause-room
+runs_behind_one-returns-in_err-runs-clause-room g t c =
+    given_room c.args.state.now c.apply_at.new.state c.word_runs-runs.new.state c.undo_to.new.self c.apply_at.ensures.capacity c.word_runs-runs.ensures.given_back c.word_runs-runs.ensures.room c.undo_to.ensures.capacity
+    (back c.args.state.now c.apply_at.new.state c.word_runs-runs.new.state c.undo_to.new.self c.mark-mark.result c.mark-mark.ensures c.apply_at.ensures.after c.word_runs-runs.ensures.given_back c.undo_to.ensures.given_back)
+
+pub runs_behind_one-returns-clause-given_back : goal.runs_behind_one-returns-clause-given_back
+runs_behind_one-returns-clause-given_back g t c =
+    back c.args.state.now c.apply_at.new.state c.word_runs-runs.new.state c.undo_to.new.self c.mark-mark.result c.mark-mark.ensures c.apply_at.ensures.after c.word_runs-runs.ensures.given_back c.undo_to.ensures.given_back
+
+pub runs_behind_one-returns-clause-room : goal.runs_behind_one-returns-clause-room
+runs_behind_one-returns-clause-room g t c =
+    given_room c.args.state.now c.apply_at.new.state c.word_runs-runs.new.state c.undo_to.new.self c.apply_at.ensures.capacity c.word_runs-runs.ensures.given_back c.word_runs-runs.ensures.room c.undo_to.ensures.capacity
+    (back c.args.state.now c.apply_at.new.state c.word_runs-runs.new.state c.undo_to.new.self c.mark-mark.result c.mark-mark.ensures c.apply_at.ensures.after c.word_runs-runs.ensures.given_back c.undo_to.ensures.given_back)
+
+pub runs_behind_one-returns-clause-answer : goal.runs_behind_one-returns-clause-answer
+runs_behind_one-returns-clause-answer g t c =
+    runs_one c.args.self.now.game c.args.state.now.state c.apply_at.new.state.state c.args.nested c.args.vertex c.args.position c.in_ok-runs.field-0 c.requires.ready c.apply_at.ensures.only c.in_ok-runs.ensures.answer
+
+pub word_runs-runs_behind-requires : goal.word_runs-runs_behind-requires
+word_runs-runs_behind-requires g t c κs within =
+    let fits : IsStateOf c.flat_part.new.self.game c.flat_part.new.state.state = onward IsStateOf c.args.self.now c.flat_part.new.self c.args.state.now c.flat_part.new.state c.flat_part.ensures.kept c.flat_part.ensures.given_back c.requires.fits in
+    let ready = onward (λ x s. All (IsReady x s c.args.nested) c.in_ok-reached.reached.pairs.items) c.args.self.now c.flat_part.new.self c.args.state.now c.flat_part.new.state c.flat_part.ensures.kept c.flat_part.ensures.given_back c.in_ok-reached.ensures.ready in (
+      search rules,
+      (
+        within,
+        (
+          fits,
+          (
+            c.in_ok-reached.ensures.enough,
+            (
+              subst (λ (ps : List (ℕ × ℕ)). All (IsReady c.flat_part.new.self.game c.flat_part.new.state.state c.args.nested) ps) (sym c.deref.ensures.value) ready,
+              inside_pairs c.args.self.now c.flat_part.new.self c.args.state.now c.flat_part.new.state (start_of c.args.origin) c.in_ok-reached.reached.pairs.items c.deref.result.now c.in_ok-reached.reached.ends c.flat_part.ensures.kept c.flat_part.ensures.given_back c.deref.ensures.value c.in_ok-reached.ensures.lawful c.requires.inside c.in_ok-reached.ensures.reached,
+            ),
+          ),
+        ),
+      ),
+    )
+
+pub word_runs-returns-clause-answer : goal.word_runs-returns-clause-answer
+word_runs-returns-clause-answer g t c =
+    let decides : IsTrue c.in_ok-runs.runs ↔ SomeRunsBehind c.args.self.now.game c.args.state.now.state c.in_ok-reached.reached.pairs.items =
+    before (λ x s. IsTrue c.in_ok-runs.runs ↔ SomeRunsBehind x s c.in_ok-reached.reached.pairs.items) c.args.self.now c.flat_part.new.self c.args.state.now c.flat_part.new.state c.flat_part.ensures.kept c.flat_part.ensures.given_back
+    (subst (λ (ps : List (ℕ × ℕ)). IsTrue c.in_ok-runs.runs ↔ SomeRunsBehind c.flat_part.new.self.game c.flat_part.new.state.state ps) c.deref.ensures.value c.in_ok-runs.ensures.answer) in
+    runs_there c.args.self.now.game c.in_ok-reached.ensures.lawful.numbered c.args.state.now.state (start_of c.args.origin) c.in_ok-reached.reached.pairs.items c.in_ok-reached.reached.ends c.in_ok-runs.runs c.in_ok-reached.ensures.reached c.if-reached.false decides
+
+pub word_runs-returns-then-reached-clause-answer : goal.word_runs-returns-then-reached-clause-answer
+word_runs-returns-then-reached-clause-answer g t c =
+    runs_here c.args.self.now.game c.in_ok-reached.ensures.lawful.numbered c.args.state.now.state (start_of c.args.origin) c.in_ok-reached.reached.pairs.items c.in_ok-reached.reached.ends c.in_ok-reached.ensures.reached c.if-reached.true
+
+pub flat_part-loop-flat-smaller : goal.flat_part-loop-flat-smaller
+flat_part-loop-flat-smaller g t c =
+    further_on (2 ^ 64) c.loop-flat.flat.taken c.advance.new.flat.taken c.take.new.flat.taken c.in_ok-vertex.ensures.further c.in_ok-take.ensures.taken c.in_ok-take.ensures.small
+
+-- ---- what is counted
+
+pub ask-word_runs-runs-requires : goal.ask-word_runs-runs-requires
+ask-word_runs-runs-requires g t c κs within =
+    let fits : IsStateOf c.args.self.now.game c.stand_at.new.self.state = c.stand_at.ensures.fits c.args.self.now.game c.requires.fits in
+    let nested : NestsFrom c.args.self.now.game.rules (c.args.nested - 1) (beginning (inside c.args.position)) = c.requires.nested (c.args.nested - 1) (omega (arith, c.requires.some)) in
+    (search rules, (within, (fits, (nested, pattern_inside c.args.self.now.game.rules c.args.position c.requires.there))))
+
+pub ask-returns-in_err-runs-clause-counts : goal.ask-returns-in_err-runs-clause-counts
+ask-returns-in_err-runs-clause-counts g t c =
+    counted_there c.args.self.now (at_vertex c.args.state.now.state c.args.vertex) c.stand_at.new.self.state (beginning (inside c.args.position)) c.args.self.now.opened c.word_runs-runs.new.self.opened c.self.inside.budget.modifiers c.args.self.now.modifiers _ _ _ _
+    (sym (ap (λ (h : History). h.state) c.stand_at.ensures.moved)) (ap (λ (x : Searching). x.modifiers) c.self.view_is)
+    (given_up c.word_runs-runs.result c.from_residual.result c.in_err-runs.field-0.0 Deep c.in_err-runs.was c.from_residual.ensures.1)
+    (given_up c.word_runs-runs.result c.from_residual.result c.in_err-runs.field-0.0 Wide c.in_err-runs.was c.from_residual.ensures.1)
+    c.word_runs-runs.ensures.counts
+
+pub ask-returns-clause-counts : goal.ask-returns-clause-counts
+ask-returns-clause-counts g t c =
+    counted_there c.args.self.now (at_vertex c.args.state.now.state c.args.vertex) c.stand_at.new.self.state (beginning (inside c.args.position)) c.args.self.now.opened c.word_runs-runs.new.self.opened c.self.inside.budget.modifiers c.args.self.now.modifiers _ _ _ _
+    (sym (ap (λ (h : History). h.state) c.stand_at.ensures.moved)) (ap (λ (x : Searching). x.modifiers) c.self.view_is)
+    (λ d. absurd (ok_not_err c.is_valid.result Deep d)) (λ w. absurd (ok_not_err c.is_valid.result Wide w))
+    c.word_runs-runs.ensures.counts
+
+pub flat_part-returns-in_err-enter-clause-counts : goal.flat_part-returns-in_err-enter-clause-counts
+flat_part-returns-in_err-enter-clause-counts g t c =
+    counted_as c.args.self.now.game reach c.args.state.now.state (start_of c.args.origin) c.args.self.now.opened c.enter.new.self.opened c.args.self.now.modifiers c.args.self.now.openings c.args.self.now.modifiers _ _ _ _
+    (given_up c.enter.result c.from_residual.result c.in_err-enter.field-0.0 Deep c.in_err-enter.was c.from_residual.ensures.1)
+    (given_up c.enter.result c.from_residual.result c.in_err-enter.field-0.0 Wide c.in_err-enter.was c.from_residual.ensures.1)
+    (c.enter.ensures.counts c.args.state.now.state (start_of c.args.origin) c.requires.start)
+
+pub flat_part-returns-in_err-flat-clause-counts : goal.flat_part-returns-in_err-flat-clause-counts
+flat_part-returns-in_err-flat-clause-counts g t c =
+    let opened : c.begun.new.self.opened ≡ c.args.self.now.opened + 1 = ap (λ (x : Searching). x.opened) c.begun.ensures.kept ∙ c.in_ok-enter.ensures.opened in
+    counted_only c.args.self.now.game reach c.args.state.now.state (start_of c.args.origin) c.args.self.now.opened c.begun.new.self.opened c.args.self.now.modifiers c.args.self.now.openings c.args.self.now.modifiers _ _
+    (opened_one c.args.self.now.game c.enter.ensures.lawful reach reach_pairs c.args.state.now.state (start_of c.args.origin) c.requires.start c.args.self.now.opened c.begun.new.self.opened opened)
+    (not_memory c.from_residual-in_err-flat.result c.in_err-flat.field-0.0 Deep c.from_residual-in_err-flat.ensures.1 c.in_err-flat.ensures.memory memory_not_deep)
+    (not_memory c.from_residual-in_err-flat.result c.in_err-flat.field-0.0 Wide c.from_residual-in_err-flat.ensures.1 c.in_err-flat.ensures.memory memory_not_wide)
+
+pub flat_part-returns-in_err-vertex-clause-counts : goal.flat_part-returns-in_err-vertex-clause-counts
+flat_part-returns-in_err-vertex-clause-counts g t c =
+    asked_only c.args.self.now.game c.args.state.now.state (start_of c.args.origin) (take c.loop-flat.flat.taken c.loop-flat.flat.queue.pairs) c.args.self.now.opened c.loop-flat.self.opened c.args.self.now.modifiers c.args.self.now.openings c.args.self.now.modifiers _ _ c.loop-flat.invariant.counted
+    (not_memory c.from_residual-in_err-vertex.result Memory Deep c.from_residual-in_err-vertex.ensures.1 refl memory_not_deep)
+    (not_memory c.from_residual-in_err-vertex.result Memory Wide c.from_residual-in_err-vertex.ensures.1 refl memory_not_wide)
+
+pub flat_part-returns-in_err-valid-clause-counts : goal.flat_part-returns-in_err-valid-clause-counts
+flat_part-returns-in_err-valid-clause-counts g t c =
+    let f : Start = start_of c.args.origin in
+    let given : c.advance.new.state ≡ (record c.args.state.now { room = c.advance.new.state.room }) = room_twice c.args.state.now c.loop-flat.state c.advance.new.state c.loop-flat.invariant.given_back (back_same c.loop-flat.state c.advance.new.state c.advance.ensures.given_back) in
+    let asked : (slice_get c.advance.new.flat.queue.pairs c.advance.new.flat.taken ≡ Some (c.in-Some.vertex, c.in-Some.position)) × (c.in-Some.vertex < length c.loop-flat.self.game.board.first) × IsPatternAt c.loop-flat.self.game.rules c.in-Some.position = search rules in
+    let fresh : ¬ Contains (take c.advance.new.flat.taken c.advance.new.flat.queue.pairs) (c.in-Some.vertex, c.in-Some.position) = search rules in
+    let begun : IsBegun c.loop-flat.self.game c.loop-flat.state.state f c.advance.new.flat = c.in_ok-vertex.ensures.begun f
+    (onward (λ x s. IsBegun x s f c.loop-flat.flat) c.args.self.now c.loop-flat.self c.args.state.now c.loop-flat.state c.loop-flat.invariant.kept c.loop-flat.invariant.given_back c.loop-flat.invariant.begun) in
+    counted_as c.args.self.now.game reach c.args.state.now.state f c.args.self.now.opened c.ask.new.self.opened c.args.self.now.modifiers c.args.self.now.openings c.args.self.now.modifiers _ _ _ _
+    (given_up c.ask.result c.from_residual-in_err-valid.result c.in_err-valid.field-0.0 Deep c.in_err-valid.was c.from_residual-in_err-valid.ensures.1)
+    (given_up c.ask.result c.from_residual-in_err-valid.result c.in_err-valid.field-0.0 Wide c.in_err-valid.was c.from_residual-in_err-valid.ensures.1)
+    (ask_step c.args.self.now c.loop-flat.self c.args.state.now c.loop-flat.state c.advance.new.state f c.loop-flat.flat c.advance.new.flat c.in-Some.vertex c.in-Some.position c.args.self.now.opened c.ask.new.self.opened _ _ c.loop-flat.invariant.kept c.loop-flat.invariant.given_back given c.loop-flat.invariant.lawful begun asked.0 asked.2 c.in_ok-vertex.ensures.still_done fresh c.loop-flat.invariant.counted c.ask.ensures.counts).gave_up
+
+pub flat_part-returns-in_err-take-clause-counts : goal.flat_part-returns-in_err-take-clause-counts
+flat_part-returns-in_err-take-clause-counts g t c =
+    let f : Start = start_of c.args.origin in
+    let given : c.advance.new.state ≡ (record c.args.state.now { room = c.advance.new.state.room }) = room_twice c.args.state.now c.loop-flat.state c.advance.new.state c.loop-flat.invariant.given_back (back_same c.loop-flat.state c.advance.new.state c.advance.ensures.given_back) in
+    let asked : (slice_get c.advance.new.flat.queue.pairs c.advance.new.flat.taken ≡ Some (c.in-Some.vertex, c.in-Some.position)) × (c.in-Some.vertex < length c.loop-flat.self.game.board.first) × IsPatternAt c.loop-flat.self.game.rules c.in-Some.position = search rules in
+    let fresh : ¬ Contains (take c.advance.new.flat.taken c.advance.new.flat.queue.pairs) (c.in-Some.vertex, c.in-Some.position) = search rules in
+    let begun : IsBegun c.loop-flat.self.game c.loop-flat.state.state f c.advance.new.flat = c.in_ok-vertex.ensures.begun f
+    (onward (λ x s. IsBegun x s f c.loop-flat.flat) c.args.self.now c.loop-flat.self c.args.state.now c.loop-flat.state c.loop-flat.invariant.kept c.loop-flat.invariant.given_back c.loop-flat.invariant.begun) in
+    asked_only c.args.self.now.game c.args.state.now.state f (take c.advance.new.flat.taken c.advance.new.flat.queue.pairs ++ (c.in-Some.vertex, c.in-Some.position) ∷ []) c.args.self.now.opened c.ask.new.self.opened c.args.self.now.modifiers c.args.self.now.openings c.args.self.now.modifiers _ _
+    (ask_step c.args.self.now c.loop-flat.self c.args.state.now c.loop-flat.state c.advance.new.state f c.loop-flat.flat c.advance.new.flat c.in-Some.vertex c.in-Some.position c.args.self.now.opened c.ask.new.self.opened _ _ c.loop-flat.invariant.kept c.loop-flat.invariant.given_back given c.loop-flat.invariant.lawful begun asked.0 asked.2 c.in_ok-vertex.ensures.still_done fresh c.loop-flat.invariant.counted c.ask.ensures.counts).counts
+    (not_memory c.from_residual-in_err-take.result Memory Deep c.from_residual-in_err-take.ensures.1 refl memory_not_deep)
+    (not_memory c.from_residual-in_err-take.result Memory Wide c.from_residual-in_err-take.ensures.1 refl memory_not_wide)
+
+pub flat_part-returns-in_err-reached-clause-counts : goal.flat_part-returns-in_err-reached-clause-counts
+flat_part-returns-in_err-reached-clause-counts g t c =
+    let f : Start = start_of c.args.origin in
+    let done : List (ℕ × ℕ) = take c.loop-flat.flat.taken c.loop-flat.flat.queue.pairs in
+    asked_only c.args.self.now.game c.args.state.now.state f done c.args.self.now.opened c.finish.new.self.opened c.args.self.now.modifiers c.args.self.now.openings c.args.self.now.modifiers _ _
+    (subst (λ (x : ℕ). CountsAsked c.args.self.now.game c.args.state.now.state f done c.args.self.now.opened x) (sym (ap (λ (x : Searching). x.opened) c.finish.ensures.kept)) c.loop-flat.invariant.counted)
+    (not_memory c.from_residual-in_err-reached.result c.in_err-reached.field-0.0 Deep c.from_residual-in_err-reached.ensures.1 c.in_err-reached.ensures.memory memory_not_deep)
+    (not_memory c.from_residual-in_err-reached.result c.in_err-reached.field-0.0 Wide c.from_residual-in_err-reached.ensures.1 c.in_err-reached.ensures.memory memory_not_wide)
+
+pub flat_part-returns-clause-counts : goal.flat_part-returns-clause-counts
+flat_part-returns-clause-counts g t c =
+    let f : Start = start_of c.args.origin in
+    let done : List (ℕ × ℕ) = take c.loop-flat.flat.taken c.loop-flat.flat.queue.pairs in
+    asked_only c.args.self.now.game c.args.state.now.state f done c.args.self.now.opened c.finish.new.self.opened c.args.self.now.modifiers c.args.self.now.openings c.args.self.now.modifiers _ _
+    (subst (λ (x : ℕ). CountsAsked c.args.self.now.game c.args.state.now.state f done c.args.self.now.opened x) (sym (ap (λ (x : Searching). x.opened) c.finish.ensures.kept)) c.loop-flat.invariant.counted)
+    (ok_not_err c.in_ok-reached.reached Deep) (ok_not_err c.in_ok-reached.reached Wide)
+
+pub runs_behind-loop-vertex-init : goal.runs_behind-loop-vertex-init
+runs_behind-loop-vertex-init g t c = record {
+  kept = refl;
+  given_back = refl;
+  room = omega arith;
+  none = λ k d within. absurd (omega (arith, within));
+  counted = λ f a goes counts. behind_begin c.args.self.now.game goes.lawful.numbered c.args.state.now.state f a c.args.self.now.opened counts;
+}
+
+pub runs_behind-returns-then-modifiers-le1-clause-counts :
+    goal.runs_behind-returns-then-modifiers-le1-clause-counts
+runs_behind-returns-then-modifiers-le1-clause-counts g t c = λ f a goes counts.
+    let ready = c.requires.ready c.loop-vertex.vertex-index (0, 0) c.loop-vertex-test.true in
+    one_too_many c.args.self.now c.args.state.now.state f c.args.pairs.now c.loop-vertex.vertex-index (0, 0) a c.loop-vertex.self.opened c.args.modifiers ready.later _ _ goes c.loop-vertex-test.true ready.applies c.if-modifiers-le1.true (c.loop-vertex.invariant.counted f a goes counts)
+    (λ w. deep_not_wide (same_error {X = Bool} Deep Wide w))
+
+pub runs_behind-returns-in_err-runs_behind_one-clause-counts :
+    goal.runs_behind-returns-in_err-runs_behind_one-clause-counts
+runs_behind-returns-in_err-runs_behind_one-clause-counts g t c = λ f a goes counts.
+    let ready = c.requires.ready c.loop-vertex.vertex-index (0, 0) c.loop-vertex-test.true in
+    counted_as c.args.self.now.game pattern c.args.state.now.state f a c.runs_behind_one.new.self.opened c.args.modifiers c.args.self.now.openings c.args.self.now.modifiers _ _ _ _
+    (given_up c.runs_behind_one.result c.from_residual.result c.in_err-runs_behind_one.field-0.0 Deep c.in_err-runs_behind_one.was c.from_residual.ensures.1)
+    (given_up c.runs_behind_one.result c.from_residual.result c.in_err-runs_behind_one.field-0.0 Wide c.in_err-runs_behind_one.was c.from_residual.ensures.1)
+    (one_behind c.args.self.now c.loop-vertex.self c.args.state.now c.loop-vertex.state f c.args.pairs.now c.loop-vertex.vertex-index (0, 0) a c.runs_behind_one.new.self.opened c.args.modifiers ready.later _ _ c.loop-vertex.invariant.kept c.loop-vertex.invariant.given_back goes c.loop-vertex-test.true ready.applies (omega (arith, c.if-modifiers-le1.false)) (c.loop-vertex.invariant.counted f a goes counts) c.runs_behind_one.ensures.counts).gave_up
+
+pub runs_behind-returns-then-branch-clause-counts :
+    goal.runs_behind-returns-then-branch-clause-counts
+runs_behind-returns-then-branch-clause-counts g t c = λ f a goes counts.
+    let ready = c.requires.ready c.loop-vertex.vertex-index (0, 0) c.loop-vertex-test.true in
+    behind_only c.args.self.now.game goes.lawful.numbered c.args.state.now.state f (take (c.loop-vertex.vertex-index + 1) c.args.pairs.now) a c.runs_behind_one.new.self.opened c.args.modifiers c.args.self.now.openings c.args.self.now.modifiers _ _
+    (one_behind c.args.self.now c.loop-vertex.self c.args.state.now c.loop-vertex.state f c.args.pairs.now c.loop-vertex.vertex-index (0, 0) a c.runs_behind_one.new.self.opened c.args.modifiers ready.later _ _ c.loop-vertex.invariant.kept c.loop-vertex.invariant.given_back goes c.loop-vertex-test.true ready.applies (omega (arith, c.if-modifiers-le1.false)) (c.loop-vertex.invariant.counted f a goes counts) c.runs_behind_one.ensures.counts).counts
+    (ok_not_err true Deep) (ok_not_err true Wide)
+
+pub runs_behind-returns-clause-counts : goal.runs_behind-returns-clause-counts
+runs_behind-returns-clause-counts g t c = λ f a goes counts.
+    behind_only c.args.self.now.game goes.lawful.numbered c.args.state.now.state f (take c.loop-vertex.vertex-index c.args.pairs.now) a c.loop-vertex.self.opened c.args.modifiers c.args.self.now.openings c.args.self.now.modifiers _ _
+    (c.loop-vertex.invariant.counted f a goes counts) (ok_not_err false Deep) (ok_not_err false Wide)
+
+pub runs_behind_one-word_runs-runs-requires : goal.runs_behind_one-word_runs-runs-requires
+runs_behind_one-word_runs-runs-requires g t c κs within =
+    (search rules, (within, (c.apply_at.ensures.fits, (c.requires.ready.nests, c.requires.inside))))
+
+pub runs_behind_one-returns-in_err-runs-clause-counts : goal.runs_behind_one-returns-in_err-runs-clause-counts
+runs_behind_one-returns-in_err-runs-clause-counts g t c = λ later left applies is.
+    counted_there c.args.self.now later c.apply_at.new.state.state (after c.args.position) c.args.self.now.opened c.word_runs-runs.new.self.opened (c.args.modifiers - 1) left _ _ _ _
+    (c.apply_at.ensures.only later applies) (omega (arith, is))
+    (given_up c.word_runs-runs.result c.from_residual.result c.in_err-runs.field-0.0 Deep c.in_err-runs.was c.from_residual.ensures.1)
+    (given_up c.word_runs-runs.result c.from_residual.result c.in_err-runs.field-0.0 Wide c.in_err-runs.was c.from_residual.ensures.1)
+    c.word_runs-runs.ensures.counts
+
+pub runs_behind_one-returns-clause-counts : goal.runs_behind_one-returns-clause-counts
+runs_behind_one-returns-clause-counts g t c = λ later left applies is.
+    counted_there c.args.self.now later c.apply_at.new.state.state (after c.args.position) c.args.self.now.opened c.word_runs-runs.new.self.opened (c.args.modifiers - 1) left _ _ _ _
+    (c.apply_at.ensures.only later applies) (omega (arith, is))
+    (λ d. absurd (ok_not_err c.in_ok-runs.field-0 Deep d)) (λ w. absurd (ok_not_err c.in_ok-runs.field-0 Wide w))
+    c.word_runs-runs.ensures.counts
+
+pub word_runs-flat_part-requires : goal.word_runs-flat_part-requires
+word_runs-flat_part-requires g t c κs within =
+    (search rules, (within, (c.requires.fits, (c.requires.nested, inside_start c.args.self.now.game.rules (start_of c.args.origin) c.requires.inside))))
+
+pub word_runs-returns-in_err-reached-clause-counts : goal.word_runs-returns-in_err-reached-clause-counts
+word_runs-returns-in_err-reached-clause-counts g t c =
+    counted_as c.args.self.now.game pattern c.args.state.now.state (start_of c.args.origin) c.args.self.now.opened c.flat_part.new.self.opened c.args.modifiers c.args.self.now.openings c.args.self.now.modifiers _ _ _ _
+    (given_up c.flat_part.result c.from_residual.result c.in_err-reached.field-0.0 Deep c.in_err-reached.was c.from_residual.ensures.1)
+    (given_up c.flat_part.result c.from_residual.result c.in_err-reached.field-0.0 Wide c.in_err-reached.was c.from_residual.ensures.1)
+    (asks_reached c.args.self.now.game c.args.state.now.state (start_of c.args.origin) c.args.self.now.opened c.flat_part.new.self.opened c.args.modifiers c.args.self.now.modifiers c.args.self.now.openings _ _ c.flat_part.ensures.counts)
+
+pub word_runs-returns-in_err-reuse-clause-counts : goal.word_runs-returns-in_err-reuse-clause-counts
+word_runs-returns-in_err-reuse-clause-counts g t c =
+    asks_only c.args.self.now.game c.args.state.now.state (start_of c.args.origin) c.args.self.now.opened c.flat_part.new.self.opened c.reuse.new.self.opened c.args.modifiers c.args.self.now.modifiers c.args.self.now.openings _ _ _ _
+    (ap (λ (x : Searching). x.opened) c.reuse.ensures) c.flat_part.ensures.counts
+    (not_memory c.from_residual-in_err-reuse.result Memory Deep c.from_residual-in_err-reuse.ensures.1 refl memory_not_deep)
+    (not_memory c.from_residual-in_err-reuse.result Memory Wide c.from_residual-in_err-reuse.ensures.1 refl memory_not_wide)
+
+pub word_runs-returns-then-reached-clause-counts : goal.word_runs-returns-then-reached-clause-counts
+word_runs-returns-then-reached-clause-counts g t c =
+    asks_only c.args.self.now.game c.args.state.now.state (start_of c.args.origin) c.args.self.now.opened c.flat_part.new.self.opened c.reuse.new.self.opened c.args.modifiers c.args.self.now.modifiers c.args.self.now.openings _ _ _ _
+    (ap (λ (x : Searching). x.opened) c.reuse.ensures) c.flat_part.ensures.counts
+    (ok_not_err true Deep) (ok_not_err true Wide)
+
+pub word_runs-returns-in_err-runs-clause-counts : goal.word_runs-returns-in_err-runs-clause-counts
+word_runs-returns-in_err-runs-clause-counts g t c =
+    counted_as c.args.self.now.game pattern c.args.state.now.state (start_of c.args.origin) c.args.self.now.opened c.runs_behind.new.self.opened c.args.modifiers c.args.self.now.openings c.args.self.now.modifiers _ _ _ _
+    (given_up c.runs_behind.result c.from_residual-in_err-runs.result c.in_err-runs.field-0.0 Deep c.in_err-runs.was c.from_residual-in_err-runs.ensures.1)
+    (given_up c.runs_behind.result c.from_residual-in_err-runs.result c.in_err-runs.field-0.0 Wide c.in_err-runs.was c.from_residual-in_err-runs.ensures.1)
+    (behind_step c.args.self.now c.flat_part.new.self c.args.state.now c.flat_part.new.state (start_of c.args.origin) c.in_ok-reached.reached.pairs.items c.deref.result.now c.in_ok-reached.reached.ends c.runs_behind.new.self.opened c.args.modifiers _ _ c.flat_part.ensures.kept c.flat_part.ensures.given_back c.deref.ensures.value c.in_ok-reached.ensures.lawful c.requires.inside c.in_ok-reached.ensures.reached c.if-reached.false c.flat_part.ensures.counts.counted c.runs_behind.ensures.counts)
+
+pub word_runs-returns-in_err-reuse-2-clause-counts : goal.word_runs-returns-in_err-reuse-2-clause-counts
+word_runs-returns-in_err-reuse-2-clause-counts g t c =
+    let counts = behind_step c.args.self.now c.flat_part.new.self c.args.state.now c.flat_part.new.state (start_of c.args.origin) c.in_ok-reached.reached.pairs.items c.deref.result.now c.in_ok-reached.reached.ends c.runs_behind.new.self.opened c.args.modifiers _ _ c.flat_part.ensures.kept c.flat_part.ensures.given_back c.deref.ensures.value c.in_ok-reached.ensures.lawful c.requires.inside c.in_ok-reached.ensures.reached c.if-reached.false c.flat_part.ensures.counts.counted c.runs_behind.ensures.counts in
+    counted_only c.args.self.now.game pattern c.args.state.now.state (start_of c.args.origin) c.args.self.now.opened c.reuse-2.new.self.opened c.args.modifiers c.args.self.now.openings c.args.self.now.modifiers _ _
+    (subst (λ (x : ℕ). CountsOpenings c.args.self.now.game pattern c.args.state.now.state (start_of c.args.origin) c.args.self.now.opened x) (sym (ap (λ (x : Searching). x.opened) c.reuse-2.ensures)) counts.counted)
+    (not_memory c.from_residual-in_err-reuse-2.result Memory Deep c.from_residual-in_err-reuse-2.ensures.1 refl memory_not_deep)
+    (not_memory c.from_residual-in_err-reuse-2.result Memory Wide c.from_residual-in_err-reuse-2.ensures.1 refl memory_not_wide)
+
+pub word_runs-returns-clause-counts : goal.word_runs-returns-clause-counts
+word_runs-returns-clause-counts g t c =
+    let counts = behind_step c.args.self.now c.flat_part.new.self c.args.state.now c.flat_part.new.state (start_of c.args.origin) c.in_ok-reached.reached.pairs.items c.deref.result.now c.in_ok-reached.reached.ends c.runs_behind.new.self.opened c.args.modifiers _ _ c.flat_part.ensures.kept c.flat_part.ensures.given_back c.deref.ensures.value c.in_ok-reached.ensures.lawful c.requires.inside c.in_ok-reached.ensures.reached c.if-reached.false c.flat_part.ensures.counts.counted c.runs_behind.ensures.counts in
+    counted_only c.args.self.now.game pattern c.args.state.now.state (start_of c.args.origin) c.args.self.now.opened c.reuse-2.new.self.opened c.args.modifiers c.args.self.now.openings c.args.self.now.modifiers _ _
+    (subst (λ (x : ℕ). CountsOpenings c.args.self.now.game pattern c.args.state.now.state (start_of c.args.origin) c.args.self.now.opened x) (sym (ap (λ (x : Searching). x.opened) c.reuse-2.ensures)) counts.counted)
+    (ok_not_err c.in_ok-runs.runs Deep) (ok_not_err c.in_ok-runs.runs Wide)

@@ -1,0 +1,55 @@
+-- Each call has fewer patterns or fewer modifiers before it; the semi-state is given back after each.
+use Rattle.std.proofs.Common.{◌≡◌, ◌+◌, ◌*◌, ◌-◌, ◌^◌, ◌≤◌, take, ℕ}
+use Rattle.std.specs.Prelude.{All}
+use Rattle.rbg_rules.specs.Games.{IsGame}
+use Rattle.rbg_search.specs.Start.{start_of}
+use Rattle.rbg_search.specs.internal.Begun.{IsBegun}
+use Rattle.rbg_search.specs.internal.Behind.{RunsBehindPair}
+use Rattle.rbg_rules.specs.Words.{Start}
+use Rattle.rbg_rules.specs.Questions.{reach, pattern}
+use Rattle.rbg_search.specs.Counting.{CountsOpenings}
+use Rattle.rbg_search.specs.Passing.{CountsUpTo}
+use Rattle.rbg_search.specs.internal.Asked.{CountsAsked, GoesBehind}
+use Rattle.rbg_search.proofs.search.Search.+search.Given as goal
+
+abbrev pub decreases-flat_part : goal.decreases-flat_part
+decreases-flat_part g l = l.nested * 1000000 + 2
+
+abbrev pub decreases-ask : goal.decreases-ask
+decreases-ask g l = l.nested * 1000000 + 1
+
+abbrev pub decreases-word_runs : goal.decreases-word_runs
+decreases-word_runs g l = l.nested * 1000000 + l.modifiers * 10 + 5
+
+abbrev pub decreases-runs_behind : goal.decreases-runs_behind
+decreases-runs_behind g l = l.nested * 1000000 + l.modifiers * 10 + 4
+
+abbrev pub decreases-runs_behind_one : goal.decreases-runs_behind_one
+decreases-runs_behind_one g l = l.nested * 1000000 + l.modifiers * 10 + 3
+
+abbrev pub invariant-flat_part-loop-flat : goal.invariant-flat_part-loop-flat
+invariant-flat_part-loop-flat g l = record {
+  kept : l.self ≡ record l.fn.self { opened = l.self.opened };
+  given_back : l.state ≡ record l.fn.state { room = l.state.room };
+  room : l.fn.state.room ≤ l.state.room;
+  enough : 2 ≤ l.state.room;
+  begun : IsBegun l.fn.self.game l.fn.state.state (start_of l.fn.origin) l.flat;
+  lawful : IsGame l.fn.self.game;
+  counted : CountsAsked l.fn.self.game l.fn.state.state (start_of l.fn.origin) (take l.flat.taken l.flat.queue.pairs) l.fn.self.opened l.self.opened;
+}
+
+abbrev pub decreases-flat_part-loop-flat : goal.decreases-flat_part-loop-flat
+decreases-flat_part-loop-flat g l = 2 ^ 64 - l.flat.taken
+
+abbrev pub invariant-runs_behind-loop-vertex : goal.invariant-runs_behind-loop-vertex
+invariant-runs_behind-loop-vertex g l = record {
+  kept : l.self ≡ record l.fn.self { opened = l.self.opened };
+  given_back : l.state ≡ record l.fn.state { room = l.state.room };
+  room : l.fn.state.room ≤ l.state.room;
+  none : All (λ q. ¬ RunsBehindPair l.fn.self.game l.fn.state.state q.0 q.1) (take l.vertex-index l.pairs);
+  counted :
+      (f : Start) (a : ℕ) →
+      GoesBehind l.fn.self.game l.fn.state.state f l.pairs →
+      CountsOpenings l.fn.self.game reach l.fn.state.state f a l.fn.self.opened →
+      CountsUpTo l.fn.self.game pattern l.fn.state.state f (take l.vertex-index l.pairs) a l.self.opened;
+}

@@ -1,0 +1,27 @@
+use Rattle.std.proofs.Common.{sym, refl, ◌∙◌}
+use Rattle.rbg_rules.specs.Questions.{reach}
+use Rattle.rbg_search.specs.declared.over.Over.TheVariants.{Deep, Wide, Memory}
+use Rattle.rbg_search.proofs.Countings.{none_counted, reach_pairs}
+use Rattle.rbg_search.proofs.Counted.{memory_not_deep, memory_not_wide, wide_not_deep, ok_not_err, counted_only, opened_one, refused_one}
+use Rattle.rbg_search.proofs.CountedSteps.{returned_is, not_memory}
+use Rattle.rbg_search.proofs.search.Search.enter.Goals as goal
+
+pub returns-in_err-open-clause-counts : goal.returns-in_err-open-clause-counts
+returns-in_err-open-clause-counts g c = λ s f start. record {
+  counted = none_counted c.args.self.now.game reach s f c.args.self.now.opened c.open.new.self.opened c.in_err-open.ensures.unopened;
+  deep = λ d. absurd (wide_not_deep (sym c.in_err-open.ensures.wide ∙ returned_is c.from_residual.result c.in_err-open.field-0.0 Deep c.from_residual.ensures.1 d));
+  wide = λ _. refused_one c.args.self.now.game c.open.ensures.lawful reach reach_pairs s f start c.args.self.now.opened c.args.self.now.openings c.in_err-open.ensures.full;
+}
+
+pub returns-in_err-reserve-clause-counts : goal.returns-in_err-reserve-clause-counts
+returns-in_err-reserve-clause-counts g c = λ s f start.
+    counted_only c.args.self.now.game reach s f c.args.self.now.opened c.open.new.self.opened c.args.self.now.modifiers c.args.self.now.openings c.args.self.now.modifiers _ _
+    (opened_one c.args.self.now.game c.open.ensures.lawful reach reach_pairs s f start c.args.self.now.opened c.open.new.self.opened c.in_ok-open.ensures.opened)
+    (not_memory c.from_residual-in_err-reserve.result Memory Deep c.from_residual-in_err-reserve.ensures.1 refl memory_not_deep)
+    (not_memory c.from_residual-in_err-reserve.result Memory Wide c.from_residual-in_err-reserve.ensures.1 refl memory_not_wide)
+
+pub returns-clause-counts : goal.returns-clause-counts
+returns-clause-counts g c = λ s f start.
+    counted_only c.args.self.now.game reach s f c.args.self.now.opened c.open.new.self.opened c.args.self.now.modifiers c.args.self.now.openings c.args.self.now.modifiers _ _
+    (opened_one c.args.self.now.game c.open.ensures.lawful reach reach_pairs s f start c.args.self.now.opened c.open.new.self.opened c.in_ok-open.ensures.opened)
+    (ok_not_err tt Deep) (ok_not_err tt Wide)

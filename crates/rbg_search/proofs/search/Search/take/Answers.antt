@@ -1,0 +1,22 @@
+use Rattle.std.proofs.Common.{◌≡◌, take, sym, ap, subst}
+use Rattle.rbg_rules.specs.State.{AbstractGame}
+use Rattle.rbg_rules.specs.Games.{IsGame}
+use Rattle.rbg_search.specs.Searching.{Searching}
+use Rattle.rbg_search.specs.internal.Part.{IsOutcome, IsPart, HasMarksOf}
+use Rattle.rbg_search.proofs.search.Search.take.Goals as goal
+
+pub returns-clause-begun : goal.returns-clause-begun
+returns-clause-begun g c = λ s f decides begun.
+    let game : c.self.inside.rules ≡ c.args.self.now.game = ap (λ (x : Searching). x.game) c.self.view_is in
+    let lawful : IsGame c.args.self.now.game = subst IsGame game c.game-game.ensures.lawful in
+    let outcome : IsOutcome c.args.self.now.game s c.args.vertex c.args.position c.outcome_of.result =
+    c.outcome_of.ensures.outcome c.args.self.now.game s c.args.position lawful.numbered c.requires.there decides in
+    record {
+      marks = subst (λ (x : AbstractGame). HasMarksOf x c.take.new.self.queue) game c.take.ensures.marks;
+      part =
+          subst (λ (x : AbstractGame). IsPart x s f c.take.new.self.queue.pairs (take c.take.new.self.taken c.take.new.self.queue.pairs) c.take.new.self.found.items c.take.new.self.ends) game
+          (c.in_ok-take.ensures.part s f c.args.vertex c.args.position c.requires.here
+          (subst (λ (x : AbstractGame). IsOutcome x s c.args.vertex c.args.position c.outcome_of.result) (sym game) outcome)
+          (subst (λ (x : AbstractGame). IsPart x s f c.args.flat.now.queue.pairs (take c.args.flat.now.taken c.args.flat.now.queue.pairs) c.args.flat.now.found.items c.args.flat.now.ends) (sym game) begun.part));
+      within = c.in_ok-take.ensures.within;
+    }

@@ -1,0 +1,55 @@
+-- What is counted while the patterns of a flat part are asked, and behind its modifiers.
+use Rattle.std.specs.Prelude.{◌≡◌, ◌≢◌, ℕ, ◌+◌, List, [], ◌∷◌, length, All, AllPairs, Contains}
+use Rattle.rbg_rules.specs.Expression.{Expression}
+use Rattle.rbg_rules.specs.Positions.{IsLevel, inside}
+use Rattle.rbg_rules.specs.Words.{Start}
+use Rattle.rbg_rules.specs.State.{AbstractGame, AbstractState}
+use Rattle.rbg_rules.specs.Games.{IsGame}
+use Rattle.rbg_rules.specs.Questions.{Question, reach, Item, modifier_at, pattern_at, Opening}
+use Rattle.rbg_search.specs.Flat.{IsNext, MayEnd}
+use Rattle.rbg_search.specs.Counting.{CountsOpenings, IsOverBudget}
+use Rattle.rbg_search.specs.Passing.{IsTooDeep}
+use Rattle.rbg_search.specs.internal.Nesting.{StandsIn}
+
+-- One stands in the inside of a pattern.
+pub record StandsInPattern (rules : Expression) (f : Start) : Type 0 where
+  pub pattern : ℕ
+  pub expression : Expression
+  pub is_level : IsLevel rules (inside pattern) expression
+  pub stands : StandsIn f (inside pattern) expression
+
+-- Where the list begins with a pattern, it is one of those that are done.
+abbrev pub BeginsAsked : (done : List (ℕ × ℕ)) → List Item → Type 0
+BeginsAsked done [] = Unit {0}
+BeginsAsked done (modifier_at v p ∷ more) = Unit {0}
+BeginsAsked done (pattern_at v p ∷ more) = Contains done (v, p)
+
+-- The count grew from old to new by different openings of `reach`, none in a pattern that isn't done.
+pub record CountsAsked
+    (game : AbstractGame) (s : AbstractState) (f : Start) (done : List (ℕ × ℕ)) (old new : ℕ)
+    : Type 0
+  where
+    pub openings : List (List Item)
+    pub different : AllPairs (λ o o'. o ≢ o') openings
+    pub opened : All (Opening game reach s f) openings
+    pub begin : All (BeginsAsked done) openings
+    pub sum : new ≡ old + length openings
+
+-- The pairs are modifiers that come next in a pattern of a lawful game, each once, and no word may end before them.
+pub record GoesBehind (game : AbstractGame) (s : AbstractState) (f : Start) (pairs : List (ℕ × ℕ)) : Type 0 where
+  pub lawful : IsGame game
+  pub inside : StandsInPattern game.rules f
+  pub no_end : ¬ MayEnd game s f
+  pub next : All (λ q. IsNext game s f q.0 q.1) pairs
+  pub different : AllPairs (λ a b. a ≢ b) pairs
+
+-- A question from s and f was asked, and the count grew from old to new: by different openings of the question; where
+-- it was given up as deep or wide, it is, by what was left of modifiers in a row and by the budget.
+pub record IsCounted
+    (game : AbstractGame) (question : Question) (s : AbstractState) (f : Start)
+    (old new left openings modifiers : ℕ) (Deep Wide : Type 0)
+    : Type 0
+  where
+    pub counted : CountsOpenings game question s f old new
+    pub deep : Deep → IsTooDeep game question s f left modifiers
+    pub wide : Wide → IsOverBudget game question s f old openings

@@ -1,0 +1,572 @@
+//! A search in a game: what is reached without a modifier, and whether patterns hold, on one budget.
+ghost use Rattle.std.specs.List.Sorted.{IsPermutation};
+ghost use Rattle.std.specs.Prelude.{◌≡◌, ◌≢◌, ℕ, ◌+◌, ◌^◌, ◌<◌, ◌≤◌, ◌↔◌, suc, length, slice_get, Some, All, AllPairs, IfOk, OnOk, IfSome, IfNone, IsTrue, [], ◌∷◌, ◌++◌, take, Contains, OnErr, IfErr, Err};
+ghost use Rattle.rbg_rules.specs.State.{AbstractGame, AbstractState, IsStateOf};
+ghost use Rattle.rbg_rules.specs.Positions.{IsNumbered, IsModifierAt, IsPatternAt, inside};
+ghost use Rattle.rbg_rules.specs.Words.{Start, beginning, after};
+ghost use Rattle.rbg_rules.specs.Actions.{Applies};
+ghost use Rattle.rbg_rules.specs.Questions.{SomeWordRuns, reach, pattern, IsDeep};
+ghost use Rattle.rbg_rules.specs.Games.{IsGame};
+ghost use Rattle.rbg_rules.specs.Laws.{IsStart};
+ghost use Rattle.rbg_search.specs.Counting.{CountsOpenings, IsOverBudget};
+ghost use Rattle.rbg_search.specs.internal.Asked.{StandsInPattern, GoesBehind, IsCounted};
+ghost use Rattle.rbg_search.specs.Flat.{IsFlatPart, IsBefore};
+ghost use Rattle.rbg_search.specs.Start.{start_of, IsPositionOf};
+ghost use Rattle.rbg_state.specs.History.{capacity_of, IsAfter};
+ghost use Rattle.rbg_search.specs.internal.Begun.{IsBegun};
+ghost use Rattle.rbg_search.specs.internal.Behind.{IsReady, RunsBehindPair, SomeRunsBehind};
+ghost use Rattle.rbg_search.specs.internal.Closure.{at_vertex};
+ghost use Rattle.rbg_search.specs.internal.Nesting.{NestsFrom};
+ghost use Rattle.rbg_search.specs.internal.Part.{IsOutcome, HasMarksOf};
+ghost use Rattle.rbg_search.specs.internal.Shown.{shows_negative};
+
+use crate::flat::Flat;
+use crate::game_steps::GameSteps;
+use crate::origin::Origin;
+use crate::outcome::Outcome;
+use crate::over::Over;
+use rbg_auto::{Expr, Steps};
+use rbg_base::{Memory, Position, Vertex};
+use rbg_rules::{Action, Game};
+use rbg_state::SemiState;
+use std::alloc::Global;
+use std::marker::Model;
+use std::mem::replace;
+
+/// How much a search may do.
+#[derive(Clone, Copy, Debug, PartialEq, Eq, Drop)]
+pub struct Budget {
+    /// The most openings that are taken up.
+    pub openings: u32,
+    /// An opening with this many modifiers in a row is too deep.
+    pub modifiers: u16,
+}
+
+/// What is reached without a modifier.
+#[derive(Debug, Drop)]
+pub struct Reached {
+    /// The valid modifiers that come next, each with the vertex where it is valid.
+    pub pairs: Vec<(Vertex, Position)>,
+    /// Whether a word may end with no modifier more.
+    pub ends: bool,
+}
+
+/// A search in a game: it counts the openings that it takes up, and keeps its buffers for further use.
+#[derive(Drop)]
+pub struct Search<'a, S: Steps> {
+    alloc: Global,
+    rules: GameSteps<'a, S>,
+    budget: Budget,
+    opened: u32,
+    /// Flat parts that are not in use.
+    flats: Vec<Flat>,
+    /// Lists of modifiers that are not in use.
+    lists: Vec<Vec<(Vertex, Position)>>,
+}
+
+impl<'a, S: Steps> Model for Search<'a, S> {
+    ghost use Rattle.rbg_search.specs.Searching.{Searching, coded_searching};
+
+    ghost Value = { Searching };
+
+    ghost coded = { coded_searching };
+
+    ghost view = { λ s. record {
+      game = s.rules;
+      openings = s.budget.openings;
+      modifiers = s.budget.modifiers;
+      opened = s.opened;
+    } };
+
+    ghost use Rattle.std.specs.Prelude.{All, ◌≤◌};
+    ghost use Rattle.rbg_search.specs.internal.Part.{HasMarksOf};
+
+    ghost invariant = { λ s.
+        All (λ flat. HasMarksOf s.rules flat.queue) s.flats.items × (s.opened ≤ s.budget.openings) };
+}
+
+impl<'a, S: Steps> Search<'a, S> {
+    /// A search that has taken up no opening.
+    pub fn new(alloc: Global, game: &'a Game, steps: &'a S, budget: Budget) -> Search<'a, S>
+        requires { S.of_rules steps.now game.now.rules }
+        ensures game { result.game ≡ game.now }
+        ensures openings { result.openings ≡ budget.openings }
+        ensures modifiers { result.modifiers ≡ budget.modifiers }
+        ensures opened { result.opened ≡ 0 }
+    {
+        let _positions = game.positions();
+        Search {
+            alloc,
+            rules: GameSteps::new(game, steps),
+            budget,
+            opened: 0,
+            flats: Vec::new(alloc),
+            lists: Vec::new(alloc),
+        }
+    }
+
+    /// The game that is searched.
+    pub fn game(&self) -> &'a Game
+        ensures game { result.now ≡ self.now.game }
+        ensures lawful { IsGame self.now.game }
+    {
+        self.rules.game()
+    }
+
+    /// How many openings were taken up.
+    pub fn opened(&self) -> u32
+        ensures opened { result ≡ self.now.opened }
+        ensures within { self.now.opened ≤ self.now.openings }
+    {
+        self.opened
+    }
+
+    /// What is reached from a semi-state and a place in the rules with no modifier before it, in order of vertices and
+    /// then of positions. The semi-state is given back.
+    pub fn reach(&mut self, state: &mut SemiState, origin: Origin) -> Result<Reached, Over>
+        requires fits { IsStateOf self.old.game state.old.state }
+        requires stands { IsStart self.old.game.rules (start_of origin) }
+        ensures kept { self.new ≡ record self.old { opened = self.new.opened } }
+        ensures given_back { state.new ≡ record state.old { room = state.new.room } }
+        ensures room { state.old.room ≤ state.new.room }
+        ensures enough { OnOk result (2 ≤ state.new.room) }
+        ensures reached { IfOk result (λ reached.
+            IsFlatPart self.old.game state.old.state (start_of origin) reached.pairs.items reached.ends) }
+        ensures order { IfOk result (λ reached. AllPairs IsBefore reached.pairs.items) }
+        ensures within { IfOk result (λ reached. All (λ pair.
+            (pair.0 < length self.old.game.board.first) × IsPositionOf self.old.game.rules pair.1)
+            reached.pairs.items) }
+        ensures counted { CountsOpenings self.old.game reach state.old.state (start_of origin)
+            self.old.opened self.new.opened }
+        ensures deep { result ≡ Err Over.Deep
+            → IsDeep self.old.game reach state.old.state (start_of origin) self.old.modifiers }
+        ensures wide { result ≡ Err Over.Wide
+            → IsOverBudget self.old.game reach state.old.state (start_of origin) self.old.opened self.old.openings }
+    {
+        let nested = self.rules.nesting();
+        let mut reached = self.flat_part(state, origin, nested)?;
+        sort(&mut reached.pairs);
+        Ok(reached)
+    }
+
+    /// Whether the pattern at a position is valid in the semi-state, which is given back.
+    pub fn pattern(&mut self, state: &mut SemiState, position: Position) -> Result<bool, Over>
+        requires fits { IsStateOf self.old.game state.old.state }
+        requires there { IsPatternAt self.old.game.rules position }
+        ensures kept { self.new ≡ record self.old { opened = self.new.opened } }
+        ensures given_back { state.new ≡ record state.old { room = state.new.room } }
+        ensures room { state.old.room ≤ state.new.room }
+        ensures valid { IfOk result (λ valid.
+            IsTrue valid ↔ Applies self.old.game position state.old.state state.old.state) }
+        ensures counted { CountsOpenings self.old.game pattern state.old.state (beginning (inside position))
+            self.old.opened self.new.opened }
+        ensures deep { result ≡ Err Over.Deep
+            → IsDeep self.old.game pattern state.old.state (beginning (inside position)) self.old.modifiers }
+        ensures wide { result ≡ Err Over.Wide
+            → IsOverBudget self.old.game pattern state.old.state (beginning (inside position))
+            self.old.opened self.old.openings }
+    {
+        state.reserve(1)?;
+        let nested = self.rules.nesting() + 1;
+        let vertex = state.vertex();
+        let valid = self.ask(state, vertex, position, nested)?;
+        Ok(valid)
+    }
+
+    /// Takes a list back, for further use.
+    pub fn reuse(&mut self, reached: Reached) -> Result<(), Memory>
+        ensures { self.new ≡ self.old }
+    {
+        self.lists.push(reached.pairs)?;
+        Ok(())
+    }
+
+    /// Takes one more opening up.
+    fn open(&mut self) -> Result<(), Over>
+        ensures kept { self.new ≡ record self.old { opened = self.new.opened } }
+        ensures lawful { IsGame self.old.game }
+        ensures opened { OnOk result (self.new.opened ≡ self.old.opened + 1) }
+        ensures unopened { OnErr result (self.new.opened ≡ self.old.opened) }
+        ensures wide { IfErr result (λ over. over ≡ Over.Wide) }
+        ensures full { OnErr result (self.old.openings ≤ self.old.opened) }
+    {
+        // The game is lawful.
+        let _game = self.rules.game();
+        if self.opened >= self.budget.openings {
+            return Err(Over::Wide);
+        }
+        self.opened += 1;
+        Ok(())
+    }
+
+    /// A flat part that is not in use.
+    fn unused_flat(&mut self) -> Result<Flat, Over>
+        ensures kept { self.new ≡ self.old }
+        ensures marks { IfOk result (λ flat. HasMarksOf self.old.game flat.queue) }
+        ensures memory { IfErr result (λ over. over ≡ Over.Memory) }
+    {
+        match self.flats.pop() {
+            Some(flat) => Ok(flat),
+            None => Ok(Flat::new(self.alloc, self.rules.game())?),
+        }
+    }
+
+    /// Hands out what a flat part found, and keeps the rest for further use.
+    fn finish(&mut self, flat: Flat) -> Result<Reached, Over>
+        requires { HasMarksOf self.old.game flat.queue }
+        ensures kept { self.new ≡ self.old }
+        ensures pairs { IfOk result (λ reached. reached.pairs.items ≡ flat.found.items) }
+        ensures ends { IfOk result (λ reached. reached.ends ≡ flat.ends) }
+        ensures memory { IfErr result (λ over. over ≡ Over.Memory) }
+    {
+        let mut flat = flat;
+        let list = match self.lists.pop() {
+            Some(list) => list,
+            None => Vec::new(self.alloc),
+        };
+        let pairs = replace(&mut flat.found, list);
+        let ends = flat.ends;
+        self.flats.push(flat)?;
+        Ok(Reached { pairs, ends })
+    }
+
+    /// Takes one more opening up, and makes room for the changes of two actions.
+    fn enter(&mut self, state: &mut SemiState) -> Result<(), Over>
+        ensures kept { self.new ≡ record self.old { opened = self.new.opened } }
+        ensures given_back { state.new ≡ record state.old { room = state.new.room } }
+        ensures room { state.old.room ≤ state.new.room }
+        ensures enough { OnOk result (2 ≤ state.new.room) }
+        ensures lawful { IsGame self.old.game }
+        ensures opened { OnOk result (self.new.opened ≡ self.old.opened + 1) }
+        ensures counts { (s : AbstractState) (f : Start) → IsStart self.old.game.rules f
+            → IsCounted self.old.game reach s f self.old.opened self.new.opened
+            self.old.modifiers self.old.openings self.old.modifiers
+            (result ≡ Err Over.Deep) (result ≡ Err Over.Wide) }
+    {
+        self.open()?;
+        state.reserve(2)?;
+        Ok(())
+    }
+
+    /// A flat part that is begun at a vertex.
+    fn begun(&mut self, origin: Origin, vertex: Vertex) -> Result<Flat, Over>
+        requires there { vertex < length self.old.game.board.first }
+        ensures kept { self.new ≡ self.old }
+        ensures begun { IfOk result (λ flat. (s : AbstractState) → s.vertex ≡ vertex
+            → IsBegun self.old.game s (start_of origin) flat) }
+        ensures lawful { IfOk result (λ _. IsGame self.old.game) }
+        ensures memory { IfErr result (λ over. over ≡ Over.Memory) }
+    {
+        let mut flat = self.unused_flat()?;
+        flat.begin(&self.rules, origin, vertex)?;
+        Ok(flat)
+    }
+
+    /// Takes pairs up to the next one at a pattern, and returns that; none where each pair was taken.
+    fn advance(
+        &self,
+        flat: &mut Flat,
+        state: &mut SemiState,
+    ) -> Result<Option<(Vertex, Position)>, Memory>
+        requires fits { IsStateOf self.now.game state.old.state }
+        requires room { 2 ≤ state.old.room }
+        requires marks { HasMarksOf self.now.game flat.old.queue }
+        requires within { flat.old.taken ≤ length flat.old.queue.pairs }
+        ensures given_back { state.new ≡ state.old }
+        ensures begun { OnOk result ((f : Start) → IsBegun self.now.game state.old.state f flat.old
+            → IsBegun self.now.game state.old.state f flat.new) }
+        ensures further { OnOk result (flat.old.taken ≤ flat.new.taken) }
+        ensures asked { IfOk result (λ next. IfSome next (λ pair.
+            (slice_get flat.new.queue.pairs flat.new.taken ≡ Some pair)
+            × (pair.0 < length self.now.game.board.first)
+            × IsPatternAt self.now.game.rules pair.1)) }
+        ensures whole { IfOk result (λ next. IfNone next ((f : Start)
+            → IsBegun self.now.game state.old.state f flat.old
+            → IsFlatPart self.now.game state.old.state f flat.new.found.items flat.new.ends)) }
+        ensures marks { HasMarksOf self.now.game flat.new.queue }
+        ensures still_done { OnOk result ((x : ℕ × ℕ)
+            → Contains (take flat.old.taken flat.old.queue.pairs) x
+            → Contains (take flat.new.taken flat.new.queue.pairs) x) }
+        ensures fresh { IfOk result (λ next. IfSome next (λ pair.
+            ¬ Contains (take flat.new.taken flat.new.queue.pairs) pair)) }
+    {
+        // The game is lawful.
+        let _game = self.rules.game();
+        flat.advance(&self.rules, state)
+    }
+
+    /// Takes the pair at a pattern, which is valid there or isn't.
+    fn take(
+        &self,
+        flat: &mut Flat,
+        vertex: Vertex,
+        position: Position,
+        valid: bool,
+    ) -> Result<(), Memory>
+        requires marks { HasMarksOf self.now.game flat.old.queue }
+        requires here { slice_get flat.old.queue.pairs flat.old.taken ≡ Some (vertex, position) }
+        requires vertex { vertex < length self.now.game.board.first }
+        requires there { IsPatternAt self.now.game.rules position }
+        ensures begun { OnOk result ((s : AbstractState) (f : Start)
+            → IsTrue valid ↔ Applies self.now.game position (at_vertex s vertex) (at_vertex s vertex)
+            → IsBegun self.now.game s f flat.old → IsBegun self.now.game s f flat.new) }
+        ensures taken { OnOk result (flat.new.taken ≡ flat.old.taken + 1) }
+        ensures small { OnOk result (flat.new.taken < 2 ^ 64) }
+        ensures done { OnOk result (take flat.new.taken flat.new.queue.pairs
+            ≡ take flat.old.taken flat.old.queue.pairs ++ (vertex, position) ∷ []) }
+    {
+        let _game = self.rules.game();
+        let _position = position;
+        flat.take(&self.rules, outcome_of(vertex, valid))?;
+        let _taken = flat.taken;
+        Ok(())
+    }
+
+    /// Applies a modifier at a vertex.
+    fn apply_at(&self, state: &mut SemiState, vertex: Vertex, position: Position)
+        requires fits { IsStateOf self.now.game state.old.state }
+        requires room { 2 ≤ state.old.room }
+        requires vertex { vertex < length state.old.state.pieces }
+        requires position { IsPositionOf self.now.game.rules position }
+        requires modifies { IsModifierAt self.now.game.rules position }
+        ensures fits { IsStateOf self.now.game state.new.state }
+        ensures only { (t : AbstractState)
+            → Applies self.now.game position (at_vertex state.old.state vertex) t → t ≡ state.new.state }
+        ensures after { IsAfter state.old state.new }
+        ensures capacity { capacity_of state.new ≡ capacity_of state.old }
+    {
+        state.stand_at(vertex);
+        state.apply(self.rules.game(), position);
+    }
+
+    /// Whether a pattern is valid where some word of its inside runs, or none.
+    fn is_valid(&self, position: Position, runs: bool) -> bool
+        requires there { IsPatternAt self.now.game.rules position }
+        ensures { (s : AbstractState) → IsTrue runs ↔ SomeWordRuns self.now.game s (beginning (inside position))
+            → IsTrue result ↔ Applies self.now.game position s s }
+    {
+        is_valid(self.rules.game(), position, runs)
+    }
+
+    /// What is reached. Patterns nest at most `nested` deep there.
+    #[cycle(search)]
+    fn flat_part(
+        &mut self,
+        state: &mut SemiState,
+        origin: Origin,
+        nested: u8,
+    ) -> Result<Reached, Over>
+        requires fits { IsStateOf self.old.game state.old.state }
+        requires nested { NestsFrom self.old.game.rules nested (start_of origin) }
+        requires start { IsStart self.old.game.rules (start_of origin) }
+        ensures kept { self.new ≡ record self.old { opened = self.new.opened } }
+        ensures given_back { state.new ≡ record state.old { room = state.new.room } }
+        ensures room { state.old.room ≤ state.new.room }
+        ensures enough { OnOk result (2 ≤ state.new.room) }
+        ensures reached { IfOk result (λ reached.
+            IsFlatPart self.old.game state.old.state (start_of origin) reached.pairs.items reached.ends) }
+        ensures ready { IfOk result (λ reached.
+            All (IsReady self.old.game state.old.state nested) reached.pairs.items) }
+        ensures lawful { IfOk result (λ _. IsGame self.old.game) }
+        ensures counts { IsCounted self.old.game reach state.old.state (start_of origin)
+            self.old.opened self.new.opened self.old.modifiers self.old.openings self.old.modifiers
+            (result ≡ Err Over.Deep) (result ≡ Err Over.Wide) }
+    {
+        self.enter(state)?;
+        let mut flat = self.begun(origin, state.vertex())?;
+        while let Some((vertex, position)) = self.advance(&mut flat, state)? {
+            let valid = self.ask(state, vertex, position, nested)?;
+            self.take(&mut flat, vertex, position, valid)?;
+        }
+        let reached = self.finish(flat)?;
+        Ok(reached)
+    }
+
+    /// Whether the pattern at a position is valid at a vertex. Patterns nest at most `nested` deep, this one included.
+    #[cycle(search)]
+    fn ask(
+        &mut self,
+        state: &mut SemiState,
+        vertex: Vertex,
+        position: Position,
+        nested: u8,
+    ) -> Result<bool, Over>
+        requires fits { IsStateOf self.old.game state.old.state }
+        requires room { 1 ≤ state.old.room }
+        requires vertex { vertex < length state.old.state.pieces }
+        requires there { IsPatternAt self.old.game.rules position }
+        requires some { 0 < nested }
+        requires nested { (k : ℕ) → nested ≡ suc k → NestsFrom self.old.game.rules k (beginning (inside position)) }
+        ensures kept { self.new ≡ record self.old { opened = self.new.opened } }
+        ensures given_back { state.new ≡ record state.old { room = state.new.room } }
+        ensures room { state.old.room ≤ state.new.room }
+        ensures valid { IfOk result (λ valid. IsTrue valid ↔ Applies self.old.game position
+            (at_vertex state.old.state vertex) (at_vertex state.old.state vertex)) }
+        ensures counts { IsCounted self.old.game pattern
+            (at_vertex state.old.state vertex) (beginning (inside position))
+            self.old.opened self.new.opened self.old.modifiers self.old.openings self.old.modifiers
+            (result ≡ Err Over.Deep) (result ≡ Err Over.Wide) }
+    {
+        let modifiers = self.budget.modifiers;
+        let mark = state.mark();
+        state.stand_at(vertex);
+        let inside = Origin::Begin(Expr::Inside(position));
+        let runs = self.word_runs(state, inside, nested - 1, modifiers);
+        state.undo_to(mark);
+        Ok(self.is_valid(position, runs?))
+    }
+
+    /// Whether some word runs. An opening with `modifiers` more is too deep.
+    #[cycle(search)]
+    fn word_runs(
+        &mut self,
+        state: &mut SemiState,
+        origin: Origin,
+        nested: u8,
+        modifiers: u16,
+    ) -> Result<bool, Over>
+        requires fits { IsStateOf self.old.game state.old.state }
+        requires nested { NestsFrom self.old.game.rules nested (start_of origin) }
+        requires inside { StandsInPattern self.old.game.rules (start_of origin) }
+        ensures kept { self.new ≡ record self.old { opened = self.new.opened } }
+        ensures given_back { state.new ≡ record state.old { room = state.new.room } }
+        ensures room { state.old.room ≤ state.new.room }
+        ensures answer { IfOk result (λ runs.
+            IsTrue runs ↔ SomeWordRuns self.old.game state.old.state (start_of origin)) }
+        ensures counts { IsCounted self.old.game pattern state.old.state (start_of origin)
+            self.old.opened self.new.opened modifiers self.old.openings self.old.modifiers
+            (result ≡ Err Over.Deep) (result ≡ Err Over.Wide) }
+    {
+        let reached = self.flat_part(state, origin, nested)?;
+        if reached.ends {
+            self.reuse(reached)?;
+            return Ok(true);
+        }
+        let runs = self.runs_behind(state, &reached.pairs, nested, modifiers)?;
+        self.reuse(reached)?;
+        Ok(runs)
+    }
+
+    /// Whether some word runs behind one of these modifiers. An opening with `modifiers` more is too deep.
+    #[cycle(search)]
+    fn runs_behind(
+        &mut self,
+        state: &mut SemiState,
+        pairs: &[(Vertex, Position)],
+        nested: u8,
+        modifiers: u16,
+    ) -> Result<bool, Over>
+        requires fits { IsStateOf self.old.game state.old.state }
+        requires room { 2 ≤ state.old.room }
+        requires ready { All (IsReady self.old.game state.old.state nested) pairs.now }
+        requires inside { All (λ q. StandsInPattern self.old.game.rules (after q.1)) pairs.now }
+        ensures kept { self.new ≡ record self.old { opened = self.new.opened } }
+        ensures given_back { state.new ≡ record state.old { room = state.new.room } }
+        ensures room { state.old.room ≤ state.new.room }
+        ensures answer { IfOk result (λ runs.
+            IsTrue runs ↔ SomeRunsBehind self.old.game state.old.state pairs.now) }
+        ensures counts { (f : Start) (a : ℕ) → GoesBehind self.old.game state.old.state f pairs.now
+            → CountsOpenings self.old.game reach state.old.state f a self.old.opened
+            → IsCounted self.old.game pattern state.old.state f
+            a self.new.opened modifiers self.old.openings self.old.modifiers
+            (result ≡ Err Over.Deep) (result ≡ Err Over.Wide) }
+    {
+        for (vertex, position) in pairs {
+            if modifiers <= 1 {
+                return Err(Over::Deep);
+            }
+            if self.runs_behind_one(state, *vertex, *position, nested, modifiers)? {
+                return Ok(true);
+            }
+        }
+        Ok(false)
+    }
+
+    /// Whether some word runs behind a modifier at a vertex. An opening with `modifiers` more is too deep.
+    #[cycle(search)]
+    fn runs_behind_one(
+        &mut self,
+        state: &mut SemiState,
+        vertex: Vertex,
+        position: Position,
+        nested: u8,
+        modifiers: u16,
+    ) -> Result<bool, Over>
+        requires fits { IsStateOf self.old.game state.old.state }
+        requires room { 2 ≤ state.old.room }
+        requires ready { IsReady self.old.game state.old.state nested (vertex, position) }
+        requires inside { StandsInPattern self.old.game.rules (after position) }
+        requires some { 0 < modifiers }
+        ensures kept { self.new ≡ record self.old { opened = self.new.opened } }
+        ensures given_back { state.new ≡ record state.old { room = state.new.room } }
+        ensures room { state.old.room ≤ state.new.room }
+        ensures answer { IfOk result (λ runs.
+            IsTrue runs ↔ RunsBehindPair self.old.game state.old.state vertex position) }
+        ensures counts { (later : AbstractState) (left : ℕ)
+            → Applies self.old.game position (at_vertex state.old.state vertex) later
+            → modifiers ≡ suc left
+            → IsCounted self.old.game pattern later (after position)
+            self.old.opened self.new.opened left self.old.openings self.old.modifiers
+            (result ≡ Err Over.Deep) (result ≡ Err Over.Wide) }
+    {
+        let mark = state.mark();
+        self.apply_at(state, vertex, position);
+        let runs = self.word_runs(state, Origin::After(position), nested, modifiers - 1);
+        state.undo_to(mark);
+        Ok(runs?)
+    }
+}
+
+/// Puts pairs in order: by vertex, then by position.
+fn sort(pairs: &mut Vec<(Vertex, Position)>)
+    requires { AllPairs (λ a b. a ≢ b) pairs.old.items }
+    ensures permutation { IsPermutation pairs.old.items pairs.new.items }
+    ensures order { AllPairs IsBefore pairs.new.items }
+{
+    pairs.sort_unstable();
+}
+
+/// What becomes of a pattern at a vertex where it is valid, or isn't.
+fn outcome_of(vertex: Vertex, valid: bool) -> Outcome
+    ensures outcome { (game : AbstractGame) (s : AbstractState) (p : ℕ)
+        → IsNumbered game.rules → IsPatternAt game.rules p
+        → IsTrue valid ↔ Applies game p (at_vertex s vertex) (at_vertex s vertex) → IsOutcome game s vertex p result }
+    ensures there { (u : ℕ) → result ≡ Outcome.LeadsTo u → u ≡ vertex }
+{
+    if valid {
+        Outcome::LeadsTo(vertex)
+    } else {
+        Outcome::Invalid
+    }
+}
+
+/// Whether a pattern is valid where some word of its inside runs, or none.
+fn is_valid(game: &Game, position: Position, runs: bool) -> bool
+    requires lawful { IsGame game.now }
+    requires there { IsPatternAt game.now.rules position }
+    requires position { IsPositionOf game.now.rules position }
+    ensures { (s : AbstractState) → IsTrue runs ↔ SomeWordRuns game.now s (beginning (inside position))
+        → IsTrue result ↔ Applies game.now position s s }
+{
+    if is_negative(game.action(position)) {
+        !runs
+    } else {
+        runs
+    }
+}
+
+/// Whether the action is a negative pattern.
+fn is_negative(action: &Action) -> bool
+    ensures { result ≡ shows_negative action.now }
+{
+    match action {
+        Action::Negative => true,
+        Action::Shift { .. }
+        | Action::On { .. }
+        | Action::Off { .. }
+        | Action::Assign { .. }
+        | Action::Compare { .. }
+        | Action::Switch { .. }
+        | Action::Positive => false,
+    }
+}
