@@ -1,2 +1,4 @@
--- Places of play.
+-- Places of play, and the moves that lead from one to the next.
 pub mod Equality
+pub mod Listing
+pub mod internal

@@ -2,6 +2,12 @@
 #![tactic(auto)]
 
 #[cfg(test)]
+mod list;
+#[cfg(test)]
 mod moves;
 #[cfg(test)]
+mod playing;
+#[cfg(test)]
 mod states;
+#[cfg(test)]
+mod values;

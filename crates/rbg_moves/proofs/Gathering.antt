@@ -1,0 +1,177 @@
+-- Lists of moves that are gathered part by part.
+use Rattle.std.proofs.Common.{◌≡◌, ◌≢◌, ℕ, suc, ◌<◌, ◌≤◌, ◌⊎◌, List, [], ◌∷◌, ◌++◌, length, get_or, map, Bool, true, false, refl, sym, ap, ◌∙◌, subst, inl, inr, arith, append_assoc, length-append}
+use Rattle.std.specs.Prelude.{All, AllPairs, Contains, ◌↔◌}
+use Rattle.std.proofs.lemmas.List.{append-nil, map-append, length-map, get_or-map}
+use Rattle.std.proofs.lemmas.List.Elements.{All-nil, All-cons, All-head, All-tail, All-append, All-map, All-weaker, All-contains, Contains-append_left, Contains-append_right, Contains-append_cases}
+use Rattle.std.proofs.lemmas.List.Kept.{AllPairs-cons}
+use Rattle.rbg_moves.specs.internal.Gathering.{Gathers, IsBehind}
+
+true_not_false : true ≡ false → ⊥
+true_not_false e = cc
+
+all_pairs_nil : {X : Type 0} (R : X → X → Type 0) → AllPairs R []
+all_pairs_nil R i j d before under = absurd (omega (arith, under))
+
+all_pairs_tail : {X : Type 0} (R : X → X → Type 0) (x : X) (xs : List X) → AllPairs R (x ∷ xs) → AllPairs R xs
+all_pairs_tail R x xs pairs i j d before under =
+    let before' : suc i < suc j = omega (arith, before) in
+    let under' : suc j < length (x ∷ xs) = omega (arith, under) in
+    pairs (suc i) (suc j) d before' under'
+
+all_pairs_head : {X : Type 0} (R : X → X → Type 0) (x : X) (xs : List X) → AllPairs R (x ∷ xs) → All (R x) xs
+all_pairs_head R x xs pairs k d under =
+    let before : 0 < suc k = omega arith in
+    let under' : suc k < length (x ∷ xs) = omega (arith, under) in
+    pairs 0 (suc k) d before under'
+
+-- Two lists of which R holds, and each of the first with each of the second.
+pub all_pairs_append : {X : Type 0} (R : X → X → Type 0) (xs ys : List X) → AllPairs R xs → AllPairs R ys → All (λ x. All (R x) ys) xs → AllPairs R (xs ++ ys)
+all_pairs_append R [] ys first second across = second
+all_pairs_append R (x ∷ xs) ys first second across =
+    AllPairs-cons R x (xs ++ ys)
+    (All-append (R x) xs ys (all_pairs_head R x xs first) (All-head (λ y. All (R y) ys) x xs across))
+    (all_pairs_append R xs ys (all_pairs_tail R x xs first) second (All-tail (λ y. All (R y) ys) x xs across))
+
+-- A function that keeps what differs apart keeps a list of different elements.
+pub different_map : {X Y : Type 0} (f : X → Y) → ((a b : X) → f a ≡ f b → a ≡ b) → (xs : List X) → AllPairs (λ a b. a ≢ b) xs → AllPairs (λ a b. a ≢ b) (map f xs)
+different_map f apart [] different = all_pairs_nil (λ a b. a ≢ b)
+different_map f apart (x ∷ xs) different =
+    AllPairs-cons (λ a b. a ≢ b) (f x) (map f xs)
+    (All-map (λ y. f x ≢ y) f xs (All-weaker (λ y. x ≢ y) (λ y. f x ≢ f y) (λ y h same. h (apart x y same)) xs (all_pairs_head (λ a b. a ≢ b) x xs different)))
+    (different_map f apart xs (all_pairs_tail (λ a b. a ≢ b) x xs different))
+
+contains_map : {X Y : Type 0} (f : X → Y) (xs : List X) (x : X) → Contains xs x → Contains (map f xs) (f x)
+contains_map f xs x (k, under, is) =
+    let size = length-map xs f in
+    (k, omega (arith, under, size), get_or-map f xs k x (f x) under ∙ ap f is)
+
+contains_map_back : {X Y : Type 0} (f : X → Y) → ((a b : X) → f a ≡ f b → a ≡ b) → (xs : List X) (x : X) → Contains (map f xs) (f x) → Contains xs x
+contains_map_back f apart xs x (k, under, is) =
+    let size = length-map xs f in
+    let under' : k < length xs = omega (arith, under, size) in
+    (k, under', apart (get_or xs k x) x (sym (get_or-map f xs k x (f x) under') ∙ is))
+
+-- Nothing is wanted.
+pub gathers_none : (P : List (ℕ × ℕ) → Type 0) (front : List (ℕ × ℕ)) (max : ℕ) (old : List (List (ℕ × ℕ))) → length old ≤ max → ((ps : List (ℕ × ℕ)) → ¬ P ps) → Gathers P front max old old false
+gathers_none P front max old few none = record {
+  found = [];
+  grown = sym (append-nil old);
+  wanted = All-nil P;
+  different = all_pairs_nil (λ a b. a ≢ b);
+  few = few;
+  whole = λ _ ps wanted. absurd (none ps wanted);
+  full = λ e. absurd (true_not_false (sym e));
+  more = λ e. absurd (true_not_false (sym e));
+}
+
+-- One list is wanted, and there is room for it.
+pub gathers_one : (P : List (ℕ × ℕ) → Type 0) (front : List (ℕ × ℕ)) (max : ℕ) (old : List (List (ℕ × ℕ))) (one : List (ℕ × ℕ)) → length old < max → P one → ((ps : List (ℕ × ℕ)) → P ps → ps ≡ one) → Gathers P front max old (old ++ (front ++ one) ∷ []) false
+gathers_one P front max old one room wanted only = record {
+  found = one ∷ [];
+  grown = refl;
+  wanted = All-cons P one [] wanted (All-nil P);
+  different = AllPairs-cons (λ a b. a ≢ b) one [] (All-nil (λ y. one ≢ y)) (all_pairs_nil (λ a b. a ≢ b));
+  few = let size = length-append old ((front ++ one) ∷ []) in omega (arith, size, room);
+  whole = λ _ ps h. let below : 0 < 1 = omega arith in (0, below, sym (only ps h));
+  full = λ e. absurd (true_not_false (sym e));
+  more = λ e. absurd (true_not_false (sym e));
+}
+
+-- One is wanted, and there is no room.
+pub gathers_full : (P : List (ℕ × ℕ) → Type 0) (front : List (ℕ × ℕ)) (max : ℕ) (old : List (List (ℕ × ℕ))) (one : List (ℕ × ℕ)) → length old ≡ max → P one → Gathers P front max old old true
+gathers_full P front max old one size wanted = record {
+  found = [];
+  grown = sym (append-nil old);
+  wanted = All-nil P;
+  different = all_pairs_nil (λ a b. a ≢ b);
+  few = omega (arith, size);
+  whole = λ e. absurd (true_not_false e);
+  full = λ _. size;
+  more = λ _. record { pairs = one; wanted = wanted; missing = λ (k, under, _). absurd (omega (arith, under)) };
+}
+
+-- Two parts that have none in common.
+pub gathers_both : (P Q : List (ℕ × ℕ) → Type 0) (front : List (ℕ × ℕ)) (max : ℕ) (old middle new : List (List (ℕ × ℕ))) (cut : Bool) → Gathers P front max old middle false → Gathers Q front max middle new cut → ((ps : List (ℕ × ℕ)) → P ps → Q ps → ⊥) → Gathers (λ ps. P ps ⊎ Q ps) front max old new cut
+gathers_both P Q front max old middle new cut first second apart = record {
+  found = first.found ++ second.found;
+  grown =
+      second.grown
+      ∙ ap (λ (xs : List (List (ℕ × ℕ))). xs ++ map (λ ps. front ++ ps) second.found) first.grown
+      ∙ append_assoc old (map (λ ps. front ++ ps) first.found) (map (λ ps. front ++ ps) second.found)
+      ∙ ap (λ (xs : List (List (ℕ × ℕ))). old ++ xs) (sym (map-append (λ ps. front ++ ps) first.found second.found));
+  wanted =
+      All-append (λ ps. P ps ⊎ Q ps) first.found second.found
+      (All-weaker P (λ ps. P ps ⊎ Q ps) (λ ps h. inl h) first.found first.wanted)
+      (All-weaker Q (λ ps. P ps ⊎ Q ps) (λ ps h. inr h) second.found second.wanted);
+  different =
+      all_pairs_append (λ a b. a ≢ b) first.found second.found first.different second.different
+      (All-weaker P (λ x. All (λ y. x ≢ y) second.found)
+      (λ x p. All-weaker Q (λ y. x ≢ y) (λ y q same. apart y (subst P same p) q) second.found second.wanted)
+      first.found first.wanted);
+  few = second.few;
+  whole = λ e ps h. elim h [
+    | inl p ↦ Contains-append_left first.found second.found ps (first.whole refl ps p)
+    | inr q ↦ Contains-append_right first.found second.found ps (second.whole e ps q)
+  ];
+  full = second.full;
+  more = λ e. let other = second.more e in record {
+    pairs = other.pairs;
+    wanted = inr other.wanted;
+    missing = λ there. elim (Contains-append_cases first.found second.found other.pairs there) [
+      | inl before ↦ apart other.pairs (All-contains P first.found other.pairs first.wanted before) other.wanted
+      | inr after ↦ other.missing after
+    ];
+  };
+}
+
+put_behind : (front : List (ℕ × ℕ)) (q : ℕ × ℕ) (found : List (List (ℕ × ℕ))) → map (λ ps. (front ++ q ∷ []) ++ ps) found ≡ map (λ ps. front ++ ps) (map (λ ps. q ∷ ps) found)
+put_behind front q [] = refl
+put_behind front q (ps ∷ found) = λ i. append_assoc front (q ∷ []) ps i ∷ put_behind front q found i
+
+same_rest : (q : ℕ × ℕ) (ps qs : List (ℕ × ℕ)) → q ∷ ps ≡ q ∷ qs → ps ≡ qs
+same_rest q ps qs same = cc
+
+-- What is gathered behind a pair.
+pub gathers_behind : (Q : List (ℕ × ℕ) → Type 0) (front : List (ℕ × ℕ)) (q : ℕ × ℕ) (max : ℕ) (old new : List (List (ℕ × ℕ))) (cut : Bool) → Gathers Q (front ++ q ∷ []) max old new cut → Gathers (IsBehind q Q) front max old new cut
+gathers_behind Q front q max old new cut behind = record {
+  found = map (λ ps. q ∷ ps) behind.found;
+  grown = behind.grown ∙ ap (λ (xs : List (List (ℕ × ℕ))). old ++ xs) (put_behind front q behind.found);
+  wanted =
+      All-map (IsBehind q Q) (λ ps. q ∷ ps) behind.found
+      (All-weaker Q (λ ps. IsBehind q Q (q ∷ ps)) (λ ps h. record { rest = ps; is = refl; wanted = h }) behind.found behind.wanted);
+  different = different_map (λ ps. q ∷ ps) (same_rest q) behind.found behind.different;
+  few = behind.few;
+  whole = λ e ps h. subst (Contains (map (λ ps. q ∷ ps) behind.found)) (sym h.is) (contains_map (λ ps. q ∷ ps) behind.found h.rest (behind.whole e h.rest h.wanted));
+  full = behind.full;
+  more = λ e. let other = behind.more e in record {
+    pairs = q ∷ other.pairs;
+    wanted = record { rest = other.pairs; is = refl; wanted = other.wanted };
+    missing = λ there. other.missing (contains_map_back (λ ps. q ∷ ps) (same_rest q) behind.found other.pairs there);
+  };
+}
+
+-- The same is wanted in other words.
+pub gathers_as : (P Q : List (ℕ × ℕ) → Type 0) (front : List (ℕ × ℕ)) (max : ℕ) (old new : List (List (ℕ × ℕ))) (cut : Bool) → ((ps : List (ℕ × ℕ)) → P ps ↔ Q ps) → Gathers P front max old new cut → Gathers Q front max old new cut
+gathers_as P Q front max old new cut same part = record {
+  found = part.found;
+  grown = part.grown;
+  wanted = All-weaker P Q (λ ps h. (same ps).0 h) part.found part.wanted;
+  different = part.different;
+  few = part.few;
+  whole = λ e ps h. part.whole e ps ((same ps).1 h);
+  full = part.full;
+  more = λ e. let other = part.more e in record { pairs = other.pairs; wanted = (same other.pairs).0 other.wanted; missing = other.missing };
+}
+
+-- What is cut may be a part of what is wanted.
+pub gathers_more : (P Q : List (ℕ × ℕ) → Type 0) (front : List (ℕ × ℕ)) (max : ℕ) (old new : List (List (ℕ × ℕ))) → ((ps : List (ℕ × ℕ)) → P ps → Q ps) → Gathers P front max old new true → Gathers Q front max old new true
+gathers_more P Q front max old new more part = record {
+  found = part.found;
+  grown = part.grown;
+  wanted = All-weaker P Q more part.found part.wanted;
+  different = part.different;
+  few = part.few;
+  whole = λ e. absurd (true_not_false e);
+  full = part.full;
+  more = λ e. let other = part.more e in record { pairs = other.pairs; wanted = more other.pairs other.wanted; missing = other.missing };
+}

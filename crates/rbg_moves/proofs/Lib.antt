@@ -1,0 +1,9 @@
+-- Lemmas, by topic.
+pub mod Gathering
+pub mod Steps
+pub mod Switches
+pub mod Order
+pub mod Listing
+pub mod Outcome
+pub mod Further
+pub mod Seeking

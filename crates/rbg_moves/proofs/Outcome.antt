@@ -1,0 +1,71 @@
+-- What is listed in the end.
+use Rattle.std.proofs.Common.{◌≡◌, ◌≢◌, ℕ, ◌≤◌, List, [], length, Bool, sym, ◌∙◌, subst, ◌⊎◌, inl, inr}
+use Rattle.std.specs.Prelude.{All, AllPairs, Contains}
+use Rattle.std.specs.List.Sorted.{IsPermutation}
+use Rattle.std.proofs.lemmas.List.{map-id}
+use Rattle.std.proofs.lemmas.List.Sorted.{IsPermutation-sym, All-permutation, Contains-permutation, length_permutation}
+use Rattle.rbg_rules.specs.State.{AbstractGame}
+use Rattle.rbg_rules.specs.Positions.{IsNumbered}
+use Rattle.rbg_rules.specs.Moves.{AbstractPlace, stand_of, IsLegal}
+use Rattle.rbg_rules.specs.Questions.{list_moves}
+use Rattle.rbg_rules.specs.Limits.{most_openings, most_modifiers}
+use Rattle.rbg_rules.specs.Heavy.{IsTooHard}
+use Rattle.rbg_search.specs.Counting.{IsOverBudget}
+use Rattle.rbg_search.specs.Passing.{IsTooDeep}
+use Rattle.rbg_search.specs.declared.over.Over.{Over}
+use Rattle.rbg_search.specs.declared.over.Over.TheVariants.{Deep, Wide}
+use Rattle.rbg_search.proofs.CallerLemmas.{too_deep, over_wide}
+use Rattle.rbg_moves.specs.Listing.{IsMoveBefore, IsListed}
+use Rattle.rbg_moves.specs.internal.Gathering.{Gathers}
+use Rattle.rbg_moves.proofs.Order.{still_different}
+
+-- What was gathered behind no pair and into an empty list is what was found.
+all_found : (game : AbstractGame) (place : AbstractPlace) (max : ℕ) (moves : List (List (ℕ × ℕ))) (cut : Bool) (all : Gathers (IsLegal game place) [] max [] moves cut) → moves ≡ all.found
+all_found game place max moves cut all = all.grown ∙ map-id all.found
+
+pub all_differ : (game : AbstractGame) (place : AbstractPlace) (max : ℕ) (moves : List (List (ℕ × ℕ))) (cut : Bool) → Gathers (IsLegal game place) [] max [] moves cut → AllPairs (λ a b. a ≢ b) moves
+all_differ game place max moves cut all = subst (AllPairs (λ a b. a ≢ b)) (sym (all_found game place max moves cut all)) all.different
+
+pub listed : (game : AbstractGame) (place : AbstractPlace) (max : ℕ) (moves sorted : List (List (ℕ × ℕ))) (cut : Bool) → Gathers (IsLegal game place) [] max [] moves cut → IsPermutation moves sorted → AllPairs IsMoveBefore sorted → IsListed game place max sorted cut
+listed game place max moves sorted cut all moved order = record {
+  legal = All-permutation (IsLegal game place) moves sorted moved (subst (All (IsLegal game place)) (sym found) all.wanted);
+  different = still_different moves sorted moved (all_differ game place max moves cut all);
+  order = order;
+  few = subst (λ (n : ℕ). n ≤ max) (sym size) all.few;
+  whole = λ e pairs legal. Contains-permutation moves sorted pairs moved (subst (λ (xs : List (List (ℕ × ℕ))). Contains xs pairs) (sym found) (all.whole e pairs legal));
+  full = λ e. size ∙ all.full e;
+  more = λ e. let other = all.more e in record {
+    pairs = other.pairs;
+    legal = other.wanted;
+    missing = λ there. other.missing (subst (λ (xs : List (List (ℕ × ℕ))). Contains xs other.pairs) found (Contains-permutation sorted moves other.pairs (IsPermutation-sym moves sorted moved) there));
+  };
+}
+  where
+    found : moves ≡ all.found
+    found = all_found game place max moves cut all
+
+    size : length sorted ≡ length moves
+    size = length_permutation moves sorted moved
+
+-- What was gathered where the program began.
+pub gathered_at : (game game' : AbstractGame) (place here : AbstractPlace) (front : List (ℕ × ℕ)) (max : ℕ) (old new : List (List (ℕ × ℕ))) (cut : Bool) → game' ≡ game → here ≡ place → front ≡ [] → old ≡ [] → Gathers (IsLegal game' here) front max old new cut → Gathers (IsLegal game place) [] max [] new cut
+gathered_at game game' place here front max old new cut same same_place no_front none all =
+    subst (λ (xs : List (List (ℕ × ℕ))). Gathers (IsLegal game place) [] max xs new cut) none
+    (subst (λ (ps : List (ℕ × ℕ)). Gathers (IsLegal game place) ps max old new cut) no_front
+    (subst (λ (p : AbstractPlace). Gathers (IsLegal game p) front max old new cut) same_place
+    (subst (λ (g : AbstractGame). Gathers (IsLegal g here) front max old new cut) same all)))
+
+-- Where the listing gives up, the question at the place is above the limits.
+pub heavy_at : (game game' : AbstractGame) → IsNumbered game'.rules → (place here : AbstractPlace) (over : Over) (left modifiers opened openings : ℕ) → game' ≡ game → here ≡ place → left ≡ most_modifiers → modifiers ≡ most_modifiers → opened ≡ 0 → openings ≡ most_openings → (over ≡ Deep → IsTooDeep game' list_moves here.state (stand_of here.last) left modifiers) → (over ≡ Wide → IsOverBudget game' list_moves here.state (stand_of here.last) opened openings) → (over ≡ Deep) ⊎ (over ≡ Wide) → IsTooHard game list_moves place
+heavy_at game game' numbered place here over left modifiers opened openings same same_place all_left same_modifiers none same_openings deep wide (inl is) =
+    let here_deep : IsTooDeep game list_moves here.state (stand_of here.last) most_modifiers most_modifiers =
+    subst (λ (m : ℕ). IsTooDeep game list_moves here.state (stand_of here.last) most_modifiers m) same_modifiers
+    (subst (λ (n : ℕ). IsTooDeep game list_moves here.state (stand_of here.last) n modifiers) all_left
+    (subst (λ (g : AbstractGame). IsTooDeep g list_moves here.state (stand_of here.last) left modifiers) same (deep is))) in
+    inl (too_deep game (subst (λ (g : AbstractGame). IsNumbered g.rules) same numbered) (subst (λ (p : AbstractPlace). IsTooDeep game list_moves p.state (stand_of p.last) most_modifiers most_modifiers) same_place here_deep))
+heavy_at game game' numbered place here over left modifiers opened openings same same_place all_left same_modifiers none same_openings deep wide (inr is) =
+    let here_wide : IsOverBudget game list_moves here.state (stand_of here.last) 0 most_openings =
+    subst (λ (m : ℕ). IsOverBudget game list_moves here.state (stand_of here.last) 0 m) same_openings
+    (subst (λ (n : ℕ). IsOverBudget game list_moves here.state (stand_of here.last) n openings) none
+    (subst (λ (g : AbstractGame). IsOverBudget g list_moves here.state (stand_of here.last) opened openings) same (wide is))) in
+    inr (over_wide game (subst (λ (g : AbstractGame). IsNumbered g.rules) same numbered) (subst (λ (p : AbstractPlace). IsOverBudget game list_moves p.state (stand_of p.last) 0 most_openings) same_place here_wide))

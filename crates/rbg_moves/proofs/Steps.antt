@@ -1,0 +1,382 @@
+-- How a list of pairs is legal by its first pair.
+use Rattle.std.proofs.Common.{◌≡◌, ℕ, ◌⊎◌, inl, inr, ◌<◌, length, List, [], ◌∷◌, ◌++◌, Bool, true, false, refl, sym, ap, ◌∙◌, subst, append_assoc}
+use Rattle.std.specs.Prelude.{All, Contains, Option, Some, None}
+use Rattle.std.proofs.lemmas.List.Elements.{All-nil, All-head, All-tail, All-cons, All-append, All-contains}
+use Rattle.rbg_rules.specs.Expression.{AbstractAction, shift, on, off, assignment, comparison, switch, positive, negative}
+use Rattle.rbg_rules.specs.Positions.{IsNumbered, IsModifierAt, IsSwitchAt, HasNoModifier, HasNoSwitch, is_modifier, is_pattern, IsPatternAt}
+use Rattle.rbg_rules.specs.Words.{Start, after, Follows}
+use Rattle.rbg_rules.specs.State.{AbstractGame, AbstractState, IsStateOf}
+use Rattle.rbg_rules.specs.Actions.{rest, step, Applies, Run}
+use Rattle.rbg_rules.specs.Moves.{RunPairs, stay, modify, pass, AbstractPlace, stand_of, Legal, Finished}
+use Rattle.rbg_rules.specs.Places.{IsPlaceOf, IsLastOf}
+use Rattle.rbg_rules.specs.Laws.{IsStart}
+use Rattle.rbg_rules.specs.Games.{IsGame}
+use Rattle.rbg_rules.specs.Questions.{Question, try_move, IsDeep}
+use Rattle.rbg_rules.specs.Heavy.{IsTooHard}
+use Rattle.rbg_rules.specs.Limits.{most_openings, most_modifiers}
+use Rattle.rbg_search.specs.Counting.{IsOverBudget}
+use Rattle.rbg_search.proofs.CallerLemmas.{over_wide}
+use Rattle.rbg_rules.proofs.StateLemmas.{state_law}
+use Rattle.rbg_rules.proofs.MoveLemmas.{Applies_one}
+use Rattle.rbg_rules.proofs.TableLemmas.{plain_stands, numbered_action}
+use Rattle.rbg_rules.proofs.PlaceLemmas.{RunPairs_join}
+use Rattle.rbg_rules.proofs.LocalityLemmas.{locality_law}
+use Rattle.rbg_search.specs.Flat.{IsNext, IsFlatPart}
+use Rattle.rbg_moves.specs.internal.Stepping.{standing_at, place_behind, IsStep, IsValidAt, IsTried, IsMadeFrom, made, goes_on}
+use Rattle.rbg_search.specs.Passing.{GoesOn, trying}
+use Rattle.rbg_search.specs.Start.{IsPositionOf}
+use Rattle.rbg_search.proofs.Starts.{action_position}
+use Rattle.rbg_search.proofs.Closures.{quiet_action, quiet_place, ends_at}
+
+-- A switch is a modifier.
+pub switch_modifies : (game : AbstractGame) (p : ℕ) → IsSwitchAt game.rules p → IsModifierAt game.rules p
+switch_modifies game p switches = record { action = switch switches.player; stands = switches.stands; modifies = refl }
+
+-- A modifier has a position of the rules, and is no pattern.
+pub modifier_position : (game : AbstractGame) → IsNumbered game.rules → (p : ℕ) → IsModifierAt game.rules p → IsPositionOf game.rules p
+modifier_position game numbered p modifier = action_position game.rules numbered p modifier.action modifier.stands
+
+no_pattern : (a : AbstractAction) → is_modifier a ≡ true → is_pattern a ≡ false
+no_pattern (shift d) modifies = refl
+no_pattern (on xs) modifies = refl
+no_pattern (off x) modifies = refl
+no_pattern (assignment v e) modifies = refl
+no_pattern (comparison e r f) modifies = refl
+no_pattern (switch n) modifies = refl
+no_pattern (positive x) modifies = cc
+no_pattern (negative x) modifies = cc
+
+pub modifier_plain : (game : AbstractGame) → IsNumbered game.rules → (p : ℕ) → IsModifierAt game.rules p → ¬ IsPatternAt game.rules p
+modifier_plain game numbered p modifier = plain_stands game.rules numbered p modifier.action (no_pattern modifier.action modifier.modifies) modifier.stands
+
+-- One may stand where a place stands, and behind a modifier.
+pub place_start : (game : AbstractGame) → IsNumbered game.rules → (place : AbstractPlace) → IsPlaceOf game place → IsStart game.rules (stand_of place.last)
+place_start game numbered place is = by_last place.last is.last
+  where
+    by_last : (last : Option ℕ) → IsLastOf game.rules last → IsStart game.rules (stand_of last)
+    by_last None within = (game.rules, refl)
+    by_last (Some p) within = numbered_action game.rules numbered p within.0 within.1
+
+no_switch : (game : AbstractGame) (w : List ℕ) → HasNoModifier game.rules w → HasNoSwitch game.rules w
+no_switch game [] none = All-nil (λ (p : ℕ). ¬ IsSwitchAt game.rules p)
+no_switch game (p ∷ w) none =
+    All-cons (λ (q : ℕ). ¬ IsSwitchAt game.rules q) p w
+    (λ switches. All-head (λ (q : ℕ). ¬ IsModifierAt game.rules q) p w none (switch_modifies game p switches))
+    (no_switch game w (All-tail (λ (q : ℕ). ¬ IsModifierAt game.rules q) p w none))
+
+-- A run without a modifier leaves no pair.
+quiet_pairs : (game : AbstractGame) (w : List ℕ) {s t : AbstractState} → HasNoModifier game.rules w → Run game w s t → RunPairs game w s t []
+quiet_pairs game w none rest = stay
+quiet_pairs game w none (step {p = p} {w = m} applied run) =
+    pass applied (quiet_action game p applied (All-head (λ (q : ℕ). ¬ IsModifierAt game.rules q) p m none))
+    (quiet_pairs game m (All-tail (λ (q : ℕ). ¬ IsModifierAt game.rules q) p m none) run)
+
+true_not_false : true ≡ false → ⊥
+true_not_false e = cc
+
+-- A modifier leaves its pair.
+one_pair : (game : AbstractGame) → IsNumbered game.rules → (p : ℕ) (s t : AbstractState) → IsModifierAt game.rules p → Applies game p s t → RunPairs game (p ∷ []) s t ((s.vertex, p) ∷ [])
+one_pair game numbered p s t modifier applied = by_kind (is_modifier applied.action) refl
+  where
+    by_kind : (b : Bool) → is_modifier applied.action ≡ b → RunPairs game (p ∷ []) s t ((s.vertex, p) ∷ [])
+    by_kind true modifies = modify applied modifies stay
+    by_kind false quiet = absurd (quiet_place game numbered p applied quiet modifier)
+
+-- A modifier that comes next is applied with the pair's vertex as the current one, where nothing else is new.
+pub next_here : (game : AbstractGame) → IsNumbered game.rules → (s : AbstractState) (f : Start) (v p : ℕ) (next : IsNext game s f v p) → next.here ≡ standing_at s v
+next_here game numbered s f v p next = ends_at game numbered s next.here next.before next.no_modifier next.runs ∙ ap (λ (x : ℕ). standing_at s x) next.vertex
+
+pub next_applies : (game : AbstractGame) → IsNumbered game.rules → (s : AbstractState) (f : Start) (v p : ℕ) (next : IsNext game s f v p) → Applies game p (standing_at s v) next.later
+next_applies game numbered s f v p next = subst (λ (u : AbstractState). Applies game p u next.later) (next_here game numbered s f v p next) next.applies
+
+-- A modifier that comes next makes a run with its pair.
+next_runs : (game : AbstractGame) → IsNumbered game.rules → (s : AbstractState) (f : Start) (v p : ℕ) (next : IsNext game s f v p) (later : AbstractState) → Applies game p (standing_at s v) later → RunPairs game (next.before ++ p ∷ []) s later ((v, p) ∷ [])
+next_runs game numbered s f v p next later applied =
+    let here : Run game next.before s (standing_at s v) = subst (λ (u : AbstractState). Run game next.before s u) (next_here game numbered s f v p next) next.runs in
+    RunPairs_join (quiet_pairs game next.before next.no_modifier here) (one_pair game numbered p (standing_at s v) later next.modifies applied)
+
+-- A switch that comes next is a legal move.
+pub legal_end : (game : AbstractGame) → IsNumbered game.rules → (place : AbstractPlace) (v p : ℕ) (later : AbstractState) → IsNext game place.state (stand_of place.last) v p → IsSwitchAt game.rules p → Applies game p (standing_at place.state v) later → Legal game place ((v, p) ∷ []) (place_behind later p)
+legal_end game numbered place v p later next switches applied = record {
+  before = next.before;
+  last = p;
+  follows = next.follows;
+  runs = next_runs game numbered place.state (stand_of place.last) v p next later applied;
+  switches = switches;
+  none_before = no_switch game next.before next.no_modifier;
+  stands = refl;
+}
+
+-- What is legal behind another modifier that comes next, is legal with its pair in front.
+pub legal_on : (game : AbstractGame) → IsNumbered game.rules → (place : AbstractPlace) (v p : ℕ) (later : AbstractState) (qs : List (ℕ × ℕ)) (to : AbstractPlace) → IsNext game place.state (stand_of place.last) v p → ¬ IsSwitchAt game.rules p → Applies game p (standing_at place.state v) later → Legal game (place_behind later p) qs to → Legal game place ((v, p) ∷ qs) to
+legal_on game numbered place v p later qs to next plain applied legal =
+    let joined : (next.before ++ p ∷ legal.before) ++ legal.last ∷ [] ≡ next.before ++ (p ∷ (legal.before ++ legal.last ∷ [])) = append_assoc next.before (p ∷ legal.before) (legal.last ∷ []) in
+    let joined' : (next.before ++ p ∷ []) ++ (legal.before ++ legal.last ∷ []) ≡ next.before ++ (p ∷ (legal.before ++ legal.last ∷ [])) = append_assoc next.before (p ∷ []) (legal.before ++ legal.last ∷ []) in
+    let runs : RunPairs game ((next.before ++ p ∷ []) ++ (legal.before ++ legal.last ∷ [])) place.state to.state ((v, p) ∷ qs) = RunPairs_join (next_runs game numbered place.state (stand_of place.last) v p next later applied) legal.runs in
+    record {
+      before = next.before ++ p ∷ legal.before;
+      last = legal.last;
+      follows = subst (λ (m : List ℕ). Follows game.rules (stand_of place.last) m) (sym joined) ((locality_law game.rules numbered (stand_of place.last) next.before p (legal.before ++ legal.last ∷ [])).0.1 (next.follows, legal.follows));
+      runs = subst (λ (m : List ℕ). RunPairs game m place.state to.state ((v, p) ∷ qs)) (joined' ∙ sym joined) runs;
+      switches = legal.switches;
+      none_before = All-append (λ (q : ℕ). ¬ IsSwitchAt game.rules q) next.before (p ∷ legal.before) (no_switch game next.before next.no_modifier) (All-cons (λ (q : ℕ). ¬ IsSwitchAt game.rules q) p legal.before plain legal.none_before);
+      stands = legal.stands;
+    }
+
+-- A run with pairs goes, without a modifier, to the modifier of the first one, and from there on.
+record CutRun (game : AbstractGame) (w : List ℕ) (s t : AbstractState) (v p : ℕ) (qs : List (ℕ × ℕ)) : Type 0 where
+  before : List ℕ
+  remainder : List ℕ
+  here : AbstractState
+  later : AbstractState
+  word : w ≡ before ++ p ∷ remainder
+  no_modifier : HasNoModifier game.rules before
+  runs : Run game before s here
+  vertex : here.vertex ≡ v
+  modifies : IsModifierAt game.rules p
+  applies : Applies game p here later
+  onward : RunPairs game remainder later t qs
+
+cut_run : (game : AbstractGame) → IsNumbered game.rules → {w : List ℕ} {s t : AbstractState} {v p : ℕ} {qs : List (ℕ × ℕ)} → RunPairs game w s t ((v, p) ∷ qs) → CutRun game w s t v p qs
+cut_run game numbered (modify {w = w} {s = s} {middle = middle} applied modifies run) = record {
+  before = [];
+  remainder = w;
+  here = s;
+  later = middle;
+  word = refl;
+  no_modifier = All-nil (λ (q : ℕ). ¬ IsModifierAt game.rules q);
+  runs = rest;
+  vertex = refl;
+  modifies = record { action = applied.action; stands = applied.stands; modifies = modifies };
+  applies = applied;
+  onward = run;
+}
+cut_run game numbered (pass {p = p} applied quiet run) =
+    let cut = cut_run game numbered run in
+    record {
+      before = p ∷ cut.before;
+      remainder = cut.remainder;
+      here = cut.here;
+      later = cut.later;
+      word = ap (λ (m : List ℕ). p ∷ m) cut.word;
+      no_modifier = All-cons (λ (q : ℕ). ¬ IsModifierAt game.rules q) p cut.before (quiet_place game numbered p applied quiet) cut.no_modifier;
+      runs = step applied cut.runs;
+      vertex = cut.vertex;
+      modifies = cut.modifies;
+      applies = cut.applies;
+      onward = cut.onward;
+    }
+
+-- Where a list ends: with the element that stands in it, or behind that.
+data EndOf (u : List ℕ) (p : ℕ) (w before : List ℕ) (last : ℕ) : Type 0 where
+  here : w ≡ [] → before ≡ u → last ≡ p → EndOf u p w before last
+  behind : (m : List ℕ) → w ≡ m ++ last ∷ [] → before ≡ u ++ p ∷ m → EndOf u p w before last
+
+not_empty : (u : List ℕ) (p : ℕ) (w : List ℕ) → [] ≡ u ++ p ∷ w → ⊥
+not_empty [] p w e = cc
+not_empty (a ∷ u) p w e = cc
+
+end_of : (u : List ℕ) (p : ℕ) (w before : List ℕ) (last : ℕ) → before ++ last ∷ [] ≡ u ++ p ∷ w → EndOf u p w before last
+end_of [] p w [] last e = here (cc) refl (cc)
+end_of [] p w (b ∷ before) last e = behind before (cc) (cc)
+end_of (a ∷ u) p w [] last e = let tails : [] ≡ u ++ p ∷ w = cc in absurd (not_empty u p w tails)
+end_of (a ∷ u) p w (b ∷ before) last e =
+    let tails : before ++ last ∷ [] ≡ u ++ p ∷ w = cc in
+    let heads : b ≡ a = cc in
+    further heads (end_of u p w before last tails)
+  where
+    further : b ≡ a → EndOf u p w before last → EndOf (a ∷ u) p w (b ∷ before) last
+    further heads (here empty same end) = here empty (cc) end
+    further heads (behind m end same) = behind m end (cc)
+
+all_right : (P : ℕ → Type 0) (u v : List ℕ) → All P (u ++ v) → All P v
+all_right P [] v all = all
+all_right P (a ∷ u) v all = all_right P u v (All-tail P a (u ++ v) all)
+
+-- What stands behind the first pair of a legal list: nothing, where the pair is of the switch; else what is legal there.
+pub data Onward (game : AbstractGame) (later : AbstractState) (p : ℕ) (qs : List (ℕ × ℕ)) (to : AbstractPlace) : Type 0 where
+  ended : IsSwitchAt game.rules p → qs ≡ [] → to ≡ place_behind later p → Onward game later p qs to
+  going : ¬ IsSwitchAt game.rules p → Legal game (place_behind later p) qs to → Onward game later p qs to
+
+-- The first pair of a legal list comes next.
+pub record CutLegal (game : AbstractGame) (place : AbstractPlace) (v p : ℕ) (qs : List (ℕ × ℕ)) (to : AbstractPlace) : Type 0 where
+  pub next : IsNext game place.state (stand_of place.last) v p
+  pub later : AbstractState
+  pub applies : Applies game p (standing_at place.state v) later
+  pub onward : Onward game later p qs to
+
+no_pairs : {game : AbstractGame} {s t : AbstractState} {qs : List (ℕ × ℕ)} → RunPairs game [] s t qs → (qs ≡ []) × (t ≡ s)
+no_pairs stay = (refl, refl)
+
+same_place : {to to' : AbstractPlace} → to.state ≡ to'.state → to.last ≡ to'.last → to ≡ to'
+same_place state last = λ i. record { state = state i; last = last i }
+
+pub legal_cut : (game : AbstractGame) → IsNumbered game.rules → (place : AbstractPlace) (v p : ℕ) (qs : List (ℕ × ℕ)) (to : AbstractPlace) → Legal game place ((v, p) ∷ qs) to → CutLegal game place v p qs to
+legal_cut game numbered place v p qs to legal =
+    let cut = cut_run game numbered legal.runs in
+    let follows : Follows game.rules f (cut.before ++ p ∷ cut.remainder) = subst (λ (m : List ℕ). Follows game.rules f m) cut.word legal.follows in
+    let parts = (locality_law game.rules numbered f cut.before p cut.remainder).0.0 follows in
+    let next : IsNext game place.state f v p = record {
+      before = cut.before;
+      here = cut.here;
+      later = cut.later;
+      no_modifier = cut.no_modifier;
+      runs = cut.runs;
+      vertex = cut.vertex;
+      follows = parts.0;
+      modifies = cut.modifies;
+      applies = cut.applies;
+    } in
+    record { next = next; later = cut.later; applies = next_applies game numbered place.state f v p next; onward = by_end cut parts.1 (end_of cut.before p cut.remainder legal.before legal.last cut.word) }
+  where
+    f : Start
+    f = stand_of place.last
+
+    by_end : (cut : CutRun game (legal.before ++ legal.last ∷ []) place.state to.state v p qs) → Follows game.rules (after p) cut.remainder → EndOf cut.before p cut.remainder legal.before legal.last → Onward game cut.later p qs to
+    by_end cut follows (here empty same end) =
+        let run = no_pairs (subst (λ (m : List ℕ). RunPairs game m cut.later to.state qs) empty cut.onward) in
+        ended (subst (λ (q : ℕ). IsSwitchAt game.rules q) end legal.switches) run.0 (same_place run.1 (legal.stands ∙ ap Some end))
+    by_end cut follows (behind m end same) =
+        let none : HasNoSwitch game.rules (cut.before ++ p ∷ m) = subst (λ (w : List ℕ). HasNoSwitch game.rules w) same legal.none_before in
+        let none_behind : HasNoSwitch game.rules (p ∷ m) = all_right (λ (q : ℕ). ¬ IsSwitchAt game.rules q) cut.before (p ∷ m) none in
+        going (All-head (λ (q : ℕ). ¬ IsSwitchAt game.rules q) p m none_behind) (record {
+          before = m;
+          last = legal.last;
+          follows = subst (λ (w : List ℕ). Follows game.rules (after p) w) end follows;
+          runs = subst (λ (w : List ℕ). RunPairs game w cut.later to.state qs) end cut.onward;
+          switches = legal.switches;
+          none_before = All-tail (λ (q : ℕ). ¬ IsSwitchAt game.rules q) p m none_behind;
+          stands = legal.stands;
+        })
+
+-- No pairs are never legal.
+switch_pairs : (game : AbstractGame) → IsNumbered game.rules → (w : List ℕ) (p : ℕ) (s t : AbstractState) → IsSwitchAt game.rules p → RunPairs game (w ++ p ∷ []) s t [] → ⊥
+switch_pairs game numbered [] p s t switches (pass applied quiet run) = quiet_place game numbered p applied quiet (switch_modifies game p switches)
+switch_pairs game numbered (q ∷ w) p s t switches (pass applied quiet run) = switch_pairs game numbered w p _ t switches run
+
+pub legal_some : (game : AbstractGame) → IsNumbered game.rules → (place to : AbstractPlace) → ¬ Legal game place [] to
+legal_some game numbered place to legal = switch_pairs game numbered legal.before legal.last place.state to.state legal.switches legal.runs
+
+-- Nothing is legal where no switch comes next, and nothing is legal behind the modifiers that do.
+pub none_legal : (game : AbstractGame) → IsNumbered game.rules → (place : AbstractPlace) → ((v p : ℕ) → IsNext game place.state (stand_of place.last) v p → ¬ IsSwitchAt game.rules p) → ((v p : ℕ) (later : AbstractState) → IsNext game place.state (stand_of place.last) v p → Applies game p (standing_at place.state v) later → Finished game (place_behind later p)) → Finished game place
+none_legal game numbered place plain nothing = record { no_move = none }
+  where
+    none : (ps : List (ℕ × ℕ)) (to : AbstractPlace) → ¬ Legal game place ps to
+    none [] to legal = legal_some game numbered place to legal
+    none ((v, p) ∷ qs) to legal =
+        let cut = legal_cut game numbered place v p qs to legal in
+        by_onward cut (cut.onward)
+      where
+        by_onward : (cut : CutLegal game place v p qs to) → Onward game cut.later p qs to → ⊥
+        by_onward cut (ended switches _ _) = plain v p cut.next switches
+        by_onward cut (going _ legal) = (nothing v p cut.later cut.next cut.applies).no_move qs to legal
+
+-- What comes next is valid at its vertex.
+pub valid_next : (game : AbstractGame) → IsNumbered game.rules → (s : AbstractState) (f : Start) (v p : ℕ) → v < length game.board.first → IsNext game s f v p → IsValidAt game s v p
+valid_next game numbered s f v p there next = record { there = there; modifies = next.modifies; later = next.later; applies = next_applies game numbered s f v p next }
+
+-- The place behind a modifier is one of the game.
+pub place_after : (game : AbstractGame) → IsNumbered game.rules → (later : AbstractState) (p : ℕ) → IsModifierAt game.rules p → IsStateOf game later → IsPlaceOf game (place_behind later p)
+place_after game numbered later p modifier fits =
+    let position = modifier_position game numbered p modifier in
+    record { state = fits; last = (position.from_one, position.there) }
+
+-- What is found in a flat part comes next, and the other way round.
+pub next_from : (game : AbstractGame) (s : AbstractState) (f f' : Start) (pairs items : List (ℕ × ℕ)) (ends : Bool) (q : ℕ × ℕ) → IsFlatPart game s f' items ends → f' ≡ f → pairs ≡ items → Contains pairs q → IsNext game s f q.0 q.1
+next_from game s f f' pairs items ends q part same is has =
+    subst (λ (h : Start). IsNext game s h q.0 q.1) same ((part.next q.0 q.1).0 (subst (λ (qs : List (ℕ × ℕ)). Contains qs q) is has))
+
+pub has_next : (game : AbstractGame) (s : AbstractState) (f f' : Start) (pairs items : List (ℕ × ℕ)) (ends : Bool) (q : ℕ × ℕ) → IsFlatPart game s f' items ends → f' ≡ f → pairs ≡ items → IsNext game s f q.0 q.1 → Contains pairs q
+has_next game s f f' pairs items ends q part same is next =
+    subst (λ (qs : List (ℕ × ℕ)). Contains qs q) (sym is) ((part.next q.0 q.1).1 (subst (λ (h : Start). IsNext game s h q.0 q.1) (sym same) next))
+
+-- What comes next in a semi-state of the game stands at a vertex of the board.
+run_fits : (game : AbstractGame) → IsGame game → {w : List ℕ} {s t : AbstractState} → Run game w s t → IsStateOf game s → IsStateOf game t
+run_fits game lawful rest fits = fits
+run_fits game lawful (step {p = p} {s = s} {middle = middle} applied run) fits = run_fits game lawful run ((state_law game lawful).1 p s middle fits applied)
+
+pub next_there : (game : AbstractGame) → IsGame game → (s : AbstractState) (f : Start) (v p : ℕ) → IsStateOf game s → IsNext game s f v p → v < length game.board.first
+next_there game lawful s f v p fits next =
+    let here = run_fits game lawful next.runs fits in
+    subst (λ (n : ℕ). v < n) here.vertices (subst (λ (n : ℕ). n < length next.here.pieces) next.vertex here.vertex)
+
+-- Only what the step leads to is behind it.
+step_one : (game : AbstractGame) → IsNumbered game.rules → (place : AbstractPlace) (v p : ℕ) (qs : List (ℕ × ℕ)) (to : AbstractPlace) (later : AbstractState) → Applies game p (standing_at place.state v) later → CutLegal game place v p qs to → Onward game later p qs to
+step_one game numbered place v p qs to later applied cut =
+    subst (λ (u : AbstractState). Onward game u p qs to) (Applies_one game numbered p cut.applies applied) cut.onward
+
+-- Pairs of which the first doesn't come next are not legal.
+pub none_at : (game : AbstractGame) → IsNumbered game.rules → (place : AbstractPlace) (v p : ℕ) (qs : List (ℕ × ℕ)) → ¬ IsNext game place.state (stand_of place.last) v p → (to : AbstractPlace) → ¬ Legal game place ((v, p) ∷ qs) to
+none_at game numbered place v p qs other to legal = other (legal_cut game numbered place v p qs to legal).next
+
+-- Behind a modifier that is no switch the rest decides.
+pub step_legal : (game : AbstractGame) → IsNumbered game.rules → (place : AbstractPlace) (v p : ℕ) (qs : List (ℕ × ℕ)) (to : AbstractPlace) (later : AbstractState) → IsStep game place.state (stand_of place.last) v p later → ¬ IsSwitchAt game.rules p → Legal game (place_behind later p) qs to → Legal game place ((v, p) ∷ qs) to
+step_legal game numbered place v p qs to later taken plain legal = legal_on game numbered place v p later qs to taken.next plain taken.applies legal
+
+pub step_none : (game : AbstractGame) → IsNumbered game.rules → (place : AbstractPlace) (v p : ℕ) (qs : List (ℕ × ℕ)) (later : AbstractState) → IsStep game place.state (stand_of place.last) v p later → ¬ IsSwitchAt game.rules p → ((to : AbstractPlace) → ¬ Legal game (place_behind later p) qs to) → (to : AbstractPlace) → ¬ Legal game place ((v, p) ∷ qs) to
+step_none game numbered place v p qs later taken plain none to legal =
+    by_onward (step_one game numbered place v p qs to later taken.applies (legal_cut game numbered place v p qs to legal))
+  where
+    by_onward : Onward game later p qs to → ⊥
+    by_onward (ended switches _ _) = plain switches
+    by_onward (going _ legal) = none to legal
+
+-- A switch ends the list.
+pub step_ends : (game : AbstractGame) → IsNumbered game.rules → (place : AbstractPlace) (v p : ℕ) (later : AbstractState) → IsStep game place.state (stand_of place.last) v p later → IsSwitchAt game.rules p → Legal game place ((v, p) ∷ []) (place_behind later p)
+step_ends game numbered place v p later taken switches = legal_end game numbered place v p later taken.next switches taken.applies
+
+pub none_after : (game : AbstractGame) → IsNumbered game.rules → (place : AbstractPlace) (v p : ℕ) (qs : List (ℕ × ℕ)) → IsSwitchAt game.rules p → ¬ (qs ≡ []) → (to : AbstractPlace) → ¬ Legal game place ((v, p) ∷ qs) to
+none_after game numbered place v p qs switches more to legal = by_onward (legal_cut game numbered place v p qs to legal).onward
+  where
+    by_onward : {later : AbstractState} → Onward game later p qs to → ⊥
+    by_onward (ended _ empty _) = more empty
+    by_onward (going plain _) = plain switches
+
+-- The question goes on from the pair to the rest.
+pub step_goes_on : (game : AbstractGame) (s : AbstractState) (f : Start) (v p : ℕ) (qs : List (ℕ × ℕ)) (later : AbstractState) → IsStep game s f v p later → ¬ IsSwitchAt game.rules p → GoesOn game (try_move ((v, p) ∷ qs)) s f v p (try_move qs) later
+step_goes_on game s f v p qs later taken plain = record { next = taken.next; applies = taken.applies; plain = plain; passes = trying }
+
+-- A move that goes on takes its pairs one after another.
+pub made_next : (game : AbstractGame) → IsNumbered game.rules → (place : AbstractPlace) (v p : ℕ) (qs : List (ℕ × ℕ)) (to : AbstractPlace) → IsMadeFrom game place ((v, p) ∷ qs) to → IsNext game place.state (stand_of place.last) v p
+made_next game numbered place v p qs to (goes_on legal) = (legal_cut game numbered place v p qs to legal).next
+
+pub made_on : (game : AbstractGame) → IsNumbered game.rules → (place : AbstractPlace) (v p : ℕ) (qs : List (ℕ × ℕ)) (to : AbstractPlace) (later : AbstractState) → Applies game p (standing_at place.state v) later → IsMadeFrom game place ((v, p) ∷ qs) to → IsMadeFrom game (place_behind later p) qs to
+made_on game numbered place v p qs to later applied (goes_on legal) =
+    by_onward (step_one game numbered place v p qs to later applied (legal_cut game numbered place v p qs to legal))
+  where
+    by_onward : Onward game later p qs to → IsMadeFrom game (place_behind later p) qs to
+    by_onward (ended _ empty same) = subst (λ (rs : List (ℕ × ℕ)). IsMadeFrom game (place_behind later p) rs to) (sym empty) (subst (λ (u : AbstractPlace). IsMadeFrom game (place_behind later p) [] u) (sym same) made)
+    by_onward (going _ legal) = goes_on legal
+
+pub made_end : (game : AbstractGame) → IsNumbered game.rules → (place to : AbstractPlace) → IsMadeFrom game place [] to → to ≡ place
+made_end game numbered place to made = refl
+made_end game numbered place to (goes_on legal) = absurd (legal_some game numbered place to legal)
+
+-- Nothing is legal where no switch is found in the flat part, and nothing is legal behind what is.
+pub none_found : (game : AbstractGame) → IsNumbered game.rules → (place : AbstractPlace) (f' : Start) (pairs : List (ℕ × ℕ)) (ends : Bool) → IsFlatPart game place.state f' pairs ends → f' ≡ stand_of place.last → All (λ (q : ℕ × ℕ). ¬ IsSwitchAt game.rules q.1) pairs → All (λ (q : ℕ × ℕ). (later : AbstractState) → Applies game q.1 (standing_at place.state q.0) later → Finished game (place_behind later q.1)) pairs → Finished game place
+none_found game numbered place f' pairs ends part same plain nothing =
+    none_legal game numbered place
+    (λ v p next. All-contains (λ (q : ℕ × ℕ). ¬ IsSwitchAt game.rules q.1) pairs (v, p) plain (has_next game place.state (stand_of place.last) f' pairs pairs ends (v, p) part same refl next))
+    (λ v p later next. All-contains (λ (q : ℕ × ℕ). (later : AbstractState) → Applies game q.1 (standing_at place.state q.0) later → Finished game (place_behind later q.1)) pairs (v, p) nothing (has_next game place.state (stand_of place.last) f' pairs pairs ends (v, p) part same refl next) later)
+
+-- What becomes of the pairs behind the first one becomes of all.
+pub tried_on : (game : AbstractGame) → IsNumbered game.rules → (place : AbstractPlace) (v p : ℕ) (qs : List (ℕ × ℕ)) (later new : AbstractState) → IsStep game place.state (stand_of place.last) v p later → ¬ IsSwitchAt game.rules p → (end : Option ℕ) → IsTried game (place_behind later p) qs new end → IsTried game place ((v, p) ∷ qs) new end
+tried_on game numbered place v p qs later new taken plain (Some last) legal = step_legal game numbered place v p qs (place_behind new last) later taken plain legal
+tried_on game numbered place v p qs later new taken plain None none = step_none game numbered place v p qs later taken plain none
+
+-- A search that is over is over for the question at the place.
+pub heavy_from : (game : AbstractGame) → IsNumbered game.rules → (question : Question) (place : AbstractPlace) (g : AbstractGame) (s : AbstractState) (f : Start) (opened openings modifiers : ℕ) → g ≡ game → s ≡ place.state → f ≡ stand_of place.last → opened ≡ 0 → openings ≡ most_openings → modifiers ≡ most_modifiers → IsDeep g question s f modifiers ⊎ IsOverBudget g question s f opened openings → IsTooHard game question place
+heavy_from game numbered question place g s f opened openings modifiers same state start none most_o most_m (inl deep) =
+    inl
+    (subst (λ (n : ℕ). IsDeep game question place.state (stand_of place.last) n) most_m
+    (subst (λ (h : AbstractGame). IsDeep h question place.state (stand_of place.last) modifiers) same
+    (subst (λ (u : AbstractState). IsDeep g question u (stand_of place.last) modifiers) state
+    (subst (λ (h : Start). IsDeep g question s h modifiers) start deep))))
+heavy_from game numbered question place g s f opened openings modifiers same state start none most_o most_m (inr over) =
+    inr
+    (over_wide game numbered
+    (subst (λ (n : ℕ). IsOverBudget game question place.state (stand_of place.last) 0 n) most_o
+    (subst (λ (n : ℕ). IsOverBudget game question place.state (stand_of place.last) n openings) none
+    (subst (λ (h : AbstractGame). IsOverBudget h question place.state (stand_of place.last) opened openings) same
+    (subst (λ (u : AbstractState). IsOverBudget g question u (stand_of place.last) opened openings) state
+    (subst (λ (h : Start). IsOverBudget g question s h opened openings) start over))))))

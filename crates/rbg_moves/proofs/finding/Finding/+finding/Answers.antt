@@ -1,0 +1,328 @@
+-- A move that goes on from where one stands.
+use Rattle.std.proofs.Common.{rules, ◌≡◌, ℕ, suc, ◌+◌, ◌-◌, ◌<◌, List, ◌∷◌, [], ◌++◌, length, get_or, refl, sym, ap, ◌∙◌, subst, arith}
+use Rattle.std.specs.Prelude.{All, Option, Some, None, IfSome, IfNone}
+use Rattle.std.proofs.lemmas.List.{take_all}
+use Rattle.rbg_pairs.specs.Move.{most_pairs}
+use Rattle.rbg_rules.specs.Positions.{IsSwitchAt}
+use Rattle.rbg_rules.specs.Words.{Start, after}
+use Rattle.rbg_rules.specs.State.{AbstractGame, AbstractState, IsStateOf}
+use Rattle.rbg_rules.specs.Actions.{Applies}
+use Rattle.rbg_rules.specs.Moves.{stand_of, Finished}
+use Rattle.rbg_rules.specs.Places.{IsPlaceOf}
+use Rattle.rbg_rules.specs.Questions.{reach, find_move, IsDeep}
+use Rattle.rbg_rules.specs.Laws.{IsStart}
+use Rattle.rbg_rules.specs.Games.{IsGame}
+use Rattle.rbg_state.specs.History.{History}
+use Rattle.rbg_search.specs.Counting.{CountsOpenings, IsOverBudget}
+use Rattle.rbg_search.specs.Passing.{IsTooDeep, somewhere}
+use Rattle.rbg_search.specs.Searching.{Searching}
+use Rattle.rbg_search.specs.Start.{start_of}
+use Rattle.rbg_search.proofs.CallerLemmas.{find_begins, counts_begin, counts_reached, counts_end, over_begin, deep_begin}
+use Rattle.rbg_moves.specs.internal.Stepping.{standing_at, place_behind, IsValidAt, GoesOnBehind}
+use Rattle.rbg_moves.proofs.Steps.{place_start, place_after, next_applies, next_there, next_from, legal_end, none_found, valid_next}
+use Rattle.rbg_moves.proofs.Seeking.{kept_twice, room_twice, part_of, AtPair, pair_next, pair_plain, pair_applies, pair_row, pair_deep, pair_counts, pair_over, pair_more, behind_found, one_behind, applied_back, deep_as, over_as, counts_as, behind_as, plain_of, nothing_as}
+use Rattle.rbg_moves.proofs.finding.Finding.+finding.Goals as goal
+
+pub find-reach-requires-clause-stands : goal.find-reach-requires-clause-stands
+find-reach-requires-clause-stands g t c =
+    let game = c.args.self.now.search.game in
+    let s = c.args.self.now.state.state in
+    let f = stand_of c.args.after in
+    let numbered = c.game-game.ensures.lawful.numbered in
+    subst (IsStart game.rules) (sym c.origin_after.ensures) (place_start game numbered (record { state = s; last = c.args.after }) c.requires.place)
+
+pub find-returns-in_err-reached-clause-deep : goal.find-returns-in_err-reached-clause-deep
+find-returns-in_err-reached-clause-deep g t c e =
+    let game = c.args.self.now.search.game in
+    let s = c.args.self.now.state.state in
+    let f = stand_of c.args.after in
+    let numbered = c.game-game.ensures.lawful.numbered in
+    let deep : IsDeep game reach s f c.args.self.now.search.modifiers = subst (λ (h : Start). IsDeep game reach s h c.args.self.now.search.modifiers) c.origin_after.ensures (c.reach.ensures.deep (search rules)) in
+    somewhere (deep_begin game numbered (find_begins game s f) deep)
+
+pub find-returns-in_err-reached-clause-wide : goal.find-returns-in_err-reached-clause-wide
+find-returns-in_err-reached-clause-wide g t c e =
+    let game = c.args.self.now.search.game in
+    let s = c.args.self.now.state.state in
+    let f = stand_of c.args.after in
+    let numbered = c.game-game.ensures.lawful.numbered in
+    let wide : IsOverBudget game reach s f c.args.self.now.search.opened c.args.self.now.search.openings = subst (λ (h : Start). IsOverBudget game reach s h c.args.self.now.search.opened c.args.self.now.search.openings) c.origin_after.ensures (c.reach.ensures.wide (search rules)) in
+    over_begin game numbered (find_begins game s f) wide
+
+pub find-returns-in-Some-clause-found : goal.find-returns-in-Some-clause-found
+find-returns-in-Some-clause-found g t c =
+    let game = c.args.self.now.search.game in
+    let s = c.args.self.now.state.state in
+    let f = stand_of c.args.after in
+    let numbered = c.game-game.ensures.lawful.numbered in
+    let items = c.in_ok-reached.reached.pairs.items in
+    let last = c.in-Some.last in
+    let next = next_from game s f (start_of c.origin_after.result) c.deref.result.now items c.in_ok-reached.reached.ends last c.in_ok-reached.ensures.reached c.origin_after.ensures c.deref.ensures.value c.in-Some.ensures.there in
+    let switches : IsSwitchAt game.rules last.1 = subst (λ (h : AbstractGame). IsSwitchAt h.rules last.1) c.game-game.ensures.game c.in-Some.ensures.switches in
+    record {
+      pairs = last ∷ [];
+      joined = c.move_of.ensures ∙ ap (λ (qs : List (ℕ × ℕ)). qs ++ last ∷ []) c.as_slice.ensures.value;
+      legal = (place_behind next.later last.1, legal_end game numbered (record { state = s; last = c.args.after }) last.0 last.1 next.later next switches (next_applies game numbered s f last.0 last.1 next));
+    }
+
+pub find-returns-in-Some-clause-counted : goal.find-returns-in-Some-clause-counted
+find-returns-in-Some-clause-counted g t c =
+    let game = c.args.self.now.search.game in
+    let s = c.args.self.now.state.state in
+    let f = stand_of c.args.after in
+    let numbered = c.game-game.ensures.lawful.numbered in
+    counts_reached game numbered (find_begins game s f) (subst (λ (h : Start). CountsOpenings game reach s h c.args.self.now.search.opened c.reach.new.self.opened) c.origin_after.ensures c.reach.ensures.counted)
+
+pub find-loop-pair-init : goal.find-loop-pair-init
+find-loop-pair-init g t c =
+    let game = c.args.self.now.search.game in
+    let s = c.args.self.now.state.state in
+    let f = stand_of c.args.after in
+    let numbered = c.game-game.ensures.lawful.numbered in
+    record {
+      search = c.reach.ensures.kept;
+      state = c.reach.ensures.given_back;
+      room = c.reach.ensures.room;
+      enough = c.in_ok-reached.ensures.enough;
+      front = refl;
+      nothing = λ k d below later applied. absurd (omega (arith, below));
+      counted = counts_begin game numbered (find_begins game s f) (subst (λ (h : Start). CountsOpenings game reach s h c.args.self.now.search.opened c.reach.new.self.opened) c.origin_after.ensures c.reach.ensures.counted);
+    }
+
+pub find-returns-then-len-eq-MAX_PAIRS-clause-deep : goal.find-returns-then-len-eq-MAX_PAIRS-clause-deep
+find-returns-then-len-eq-MAX_PAIRS-clause-deep g t c _ =
+    let game = c.args.self.now.search.game in
+    let s = c.args.self.now.state.state in
+    let f = stand_of c.args.after in
+    let numbered = c.game-game.ensures.lawful.numbered in
+    let items = c.in_ok-reached.reached.pairs.items in
+    let ends = c.in_ok-reached.reached.ends in
+    let xs = c.deref-pair-items.result.now in
+    let k = c.loop-pair.pair-index in
+    let part = part_of game s f (start_of c.origin_after.result) xs items ends c.in_ok-reached.ensures.reached c.origin_after.ensures c.deref-pair-items.ensures.value in
+    let plain = plain_of game c.game-game.result.now xs c.deref.result.now items c.game-game.ensures.game c.deref.ensures.value c.deref-pair-items.ensures.value c.in_default.ensures.none in
+    let here : AtPair game s f xs ends k = record { lawful = c.game-game.ensures.lawful; part = part; plain = plain; under = c.loop-pair-test.true } in
+    let same : length c.loop-pair.self.front.items ≡ length c.args.self.now.front.items = ap length c.loop-pair.invariant.front in
+    let one : 1 ≡ most_pairs - length c.args.self.now.front.items = omega (arith, same, c.len.ensures.value, c.if-len-eq-MAX_PAIRS.true) in
+    subst (λ (n : ℕ). IsTooDeep game find_move s f n c.args.self.now.search.modifiers) one (pair_row game s f xs ends k here c.args.self.now.search.modifiers)
+
+pub find-find_behind-requires : goal.find-find_behind-requires
+find-find_behind-requires g t c κs within =
+    let game = c.args.self.now.search.game in
+    let s = c.args.self.now.state.state in
+    let f = stand_of c.args.after in
+    let numbered = c.game-game.ensures.lawful.numbered in
+    let items = c.in_ok-reached.reached.pairs.items in
+    let ends = c.in_ok-reached.reached.ends in
+    let xs = c.deref-pair-items.result.now in
+    let k = c.loop-pair.pair-index in
+    let part = part_of game s f (start_of c.origin_after.result) xs items ends c.in_ok-reached.ensures.reached c.origin_after.ensures c.deref-pair-items.ensures.value in
+    let plain = plain_of game c.game-game.result.now xs c.deref.result.now items c.game-game.ensures.game c.deref.ensures.value c.deref-pair-items.ensures.value c.in_default.ensures.none in
+    let here : AtPair game s f xs ends k = record { lawful = c.game-game.ensures.lawful; part = part; plain = plain; under = c.loop-pair-test.true } in
+    let v = (get_or xs k (0, 0)).0 in
+    let p = (get_or xs k (0, 0)).1 in
+    let next = pair_next game s f xs ends k here in
+    let now = c.loop-pair.self in
+    let there : now.state.state ≡ s = ap (λ (x : History). x.state) c.loop-pair.invariant.state in
+    let applied = applied_back game c.game-game.result.now s now.state.state next.later v p c.game-game.ensures.game there (pair_applies game s f xs ends k here) in
+    let same : c.game-game.result.now ≡ now.search.game = c.game-game.ensures.game ∙ sym (ap (λ (x : Searching). x.game) c.loop-pair.invariant.search) in
+    let fits : IsStateOf c.game-game.result.now now.state.state = subst (λ (u : AbstractState). IsStateOf c.game-game.result.now u) (sym there) (subst (λ (h : AbstractGame). IsStateOf h s) (sym c.game-game.ensures.game) c.requires.place.state) in
+    let valid0 = valid_next game numbered s f v p (next_there game c.game-game.ensures.lawful s f v p c.requires.place.state next) next in
+    let valid : IsValidAt c.game-game.result.now now.state.state v p = subst (λ (u : AbstractState). IsValidAt c.game-game.result.now u v p) (sym there) (subst (λ (h : AbstractGame). IsValidAt h s v p) (sym c.game-game.ensures.game) valid0) in
+    let front : length now.front.items ≡ length c.args.self.now.front.items = ap length c.loop-pair.invariant.front in
+    let short : length now.front.items + 1 < most_pairs = omega (arith, front, c.requires.short, c.len.ensures.value, c.if-len-eq-MAX_PAIRS.false) in
+    let lawful = subst IsGame (sym c.game-game.ensures.game) c.game-game.ensures.lawful in
+    (search rules, (within, (same, (lawful, (fits, (valid, (c.loop-pair.invariant.enough, short)))))))
+
+pub find-returns-in_err-found-clause-deep : goal.find-returns-in_err-found-clause-deep
+find-returns-in_err-found-clause-deep g t c e =
+    let game = c.args.self.now.search.game in
+    let s = c.args.self.now.state.state in
+    let f = stand_of c.args.after in
+    let numbered = c.game-game.ensures.lawful.numbered in
+    let items = c.in_ok-reached.reached.pairs.items in
+    let ends = c.in_ok-reached.reached.ends in
+    let xs = c.deref-pair-items.result.now in
+    let k = c.loop-pair.pair-index in
+    let part = part_of game s f (start_of c.origin_after.result) xs items ends c.in_ok-reached.ensures.reached c.origin_after.ensures c.deref-pair-items.ensures.value in
+    let plain = plain_of game c.game-game.result.now xs c.deref.result.now items c.game-game.ensures.game c.deref.ensures.value c.deref-pair-items.ensures.value c.in_default.ensures.none in
+    let here : AtPair game s f xs ends k = record { lawful = c.game-game.ensures.lawful; part = part; plain = plain; under = c.loop-pair-test.true } in
+    let v = (get_or xs k (0, 0)).0 in
+    let p = (get_or xs k (0, 0)).1 in
+    let next = pair_next game s f xs ends k here in
+    let now = c.loop-pair.self in
+    let there : now.state.state ≡ s = ap (λ (x : History). x.state) c.loop-pair.invariant.state in
+    let applied = applied_back game c.game-game.result.now s now.state.state next.later v p c.game-game.ensures.game there (pair_applies game s f xs ends k here) in
+    let n = length c.args.self.now.front.items in
+    let most = c.args.self.now.search.modifiers in
+    let fewer : most_pairs - (length now.front.items + 1) ≡ most_pairs - (n + 1) = ap (λ (qs : List (ℕ × ℕ)). most_pairs - (length qs + 1)) c.loop-pair.invariant.front in
+    let limit : now.search.modifiers ≡ most = ap (λ (x : Searching). x.modifiers) c.loop-pair.invariant.search in
+    let deep = deep_as game c.game-game.result.now next.later p (most_pairs - (n + 1)) _ most _ c.game-game.ensures.game fewer limit (c.find_behind.ensures.deep (search rules) next.later applied) in
+    let more : suc (most_pairs - (n + 1)) ≡ most_pairs - n = omega (arith, c.requires.short) in
+    subst (λ (m : ℕ). IsTooDeep game find_move s f m most) more (pair_deep game s f xs ends k here (most_pairs - (n + 1)) most deep)
+
+pub find-returns-in_err-found-clause-wide : goal.find-returns-in_err-found-clause-wide
+find-returns-in_err-found-clause-wide g t c e =
+    let game = c.args.self.now.search.game in
+    let s = c.args.self.now.state.state in
+    let f = stand_of c.args.after in
+    let numbered = c.game-game.ensures.lawful.numbered in
+    let items = c.in_ok-reached.reached.pairs.items in
+    let ends = c.in_ok-reached.reached.ends in
+    let xs = c.deref-pair-items.result.now in
+    let k = c.loop-pair.pair-index in
+    let part = part_of game s f (start_of c.origin_after.result) xs items ends c.in_ok-reached.ensures.reached c.origin_after.ensures c.deref-pair-items.ensures.value in
+    let plain = plain_of game c.game-game.result.now xs c.deref.result.now items c.game-game.ensures.game c.deref.ensures.value c.deref-pair-items.ensures.value c.in_default.ensures.none in
+    let here : AtPair game s f xs ends k = record { lawful = c.game-game.ensures.lawful; part = part; plain = plain; under = c.loop-pair-test.true } in
+    let v = (get_or xs k (0, 0)).0 in
+    let p = (get_or xs k (0, 0)).1 in
+    let next = pair_next game s f xs ends k here in
+    let now = c.loop-pair.self in
+    let there : now.state.state ≡ s = ap (λ (x : History). x.state) c.loop-pair.invariant.state in
+    let applied = applied_back game c.game-game.result.now s now.state.state next.later v p c.game-game.ensures.game there (pair_applies game s f xs ends k here) in
+    let limit : now.search.openings ≡ c.args.self.now.search.openings = ap (λ (x : Searching). x.openings) c.loop-pair.invariant.search in
+    let wide = over_as game c.game-game.result.now next.later p now.search.opened c.args.self.now.search.openings _ c.game-game.ensures.game limit (c.find_behind.ensures.wide (search rules) next.later applied) in
+    pair_over game s f xs ends k here c.args.self.now.search.opened now.search.opened c.args.self.now.search.openings c.loop-pair.invariant.counted wide
+
+pub find-returns-clause-none : goal.find-returns-clause-none
+find-returns-clause-none g t c =
+    let game = c.args.self.now.search.game in
+    let s = c.args.self.now.state.state in
+    let f = stand_of c.args.after in
+    let numbered = c.game-game.ensures.lawful.numbered in
+    let items = c.in_ok-reached.reached.pairs.items in
+    let ends = c.in_ok-reached.reached.ends in
+    let xs = c.deref-pair-items.result.now in
+    let k = c.loop-pair.pair-index in
+    let part = part_of game s f (start_of c.origin_after.result) xs items ends c.in_ok-reached.ensures.reached c.origin_after.ensures c.deref-pair-items.ensures.value in
+    let plain = plain_of game c.game-game.result.now xs c.deref.result.now items c.game-game.ensures.game c.deref.ensures.value c.deref-pair-items.ensures.value c.in_default.ensures.none in
+    let all = subst (All (λ (q : ℕ × ℕ). (later : AbstractState) → Applies game q.1 (standing_at s q.0) later → Finished game (place_behind later q.1))) (take_all k xs c.loop-pair-test.false) c.loop-pair.invariant.nothing in
+    none_found game numbered (record { state = s; last = c.args.after }) f xs ends part refl plain all
+
+pub find_behind-find-requires : goal.find_behind-find-requires
+find_behind-find-requires g t c κs within =
+    let game = c.args.game.now in
+    let place0 : IsPlaceOf game (place_behind c.apply_at.new.state.state c.args.position) = place_after game c.requires.lawful.numbered c.apply_at.new.state.state c.args.position c.requires.valid.modifies c.apply_at.ensures.fits in
+    let place = subst (λ (h : AbstractGame). IsPlaceOf h (place_behind c.apply_at.new.state.state c.args.position)) c.requires.game place0 in
+    let short : length c.push.new.self.items < most_pairs = omega (arith, c.push.ensures.len, c.requires.short) in
+    (search rules, (within, (place, short)))
+
+pub find_behind-returns-in_err-found-clause-deep : goal.find_behind-returns-in_err-found-clause-deep
+find_behind-returns-in_err-found-clause-deep g t c e later applied =
+    let game = c.args.game.now in
+    let most = c.args.self.now.search.modifiers in
+    let left = most_pairs - (length c.args.self.now.front.items + 1) in
+    let fewer : most_pairs - length c.push.new.self.items ≡ left = ap (λ (n : ℕ). most_pairs - n) c.push.ensures.len in
+    let deep = deep_as game c.args.self.now.search.game c.apply_at.new.state.state c.args.position left _ most most (sym c.requires.game) fewer refl (c.find.ensures.deep (search rules)) in
+    one_behind game c.requires.lawful.numbered c.args.position (standing_at c.args.self.now.state.state c.args.vertex) c.apply_at.new.state.state later (λ (u : AbstractState). IsTooDeep game find_move u (after c.args.position) left most) c.apply_at.ensures.applied applied deep
+
+pub find_behind-returns-in_err-found-clause-wide : goal.find_behind-returns-in_err-found-clause-wide
+find_behind-returns-in_err-found-clause-wide g t c e later applied =
+    let game = c.args.game.now in
+    let most = c.args.self.now.search.openings in
+    let wide = over_as game c.args.self.now.search.game c.apply_at.new.state.state c.args.position c.args.self.now.search.opened most most (sym c.requires.game) refl (c.find.ensures.wide (search rules)) in
+    one_behind game c.requires.lawful.numbered c.args.position (standing_at c.args.self.now.state.state c.args.vertex) c.apply_at.new.state.state later (λ (u : AbstractState). IsOverBudget game find_move u (after c.args.position) c.args.self.now.search.opened most) c.apply_at.ensures.applied applied wide
+
+none_then : {X : Type 0} (o : Option X) (P Q : Type 0) → (P → Q) → IfNone o P → IfNone o Q
+none_then None P Q f fact = f fact
+none_then (Some x) P Q f fact = fact
+
+pub find_behind-returns-clause-none : goal.find_behind-returns-clause-none
+find_behind-returns-clause-none g t c =
+    let game = c.args.game.now in
+    let p = c.args.position in
+    none_then c.in_ok-found.found (Finished c.args.self.now.search.game (place_behind c.apply_at.new.state.state p))
+    ((later : AbstractState) → Applies game p (standing_at c.args.self.now.state.state c.args.vertex) later → Finished game (place_behind later p))
+    (λ fact later applied. one_behind game c.requires.lawful.numbered p (standing_at c.args.self.now.state.state c.args.vertex) c.apply_at.new.state.state later (λ (u : AbstractState). Finished game (place_behind u p)) c.apply_at.ensures.applied applied
+    (subst (λ (h : AbstractGame). Finished h (place_behind c.apply_at.new.state.state p)) (sym c.requires.game) fact))
+    c.in_ok-found.ensures.none
+
+pub find_behind-returns-clause-counted : goal.find_behind-returns-clause-counted
+find_behind-returns-clause-counted g t c later applied =
+    let game = c.args.game.now in
+    let p = c.args.position in
+    one_behind game c.requires.lawful.numbered p (standing_at c.args.self.now.state.state c.args.vertex) c.apply_at.new.state.state later (λ (u : AbstractState). CountsOpenings game find_move u (after p) c.args.self.now.search.opened c.find.new.self.search.opened) c.apply_at.ensures.applied applied
+    (counts_as game c.args.self.now.search.game c.apply_at.new.state.state p c.args.self.now.search.opened c.find.new.self.search.opened (sym c.requires.game) c.in_ok-found.ensures.counted)
+
+none_at : {X : Type 0} (o : Option X) (P : Type 0) → o ≡ None → IfNone o P → P
+none_at None P e fact = fact
+none_at (Some x) P e fact = absurd cc
+
+some_at : {X : Type 0} (o : Option X) (x : X) (P : X → Type 0) → o ≡ Some x → IfSome o P → P x
+some_at None x P e fact = absurd cc
+some_at (Some y) x P e fact = let same : y ≡ x = cc in subst P same fact
+
+pub find-returns-in-Some-found-clause-found : goal.find-returns-in-Some-found-clause-found
+find-returns-in-Some-found-clause-found g t c =
+    let game = c.args.self.now.search.game in
+    let s = c.args.self.now.state.state in
+    let f = stand_of c.args.after in
+    let numbered = c.game-game.ensures.lawful.numbered in
+    let items = c.in_ok-reached.reached.pairs.items in
+    let ends = c.in_ok-reached.reached.ends in
+    let xs = c.deref-pair-items.result.now in
+    let k = c.loop-pair.pair-index in
+    let part = part_of game s f (start_of c.origin_after.result) xs items ends c.in_ok-reached.ensures.reached c.origin_after.ensures c.deref-pair-items.ensures.value in
+    let plain = plain_of game c.game-game.result.now xs c.deref.result.now items c.game-game.ensures.game c.deref.ensures.value c.deref-pair-items.ensures.value c.in_default.ensures.none in
+    let here : AtPair game s f xs ends k = record { lawful = c.game-game.ensures.lawful; part = part; plain = plain; under = c.loop-pair-test.true } in
+    let v = (get_or xs k (0, 0)).0 in
+    let p = (get_or xs k (0, 0)).1 in
+    let next = pair_next game s f xs ends k here in
+    let now = c.loop-pair.self in
+    let there : now.state.state ≡ s = ap (λ (x : History). x.state) c.loop-pair.invariant.state in
+    let applied = applied_back game c.game-game.result.now s now.state.state next.later v p c.game-game.ensures.game there (pair_applies game s f xs ends k here) in
+    let behind = some_at c.in_ok-found.found c.in-Some-found.pairs (GoesOnBehind c.game-game.result.now now.state.state v p now.front.items) c.in-Some-found.is c.in_ok-found.ensures.found in
+    behind_found game numbered (record { state = s; last = c.args.after }) v p c.args.self.now.front.items c.in-Some-found.pairs next (pair_plain game s f xs ends k here)
+    (behind_as game c.game-game.result.now s now.state.state v p c.args.self.now.front.items now.front.items c.in-Some-found.pairs c.game-game.ensures.game there c.loop-pair.invariant.front behind)
+
+pub find-returns-in-Some-found-clause-counted : goal.find-returns-in-Some-found-clause-counted
+find-returns-in-Some-found-clause-counted g t c =
+    let game = c.args.self.now.search.game in
+    let s = c.args.self.now.state.state in
+    let f = stand_of c.args.after in
+    let numbered = c.game-game.ensures.lawful.numbered in
+    let items = c.in_ok-reached.reached.pairs.items in
+    let ends = c.in_ok-reached.reached.ends in
+    let xs = c.deref-pair-items.result.now in
+    let k = c.loop-pair.pair-index in
+    let part = part_of game s f (start_of c.origin_after.result) xs items ends c.in_ok-reached.ensures.reached c.origin_after.ensures c.deref-pair-items.ensures.value in
+    let plain = plain_of game c.game-game.result.now xs c.deref.result.now items c.game-game.ensures.game c.deref.ensures.value c.deref-pair-items.ensures.value c.in_default.ensures.none in
+    let here : AtPair game s f xs ends k = record { lawful = c.game-game.ensures.lawful; part = part; plain = plain; under = c.loop-pair-test.true } in
+    let v = (get_or xs k (0, 0)).0 in
+    let p = (get_or xs k (0, 0)).1 in
+    let next = pair_next game s f xs ends k here in
+    let now = c.loop-pair.self in
+    let there : now.state.state ≡ s = ap (λ (x : History). x.state) c.loop-pair.invariant.state in
+    let applied = applied_back game c.game-game.result.now s now.state.state next.later v p c.game-game.ensures.game there (pair_applies game s f xs ends k here) in
+    let counted = counts_as game c.game-game.result.now next.later p now.search.opened c.find_behind.new.self.search.opened c.game-game.ensures.game (c.in_ok-found.ensures.counted next.later applied) in
+    counts_end game numbered (pair_counts game s f xs ends k here c.args.self.now.search.opened now.search.opened c.find_behind.new.self.search.opened c.loop-pair.invariant.counted counted)
+
+pub find-loop-pair-preserved : goal.find-loop-pair-preserved
+find-loop-pair-preserved g t c =
+    let game = c.args.self.now.search.game in
+    let s = c.args.self.now.state.state in
+    let f = stand_of c.args.after in
+    let numbered = c.game-game.ensures.lawful.numbered in
+    let items = c.in_ok-reached.reached.pairs.items in
+    let ends = c.in_ok-reached.reached.ends in
+    let xs = c.deref-pair-items.result.now in
+    let k = c.loop-pair.pair-index in
+    let part = part_of game s f (start_of c.origin_after.result) xs items ends c.in_ok-reached.ensures.reached c.origin_after.ensures c.deref-pair-items.ensures.value in
+    let plain = plain_of game c.game-game.result.now xs c.deref.result.now items c.game-game.ensures.game c.deref.ensures.value c.deref-pair-items.ensures.value c.in_default.ensures.none in
+    let here : AtPair game s f xs ends k = record { lawful = c.game-game.ensures.lawful; part = part; plain = plain; under = c.loop-pair-test.true } in
+    let v = (get_or xs k (0, 0)).0 in
+    let p = (get_or xs k (0, 0)).1 in
+    let next = pair_next game s f xs ends k here in
+    let now = c.loop-pair.self in
+    let there : now.state.state ≡ s = ap (λ (x : History). x.state) c.loop-pair.invariant.state in
+    let applied = applied_back game c.game-game.result.now s now.state.state next.later v p c.game-game.ensures.game there (pair_applies game s f xs ends k here) in
+    let nothing = none_at c.in_ok-found.found ((later : AbstractState) → Applies c.game-game.result.now p (standing_at now.state.state v) later → Finished c.game-game.result.now (place_behind later p)) c.in_default-found.is c.in_ok-found.ensures.none in
+    record {
+      search = kept_twice c.args.self.now.search now.search c.find_behind.new.self.search c.loop-pair.invariant.search c.find_behind.ensures.search;
+      state = room_twice c.args.self.now.state now.state c.find_behind.new.self.state c.loop-pair.invariant.state c.in_ok-found.ensures.state;
+      room = omega (arith, c.loop-pair.invariant.room, c.in_ok-found.ensures.room);
+      enough = omega (arith, c.loop-pair.invariant.enough, c.in_ok-found.ensures.room);
+      front = c.in_ok-found.ensures.front ∙ c.loop-pair.invariant.front;
+      nothing = pair_more game s f xs ends k here (λ (q : ℕ × ℕ). (later : AbstractState) → Applies game q.1 (standing_at s q.0) later → Finished game (place_behind later q.1)) c.loop-pair.invariant.nothing (nothing_as game c.game-game.result.now s now.state.state v p c.game-game.ensures.game there nothing);
+      counted = pair_counts game s f xs ends k here c.args.self.now.search.opened now.search.opened c.find_behind.new.self.search.opened c.loop-pair.invariant.counted (counts_as game c.game-game.result.now next.later p now.search.opened c.find_behind.new.self.search.opened c.game-game.ensures.game (c.in_ok-found.ensures.counted next.later applied));
+    }

@@ -1,0 +1,77 @@
+-- Moves that are gathered in one list, part by part.
+use Rattle.std.specs.Prelude.{◌≡◌, ◌≢◌, ℕ, ◌≤◌, ◌⊎◌, List, [], ◌∷◌, ◌++◌, length, map, All, AllPairs, Contains, Bool, true, false}
+use Rattle.rbg_rules.specs.Expression.{Expression}
+use Rattle.rbg_rules.specs.Positions.{IsSwitchAt}
+use Rattle.rbg_rules.specs.State.{AbstractGame, AbstractState}
+use Rattle.rbg_rules.specs.Actions.{Applies}
+use Rattle.rbg_rules.specs.Moves.{AbstractPlace, stand_of, IsLegal}
+use Rattle.rbg_search.specs.Flat.{IsFlatPart}
+use Rattle.rbg_moves.specs.internal.Stepping.{standing_at, place_behind}
+
+-- A list of pairs that is wanted and not among these.
+pub record IsMissing (IsWanted : List (ℕ × ℕ) → Type 0) (found : List (List (ℕ × ℕ))) : Type 0 where
+  pub pairs : List (ℕ × ℕ)
+  pub wanted : IsWanted pairs
+  pub missing : ¬ Contains found pairs
+
+-- The new list is the old one with lists of pairs that are wanted, each once and each behind these first pairs. If it
+-- is not cut, they are all that are wanted. If it is cut, the new list is full, and another one is wanted.
+pub record Gathers
+    (IsWanted : List (ℕ × ℕ) → Type 0) (front : List (ℕ × ℕ)) (max : ℕ) (old new : List (List (ℕ × ℕ))) (cut : Bool)
+    : Type 0
+  where
+    pub found : List (List (ℕ × ℕ))
+    pub grown : new ≡ old ++ map (λ ps. front ++ ps) found
+    pub wanted : All IsWanted found
+    pub different : AllPairs (λ a b. a ≢ b) found
+    pub few : length new ≤ max
+    pub whole : cut ≡ false → (ps : List (ℕ × ℕ)) → IsWanted ps → Contains found ps
+    pub full : cut ≡ true → length new ≡ max
+    pub more : cut ≡ true → IsMissing IsWanted found
+
+-- The list begins with the pair, and the rest of it is wanted.
+pub record IsBehind (q : ℕ × ℕ) (IsWanted : List (ℕ × ℕ) → Type 0) (ps : List (ℕ × ℕ)) : Type 0 where
+  pub rest : List (ℕ × ℕ)
+  pub is : ps ≡ q ∷ rest
+  pub wanted : IsWanted rest
+
+-- The list begins with such a pair.
+abbrev pub Begins : (ℕ × ℕ → Type 0) → List (ℕ × ℕ) → Type 0
+Begins IsTaken [] = ⊥
+Begins IsTaken (q ∷ qs) = IsTaken q
+
+-- The list is a legal move and begins with such a pair.
+pub record IsLegalBy
+    (game : AbstractGame) (place : AbstractPlace) (IsTaken : ℕ × ℕ → Type 0) (ps : List (ℕ × ℕ))
+    : Type 0
+  where
+    pub legal : IsLegal game place ps
+    pub begins : Begins IsTaken ps
+
+-- the pair is of a switch, and is one of these
+abbrev pub IsSwitchAmong : Expression → List (ℕ × ℕ) → ℕ × ℕ → Type 0
+IsSwitchAmong rules done q = IsSwitchAt rules q.1 × Contains done q
+
+-- the pair is of a switch, or is one of these
+abbrev pub IsSwitchOr : Expression → List (ℕ × ℕ) → ℕ × ℕ → Type 0
+IsSwitchOr rules done q = IsSwitchAt rules q.1 ⊎ Contains done q
+
+-- The new list is the old one with the moves of one switch that is done, wherever the pairs are those that come next.
+pub record ListsSwitches
+    (game : AbstractGame) (pairs done front : List (ℕ × ℕ)) (max : ℕ) (old new : List (List (ℕ × ℕ))) (cut : Bool)
+    : Type 0
+  where
+    pub lists :
+        (place : AbstractPlace) (ends : Bool) →
+        IsFlatPart game place.state (stand_of place.last) pairs ends →
+        Gathers (IsLegalBy game place (IsSwitchAmong game.rules done)) front max old new cut
+
+-- The new list is the old one with the moves that go on behind the modifier q, wherever it leads.
+pub record GathersBehind
+    (game : AbstractGame) (s : AbstractState) (q : ℕ × ℕ) (front : List (ℕ × ℕ)) (max : ℕ)
+    (old new : List (List (ℕ × ℕ))) (cut : Bool)
+    : Type 0
+  where
+    pub gathers :
+        (later : AbstractState) → Applies game q.1 (standing_at s q.0) later →
+        Gathers (IsBehind q (IsLegal game (place_behind later q.1))) front max old new cut

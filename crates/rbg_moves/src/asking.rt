@@ -1,0 +1,72 @@
+//! What the questions at a place have in common.
+ghost use Rattle.std.specs.Prelude.{◌≡◌, ◌<◌, ◌↔◌, [], ◌∷◌, ◌++◌, length, IsTrue};
+ghost use Rattle.rbg_pairs.specs.Move.{most_pairs};
+ghost use Rattle.rbg_rules.specs.Games.{IsGame};
+ghost use Rattle.rbg_rules.specs.Limits.{most_openings, most_modifiers};
+ghost use Rattle.rbg_rules.specs.Positions.{IsSwitchAt};
+ghost use Rattle.rbg_rules.specs.Moves.{stand_of};
+ghost use Rattle.rbg_search.specs.Start.{start_of, IsPositionOf};
+ghost use Rattle.rbg_moves.specs.internal.Shown.{shows_switch};
+
+use rbg_auto::{Expr, Steps};
+use rbg_base::Position;
+use rbg_pairs::{Move, Pair};
+use rbg_rules::limits::{MAX_MODIFIERS, MAX_OPENINGS};
+use rbg_rules::{Action, Game};
+use rbg_search::{Budget, Origin, Search};
+use std::alloc::Global;
+
+/// A search that may take up as many openings as a question may have.
+pub(crate) fn search_in<'a, S: Steps>(alloc: Global, game: &'a Game, steps: &'a S) -> Search<'a, S>
+    requires { S.of_rules steps.now game.now.rules }
+    ensures game { result.game ≡ game.now }
+    ensures openings { result.openings ≡ most_openings }
+    ensures modifiers { result.modifiers ≡ most_modifiers }
+    ensures opened { result.opened ≡ 0 }
+{
+    let budget = Budget {
+        openings: MAX_OPENINGS as u32,
+        modifiers: MAX_MODIFIERS as u16,
+    };
+    Search::new(alloc, game, steps, budget)
+}
+
+/// Where one stands in the rules after the action at a position, or at their beginning.
+pub(crate) fn origin_after(after: Option<Position>) -> Origin
+    ensures { start_of result ≡ stand_of after }
+{
+    match after {
+        None => Origin::Begin(Expr::Rules),
+        Some(position) => Origin::After(position),
+    }
+}
+
+/// Whether a switch stands at a position.
+pub(crate) fn is_switch(game: &Game, position: Position) -> bool
+    requires lawful { IsGame game.now }
+    requires position { IsPositionOf game.now.rules position }
+    ensures { IsTrue result ↔ IsSwitchAt game.now.rules position }
+{
+    switches(game.action(position))
+}
+
+/// Whether the action is a switch.
+fn switches(action: &Action) -> bool
+    ensures { result ≡ shows_switch action.now }
+{
+    matches!(action, Action::Switch { .. })
+}
+
+/// The move of these pairs and one more.
+pub(crate) fn move_of(front: &[Pair], last: Pair) -> Move
+    requires { length front.now < most_pairs }
+    ensures { result ≡ front.now ++ last ∷ [] }
+{
+    match Move::try_from(front) {
+        Ok(mut pairs) => {
+            pairs.push(last);
+            pairs
+        }
+        Err(_) => Move::new(last),
+    }
+}

@@ -1,0 +1,77 @@
+//! One modifier of a move.
+ghost use Rattle.std.specs.Prelude.{◌≡◌, ◌≤◌, not, IsTrue, Decides, Contains, IfOk, Err};
+ghost use Rattle.rbg_rules.specs.State.{IsStateOf};
+ghost use Rattle.rbg_rules.specs.Actions.{Applies};
+ghost use Rattle.rbg_rules.specs.Moves.{stand_of};
+ghost use Rattle.rbg_rules.specs.Places.{IsPlaceOf};
+ghost use Rattle.rbg_rules.specs.Questions.{reach, IsDeep};
+ghost use Rattle.rbg_rules.specs.Games.{IsGame};
+ghost use Rattle.rbg_state.specs.History.{capacity_of, IsAfter};
+ghost use Rattle.rbg_search.specs.Flat.{IsNext};
+ghost use Rattle.rbg_search.specs.Counting.{CountsOpenings, IsOverBudget};
+ghost use Rattle.rbg_search.specs.Start.{IsPositionOf};
+ghost use Rattle.rbg_moves.specs.internal.Stepping.{standing_at, place_behind, IsStep, IsValidAt};
+
+use crate::asking::origin_after;
+use rbg_auto::Steps;
+use rbg_base::{Position, Vertex};
+use rbg_pairs::Pair;
+use rbg_rules::Game;
+use rbg_search::{Over, Search};
+use rbg_state::SemiState;
+
+/// Applies a modifier that is valid, at its vertex.
+pub(crate) fn apply_at(game: &Game, state: &mut SemiState, pair: Pair)
+    requires lawful { IsGame game.now }
+    requires fits { IsStateOf game.now state.old.state }
+    requires valid { IsValidAt game.now state.old.state pair.0 pair.1 }
+    requires room { 2 ≤ state.old.room }
+    ensures applied { Applies game.now pair.1 (standing_at state.old.state pair.0) state.new.state }
+    ensures fits { IsStateOf game.now state.new.state }
+    ensures after { IsAfter state.old state.new }
+    ensures capacity { capacity_of state.new ≡ capacity_of state.old }
+{
+    state.stand_at(pair.vertex);
+    let _applied = state.apply(game, pair.position);
+}
+
+/// Applies a modifier, if it comes next, and tells whether it does. What is reached without a modifier is found whole
+/// first.
+pub(crate) fn take<S: Steps>(
+    search: &mut Search<'_, S>,
+    state: &mut SemiState,
+    after: Option<Position>,
+    pair: Pair,
+) -> Result<bool, Over>
+    requires place { IsPlaceOf search.old.game (record { state = state.old.state; last = after }) }
+    ensures kept { search.new ≡ record search.old { opened = search.new.opened } }
+    ensures taken { IfOk result (λ taken. IsTrue taken
+        → IsStep search.old.game state.old.state (stand_of after) pair.0 pair.1 state.new.state) }
+    ensures in_game { IfOk result (λ taken. IsTrue taken
+        → IsPlaceOf search.old.game (place_behind state.new.state pair.1)) }
+    ensures refused { IfOk result (λ taken. IsTrue (not taken)
+        → ¬ IsNext search.old.game state.old.state (stand_of after) pair.0 pair.1) }
+    ensures position { IfOk result (λ taken. IsTrue taken → IsPositionOf search.old.game.rules pair.1) }
+    ensures counted { CountsOpenings search.old.game reach state.old.state (stand_of after)
+        search.old.opened search.new.opened }
+    ensures deep { result ≡ Err Over.Deep
+        → IsDeep search.old.game reach state.old.state (stand_of after) search.old.modifiers }
+    ensures wide { result ≡ Err Over.Wide
+        → IsOverBudget search.old.game reach state.old.state (stand_of after) search.old.opened search.old.openings }
+{
+    let game = search.game();
+    let reached = search.reach(state, origin_after(after))?;
+    let comes_next = has_pair(&reached.pairs, pair);
+    search.reuse(reached)?;
+    if comes_next {
+        apply_at(game, state, pair);
+    }
+    Ok(comes_next)
+}
+
+/// Whether the pair is one of these.
+fn has_pair(pairs: &[(Vertex, Position)], pair: Pair) -> bool
+    ensures { Decides result (Contains pairs.now pair) }
+{
+    pairs.contains(&(pair.vertex, pair.position))
+}

@@ -1,0 +1,88 @@
+//! Whether a list of pairs is a legal move.
+ghost use Rattle.std.specs.Prelude.{◌≡◌, ◌⊎◌, IfOk, IfSome, IfNone, Err};
+ghost use Rattle.rbg_rules.specs.Moves.{AbstractPlace, stand_of, Legal};
+ghost use Rattle.rbg_rules.specs.Places.{IsPlaceOf};
+ghost use Rattle.rbg_rules.specs.Heavy.{IsHeavyToTry};
+ghost use Rattle.rbg_rules.specs.Questions.{try_move, IsDeep};
+ghost use Rattle.rbg_search.specs.Counting.{IsOverBudget};
+ghost use Rattle.rbg_moves.specs.internal.Stepping.{place_behind, IsTried};
+
+use crate::asking::{is_switch, search_in};
+use crate::place::Place;
+use crate::stepping::take;
+use rbg_auto::Steps;
+use rbg_base::Position;
+use rbg_pairs::{Move, Pair};
+use rbg_rules::Game;
+use rbg_search::{Over, Search};
+use rbg_state::SemiState;
+use std::alloc::Global;
+
+/// The place to which the pairs lead, if they are a legal move; none if they aren't.
+///
+/// Only the given pairs are followed. What is reached without a modifier is found whole before each of them, whatever
+/// the pair is.
+pub fn try_move<S: Steps>(
+    alloc: Global,
+    game: &Game,
+    steps: &S,
+    place: &Place,
+    pairs: &Move,
+) -> Result<Option<Place>, Over>
+    requires steps { S.of_rules steps.now game.now.rules }
+    requires place { IsPlaceOf game.now place.now }
+    ensures legal { IfOk result (λ after. IfSome after (Legal game.now place.now pairs.now)) }
+    ensures only { IfOk result (λ after. IfSome after (λ to.
+        (other : AbstractPlace) → Legal game.now place.now pairs.now other → other ≡ to)) }
+    ensures in_game { IfOk result (λ after. IfSome after (IsPlaceOf game.now)) }
+    ensures illegal { IfOk result (λ after. IfNone after (
+        (to : AbstractPlace) → ¬ Legal game.now place.now pairs.now to)) }
+    ensures heavy { (result ≡ Err Over.Deep) ⊎ (result ≡ Err Over.Wide) → IsHeavyToTry game.now place.now pairs.now }
+{
+    let _positions = game.positions();
+    let mut search = search_in(alloc, game, steps);
+    let mut state = place.state.try_clone()?;
+    let end = follow(&mut search, &mut state, place.after, pairs.as_slice())?;
+    match end {
+        Some(last) => Ok(Some(Place {
+            state,
+            after: Some(last),
+        })),
+        None => Ok(None),
+    }
+}
+
+/// Applies the pairs in turn, and returns the position of the switch that ends them; none if they aren't a legal move.
+fn follow<S: Steps>(
+    search: &mut Search<'_, S>,
+    state: &mut SemiState,
+    after: Option<Position>,
+    pairs: &[Pair],
+) -> Result<Option<Position>, Over>
+    requires place { IsPlaceOf search.old.game (record { state = state.old.state; last = after }) }
+    ensures tried { IfOk result (IsTried search.old.game (record { state = state.old.state; last = after }) pairs.now
+        state.new.state) }
+    ensures in_game { IfOk result (λ end. IfSome end (λ last.
+        IsPlaceOf search.old.game (place_behind state.new.state last))) }
+    ensures deep { result ≡ Err Over.Deep
+        → IsDeep search.old.game (try_move pairs.now) state.old.state (stand_of after) search.old.modifiers }
+    ensures wide { result ≡ Err Over.Wide → IsOverBudget search.old.game (try_move pairs.now)
+        state.old.state (stand_of after) search.old.opened search.old.openings }
+{
+    let game = search.game();
+    let Some((pair, rest)) = pairs.split_first() else {
+        return Ok(None);
+    };
+    let taken = take(search, state, after, *pair)?;
+    if !taken {
+        return Ok(None);
+    }
+    if !is_switch(game, pair.position) {
+        return follow(search, state, Some(pair.position), rest);
+    }
+    if rest.is_empty() {
+        Ok(Some(pair.position))
+    } else {
+        Ok(None)
+    }
+}
