@@ -143,7 +143,7 @@ module _ (streams : Streams) (seat at : ℕ) (a b : List ℕ) (after : List Abst
   }
 
 -- the inputs of two lists of events
-timed_inputs_of-append : (streams : Streams) (before after : List AbstractEvent) → timed_inputs_of streams (before ++ after) ≡ timed_inputs_of streams before ++ timed_inputs_of (streams_through streams before) after
+pub timed_inputs_of-append : (streams : Streams) (before after : List AbstractEvent) → timed_inputs_of streams (before ++ after) ≡ timed_inputs_of streams before ++ timed_inputs_of (streams_through streams before) after
 timed_inputs_of-append streams [] after = refl
 timed_inputs_of-append streams (event ∷ before) after =
     ap (λ next. timed_inputs_in streams event ++ next) (timed_inputs_of-append (streams_after streams event) before after)

@@ -1,24 +1,28 @@
 -- The history of a match is kept, whatever its inputs are.
-use Rattle.std.proofs.Common.{◌≡◌, ℕ, ◌≤◌, List, [], ◌∷◌, ◌++◌, length, map, true, false, Bool, None, Result, Ok, Err, refl, sym, ap, ◌∙◌, subst, arith}
-use Rattle.std.specs.Prelude.{IfOk, OnOk, All, nat_le, if◌then◌else◌}
-use Rattle.std.proofs.lemmas.Bool.{and_parts, leb-true}
+use Rattle.std.proofs.Common.{◌≡◌, ℕ, ◌≤◌, List, [], ◌∷◌, ◌++◌, length, map, true, false, Bool, Option, Some, None, is_some, Result, Ok, Err, refl, sym, ap, ◌∙◌, subst, arith}
+use Rattle.std.specs.Prelude.{◌≢◌, IfOk, OnOk, All, nat_le, if◌then◌else◌}
+use Rattle.std.proofs.lemmas.Bool.{and_parts, leb-true, true≢false}
+use Rattle.std.proofs.lemmas.Option.{none-some}
+use Rattle.std.proofs.Math.Nat.{min-le_right}
 use Rattle.std.proofs.lemmas.List.{length-map}
 use Rattle.std.proofs.lemmas.List.Elements.{All-nil, All-cons, All-head, All-tail, All-map, All-weaker}
 use Rattle.rbg_wire.specs.declared.message.Reason.{Reason}
+use Rattle.rbg_wire.specs.declared.outcome.Outcome.{Outcome}
 use Rattle.rbg_wire.specs.Streams.{Rest, Item, Stream}
 use Rattle.rbg_rules.specs.State.{AbstractGame}
 use Rattle.rbg_match.specs.declared.config.Config.{Config}
 use Rattle.rbg_match.specs.declared.made.Made.{Made}
+use Rattle.rbg_match.specs.Config.{IsWithinLimits}
 use Rattle.rbg_match.specs.Deliveries.{Delivery}
 use Rattle.rbg_match.specs.Handling as handling
 use Rattle.rbg_match.specs.Handling.{AbstractInput, tick, gone, sent, Refuses, Judges, HandlesInTime, Handles}
 use Rattle.rbg_match.specs.History as history
-use Rattle.rbg_match.specs.History.{LeadsTo, FitsOutcome, HasTurn, IsHistory, MadeBetween, nothing, next}
+use Rattle.rbg_match.specs.History.{LeadsTo, FitsOutcome, HasTurnSince, IsInTurn, IsHistory, MadeInTurn}
 use Rattle.rbg_match.specs.Inputs.{AbstractEvent, piece, end_of_stream, moment_alone, TimedInput, Streams, counted_first, has_seat, cut_of, inputs_in, inputs_at}
 use Rattle.rbg_match.specs.internal.Inboxes.{rests_of}
-use Rattle.rbg_match.specs.Limits.{most_pairs}
+use Rattle.rbg_match.specs.Limits.{most_pairs, latest_moment}
 use Rattle.rbg_match.specs.Matches.{MatchState, Opens, HasHistory}
-use Rattle.rbg_match.specs.Play.{AbstractPlay, mover_of, play_at_start}
+use Rattle.rbg_match.specs.Play.{AbstractPlay, mover_of, refused, turn_begun}
 use Rattle.rbg_match.specs.PlayingOn as on
 use Rattle.rbg_match.specs.PlayingOn.{PlaysOn, seats_of}
 use Rattle.rbg_match.specs.Transcript as transcript
@@ -34,61 +38,125 @@ IsInputOf game tick = Unit {0}
 IsInputOf game (gone seat) = IsSeat game seat
 IsInputOf game (sent seat item) = IsSeat game seat
 
--- the moves were made up to a later moment too
-pub made_until : {first : ℕ} {moves : List Made} {last : ℕ} (later : ℕ) → last ≤ later → MadeBetween first moves last → MadeBetween first moves later
-made_until later before (nothing started) = nothing (omega (arith, started, before))
-made_until later before (next made earlier at) = next made earlier (omega (arith, at, before))
+-- In a match that goes on these moves were made, a player is to move since the last of them, and its turn isn't due at the moment.
+record IsInPlay (game : AbstractGame) (config : Config) (began moment : ℕ) (play : AbstractPlay) : Type 0 where
+  pub leads : LeadsTo game play.made play.place
+  pub last : ℕ
+  pub in_turn : MadeInTurn config began play.made last
+  pub going : play.outcome ≡ None
+  pub turn : HasTurnSince game play last
+  pub early : IsInTurn config last moment
 
--- one more move at the last moment
-one_more_made : {first : ℕ} {moves : List Made} (player moment : ℕ) (pairs : List (ℕ × ℕ)) → MadeBetween first moves moment → MadeBetween first (moves ++ record { player = player; at = moment; pairs = pairs } ∷ []) moment
-one_more_made player moment pairs before = next (record { player = player; at = moment; pairs = pairs }) before (omega arith)
+-- What is kept from one moment to the next: a match that goes on has a turn that began before, and one that has ended has a history.
+pub record IsKept (game : AbstractGame) (config : Config) (began moment : ℕ) (play : AbstractPlay) : Type 0 where
+  pub leads : LeadsTo game play.made play.place
+  pub last : ℕ
+  pub in_turn : MadeInTurn config began play.made last
+  pub turn : play.outcome ≡ None → HasTurnSince game play last × (last ≤ moment)
+  pub over : (outcome : Outcome) → play.outcome ≡ Some outcome → FitsOutcome game config play last moment (Some outcome)
 
--- play that goes on keeps the history
-pub plays_on_keeps : {game : AbstractGame} {moment n : ℕ} {play : AbstractPlay} {after : AbstractPlay} {said : List Delivery} {began : ℕ} → PlaysOn game moment n play after said → play.outcome ≡ None → LeadsTo game play.made play.place → MadeBetween began play.made moment → IsHistory game began moment after
-plays_on_keeps (on.endless is_keeper many) going leads in_order = record { leads = leads; in_order = in_order; fits = tt }
-plays_on_keeps (on.heavy may hard) going leads in_order = record { leads = leads; in_order = in_order; fits = tt }
-plays_on_keeps (on.finished may never) going leads in_order = record { leads = leads; in_order = in_order; fits = (never, refl) }
-plays_on_keeps {moment = moment} {play = play} (on.keeper {pairs = pairs} is_keeper may legal short goes) going leads in_order =
-    plays_on_keeps goes going (history.more leads (record { player = mover_of play; at = moment; pairs = pairs }) refl legal short) (one_more_made (mover_of play) moment pairs in_order)
-plays_on_keeps {game = game} {play = play} (on.turn {pairs = pairs} {to = to} player legal) going leads in_order = record {
-  leads = leads;
-  in_order = in_order;
-  fits = subst (λ outcome. FitsOutcome game play outcome) (sym going) (record { player = player; pairs = pairs; to = to; legal = legal });
-}
+module _ {game : AbstractGame} {config : Config} (lawful : IsWithinLimits config) {moment : ℕ} (counted : moment ≤ latest_moment) {began : ℕ} where
+  -- play that goes on from a move has a history
+  pub plays_on_keeps : {n : ℕ} {play : AbstractPlay} {after : AbstractPlay} {said : List Delivery} → PlaysOn game moment n play after said → play.outcome ≡ None → LeadsTo game play.made play.place → MadeInTurn config began play.made moment → IsHistory game config began moment after
+  plays_on_keeps (on.endless is_keeper many) going leads in_turn = record { lawful = lawful; counted = counted; leads = leads; last = moment; in_turn = in_turn; fits = let some = lawful.turn_some in (omega arith, omega (arith, some)) }
+  plays_on_keeps (on.heavy may hard) going leads in_turn = record { lawful = lawful; counted = counted; leads = leads; last = moment; in_turn = in_turn; fits = let some = lawful.turn_some in (omega arith, omega (arith, some)) }
+  plays_on_keeps (on.finished may never) going leads in_turn = record { lawful = lawful; counted = counted; leads = leads; last = moment; in_turn = in_turn; fits = (never, refl, refl) }
+  plays_on_keeps {play = play} (on.keeper {pairs = pairs} is_keeper may legal short goes) going leads in_turn =
+      let made : Made = record { player = mover_of play; at = moment; pairs = pairs } in
+      plays_on_keeps goes going (history.more leads made refl legal short) (history.by_keeper in_turn made is_keeper refl)
+  plays_on_keeps {play = play} (on.turn {pairs = pairs} {to = to} player legal) going leads in_turn = record {
+    lawful = lawful;
+    counted = counted;
+    leads = leads;
+    last = moment;
+    in_turn = in_turn;
+    fits = subst (λ outcome. FitsOutcome game config (turn_begun play moment) moment moment outcome) (sym going) (let some = lawful.turn_some in ((record { player = player; pairs = pairs; to = to; legal = legal }, refl), (omega arith, omega (arith, some))));
+  }
 
--- the turn of a match that goes on
-turn_of : {began moment : ℕ} (game : AbstractGame) (play : AbstractPlay) → IsHistory game began moment play → play.outcome ≡ None → HasTurn game play.place
-turn_of game play has going = subst (λ outcome. FitsOutcome game play outcome) going has.fits
+  -- a match in play has a history
+  in_play : {play : AbstractPlay} → IsInPlay game config began moment play → IsHistory game config began moment play
+  in_play {play} has = record {
+    lawful = lawful;
+    counted = counted;
+    leads = has.leads;
+    last = has.last;
+    in_turn = has.in_turn;
+    fits = subst (λ outcome. FitsOutcome game config play has.last moment outcome) (sym has.going) (has.turn, has.early);
+  }
 
-refuses_keeps : {game : AbstractGame} {began moment : ℕ} {config : Config} {play : AbstractPlay} {seat : ℕ} {reason : Reason} {after : AbstractPlay} {said : List Delivery} → Refuses (seats_of game) config play seat reason after said → IsSeat game seat → play.outcome ≡ None → IsHistory game began moment play → IsHistory game began moment after
-refuses_keeps {game = game} {play = play} (handling.counted few) is_seat going has = record {
-  leads = has.leads;
-  in_order = has.in_order;
-  fits = subst (λ outcome. FitsOutcome game play outcome) (sym going) (turn_of game play has going);
-}
-refuses_keeps {game = game} {play = play} (handling.spent many) is_seat going has = record {
-  leads = has.leads;
-  in_order = has.in_order;
-  fits = (turn_of game play has going, is_seat.0, is_seat.1);
-}
+  refuses_keeps : {play : AbstractPlay} {seat : ℕ} {reason : Reason} {after : AbstractPlay} {said : List Delivery} → Refuses (seats_of game) config play seat reason after said → IsSeat game seat → IsInPlay game config began moment play → IsHistory game config began moment after
+  refuses_keeps {play = play} {seat = seat} (handling.counted few) is_seat has = record {
+    lawful = lawful;
+    counted = counted;
+    leads = has.leads;
+    last = has.last;
+    in_turn = has.in_turn;
+    fits = subst (λ outcome. FitsOutcome game config (refused play seat) has.last moment outcome) (sym has.going) (has.turn, has.early);
+  }
+  refuses_keeps {play = play} (handling.spent many) is_seat has = record {
+    lawful = lawful;
+    counted = counted;
+    leads = has.leads;
+    last = has.last;
+    in_turn = has.in_turn;
+    fits = (has.turn, has.early, is_seat.0, is_seat.1);
+  }
 
-judges_keeps : {game : AbstractGame} {began : ℕ} {config : Config} {play : AbstractPlay} {moment : ℕ} {pairs : List (ℕ × ℕ)} {after : AbstractPlay} {said : List Delivery} → Judges game config play moment pairs after said → length pairs ≤ most_pairs → IsSeat game (mover_of play) → play.outcome ≡ None → IsHistory game began moment play → IsHistory game began moment after
-judges_keeps (handling.heavy hard) short is_seat going has = record { leads = has.leads; in_order = has.in_order; fits = tt }
-judges_keeps (handling.illegal none refuses) short is_seat going has = refuses_keeps refuses is_seat going has
-judges_keeps {play = play} {moment = moment} {pairs = pairs} (handling.legal legal goes) short is_seat going has = plays_on_keeps goes going (history.more has.leads (record { player = mover_of play; at = moment; pairs = pairs }) refl legal short) (one_more_made (mover_of play) moment pairs has.in_order)
+  judges_keeps : {play : AbstractPlay} {pairs : List (ℕ × ℕ)} {after : AbstractPlay} {said : List Delivery} → Judges game config play moment pairs after said → length pairs ≤ most_pairs → IsSeat game (mover_of play) → IsInPlay game config began moment play → IsHistory game config began moment after
+  judges_keeps (handling.heavy hard) short is_seat has = record { lawful = lawful; counted = counted; leads = has.leads; last = has.last; in_turn = has.in_turn; fits = has.early }
+  judges_keeps (handling.illegal none refuses) short is_seat has = refuses_keeps refuses is_seat has
+  judges_keeps {play = play} {pairs = pairs} (handling.legal legal goes) short is_seat has =
+      let made : Made = record { player = mover_of play; at = moment; pairs = pairs } in
+      plays_on_keeps goes has.going (history.more has.leads made refl legal short) (history.by_player has.in_turn made has.turn.0.player has.early)
 
-in_time_keeps : {game : AbstractGame} {began : ℕ} {config : Config} {play : AbstractPlay} {moment : ℕ} {input : AbstractInput} {after : AbstractPlay} {said : List Delivery} → HandlesInTime game config play moment input after said → IsInputOf game input → play.outcome ≡ None → IsHistory game began moment play → IsHistory game began moment after
-in_time_keeps handling.nothing is_input going has = has
-in_time_keeps {game = game} {play = play} (handling.leaving {seat = seat}) is_input going has = record { leads = has.leads; in_order = has.in_order; fits = (turn_of game play has going, is_input.0, is_input.1) }
-in_time_keeps (handling.out_of_turn other refuses) is_input going has = refuses_keeps refuses is_input going has
-in_time_keeps (handling.unreadable mover no_move refuses) is_input going has = refuses_keeps refuses is_input going has
-in_time_keeps (handling.too_many mover spells long refuses) is_input going has = refuses_keeps refuses is_input going has
-in_time_keeps {game = game} (handling.judged mover spells short judges) is_input going has = judges_keeps judges short (subst (IsSeat game) mover is_input) going has
+  in_time_keeps : {play : AbstractPlay} {input : AbstractInput} {after : AbstractPlay} {said : List Delivery} → HandlesInTime game config play moment input after said → IsInputOf game input → IsInPlay game config began moment play → IsHistory game config began moment after
+  in_time_keeps handling.nothing is_input has = in_play has
+  in_time_keeps (handling.leaving {seat = seat}) is_input has = record { lawful = lawful; counted = counted; leads = has.leads; last = has.last; in_turn = has.in_turn; fits = (has.turn, has.early, is_input.0, is_input.1) }
+  in_time_keeps (handling.out_of_turn other refuses) is_input has = refuses_keeps refuses is_input has
+  in_time_keeps (handling.unreadable mover no_move refuses) is_input has = refuses_keeps refuses is_input has
+  in_time_keeps (handling.too_many mover spells long refuses) is_input has = refuses_keeps refuses is_input has
+  in_time_keeps (handling.judged mover spells short judges) is_input has = judges_keeps judges short (subst (IsSeat game) mover is_input) has
 
-handles_keeps : {game : AbstractGame} {began : ℕ} {config : Config} {play : AbstractPlay} {moment : ℕ} {input : AbstractInput} {after : AbstractPlay} {said : List Delivery} → Handles game config play moment input after said → IsInputOf game input → IsHistory game began moment play → IsHistory game began moment after
-handles_keeps (handling.after_end ended) is_input has = has
-handles_keeps {game = game} {play = play} (handling.overdue going late) is_input has = record { leads = has.leads; in_order = has.in_order; fits = (turn_of game play has going, refl) }
-handles_keeps (handling.in_time going early handles) is_input has = in_time_keeps handles is_input going has
+  handles_keeps : {play : AbstractPlay} {input : AbstractInput} {after : AbstractPlay} {said : List Delivery} → Handles game config play moment input after said → IsInputOf game input → IsKept game config began moment play → IsHistory game config began moment after
+  handles_keeps {play = play} (handling.after_end {outcome = outcome} ended) is_input has = record {
+    lawful = lawful;
+    counted = counted;
+    leads = has.leads;
+    last = has.last;
+    in_turn = has.in_turn;
+    fits = subst (λ outcome. FitsOutcome game config play has.last moment outcome) (sym ended) (has.over outcome ended);
+  }
+  handles_keeps (handling.overdue going late) is_input has =
+      let (turn, before) = has.turn going in
+      let began_then = turn.1 in
+      record { lawful = lawful; counted = counted; leads = has.leads; last = has.last; in_turn = has.in_turn; fits = (turn, refl, omega (arith, began_then, late)) }
+  handles_keeps (handling.in_time going early handles) is_input has =
+      let (turn, before) = has.turn going in
+      let began_then = turn.1 in
+      in_time_keeps handles is_input (record { leads = has.leads; last = has.last; in_turn = has.in_turn; going = going; turn = turn; early = (before, omega (arith, began_then, early)) })
+
+  -- a match with a history goes on at the same moment
+  still_kept : {play : AbstractPlay} → IsHistory game config began moment play → IsKept game config began moment play
+  still_kept {play} has = record {
+    leads = has.leads;
+    last = has.last;
+    in_turn = has.in_turn;
+    turn = λ going. let (turn, early) = subst (λ outcome. FitsOutcome game config play has.last moment outcome) going has.fits in (turn, early.0);
+    over = λ outcome is. subst (λ outcome. FitsOutcome game config play has.last moment outcome) is has.fits;
+  }
+
+-- a match with a history that has not ended goes on at a later moment
+pub kept_later : {game : AbstractGame} {config : Config} {began earlier : ℕ} {play : AbstractPlay} (moment : ℕ) → earlier ≤ moment → play.outcome ≡ None → IsHistory game config began earlier play → IsKept game config began moment play
+kept_later {game} {config} {began} {earlier} {play} moment before going has =
+    let (turn, early) = subst (λ outcome. FitsOutcome game config play has.last earlier outcome) going has.fits in
+    let at_first = early.0 in
+    record {
+      leads = has.leads;
+      last = has.last;
+      in_turn = has.in_turn;
+      turn = λ _. (turn, omega (arith, before, at_first));
+      over = λ outcome is. absurd (none-some outcome (sym going ∙ is));
+    }
 
 -- the parts of a list whose elements are all so
 parts_all : {A : Type 0} (P : A → Type 0) (xs ys : List A) → All P (xs ++ ys) → All P xs × All P ys
@@ -101,13 +169,15 @@ parts_all P (x ∷ xs) ys all =
 abbrev pub IsInputAt : AbstractGame → (moment : ℕ) → TimedInput → Type 0
 IsInputAt game moment one = IsInputOf game one.input × (one.moment ≡ moment)
 
-pub handles_all_keeps : {game : AbstractGame} {began moment : ℕ} {config : Config} {play : AbstractPlay} {inputs : List TimedInput} {after : AbstractPlay} {said : List Delivery} → HandlesAll game config play inputs after said → All (IsInputAt game moment) inputs → IsHistory game began moment play → IsHistory game began moment after
-handles_all_keeps transcript.none all has = has
-handles_all_keeps {game = game} {began = began} {moment = moment} {after = after} (transcript.more {inputs = inputs} {middle = middle} {input = input} before handles) all has =
+-- inputs at one moment keep what is kept, and the first of them gives a history
+pub handles_all_keeps : {game : AbstractGame} {began moment : ℕ} {config : Config} {play : AbstractPlay} {inputs : List TimedInput} {after : AbstractPlay} {said : List Delivery} → IsWithinLimits config → moment ≤ latest_moment → HandlesAll game config play inputs after said → All (IsInputAt game moment) inputs → IsKept game config began moment play → IsKept game config began moment after × (inputs ≢ [] → IsHistory game config began moment after)
+handles_all_keeps lawful counted transcript.none all has = (has, λ some. absurd (some refl))
+handles_all_keeps {game = game} {began = began} {moment = moment} {config = config} {after = after} lawful counted (transcript.more {inputs = inputs} {middle = middle} {next = next} {input = input} before handles) all has =
     let parts = parts_all (IsInputAt game moment) inputs (input ∷ []) all in
     let last = All-head (IsInputAt game moment) input [] parts.1 in
-    let earlier : IsHistory game began input.moment middle = subst (λ one. IsHistory game began one middle) (sym last.1) (handles_all_keeps before parts.0 has) in
-    subst (λ one. IsHistory game began one after) last.1 (handles_keeps handles last.0 earlier)
+    let earlier = handles_all_keeps lawful counted before parts.0 has in
+    let now = handles_keeps lawful counted (subst (λ one. Handles game config middle one input.input after next) last.1 handles) last.0 earlier.0 in
+    (still_kept lawful counted now, λ _. now)
 
 -- the number of a seat that there is
 seat_there : (game : AbstractGame) (rests : List Rest) (seat : ℕ) → length rests ≡ seats_of game → has_seat rests seat ≡ true → IsSeat game seat
@@ -137,24 +207,28 @@ module _ (game : AbstractGame) (rests : List Rest) (same : length rests ≡ seat
   timed_of_event moment event =
       All-map (IsInputAt game moment) (λ input. let timed : TimedInput = record { moment = moment; input = input } in timed) (inputs_in rests event) (All-weaker (IsInputOf game) (λ (input : AbstractInput). IsInputAt game moment (record { moment = moment; input = input })) (λ input is_input. (is_input, refl)) (inputs_in rests event) (all_of_event event))
 
--- a match opens with a history
-pub opens_with : {game : AbstractGame} {moment : ℕ} {play : AbstractPlay} {said : List Delivery} → PlaysOn game moment 0 (play_at_start game moment) play said → IsHistory game moment moment play
-opens_with goes = plays_on_keeps goes refl history.none (nothing (omega arith))
+-- an event stands for one input at least
+pub some_input : (game : AbstractGame) (rests : List Rest) (moment : ℕ) (event : AbstractEvent) → inputs_at moment (inputs_in rests event) ≢ []
+some_input game rests moment (piece seat at bytes) is = cc
+some_input game rests moment (end_of_stream seat at) is = cc
+some_input game rests moment (moment_alone at) is = cc
 
--- a history holds at later moments too
-history_later : {game : AbstractGame} {began moment : ℕ} {play : AbstractPlay} (later : ℕ) → moment ≤ later → IsHistory game began moment play → IsHistory game began later play
-history_later later before has = record { leads = has.leads; in_order = made_until later before has.in_order; fits = has.fits }
-
--- an event keeps the history
-pub event_keeps : (game : AbstractGame) (config : Config) (old new : AbstractPlay) (inboxes : List Stream) (began earlier moment : ℕ) (event : AbstractEvent) (said : List Delivery) → earlier ≤ moment → length inboxes ≡ seats_of game → IsHistory game began earlier old → HandlesAll game config old (inputs_at moment (inputs_in (rests_of inboxes) event)) new said → IsHistory game began moment new
-event_keeps game config old new inboxes began earlier moment event said before same has handles =
+-- an event keeps the history of a match that goes on
+pub event_keeps : (game : AbstractGame) (config : Config) (old new : AbstractPlay) (inboxes : List Stream) (began earlier moment : ℕ) (event : AbstractEvent) (said : List Delivery) → earlier ≤ moment → moment ≤ latest_moment → length inboxes ≡ seats_of game → old.outcome ≡ None → IsHistory game config began earlier old → HandlesAll game config old (inputs_at moment (inputs_in (rests_of inboxes) event)) new said → IsHistory game config began moment new
+event_keeps game config old new inboxes began earlier moment event said before counted same going has handles =
     let seats : length (rests_of inboxes) ≡ seats_of game = length-map inboxes (λ (inbox : Stream). inbox.rest) ∙ same in
-    handles_all_keeps handles (timed_of_event game (rests_of inboxes) seats moment event) (history_later moment before has)
+    (handles_all_keeps has.lawful counted handles (timed_of_event game (rests_of inboxes) seats moment event) (kept_later moment before going has)).1 (some_input game (rests_of inboxes) moment event)
 
+-- a match opens with a history
 pub opened_with : (game : AbstractGame) (text : List ℕ) (config : Config) (now : ℕ) (state : MatchState) (outbox : List (List ℕ)) → Opens game text config now state outbox → HasHistory state
 opened_with game text config now state outbox opens =
     let moment : state.streams.moment ≡ counted_first now = ap (λ (streams : Streams). streams.moment) opens.streams in
-    rw (opens.of_game, opens.begins, moment) (opens_with opens.opens)
+    rw (opens.of_game, opens.of_config, opens.begins, moment) (plays_on_keeps opens.lawful (min-le_right now latest_moment) opens.opens refl history.none history.nothing)
+
+-- what has not ended has no outcome
+pub no_outcome_yet : (outcome : Option Outcome) → is_some outcome ≡ false → outcome ≡ None
+no_outcome_yet None is = refl
+no_outcome_yet (Some outcome) is = absurd (true≢false is)
 
 -- what a fact on `Ok` gives there
 pub on_ok : {T E A B : Type 0} (result : Result T E) → IfOk result (λ (_ : T). A) → (A → B) → OnOk result B

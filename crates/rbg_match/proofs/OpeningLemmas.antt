@@ -7,7 +7,6 @@ use Rattle.rbg_match.specs.Config.{IsWithinLimits}
 use Rattle.rbg_match.specs.Limits.{message_limit}
 use Rattle.rbg_match.specs.Deliveries.{Delivery, delivered, queued}
 use Rattle.rbg_match.specs.Play.{AbstractPlay, play_at_start}
-use Rattle.rbg_match.specs.OneWord.{IsOneWord}
 use Rattle.rbg_match.specs.PlayingOn.{PlaysOn, seats_of}
 use Rattle.rbg_match.specs.Inputs.{Streams, counted_first, streams_at_start}
 use Rattle.rbg_match.specs.internal.Inboxes.{AreNew, rests_of}
@@ -23,8 +22,8 @@ rests_of_replicate (suc seats) inbox = ap (λ rests. inbox.rest ∷ rests) (rest
 pub rests_of_new : (seats : ℕ) (inboxes : List Stream) → AreNew seats inboxes → rests_of inboxes ≡ replicate seats (incomplete [])
 rests_of_new seats inboxes new = ap rests_of new ∙ rests_of_replicate seats (record { limit = message_limit; items = []; rest = incomplete [] })
 
-pub opens_so : (game : AbstractGame) (text : List ℕ) (config : Config) (now at : ℕ) (seats : ℕ) (first opened : AbstractPlay) (inboxes : List Stream) (empty greeted outbox : List (List ℕ)) (greets opening : List Delivery) → IsWithinLimits config → IsOneWord game.rules → at ≡ counted_first now → seats ≡ seats_of game → first ≡ play_at_start game at → PlaysOn game at 0 first opened opening → AreNew seats inboxes → empty ≡ replicate seats [] → greeted ≡ delivered empty greets → greets ≡ greetings text config game.players → outbox ≡ delivered greeted opening → Opens game text config now (record { game = game; config = config; began = at; play = opened; streams = record { moment = at; rests = rests_of inboxes }; failed = false }) outbox
-opens_so game text config now at seats first opened inboxes empty greeted outbox greets opening lawful one_word moment same starts goes new nothing greeting told tells =
+pub opens_so : (game : AbstractGame) (text : List ℕ) (config : Config) (now at : ℕ) (seats : ℕ) (first opened : AbstractPlay) (inboxes : List Stream) (empty greeted outbox : List (List ℕ)) (greets opening : List Delivery) → IsWithinLimits config → at ≡ counted_first now → seats ≡ seats_of game → first ≡ play_at_start game at → PlaysOn game at 0 first opened opening → AreNew seats inboxes → empty ≡ replicate seats [] → greeted ≡ delivered empty greets → greets ≡ greetings text config game.players → outbox ≡ delivered greeted opening → Opens game text config now (record { game = game; config = config; began = at; play = opened; streams = record { moment = at; rests = rests_of inboxes }; failed = false }) outbox
+opens_so game text config now at seats first opened inboxes empty greeted outbox greets opening lawful moment same starts goes new nothing greeting told tells =
     let streams : ◌≡◌ {A = Streams} (record { moment = at; rests = rests_of inboxes }) (streams_at_start (seats_of game) now) =
     ap (λ rests. let s : Streams = record { moment = at; rests = rests } in s) (rests_of_new seats inboxes new)
     ∙ ap (λ n. let s : Streams = record { moment = at; rests = replicate n (incomplete []) } in s) same
@@ -32,7 +31,6 @@ opens_so game text config now at seats first opened inboxes empty greeted outbox
     let from_start : PlaysOn game at 0 (play_at_start game at) opened opening = subst (λ play. PlaysOn game at 0 play opened opening) starts goes in
     record {
       lawful = lawful;
-      one_word = one_word;
       of_game = refl;
       of_config = refl;
       begins = moment;

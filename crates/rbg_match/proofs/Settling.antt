@@ -19,7 +19,7 @@ pub data IsSettled (config : Config) (moment : ℕ) (play : AbstractPlay) : Type
   over : (outcome : Outcome) → play.outcome ≡ Some outcome → IsSettled config moment play
   early : moment < due_of config play → IsSettled config moment play
 
-plays_on_settles : {game : AbstractGame} {moment n : ℕ} {play after : AbstractPlay} {said : List Delivery} (config : Config) → 1 ≤ config.turn_ms → PlaysOn game moment n play after said → IsSettled config moment after
+pub plays_on_settles : {game : AbstractGame} {moment n : ℕ} {play after : AbstractPlay} {said : List Delivery} (config : Config) → 1 ≤ config.turn_ms → PlaysOn game moment n play after said → IsSettled config moment after
 plays_on_settles config some (on.endless is_keeper many) = over _ refl
 plays_on_settles config some (on.heavy may hard) = over _ refl
 plays_on_settles config some (on.finished may nothing) = over _ refl
@@ -79,10 +79,13 @@ abbrev pub tick_at : (moment : ℕ) → TimedInput
 tick_at moment = record { moment = moment; input = tick }
 
 module _ (game : AbstractGame) (config : Config) (some : 1 ≤ config.turn_ms) (moment : ℕ) where
-  first_dropped : {play after : AbstractPlay} {said : List Delivery} (rest : List TimedInput) → IsSettled config moment play → HandlesEach game config play (tick_at moment ∷ rest) after said → HandlesEach game config play rest after said
+  pub first_dropped : {play after : AbstractPlay} {said : List Delivery} (rest : List TimedInput) → IsSettled config moment play → HandlesEach game config play (tick_at moment ∷ rest) after said → HandlesEach game config play rest after said
   first_dropped {after = after} rest settled (more {next = next} handles goes_on) =
       let nothing = tick_does_nothing settled handles in
       rw (nothing.1, ← nothing.0) goes_on
+
+  pub first_added : {play after : AbstractPlay} {said : List Delivery} (rest : List TimedInput) → IsSettled config moment play → HandlesEach game config play rest after said → HandlesEach game config play (tick_at moment ∷ rest) after said
+  first_added rest settled goes_on = more {input = tick_at moment} (tick_is_handled settled) goes_on
 
   -- the tick directly after inputs at its moment may be left out
   pub tick_dropped : {play after : AbstractPlay} {said : List Delivery} (before : List TimedInput) (input : AbstractInput) (inputs : List AbstractInput) (rest : List TimedInput) → HandlesEach game config play (before ++ (inputs_at moment (input ∷ inputs) ++ tick_at moment ∷ rest)) after said → HandlesEach game config play (before ++ (inputs_at moment (input ∷ inputs) ++ rest)) after said
@@ -98,4 +101,4 @@ module _ (game : AbstractGame) (config : Config) (some : 1 ≤ config.turn_ms) (
       let outer = parted before (inputs_at moment (input ∷ inputs) ++ rest) handles in
       let inner = parted (inputs_at moment (input ∷ inputs)) rest outer.goes_on in
       let settled = settled_after input inputs some inner.handles in
-      joined outer.handles (joined inner.handles (more {input = tick_at moment} (tick_is_handled settled) inner.goes_on) inner.whole) outer.whole
+      joined outer.handles (joined inner.handles (first_added rest settled inner.goes_on) inner.whole) outer.whole

@@ -1,5 +1,6 @@
 -- A match that opens and handles events in turn is refereed.
-use Rattle.std.proofs.Common.{◌≡◌, ℕ, List, [], ◌++◌, length, refl, sym, ap, ◌∙◌, subst, replicate, None}
+use Rattle.std.proofs.Common.{◌≡◌, ℕ, List, [], ◌++◌, length, refl, sym, ap, ◌∙◌, subst, replicate, None, Result, Ok, Err, inr}
+use Rattle.std.specs.Prelude.{IfErr}
 use Rattle.std.proofs.lemmas.List.{length-replicate}
 use Rattle.rbg_rules.specs.State.{AbstractGame}
 use Rattle.rbg_match.specs.declared.config.Config.{Config}
@@ -8,7 +9,10 @@ use Rattle.rbg_match.specs.PlayingOn.{seats_of}
 use Rattle.rbg_match.specs.Inputs.{AbstractEvent, timed_inputs_of}
 use Rattle.rbg_match.specs.Transcript.{HandlesAll, greetings}
 use Rattle.rbg_match.specs.Matches.{MatchState, Opens, StepsAll}
-use Rattle.rbg_match.specs.Refereed.{IsRefereed, IsStillInPlay, OpensText}
+use Rattle.rbg_match.specs.Laws.{SteppedIsTranscript}
+use Rattle.rbg_match.specs.declared.error.RefereeError.{RefereeError}
+use Rattle.rbg_match.specs.declared.error.RefereeError.TheVariants.{Load, Config as ConfigRefused, Memory}
+use Rattle.rbg_match.specs.Refereed.{IsRefereed, IsRefusedFor, IsStillInPlay, OpensText, StopsMatch}
 use Rattle.rbg_match.specs.Play.{AbstractPlay}
 use Rattle.rbg_match.proofs.Delivering.{delivered-queued, delivered-queued_more, length-delivered}
 use Rattle.rbg_match.proofs.AllEvents.{all_handled}
@@ -21,31 +25,37 @@ pub seats_of_opened : (game : AbstractGame) (text : List ℕ) (config : Config) 
 seats_of_opened game text config now state outbox opens =
     ap length opens.told ∙ length-queued (seats_of game) (greetings text config game.players ++ opens.opening) ∙ ap seats_of (sym opens.of_game)
 
--- a match that opens and handles these events is refereed, and its state of play is that of the transcript
-refereed_with : (text : List ℕ) (config : Config) (now : ℕ) (events : List AbstractEvent) (old new : MatchState) (before after : List (List ℕ)) → OpensText text config now old before → StepsAll old before events new after → (refereed : IsRefereed text config now events after) × (refereed.play ≡ new.play)
-refereed_with text config now events old new before after opened steps =
-    let game = opened.game in
-    let opens = opened.opens in
+-- a match that opens and handles these events has a transcript
+pub stepped_is_transcript : SteppedIsTranscript
+stepped_is_transcript game text config now events old new before after opens steps =
     let handled = all_handled steps in
     let in_game = subst (λ one. HandlesAll one old.config old.play (timed_inputs_of old.streams events) new.play handled.said) opens.of_game handled.handles in
     let with_config = subst (λ one. HandlesAll game one old.play (timed_inputs_of old.streams events) new.play handled.said) opens.of_config in_game in
     let from_start = subst (λ streams. HandlesAll game config old.play (timed_inputs_of streams events) new.play handled.said) opens.streams with_config in (
+      greetings text config game.players ++ opens.opening ++ handled.said,
       record {
-        game = game;
+        opened = old.play;
+        opening = opens.opening;
+        replies = handled.said;
+        opens = opens.opens;
+        goes_on = from_start;
+        whole = refl;
+      },
+      handled.told ∙ ap (λ box. delivered box handled.said) opens.told ∙ delivered-queued_more (seats_of game) (greetings text config game.players ++ opens.opening) handled.said,
+    )
+
+-- a match that opens and handles these events is refereed, and its state of play is that of the transcript
+refereed_with : (text : List ℕ) (config : Config) (now : ℕ) (events : List AbstractEvent) (old new : MatchState) (before after : List (List ℕ)) → OpensText text config now old before → StepsAll old before events new after → (refereed : IsRefereed text config now events after) × (refereed.play ≡ new.play)
+refereed_with text config now events old new before after opened steps =
+    let (said, transcript, bytes) = stepped_is_transcript opened.game text config now events old new before after opened.opens steps in (
+      record {
+        game = opened.game;
         loads = opened.loads;
-        lawful = opens.lawful;
-        one_word = opens.one_word;
+        lawful = opened.opens.lawful;
         play = new.play;
-        said = greetings text config game.players ++ opens.opening ++ handled.said;
-        transcript = record {
-          opened = old.play;
-          opening = opens.opening;
-          replies = handled.said;
-          opens = opens.opens;
-          goes_on = from_start;
-          whole = refl;
-        };
-        bytes = handled.told ∙ ap (λ box. delivered box handled.said) opens.told ∙ delivered-queued_more (seats_of game) (greetings text config game.players ++ opens.opening) handled.said;
+        said = said;
+        transcript = transcript;
+        bytes = bytes;
       },
       refl,
     )
@@ -57,3 +67,13 @@ pub is_still_in_play : (text : List ℕ) (config : Config) (now : ℕ) (events :
 is_still_in_play text config now events old new before after opened steps going =
     let with_play = refereed_with text config now events old new before after opened steps in
     record { refereed = with_play.0; going = ap (λ (play : AbstractPlay). play.outcome) with_play.1 ∙ going }
+
+-- a match that is stopped is one that is refused
+refused_by : (text : List ℕ) (config : Config) (now : ℕ) (events : List AbstractEvent) (error : RefereeError) → StopsMatch text config now events error → IsRefusedFor text config now events error
+refused_by text config now events (Memory done said) stopped = inr stopped
+refused_by text config now events (Load error) stopped = absurd stopped
+refused_by text config now events ConfigRefused stopped = absurd stopped
+
+pub refused_when_stopped : (text : List ℕ) (config : Config) (now : ℕ) (events : List AbstractEvent) (result : Result (List (List ℕ)) RefereeError) → IfErr result (StopsMatch text config now events) → IfErr result (IsRefusedFor text config now events)
+refused_when_stopped text config now events (Ok outbox) stopped = tt
+refused_when_stopped text config now events (Err error) stopped = refused_by text config now events error stopped

@@ -1,12 +1,15 @@
--- The history of a match: its moves are legal ones from the start to the place reached, and its outcome fits the place.
-use Rattle.std.specs.Prelude.{◌≡◌, ◌≢◌, ℕ, ◌≤◌, List, [], ◌∷◌, ◌++◌, length, Option, Some, None}
+-- The history of a match: its moves are legal ones from the start to the place reached, each in its turn, and its
+-- outcome fits the place and the moments.
+use Rattle.std.specs.Prelude.{◌≡◌, ◌≢◌, ℕ, ◌+◌, ◌<◌, ◌≤◌, List, [], ◌∷◌, ◌++◌, length, Option, Some, None}
 use Rattle.rbg_wire.specs.declared.outcome.Outcome.{Outcome}
 use Rattle.rbg_wire.specs.declared.outcome.Outcome.TheVariants.{Finished, Time, Refusals, Gone, Heavy}
 use Rattle.rbg_rules.specs.State.{AbstractGame, start_of}
 use Rattle.rbg_rules.specs.Moves.{AbstractPlace, Legal}
 use Rattle.rbg_rules.specs.Moves as moves
+use Rattle.rbg_match.specs.declared.config.Config.{Config}
 use Rattle.rbg_match.specs.declared.made.Made.{Made}
-use Rattle.rbg_match.specs.Limits.{most_pairs}
+use Rattle.rbg_match.specs.Config.{IsWithinLimits}
+use Rattle.rbg_match.specs.Limits.{most_pairs, latest_moment}
 use Rattle.rbg_match.specs.Play.{AbstractPlay, mover_of, scores_of}
 use Rattle.rbg_match.specs.PlayingOn.{seats_of}
 
@@ -27,17 +30,29 @@ pub data LeadsTo (game : AbstractGame) : List Made → AbstractPlace → Type 0 
       length made.pairs ≤ most_pairs →
       LeadsTo game (moves ++ made ∷ []) to
 
--- These moves were made from the first moment to the last one: none of them before the first one, before the move that
--- precedes it, or after the last one.
-pub data MadeBetween (first : ℕ) : List Made → (last : ℕ) → Type 0 where
-  nothing : {last : ℕ} →
-      first ≤ last →
-      MadeBetween first [] last
-  next : {moves : List Made} {last : ℕ} →
+-- The moment is in the turn that began at another one: not before that, and before the turn is due.
+abbrev pub IsInTurn : Config → (begun moment : ℕ) → Type 0
+IsInTurn config begun moment = (begun ≤ moment) × (moment < begun + config.turn_ms)
+
+-- In a match that began at a moment, each of these moves was made in its turn, which begins at the moment of the move
+-- before it. The last number is the moment of the last move, and that of the beginning if there is no move.
+--   by_keeper: the keeper moves when its turn begins.
+--   by_player: a player moves before its turn is due.
+pub data MadeInTurn (config : Config) (began : ℕ) : List Made → (last : ℕ) → Type 0 where
+  nothing :
+      MadeInTurn config began [] began
+  by_keeper : {moves : List Made} {last : ℕ} →
+      MadeInTurn config began moves last →
       (made : Made) →
-      MadeBetween first moves made.at →
-      made.at ≤ last →
-      MadeBetween first (moves ++ made ∷ []) last
+      made.player ≡ 0 →
+      made.at ≡ last →
+      MadeInTurn config began (moves ++ made ∷ []) made.at
+  by_player : {moves : List Made} {last : ℕ} →
+      MadeInTurn config began moves last →
+      (made : Made) →
+      made.player ≢ 0 →
+      IsInTurn config last made.at →
+      MadeInTurn config began (moves ++ made ∷ []) made.at
 
 -- A player is to move, and has a legal move.
 pub record HasTurn (game : AbstractGame) (place : AbstractPlace) : Type 0 where
@@ -46,21 +61,36 @@ pub record HasTurn (game : AbstractGame) (place : AbstractPlace) : Type 0 where
   pub to : AbstractPlace
   pub legal : Legal game place pairs to
 
--- The outcome fits the place that play has reached.
---   None, Time, Refusals, Gone: a player is to move and has a legal move. The time that is over is the mover's, and the
---   seats that are named exist.
---   Finished: no move is legal, and the scores are the players' values.
---   Heavy: at any place.
-abbrev pub FitsOutcome : AbstractGame → AbstractPlay → Option Outcome → Type 0
-FitsOutcome game play None = HasTurn game play.place
-FitsOutcome game play (Some (Finished scores)) = moves.Finished game play.place × (scores ≡ scores_of game play)
-FitsOutcome game play (Some (Time player)) = HasTurn game play.place × (player ≡ mover_of play)
-FitsOutcome game play (Some (Refusals seat)) = HasTurn game play.place × (1 ≤ seat) × (seat ≤ seats_of game)
-FitsOutcome game play (Some (Gone seat)) = HasTurn game play.place × (1 ≤ seat) × (seat ≤ seats_of game)
-FitsOutcome game play (Some Heavy) = Unit {0}
+-- A player is to move and has a legal move, and its turn began at this moment.
+abbrev pub HasTurnSince : AbstractGame → AbstractPlay → (begun : ℕ) → Type 0
+HasTurnSince game play begun = HasTurn game play.place × (play.turn_began ≡ begun)
 
--- The history that a state of play tells, where the match began at a moment and its greatest moment is another.
-pub record IsHistory (game : AbstractGame) (began moment : ℕ) (play : AbstractPlay) : Type 0 where
+-- The outcome fits the place that play has reached, the moment of the last move and the greatest moment, which is that
+-- of the end if there is one.
+--   None: a player is to move and has a legal move. Its turn began with the last move and isn't due.
+--   Finished: no move is legal, the scores are the players' values, and the match ended with the last move.
+--   Time: the same as for None, but the turn is due. The time that is over is the mover's.
+--   Refusals, Gone: the same as for None, and the seat that is named exists.
+--   Heavy: at any place, in the turn that began with the last move.
+abbrev pub FitsOutcome : AbstractGame → Config → AbstractPlay → (last moment : ℕ) → Option Outcome → Type 0
+FitsOutcome game config play last moment None = HasTurnSince game play last × IsInTurn config last moment
+FitsOutcome game config play last moment (Some (Finished scores)) =
+    moves.Finished game play.place × (scores ≡ scores_of game play) × (moment ≡ last)
+FitsOutcome game config play last moment (Some (Time player)) =
+    HasTurnSince game play last × (player ≡ mover_of play) × (last + config.turn_ms ≤ moment)
+FitsOutcome game config play last moment (Some (Refusals seat)) =
+    HasTurnSince game play last × IsInTurn config last moment × (1 ≤ seat) × (seat ≤ seats_of game)
+FitsOutcome game config play last moment (Some (Gone seat)) =
+    HasTurnSince game play last × IsInTurn config last moment × (1 ≤ seat) × (seat ≤ seats_of game)
+FitsOutcome game config play last moment (Some Heavy) = IsInTurn config last moment
+
+-- The history that a state of play tells, where the match began at a moment and its greatest moment is another: the
+-- moves lead from the start to the place, each was made in its turn, and the outcome fits. No moment is greater than
+-- the latest that is counted.
+pub record IsHistory (game : AbstractGame) (config : Config) (began moment : ℕ) (play : AbstractPlay) : Type 0 where
+  pub lawful : IsWithinLimits config
+  pub counted : moment ≤ latest_moment
   pub leads : LeadsTo game play.made play.place
-  pub in_order : MadeBetween began play.made moment
-  pub fits : FitsOutcome game play play.outcome
+  pub last : ℕ
+  pub in_turn : MadeInTurn config began play.made last
+  pub fits : FitsOutcome game config play last moment play.outcome

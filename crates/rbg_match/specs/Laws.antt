@@ -3,16 +3,20 @@ use Rattle.std.specs.Prelude.{◌≡◌, ◌≤◌, ◌==◌, ◌↔◌, ℕ, su
 use Rattle.std.specs.List.{concat, filter}
 use Rattle.rbg_wire.specs.declared.outcome.Outcome.{Outcome}
 use Rattle.rbg_wire.specs.declared.outcome.Outcome.TheVariants.{Heavy}
+use Rattle.rbg_wire.specs.Messages.{end_message}
 use Rattle.rbg_rules.specs.Positions.{IsNumbered}
 use Rattle.rbg_rules.specs.State.{AbstractGame}
 use Rattle.rbg_match.specs.declared.config.Config.{Config}
 use Rattle.rbg_match.specs.declared.made.Made.{Made}
 use Rattle.rbg_match.specs.Config.{IsWithinLimits}
-use Rattle.rbg_match.specs.Deliveries.{Delivery}
-use Rattle.rbg_match.specs.Inputs.{AbstractEvent, piece, TimedInput}
+use Rattle.rbg_match.specs.Deliveries.{Delivery, to_each, queued}
+use Rattle.rbg_match.specs.History.{IsHistory}
+use Rattle.rbg_match.specs.Inputs.{AbstractEvent, piece, moment_alone, moment_of, counted_first, TimedInput}
 use Rattle.rbg_match.specs.Limits.{most_keeper_moves}
-use Rattle.rbg_match.specs.Matches.{MatchState, StepsAll}
+use Rattle.rbg_match.specs.Matches.{MatchState, Opens, StepsAll}
 use Rattle.rbg_match.specs.Play.{AbstractPlay, mover_of}
+use Rattle.rbg_match.specs.PlayingOn.{seats_of}
+use Rattle.rbg_match.specs.Refereed.{IsRefereed}
 use Rattle.rbg_match.specs.Transcript.{HandlesAll, Transcript}
 
 -- How a seat's stream is cut does not matter. A piece may be replaced by one or more pieces of the same seat and
@@ -26,9 +30,9 @@ Cutting =
     Transcript game text config now (before ++ piece seat at (concat (first ∷ others)) ∷ after) play said
     ↔ Transcript game text config now (before ++ map (piece seat at) (first ∷ others) ++ after) play said
 
--- the keeper's moves among these moves
-abbrev pub keeper_moves : List Made → List Made
-keeper_moves moves = filter (λ made. made.player == 0) moves
+-- the pairs of the keeper's moves among these moves
+abbrev pub keeper_pairs : List Made → List (List (ℕ × ℕ))
+keeper_pairs moves = map (λ made. made.pairs) (filter (λ made. made.player == 0) moves)
 
 -- how many of these moves at their end are the keeper's, where that many before them are
 abbrev pub keeper_run : (before : ℕ) → List Made → ℕ
@@ -41,9 +45,41 @@ pub record IsHeavyEnd (play : AbstractPlay) : Type 0 where
   pub heavy : play.outcome ≡ Some Heavy
   pub not_endless : mover_of play ≡ 0 → most_keeper_moves ≤ keeper_run 0 play.made → ⊥
 
--- Apart from the keeper's moves and from questions above the limits, the text, the config, the first moment and the
--- events decide everything: two transcripts of them are the same if the keeper has made the same moves in both and
--- neither has ended because a question was above the limits.
+-- The keeper's moves in both matches are the first ones of one list.
+pub record HaveOneKeeper (one other : AbstractPlay) : Type 0 where
+  pub one_later : List (List (ℕ × ℕ))
+  pub other_later : List (List (ℕ × ℕ))
+  pub same : keeper_pairs one.made ++ one_later ≡ keeper_pairs other.made ++ other_later
+
+-- The match has ended with `E4` because a question was above the limits. Until then it sent what another match sends.
+pub record StopsWithin (game : AbstractGame) (play : AbstractPlay) (said others : List Delivery) : Type 0 where
+  pub heavy : IsHeavyEnd play
+  pub before : List Delivery
+  pub after : List Delivery
+  pub told : said ≡ before ++ to_each (seats_of game) (end_message Heavy)
+  pub goes_on : others ≡ before ++ after
+
+-- Two matches are the same, or they are until one of them ends because a question was above the limits.
+pub data AreAlike (game : AbstractGame) (one other : AbstractPlay) (said others : List Delivery) : Type 0 where
+  equal : one ≡ other → said ≡ others → AreAlike game one other said others
+  one_stops : StopsWithin game one said others → AreAlike game one other said others
+  other_stops : StopsWithin game other others said → AreAlike game one other said others
+
+-- The text, the config, the first moment and the events decide everything but the keeper's moves and where a match ends
+-- because a question is above the limits. So where the keeper's moves in two transcripts of them are the first ones of
+-- one list, the transcripts are the same until one of them ends so.
+abbrev pub OneUntilHeavy : Type 0
+OneUntilHeavy =
+    (game : AbstractGame) (text : List ℕ) (config : Config) (now : ℕ) (events : List AbstractEvent) →
+    (play play' : AbstractPlay) (said said' : List Delivery) →
+    IsNumbered game.rules →
+    Transcript game text config now events play said →
+    Transcript game text config now events play' said' →
+    HaveOneKeeper play play' →
+    AreAlike game play play' said said'
+
+-- Two such transcripts are the same if the keeper's moves have the same pairs in both, and neither has ended because a
+-- question was above the limits.
 abbrev pub OneTranscript : Type 0
 OneTranscript =
     (game : AbstractGame) (text : List ℕ) (config : Config) (now : ℕ) (events : List AbstractEvent) →
@@ -53,8 +89,65 @@ OneTranscript =
     Transcript game text config now events play' said' →
     ¬ IsHeavyEnd play →
     ¬ IsHeavyEnd play' →
-    keeper_moves play.made ≡ keeper_moves play'.made →
+    keeper_pairs play.made ≡ keeper_pairs play'.made →
     (play ≡ play') × (said ≡ said')
+
+-- The same of the bytes: a text, a config, a first moment and events have one outbox, if the keeper's moves have the
+-- same pairs and no match ends because a question is above the limits.
+abbrev pub OneOutbox : Type 0
+OneOutbox =
+    (text : List ℕ) (config : Config) (now : ℕ) (events : List AbstractEvent) (outbox outbox' : List (List ℕ)) →
+    (one : IsRefereed text config now events outbox) →
+    (other : IsRefereed text config now events outbox') →
+    ¬ IsHeavyEnd one.play →
+    ¬ IsHeavyEnd other.play →
+    keeper_pairs one.play.made ≡ keeper_pairs other.play.made →
+    outbox ≡ outbox'
+
+-- What a match that opens and then handles these events in turn leaves: its state of play is that of a transcript of
+-- them, and each seat has the bytes of what that transcript sends.
+abbrev pub SteppedIsTranscript : Type 0
+SteppedIsTranscript =
+    (game : AbstractGame) (text : List ℕ) (config : Config) (now : ℕ) (events : List AbstractEvent) →
+    (opened new : MatchState) (before after : List (List ℕ)) →
+    Opens game text config now opened before →
+    StepsAll opened before events new after →
+    (said : List Delivery)
+    × Transcript game text config now events new.play said
+    × (after ≡ queued (seats_of game) said)
+
+-- A moment of the clock that isn't later than the event before it changes nothing and sends nothing: the transcripts
+-- with it and without it are the same.
+abbrev pub TickBehind : Type 0
+TickBehind =
+    (game : AbstractGame) (text : List ℕ) (config : Config) (now : ℕ) →
+    IsWithinLimits config →
+    (before after : List AbstractEvent) (event : AbstractEvent) (at : ℕ) →
+    at ≤ moment_of event →
+    (play : AbstractPlay) (said : List Delivery) →
+    Transcript game text config now (before ++ event ∷ moment_alone at ∷ after) play said
+    ↔ Transcript game text config now (before ++ event ∷ after) play said
+
+-- So is one that isn't later than the first moment of a match, before any event.
+abbrev pub TickAtStart : Type 0
+TickAtStart =
+    (game : AbstractGame) (text : List ℕ) (config : Config) (now : ℕ) →
+    IsWithinLimits config →
+    (after : List AbstractEvent) (at : ℕ) →
+    at ≤ now →
+    (play : AbstractPlay) (said : List Delivery) →
+    Transcript game text config now (moment_alone at ∷ after) play said
+    ↔ Transcript game text config now after play said
+
+-- Every transcript tells a history: where play stands at its end, the moves were legal and made in their turns, and the
+-- outcome fits, for some greatest moment.
+abbrev pub TranscriptHasHistory : Type 0
+TranscriptHasHistory =
+    (game : AbstractGame) (text : List ℕ) (config : Config) (now : ℕ) (events : List AbstractEvent) →
+    (play : AbstractPlay) (said : List Delivery) →
+    IsWithinLimits config →
+    Transcript game text config now events play said →
+    (moment : ℕ) × IsHistory game config (counted_first now) moment play
 
 -- Where play has ended it stays as it is, whatever the inputs are, and nothing is sent.
 abbrev pub EndedPlayStays : Type 0

@@ -3,7 +3,6 @@ pub mod Limits
 pub mod Config
 pub mod Deliveries
 pub mod Play
-pub mod OneWord
 pub mod PlayingOn
 pub mod History
 pub mod Handling

@@ -16,7 +16,6 @@ use Rattle.rbg_match.specs.Inputs.{
   streams_after,
   timed_inputs_in,
 }
-use Rattle.rbg_match.specs.OneWord.{IsOneWord}
 use Rattle.rbg_match.specs.Play.{AbstractPlay, play_at_start}
 use Rattle.rbg_match.specs.PlayingOn.{PlaysOn, seats_of}
 use Rattle.rbg_match.specs.Transcript.{HandlesAll, greetings}
@@ -34,13 +33,12 @@ pub record MatchState : Type 0 where
 
 -- The history that a match tells.
 abbrev pub HasHistory : MatchState → Type 0
-HasHistory state = IsHistory state.game state.began state.streams.moment state.play
+HasHistory state = IsHistory state.game state.config state.began state.streams.moment state.play
 
 -- A match of this game, text and config opens at a moment: each seat is greeted, and play goes on from the start.
 pub record Opens (game : AbstractGame) (text : List ℕ) (config : Config) (now : ℕ)
     (state : MatchState) (outbox : List (List ℕ)) : Type 0 where
   pub lawful : IsWithinLimits config
-  pub one_word : IsOneWord game.rules
   pub of_game : state.game ≡ game
   pub of_config : state.config ≡ config
   pub begins : state.began ≡ counted_first now

@@ -3,8 +3,6 @@ pub mod Codes
 pub mod InputOf
 pub mod Inboxes
 pub mod OneStep
-pub mod OnlyMove
 pub mod PlayOf
 pub mod Playable
 pub mod Saying
-pub mod Walking

@@ -16,9 +16,6 @@ pub enum MatchError {
     /// A request for memory failed.
     #[error("out of memory")]
     Memory,
-    /// The action at this position, or a sum or star that holds it, is not played yet.
-    #[error("the action at position {position} is not played yet")]
-    NotYet { position: u32 },
 }
 
 impl From<Memory> for MatchError {
@@ -42,7 +39,4 @@ pub enum RefereeError {
     /// the match had not ended after them, and `said` is the outbox after them.
     #[error("out of memory after {done} events")]
     Memory { done: usize, said: Outbox },
-    /// The action at this position, or a sum or star that holds it, is not played yet.
-    #[error("the action at position {position} is not played yet")]
-    NotYet { position: u32 },
 }

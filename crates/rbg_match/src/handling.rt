@@ -14,8 +14,8 @@ use crate::Outbox;
 use crate::context::Context;
 use crate::input::Input;
 use crate::play::Play;
+use crate::played::above_limits;
 use crate::turns::{end, leave, make, play_on};
-use crate::walk::try_move;
 use rbg_base::Memory;
 use rbg_moves::Move;
 use rbg_wire::{Message, Outcome, Reason, Took, WireError, read_move};
@@ -66,14 +66,18 @@ fn judge(
         Judges context.entry.game.now context.entry.config (play_of play.old) context.entry.moment pairs
         (play_of play.new) said) }
 {
-    match try_move(context.game, &play.place, &pairs)? {
-        None => {
+    match context.game.try_move(&play.place, &pairs) {
+        Ok(None) => {
             let seat = play.mover() as usize;
             refuse(context, play, seat, Reason::NotLegal, outbox)
         }
-        Some(to) => {
+        Ok(Some(to)) => {
             make(context, play, pairs, to, outbox)?;
             play_on(context, play, outbox)
+        }
+        Err(over) => {
+            above_limits(over)?;
+            end(play, Outcome::Heavy, outbox)
         }
     }
 }

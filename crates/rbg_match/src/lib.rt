@@ -15,9 +15,9 @@ mod matches;
 mod opening;
 mod outbox;
 mod play;
+mod played;
 mod refereeing;
 mod turns;
-mod walk;
 
 pub use config::{Config, MAX_REFUSALS, MAX_TURN_MS};
 pub use error::{MatchError, RefereeError};

@@ -5,15 +5,14 @@ ghost use Rattle.rbg_match.specs.Config.{IsWithinLimits};
 ghost use Rattle.rbg_match.specs.Inputs.{event_of, counted_first};
 ghost use Rattle.rbg_match.specs.Limits.{latest_moment};
 ghost use Rattle.rbg_match.specs.Matches.{Opens};
-ghost use Rattle.rbg_match.specs.OneWord.{IsOneWord};
 ghost use Rattle.rbg_match.specs.PlayingOn.{seats_of};
 
 use crate::context::Context;
 use crate::dispatch::handle_event;
 use crate::opening::{greet, new_inboxes, start};
 use crate::play::Play;
+use crate::played::PlayedGame;
 use crate::turns::play_on;
-use crate::walk::first_not_played;
 use crate::{Config, Event, MAX_TURN_MS, Made, MatchError, Outbox};
 use rbg_base::Memory;
 use rbg_moves::Place;
@@ -23,12 +22,12 @@ use std::alloc::Global;
 use std::marker::Model;
 
 /// The latest moment that is counted. It leaves room for the longest turn, so that each due moment is a `u64`.
-const LATEST_MOMENT: u64 = u64::MAX - MAX_TURN_MS;
+pub(crate) const LATEST_MOMENT: u64 = u64::MAX - MAX_TURN_MS;
 
 /// A match of a game.
 #[derive(Debug, Drop)]
 pub struct Match {
-    game: Game,
+    game: PlayedGame,
     config: Config,
     /// The counted moment at which the match began.
     began: u64,
@@ -88,7 +87,6 @@ impl Match {
     ghost use Rattle.rbg_match.specs.Inputs.{IsTickAlone, counted, moment_of};
     ghost use Rattle.rbg_rules.specs.Places.{IsPlaceOf};
     ghost use Rattle.rbg_match.specs.Play.{due_of, refusals_of};
-    ghost use Rattle.rbg_match.specs.OneWord.{IsOneWord, IsFirstNotPlayed};
     ghost use Rattle.rbg_match.specs.Matches.{HasHistory, Opens, Steps};
     ghost use Rattle.rbg_wire.specs.declared.outcome.Outcome.{Outcome};
 
@@ -106,15 +104,9 @@ impl Match {
         ensures seats { IfOk result (λ made. length made.1 ≡ seats_of made.0.game) }
         ensures history { IfOk result (λ made. HasHistory made.0) }
         ensures config { IsErrOf result MatchError.Config ↔ (¬ IsWithinLimits config) }
-        ensures not_yet { (position : ℕ) →
-            IsErrOf result (MatchError.NotYet position)
-            ↔ (IsWithinLimits config × IsFirstNotPlayed game.rules position) }
     {
         if !config.is_within_limits() {
             return Err(MatchError::Config);
-        }
-        if let Some(position) = first_not_played(&game) {
-            return Err(MatchError::NotYet { position });
         }
         Ok(open(alloc, game, text, config, now.min(LATEST_MOMENT))?)
     }
@@ -189,7 +181,7 @@ impl Match {
     pub fn players(&self) -> usize
         ensures { result ≡ seats_of self.now.game }
     {
-        self.game.players()
+        self.game.as_game().players()
     }
 
     /// The name of a player. It must be one of the match's.
@@ -198,7 +190,7 @@ impl Match {
         requires there { player ≤ seats_of self.now.game }
         ensures { slice_get self.now.game.players (player - 1) ≡ Some result.now }
     {
-        self.game.player_name(player)
+        self.game.as_game().player_name(player)
     }
 
     /// The config that the match was made with.
@@ -244,7 +236,7 @@ impl Match {
     }
 }
 
-/// Makes the match of a game that can be played, at a counted moment.
+/// Makes the match of a game, at a counted moment.
 fn open(
     alloc: Global,
     game: Game,
@@ -254,7 +246,6 @@ fn open(
 ) -> Result<(Match, Outbox), Memory>
     requires loaded { Loads text.now game }
     requires lawful { IsWithinLimits config }
-    requires one_word { IsOneWord game.rules }
     requires counted { moment ≤ latest_moment }
     ensures { IfOk result (λ made.
         (now : ℕ) → moment ≡ counted_first now → Opens game text.now config now made.0 made.1) }
@@ -263,6 +254,7 @@ fn open(
     let mut outbox = Outbox::new(alloc, seats)?;
     greet(&game, text, config, &mut outbox)?;
     let mut play = start(alloc, &game, moment)?;
+    let game = PlayedGame::new(alloc, game)?;
     let context = Context {
         game: &game,
         config,

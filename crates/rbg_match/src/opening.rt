@@ -19,7 +19,7 @@ use rbg_wire::{Inbox, Message};
 use std::alloc::Global;
 
 /// The most bytes of a seat's message, not counting its zero byte.
-const MESSAGE_LIMIT: usize = 4096;
+pub(crate) const MESSAGE_LIMIT: usize = 4096;
 
 /// Greets one seat.
 fn greet_seat(

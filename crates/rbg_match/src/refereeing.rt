@@ -5,7 +5,7 @@ ghost use Rattle.rbg_match.specs.declared.config.Config.{Config};
 ghost use Rattle.rbg_match.specs.PlayingOn.{seats_of};
 ghost use Rattle.rbg_match.specs.Inputs.{AbstractEvent, event_of};
 ghost use Rattle.rbg_match.specs.Matches.{MatchState, StepsAll};
-ghost use Rattle.rbg_match.specs.Refereed.{IsRefereed, IsRefusedFor, OpensText};
+ghost use Rattle.rbg_match.specs.Refereed.{IsRefereed, IsRefusedFor, OpensText, StopsMatch};
 
 use crate::{Config, Event, Match, MatchError, Outbox, RefereeError};
 use rbg_game::{LoadError, load};
@@ -23,11 +23,8 @@ pub fn referee(
     ensures refereed { IfOk result (IsRefereed text.now config now (map event_of events.now)) }
     ensures refused { IfErr result (IsRefusedFor text.now config now (map event_of events.now)) }
 {
-    let (mut refereed, mut outbox) = open(alloc, text, config, now)?;
-    match handle_all(&mut refereed, events, &mut outbox) {
-        Ok(()) => Ok(outbox),
-        Err(done) => Err(RefereeError::Memory { done, said: outbox }),
-    }
+    let (mut refereed, outbox) = open(alloc, text, config, now)?;
+    go_on(&mut refereed, outbox, events)
 }
 
 /// Loads the game and makes the match.
@@ -52,7 +49,6 @@ fn open(
             done: 0,
             said: Outbox::without_seats(alloc),
         }),
-        Err(MatchError::NotYet { position }) => Err(RefereeError::NotYet { position }),
     }
 }
 
@@ -68,6 +64,27 @@ fn not_loaded(alloc: Global, error: LoadError) -> RefereeError
         };
     }
     RefereeError::Load(error)
+}
+
+/// Referees a match that was made: handles the events in turn.
+fn go_on(
+    refereed: &mut Match,
+    mut outbox: Outbox,
+    events: &[Event<'_>],
+) -> Result<Outbox, RefereeError>
+    requires works { refereed.old.failed ≡ false }
+    requires seats { length outbox ≡ seats_of refereed.old.game }
+    ensures refereed { (text : List ℕ) (config : Config) (now : ℕ) →
+        OpensText text config now refereed.old outbox →
+        IfOk result (IsRefereed text config now (map event_of events.now)) }
+    ensures stopped { (text : List ℕ) (config : Config) (now : ℕ) →
+        OpensText text config now refereed.old outbox →
+        IfErr result (StopsMatch text config now (map event_of events.now)) }
+{
+    match handle_all(refereed, events, &mut outbox) {
+        Ok(()) => Ok(outbox),
+        Err(done) => Err(RefereeError::Memory { done, said: outbox }),
+    }
 }
 
 /// Handles the events in turn. An `Err` holds how many events were handled. The match had not ended after them.

@@ -12,7 +12,7 @@ ghost use Rattle.rbg_match.specs.internal.OneStep.{PlaysOnOnce};
 
 use crate::context::Context;
 use crate::play::Play;
-use crate::walk::{Over, find_move};
+use crate::played::above_limits;
 use crate::{Made, Outbox};
 use rbg_base::Memory;
 use rbg_moves::{Move, Place};
@@ -88,7 +88,7 @@ fn scores(game: &Game, place: &Place) -> Scores
 }
 
 /// The most moves that the keeper makes in a row.
-const MAX_KEEPER_MOVES: u32 = 1000;
+pub(crate) const MAX_KEEPER_MOVES: u32 = 1000;
 
 /// What one step of play was.
 #[derive(Clone, Copy, Debug, PartialEq, Eq)]
@@ -118,24 +118,25 @@ fn play_on_once(
         end(play, Outcome::Heavy, outbox)?;
         return Ok(Progress::Settled);
     }
-    match find_move(context.game, &play.place) {
-        Err(Over::Memory) => Err(Memory),
-        Err(Over::Deep) => {
-            end(play, Outcome::Heavy, outbox)?;
-            Ok(Progress::Settled)
-        }
+    match context.game.find_move(&play.place) {
         Ok(None) => {
-            let scores = scores(context.game, &play.place);
+            let scores = scores(context.game.as_game(), &play.place);
             end(play, Outcome::Finished { scores }, outbox)?;
             Ok(Progress::Settled)
         }
-        Ok(Some((pairs, to))) => {
+        Ok(Some(pairs)) => {
             if mover != 0 {
                 play.turn_began = context.moment;
                 return Ok(Progress::Settled);
             }
+            let to = context.game.make_move(&play.place, &pairs)?;
             make(context, play, pairs, to, outbox)?;
             Ok(Progress::KeeperMoved)
+        }
+        Err(over) => {
+            above_limits(over)?;
+            end(play, Outcome::Heavy, outbox)?;
+            Ok(Progress::Settled)
         }
     }
 }

@@ -3,6 +3,7 @@ use rbg_game::load;
 use rbg_match::{
     Config, Event, MAX_REFUSALS, MAX_TURN_MS, Match, MatchError, RefereeError, referee,
 };
+use rbg_wire::Outcome;
 use std::alloc::Global;
 use std::test::Fail;
 
@@ -31,6 +32,26 @@ fn an_open_match_tells_its_state(rt: HostRuntime) -> Result<(), Fail> {
     assert!(rt; stepped.is_ok());
     assert_eq!(rt; (opened.players(), opened.made().len()), (2, 1));
     assert_eq!(rt; (opened.due(), opened.outcome()), (Some(1007), None));
+    Ok(())
+}
+
+/// Neither an event of a seat that isn't there nor one of a seat that is changes a match that has ended.
+#[test]
+fn an_ended_match_stays_as_it_is(rt: HostRuntime) -> Result<(), Fail> {
+    let game = load(rt.alloc(), TEXT)?;
+    let (mut ended, mut outbox) = Match::new(rt.alloc(), game, TEXT, CONFIG, 7)?;
+    ended.step(Event::Tick { at: 1007 }, &mut outbox)?;
+    assert_eq!(rt; outbox.seats(), 2);
+    let sent = outbox.bytes(1).len();
+    let stranger = Event::Piece {
+        seat: 3,
+        at: 2000,
+        bytes: b"M0 3 0 4\0",
+    };
+    ended.step(stranger, &mut outbox)?;
+    ended.step(Event::Ended { seat: 2, at: 2001 }, &mut outbox)?;
+    assert_eq!(rt; (ended.moment(), outbox.bytes(1).len()), (1007, sent));
+    assert_eq!(rt; ended.outcome(), Some(Outcome::Time { player: 1 }));
     Ok(())
 }
 

@@ -14,9 +14,6 @@ pub enum Fault {
     /// The description is refused.
     #[error("refused {0}")]
     Refused(Refusal),
-    /// The action at this position is not played yet.
-    #[error("refused later 1 NotYet {0}")]
-    NotYet(u32),
     /// The line of the script that is not of its form; 0 where there is no script, or too long an input.
     #[error("script {0}")]
     Script(usize),
@@ -37,7 +34,7 @@ impl Fault {
     /// The status with which the program ends.
     fn status(&self) -> u8 {
         match self {
-            Fault::Refused(_) | Fault::NotYet(_) => 1,
+            Fault::Refused(_) => 1,
             Fault::Script(_) => 2,
             Fault::Device => DEVICE,
             Fault::Memory(_) => 4,
@@ -62,7 +59,6 @@ impl From<RefereeError> for Fault {
         match error {
             RefereeError::Load(error) => Fault::from(error),
             RefereeError::Config => Fault::Script(1),
-            RefereeError::NotYet { position } => Fault::NotYet(position),
             RefereeError::Memory { .. } => Fault::Memory(AllocError),
         }
     }

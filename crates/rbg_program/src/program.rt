@@ -7,7 +7,7 @@ use crate::task::Task;
 use rbg_console::{Files, Input, MAX_INPUT, count_line, read_input};
 use rbg_game::{LoadError, load};
 use rbg_macro::{MAX_TEXT, TextError};
-use rbg_match::{Config, referee};
+use rbg_match::referee;
 use std::alloc::{AllocError, Global};
 use std::io::{Read, Write};
 
@@ -91,7 +91,7 @@ fn referee_texts(alloc: Global, description: &[u8], script: &[u8]) -> Result<Vec
     match Script::read(alloc, script) {
         Ok(script) => referee_script(alloc, description, &script),
         Err(error) => {
-            refuse_description(alloc, description)?;
+            load(alloc, description)?;
             Err(Fault::from(error))
         }
     }
@@ -107,20 +107,6 @@ fn referee_script(alloc: Global, description: &[u8], script: &Script) -> Result<
         events.as_slice(),
     )?;
     Ok(match_lines(alloc, &outbox)?)
-}
-
-/// A config within its limits.
-const SOME_CONFIG: Config = Config {
-    turn_ms: 1000,
-    refusals: 0,
-};
-
-/// The refusal of a description whose script is faulty: it comes before the fault of the script.
-fn refuse_description(alloc: Global, description: &[u8]) -> Result<(), Fault> {
-    match referee(alloc, description, SOME_CONFIG, 0, &[]) {
-        Ok(_) => Ok(()),
-        Err(error) => Err(Fault::from(error)),
-    }
 }
 
 /// What stands before the first line that is exactly `%%`, and what stands after it. The line may end the input.

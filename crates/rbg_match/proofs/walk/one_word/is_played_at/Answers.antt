@@ -1,1 +1,0 @@
--- The action at the position: by `nothing_at` where there is none, else by `played_at`.

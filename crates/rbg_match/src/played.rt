@@ -1,0 +1,107 @@
+//! The game of a match, and the questions that play asks of its rules.
+ghost use Rattle.std.specs.Prelude.{◌≡◌, ◌≤◌, ◌⊎◌, length, Err, IfNone, IfOk, IfSome};
+ghost use Rattle.rbg_rules.specs.Heavy.{IsHeavyToFind, IsHeavyToTry};
+ghost use Rattle.rbg_rules.specs.Moves.{AbstractPlace, Finished, IsLegal, Legal};
+ghost use Rattle.rbg_rules.specs.Places.{IsPlaceOf};
+ghost use Rattle.rbg_wire.specs.Messages.{ArePairs};
+ghost use Rattle.rbg_match.specs.Limits.{most_pairs};
+
+use rbg_auto::{Compact, Steps, compact};
+use rbg_base::Memory;
+use rbg_moves::{Move, Over, Place, find_move, make_move, try_move};
+use rbg_rules::Game;
+use std::alloc::Global;
+use std::marker::Model;
+
+/// A game with the automaton of its rules, which is made once. Contracts see the game.
+#[derive(Debug, Drop)]
+pub(crate) struct PlayedGame {
+    alloc: Global,
+    game: Game,
+    automaton: Compact,
+}
+
+impl Model for PlayedGame {
+    ghost use Rattle.rbg_rules.specs.State.{AbstractGame};
+
+    ghost Value = { AbstractGame };
+
+    ghost use Rattle.rbg_rules.specs.Codes.{coded_game};
+
+    ghost coded = { coded_game };
+
+    ghost view = { λ played. played.game };
+
+    ghost use Rattle.rbg_rules.specs.Games.{IsGame};
+
+    ghost invariant = { λ played.
+        IsGame played.game × ⟦<Compact as Steps>⟧.of_rules played.automaton played.game.rules };
+}
+
+impl PlayedGame {
+    /// Makes the automaton of a game.
+    pub(crate) fn new(alloc: Global, game: Game) -> Result<PlayedGame, Memory>
+        ensures { IfOk result (λ played. played ≡ game) }
+    {
+        let _positions = game.positions();
+        let automaton = compact(alloc, &game)?;
+        Ok(PlayedGame {
+            alloc,
+            game,
+            automaton,
+        })
+    }
+
+    /// The game itself.
+    pub(crate) fn as_game(&self) -> &Game
+        ensures { result.now ≡ self.now }
+    {
+        &self.game
+    }
+
+    /// A legal move at a place, or None if play is finished.
+    pub(crate) fn find_move(&self, place: &Place) -> Result<Option<Move>, Over>
+        requires place { IsPlaceOf self.now place.now }
+        ensures found { IfOk result (λ found. IfSome found (IsLegal self.now place.now)) }
+        ensures spelled { IfOk result (λ found.
+            IfSome found (λ pairs. ArePairs pairs × (length pairs ≤ most_pairs))) }
+        ensures finished { IfOk result (λ found. IfNone found (Finished self.now place.now)) }
+        ensures heavy { (result ≡ Err Over.Deep) ⊎ (result ≡ Err Over.Wide) → IsHeavyToFind self.now place.now }
+    {
+        find_move(self.alloc, &self.game, &self.automaton, place)
+    }
+
+    /// The place after the move of these pairs, or None if the move is not legal.
+    pub(crate) fn try_move(&self, place: &Place, pairs: &Move) -> Result<Option<Place>, Over>
+        requires place { IsPlaceOf self.now place.now }
+        ensures legal { IfOk result (λ after. IfSome after (Legal self.now place.now pairs.now)) }
+        ensures in_game { IfOk result (λ after. IfSome after (IsPlaceOf self.now)) }
+        ensures illegal { IfOk result (λ after.
+            IfNone after ((to : AbstractPlace) → ¬ Legal self.now place.now pairs.now to)) }
+        ensures heavy { (result ≡ Err Over.Deep) ⊎ (result ≡ Err Over.Wide) →
+            IsHeavyToTry self.now place.now pairs.now }
+    {
+        try_move(self.alloc, &self.game, &self.automaton, place, pairs)
+    }
+
+    /// The place after a legal move.
+    pub(crate) fn make_move(&self, place: &Place, pairs: &Move) -> Result<Place, Memory>
+        requires place { IsPlaceOf self.now place.now }
+        requires legal { IsLegal self.now place.now pairs.now }
+        ensures to { IfOk result (Legal self.now place.now pairs.now) }
+        ensures in_game { IfOk result (IsPlaceOf self.now) }
+    {
+        make_move(&self.game, place, pairs)
+    }
+}
+
+/// Ok where a question is above the limits. A want of memory is passed on.
+pub(crate) fn above_limits(over: Over) -> Result<(), Memory>
+    ensures { IfOk result (λ _. (over ≡ Over.Deep) ⊎ (over ≡ Over.Wide)) }
+{
+    match over {
+        Over::Deep => Ok(()),
+        Over::Wide => Ok(()),
+        Over::Memory => Err(Memory),
+    }
+}
