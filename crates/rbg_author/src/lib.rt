@@ -1,5 +1,5 @@
 //! What authors of games are told of a description: why it is refused, with the line and the place, or what its game
-//! has.
+//! has, and how many sequences of moves.
 #![tactic(auto)]
 
 mod excerpt;
@@ -7,10 +7,14 @@ mod explanation;
 mod line;
 mod listing;
 mod message;
+mod perft;
 mod place;
 mod program;
+mod reading;
+mod report;
 mod spot;
 
 pub use explanation::explain;
 pub use line::Line;
-pub use program::{Report, print, run};
+pub use program::run;
+pub use report::{Report, print};

@@ -1,35 +1,28 @@
-//! Checks the games that come with the program. Standard input names their files, one a line. For each file its name is
-//! printed, and then what `rbg check` prints of it.
+//! Checks the games that come with the program, and counts their moves. Standard input names their files and depths, one
+//! `NAME DEPTH` a line. For each file its name is printed, then what `rbg check` prints of it, and then what
+//! `rbg_author perft` prints up to that depth.
 #![tactic(auto)]
 
 use rbg_console::{Input, MAX_INPUT, SystemFiles, read_input};
-use rbg_program::run;
 use std::alloc::{AllocError, Global};
 use std::io::{self, Write};
 use std::process::ExitCode;
 
-/// The words `check NAME`, or None where the name is no text.
-fn words_of(alloc: Global, name: &[u8]) -> Result<Option<Vec<String>>, AllocError> {
-    let Ok(name) = str::from_utf8(name) else {
-        return Ok(None);
-    };
+/// The texts as words.
+fn words_of(alloc: Global, texts: &[&str]) -> Result<Vec<String>, AllocError> {
     let mut words = Vec::new(alloc);
-    words.push(String::from_str(alloc, "check")?)?;
-    words.push(String::from_str(alloc, name)?)?;
-    Ok(Some(words))
+    for text in texts {
+        words.push(String::from_str(alloc, text)?)?;
+    }
+    Ok(words)
 }
 
-/// Checks the game of a file, and says whether it is one.
-fn check_file(rt: &HostRuntime, name: &[u8], output: &mut Vec<u8>) -> Result<bool, AllocError> {
-    let alloc = rt.alloc();
-    output.extend_from_slice(name)?;
-    output.push(b'\n')?;
-    let Some(words) = words_of(alloc, name)? else {
-        return Ok(false);
-    };
+/// Runs `rbg check` on the file, and says whether it describes a game.
+fn check_game(rt: &HostRuntime, name: &str, output: &mut Vec<u8>) -> Result<bool, AllocError> {
+    let words = words_of(rt.alloc(), &["check", name])?;
     let mut files = SystemFiles::new(rt);
-    let status = run(
-        alloc,
+    let status = rbg_program::run(
+        rt.alloc(),
         words.as_slice(),
         &mut files,
         &mut [].as_slice(),
@@ -38,30 +31,56 @@ fn check_file(rt: &HostRuntime, name: &[u8], output: &mut Vec<u8>) -> Result<boo
     Ok(status == 0)
 }
 
-/// Checks each file that is named, and says whether all of them are games.
-fn check_files(rt: &HostRuntime, names: &[u8], output: &mut Vec<u8>) -> Result<bool, AllocError> {
-    let mut are_games = true;
-    for name in names.split(|byte| *byte == b'\n') {
-        if !name.is_empty() && !check_file(rt, name, output)? {
-            are_games = false;
+/// Runs `rbg_author perft` on the file, and says whether all was counted.
+fn count_moves(
+    rt: &HostRuntime,
+    name: &str,
+    depth: &str,
+    output: &mut Vec<u8>,
+) -> Result<bool, AllocError> {
+    let words = words_of(rt.alloc(), &["perft", name, depth])?;
+    let mut files = SystemFiles::new(rt);
+    let status = rbg_author::run(rt.alloc(), words.as_slice(), &mut files, output);
+    Ok(status == 0)
+}
+
+/// Does the task of a line, and says whether all went well.
+fn do_line(rt: &HostRuntime, line: &[u8], output: &mut Vec<u8>) -> Result<bool, AllocError> {
+    let Ok(line) = str::from_utf8(line) else {
+        return Ok(false);
+    };
+    let Some((name, depth)) = line.split_once(' ') else {
+        return Ok(false);
+    };
+    output.extend_from_slice(name.as_bytes())?;
+    output.push(b'\n')?;
+    Ok(check_game(rt, name, output)? && count_moves(rt, name, depth, output)?)
+}
+
+/// Does the tasks of the lines, and says whether all went well.
+fn do_lines(rt: &HostRuntime, lines: &[u8], output: &mut Vec<u8>) -> Result<bool, AllocError> {
+    let mut went_well = true;
+    for line in lines.split(|byte| *byte == b'\n') {
+        if !line.is_empty() && !do_line(rt, line, output)? {
+            went_well = false;
         }
     }
-    Ok(are_games)
+    Ok(went_well)
 }
 
 /// Writes what was found, and says whether all went well.
-fn write_all<W: Write>(output: &mut W, lines: &[u8], are_games: bool) -> bool {
+fn write_all<W: Write>(output: &mut W, lines: &[u8], went_well: bool) -> bool {
     let written = output.write_all(lines).is_ok() && output.flush().is_ok();
-    written && are_games
+    written && went_well
 }
 
 fn main(rt: HostRuntime) -> ExitCode {
-    let mut lines = Vec::new(rt.alloc());
-    let are_games = match read_input(rt.alloc(), &mut rt.stdin(), MAX_INPUT) {
-        Ok(Input::Whole(names)) => check_files(&rt, names.as_slice(), &mut lines).unwrap_or(false),
+    let mut output = Vec::new(rt.alloc());
+    let went_well = match read_input(rt.alloc(), &mut rt.stdin(), MAX_INPUT) {
+        Ok(Input::Whole(lines)) => do_lines(&rt, lines.as_slice(), &mut output).unwrap_or(false),
         _ => false,
     };
-    if write_all(&mut io::writer(&rt), lines.as_slice(), are_games) {
+    if write_all(&mut io::writer(&rt), output.as_slice(), went_well) {
         ExitCode::SUCCESS
     } else {
         ExitCode::FAILURE

@@ -1,0 +1,57 @@
+//! What `perft` prints of a game: how many sequences of moves it has.
+
+use crate::report::Report;
+use rbg_auto::{Compact, Steps, compact};
+use rbg_game::Game;
+use rbg_perft::{CountError, count_from_start};
+use std::alloc::{AllocError, Global};
+
+/// A line `DEPTH SEQUENCES ENDED` for each depth from 1 on: how many sequences of that many moves of the players there
+/// are from the beginning of play, and after how many of them play is finished. Where a number isn't found, its line
+/// is the word that says why, and it is the last.
+pub fn perft(alloc: Global, game: &Game, depth: u8) -> Result<Report, AllocError> {
+    let Ok(steps) = compact(alloc, game) else {
+        return Err(AllocError);
+    };
+    let mut text = Vec::new(alloc);
+    for moves in 1..=depth {
+        if let Some(error) = push_counts(alloc, &mut text, game, &steps, moves)? {
+            push_reason(&mut text, error)?;
+            return Ok(Report { text, status: 1 });
+        }
+    }
+    Ok(Report { text, status: 0 })
+}
+
+/// The line of one depth, or why there is none.
+fn push_counts(
+    alloc: Global,
+    text: &mut Vec<u8>,
+    game: &Game,
+    steps: &Compact,
+    moves: u8,
+) -> Result<Option<CountError>, AllocError>
+    requires steps { ⟦<Compact as Steps>⟧.of_rules steps.now game.now.rules }
+{
+    match count_from_start(alloc, game, steps, moves) {
+        Ok(counts) => {
+            let sequences = counts.sequences;
+            let ended = counts.ended;
+            let line = format!(in alloc; "{moves} {sequences} {ended}\n")?;
+            text.extend_from_slice(line.as_bytes())?;
+            Ok(None)
+        }
+        Err(error) => Ok(Some(error)),
+    }
+}
+
+/// The line that says why there is no number.
+fn push_reason(text: &mut Vec<u8>, error: CountError) -> Result<(), AllocError> {
+    let line = match error {
+        CountError::Heavy => "over\n",
+        CountError::Keeper => "keeper\n",
+        CountError::TooMany => "large\n",
+        CountError::Memory => return Err(AllocError),
+    };
+    text.extend_from_slice(line.as_bytes())
+}

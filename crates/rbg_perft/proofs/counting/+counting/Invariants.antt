@@ -1,0 +1,14 @@
+-- A call has fewer moves to count. The counts so far are those behind the first moves so far.
+use Rattle.std.proofs.Common.{◌+◌, ◌*◌, take}
+use Rattle.rbg_perft.specs.Counting.{AreCountedBehind, Sums}
+use Rattle.rbg_perft.proofs.counting.+counting.Given as goal
+
+abbrev pub decreases-count_behind : goal.decreases-count_behind
+decreases-count_behind g l = 2 * l.further + 1
+
+abbrev pub decreases-count_sequences : goal.decreases-count_sequences
+decreases-count_sequences g l = 2 * l.moves
+
+abbrev pub invariant-count_behind-loop-pairs : goal.invariant-count_behind-loop-pairs
+invariant-count_behind-loop-pairs g l =
+    Sums (AreCountedBehind l.fn.game l.fn.further l.fn.place) (take l.pairs-index l.fn.firsts) l.counts.sequences l.counts.ended

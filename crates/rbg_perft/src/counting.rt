@@ -1,0 +1,126 @@
+//! Sequences of moves, counted.
+ghost use Rattle.std.specs.Prelude.{◌≡◌, ◌+◌, All, IfOk, IfSome};
+ghost use Rattle.rbg_rules.specs.Moves.{IsLegal};
+ghost use Rattle.rbg_rules.specs.Places.{IsPlaceOf};
+ghost use Rattle.rbg_perft.specs.Counting.{AreCounted, AreCountedBehind, AreLegalMoves, Sums, TellsFinished};
+
+use crate::error::CountError;
+use crate::settling::settle;
+use rbg_auto::Steps;
+use rbg_moves::{Move, Place, find_move, list_moves, make_move};
+use rbg_rules::Game;
+use std::alloc::Global;
+
+/// How many sequences of moves there are.
+#[derive(Clone, Copy, Debug, PartialEq, Eq)]
+pub struct Counts {
+    /// The sequences.
+    pub sequences: u64,
+    /// Those of them after which play is finished.
+    pub ended: u64,
+}
+
+/// No sequences.
+const NONE: Counts = Counts {
+    sequences: 0,
+    ended: 0,
+};
+
+impl Counts {
+    /// Both together.
+    fn join(self, other: Counts) -> Option<Counts>
+        ensures sequences { IfSome result (λ sum. sum.sequences ≡ self.sequences + other.sequences) }
+        ensures ended { IfSome result (λ sum. sum.ended ≡ self.ended + other.ended) }
+    {
+        Some(Counts {
+            sequences: self.sequences.checked_add(other.sequences)?,
+            ended: self.ended.checked_add(other.ended)?,
+        })
+    }
+}
+
+/// Counts the sequences of so many moves of the players from a place. The keeper's moves between them are not counted.
+/// Where the keeper has several, it makes the one that `find_move` finds.
+#[cycle(counting)]
+pub fn count_sequences<S: Steps>(
+    alloc: Global,
+    game: &Game,
+    steps: &S,
+    place: Place,
+    moves: u8,
+) -> Result<Counts, CountError>
+    requires steps { S.of_rules steps.now game.now.rules }
+    requires place { IsPlaceOf game.now place }
+    ensures counted { IfOk result (λ counts.
+        AreCounted game.now moves place counts.sequences counts.ended) }
+{
+    let place = settle(alloc, game, steps, place)?;
+    if moves == 0 {
+        return count_here(alloc, game, steps, &place);
+    }
+    let listed = list_all(alloc, game, steps, &place)?;
+    count_behind(alloc, game, steps, &place, &listed, moves - 1)
+}
+
+/// Counts the sequences that begin with one of these moves and have so many further ones.
+#[cycle(counting)]
+fn count_behind<S: Steps>(
+    alloc: Global,
+    game: &Game,
+    steps: &S,
+    place: &Place,
+    firsts: &[Move],
+    further: u8,
+) -> Result<Counts, CountError>
+    requires steps { S.of_rules steps.now game.now.rules }
+    requires place { IsPlaceOf game.now place.now }
+    requires legal { All (IsLegal game.now place.now) firsts.now }
+    ensures counted { IfOk result (λ counts.
+        Sums (AreCountedBehind game.now further place.now) firsts.now counts.sequences counts.ended) }
+{
+    let mut counts = NONE;
+    for pairs in firsts {
+        let to = make_move(game, place, pairs)?;
+        let behind = count_sequences(alloc, game, steps, to, further)?;
+        counts = counts.join(behind).ok_or(CountError::TooMany)?;
+    }
+    Ok(counts)
+}
+
+/// Counts the one sequence of no moves.
+fn count_here<S: Steps>(
+    alloc: Global,
+    game: &Game,
+    steps: &S,
+    place: &Place,
+) -> Result<Counts, CountError>
+    requires steps { S.of_rules steps.now game.now.rules }
+    requires place { IsPlaceOf game.now place.now }
+    ensures one { IfOk result (λ counts. counts.sequences ≡ 1) }
+    ensures ended { IfOk result (λ counts. TellsFinished game.now place.now counts.ended) }
+{
+    let ended = match find_move(alloc, game, steps, place)? {
+        Some(_) => 0,
+        None => 1,
+    };
+    Ok(Counts {
+        sequences: 1,
+        ended,
+    })
+}
+
+/// The legal moves, each once.
+fn list_all<S: Steps>(
+    alloc: Global,
+    game: &Game,
+    steps: &S,
+    place: &Place,
+) -> Result<Vec<Move>, CountError>
+    requires steps { S.of_rules steps.now game.now.rules }
+    requires place { IsPlaceOf game.now place.now }
+    ensures all { IfOk result (λ moves. AreLegalMoves game.now place.now moves.items) }
+{
+    // no list in memory is so long that it is cut there
+    let listed = list_moves(alloc, game, steps, place, usize::MAX)?;
+    Ok(listed.moves)
+}

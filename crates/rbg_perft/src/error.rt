@@ -1,0 +1,39 @@
+//! Why sequences of moves were not counted.
+ghost use Rattle.std.specs.Prelude.{◌≡◌};
+
+use rbg_base::Memory as OutOfMemory;
+use rbg_moves::Over;
+
+/// Why sequences of moves were not counted.
+#[derive(Clone, Copy, Debug, PartialEq, Eq)]
+pub enum CountError {
+    /// A question at one of the places is above the limits.
+    Heavy,
+    /// The keeper is to move after 1,000 of its moves in a row.
+    Keeper,
+    /// A number is above 2^64 - 1.
+    TooMany,
+    /// A request for memory failed.
+    Memory,
+}
+
+impl From<Over> for CountError {
+    ghost from_gives = { λ _ _. Unit {0} };
+
+    fn from(over: Over) -> CountError {
+        match over {
+            Over::Deep | Over::Wide => CountError::Heavy,
+            Over::Memory => CountError::Memory,
+        }
+    }
+}
+
+impl From<OutOfMemory> for CountError {
+    ghost use Rattle.rbg_perft.specs.declared.error.CountError.TheVariants.{Memory};
+
+    ghost from_gives = { λ _ e. e ≡ Memory };
+
+    fn from(_error: OutOfMemory) -> CountError {
+        CountError::Memory
+    }
+}

@@ -1,0 +1,11 @@
+//! How many sequences of moves a game has from a place: what authors of games compare with the known numbers.
+#![tactic(auto)]
+
+mod beginning;
+mod counting;
+mod error;
+mod settling;
+
+pub use beginning::count_from_start;
+pub use counting::{Counts, count_sequences};
+pub use error::CountError;
