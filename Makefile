@@ -13,7 +13,7 @@ SECONDS := 600
 
 help:
 	@echo 'make run    referees the stored match (crates/rbg_manager/stdin), with no proof'
-	@echo 'make games  checks each of the games that come with it and prints its counts, with no proof'
+	@echo 'make games  checks each of the games that come with it and counts its moves, with no proof'
 	@echo 'make try    runs every stored run and every test, with no proof; make -j4 try runs four at once'
 	@echo 'make build  proves the programs and what they stand on, and leaves them as ./rbg and ./rbg_author'
 	@echo 'make test   the gate: every proof from nothing, the must-fail edits, each test, each program'
