@@ -38,8 +38,8 @@ abbrev pub TellsFinished : AbstractGame → AbstractPlace → ℕ → Type 0
 TellsFinished game place n = ((n ≡ 1) × Finished game place) ⊎ ((n ≡ 0) × ¬ Finished game place)
 
 -- From the place there are so many sequences of this number of moves of the players, and after so many of them play is
--- finished. Before each of these moves, and after the last, the keeper makes legal moves, any, until a player is to move
--- or play is finished.
+-- finished. Before each of these moves, and after the last, the keeper makes legal moves, any, until a player is to
+-- move or play is finished.
 abbrev pub AreCounted : AbstractGame → (moves : ℕ) → AbstractPlace → (sequences ended : ℕ) → Type 0
 AreCounted game zero place sequences ended =
     (to : AbstractPlace) × Settles game place to × (sequences ≡ 1) × TellsFinished game to ended

@@ -1,4 +1,4 @@
-//! Tests of the crates of play: moves and semi-states.
+//! Tests of the crates of play: semi-states, moves, and the questions about moves.
 #![tactic(auto)]
 
 #[cfg(test)]
