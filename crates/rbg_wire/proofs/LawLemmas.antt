@@ -10,7 +10,7 @@ use Rattle.rbg_wire.specs.declared.outcome.Outcome.{Outcome}
 use Rattle.rbg_wire.specs.declared.outcome.Outcome.TheVariants.{Finished, Time, Refusals, Gone, Heavy}
 use Rattle.rbg_wire.specs.Bytes.{LacksByte}
 use Rattle.rbg_wire.specs.Laws.{SpellingsAreApart, item_for, ItemsAreTexts, SpellingsAreItems, TooLongComesOnce, RestsStayShort}
-use Rattle.rbg_wire.specs.Messages.{AbstractMessage, who_message, game_message, limits_message, move_message, refusal_message, end_message, HasSpelling, message_text, spelling, outcome_text, OutcomeHasSpelling, pairs_text, pair_text, IsShortPair, reason_number}
+use Rattle.rbg_wire.specs.Messages.{AbstractMessage, who_message, game_message, limits_message, move_message, refusal_message, end_message, join_message, HasSpelling, message_text, spelling, outcome_text, OutcomeHasSpelling, pairs_text, pair_text, IsShortPair, reason_number}
 use Rattle.rbg_base.specs.Names.{is_name, is_name_part, is_name_start}
 use Rattle.rbg_wire.specs.Streams.{complete, too_long, Rest, incomplete, dropping, after_items, cut, IsRest, next_byte}
 use Rattle.rbg_wire.proofs.CutLemmas.{cut-append, cut-none, cut-message, cut-too_long, cut-dropping, cut-dropped, next_kept, next_too_long, next_dropped}
@@ -145,6 +145,7 @@ message_some (limits_message turn_ms refusals) h =
 message_some (move_message pairs) h = lacks-cons 77 (pairs_text pairs) (λ e. absurd (omega arith)) (pairs_some pairs h.short)
 message_some (refusal_message reason) h = lacks-cons 82 (decimal (reason_number reason)) (λ e. absurd (omega arith)) (digits_some (reason_number reason) (omega (arith, (reason_number-small reason).1)))
 message_some (end_message outcome) h = outcome_some outcome h
+message_some (join_message table) h = lacks-cons 72 (decimal table) (λ e. absurd (omega arith)) (digits_some table h)
 
 -- the text before the first zero byte
 same_front : (a b x y : List ℕ) → LacksByte 0 a → LacksByte 0 b → a ++ 0 ∷ x ≡ b ++ 0 ∷ y → (a ≡ b) × (x ≡ y)

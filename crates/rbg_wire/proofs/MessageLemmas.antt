@@ -9,10 +9,10 @@ use Rattle.rbg_wire.specs.declared.outcome.Outcome.{Outcome}
 use Rattle.std.proofs.lemmas.Fmt.{decimal_injective}
 use Rattle.std.proofs.lemmas.List.Elements.{All-drop, All-head}
 use Rattle.std.proofs.Math.Seq.{drop-append_seam}
-use Rattle.rbg_wire.specs.declared.message.Reason.TheVariants.{Unreadable, OutOfTurn, NotLegal, MoveTooLong}
+use Rattle.rbg_wire.specs.declared.message.Reason.TheVariants.{Unreadable, OutOfTurn, NotLegal, MoveTooLong, NoSeat}
 use Rattle.rbg_wire.specs.Bytes.{LacksByte, IsFirstPlace}
 use Rattle.rbg_wire.specs.Words.{words_of}
-use Rattle.rbg_wire.specs.Messages.{AbstractMessage, who_message, game_message, limits_message, move_message, refusal_message, end_message, message_text, outcome_text, pairs_text, reason_number, message_of}
+use Rattle.rbg_wire.specs.Messages.{AbstractMessage, who_message, game_message, limits_message, move_message, refusal_message, end_message, join_message, message_text, outcome_text, pairs_text, reason_number, message_of}
 use Rattle.rbg_wire.specs.Reading.{SpellsMessage, SpellsMove, SpellsPairs, SpellsOutcome, SpellsWho, SpellsLimits, SpellsTooMany, HasFewPairs, ReadsPairs, ReadsMessage}
 use Rattle.rbg_wire.proofs.NumberLemmas.{lacks_byte-decimal}
 use Rattle.rbg_wire.proofs.OutcomeLemmas.{outcome_text-kind, one_outcome}
@@ -39,6 +39,10 @@ refusal_text : (reason : Reason) → message_text (refusal_message reason) ≡ 8
 unfolding message_text
 refusal_text reason = refl
 
+join_text : (table : ℕ) → message_text (join_message table) ≡ 72 ∷ decimal table
+unfolding message_text
+join_text table = refl
+
 end_text : (outcome : Outcome) → message_text (end_message outcome) ≡ outcome_text outcome
 unfolding message_text
 end_text outcome = refl
@@ -51,30 +55,34 @@ pub message_cases : (P : AbstractMessage → Type 0) (letter : ℕ) (rest : List
     → ((pairs : List (ℕ × ℕ)) → letter ≡ 77 → SpellsPairs rest pairs → P (move_message pairs))
     → ((reason : Reason) → letter ≡ 82 → rest ≡ decimal (reason_number reason) → P (refusal_message reason))
     → ((outcome : Outcome) → letter ≡ 69 → SpellsOutcome (69 ∷ rest) outcome → P (end_message outcome))
+    → ((table : ℕ) → letter ≡ 72 → table < 2 ^ 64 → rest ≡ decimal table → P (join_message table))
     → (message : AbstractMessage) → SpellsMessage (letter ∷ rest) message → P message
-message_cases P letter rest who game limits move refusal end (who_message player name) h =
+message_cases P letter rest who game limits move refusal end join (who_message player name) h =
     let same : letter ∷ rest ≡ 87 ∷ (decimal player ++ 32 ∷ name) = h.is ∙ who_text player name in
     let spelled : SpellsWho rest player name = record { has = h.has; is = cc } in
     who player name (cc) spelled
-message_cases P letter rest who game limits move refusal end (game_message text) h =
+message_cases P letter rest who game limits move refusal end join (game_message text) h =
     let same : letter ∷ rest ≡ 71 ∷ text = h.is ∙ game_text text in
     game text (cc) h.has (cc)
-message_cases P letter rest who game limits move refusal end (limits_message turn_ms refusals) h =
+message_cases P letter rest who game limits move refusal end join (limits_message turn_ms refusals) h =
     let same : letter ∷ rest ≡ 76 ∷ (decimal turn_ms ++ 32 ∷ decimal refusals) = h.is ∙ limits_text turn_ms refusals in
     let spelled : SpellsLimits rest turn_ms refusals = record { has = h.has; is = cc } in
     limits turn_ms refusals (cc) spelled
-message_cases P letter rest who game limits move refusal end (move_message pairs) h =
+message_cases P letter rest who game limits move refusal end join (move_message pairs) h =
     let same : letter ∷ rest ≡ 77 ∷ pairs_text pairs = h.is ∙ move_text pairs in
     let spelled : SpellsPairs rest pairs = record { are = h.has; is = cc } in
     move pairs (cc) spelled
-message_cases P letter rest who game limits move refusal end (refusal_message reason) h =
+message_cases P letter rest who game limits move refusal end join (refusal_message reason) h =
     let same : letter ∷ rest ≡ 82 ∷ decimal (reason_number reason) = h.is ∙ refusal_text reason in
     refusal reason (cc) (cc)
-message_cases P letter rest who game limits move refusal end (end_message outcome) h =
+message_cases P letter rest who game limits move refusal end join (end_message outcome) h =
     let parts = outcome_text-kind outcome in
     let same : letter ∷ rest ≡ 69 ∷ (parts.0 ∷ parts.1) = h.is ∙ (end_text outcome ∙ parts.2) in
     let is : letter ≡ 69 = cc in
     end outcome is (record { has = h.has; is = ap (λ l. l ∷ rest) (sym is) ∙ (h.is ∙ end_text outcome) })
+message_cases P letter rest who game limits move refusal end join (join_message table) h =
+    let same : letter ∷ rest ≡ 72 ∷ decimal table = h.is ∙ join_text table in
+    join table (cc) h.has (cc)
 
 -- and the letter and the fields of a kind are the text of a message
 pub spells_who : (rest : List ℕ) (player : ℕ) (name : List ℕ) → SpellsWho rest player name → SpellsMessage (87 ∷ rest) (who_message player name)
@@ -95,6 +103,9 @@ spells_refusal rest reason is = record { has = tt; is = ap (λ t. 82 ∷ t) is �
 pub spells_end : (rest : List ℕ) (outcome : Outcome) → SpellsOutcome (69 ∷ rest) outcome → SpellsMessage (69 ∷ rest) (end_message outcome)
 spells_end rest outcome h = record { has = h.has; is = h.is ∙ sym (end_text outcome) }
 
+pub spells_join : (rest : List ℕ) (table : ℕ) → (table < 2 ^ 64) × (rest ≡ decimal table) → SpellsMessage (72 ∷ rest) (join_message table)
+spells_join rest table h = record { has = h.0; is = ap (λ t. 72 ∷ t) h.1 ∙ sym (join_text table) }
+
 -- no text of a message is empty
 message_text-letter : (message : AbstractMessage) → (letter : ℕ) × (rest : List ℕ) × (message_text message ≡ letter ∷ rest)
 message_text-letter (who_message player name) = (87, decimal player ++ 32 ∷ name, who_text player name)
@@ -103,6 +114,7 @@ message_text-letter (limits_message turn_ms refusals) = (76, decimal turn_ms ++ 
 message_text-letter (move_message pairs) = (77, pairs_text pairs, move_text pairs)
 message_text-letter (refusal_message reason) = (82, decimal (reason_number reason), refusal_text reason)
 message_text-letter (end_message outcome) = let parts = outcome_text-kind outcome in (69, parts.0 ∷ parts.1, end_text outcome ∙ parts.2)
+message_text-letter (join_message table) = (72, decimal table, join_text table)
 
 pub no_empty_message : (text : List ℕ) → length text ≡ 0 → (message : AbstractMessage) → SpellsMessage text message → ⊥
 no_empty_message text none message h =
@@ -112,25 +124,28 @@ no_empty_message text none message h =
 
 -- A text with the letter of a kind has the fields of that kind, or is the text of no message.
 pub no_who : (rest : List ℕ) → ((player : ℕ) (name : List ℕ) → SpellsWho rest player name → ⊥) → (message : AbstractMessage) → SpellsMessage (87 ∷ rest) message → ⊥
-no_who rest none = message_cases (λ _. ⊥) 87 rest (λ player name e h. none player name h) (λ text e l h. absurd (omega arith)) (λ t r e h. absurd (omega arith)) (λ ps e h. absurd (omega arith)) (λ r e h. absurd (omega arith)) (λ o e h. absurd (omega arith))
+no_who rest none = message_cases (λ _. ⊥) 87 rest (λ player name e h. none player name h) (λ text e l h. absurd (omega arith)) (λ t r e h. absurd (omega arith)) (λ ps e h. absurd (omega arith)) (λ r e h. absurd (omega arith)) (λ o e h. absurd (omega arith)) (λ t e l h. absurd (omega arith))
 
 pub no_game : (rest : List ℕ) → (LacksByte 0 rest → ⊥) → (message : AbstractMessage) → SpellsMessage (71 ∷ rest) message → ⊥
-no_game rest none = message_cases (λ _. ⊥) 71 rest (λ player name e h. absurd (omega arith)) (λ text e l h. none (subst (LacksByte 0) (sym h) l)) (λ t r e h. absurd (omega arith)) (λ ps e h. absurd (omega arith)) (λ r e h. absurd (omega arith)) (λ o e h. absurd (omega arith))
+no_game rest none = message_cases (λ _. ⊥) 71 rest (λ player name e h. absurd (omega arith)) (λ text e l h. none (subst (LacksByte 0) (sym h) l)) (λ t r e h. absurd (omega arith)) (λ ps e h. absurd (omega arith)) (λ r e h. absurd (omega arith)) (λ o e h. absurd (omega arith)) (λ t e l h. absurd (omega arith))
 
 pub no_limits : (rest : List ℕ) → ((turn_ms refusals : ℕ) → SpellsLimits rest turn_ms refusals → ⊥) → (message : AbstractMessage) → SpellsMessage (76 ∷ rest) message → ⊥
-no_limits rest none = message_cases (λ _. ⊥) 76 rest (λ player name e h. absurd (omega arith)) (λ text e l h. absurd (omega arith)) (λ t r e h. none t r h) (λ ps e h. absurd (omega arith)) (λ r e h. absurd (omega arith)) (λ o e h. absurd (omega arith))
+no_limits rest none = message_cases (λ _. ⊥) 76 rest (λ player name e h. absurd (omega arith)) (λ text e l h. absurd (omega arith)) (λ t r e h. none t r h) (λ ps e h. absurd (omega arith)) (λ r e h. absurd (omega arith)) (λ o e h. absurd (omega arith)) (λ t e l h. absurd (omega arith))
 
 pub no_move : (rest : List ℕ) → ((pairs : List (ℕ × ℕ)) → SpellsPairs rest pairs → ⊥) → (message : AbstractMessage) → SpellsMessage (77 ∷ rest) message → ⊥
-no_move rest none = message_cases (λ _. ⊥) 77 rest (λ player name e h. absurd (omega arith)) (λ text e l h. absurd (omega arith)) (λ t r e h. absurd (omega arith)) (λ ps e h. none ps h) (λ r e h. absurd (omega arith)) (λ o e h. absurd (omega arith))
+no_move rest none = message_cases (λ _. ⊥) 77 rest (λ player name e h. absurd (omega arith)) (λ text e l h. absurd (omega arith)) (λ t r e h. absurd (omega arith)) (λ ps e h. none ps h) (λ r e h. absurd (omega arith)) (λ o e h. absurd (omega arith)) (λ t e l h. absurd (omega arith))
 
 pub no_refusal : (rest : List ℕ) → ((reason : Reason) → rest ≡ decimal (reason_number reason) → ⊥) → (message : AbstractMessage) → SpellsMessage (82 ∷ rest) message → ⊥
-no_refusal rest none = message_cases (λ _. ⊥) 82 rest (λ player name e h. absurd (omega arith)) (λ text e l h. absurd (omega arith)) (λ t r e h. absurd (omega arith)) (λ ps e h. absurd (omega arith)) (λ r e h. none r h) (λ o e h. absurd (omega arith))
+no_refusal rest none = message_cases (λ _. ⊥) 82 rest (λ player name e h. absurd (omega arith)) (λ text e l h. absurd (omega arith)) (λ t r e h. absurd (omega arith)) (λ ps e h. absurd (omega arith)) (λ r e h. none r h) (λ o e h. absurd (omega arith)) (λ t e l h. absurd (omega arith))
 
 pub no_end : (rest : List ℕ) → ((outcome : Outcome) → SpellsOutcome (69 ∷ rest) outcome → ⊥) → (message : AbstractMessage) → SpellsMessage (69 ∷ rest) message → ⊥
-no_end rest none = message_cases (λ _. ⊥) 69 rest (λ player name e h. absurd (omega arith)) (λ text e l h. absurd (omega arith)) (λ t r e h. absurd (omega arith)) (λ ps e h. absurd (omega arith)) (λ r e h. absurd (omega arith)) (λ o e h. none o h)
+no_end rest none = message_cases (λ _. ⊥) 69 rest (λ player name e h. absurd (omega arith)) (λ text e l h. absurd (omega arith)) (λ t r e h. absurd (omega arith)) (λ ps e h. absurd (omega arith)) (λ r e h. absurd (omega arith)) (λ o e h. none o h) (λ t e l h. absurd (omega arith))
 
-pub no_letter : (letter : ℕ) (rest : List ℕ) → letter ≢ 87 → letter ≢ 71 → letter ≢ 76 → letter ≢ 77 → letter ≢ 82 → letter ≢ 69 → (message : AbstractMessage) → SpellsMessage (letter ∷ rest) message → ⊥
-no_letter letter rest who game limits move refusal end = message_cases (λ _. ⊥) letter rest (λ player name e h. who e) (λ text e l h. game e) (λ t r e h. limits e) (λ ps e h. move e) (λ r e h. refusal e) (λ o e h. end e)
+pub no_join : (rest : List ℕ) → ((table : ℕ) → table < 2 ^ 64 → rest ≡ decimal table → ⊥) → (message : AbstractMessage) → SpellsMessage (72 ∷ rest) message → ⊥
+no_join rest none = message_cases (λ _. ⊥) 72 rest (λ player name e h. absurd (omega arith)) (λ text e l h. absurd (omega arith)) (λ t r e h. absurd (omega arith)) (λ ps e h. absurd (omega arith)) (λ r e h. absurd (omega arith)) (λ o e h. absurd (omega arith)) (λ t e l h. none t l h)
+
+pub no_letter : (letter : ℕ) (rest : List ℕ) → letter ≢ 87 → letter ≢ 71 → letter ≢ 76 → letter ≢ 77 → letter ≢ 82 → letter ≢ 69 → letter ≢ 72 → (message : AbstractMessage) → SpellsMessage (letter ∷ rest) message → ⊥
+no_letter letter rest who game limits move refusal end join = message_cases (λ _. ⊥) letter rest (λ player name e h. who e) (λ text e l h. game e) (λ t r e h. limits e) (λ ps e h. move e) (λ r e h. refusal e) (λ o e h. end e) (λ t e l h. join e)
 
 -- a text does not lack a byte that occurs in it
 pub first_stands : (byte : ℕ) (text : List ℕ) (at : ℕ) → IsFirstPlace byte text at → LacksByte byte text → ⊥
@@ -141,11 +156,12 @@ first_stands byte text at place lacks =
     All-head (λ other. other ≢ byte) byte (drop (at + 1) text) here refl
 
 -- the number of a reason
-pub reason_number-small : (reason : Reason) → (0 < reason_number reason) × (reason_number reason ≤ 4)
+pub reason_number-small : (reason : Reason) → (0 < reason_number reason) × (reason_number reason ≤ 5)
 reason_number-small Unreadable = (omega arith, omega arith)
 reason_number-small OutOfTurn = (omega arith, omega arith)
 reason_number-small NotLegal = (omega arith, omega arith)
 reason_number-small MoveTooLong = (omega arith, omega arith)
+reason_number-small NoSeat = (omega arith, omega arith)
 
 pub same_reason : (text : List ℕ) (n : ℕ) (reason : Reason) → n < 2 ^ 64 → text ≡ decimal n → text ≡ decimal (reason_number reason) → n ≡ reason_number reason
 same_reason text n reason small is spelled = decimal_injective n (reason_number reason) small (omega (arith, (reason_number-small reason).1)) (sym is ∙ spelled)
@@ -193,7 +209,7 @@ same_limits rest a b c d h k =
 
 -- the reason that has a number
 reason_of : ℕ → Reason
-reason_of n = cond (n == 1) Unreadable (cond (n == 2) OutOfTurn (cond (n == 3) NotLegal MoveTooLong))
+reason_of n = cond (n == 1) Unreadable (cond (n == 2) OutOfTurn (cond (n == 3) NotLegal (cond (n == 4) MoveTooLong NoSeat)))
 
 reason_of-reason_number : (reason : Reason) → reason_of (reason_number reason) ≡ reason
 unfolding reason_of
@@ -201,6 +217,7 @@ reason_of-reason_number Unreadable = refl
 reason_of-reason_number OutOfTurn = refl
 reason_of-reason_number NotLegal = refl
 reason_of-reason_number MoveTooLong = refl
+reason_of-reason_number NoSeat = refl
 
 same_refusal : (rest : List ℕ) (a b : Reason) → rest ≡ decimal (reason_number a) → rest ≡ decimal (reason_number b) → refusal_message a ≡ refusal_message b
 same_refusal rest a b h k =
@@ -216,6 +233,7 @@ one_message_after letter rest a b h k = message_cases (λ m. m ≡ b) letter res
     (λ ps e h. absurd (omega arith))
     (λ r e h. absurd (omega arith))
     (λ o e h. absurd (omega arith))
+    (λ t e l h. absurd (omega arith))
     b k)
     (λ t is lacks first. message_cases (λ o. game_message t ≡ o) letter rest
     (λ player name e h. absurd (omega arith))
@@ -224,6 +242,7 @@ one_message_after letter rest a b h k = message_cases (λ m. m ≡ b) letter res
     (λ ps e h. absurd (omega arith))
     (λ r e h. absurd (omega arith))
     (λ o e h. absurd (omega arith))
+    (λ t e l h. absurd (omega arith))
     b k)
     (λ x y is first. message_cases (λ o. limits_message x y ≡ o) letter rest
     (λ player name e h. absurd (omega arith))
@@ -232,6 +251,7 @@ one_message_after letter rest a b h k = message_cases (λ m. m ≡ b) letter res
     (λ ps e h. absurd (omega arith))
     (λ r e h. absurd (omega arith))
     (λ o e h. absurd (omega arith))
+    (λ t e l h. absurd (omega arith))
     b k)
     (λ qs is first. message_cases (λ o. move_message qs ≡ o) letter rest
     (λ player name e h. absurd (omega arith))
@@ -240,6 +260,7 @@ one_message_after letter rest a b h k = message_cases (λ m. m ≡ b) letter res
     (λ rs e second. ap move_message (one_spelled rest qs rs first second))
     (λ r e h. absurd (omega arith))
     (λ o e h. absurd (omega arith))
+    (λ t e l h. absurd (omega arith))
     b k)
     (λ x is first. message_cases (λ o. refusal_message x ≡ o) letter rest
     (λ player name e h. absurd (omega arith))
@@ -248,6 +269,7 @@ one_message_after letter rest a b h k = message_cases (λ m. m ≡ b) letter res
     (λ ps e h. absurd (omega arith))
     (λ y e second. same_refusal rest x y first second)
     (λ o e h. absurd (omega arith))
+    (λ t e l h. absurd (omega arith))
     b k)
     (λ x is first. message_cases (λ o. end_message x ≡ o) letter rest
     (λ player name e h. absurd (omega arith))
@@ -256,6 +278,16 @@ one_message_after letter rest a b h k = message_cases (λ m. m ≡ b) letter res
     (λ ps e h. absurd (omega arith))
     (λ r e h. absurd (omega arith))
     (λ y e second. ap end_message (one_outcome (69 ∷ rest) x y first second))
+    (λ t e l h. absurd (omega arith))
+    b k)
+    (λ x is small first. message_cases (λ o. join_message x ≡ o) letter rest
+    (λ player name e h. absurd (omega arith))
+    (λ text e l h. absurd (omega arith))
+    (λ t r e h. absurd (omega arith))
+    (λ ps e h. absurd (omega arith))
+    (λ r e h. absurd (omega arith))
+    (λ o e h. absurd (omega arith))
+    (λ y e low second. ap join_message (decimal_injective x y small low (sym first ∙ second)))
     b k)
     a h
 

@@ -4,9 +4,9 @@ use Rattle.std.specs.List.{flat_map}
 use Rattle.rbg_base.specs.Names.{is_name}
 use Rattle.rbg_wire.specs.Limits.{most_scores}
 use Rattle.rbg_wire.specs.declared.message.Reason.{Reason}
-use Rattle.rbg_wire.specs.declared.message.Reason.TheVariants.{Unreadable, OutOfTurn, NotLegal, MoveTooLong}
+use Rattle.rbg_wire.specs.declared.message.Reason.TheVariants.{Unreadable, OutOfTurn, NotLegal, MoveTooLong, NoSeat}
 use Rattle.rbg_wire.specs.declared.message.Message.{Message}
-use Rattle.rbg_wire.specs.declared.message.Message.TheVariants.{Who, Game, Limits, Moved, Refused, Ended}
+use Rattle.rbg_wire.specs.declared.message.Message.TheVariants.{Who, Game, Limits, Moved, Refused, Ended, Join}
 use Rattle.rbg_wire.specs.declared.outcome.Outcome.{Outcome}
 use Rattle.rbg_wire.specs.declared.outcome.Outcome.TheVariants.{Finished, Time, Refusals, Gone, Heavy}
 
@@ -18,6 +18,7 @@ pub data AbstractMessage : Type 0 where
   move_message : (pairs : List (ℕ × ℕ)) → AbstractMessage
   refusal_message : (reason : Reason) → AbstractMessage
   end_message : (outcome : Outcome) → AbstractMessage
+  join_message : (table : ℕ) → AbstractMessage
 
 abbrev pub message_of : Message → AbstractMessage
 message_of (Who player name) = who_message player name.now
@@ -26,6 +27,7 @@ message_of (Limits turn_ms refusals) = limits_message turn_ms refusals
 message_of (Moved pairs) = move_message pairs
 message_of (Refused reason) = refusal_message reason
 message_of (Ended outcome) = end_message outcome
+message_of (Join table) = join_message table
 
 -- A number is spelled in decimal digits, with no leading zero and no sign: std's `decimal`.
 
@@ -50,6 +52,7 @@ reason_number Unreadable = 1
 reason_number OutOfTurn = 2
 reason_number NotLegal = 3
 reason_number MoveTooLong = 4
+reason_number NoSeat = 5
 
 -- the letters with which messages begin: `W`, `G`, `L`, `M` and `E`
 abbrev pub who_letter : ℕ
@@ -75,6 +78,7 @@ message_text (limits_message turn_ms refusals) = codes "L" ++ decimal turn_ms ++
 message_text (move_message pairs) = codes "M" ++ pairs_text pairs
 message_text (refusal_message reason) = codes "R" ++ decimal (reason_number reason)
 message_text (end_message outcome) = outcome_text outcome
+message_text (join_message table) = codes "H" ++ decimal table
 
 -- the bytes of a message on a stream
 unfoldable pub spelling : AbstractMessage → List ℕ
@@ -112,3 +116,4 @@ HasSpelling (limits_message turn_ms refusals) = (turn_ms < 2 ^ 64) × (refusals 
 HasSpelling (move_message pairs) = ArePairs pairs
 HasSpelling (refusal_message reason) = Unit {0}
 HasSpelling (end_message outcome) = OutcomeHasSpelling outcome
+HasSpelling (join_message table) = table < 2 ^ 64

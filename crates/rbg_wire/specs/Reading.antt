@@ -8,7 +8,7 @@ use Rattle.rbg_wire.specs.declared.error.WireError.TheVariants.{Malformed, TooMa
 use Rattle.rbg_wire.specs.declared.message.Message.{Message}
 use Rattle.rbg_wire.specs.declared.outcome.Outcome.{Outcome}
 use Rattle.rbg_wire.specs.declared.outcome.Outcome.TheVariants.{Finished}
-use Rattle.rbg_wire.specs.Messages.{AbstractMessage, who_message, game_message, limits_message, move_message, refusal_message, end_message, message_of, ArePairs, IsShortPair, pairs_text, OutcomeHasSpelling, outcome_text, HasSpelling, message_text}
+use Rattle.rbg_wire.specs.Messages.{AbstractMessage, who_message, game_message, limits_message, move_message, refusal_message, end_message, join_message, message_of, ArePairs, IsShortPair, pairs_text, OutcomeHasSpelling, outcome_text, HasSpelling, message_text}
 
 -- the text is the spelling of these pairs
 pub record SpellsPairs (text : List ℕ) (pairs : List (ℕ × ℕ)) : Type 0 where
@@ -50,6 +50,7 @@ HasFewPairs (game_message text) = Unit {0}
 HasFewPairs (limits_message turn_ms refusals) = Unit {0}
 HasFewPairs (refusal_message reason) = Unit {0}
 HasFewPairs (end_message outcome) = Unit {0}
+HasFewPairs (join_message table) = Unit {0}
 
 -- the letter and the text after it are those of this message
 abbrev pub SpellsAfterLetter : ℕ → List ℕ → AbstractMessage → Type 0

@@ -15,6 +15,8 @@ pub enum Reason {
     NotLegal,
     /// 4: the move has more than 200 pairs.
     MoveTooLong,
+    /// 5: there is no such seat.
+    NoSeat,
 }
 
 impl Reason {
@@ -29,6 +31,7 @@ impl Reason {
             Reason::OutOfTurn => 2,
             Reason::NotLegal => 3,
             Reason::MoveTooLong => 4,
+            Reason::NoSeat => 5,
         }
     }
 }
@@ -49,4 +52,6 @@ pub enum Message<'a> {
     Refused { reason: Reason },
     /// `E..`: the match has ended.
     Ended { outcome: Outcome },
+    /// `H<match>`: the line joins this match.
+    Join { table: u64 },
 }

@@ -59,6 +59,9 @@ fn other_message(letter: u8, text: &[u8]) -> Option<Message<'_>>
         b'E' => Some(Message::Ended {
             outcome: outcome_after_letter(text)?,
         }),
+        b'H' => Some(Message::Join {
+            table: number_of_decimal(text)?,
+        }),
         _ => None,
     }
 }
@@ -104,6 +107,7 @@ fn reason_in(text: &[u8]) -> Option<Reason>
         2 => Some(Reason::OutOfTurn),
         3 => Some(Reason::NotLegal),
         4 => Some(Reason::MoveTooLong),
+        5 => Some(Reason::NoSeat),
         _ => None,
     }
 }

@@ -1,7 +1,15 @@
 //! The calls that write a message, or a field of one, at the end of a list of bytes.
 ghost use Rattle.std.specs.Prelude.{◌≡◌, ℕ, ◌++◌, OnOk, OnErr, codes, decimal, take};
 ghost use Rattle.std.specs.List.{flat_map};
-ghost use Rattle.rbg_wire.specs.Messages.{message_of, HasSpelling, spelling, message_text, ArePairs, OutcomeHasSpelling, outcome_text, pairs_text, pair_text};
+ghost use Rattle.rbg_wire.specs.Messages.{
+  message_of,
+  HasSpelling,
+  spelling,
+  message_text,
+  outcome_text,
+  pairs_text,
+  pair_text,
+};
 ghost use Rattle.rbg_wire.specs.Writing.{Appends};
 
 use crate::{Message, Outcome};
@@ -29,9 +37,9 @@ pub fn write_number(number: u64, out: &mut Vec<u8>) -> Result<(), Memory>
     out.extend_from_slice(buffer.format(number).as_bytes())
 }
 
-/// Appends the pairs, as in a message of a move. On an error the bytes are unchanged.
+/// Appends the pairs, as in a message of a move, also where no such message is theirs. On an error the bytes are
+/// unchanged.
 pub fn write_pairs(pairs: &[Pair], out: &mut Vec<u8>) -> Result<(), Memory>
-    requires { ArePairs pairs.now }
     ensures ok { OnOk result (out.new.items ≡ out.old.items ++ pairs_text pairs.now) }
     ensures err { OnErr result (out.new.items ≡ out.old.items) }
 {
@@ -40,9 +48,8 @@ pub fn write_pairs(pairs: &[Pair], out: &mut Vec<u8>) -> Result<(), Memory>
     all_or_nothing(written, len, out)
 }
 
-/// Appends the outcome, as in its message. On an error the bytes are unchanged.
+/// Appends the outcome, as in its message, also where no such message is its own. On an error the bytes are unchanged.
 pub fn write_outcome(outcome: &Outcome, out: &mut Vec<u8>) -> Result<(), Memory>
-    requires { OutcomeHasSpelling outcome.now }
     ensures ok { OnOk result (out.new.items ≡ out.old.items ++ outcome_text outcome.now) }
     ensures err { OnErr result (out.new.items ≡ out.old.items) }
 {
@@ -92,6 +99,7 @@ fn put_text(message: &Message<'_>, out: &mut Vec<u8>) -> Result<(), Memory>
         }
         Message::Refused { reason } => put_number(b"R", reason.number(), out),
         Message::Ended { outcome } => put_outcome(outcome, out),
+        Message::Join { table } => put_number(b"H", *table, out),
     }
 }
 

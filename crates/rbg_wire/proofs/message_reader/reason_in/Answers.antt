@@ -1,4 +1,4 @@
--- The four numbers of reasons.
+-- The five numbers of reasons.
 use Rattle.std.proofs.Common.{arith}
 use Rattle.rbg_wire.proofs.MessageLemmas.{same_reason, reason_number-small}
 use Rattle.rbg_wire.proofs.message_reader.reason_in.Goals as goal
