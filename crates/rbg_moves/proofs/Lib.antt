@@ -7,3 +7,4 @@ pub mod Listing
 pub mod Outcome
 pub mod Further
 pub mod Seeking
+pub mod Forcing

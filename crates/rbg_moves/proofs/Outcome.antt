@@ -1,20 +1,11 @@
 -- What is listed in the end.
-use Rattle.std.proofs.Common.{◌≡◌, ◌≢◌, ℕ, ◌≤◌, List, [], length, Bool, sym, ◌∙◌, subst, ◌⊎◌, inl, inr}
+use Rattle.std.proofs.Common.{◌≡◌, ◌≢◌, ℕ, ◌≤◌, List, [], length, Bool, sym, ◌∙◌, subst}
 use Rattle.std.specs.Prelude.{All, AllPairs, Contains}
 use Rattle.std.specs.List.Sorted.{IsPermutation}
 use Rattle.std.proofs.lemmas.List.{map-id}
 use Rattle.std.proofs.lemmas.List.Sorted.{IsPermutation-sym, All-permutation, Contains-permutation, length_permutation}
 use Rattle.rbg_rules.specs.State.{AbstractGame}
-use Rattle.rbg_rules.specs.Positions.{IsNumbered}
-use Rattle.rbg_rules.specs.Moves.{AbstractPlace, stand_of, IsLegal}
-use Rattle.rbg_rules.specs.Questions.{list_moves}
-use Rattle.rbg_rules.specs.Limits.{most_openings, most_modifiers}
-use Rattle.rbg_rules.specs.Heavy.{IsTooHard}
-use Rattle.rbg_search.specs.Counting.{IsOverBudget}
-use Rattle.rbg_search.specs.Passing.{IsTooDeep}
-use Rattle.rbg_search.specs.declared.over.Over.{Over}
-use Rattle.rbg_search.specs.declared.over.Over.TheVariants.{Deep, Wide}
-use Rattle.rbg_search.proofs.CallerLemmas.{too_deep, over_wide}
+use Rattle.rbg_rules.specs.Moves.{AbstractPlace, IsLegal}
 use Rattle.rbg_moves.specs.Listing.{IsMoveBefore, IsListed}
 use Rattle.rbg_moves.specs.internal.Gathering.{Gathers}
 use Rattle.rbg_moves.proofs.Order.{still_different}
@@ -54,18 +45,3 @@ gathered_at game game' place here front max old new cut same same_place no_front
     (subst (λ (ps : List (ℕ × ℕ)). Gathers (IsLegal game place) ps max old new cut) no_front
     (subst (λ (p : AbstractPlace). Gathers (IsLegal game p) front max old new cut) same_place
     (subst (λ (g : AbstractGame). Gathers (IsLegal g here) front max old new cut) same all)))
-
--- Where the listing gives up, the question at the place is above the limits.
-pub heavy_at : (game game' : AbstractGame) → IsNumbered game'.rules → (place here : AbstractPlace) (over : Over) (left modifiers opened openings : ℕ) → game' ≡ game → here ≡ place → left ≡ most_modifiers → modifiers ≡ most_modifiers → opened ≡ 0 → openings ≡ most_openings → (over ≡ Deep → IsTooDeep game' list_moves here.state (stand_of here.last) left modifiers) → (over ≡ Wide → IsOverBudget game' list_moves here.state (stand_of here.last) opened openings) → (over ≡ Deep) ⊎ (over ≡ Wide) → IsTooHard game list_moves place
-heavy_at game game' numbered place here over left modifiers opened openings same same_place all_left same_modifiers none same_openings deep wide (inl is) =
-    let here_deep : IsTooDeep game list_moves here.state (stand_of here.last) most_modifiers most_modifiers =
-    subst (λ (m : ℕ). IsTooDeep game list_moves here.state (stand_of here.last) most_modifiers m) same_modifiers
-    (subst (λ (n : ℕ). IsTooDeep game list_moves here.state (stand_of here.last) n modifiers) all_left
-    (subst (λ (g : AbstractGame). IsTooDeep g list_moves here.state (stand_of here.last) left modifiers) same (deep is))) in
-    inl (too_deep game (subst (λ (g : AbstractGame). IsNumbered g.rules) same numbered) (subst (λ (p : AbstractPlace). IsTooDeep game list_moves p.state (stand_of p.last) most_modifiers most_modifiers) same_place here_deep))
-heavy_at game game' numbered place here over left modifiers opened openings same same_place all_left same_modifiers none same_openings deep wide (inr is) =
-    let here_wide : IsOverBudget game list_moves here.state (stand_of here.last) 0 most_openings =
-    subst (λ (m : ℕ). IsOverBudget game list_moves here.state (stand_of here.last) 0 m) same_openings
-    (subst (λ (n : ℕ). IsOverBudget game list_moves here.state (stand_of here.last) n openings) none
-    (subst (λ (g : AbstractGame). IsOverBudget g list_moves here.state (stand_of here.last) opened openings) same (wide is))) in
-    inr (over_wide game (subst (λ (g : AbstractGame). IsNumbered g.rules) same numbered) (subst (λ (p : AbstractPlace). IsOverBudget game list_moves p.state (stand_of p.last) 0 most_openings) same_place here_wide))

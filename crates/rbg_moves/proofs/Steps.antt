@@ -1,5 +1,5 @@
 -- How a list of pairs is legal by its first pair.
-use Rattle.std.proofs.Common.{◌≡◌, ℕ, ◌⊎◌, inl, inr, ◌<◌, length, List, [], ◌∷◌, ◌++◌, Bool, true, false, refl, sym, ap, ◌∙◌, subst, append_assoc}
+use Rattle.std.proofs.Common.{◌≡◌, ℕ, ◌<◌, length, List, [], ◌∷◌, ◌++◌, Bool, true, false, refl, sym, ap, ◌∙◌, subst, append_assoc}
 use Rattle.std.specs.Prelude.{All, Contains, Option, Some, None}
 use Rattle.std.proofs.lemmas.List.Elements.{All-nil, All-head, All-tail, All-cons, All-append, All-contains}
 use Rattle.rbg_rules.specs.Expression.{AbstractAction, shift, on, off, assignment, comparison, switch, positive, negative}
@@ -12,7 +12,6 @@ use Rattle.rbg_rules.specs.Places.{IsPlaceOf, IsLastOf}
 use Rattle.rbg_rules.specs.Laws.{IsStart}
 use Rattle.rbg_rules.specs.Games.{IsGame}
 use Rattle.rbg_rules.specs.Questions.{Question, try_move, IsDeep}
-use Rattle.rbg_rules.specs.Heavy.{IsTooHard}
 use Rattle.rbg_rules.specs.Limits.{most_openings, most_modifiers}
 use Rattle.rbg_search.specs.Counting.{IsOverBudget}
 use Rattle.rbg_search.proofs.CallerLemmas.{over_wide}
@@ -22,6 +21,7 @@ use Rattle.rbg_rules.proofs.TableLemmas.{plain_stands, numbered_action}
 use Rattle.rbg_rules.proofs.PlaceLemmas.{RunPairs_join}
 use Rattle.rbg_rules.proofs.LocalityLemmas.{locality_law}
 use Rattle.rbg_search.specs.Flat.{IsNext, IsFlatPart}
+use Rattle.rbg_moves.specs.Limits.{IsDeepAt, IsWideAt}
 use Rattle.rbg_moves.specs.internal.Stepping.{standing_at, place_behind, IsStep, IsValidAt, IsTried, IsMadeFrom, made, goes_on}
 use Rattle.rbg_search.specs.Passing.{GoesOn, trying}
 use Rattle.rbg_search.specs.Start.{IsPositionOf}
@@ -364,19 +364,19 @@ pub tried_on : (game : AbstractGame) → IsNumbered game.rules → (place : Abst
 tried_on game numbered place v p qs later new taken plain (Some last) legal = step_legal game numbered place v p qs (place_behind new last) later taken plain legal
 tried_on game numbered place v p qs later new taken plain None none = step_none game numbered place v p qs later taken plain none
 
--- A search that is over is over for the question at the place.
-pub heavy_from : (game : AbstractGame) → IsNumbered game.rules → (question : Question) (place : AbstractPlace) (g : AbstractGame) (s : AbstractState) (f : Start) (opened openings modifiers : ℕ) → g ≡ game → s ≡ place.state → f ≡ stand_of place.last → opened ≡ 0 → openings ≡ most_openings → modifiers ≡ most_modifiers → IsDeep g question s f modifiers ⊎ IsOverBudget g question s f opened openings → IsTooHard game question place
-heavy_from game numbered question place g s f opened openings modifiers same state start none most_o most_m (inl deep) =
-    inl
-    (subst (λ (n : ℕ). IsDeep game question place.state (stand_of place.last) n) most_m
+-- A search that is too deep or over its budget is so for the question at the place.
+pub deep_from : (game : AbstractGame) (question : Question) (place : AbstractPlace) (g : AbstractGame) (s : AbstractState) (f : Start) (modifiers : ℕ) → g ≡ game → s ≡ place.state → f ≡ stand_of place.last → modifiers ≡ most_modifiers → IsDeep g question s f modifiers → IsDeepAt game question place
+deep_from game question place g s f modifiers same state start most_m deep =
+    subst (λ (n : ℕ). IsDeep game question place.state (stand_of place.last) n) most_m
     (subst (λ (h : AbstractGame). IsDeep h question place.state (stand_of place.last) modifiers) same
     (subst (λ (u : AbstractState). IsDeep g question u (stand_of place.last) modifiers) state
-    (subst (λ (h : Start). IsDeep g question s h modifiers) start deep))))
-heavy_from game numbered question place g s f opened openings modifiers same state start none most_o most_m (inr over) =
-    inr
-    (over_wide game numbered
+    (subst (λ (h : Start). IsDeep g question s h modifiers) start deep)))
+
+pub wide_from : (game : AbstractGame) → IsNumbered game.rules → (question : Question) (place : AbstractPlace) (g : AbstractGame) (s : AbstractState) (f : Start) (opened openings : ℕ) → g ≡ game → s ≡ place.state → f ≡ stand_of place.last → opened ≡ 0 → openings ≡ most_openings → IsOverBudget g question s f opened openings → IsWideAt game question place
+wide_from game numbered question place g s f opened openings same state start none most_o over =
+    over_wide game numbered
     (subst (λ (n : ℕ). IsOverBudget game question place.state (stand_of place.last) 0 n) most_o
     (subst (λ (n : ℕ). IsOverBudget game question place.state (stand_of place.last) n openings) none
     (subst (λ (h : AbstractGame). IsOverBudget h question place.state (stand_of place.last) opened openings) same
     (subst (λ (u : AbstractState). IsOverBudget g question u (stand_of place.last) opened openings) state
-    (subst (λ (h : Start). IsOverBudget g question s h opened openings) start over))))))
+    (subst (λ (h : Start). IsOverBudget g question s h opened openings) start over)))))

@@ -13,11 +13,16 @@ use rbg_base::Position;
 use rbg_pairs::{Move, Pair};
 use rbg_rules::limits::{MAX_MODIFIERS, MAX_OPENINGS};
 use rbg_rules::{Action, Game};
-use rbg_search::{Budget, Origin, Search};
+use rbg_search::{Budget, Origin, Search, Workspace};
 use std::alloc::Global;
 
 /// A search that may take up as many openings as a question may have.
-pub(crate) fn search_in<'a, S: Steps>(alloc: Global, game: &'a Game, steps: &'a S) -> Search<'a, S>
+pub(crate) fn search_in<'a, S: Steps>(
+    alloc: Global,
+    game: &'a Game,
+    steps: &'a S,
+    workspace: &mut Workspace,
+) -> Search<'a, S>
     requires { S.of_rules steps.now game.now.rules }
     ensures game { result.game ≡ game.now }
     ensures openings { result.openings ≡ most_openings }
@@ -28,7 +33,7 @@ pub(crate) fn search_in<'a, S: Steps>(alloc: Global, game: &'a Game, steps: &'a 
         openings: MAX_OPENINGS as u32,
         modifiers: MAX_MODIFIERS as u16,
     };
-    Search::new(alloc, game, steps, budget)
+    Search::with_workspace(alloc, game, steps, budget, workspace)
 }
 
 /// Where one stands in the rules after the action at a position, or at their beginning.

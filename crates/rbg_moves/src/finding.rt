@@ -1,5 +1,5 @@
 //! Some legal move, where there is one.
-ghost use Rattle.std.specs.Prelude.{◌≡◌, ◌⊎◌, ◌+◌, ◌-◌, ◌<◌, ◌≤◌, length, All, Contains, IfOk, IfSome, IfNone, OnOk, Err};
+ghost use Rattle.std.specs.Prelude.{◌≡◌, ◌⊎◌, ◌+◌, ◌-◌, ◌<◌, ◌≤◌, length, All, Contains, IfOk, IfSome, IfNone, OnOk, Err, Bool, false};
 ghost use Rattle.rbg_pairs.specs.Move.{most_pairs, IsMoveLength};
 ghost use Rattle.rbg_rules.specs.State.{AbstractState, IsStateOf};
 ghost use Rattle.rbg_rules.specs.Positions.{IsSwitchAt};
@@ -13,6 +13,8 @@ ghost use Rattle.rbg_rules.specs.Heavy.{IsHeavyToFind};
 ghost use Rattle.rbg_search.specs.Start.{IsPositionOf};
 ghost use Rattle.rbg_search.specs.Counting.{CountsOpenings, IsOverBudget};
 ghost use Rattle.rbg_search.specs.Passing.{IsTooDeep};
+ghost use Rattle.rbg_search.specs.Forced.{CountsForced};
+ghost use Rattle.rbg_moves.specs.Limits.{IsDeepAt, IsWideAt, FitsLimits};
 ghost use Rattle.rbg_moves.specs.internal.Stepping.{standing_at, place_behind, IsValidAt, GoesOnByMove, GoesOnBehind};
 
 use crate::asking::{is_switch, move_of, origin_after, search_in};
@@ -23,7 +25,7 @@ use rbg_auto::Steps;
 use rbg_base::{Position, Vertex};
 use rbg_pairs::{MAX_PAIRS, Move, Pair};
 use rbg_rules::Game;
-use rbg_search::{Over, Search};
+use rbg_search::{Over, Search, Workspace};
 use rbg_state::SemiState;
 use std::alloc::Global;
 
@@ -43,14 +45,44 @@ pub fn find_move<S: Steps>(
     ensures length { IfOk result (λ found. IfSome found (λ pairs. IsMoveLength (length pairs))) }
     ensures finished { IfOk result (λ found. IfNone found (Finished game.now place.now)) }
     ensures heavy { (result ≡ Err Over.Deep) ⊎ (result ≡ Err Over.Wide) → IsHeavyToFind game.now place.now }
+    ensures deep { result ≡ Err Over.Deep → IsDeepAt game.now find_move place.now }
+    ensures wide { result ≡ Err Over.Wide → IsWideAt game.now find_move place.now }
+    ensures fits { OnOk result ((cut : Bool) → FitsLimits game.now cut find_move place.now) }
+{
+    let mut workspace = Workspace::new(alloc);
+    find_move_with(alloc, game, steps, place, &mut workspace)
+}
+
+/// As `find_move`, with the buffers of a workspace, which also counts what is taken up. Where there is no answer, its
+/// buffers are lost.
+pub fn find_move_with<S: Steps>(
+    alloc: Global,
+    game: &Game,
+    steps: &S,
+    place: &Place,
+    workspace: &mut Workspace,
+) -> Result<Option<Move>, Over>
+    requires steps { S.of_rules steps.now game.now.rules }
+    requires place { IsPlaceOf game.now place.now }
+    ensures found { IfOk result (λ found. IfSome found (IsLegal game.now place.now)) }
+    ensures length { IfOk result (λ found. IfSome found (λ pairs. IsMoveLength (length pairs))) }
+    ensures finished { IfOk result (λ found. IfNone found (Finished game.now place.now)) }
+    ensures heavy { (result ≡ Err Over.Deep) ⊎ (result ≡ Err Over.Wide) → IsHeavyToFind game.now place.now }
+    ensures deep { result ≡ Err Over.Deep → IsDeepAt game.now find_move place.now }
+    ensures wide { result ≡ Err Over.Wide → IsWideAt game.now find_move place.now }
+    ensures fits { OnOk result ((cut : Bool) → FitsLimits game.now cut find_move place.now) }
 {
     let _positions = game.positions();
     let mut finding = Finding {
-        search: search_in(alloc, game, steps),
+        search: search_in(alloc, game, steps, workspace),
         state: place.state.try_clone()?,
         front: ArrayVec::new(),
     };
-    finding.find(place.after)
+    let found = finding.find(place.after)?;
+    // What was taken up is within the budget.
+    let _opened = finding.search.opened();
+    finding.search.leave(workspace);
+    Ok(found)
 }
 
 /// A move that is looked for.
@@ -84,6 +116,9 @@ impl<'a, S: Steps> Finding<'a, S> {
         ensures wide { result ≡ Err Over.Wide
             → IsOverBudget self.old.search.game find_move self.old.state.state (stand_of after)
             self.old.search.opened self.old.search.openings }
+        ensures forced { OnOk result (CountsForced self.old.search.game false find_move self.old.state.state
+            (stand_of after) self.old.search.opened self.new.search.opened
+            (most_pairs - length self.old.front.items) self.old.search.modifiers) }
     {
         let game = self.search.game();
         let reached = self.search.reach(&mut self.state, origin_after(after))?;
@@ -139,6 +174,11 @@ impl<'a, S: Steps> Finding<'a, S> {
             → Applies game.now position (standing_at self.old.state.state vertex) later
             → IsOverBudget game.now find_move later (after position)
             self.old.search.opened self.old.search.openings }
+        ensures forced { OnOk result ((later : AbstractState)
+            → Applies game.now position (standing_at self.old.state.state vertex) later
+            → CountsForced game.now false find_move later (after position)
+            self.old.search.opened self.new.search.opened
+            (most_pairs - (length self.old.front.items + 1)) self.old.search.modifiers) }
     {
         let mark = self.state.mark();
         let pair = Pair { vertex, position };

@@ -13,6 +13,8 @@ ghost use Rattle.rbg_rules.specs.Heavy.{IsTooHard};
 ghost use Rattle.rbg_search.specs.Start.{IsPositionOf};
 ghost use Rattle.rbg_search.specs.Counting.{CountsOpenings, IsOverBudget};
 ghost use Rattle.rbg_search.specs.Passing.{IsTooDeep};
+ghost use Rattle.rbg_search.specs.Forced.{CountsForced};
+ghost use Rattle.rbg_moves.specs.Limits.{IsDeepAt, IsWideAt, FitsLimits};
 ghost use Rattle.rbg_moves.specs.Listing.{IsListed, IsMoveBefore};
 ghost use Rattle.rbg_moves.specs.internal.Gathering.{Gathers, GathersBehind, ListsSwitches};
 ghost use Rattle.rbg_moves.specs.internal.Stepping.{standing_at, IsValidAt};
@@ -25,7 +27,7 @@ use rbg_auto::Steps;
 use rbg_base::{Memory, Position, Vertex};
 use rbg_pairs::{MAX_PAIRS, Move, Pair};
 use rbg_rules::Game;
-use rbg_search::{Over, Search};
+use rbg_search::{Over, Search, Workspace};
 use rbg_state::SemiState;
 use std::alloc::Global;
 
@@ -52,9 +54,36 @@ pub fn list_moves<S: Steps>(
     ensures listed { IfOk result (λ listed. IsListed game.now place.now max listed.moves.items listed.cut) }
     ensures heavy { (result ≡ Err Over.Deep) ⊎ (result ≡ Err Over.Wide)
         → IsTooHard game.now listing_moves place.now }
+    ensures deep { result ≡ Err Over.Deep → IsDeepAt game.now listing_moves place.now }
+    ensures wide { result ≡ Err Over.Wide → IsWideAt game.now listing_moves place.now }
+    ensures fits { IfOk result (λ listed. FitsLimits game.now listed.cut listing_moves place.now) }
+{
+    let mut workspace = Workspace::new(alloc);
+    list_moves_with(alloc, game, steps, place, max, &mut workspace)
+}
+
+/// As `list_moves`, with the buffers of a workspace, which also counts what is taken up. Where there is no answer, its
+/// buffers are lost.
+pub fn list_moves_with<S: Steps>(
+    alloc: Global,
+    game: &Game,
+    steps: &S,
+    place: &Place,
+    max: usize,
+    workspace: &mut Workspace,
+) -> Result<Listed, Over>
+    requires steps { S.of_rules steps.now game.now.rules }
+    requires place { IsPlaceOf game.now place.now }
+    requires some { 0 < max }
+    ensures listed { IfOk result (λ listed. IsListed game.now place.now max listed.moves.items listed.cut) }
+    ensures heavy { (result ≡ Err Over.Deep) ⊎ (result ≡ Err Over.Wide)
+        → IsTooHard game.now listing_moves place.now }
+    ensures deep { result ≡ Err Over.Deep → IsDeepAt game.now listing_moves place.now }
+    ensures wide { result ≡ Err Over.Wide → IsWideAt game.now listing_moves place.now }
+    ensures fits { IfOk result (λ listed. FitsLimits game.now listed.cut listing_moves place.now) }
 {
     let mut listing = Listing {
-        search: search_in(alloc, game, steps),
+        search: search_in(alloc, game, steps, workspace),
         state: place.state.try_clone()?,
         front: ArrayVec::new(),
         found: Found {
@@ -63,6 +92,9 @@ pub fn list_moves<S: Steps>(
         },
     };
     let cut = listing.list(place.after)?;
+    // What was taken up is within the budget.
+    let _opened = listing.search.opened();
+    listing.search.leave(workspace);
     let mut moves = listing.found.moves;
     sort(&mut moves);
     Ok(Listed { moves, cut })
@@ -149,6 +181,9 @@ impl<'a, S: Steps> Listing<'a, S> {
         ensures wide { result ≡ Err Over.Wide
             → IsOverBudget self.old.search.game listing_moves self.old.state.state (stand_of after)
             self.old.search.opened self.old.search.openings }
+        ensures forced { IfOk result (λ cut. CountsForced self.old.search.game cut listing_moves
+            self.old.state.state (stand_of after) self.old.search.opened self.new.search.opened
+            (most_pairs - length self.old.front.items) self.old.search.modifiers) }
     {
         let game = self.search.game();
         let reached = self.search.reach(&mut self.state, origin_after(after))?;
@@ -201,6 +236,11 @@ impl<'a, S: Steps> Listing<'a, S> {
             → Applies self.old.search.game pair.1 (standing_at self.old.state.state pair.0) later
             → IsOverBudget self.old.search.game listing_moves later (after pair.1)
             self.old.search.opened self.old.search.openings }
+        ensures forced { IfOk result (λ cut. (later : AbstractState)
+            → Applies self.old.search.game pair.1 (standing_at self.old.state.state pair.0) later
+            → CountsForced self.old.search.game cut listing_moves later (after pair.1)
+            self.old.search.opened self.new.search.opened
+            (most_pairs - (length self.old.front.items + 1)) self.old.search.modifiers) }
     {
         let game = self.search.game();
         let mark = self.state.mark();

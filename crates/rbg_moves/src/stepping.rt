@@ -1,5 +1,5 @@
 //! One modifier of a move.
-ghost use Rattle.std.specs.Prelude.{◌≡◌, ◌≤◌, not, IsTrue, Decides, Contains, IfOk, Err};
+ghost use Rattle.std.specs.Prelude.{◌≡◌, ℕ, ◌≤◌, not, IsTrue, Decides, Contains, IfOk, OnOk, Err, false};
 ghost use Rattle.rbg_rules.specs.State.{IsStateOf};
 ghost use Rattle.rbg_rules.specs.Actions.{Applies};
 ghost use Rattle.rbg_rules.specs.Moves.{stand_of};
@@ -9,6 +9,7 @@ ghost use Rattle.rbg_rules.specs.Games.{IsGame};
 ghost use Rattle.rbg_state.specs.History.{capacity_of, IsAfter};
 ghost use Rattle.rbg_search.specs.Flat.{IsNext};
 ghost use Rattle.rbg_search.specs.Counting.{CountsOpenings, IsOverBudget};
+ghost use Rattle.rbg_search.specs.Forced.{CountsForced};
 ghost use Rattle.rbg_search.specs.Start.{IsPositionOf};
 ghost use Rattle.rbg_moves.specs.internal.Stepping.{standing_at, place_behind, IsStep, IsValidAt};
 
@@ -58,6 +59,9 @@ pub(crate) fn take<S: Steps>(
         → IsDeep search.old.game reach state.old.state (stand_of after) search.old.modifiers }
     ensures wide { result ≡ Err Over.Wide
         → IsOverBudget search.old.game reach state.old.state (stand_of after) search.old.opened search.old.openings }
+    ensures forced { OnOk result ((left : ℕ)
+        → CountsForced search.old.game false reach state.old.state (stand_of after)
+        search.old.opened search.new.opened left search.old.modifiers) }
 {
     let game = search.game();
     let reached = search.reach(state, origin_after(after))?;

@@ -1,10 +1,12 @@
 //! Whether a list of pairs is a legal move.
-ghost use Rattle.std.specs.Prelude.{◌≡◌, ◌⊎◌, IfOk, IfSome, IfNone, Err};
+ghost use Rattle.std.specs.Prelude.{◌≡◌, ◌⊎◌, length, IfOk, IfSome, IfNone, OnOk, Err, Bool, false};
 ghost use Rattle.rbg_rules.specs.Moves.{AbstractPlace, stand_of, Legal};
 ghost use Rattle.rbg_rules.specs.Places.{IsPlaceOf};
 ghost use Rattle.rbg_rules.specs.Heavy.{IsHeavyToTry};
 ghost use Rattle.rbg_rules.specs.Questions.{try_move, IsDeep};
 ghost use Rattle.rbg_search.specs.Counting.{IsOverBudget};
+ghost use Rattle.rbg_search.specs.Forced.{CountsForced};
+ghost use Rattle.rbg_moves.specs.Limits.{IsDeepAt, IsWideAt, FitsLimits};
 ghost use Rattle.rbg_moves.specs.internal.Stepping.{place_behind, IsTried};
 
 use crate::asking::{is_switch, search_in};
@@ -14,7 +16,7 @@ use rbg_auto::Steps;
 use rbg_base::Position;
 use rbg_pairs::{Move, Pair};
 use rbg_rules::Game;
-use rbg_search::{Over, Search};
+use rbg_search::{Over, Search, Workspace};
 use rbg_state::SemiState;
 use std::alloc::Global;
 
@@ -38,11 +40,17 @@ pub fn try_move<S: Steps>(
     ensures illegal { IfOk result (λ after. IfNone after (
         (to : AbstractPlace) → ¬ Legal game.now place.now pairs.now to)) }
     ensures heavy { (result ≡ Err Over.Deep) ⊎ (result ≡ Err Over.Wide) → IsHeavyToTry game.now place.now pairs.now }
+    ensures deep { result ≡ Err Over.Deep → IsDeepAt game.now (try_move pairs.now) place.now }
+    ensures wide { result ≡ Err Over.Wide → IsWideAt game.now (try_move pairs.now) place.now }
+    ensures fits { OnOk result ((cut : Bool) → FitsLimits game.now cut (try_move pairs.now) place.now) }
 {
     let _positions = game.positions();
-    let mut search = search_in(alloc, game, steps);
+    let mut workspace = Workspace::new(alloc);
+    let mut search = search_in(alloc, game, steps, &mut workspace);
     let mut state = place.state.try_clone()?;
     let end = follow(&mut search, &mut state, place.after, pairs.as_slice())?;
+    // What was taken up is within the budget.
+    let _opened = search.opened();
     match end {
         Some(last) => Ok(Some(Place {
             state,
@@ -68,6 +76,10 @@ fn follow<S: Steps>(
         → IsDeep search.old.game (try_move pairs.now) state.old.state (stand_of after) search.old.modifiers }
     ensures wide { result ≡ Err Over.Wide → IsOverBudget search.old.game (try_move pairs.now)
         state.old.state (stand_of after) search.old.opened search.old.openings }
+    ensures kept { search.new ≡ record search.old { opened = search.new.opened } }
+    ensures forced { IfOk result (λ end. IfSome end (λ _. CountsForced search.old.game false (try_move pairs.now)
+        state.old.state (stand_of after) search.old.opened search.new.opened
+        (length pairs.now) search.old.modifiers)) }
 {
     let game = search.game();
     let Some((pair, rest)) = pairs.split_first() else {

@@ -7,7 +7,7 @@ ghost use Rattle.rbg_perft.specs.Counting.{AreCounted, AreCountedBehind, AreLega
 use crate::error::CountError;
 use crate::settling::settle;
 use rbg_auto::Steps;
-use rbg_moves::{Move, Place, find_move, list_moves, make_move};
+use rbg_moves::{Move, Place, Workspace, find_move_with, list_moves_with, make_move};
 use rbg_rules::Game;
 use std::alloc::Global;
 
@@ -40,7 +40,7 @@ impl Counts {
 }
 
 /// Counts the sequences of so many moves of the players from a place. The keeper's moves between them are not counted.
-/// Where the keeper has several, it makes the one that `find_move` finds.
+/// Where the keeper has several, it makes the one that `find_move` finds. The workspace counts what is searched.
 #[cycle(counting)]
 pub fn count_sequences<S: Steps>(
     alloc: Global,
@@ -48,18 +48,19 @@ pub fn count_sequences<S: Steps>(
     steps: &S,
     place: Place,
     moves: u8,
+    workspace: &mut Workspace,
 ) -> Result<Counts, CountError>
     requires steps { S.of_rules steps.now game.now.rules }
     requires place { IsPlaceOf game.now place }
     ensures counted { IfOk result (λ counts.
         AreCounted game.now moves place counts.sequences counts.ended) }
 {
-    let place = settle(alloc, game, steps, place)?;
+    let place = settle(alloc, game, steps, place, workspace)?;
     if moves == 0 {
-        return count_here(alloc, game, steps, &place);
+        return count_here(alloc, game, steps, &place, workspace);
     }
-    let listed = list_all(alloc, game, steps, &place)?;
-    count_behind(alloc, game, steps, &place, &listed, moves - 1)
+    let listed = list_all(alloc, game, steps, &place, workspace)?;
+    count_behind(alloc, game, steps, &place, &listed, moves - 1, workspace)
 }
 
 /// Counts the sequences that begin with one of these moves and have so many further ones.
@@ -71,6 +72,7 @@ fn count_behind<S: Steps>(
     place: &Place,
     firsts: &[Move],
     further: u8,
+    workspace: &mut Workspace,
 ) -> Result<Counts, CountError>
     requires steps { S.of_rules steps.now game.now.rules }
     requires place { IsPlaceOf game.now place.now }
@@ -81,7 +83,7 @@ fn count_behind<S: Steps>(
     let mut counts = NONE;
     for pairs in firsts {
         let to = make_move(game, place, pairs)?;
-        let behind = count_sequences(alloc, game, steps, to, further)?;
+        let behind = count_sequences(alloc, game, steps, to, further, workspace)?;
         counts = counts.join(behind).ok_or(CountError::TooMany)?;
     }
     Ok(counts)
@@ -93,13 +95,14 @@ fn count_here<S: Steps>(
     game: &Game,
     steps: &S,
     place: &Place,
+    workspace: &mut Workspace,
 ) -> Result<Counts, CountError>
     requires steps { S.of_rules steps.now game.now.rules }
     requires place { IsPlaceOf game.now place.now }
     ensures one { IfOk result (λ counts. counts.sequences ≡ 1) }
     ensures ended { IfOk result (λ counts. TellsFinished game.now place.now counts.ended) }
 {
-    let ended = match find_move(alloc, game, steps, place)? {
+    let ended = match find_move_with(alloc, game, steps, place, workspace)? {
         Some(_) => 0,
         None => 1,
     };
@@ -115,12 +118,13 @@ fn list_all<S: Steps>(
     game: &Game,
     steps: &S,
     place: &Place,
+    workspace: &mut Workspace,
 ) -> Result<Vec<Move>, CountError>
     requires steps { S.of_rules steps.now game.now.rules }
     requires place { IsPlaceOf game.now place.now }
     ensures all { IfOk result (λ moves. AreLegalMoves game.now place.now moves.items) }
 {
     // no list in memory is so long that it is cut there
-    let listed = list_moves(alloc, game, steps, place, usize::MAX)?;
+    let listed = list_moves_with(alloc, game, steps, place, usize::MAX, workspace)?;
     Ok(listed.moves)
 }

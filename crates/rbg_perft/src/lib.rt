@@ -9,3 +9,4 @@ mod settling;
 pub use beginning::count_from_start;
 pub use counting::{Counts, count_sequences};
 pub use error::CountError;
+pub use rbg_moves::Workspace;

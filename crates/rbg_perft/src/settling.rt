@@ -5,7 +5,7 @@ ghost use Rattle.rbg_perft.specs.Counting.{Settles};
 
 use crate::error::CountError;
 use rbg_auto::Steps;
-use rbg_moves::{Place, find_move, make_move};
+use rbg_moves::{Place, Workspace, find_move_with, make_move};
 use rbg_rules::Game;
 use std::alloc::Global;
 
@@ -18,6 +18,7 @@ pub(crate) fn settle<S: Steps>(
     game: &Game,
     steps: &S,
     place: Place,
+    workspace: &mut Workspace,
 ) -> Result<Place, CountError>
     requires steps { S.of_rules steps.now game.now.rules }
     requires place { IsPlaceOf game.now place }
@@ -29,7 +30,7 @@ pub(crate) fn settle<S: Steps>(
         if place.state.player() != 0 {
             return Ok(place);
         }
-        match find_move(alloc, game, steps, &place)? {
+        match find_move_with(alloc, game, steps, &place, workspace)? {
             Some(pairs) => place = make_move(game, &place, &pairs)?,
             None => return Ok(place),
         }

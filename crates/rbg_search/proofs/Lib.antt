@@ -17,3 +17,6 @@ pub mod Counted
 pub mod CountedSteps
 pub mod Orders
 pub mod Kept
+pub mod Forcing
+pub mod ForcingSteps
+pub mod Fewness

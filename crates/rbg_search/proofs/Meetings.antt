@@ -6,7 +6,13 @@ use Rattle.std.proofs.lemmas.Nat.{div-mul-add, mod-mul-add, rows}
 use Rattle.std.proofs.lemmas.List.{get_or-set_same, get_or-set_other, length-set, length-take, get_or-take, append-nil}
 use Rattle.std.proofs.lemmas.List.Elements.{All-nil, All-push, Contains-append_left, Contains-push, Contains-push_cases, Contains-get_or, All-contains, All-weaker}
 use Rattle.std.proofs.lemmas.List.Quantifiers.{all_pairs_push}
-use Rattle.rbg_search.specs.internal.Meeting.{HasMark, Adds, MeetsAll, AreMarked}
+use Rattle.rbg_search.specs.internal.Meeting.{HasMark, Adds, MeetsAll, AreMarked, is_marked, SetsMark}
+use Rattle.std.specs.Int.{bit_at}
+use Rattle.std.specs.Int.{w64}
+use Rattle.std.specs.Prelude.{bit_or, ◌^◌, zero, suc}
+use Rattle.std.proofs.Common.{replicate}
+use Rattle.std.proofs.lemmas.Nat.Bits.{bit_at-zero, bit_at_set_same, bit_at_set_other}
+use Rattle.std.proofs.lemmas.List.{length-replicate, get_or-replicate}
 
 abbrev pub pair : ℕ → ℕ → ℕ × ℕ
 pair v p = (v, p)
@@ -29,37 +35,33 @@ same_or_not a b = by_test (a == b) (Decides-eqb a b)
     by_test false decides = inr (λ e. false_not_true (decides.1 e))
 
 -- A pair without its mark was not met, and one with it was.
-pub not_met : (n : ℕ) (marks : List Bool) (pairs : List (ℕ × ℕ)) (v p : ℕ) → AreMarked n marks pairs → v < n → get_or marks (p * n + v) false ≡ false → ¬ Contains pairs (v, p)
-not_met n marks pairs v p are below unmarked met = true_not_false (sym ((are.marked v p below).1 met) ∙ unmarked)
+pub not_met : (n size : ℕ) (marks : List ℕ) (pairs : List (ℕ × ℕ)) (v p : ℕ) → AreMarked n size marks pairs → v < n → is_marked marks (p * n + v) ≡ false → ¬ Contains pairs (v, p)
+not_met n size marks pairs v p are below unmarked met = true_not_false (sym ((are.marked v p below).1 met) ∙ unmarked)
   where
     true_not_false : true ≡ false → ⊥
     true_not_false e = cc
 
 -- A pair that was not met is added and marked.
-pub added : (n : ℕ) (marks : List Bool) (pairs : List (ℕ × ℕ)) (v p : ℕ) → AreMarked n marks pairs → HasMark n (length marks) (v, p) → get_or marks (p * n + v) false ≡ false → AreMarked n (set marks (p * n + v) true) (pairs ++ (v, p) ∷ [])
-added n marks pairs v p are has unmarked = record {
-  within =
-      subst (λ (k : ℕ). All (HasMark n k) (pairs ++ (v, p) ∷ [])) (sym (length-set marks (p * n + v) true))
-      (All-push (HasMark n (length marks)) pairs (v, p) are.within has);
+pub added : (n size : ℕ) (marks after : List ℕ) (pairs : List (ℕ × ℕ)) (v p : ℕ) → AreMarked n size marks pairs → HasMark n size (v, p) → is_marked marks (p * n + v) ≡ false → SetsMark marks after (p * n + v) → AreMarked n size after (pairs ++ (v, p) ∷ [])
+added n size marks after pairs v p are has unmarked sets = record {
+  room = omega (arith, are.room, sets.size);
+  within = All-push (HasMark n size) pairs (v, p) are.within has;
   marked = λ w q below. (to w q below, from w q below);
-  different = all_pairs_push (λ a b. a ≢ b) pairs (v, p) are.different (λ k d under same. not_met n marks pairs v p are has.vertex unmarked (subst (Contains pairs) same (Contains-get_or pairs k d under)));
+  different = all_pairs_push (λ a b. a ≢ b) pairs (v, p) are.different (λ k d under same. not_met n size marks pairs v p are has.vertex unmarked (subst (Contains pairs) same (Contains-get_or pairs k d under)));
 }
   where
-    other : (w q : ℕ) → q * n + w ≢ p * n + v → get_or (set marks (p * n + v) true) (q * n + w) false ≡ get_or marks (q * n + w) false
-    other w q differ = get_or-set_other marks (p * n + v) (q * n + w) true false differ
+    other : (w q : ℕ) → q * n + w ≢ p * n + v → is_marked after (q * n + w) ≡ is_marked marks (q * n + w)
+    other w q differ = sets.others (q * n + w) differ
 
-    here : get_or (set marks (p * n + v) true) (p * n + v) false ≡ true
-    here = get_or-set_same marks (p * n + v) true false has.mark
-
-    to : (w q : ℕ) → w < n → get_or (set marks (p * n + v) true) (q * n + w) false ≡ true → Contains (pairs ++ (v, p) ∷ []) (w, q)
+    to : (w q : ℕ) → w < n → is_marked after (q * n + w) ≡ true → Contains (pairs ++ (v, p) ∷ []) (w, q)
     to w q below marked = elim (same_or_not (q * n + w) (p * n + v)) [
       | inl same ↦ subst (Contains (pairs ++ (v, p) ∷ [])) (sym (one_pair n w v q p below has.vertex same)) (Contains-push pairs (v, p))
       | inr differ ↦ Contains-append_left pairs ((v, p) ∷ []) (w, q) ((are.marked w q below).0 (sym (other w q differ) ∙ marked))
     ]
 
-    from : (w q : ℕ) → w < n → Contains (pairs ++ (v, p) ∷ []) (w, q) → get_or (set marks (p * n + v) true) (q * n + w) false ≡ true
+    from : (w q : ℕ) → w < n → Contains (pairs ++ (v, p) ∷ []) (w, q) → is_marked after (q * n + w) ≡ true
     from w q below met = elim (same_or_not (q * n + w) (p * n + v)) [
-      | inl same ↦ ap (λ (k : ℕ). get_or (set marks (p * n + v) true) k false) same ∙ here
+      | inl same ↦ ap (λ (k : ℕ). is_marked after k) same ∙ sets.set
       | inr differ ↦ elim (Contains-push_cases pairs (v, p) (w, q) met) [
         | inl before ↦ other w q differ ∙ (are.marked w q below).1 before
         | inr same ↦ absurd (differ (ap (λ (x : ℕ × ℕ). x.1 * n + x.0) (sym same)))
@@ -67,9 +69,10 @@ added n marks pairs v p are has unmarked = record {
     ]
 
 -- No pair was met where no mark is set.
-pub none_met : (n : ℕ) (marks : List Bool) → ((v p : ℕ) → v < n → get_or marks (p * n + v) false ≡ false) → AreMarked n marks []
-none_met n marks none = record {
-  within = All-nil (HasMark n (length marks));
+pub none_met : (n size : ℕ) (marks : List ℕ) → size ≤ length marks * 64 → ((v p : ℕ) → v < n → is_marked marks (p * n + v) ≡ false) → AreMarked n size marks []
+none_met n size marks room none = record {
+  room = room;
+  within = All-nil (HasMark n size);
   marked = λ v p below. ((λ marked. absurd (true_not_false (sym marked ∙ none v p below))), (λ (k, under, is). absurd (omega (arith, under))));
   different = λ i j d before under. absurd (omega (arith, under));
 }
@@ -77,29 +80,85 @@ none_met n marks none = record {
     true_not_false : true ≡ false → ⊥
     true_not_false e = cc
 
--- A mark that is taken away is gone, and no other.
-pub unset : (marks : List Bool) (i k : ℕ) → i < length marks → get_or (set marks i false) k false ≡ true → (get_or marks k false ≡ true) × (k ≢ i)
-unset marks i k below is = elim (same_or_not k i) [
-  | inl same ↦ absurd (true_not_false (sym is ∙ ap (λ (j : ℕ). get_or (set marks i false) j false) same ∙ get_or-set_same marks i false false below))
-  | inr differ ↦ (sym (get_or-set_other marks i k false false differ) ∙ is, differ)
-]
+-- In words of zeros no mark is set.
+pub zeros_unmarked : (many k : ℕ) → is_marked (replicate many 0) k ≡ false
+unfolding is_marked
+zeros_unmarked many k = ap (λ (n : ℕ). bit_at n (k % 64) == 1) (none many (k / 64)) ∙ ap (λ (n : ℕ). n == 1) (bit_at-zero (k % 64))
+  where
+    zeros : ℕ → List ℕ
+    zeros n = replicate n 0
+
+    none : (n i : ℕ) → get_or (zeros n) i 0 ≡ 0
+    none zero i = refl
+    none (suc n) zero = refl
+    none (suc n) (suc i) = none n i
+
+pub none_met_in_zeros : (n size many : ℕ) (marks : List ℕ) → marks ≡ replicate many 0 → size ≤ many * 64 → AreMarked n size marks []
+none_met_in_zeros n size many marks zeros room =
+    let long : length marks ≡ many = ap length zeros ∙ length-replicate many 0 in
+    none_met n size marks (omega (arith, long, room)) (λ v p below. ap (λ (ws : List ℕ). is_marked ws (p * n + v)) zeros ∙ zeros_unmarked many (p * n + v))
+
+-- A mark that is set in its word, and no other there.
+pub sets_mark : (words : List ℕ) (k : ℕ) → k < length words * 64 → SetsMark words (set words (k / 64) (bit_or (get_or words (k / 64) 0) (1 * 2 ^ (k % 64) % 2 ^ 64))) k
+unfolding is_marked
+sets_mark words k below = record { size = length-set words (k / 64) (bit_or (get_or words (k / 64) 0) (1 * 2 ^ (k % 64) % 2 ^ 64)); set = same; others = λ j differ. other j differ (same_or_not (j / 64) (k / 64)) }
+  where
+    there : k / 64 < length words
+    there = omega (arith, below)
+
+    small : k % 64 < 64
+    small = omega arith
+
+    here : get_or (set words (k / 64) (bit_or (get_or words (k / 64) 0) (1 * 2 ^ (k % 64) % 2 ^ 64))) (k / 64) 0 ≡ bit_or (get_or words (k / 64) 0) (1 * 2 ^ (k % 64) % 2 ^ 64)
+    here = get_or-set_same words (k / 64) (bit_or (get_or words (k / 64) 0) (1 * 2 ^ (k % 64) % 2 ^ 64)) 0 there
+
+    same : is_marked (set words (k / 64) (bit_or (get_or words (k / 64) 0) (1 * 2 ^ (k % 64) % 2 ^ 64))) k ≡ true
+    same = ap (λ (n : ℕ). bit_at n (k % 64) == 1) here ∙ ap (λ (n : ℕ). n == 1) (bit_at_set_same w64 (get_or words (k / 64) 0) (k % 64) small)
+
+    other : (j : ℕ) → j ≢ k → (j / 64 ≡ k / 64) ⊎ (j / 64 ≢ k / 64) → is_marked (set words (k / 64) (bit_or (get_or words (k / 64) 0) (1 * 2 ^ (k % 64) % 2 ^ 64))) j ≡ is_marked words j
+    other j differ (inl word) =
+        let bits : j % 64 ≢ k % 64 = λ e. differ (omega (arith, word, e)) in
+        ap (λ (i : ℕ). bit_at (get_or (set words (k / 64) (bit_or (get_or words (k / 64) 0) (1 * 2 ^ (k % 64) % 2 ^ 64))) i 0) (j % 64) == 1) word
+        ∙ ap (λ (n : ℕ). bit_at n (j % 64) == 1) here
+        ∙ ap (λ (n : ℕ). n == 1) (bit_at_set_other w64 (get_or words (k / 64) 0) (k % 64) small (j % 64) bits)
+        ∙ ap (λ (i : ℕ). bit_at (get_or words i 0) (j % 64) == 1) (sym word)
+    other j differ (inr words_differ) = ap (λ (n : ℕ). bit_at n (j % 64) == 1) (get_or-set_other words (k / 64) (j / 64) (bit_or (get_or words (k / 64) 0) (1 * 2 ^ (k % 64) % 2 ^ 64)) 0 words_differ)
+
+-- A word that is set to 0 has no mark, and the other words keep theirs.
+pub zeroed : (words : List ℕ) (i k : ℕ) → i < length words → (k / 64 ≡ i) ⊎ (k / 64 ≢ i) → is_marked (set words i 0) k ≡ true → is_marked words k ≡ true
+unfolding is_marked
+zeroed words i k below (inl word) is = absurd (false_not_true (sym (ap (λ (j : ℕ). bit_at (get_or (set words i 0) j 0) (k % 64) == 1) word ∙ ap (λ (n : ℕ). bit_at n (k % 64) == 1) (get_or-set_same words i 0 0 below) ∙ ap (λ (n : ℕ). n == 1) (bit_at-zero (k % 64))) ∙ is))
+  where
+    false_not_true : false ≡ true → ⊥
+    false_not_true e = cc
+zeroed words i k below (inr differ) is = ap (λ (n : ℕ). bit_at n (k % 64) == 1) (sym (get_or-set_other words i (k / 64) 0 0 differ)) ∙ is
+
+pub still_marked : (words : List ℕ) (i k : ℕ) → i < length words → is_marked (set words i 0) k ≡ true → is_marked words k ≡ true
+still_marked words i k below is = zeroed words i k below (same_or_not (k / 64) i) is
+
+pub still_unmarked : (words : List ℕ) (i k : ℕ) → i < length words → is_marked words k ≡ false → is_marked (set words i 0) k ≡ false
+still_unmarked words i k below is = by_case (is_marked (set words i 0) k) refl
   where
     true_not_false : true ≡ false → ⊥
     true_not_false e = cc
 
-pub stays_unset : (marks : List Bool) (i k : ℕ) → i < length marks → get_or marks k false ≡ false → get_or (set marks i false) k false ≡ false
-stays_unset marks i k below is = elim (same_or_not k i) [
-  | inl same ↦ ap (λ (j : ℕ). get_or (set marks i false) j false) same ∙ get_or-set_same marks i false false below
-  | inr differ ↦ get_or-set_other marks i k false false differ ∙ is
-]
+    by_case : (r : Bool) → is_marked (set words i 0) k ≡ r → is_marked (set words i 0) k ≡ false
+    by_case false e = e
+    by_case true e = absurd (true_not_false (sym (still_marked words i k below e) ∙ is))
+
+pub unmarked_here : (words : List ℕ) (k : ℕ) → k < length words * 64 → is_marked (set words (k / 64) 0) k ≡ false
+unfolding is_marked
+unmarked_here words k below =
+    let there : k / 64 < length words = omega (arith, below) in
+    ap (λ (n : ℕ). bit_at n (k % 64) == 1) (get_or-set_same words (k / 64) 0 0 there) ∙ ap (λ (n : ℕ). n == 1) (bit_at-zero (k % 64))
 
 -- Where the marks of the pairs are taken away and none is set, none is left.
-pub all_unmarked : (n : ℕ) (marks left : List Bool) (pairs : List (ℕ × ℕ)) → AreMarked n marks pairs → All (λ q. get_or left (q.1 * n + q.0) false ≡ false) pairs → ((k : ℕ) → get_or left k false ≡ true → get_or marks k false ≡ true) → AreMarked n left []
-all_unmarked n marks left pairs are gone kept = none_met n left (λ v p below. by_kind v p below (get_or left (p * n + v) false) refl)
+pub all_unmarked : (n size : ℕ) (marks left : List ℕ) (pairs : List (ℕ × ℕ)) → AreMarked n size marks pairs → length left ≡ length marks → All (λ q. is_marked left (q.1 * n + q.0) ≡ false) pairs → ((k : ℕ) → is_marked left k ≡ true → is_marked marks k ≡ true) → AreMarked n size left []
+all_unmarked n size marks left pairs are same_size gone kept = none_met n size left (omega (arith, are.room, same_size)) (λ v p below. by_kind v p below (is_marked left (p * n + v)) refl)
   where
-    by_kind : (v p : ℕ) → v < n → (r : Bool) → get_or left (p * n + v) false ≡ r → get_or left (p * n + v) false ≡ false
+    by_kind : (v p : ℕ) → v < n → (r : Bool) → is_marked left (p * n + v) ≡ r → is_marked left (p * n + v) ≡ false
     by_kind v p below false e = e
-    by_kind v p below true e = All-contains (λ q. get_or left (q.1 * n + q.0) false ≡ false) pairs (v, p) gone ((are.marked v p below).0 (kept (p * n + v) e))
+    by_kind v p below true e = All-contains (λ q. is_marked left (q.1 * n + q.0) ≡ false) pairs (v, p) gone ((are.marked v p below).0 (kept (p * n + v) e))
 
 -- A pair stands for the first time where it was met.
 pub met_once : (pairs : List (ℕ × ℕ)) (k : ℕ) (q : ℕ × ℕ) → AllPairs (λ a b. a ≢ b) pairs → k < length pairs → get_or pairs k q ≡ q → ¬ Contains (take k pairs) q
@@ -142,3 +201,13 @@ mark_position n marks last v p size has =
     let row : (p * n + v) / n < last + 1 = grind (arith, rows) in
     let is = div-mul-add p n v vertex in
     omega (arith, row, is)
+
+-- All marks are gone where the words are zeros.
+pub all_gone : (n many : ℕ) (words : List ℕ) (pairs : List (ℕ × ℕ)) → words ≡ replicate many 0 → All (λ q. is_marked words (q.1 * n + q.0) ≡ false) pairs
+all_gone n many words pairs zeros = λ k d below. ap (λ (ws : List ℕ). is_marked ws ((get_or pairs k d).1 * n + (get_or pairs k d).0)) zeros ∙ zeros_unmarked many ((get_or pairs k d).1 * n + (get_or pairs k d).0)
+
+pub none_marked : (many k : ℕ) (words : List ℕ) (P : Type 0) → words ≡ replicate many 0 → is_marked words k ≡ true → P
+none_marked many k words P zeros is = absurd (true_not_false (sym is ∙ ap (λ (ws : List ℕ). is_marked ws k) zeros ∙ zeros_unmarked many k))
+  where
+    true_not_false : true ≡ false → ⊥
+    true_not_false e = cc

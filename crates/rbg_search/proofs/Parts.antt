@@ -159,7 +159,7 @@ module _ (game : AbstractGame) (s : AbstractState) (f : Start) where
 
   -- When each pair is done, the part is whole.
   module _ (numbered : IsNumbered game.rules) (xs found : List (ℕ × ℕ)) (ends : Bool) (part : IsPart game s f xs xs found ends) where
-    all_met : (v p : ℕ) → Reached game s f v p → Contains xs (v, p)
+    pub all_met : (v p : ℕ) → Reached game s f v p → Contains xs (v, p)
     all_met v p (first same follows) = subst (λ (w : ℕ). Contains xs (w, p)) (sym same) (part.begun p follows)
     all_met v p (then {v = w} {q = q} here leads follows) = part.closed w q v p (all_met w q here) leads follows
 

@@ -4,4 +4,5 @@ pub mod Start
 pub mod Searching
 pub mod Counting
 pub mod Passing
+pub mod Forced
 pub mod internal

@@ -7,3 +7,5 @@ pub mod Nesting
 pub mod Behind
 pub mod Asked
 pub mod Begun
+pub mod Taking
+pub mod Spent

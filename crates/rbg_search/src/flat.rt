@@ -1,11 +1,10 @@
 //! One flat part: the pairs that are reached without a modifier, the modifiers found among them, and whether a word may
 //! end.
-ghost use Rattle.std.specs.Prelude.{◌≡◌, ℕ, ◌<◌, ◌≤◌, ◌+◌, ◌↔◌, [], ◌∷◌, ◌++◌, length, take, slice_get, Contains, Some, IfOk, IfSome, IfNone, OnOk, IsTrue};
+ghost use Rattle.std.specs.Prelude.{◌≡◌, ℕ, ◌<◌, ◌≤◌, ◌+◌, ◌-◌, ◌↔◌, [], ◌∷◌, ◌++◌, length, take, slice_get, Contains, Some, IfOk, IfSome, IfNone, OnOk, IsTrue};
 ghost use Rattle.rbg_rules.specs.State.{AbstractState, IsStateOf};
-ghost use Rattle.rbg_rules.specs.Positions.{IsModifierAt, IsPatternAt};
+ghost use Rattle.rbg_rules.specs.Positions.{IsPatternAt};
 ghost use Rattle.rbg_rules.specs.Words.{Start};
 ghost use Rattle.rbg_rules.specs.Games.{IsGame};
-ghost use Rattle.rbg_search.specs.internal.Shown.{shows_modifier};
 ghost use Rattle.rbg_search.specs.Flat.{IsFlatPart};
 ghost use Rattle.rbg_search.specs.internal.Part.{IsOutcome, IsPart, HasMarksOf};
 ghost use Rattle.rbg_search.specs.Start.{start_of, IsPositionOf};
@@ -16,8 +15,8 @@ use crate::outcome::Outcome;
 use crate::queue::Queue;
 use rbg_auto::Steps;
 use rbg_base::{Memory, Position, Vertex};
-use rbg_rules::{Action, Game};
-use rbg_state::{Applied, SemiState};
+use rbg_rules::Game;
+use rbg_state::{SemiState, Trial};
 use std::alloc::Global;
 
 /// A flat part that is being found.
@@ -45,6 +44,14 @@ impl Flat {
         })
     }
 
+    /// Whether there are marks for the game.
+    pub(crate) fn is_for(&self, game: &Game) -> bool
+        ensures { IsTrue result → HasMarksOf game.now self.now.queue }
+    {
+        self.queue
+            .is_for(game.positions() as Position, game.board().len())
+    }
+
     /// Begins anew, at a vertex: meets the positions that may come first.
     pub(crate) fn begin<S: Steps>(
         &mut self,
@@ -59,6 +66,7 @@ impl Flat {
             → IsPart rules.now s (start_of origin) self.new.queue.pairs (take self.new.taken self.new.queue.pairs)
             self.new.found.items self.new.ends) }
         ensures taken { OnOk result (self.new.taken ≤ length self.new.queue.pairs) }
+        ensures none_taken { OnOk result (self.new.taken ≡ 0) }
         ensures lawful { IsGame rules.now }
     {
         self.queue.clear();
@@ -69,7 +77,15 @@ impl Flat {
         Ok(())
     }
 
+    /// How many pairs were taken.
+    pub(crate) fn pairs(&self) -> usize
+        ensures few { result ≤ self.now.queue.marks - self.now.queue.vertices }
+    {
+        self.taken.min(self.queue.len())
+    }
+
     /// Takes the next pair, of which this became.
+    #[inline(always)]
     pub(crate) fn take<S: Steps>(
         &mut self,
         rules: &GameSteps<'_, S>,
@@ -111,25 +127,26 @@ impl Flat {
     pub(crate) fn advance<S: Steps>(
         &mut self,
         rules: &GameSteps<'_, S>,
-        state: &mut SemiState,
+        state: &SemiState,
     ) -> Result<Option<(Vertex, Position)>, Memory>
         requires lawful { IsGame rules.now }
         requires marks { HasMarksOf rules.now self.old.queue }
-        requires fits { IsStateOf rules.now state.old.state }
-        requires room { 2 ≤ state.old.room }
+        requires fits { IsStateOf rules.now state.now.state }
         requires within { self.old.taken ≤ length self.old.queue.pairs }
         ensures marks { HasMarksOf rules.now self.new.queue }
-        ensures given_back { state.new ≡ state.old }
         ensures part { OnOk result ((f : Start)
-            → IsPart rules.now state.old.state f self.old.queue.pairs (take self.old.taken self.old.queue.pairs)
+            → IsPart rules.now state.now.state f self.old.queue.pairs (take self.old.taken self.old.queue.pairs)
             self.old.found.items self.old.ends
-            → IsPart rules.now state.old.state f self.new.queue.pairs (take self.new.taken self.new.queue.pairs)
+            → IsPart rules.now state.now.state f self.new.queue.pairs (take self.new.taken self.new.queue.pairs)
             self.new.found.items self.new.ends) }
         ensures within { OnOk result (self.new.taken ≤ length self.new.queue.pairs) }
         ensures further { OnOk result (self.old.taken ≤ self.new.taken) }
         ensures still_done { OnOk result ((x : ℕ × ℕ)
             → Contains (take self.old.taken self.old.queue.pairs) x
             → Contains (take self.new.taken self.new.queue.pairs) x) }
+        ensures quiet { OnOk result ((v p : ℕ)
+            → Contains (take self.new.taken self.new.queue.pairs) (v, p) → IsPatternAt rules.now.rules p
+            → Contains (take self.old.taken self.old.queue.pairs) (v, p)) }
         ensures asked { IfOk result (λ next. IfSome next (λ pair.
             (slice_get self.new.queue.pairs self.new.taken ≡ Some pair)
             × (pair.0 < length rules.now.board.first)
@@ -138,9 +155,9 @@ impl Flat {
             ¬ Contains (take self.new.taken self.new.queue.pairs) pair)) }
         ensures done { IfOk result (λ next. IfNone next (self.new.taken ≡ length self.new.queue.pairs)) }
         ensures whole { IfOk result (λ next. IfNone next ((f : Start)
-            → IsPart rules.now state.old.state f self.old.queue.pairs (take self.old.taken self.old.queue.pairs)
+            → IsPart rules.now state.now.state f self.old.queue.pairs (take self.old.taken self.old.queue.pairs)
             self.old.found.items self.old.ends
-            → IsFlatPart rules.now state.old.state f self.new.found.items self.new.ends)) }
+            → IsFlatPart rules.now state.now.state f self.new.found.items self.new.ends)) }
     {
         while self.taken < self.queue.len() {
             let (vertex, position) = self.queue.pair(self.taken);
@@ -154,49 +171,19 @@ impl Flat {
     }
 }
 
-/// Tries an action that is no pattern at a vertex, and takes it back.
-fn tried(game: &Game, state: &mut SemiState, vertex: Vertex, position: Position) -> Outcome
+/// What becomes of an action that is no pattern where it is tried at a vertex. Nothing changes.
+fn tried(game: &Game, state: &SemiState, vertex: Vertex, position: Position) -> Outcome
     requires lawful { IsGame game.now }
-    requires fits { IsStateOf game.now state.old.state }
+    requires fits { IsStateOf game.now state.now.state }
     requires there { vertex < length game.now.board.first }
     requires position { IsPositionOf game.now.rules position }
     requires no_pattern { ¬ IsPatternAt game.now.rules position }
-    requires room { 2 ≤ state.old.room }
-    ensures outcome { IsOutcome game.now state.old.state vertex position result }
+    ensures outcome { IsOutcome game.now state.now.state vertex position result }
     ensures there { (u : ℕ) → result ≡ Outcome.LeadsTo u → u < length game.now.board.first }
-    ensures given_back { state.new ≡ state.old }
 {
-    let mark = state.mark();
-    state.stand_at(vertex);
-    let applied = state.apply(game, position);
-    let to = state.vertex();
-    state.undo_to(mark);
-    match applied {
-        Applied::Invalid => Outcome::Invalid,
-        Applied::Valid if modifies(game, position) => Outcome::Modifies,
-        Applied::Valid => Outcome::LeadsTo(to),
-    }
-}
-
-/// Whether a modifier stands at a position.
-fn modifies(game: &Game, position: Position) -> bool
-    requires lawful { IsGame game.now }
-    requires position { IsPositionOf game.now.rules position }
-    ensures { IsTrue result ↔ IsModifierAt game.now.rules position }
-{
-    is_modifier(game.action(position))
-}
-
-/// Whether the action is a modifier.
-fn is_modifier(action: &Action) -> bool
-    ensures { result ≡ shows_modifier action.now }
-{
-    match action {
-        Action::Off { .. } | Action::Assign { .. } | Action::Switch { .. } => true,
-        Action::Shift { .. }
-        | Action::On { .. }
-        | Action::Compare { .. }
-        | Action::Positive
-        | Action::Negative => false,
+    match state.try_at(game, vertex, position) {
+        Trial::Invalid => Outcome::Invalid,
+        Trial::Modifies => Outcome::Modifies,
+        Trial::LeadsTo(to) => Outcome::LeadsTo(to),
     }
 }

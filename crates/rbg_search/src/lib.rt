@@ -12,4 +12,4 @@ mod search;
 pub use origin::Origin;
 pub use over::Over;
 pub use rbg_base::Memory;
-pub use search::{Budget, Reached, Search};
+pub use search::{Budget, Reached, Search, Workspace};

@@ -1,6 +1,6 @@
 //! The pairs of a vertex and a position that a flat part meets, each once, in the order in which they are met.
-ghost use Rattle.std.specs.Prelude.{◌≡◌, ℕ, ◌<◌, ◌≤◌, ◌+◌, ◌*◌, ◌^◌, [], length, slice_get, slice_index_or, Some, take, All, Contains, true, false, OnOk, OnErr, IfOk};
-ghost use Rattle.rbg_search.specs.internal.Meeting.{HasMark, Adds, MeetsAll};
+ghost use Rattle.std.specs.Prelude.{◌≡◌, ℕ, ◌<◌, ◌≤◌, ◌+◌, ◌-◌, ◌*◌, ◌/◌, ◌^◌, [], length, slice_get, Some, take, All, Contains, true, false, OnOk, OnErr, IfOk, IsTrue};
+ghost use Rattle.rbg_search.specs.internal.Meeting.{HasMark, Adds, MeetsAll, is_marked};
 
 use rbg_base::{Memory, Position, Vertex};
 use std::alloc::Global;
@@ -10,8 +10,10 @@ use std::marker::Model;
 #[derive(Debug, Drop)]
 pub(crate) struct Queue {
     vertices: usize,
-    /// Whether each pair was met: for each position a mark for each vertex.
-    marks: Vec<bool>,
+    /// How many marks there are: one for each vertex, for each position.
+    marks: usize,
+    /// The marks as a row of bits: whether each pair was met.
+    words: Vec<u64>,
     pairs: Vec<(Vertex, Position)>,
 }
 
@@ -20,13 +22,11 @@ impl Model for Queue {
 
     ghost Value = { Met };
 
-    ghost use Rattle.std.specs.Prelude.{length};
-
-    ghost view = { λ q. record { vertices = q.vertices; marks = length q.marks.items; pairs = q.pairs.items } };
+    ghost view = { λ q. record { vertices = q.vertices; marks = q.marks; pairs = q.pairs.items } };
 
     ghost use Rattle.rbg_search.specs.internal.Meeting.{AreMarked};
 
-    ghost invariant = { λ q. AreMarked q.vertices q.marks.items q.pairs.items };
+    ghost invariant = { λ q. AreMarked q.vertices q.marks q.words.items q.pairs.items };
 }
 
 impl Queue {
@@ -37,16 +37,28 @@ impl Queue {
         ensures marks { IfOk result (λ queue. queue.marks ≡ (last + 1) * vertices) }
         ensures pairs { IfOk result (λ queue. queue.pairs ≡ []) }
     {
+        let marks = (last as usize + 1) * vertices;
         Ok(Queue {
             vertices,
-            marks: vec![in alloc; false; (last as usize + 1) * vertices]?,
+            marks,
+            words: vec![in alloc; 0; marks / 64 + 1]?,
             pairs: Vec::new(alloc),
         })
     }
 
+    /// Whether the marks are for the positions from 0 to this one, at vertices below this one.
+    pub(crate) fn is_for(&self, last: Position, vertices: usize) -> bool
+        requires { vertices ≤ 2 ^ 16 }
+        ensures vertices { IsTrue result → self.now.vertices ≡ vertices }
+        ensures marks { IsTrue result → self.now.marks ≡ (last + 1) * vertices }
+    {
+        self.vertices == vertices && self.marks == (last as usize + 1) * vertices
+    }
+
     /// How many pairs were met.
     pub(crate) fn len(&self) -> usize
-        ensures { result ≡ length self.now.pairs }
+        ensures count { result ≡ length self.now.pairs }
+        ensures few { result ≤ self.now.marks - self.now.vertices }
     {
         self.pairs.len()
     }
@@ -70,9 +82,9 @@ impl Queue {
         ensures refused { OnErr result (self.new ≡ self.old) }
     {
         let mark = position as usize * self.vertices + vertex as usize;
-        if !self.marks[mark] {
+        if !is_marked(&self.words, mark) {
             self.pairs.push((vertex, position))?;
-            self.marks[mark] = true;
+            self.words[mark / 64] |= 1 << (mark % 64);
         }
         Ok(())
     }
@@ -93,19 +105,33 @@ impl Queue {
     pub(crate) fn clear(&mut self)
         ensures { self.new ≡ record self.old { pairs = [] } }
     {
-        unmark(&mut self.marks, &self.pairs, self.vertices);
+        unmark(&mut self.words, &self.pairs, self.vertices);
         self.pairs.clear();
     }
 }
 
-/// Takes the marks of the pairs away.
-fn unmark(marks: &mut [bool], pairs: &[(Vertex, Position)], vertices: usize)
-    requires { All (HasMark vertices (length marks.old)) pairs.now }
-    ensures size { length marks.new ≡ length marks.old }
-    ensures gone { All (λ q. slice_index_or marks.new (q.1 * vertices + q.0) false ≡ false) pairs.now }
-    ensures none_set { (k : ℕ) → slice_index_or marks.new k false ≡ true → slice_index_or marks.old k false ≡ true }
+/// Whether a mark is set.
+fn is_marked(words: &[u64], mark: usize) -> bool
+    requires { mark < length words.now * 64 }
+    ensures { result ≡ is_marked words.now mark }
 {
+    words[mark / 64] >> (mark % 64) & 1 == 1
+}
+
+/// Takes the marks of the pairs away, and maybe others.
+fn unmark(words: &mut [u64], pairs: &[(Vertex, Position)], vertices: usize)
+    requires small { All (λ q. q.1 * vertices + q.0 < 2 ^ 64) pairs.now }
+    requires there { All (λ q. (q.1 * vertices + q.0) / 64 < length words.old) pairs.now }
+    ensures size { length words.new ≡ length words.old }
+    ensures gone { All (λ q. is_marked words.new (q.1 * vertices + q.0) ≡ false) pairs.now }
+    ensures none_set { (k : ℕ) → is_marked words.new k ≡ true → is_marked words.old k ≡ true }
+{
+    if words.len() <= pairs.len() {
+        words.fill(0);
+        return;
+    }
     for (vertex, position) in pairs {
-        marks[*position as usize * vertices + *vertex as usize] = false;
+        let mark = *position as usize * vertices + *vertex as usize;
+        words[mark / 64] = 0;
     }
 }

@@ -1,21 +1,23 @@
 //! A search in a game: what is reached without a modifier, and whether patterns hold, on one budget.
 ghost use Rattle.std.specs.List.Sorted.{IsPermutation};
-ghost use Rattle.std.specs.Prelude.{◌≡◌, ◌≢◌, ℕ, ◌+◌, ◌^◌, ◌<◌, ◌≤◌, ◌↔◌, suc, length, slice_get, Some, All, AllPairs, IfOk, OnOk, IfSome, IfNone, IsTrue, [], ◌∷◌, ◌++◌, take, Contains, OnErr, IfErr, Err};
+ghost use Rattle.std.specs.Prelude.{◌≡◌, ◌≢◌, ℕ, ◌+◌, ◌-◌, ◌*◌, ◌^◌, ◌<◌, ◌≤◌, ◌↔◌, suc, length, slice_get, Some, All, AllPairs, IfOk, OnOk, IfSome, IfNone, IsTrue, [], ◌∷◌, ◌++◌, take, Contains, OnErr, IfErr, Err, Bool};
 ghost use Rattle.rbg_rules.specs.State.{AbstractGame, AbstractState, IsStateOf};
-ghost use Rattle.rbg_rules.specs.Positions.{IsNumbered, IsModifierAt, IsPatternAt, inside};
+ghost use Rattle.rbg_rules.specs.Positions.{positions_of, IsNumbered, IsModifierAt, IsPatternAt, inside};
 ghost use Rattle.rbg_rules.specs.Words.{Start, beginning, after};
 ghost use Rattle.rbg_rules.specs.Actions.{Applies};
 ghost use Rattle.rbg_rules.specs.Questions.{SomeWordRuns, reach, pattern, IsDeep};
 ghost use Rattle.rbg_rules.specs.Games.{IsGame};
 ghost use Rattle.rbg_rules.specs.Laws.{IsStart};
 ghost use Rattle.rbg_search.specs.Counting.{CountsOpenings, IsOverBudget};
+ghost use Rattle.rbg_search.specs.Forced.{CountsForced, CountsAllForced, IsNotForcedDeep};
+ghost use Rattle.rbg_search.specs.internal.Taking.{RanBehind};
 ghost use Rattle.rbg_search.specs.internal.Asked.{StandsInPattern, GoesBehind, IsCounted};
 ghost use Rattle.rbg_search.specs.Flat.{IsFlatPart, IsBefore};
 ghost use Rattle.rbg_search.specs.Start.{start_of, IsPositionOf};
 ghost use Rattle.rbg_state.specs.History.{capacity_of, IsAfter};
 ghost use Rattle.rbg_search.specs.internal.Begun.{IsBegun};
 ghost use Rattle.rbg_search.specs.internal.Behind.{IsReady, RunsBehindPair, SomeRunsBehind};
-ghost use Rattle.rbg_search.specs.internal.Closure.{at_vertex};
+ghost use Rattle.rbg_search.specs.internal.Closure.{at_vertex, Reached as Meets};
 ghost use Rattle.rbg_search.specs.internal.Nesting.{NestsFrom};
 ghost use Rattle.rbg_search.specs.internal.Part.{IsOutcome, HasMarksOf};
 ghost use Rattle.rbg_search.specs.internal.Shown.{shows_negative};
@@ -38,7 +40,7 @@ use std::mem::replace;
 pub struct Budget {
     /// The most openings that are taken up.
     pub openings: u32,
-    /// An opening with this many modifiers in a row is too deep.
+    /// An opening with this many modifiers in a row is too deep. 0 is taken as 1.
     pub modifiers: u16,
 }
 
@@ -51,6 +53,39 @@ pub struct Reached {
     pub ends: bool,
 }
 
+/// What searches leave to later ones: their buffers, and what they took up in all.
+#[derive(Debug, Drop)]
+pub struct Workspace {
+    /// Flat parts that are not in use.
+    flats: Vec<Flat>,
+    /// Lists of modifiers that are not in use.
+    lists: Vec<Vec<(Vertex, Position)>>,
+    openings: u64,
+    pairs: u64,
+}
+
+impl Workspace {
+    /// A workspace that no search has used.
+    pub fn new(alloc: Global) -> Workspace {
+        Workspace {
+            flats: Vec::new(alloc),
+            lists: Vec::new(alloc),
+            openings: 0,
+            pairs: 0,
+        }
+    }
+
+    /// How many openings the searches took up.
+    pub fn openings(&self) -> u64 {
+        self.openings
+    }
+
+    /// How many pairs the searches took.
+    pub fn pairs(&self) -> u64 {
+        self.pairs
+    }
+}
+
 /// A search in a game: it counts the openings that it takes up, and keeps its buffers for further use.
 #[derive(Drop)]
 pub struct Search<'a, S: Steps> {
@@ -58,6 +93,9 @@ pub struct Search<'a, S: Steps> {
     rules: GameSteps<'a, S>,
     budget: Budget,
     opened: u32,
+    /// How many flat parts were found whole, and how many pairs they took.
+    finished: u32,
+    taken: u64,
     /// Flat parts that are not in use.
     flats: Vec<Flat>,
     /// Lists of modifiers that are not in use.
@@ -80,9 +118,11 @@ impl<'a, S: Steps> Model for Search<'a, S> {
 
     ghost use Rattle.std.specs.Prelude.{All, ◌≤◌};
     ghost use Rattle.rbg_search.specs.internal.Part.{HasMarksOf};
+    ghost use Rattle.rbg_search.specs.internal.Spent.{IsSpent};
 
     ghost invariant = { λ s.
-        All (λ flat. HasMarksOf s.rules flat.queue) s.flats.items × (s.opened ≤ s.budget.openings) };
+        All (λ flat. HasMarksOf s.rules flat.queue) s.flats.items × (s.opened ≤ s.budget.openings)
+        × IsSpent s.rules s.opened s.finished s.taken };
 }
 
 impl<'a, S: Steps> Search<'a, S> {
@@ -100,9 +140,40 @@ impl<'a, S: Steps> Search<'a, S> {
             rules: GameSteps::new(game, steps),
             budget,
             opened: 0,
+            finished: 0,
+            taken: 0,
             flats: Vec::new(alloc),
             lists: Vec::new(alloc),
         }
+    }
+
+    /// A search that has taken up no opening, with the buffers of a workspace.
+    pub fn with_workspace(
+        alloc: Global,
+        game: &'a Game,
+        steps: &'a S,
+        budget: Budget,
+        workspace: &mut Workspace,
+    ) -> Search<'a, S>
+        requires { S.of_rules steps.now game.now.rules }
+        ensures game { result.game ≡ game.now }
+        ensures openings { result.openings ≡ budget.openings }
+        ensures modifiers { result.modifiers ≡ budget.modifiers }
+        ensures opened { result.opened ≡ 0 }
+    {
+        let mut search = Search::new(alloc, game, steps, budget);
+        let flats = replace(&mut workspace.flats, Vec::new(alloc));
+        search.flats = fitting(alloc, game, flats);
+        search.lists = replace(&mut workspace.lists, Vec::new(alloc));
+        search
+    }
+
+    /// Ends the search. A workspace gets its buffers, and counts what it took up.
+    pub fn leave(self, workspace: &mut Workspace) {
+        workspace.openings = workspace.openings.saturating_add(u64::from(self.opened));
+        workspace.pairs = workspace.pairs.saturating_add(self.taken);
+        workspace.flats = self.flats;
+        workspace.lists = self.lists;
     }
 
     /// The game that is searched.
@@ -119,6 +190,15 @@ impl<'a, S: Steps> Search<'a, S> {
         ensures within { self.now.opened ≤ self.now.openings }
     {
         self.opened
+    }
+
+    /// How many pairs of a position and a vertex were taken from the queues of the flat parts that were found whole,
+    /// those of patterns among them. Modifiers count too.
+    pub fn taken(&self) -> u64
+        ensures { result ≤ self.now.opened * (length (positions_of self.now.game.rules)
+            * length self.now.game.board.first) }
+    {
+        self.taken
     }
 
     /// What is reached from a semi-state and a place in the rules with no modifier before it, in order of vertices and
@@ -142,6 +222,14 @@ impl<'a, S: Steps> Search<'a, S> {
             → IsDeep self.old.game reach state.old.state (start_of origin) self.old.modifiers }
         ensures wide { result ≡ Err Over.Wide
             → IsOverBudget self.old.game reach state.old.state (start_of origin) self.old.opened self.old.openings }
+        ensures forced { OnOk result ((cut : Bool) (left : ℕ)
+            → CountsForced self.old.game cut reach state.old.state (start_of origin)
+            self.old.opened self.new.opened left self.old.modifiers) }
+        ensures all_forced { OnOk result ((cut : Bool)
+            → CountsAllForced self.old.game cut reach state.old.state (start_of origin)
+            self.old.opened self.new.opened) }
+        ensures not_deep { OnOk result ((cut : Bool)
+            → IsNotForcedDeep self.old.game cut reach state.old.state (start_of origin) self.old.modifiers) }
     {
         let nested = self.rules.nesting();
         let mut reached = self.flat_part(state, origin, nested)?;
@@ -165,6 +253,12 @@ impl<'a, S: Steps> Search<'a, S> {
         ensures wide { result ≡ Err Over.Wide
             → IsOverBudget self.old.game pattern state.old.state (beginning (inside position))
             self.old.opened self.old.openings }
+        ensures all_forced { OnOk result ((cut : Bool)
+            → CountsAllForced self.old.game cut pattern state.old.state (beginning (inside position))
+            self.old.opened self.new.opened) }
+        ensures not_deep { OnOk result ((cut : Bool)
+            → IsNotForcedDeep self.old.game cut pattern state.old.state (beginning (inside position))
+            self.old.modifiers) }
     {
         state.reserve(1)?;
         let nested = self.rules.nesting() + 1;
@@ -211,6 +305,17 @@ impl<'a, S: Steps> Search<'a, S> {
         }
     }
 
+    /// Counts the pairs of a flat part that is found whole. Each of these was opened.
+    fn count_pairs(&mut self, flat: &Flat)
+        requires { HasMarksOf self.old.game flat.now.queue }
+        ensures kept { self.new ≡ self.old }
+    {
+        if self.finished < self.opened {
+            self.finished += 1;
+            self.taken = self.taken.saturating_add(flat.pairs() as u64);
+        }
+    }
+
     /// Hands out what a flat part found, and keeps the rest for further use.
     fn finish(&mut self, flat: Flat) -> Result<Reached, Over>
         requires { HasMarksOf self.old.game flat.queue }
@@ -226,6 +331,7 @@ impl<'a, S: Steps> Search<'a, S> {
         };
         let pairs = replace(&mut flat.found, list);
         let ends = flat.ends;
+        self.count_pairs(&flat);
         self.flats.push(flat)?;
         Ok(Reached { pairs, ends })
     }
@@ -254,6 +360,7 @@ impl<'a, S: Steps> Search<'a, S> {
         ensures kept { self.new ≡ self.old }
         ensures begun { IfOk result (λ flat. (s : AbstractState) → s.vertex ≡ vertex
             → IsBegun self.old.game s (start_of origin) flat) }
+        ensures none_taken { IfOk result (λ flat. flat.taken ≡ 0) }
         ensures lawful { IfOk result (λ _. IsGame self.old.game) }
         ensures memory { IfErr result (λ over. over ≡ Over.Memory) }
     {
@@ -287,6 +394,13 @@ impl<'a, S: Steps> Search<'a, S> {
         ensures still_done { OnOk result ((x : ℕ × ℕ)
             → Contains (take flat.old.taken flat.old.queue.pairs) x
             → Contains (take flat.new.taken flat.new.queue.pairs) x) }
+        ensures quiet { OnOk result ((v p : ℕ)
+            → Contains (take flat.new.taken flat.new.queue.pairs) (v, p) → IsPatternAt self.now.game.rules p
+            → Contains (take flat.old.taken flat.old.queue.pairs) (v, p)) }
+        ensures met { IfOk result (λ next. IfNone next ((f : Start)
+            → IsBegun self.now.game state.old.state f flat.old → (v p : ℕ)
+            → Meets self.now.game state.old.state f v p
+            → Contains (take flat.new.taken flat.new.queue.pairs) (v, p))) }
         ensures fresh { IfOk result (λ next. IfSome next (λ pair.
             ¬ Contains (take flat.new.taken flat.new.queue.pairs) pair)) }
     {
@@ -371,6 +485,9 @@ impl<'a, S: Steps> Search<'a, S> {
         ensures counts { IsCounted self.old.game reach state.old.state (start_of origin)
             self.old.opened self.new.opened self.old.modifiers self.old.openings self.old.modifiers
             (result ≡ Err Over.Deep) (result ≡ Err Over.Wide) }
+        ensures forced { OnOk result ((cut : Bool) (left : ℕ)
+            → CountsForced self.old.game cut reach state.old.state (start_of origin)
+            self.old.opened self.new.opened left self.old.modifiers) }
     {
         self.enter(state)?;
         let mut flat = self.begun(origin, state.vertex())?;
@@ -406,6 +523,9 @@ impl<'a, S: Steps> Search<'a, S> {
             (at_vertex state.old.state vertex) (beginning (inside position))
             self.old.opened self.new.opened self.old.modifiers self.old.openings self.old.modifiers
             (result ≡ Err Over.Deep) (result ≡ Err Over.Wide) }
+        ensures forced { OnOk result ((cut : Bool) → CountsForced self.old.game cut pattern
+            (at_vertex state.old.state vertex) (beginning (inside position))
+            self.old.opened self.new.opened self.old.modifiers self.old.modifiers) }
     {
         let modifiers = self.budget.modifiers;
         let mark = state.mark();
@@ -436,6 +556,9 @@ impl<'a, S: Steps> Search<'a, S> {
         ensures counts { IsCounted self.old.game pattern state.old.state (start_of origin)
             self.old.opened self.new.opened modifiers self.old.openings self.old.modifiers
             (result ≡ Err Over.Deep) (result ≡ Err Over.Wide) }
+        ensures forced { OnOk result ((cut : Bool)
+            → CountsForced self.old.game cut pattern state.old.state (start_of origin)
+            self.old.opened self.new.opened modifiers self.old.modifiers) }
     {
         let reached = self.flat_part(state, origin, nested)?;
         if reached.ends {
@@ -470,6 +593,8 @@ impl<'a, S: Steps> Search<'a, S> {
             → IsCounted self.old.game pattern state.old.state f
             a self.new.opened modifiers self.old.openings self.old.modifiers
             (result ≡ Err Over.Deep) (result ≡ Err Over.Wide) }
+        ensures forced { IfOk result (λ runs. RanBehind self.old.game state.old.state pairs.now runs
+            self.old.opened self.new.opened modifiers self.old.modifiers) }
     {
         for (vertex, position) in pairs {
             if modifiers <= 1 {
@@ -508,6 +633,10 @@ impl<'a, S: Steps> Search<'a, S> {
             → IsCounted self.old.game pattern later (after position)
             self.old.opened self.new.opened left self.old.openings self.old.modifiers
             (result ≡ Err Over.Deep) (result ≡ Err Over.Wide) }
+        ensures forced { OnOk result ((cut : Bool) (later : AbstractState)
+            → Applies self.old.game position (at_vertex state.old.state vertex) later
+            → CountsForced self.old.game cut pattern later (after position)
+            self.old.opened self.new.opened (modifiers - 1) self.old.modifiers) }
     {
         let mark = state.mark();
         self.apply_at(state, vertex, position);
@@ -515,6 +644,29 @@ impl<'a, S: Steps> Search<'a, S> {
         state.undo_to(mark);
         Ok(runs?)
     }
+}
+
+/// The flat parts, if each has marks for the game; else none.
+fn fitting(alloc: Global, game: &Game, flats: Vec<Flat>) -> Vec<Flat>
+    ensures { All (λ flat. HasMarksOf game.now flat.queue) result.items }
+{
+    if are_for(game, &flats) {
+        flats
+    } else {
+        Vec::new(alloc)
+    }
+}
+
+/// Whether each flat part has marks for the game.
+fn are_for(game: &Game, flats: &[Flat]) -> bool
+    ensures { IsTrue result → All (λ flat. HasMarksOf game.now flat.queue) flats.now }
+{
+    for flat in flats {
+        if !flat.is_for(game) {
+            return false;
+        }
+    }
+    true
 }
 
 /// Puts pairs in order: by vertex, then by position.

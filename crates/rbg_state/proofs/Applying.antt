@@ -20,12 +20,12 @@ use Rattle.rbg_state.specs.declared.state.actions.Applied.{Applied}
 use Rattle.rbg_state.specs.declared.state.actions.Applied.TheVariants.{Valid, Invalid}
 
 -- the action that an action of the program shows, where it is no pattern
-record ShownAction (rules : Expression) (p : ℕ) (i : Action) : Type 0 where
-  action : AbstractAction
-  stands : HasAction rules p action
-  shown : Shows action i
+pub record ShownAction (rules : Expression) (p : ℕ) (i : Action) : Type 0 where
+  pub action : AbstractAction
+  pub stands : HasAction rules p action
+  pub shown : Shows action i
 
-shown_action : (rules : Expression) (p : ℕ) (i : Action) → shows_pattern i ≡ false → Stands rules p i → ShownAction rules p i
+pub shown_action : (rules : Expression) (p : ℕ) (i : Action) → shows_pattern i ≡ false → Stands rules p i → ShownAction rules p i
 shown_action rules p (Shift d) plain stands = record { action = shift d; stands = stands; shown = refl }
 shown_action rules p (On pieces) plain stands = record { action = on pieces.items; stands = stands; shown = refl }
 shown_action rules p (Off x) plain stands = record { action = off x; stands = stands; shown = refl }

@@ -6,3 +6,4 @@ pub mod Fits
 pub mod Applying
 pub mod Reading
 pub mod Chains
+pub mod Trying

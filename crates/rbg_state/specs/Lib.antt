@@ -6,3 +6,4 @@ pub mod Equality
 pub mod Answer
 pub mod Reads
 pub mod Evaluation
+pub mod Trials

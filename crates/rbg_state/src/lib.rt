@@ -8,4 +8,4 @@ mod state;
 
 pub use change::Mark;
 pub use rbg_base::Memory;
-pub use state::{Applied, SemiState};
+pub use state::{Applied, SemiState, Trial};

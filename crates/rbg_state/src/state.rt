@@ -7,6 +7,7 @@ ghost use Rattle.rbg_state.specs.Changes.{set, IsChangeWithin};
 
 mod actions;
 mod arithmetic;
+mod trials;
 
 use crate::change::{Change, Mark};
 use crate::parts::Parts;
@@ -15,6 +16,7 @@ use rbg_base::{Memory, Piece, Player, Variable, Vertex};
 use rbg_rules::Game;
 use std::alloc::Global;
 use std::marker::Model;
+pub use trials::Trial;
 
 /// A semi-state of a game. Two of them are equal if they have the same player, vertex, pieces and
 /// values, whatever their changes are.

@@ -1,5 +1,6 @@
 -- Pairs of a vertex and a position that are met one after another, each once.
-use Rattle.std.specs.Prelude.{◌≡◌, ◌≢◌, ℕ, ◌+◌, ◌*◌, ◌<◌, ◌⊎◌, ◌↔◌, List, [], ◌∷◌, ◌++◌, length, All, AllPairs, Contains, Bool, true, false, slice_index_or}
+use Rattle.std.specs.Prelude.{◌≡◌, ◌≢◌, ℕ, ◌+◌, ◌*◌, ◌<◌, ◌≤◌, ◌⊎◌, ◌↔◌, List, [], ◌∷◌, ◌++◌, length, All, AllPairs, Contains, Bool, true, false, ◌/◌, ◌%◌, ◌==◌, slice_index}
+use Rattle.std.specs.Int.{bit_at}
 
 -- The pairs that were met, in order, and how many vertices and marks there are.
 pub record Met : Type 0 where
@@ -24,10 +25,21 @@ pub record MeetsAll (old new : List (ℕ × ℕ)) (v : ℕ) (positions : List �
   pub only : All (λ q. (q.0 ≡ v) × Contains positions q.1) more
   pub all : All (λ p. Contains new (v, p)) positions
 
--- Each pair is there once, and is marked: no other one is.
-pub record AreMarked (vertices : ℕ) (marks : List Bool) (pairs : List (ℕ × ℕ)) : Type 0 where
-  pub within : All (HasMark vertices (length marks)) pairs
+-- whether bit k is set in a row of bits, 64 in a word
+unfoldable pub is_marked : (words : List ℕ) → ℕ → Bool
+is_marked words k = bit_at (slice_index words (k / 64)) (k % 64) == 1
+
+-- Bit k is set, and the others stay as they are.
+pub record SetsMark (old new : List ℕ) (k : ℕ) : Type 0 where
+  pub size : length new ≡ length old
+  pub set : is_marked new k ≡ true
+  pub others : (j : ℕ) → j ≢ k → is_marked new j ≡ is_marked old j
+
+-- Each pair is there once, and is marked: no other one is. There are words for the marks.
+pub record AreMarked (vertices marks : ℕ) (words : List ℕ) (pairs : List (ℕ × ℕ)) : Type 0 where
+  pub room : marks ≤ length words * 64
+  pub within : All (HasMark vertices marks) pairs
   pub marked :
       (v p : ℕ) → v < vertices →
-      (slice_index_or marks (p * vertices + v) false ≡ true) ↔ Contains pairs (v, p)
+      (is_marked words (p * vertices + v) ≡ true) ↔ Contains pairs (v, p)
   pub different : AllPairs (λ a b. a ≢ b) pairs

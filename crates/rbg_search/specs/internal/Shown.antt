@@ -1,17 +1,7 @@
--- Which actions of the program are modifiers, and which are negative patterns.
+-- Which actions of the program are negative patterns.
 use Rattle.std.specs.Prelude.{Bool, true, false}
 use Rattle.rbg_rules.specs.declared.rule.Action.{Action}
 use Rattle.rbg_rules.specs.declared.rule.Action.TheVariants.{Shift, On, Off, Assign, Compare, Switch, Positive, Negative}
-
-abbrev pub shows_modifier : Action → Bool
-shows_modifier (Off x) = true
-shows_modifier (Assign v e) = true
-shows_modifier (Switch n) = true
-shows_modifier (Shift d) = false
-shows_modifier (On pieces) = false
-shows_modifier (Compare e r f) = false
-shows_modifier Positive = false
-shows_modifier Negative = false
 
 abbrev pub shows_negative : Action → Bool
 shows_negative Negative = true

@@ -1,10 +1,10 @@
 //! What the actions of a game do to a semi-state.
-ghost use Rattle.std.specs.Prelude.{◌≡◌, ℕ, ◌+◌, ◌<◌, ◌≤◌, ◌↔◌, false, length, slice_index, IsTrue};
+ghost use Rattle.std.specs.Prelude.{◌≡◌, ℕ, ◌+◌, ◌<◌, ◌≤◌, ◌↔◌, false, length, slice_index, pos, Some, IfSome, IfNone, IsTrue};
 ghost use Rattle.rbg_rules.specs.Expression.{AbstractAction, shift, on, off, assignment, comparison, switch};
 ghost use Rattle.rbg_rules.specs.State.{AbstractGame, AbstractState, IsStateOf};
 ghost use Rattle.rbg_rules.specs.Positions.{positions_of, IsPatternAt};
 ghost use Rattle.rbg_rules.specs.Actions.{Applies};
-ghost use Rattle.rbg_rules.specs.Values.{Relates};
+ghost use Rattle.rbg_rules.specs.Values.{value_of, Relates};
 ghost use Rattle.rbg_rules.specs.Games.{IsGame, IsActionOf};
 ghost use Rattle.rbg_rules.specs.Limits.{most_pieces};
 ghost use Rattle.rbg_rules.specs.Translation.{arithmetic_of, shows_pattern};
@@ -123,21 +123,35 @@ impl SemiState {
         ensures { (game : AbstractGame) → slice_index game.bounds variable ≡ bound
             → Answers game (assignment variable (arithmetic_of expression.now)) self.old self.new result }
     {
-        let Some(value) = self.evaluate(expression) else {
+        let Some(value) = self.assigned(expression, bound) else {
             return Applied::Invalid;
         };
-        if value < 0 || value > i64::from(bound) {
-            return Applied::Invalid;
-        }
-        self.change(Change::Value {
-            variable,
-            value: value as u32,
-        });
+        self.change(Change::Value { variable, value });
         Applied::Valid
     }
 
+    /// The value of an expression, if there is one and a variable with this bound may hold it.
+    pub(super) fn assigned(&self, expression: &Arithmetic, bound: u32) -> Option<u32>
+        requires { ReadsBelow (length self.now.state.values) (arithmetic_of expression.now) }
+        ensures some { IfSome result (λ n. (value_of (arithmetic_of expression.now) self.now.state ≡ Some (pos n))
+            × (n ≤ bound)) }
+        ensures none { IfNone result ((n : ℕ) → value_of (arithmetic_of expression.now) self.now.state ≡ Some (pos n)
+            → ¬ (n ≤ bound)) }
+    {
+        let value = self.evaluate(expression)?;
+        if value < 0 || value > i64::from(bound) {
+            return None;
+        }
+        Some(value as u32)
+    }
+
     /// Tests whether two expressions have values that stand in a relation.
-    fn compare(&self, left: &Arithmetic, relation: Relation, right: &Arithmetic) -> Applied
+    pub(super) fn compare(
+        &self,
+        left: &Arithmetic,
+        relation: Relation,
+        right: &Arithmetic,
+    ) -> Applied
         requires left { ReadsBelow (length self.now.state.values) (arithmetic_of left.now) }
         requires right { ReadsBelow (length self.now.state.values) (arithmetic_of right.now) }
         ensures { (game : AbstractGame)

@@ -1,5 +1,5 @@
-use Rattle.std.proofs.Common.{rules, ◌≡◌, ℕ, List, [], ◌∷◌, length, Bool, true, false, refl, sym, ap, ◌∙◌, subst, arith}
-use Rattle.std.specs.Prelude.{◌==◌, Option}
+use Rattle.std.proofs.Common.{rules, ◌≡◌, ℕ, suc, ◌<◌, List, [], ◌∷◌, length, Bool, true, false, refl, sym, ap, ◌∙◌, subst, arith}
+use Rattle.std.specs.Prelude.{◌==◌, Option, Some, None, Result, Ok, Err, IfOk, IfSome}
 use Rattle.std.proofs.lemmas.Bool.Decides.{Decides-eqb}
 use Rattle.std.proofs.lemmas.Result.{IfOk-weaker}
 use Rattle.rbg_rules.specs.Positions.{IsNumbered, IsSwitchAt}
@@ -12,6 +12,8 @@ use Rattle.rbg_search.specs.Counting.{IsOverBudget}
 use Rattle.rbg_search.proofs.CallerLemmas.{try_begins, deep_begin, over_begin, deep_behind, over_on}
 use Rattle.rbg_moves.specs.internal.Stepping.{place_behind, IsStep, IsTried}
 use Rattle.rbg_moves.proofs.Steps.{legal_some, none_at, none_after, step_ends, step_goes_on, tried_on}
+use Rattle.rbg_search.specs.Forced.{CountsForced}
+use Rattle.rbg_moves.proofs.Forcing.{legal_move, tried_forced, last_forced}
 use Rattle.rbg_moves.proofs.trying.+follow.Goals as goal
 
 empty_when : (xs : List (ℕ × ℕ)) → length xs ≡ 0 → xs ≡ []
@@ -152,3 +154,58 @@ returns-then-not-is_switch-clause-wide g t c e =
     let wide = subst (λ (x : Searching). IsOverBudget x.game (try_move qs) later (after p) x.opened x.openings) c.take.ensures.kept (c.follow.ensures.wide e) in
     subst (λ (ps : List (ℕ × ℕ)). IsOverBudget game (try_move ps) s f c.args.search.now.opened c.args.search.now.openings) (sym is)
     (over_on game c.game-game.ensures.lawful.numbered (try_begins game s f (v, p) qs) c.take.ensures.counted (step_goes_on game s f v p qs later taken plain) wide)
+
+-- ---- what is forced
+
+some_then : {E : Type 0} (r : Result (Option ℕ) E) (T : Option ℕ → Type 0) (A B : Type 0) → ((last : ℕ) → T (Some last) → A → B) → IfOk r T → IfOk r (λ end. IfSome end (λ _. A)) → IfOk r (λ end. IfSome end (λ _. B))
+some_then (Ok (Some last)) T A B f told fact = f last told fact
+some_then (Ok None) T A B f told fact = tt
+some_then (Err e) T A B f told fact = tt
+
+legal_longer : (game : AbstractGame) → IsNumbered game.rules → (place to : AbstractPlace) (qs : List (ℕ × ℕ)) → Legal game place qs to → 0 < length qs
+legal_longer game numbered place to [] legal = absurd (legal_some game numbered place to legal)
+legal_longer game numbered place to (q ∷ qs) legal = omega arith
+
+pub returns-then-not-is_switch-clause-forced : goal.returns-then-not-is_switch-clause-forced
+returns-then-not-is_switch-clause-forced g t c =
+    let game : AbstractGame = c.args.search.now.game in
+    let numbered = c.game-game.ensures.lawful.numbered in
+    let s : AbstractState = c.args.state.now.state in
+    let f : Start = stand_of c.args.after in
+    let most = c.args.search.now.modifiers in
+    let a = c.args.search.now.opened in
+    let b = c.take.new.search.opened in
+    let last = c.follow.new.search.opened in
+    let v = c.pair.inside.vertex in
+    let p = c.pair.inside.position in
+    let qs : List (ℕ × ℕ) = c.in-Some.rest.now in
+    let later : AbstractState = c.take.new.state.state in
+    let first : c.args.pairs.now ≡ c.in-Some.pair.now ∷ qs = search rules in
+    let is : c.args.pairs.now ≡ (v, p) ∷ qs = first ∙ ap (λ (q : ℕ × ℕ). q ∷ qs) (sym c.pair.view_is) in
+    let taken : IsStep game s f v p later = c.in_ok-taken.ensures.taken (search rules) in
+    some_then c.follow.result
+    (λ (end : Option ℕ). IsTried c.take.new.search.game (place_behind later p) qs c.follow.new.state.state end)
+    (CountsForced c.take.new.search.game false (try_move qs) later (after p) b last (length qs) c.take.new.search.modifiers)
+    (CountsForced game false (try_move c.args.pairs.now) s f a last (length c.args.pairs.now) most)
+    (λ end tried counts.
+    let to : AbstractPlace = place_behind c.follow.new.state.state end in
+    let legal : Legal game (place_behind later p) qs to = subst (λ (x : Searching). Legal x.game (place_behind later p) qs to) c.take.ensures.kept tried in
+    let more : CountsForced game false (try_move qs) later (after p) b last (length qs) most =
+    subst (λ (x : Searching). CountsForced x.game false (try_move qs) later (after p) b last (length qs) x.modifiers) c.take.ensures.kept counts in
+    subst (λ (ps : List (ℕ × ℕ)). CountsForced game false (try_move ps) s f a last (length ps) most) (sym is)
+    (tried_forced game numbered s later f v p qs a b last most taken.applies (legal_move game (place_behind later p) to qs legal) (legal_longer game numbered (place_behind later p) to qs legal) (c.in_ok-taken.ensures.forced (suc (length qs))) more))
+    c.follow.ensures.tried c.follow.ensures.forced
+
+pub returns-then-is_empty-clause-forced : goal.returns-then-is_empty-clause-forced
+returns-then-is_empty-clause-forced g t c =
+    let game : AbstractGame = c.args.search.now.game in
+    let s : AbstractState = c.args.state.now.state in
+    let f : Start = stand_of c.args.after in
+    let v = c.pair.inside.vertex in
+    let p = c.pair.inside.position in
+    let qs : List (ℕ × ℕ) = c.in-Some.rest.now in
+    let first : c.args.pairs.now ≡ c.in-Some.pair.now ∷ qs = search rules in
+    let empty : qs ≡ [] = empty_of qs (sym c.if-is_empty.true ∙ c.is_empty.ensures) in
+    let is : c.args.pairs.now ≡ (v, p) ∷ [] = first ∙ ap (λ (q : ℕ × ℕ). q ∷ qs) (sym c.pair.view_is) ∙ ap (λ (rs : List (ℕ × ℕ)). (v, p) ∷ rs) empty in
+    subst (λ (ps : List (ℕ × ℕ)). CountsForced game false (try_move ps) s f c.args.search.now.opened c.take.new.search.opened (length ps) c.args.search.now.modifiers) (sym is)
+    (last_forced game c.game-game.ensures.lawful.numbered s f (v, p) c.args.search.now.opened c.take.new.search.opened 1 c.args.search.now.modifiers (c.in_ok-taken.ensures.forced 1))

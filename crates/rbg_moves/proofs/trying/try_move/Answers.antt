@@ -1,13 +1,16 @@
-use Rattle.std.proofs.Common.{rules, ◌≡◌, ◌⊎◌, ℕ, List, ap, ◌∙◌, subst, inl, inr}
-use Rattle.std.specs.Prelude.{Option}
+use Rattle.std.proofs.Common.{rules, ◌≡◌, ℕ, List, length, false, ap, ◌∙◌, subst, inl, inr, arith}
+use Rattle.std.specs.Prelude.{Option, Some, None, IfSome}
 use Rattle.rbg_rules.specs.State.{AbstractGame, AbstractState}
 use Rattle.rbg_rules.specs.Moves.{AbstractPlace, stand_of}
-use Rattle.rbg_rules.specs.Questions.{try_move, IsDeep}
-use Rattle.rbg_rules.specs.Heavy.{IsTooHard}
+use Rattle.rbg_rules.specs.Questions.{try_move}
 use Rattle.rbg_rules.proofs.PlaceLemmas.{one_place_law}
-use Rattle.rbg_search.specs.Counting.{IsOverBudget}
 use Rattle.rbg_moves.specs.internal.Stepping.{place_behind, IsTried}
-use Rattle.rbg_moves.proofs.Steps.{heavy_from}
+use Rattle.rbg_rules.specs.Limits.{most_openings}
+use Rattle.rbg_search.specs.Searching.{Searching}
+use Rattle.rbg_search.specs.Forced.{CountsForced}
+use Rattle.rbg_moves.specs.Limits.{IsDeepAt, IsWideAt, FitsLimits}
+use Rattle.rbg_moves.proofs.Forcing.{counts_uncut, fits_at, illegal_fits}
+use Rattle.rbg_moves.proofs.Steps.{deep_from, wide_from}
 use Rattle.rbg_moves.proofs.trying.try_move.Goals as goal
 
 tried_as : (game g : AbstractGame) (place from : AbstractPlace) (ps qs : List (ℕ × ℕ)) (new : AbstractState) (end end' : Option ℕ) → g ≡ game → from ≡ place → qs ≡ ps → end ≡ end' → IsTried g from qs new end → IsTried game place ps new end'
@@ -17,23 +20,38 @@ tried_as game g place from ps qs new end end' same there is becomes tried =
     (subst (λ (x : AbstractPlace). IsTried game x qs new end) there
     (subst (λ (h : AbstractGame). IsTried h from qs new end) same tried)))
 
+some_counts : (o : Option ℕ) (last : ℕ) (A : Type 0) → o ≡ Some last → IfSome o (λ _. A) → A
+some_counts (Some x) last A is fact = fact
+some_counts None last A is fact = absurd cc
+
 from_copy : (place : AbstractPlace) (s t : AbstractState) (last : Option ℕ) → s ≡ t → (record { state = t; last = last }) ≡ place → (let r : AbstractPlace = record { state = s; last = last } in r) ≡ place
 from_copy place s t last copied is = ap (λ (u : AbstractState). let r : AbstractPlace = record { state = u; last = last } in r) copied ∙ is
 
-pub returns-in_err-end-clause-heavy : goal.returns-in_err-end-clause-heavy
-returns-in_err-end-clause-heavy x c h =
-    let game = c.args.game.now in
+pub returns-in_err-end-clause-deep : goal.returns-in_err-end-clause-deep
+returns-in_err-end-clause-deep x c e =
     let asked = c.search_in-search.result in
     let s = c.in_ok-state.state.state in
     let state : s ≡ c.args.place.now.state = c.in_ok-state.ensures.state ∙ ap (λ (y : AbstractPlace). y.state) c.place.view_is in
     let start : stand_of c.place.inside.after ≡ stand_of c.args.place.now.last = ap (λ (y : AbstractPlace). stand_of y.last) c.place.view_is in
-    let over : IsDeep asked.game (try_move c.as_slice.result.now) s (stand_of c.place.inside.after) asked.modifiers ⊎ IsOverBudget asked.game (try_move c.as_slice.result.now) s (stand_of c.place.inside.after) asked.opened asked.openings = elim h [
-      | inl e ↦ inl (c.follow.ensures.deep (search rules))
-      | inr e ↦ inr (c.follow.ensures.wide (search rules))
-    ] in
-    subst (λ (ps : List (ℕ × ℕ)). IsTooHard game (try_move ps) c.args.place.now) c.as_slice.ensures.pairs
-    (heavy_from game c.positions-positions.ensures.lawful.numbered (try_move c.as_slice.result.now) c.args.place.now asked.game s (stand_of c.place.inside.after) asked.opened asked.openings asked.modifiers
-    c.search_in-search.ensures.game state start c.search_in-search.ensures.opened c.search_in-search.ensures.openings c.search_in-search.ensures.modifiers over)
+    subst (λ (ps : List (ℕ × ℕ)). IsDeepAt c.args.game.now (try_move ps) c.args.place.now) c.as_slice.ensures.pairs
+    (deep_from c.args.game.now (try_move c.as_slice.result.now) c.args.place.now asked.game s (stand_of c.place.inside.after) asked.modifiers
+    c.search_in-search.ensures.game state start c.search_in-search.ensures.modifiers (c.follow.ensures.deep (search rules)))
+
+pub returns-in_err-end-clause-wide : goal.returns-in_err-end-clause-wide
+returns-in_err-end-clause-wide x c e =
+    let asked = c.search_in-search.result in
+    let s = c.in_ok-state.state.state in
+    let state : s ≡ c.args.place.now.state = c.in_ok-state.ensures.state ∙ ap (λ (y : AbstractPlace). y.state) c.place.view_is in
+    let start : stand_of c.place.inside.after ≡ stand_of c.args.place.now.last = ap (λ (y : AbstractPlace). stand_of y.last) c.place.view_is in
+    subst (λ (ps : List (ℕ × ℕ)). IsWideAt c.args.game.now (try_move ps) c.args.place.now) c.as_slice.ensures.pairs
+    (wide_from c.args.game.now c.positions-positions.ensures.lawful.numbered (try_move c.as_slice.result.now) c.args.place.now asked.game s (stand_of c.place.inside.after) asked.opened asked.openings
+    c.search_in-search.ensures.game state start c.search_in-search.ensures.opened c.search_in-search.ensures.openings (c.follow.ensures.wide (search rules)))
+
+pub returns-in_err-end-clause-heavy : goal.returns-in_err-end-clause-heavy
+returns-in_err-end-clause-heavy x c h = elim h [
+  | inl e ↦ inl (returns-in_err-end-clause-deep x c e)
+  | inr e ↦ inr (returns-in_err-end-clause-wide x c e)
+]
 
 pub returns-in-Some-clause-only : goal.returns-in-Some-clause-only
 returns-in-Some-clause-only x c other also =
@@ -47,3 +65,27 @@ returns-clause-illegal x c to legal =
     let game = c.args.game.now in
     let there = from_copy c.args.place.now c.in_ok-state.state.state c.place.inside.state.state c.place.inside.after c.in_ok-state.ensures.state c.place.view_is in
     tried_as game c.search_in-search.result.game c.args.place.now _ c.args.pairs.now c.as_slice.result.now c.follow.new.state.state c.in_ok-end.end _ c.search_in-search.ensures.game there c.as_slice.ensures.pairs c.in-None.is c.in_ok-end.ensures.tried to legal
+
+pub returns-in-Some-clause-fits : goal.returns-in-Some-clause-fits
+returns-in-Some-clause-fits x c = λ cut.
+    let game = c.args.game.now in
+    let asked = c.search_in-search.result in
+    let s = c.in_ok-state.state.state in
+    let f = stand_of c.place.inside.after in
+    let new = c.follow.new.search in
+    let ps : List (ℕ × ℕ) = c.as_slice.result.now in
+    let state : s ≡ c.args.place.now.state = c.in_ok-state.ensures.state ∙ ap (λ (y : AbstractPlace). y.state) c.place.view_is in
+    let start : f ≡ stand_of c.args.place.now.last = ap (λ (y : AbstractPlace). stand_of y.last) c.place.view_is in
+    let budget : new.openings ≡ most_openings = ap (λ (y : Searching). y.openings) c.follow.ensures.kept ∙ c.search_in-search.ensures.openings in
+    let counts = some_counts c.in_ok-end.end c.in-Some.last (CountsForced asked.game false (try_move ps) s f asked.opened new.opened (length ps) asked.modifiers) c.in-Some.is c.in_ok-end.ensures.forced in
+    subst (λ (qs : List (ℕ × ℕ)). FitsLimits game cut (try_move qs) c.args.place.now) c.as_slice.ensures.pairs
+    (fits_at game asked.game c.args.place.now s f cut (try_move ps) asked.opened new.opened (length ps) asked.modifiers new.openings
+    c.search_in-search.ensures.game state start c.search_in-search.ensures.opened c.opened-opened.ensures.within budget (omega (arith, c.as_slice.ensures.range)) c.search_in-search.ensures.modifiers
+    (counts_uncut asked.game cut (try_move ps) s f asked.opened new.opened (length ps) asked.modifiers counts))
+
+pub returns-clause-fits : goal.returns-clause-fits
+returns-clause-fits x c = λ cut.
+    let game = c.args.game.now in
+    let there = from_copy c.args.place.now c.in_ok-state.state.state c.place.inside.state.state c.place.inside.after c.in_ok-state.ensures.state c.place.view_is in
+    illegal_fits game cut c.args.place.now c.args.pairs.now
+    (tried_as game c.search_in-search.result.game c.args.place.now _ c.args.pairs.now c.as_slice.result.now c.follow.new.state.state c.in_ok-end.end _ c.search_in-search.ensures.game there c.as_slice.ensures.pairs c.in-None.is c.in_ok-end.ensures.tried)

@@ -19,8 +19,8 @@ returns-then-player-ne0-clause-settles g c =
 pub returns-then-player-ne0-clause-place : goal.returns-then-player-ne0-clause-place
 returns-then-player-ne0-clause-place g c = c.loop.invariant.0
 
-pub find_move-requires-clause-place : goal.find_move-requires-clause-place
-find_move-requires-clause-place g c = c.loop.invariant.0
+pub find_move_with-requires-clause-place : goal.find_move_with-requires-clause-place
+find_move_with-requires-clause-place g c = c.loop.invariant.0
 
 pub make_move-requires-clause-place : goal.make_move-requires-clause-place
 make_move-requires-clause-place g c = c.loop.invariant.0

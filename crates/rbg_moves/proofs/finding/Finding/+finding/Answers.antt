@@ -1,5 +1,5 @@
 -- A move that goes on from where one stands.
-use Rattle.std.proofs.Common.{rules, ◌≡◌, ℕ, suc, ◌+◌, ◌-◌, ◌<◌, List, ◌∷◌, [], ◌++◌, length, get_or, refl, sym, ap, ◌∙◌, subst, arith}
+use Rattle.std.proofs.Common.{rules, ◌≡◌, ℕ, suc, ◌+◌, ◌-◌, ◌<◌, List, ◌∷◌, [], ◌++◌, length, get_or, false, refl, sym, ap, ◌∙◌, subst, arith}
 use Rattle.std.specs.Prelude.{All, Option, Some, None, IfSome, IfNone}
 use Rattle.std.proofs.lemmas.List.{take_all}
 use Rattle.rbg_pairs.specs.Move.{most_pairs}
@@ -21,6 +21,9 @@ use Rattle.rbg_search.proofs.CallerLemmas.{find_begins, counts_begin, counts_rea
 use Rattle.rbg_moves.specs.internal.Stepping.{standing_at, place_behind, IsValidAt, GoesOnBehind}
 use Rattle.rbg_moves.proofs.Steps.{place_start, place_after, next_applies, next_there, next_from, legal_end, none_found, valid_next}
 use Rattle.rbg_moves.proofs.Seeking.{kept_twice, room_twice, part_of, AtPair, pair_next, pair_plain, pair_applies, pair_row, pair_deep, pair_counts, pair_over, pair_more, behind_found, one_behind, applied_back, deep_as, over_as, counts_as, behind_as, plain_of, nothing_as}
+use Rattle.rbg_rules.specs.Moves.{AbstractPlace}
+use Rattle.rbg_search.specs.Forced.{CountsForced}
+use Rattle.rbg_moves.proofs.Forcing.{TakenSoFar, so_far_begin, so_far_more, found_forced, found_so_far, finished_forced, forced_as}
 use Rattle.rbg_moves.proofs.finding.Finding.+finding.Goals as goal
 
 pub find-reach-requires-clause-stands : goal.find-reach-requires-clause-stands
@@ -87,6 +90,10 @@ find-loop-pair-init g t c =
       front = refl;
       nothing = λ k d below later applied. absurd (omega (arith, below));
       counted = counts_begin game numbered (find_begins game s f) (subst (λ (h : Start). CountsOpenings game reach s h c.args.self.now.search.opened c.reach.new.self.opened) c.origin_after.ensures c.reach.ensures.counted);
+      forced =
+          let left = most_pairs - length c.args.self.now.front.items in
+          so_far_begin game numbered find_move s f c.args.self.now.search.opened c.reach.new.self.opened left c.args.self.now.search.modifiers
+          (subst (λ (h : Start). CountsForced game false reach s h c.args.self.now.search.opened c.reach.new.self.opened left c.args.self.now.search.modifiers) c.origin_after.ensures (c.in_ok-reached.ensures.forced false left));
     }
 
 pub find-returns-then-len-eq-MAX_PAIRS-clause-deep : goal.find-returns-then-len-eq-MAX_PAIRS-clause-deep
@@ -325,4 +332,88 @@ find-loop-pair-preserved g t c =
       front = c.in_ok-found.ensures.front ∙ c.loop-pair.invariant.front;
       nothing = pair_more game s f xs ends k here (λ (q : ℕ × ℕ). (later : AbstractState) → Applies game q.1 (standing_at s q.0) later → Finished game (place_behind later q.1)) c.loop-pair.invariant.nothing (nothing_as game c.game-game.result.now s now.state.state v p c.game-game.ensures.game there nothing);
       counted = pair_counts game s f xs ends k here c.args.self.now.search.opened now.search.opened c.find_behind.new.self.search.opened c.loop-pair.invariant.counted (counts_as game c.game-game.result.now next.later p now.search.opened c.find_behind.new.self.search.opened c.game-game.ensures.game (c.in_ok-found.ensures.counted next.later applied));
+      forced =
+          let n = length c.args.self.now.front.items in
+          let size : length now.front.items ≡ n = ap (λ (ys : List (ℕ × ℕ)). length ys) c.loop-pair.invariant.front in
+          let limit : now.search.modifiers ≡ c.args.self.now.search.modifiers = ap (λ (x : Searching). x.modifiers) c.loop-pair.invariant.search in
+          let more_left : 1 < most_pairs - n = omega (arith, size, c.requires.short, c.len.ensures.value, c.if-len-eq-MAX_PAIRS.false) in
+          let fewer : most_pairs - (length now.front.items + 1) ≡ (most_pairs - n) - 1 = omega (arith, size) in
+          so_far_more game numbered find_move s f xs k next.later c.args.self.now.search.opened now.search.opened c.find_behind.new.self.search.opened (most_pairs - n) c.args.self.now.search.modifiers c.loop-pair-test.true (pair_applies game s f xs ends k here) more_left c.loop-pair.invariant.forced
+          (forced_as game c.game-game.result.now false find_move next.later (after p) now.search.opened c.find_behind.new.self.search.opened _ _ _ _ c.game-game.ensures.game fewer limit (c.in_ok-found.ensures.forced next.later applied));
     }
+
+-- ---- what is forced
+
+pub find-returns-in-Some-clause-forced : goal.find-returns-in-Some-clause-forced
+find-returns-in-Some-clause-forced g t c =
+    let game = c.args.self.now.search.game in
+    let s = c.args.self.now.state.state in
+    let f = stand_of c.args.after in
+    let numbered = c.game-game.ensures.lawful.numbered in
+    let items = c.in_ok-reached.reached.pairs.items in
+    let last = c.in-Some.last in
+    let left = most_pairs - length c.args.self.now.front.items in
+    let most = c.args.self.now.search.modifiers in
+    let place : AbstractPlace = record { state = s; last = c.args.after } in
+    let next = next_from game s f (start_of c.origin_after.result) c.deref.result.now items c.in_ok-reached.reached.ends last c.in_ok-reached.ensures.reached c.origin_after.ensures c.deref.ensures.value c.in-Some.ensures.there in
+    let switches : IsSwitchAt game.rules last.1 = subst (λ (h : AbstractGame). IsSwitchAt h.rules last.1) c.game-game.ensures.game c.in-Some.ensures.switches in
+    let legal = legal_end game numbered place last.0 last.1 next.later next switches (next_applies game numbered s f last.0 last.1 next) in
+    found_forced game numbered place (last ∷ []) c.args.self.now.search.opened c.reach.new.self.opened c.reach.new.self.opened left most (place_behind next.later last.1, legal) (omega arith)
+    (subst (λ (h : Start). CountsForced game false reach s h c.args.self.now.search.opened c.reach.new.self.opened left most) c.origin_after.ensures (c.in_ok-reached.ensures.forced false left))
+
+pub find-returns-in-Some-found-clause-forced : goal.find-returns-in-Some-found-clause-forced
+find-returns-in-Some-found-clause-forced g t c =
+    let game = c.args.self.now.search.game in
+    let s = c.args.self.now.state.state in
+    let f = stand_of c.args.after in
+    let numbered = c.game-game.ensures.lawful.numbered in
+    let items = c.in_ok-reached.reached.pairs.items in
+    let ends = c.in_ok-reached.reached.ends in
+    let xs = c.deref-pair-items.result.now in
+    let k = c.loop-pair.pair-index in
+    let part = part_of game s f (start_of c.origin_after.result) xs items ends c.in_ok-reached.ensures.reached c.origin_after.ensures c.deref-pair-items.ensures.value in
+    let plain = plain_of game c.game-game.result.now xs c.deref.result.now items c.game-game.ensures.game c.deref.ensures.value c.deref-pair-items.ensures.value c.in_default.ensures.none in
+    let here : AtPair game s f xs ends k = record { lawful = c.game-game.ensures.lawful; part = part; plain = plain; under = c.loop-pair-test.true } in
+    let v = (get_or xs k (0, 0)).0 in
+    let p = (get_or xs k (0, 0)).1 in
+    let next = pair_next game s f xs ends k here in
+    let now = c.loop-pair.self in
+    let there : now.state.state ≡ s = ap (λ (x : History). x.state) c.loop-pair.invariant.state in
+    let applied = applied_back game c.game-game.result.now s now.state.state next.later v p c.game-game.ensures.game there (pair_applies game s f xs ends k here) in
+    let behind = some_at c.in_ok-found.found c.in-Some-found.pairs (GoesOnBehind c.game-game.result.now now.state.state v p now.front.items) c.in-Some-found.is c.in_ok-found.ensures.found in
+    let found = behind_found game numbered (record { state = s; last = c.args.after }) v p c.args.self.now.front.items c.in-Some-found.pairs next (pair_plain game s f xs ends k here)
+    (behind_as game c.game-game.result.now s now.state.state v p c.args.self.now.front.items now.front.items c.in-Some-found.pairs c.game-game.ensures.game there c.loop-pair.invariant.front behind) in
+    let more = c.in_ok-found.ensures.forced next.later applied in
+    found_so_far game numbered (record { state = s; last = c.args.after }) found.pairs _ c.args.self.now.search.opened now.search.opened c.find_behind.new.self.search.opened (most_pairs - length c.args.self.now.front.items) c.args.self.now.search.modifiers found.legal c.loop-pair.invariant.forced (omega (arith, more.fits))
+
+pub find-returns-clause-forced : goal.find-returns-clause-forced
+find-returns-clause-forced g t c =
+    let game = c.args.self.now.search.game in
+    let s = c.args.self.now.state.state in
+    let f = stand_of c.args.after in
+    let numbered = c.game-game.ensures.lawful.numbered in
+    let items = c.in_ok-reached.reached.pairs.items in
+    let ends = c.in_ok-reached.reached.ends in
+    let xs : List (ℕ × ℕ) = c.deref-pair-items.result.now in
+    let k = c.loop-pair.pair-index in
+    let a = c.args.self.now.search.opened in
+    let left = most_pairs - length c.args.self.now.front.items in
+    let most = c.args.self.now.search.modifiers in
+    let place : AbstractPlace = record { state = s; last = c.args.after } in
+    let part = part_of game s f (start_of c.origin_after.result) xs items ends c.in_ok-reached.ensures.reached c.origin_after.ensures c.deref-pair-items.ensures.value in
+    let plain = plain_of game c.game-game.result.now xs c.deref.result.now items c.game-game.ensures.game c.deref.ensures.value c.deref-pair-items.ensures.value c.in_default.ensures.none in
+    let all = subst (All (λ (q : ℕ × ℕ). (later : AbstractState) → Applies game q.1 (standing_at s q.0) later → Finished game (place_behind later q.1))) (take_all k xs c.loop-pair-test.false) c.loop-pair.invariant.nothing in
+    let finished = none_found game numbered place f xs ends part refl plain all in
+    let taken = subst (λ (ds : List (ℕ × ℕ)). TakenSoFar game find_move s f ds a c.loop-pair.self.search.opened left most) (take_all k xs c.loop-pair-test.false) c.loop-pair.invariant.forced in
+    let counts = finished_forced game numbered place xs ends a c.loop-pair.self.search.opened left most finished part taken in
+    subst (λ (x : Searching). CountsForced game false find_move s f a x.opened left most) (sym c.reuse.ensures) counts
+
+pub find_behind-returns-clause-forced : goal.find_behind-returns-clause-forced
+find_behind-returns-clause-forced g t c later applied =
+    let game = c.args.game.now in
+    let p = c.args.position in
+    let most = c.args.self.now.search.modifiers in
+    let left = most_pairs - (length c.args.self.now.front.items + 1) in
+    let fewer : most_pairs - length c.push.new.self.items ≡ left = ap (λ (n : ℕ). most_pairs - n) c.push.ensures.len in
+    one_behind game c.requires.lawful.numbered p (standing_at c.args.self.now.state.state c.args.vertex) c.apply_at.new.state.state later (λ (u : AbstractState). CountsForced game false find_move u (after p) c.args.self.now.search.opened c.find.new.self.search.opened left most) c.apply_at.ensures.applied applied
+    (forced_as game c.args.self.now.search.game false find_move c.apply_at.new.state.state (after p) c.args.self.now.search.opened c.find.new.self.search.opened _ _ _ _ (sym c.requires.game) fewer refl c.in_ok-found.ensures.forced)

@@ -7,6 +7,7 @@ use Rattle.rbg_rules.specs.Moves.{stand_of, Finished}
 use Rattle.rbg_rules.specs.Questions.{find_move}
 use Rattle.rbg_search.specs.Passing.{CountsUpTo}
 use Rattle.rbg_moves.specs.internal.Stepping.{standing_at, place_behind}
+use Rattle.rbg_moves.proofs.Forcing.{TakenSoFar}
 use Rattle.rbg_moves.proofs.finding.Finding.+finding.Given as goal
 
 abbrev pub decreases-find : goal.decreases-find
@@ -24,4 +25,5 @@ invariant-find-loop-pair g l = record {
   front : l.self.front.items ≡ l.fn.self.front.items;
   nothing : All (λ (q : ℕ × ℕ). (later : AbstractState) → Applies l.fn.self.search.game q.1 (standing_at l.fn.self.state.state q.0) later → Finished l.fn.self.search.game (place_behind later q.1)) (take l.pair-index l.pair-items);
   counted : CountsUpTo l.fn.self.search.game find_move l.fn.self.state.state (stand_of l.fn.after) (take l.pair-index l.pair-items) l.fn.self.search.opened l.self.search.opened;
+  forced : TakenSoFar l.fn.self.search.game find_move l.fn.self.state.state (stand_of l.fn.after) (take l.pair-index l.pair-items) l.fn.self.search.opened l.self.search.opened (most_pairs - length l.fn.self.front.items) l.fn.self.search.modifiers;
 }

@@ -22,6 +22,15 @@ use Rattle.rbg_moves.proofs.Steps.{place_start, modifier_position}
 use Rattle.rbg_moves.proofs.Gathering.{gathers_behind}
 use Rattle.rbg_moves.proofs.Listing.{switches_cut, others_begin, others_skip, others_cut, others_end}
 use Rattle.rbg_moves.proofs.Further.{further_valid, further_gathered, further_counted, further_wide, further_deep, one_too_many, plain_told, switch_told, part_as, switches_as, reach_deep, reach_wide, reach_counts, reach_counted, made, err_same}
+use Rattle.rbg_rules.specs.Actions.{Applies}
+use Rattle.rbg_rules.specs.Questions.{reach}
+use Rattle.rbg_search.specs.Flat.{IsNext}
+use Rattle.rbg_search.specs.Forced.{CountsForced}
+use Rattle.std.proofs.lemmas.List.{take_all}
+use Rattle.rbg_moves.specs.internal.Stepping.{standing_at}
+use Rattle.rbg_moves.proofs.Steps.{next_applies}
+use Rattle.rbg_moves.proofs.Seeking.{applied_back}
+use Rattle.rbg_moves.proofs.Forcing.{TakenSoFar, behind_forced, so_far_begin, so_far_more, so_far_skipped, cut_forced, cut_so_far, listed_forced}
 use Rattle.rbg_moves.proofs.list.Listing.+listing.Goals as goal
 use Rattle.rbg_moves.proofs.list.Listing.+listing.Goals.{list-then-not-is_switch+else-len-eq-MAX_PAIRS+in_ok-list_behind+else-branch-2, list-else-not-is_switch}
 
@@ -88,6 +97,10 @@ list-loop-pair-init g t c =
       few = subst (λ (n : ℕ). length new ≤ n) (sym c.add_switches.ensures.max) gathered.few;
       gathered = gathered;
       counted = reach_counts game numbered place.state (start_of c.origin_after.result) (stand_of place.last) c.args.self.now.search.opened c.reach.new.self.opened c.origin_after.ensures c.reach.ensures.counted;
+      forced =
+          let left = 200 - length c.args.self.now.front.items in
+          so_far_begin game numbered list_moves place.state (stand_of place.last) c.args.self.now.search.opened c.reach.new.self.opened left c.args.self.now.search.modifiers
+          (subst (λ (h : Start). CountsForced game false reach place.state h c.args.self.now.search.opened c.reach.new.self.opened left c.args.self.now.search.modifiers) c.origin_after.ensures (c.in_ok-reached.ensures.forced false left));
     }
 
 pub list-returns-then-len-eq-MAX_PAIRS-clause-deep :
@@ -246,6 +259,18 @@ list-loop-pair-preserved g t c =
             few = subst (λ (n : ℕ). length new ≤ n) (sym done.max) done.few;
             gathered = further_gathered game now.search.game c.game-game.ensures.lawful.numbered place now.state.state xs ends part front now.front.items max now.found.max old now.found.moves.items new false k q under (get_or_default xs k q (0, 0) under) plain same same_state inv.front inv.max inv.gathered behind;
             counted = further_counted game now.search.game c.game-game.ensures.lawful.numbered place now.state.state xs ends part k q under (get_or_default xs k q (0, 0) under) plain same same_state c.args.self.now.search.opened now.search.opened then.search.opened inv.counted done.counted;
+            forced =
+                let next : IsNext game place.state (stand_of place.last) q.0 q.1 = (part.next q.0 q.1).0 (k, under, get_or_default xs k q (0, 0) under) in
+                let applied = next_applies game c.game-game.ensures.lawful.numbered place.state (stand_of place.last) q.0 q.1 next in
+                let most = c.args.self.now.search.modifiers in
+                let same_most : now.search.modifiers ≡ most = ap (λ (x : Searching). x.modifiers) inv.search in
+                let size : length now.front.items ≡ length c.args.self.now.front.items = ap (λ (ys : List (ℕ × ℕ)). length ys) inv.front in
+                let old_short = c.requires.short in
+                let more_left : 1 < 200 - length c.args.self.now.front.items = omega (arith, size, old_short, w.len.ensures.value, w.if-len-eq-MAX_PAIRS.false) in
+                let fewer : 200 - (length now.front.items + 1) ≡ (200 - length c.args.self.now.front.items) - 1 = omega (arith, size) in
+                let forced = subst (λ (b : Bool). (t : AbstractState) → Applies now.search.game q.1 (standing_at now.state.state q.0) t → CountsForced now.search.game b list_moves t (after q.1) now.search.opened then.search.opened (200 - (length now.front.items + 1)) now.search.modifiers) w.if-branch-2.false done.forced in
+                so_far_more game c.game-game.ensures.lawful.numbered list_moves place.state (stand_of place.last) xs k next.later c.args.self.now.search.opened now.search.opened then.search.opened (200 - length c.args.self.now.front.items) most under applied more_left inv.forced
+                (behind_forced game now.search.game place.state now.state.state next.later q.0 q.1 false list_moves now.search.opened then.search.opened _ _ _ _ same same_state fewer same_most applied forced);
           })
       | list-else-not-is_switch w ↦
           let switches = switch_told game c.game-game.result.now q.1 c.is_switch.result c.game-game.ensures.game c.is_switch.ensures w.if-not-is_switch.false in
@@ -259,6 +284,7 @@ list-loop-pair-preserved g t c =
             few = inv.few;
             gathered = others_skip game place xs front max old now.found.moves.items k q under (get_or_default xs k q (0, 0) under) switches inv.gathered;
             counted = counts_skipped game c.game-game.ensures.lawful.numbered xs k inv.counted under;
+            forced = so_far_skipped game c.game-game.ensures.lawful.numbered list_moves place.state (stand_of place.last) xs k c.args.self.now.search.opened now.search.opened _ _ under switches inv.forced;
           })
     ]
 
@@ -338,3 +364,63 @@ list_behind-returns-clause-counted g t c =
     λ later applied.
     made (λ s n. CountsOpenings game list_moves s (after n) c.args.self.now.search.opened c.list.new.self.search.opened) game c.game-game.result.now c.game-game.ensures.lawful.numbered c.args.self.now.state.state c.apply_at.new.state.state later q c.pair.inside.position c.game-game.ensures.game (ap (λ (x : ℕ × ℕ). x.1) c.pair.view_is) c.apply_at.ensures.applied applied
     c.in_ok-cut.ensures.counted
+
+-- ---- what is forced
+
+pub list-returns-then-branch-clause-forced : goal.list-returns-then-branch-clause-forced
+list-returns-then-branch-clause-forced g t c =
+    let game = c.args.self.now.search.game in
+    let s = c.args.self.now.state.state in
+    let f = stand_of c.args.after in
+    let a = c.args.self.now.search.opened in
+    let b = c.reach.new.self.opened in
+    let left = 200 - length c.args.self.now.front.items in
+    let most = c.args.self.now.search.modifiers in
+    cut_forced game c.game-game.ensures.lawful.numbered s f a b b left most (omega arith)
+    (subst (λ (h : Start). CountsForced game false reach s h a b left most) c.origin_after.ensures (c.in_ok-reached.ensures.forced false left))
+
+pub list-returns-then-branch-2-clause-forced : goal.list-returns-then-branch-2-clause-forced
+list-returns-then-branch-2-clause-forced g t c =
+    let game = c.args.self.now.search.game in
+    let now = c.loop-pair.self in
+    let place : AbstractPlace = record { state = c.args.self.now.state.state; last = c.args.after } in
+    let xs : List (ℕ × ℕ) = c.deref-pair-items.result.now in
+    let k = c.loop-pair.pair-index in
+    let q : ℕ × ℕ = get_or xs k (0, 0) in
+    let under = c.loop-pair-test.true in
+    let ends = c.in_ok-reached.reached.ends in
+    let part = part_as game place.state (start_of c.origin_after.result) (stand_of place.last) c.in_ok-reached.reached.pairs.items xs ends c.origin_after.ensures c.deref-pair-items.ensures.value c.in_ok-reached.ensures.reached in
+    let same = ap (λ (x : Searching). x.game) c.loop-pair.invariant.search in
+    let same_state = ap (λ (h : History). h.state) c.loop-pair.invariant.state in
+    let next : IsNext game place.state (stand_of place.last) q.0 q.1 = (part.next q.0 q.1).0 (k, under, get_or_default xs k q (0, 0) under) in
+    let applied = applied_back game now.search.game place.state now.state.state next.later q.0 q.1 same same_state (next_applies game c.game-game.ensures.lawful.numbered place.state (stand_of place.last) q.0 q.1 next) in
+    let more = c.in_ok-list_behind.ensures.forced next.later applied in
+    cut_so_far game c.game-game.ensures.lawful.numbered place.state (stand_of place.last) (take k xs) c.args.self.now.search.opened now.search.opened c.list_behind.new.self.search.opened (200 - length c.args.self.now.front.items) c.args.self.now.search.modifiers c.loop-pair.invariant.forced (omega (arith, more.fits))
+
+pub list-returns-clause-forced : goal.list-returns-clause-forced
+list-returns-clause-forced g t c =
+    let game = c.args.self.now.search.game in
+    let now = c.loop-pair.self in
+    let s = c.args.self.now.state.state in
+    let f = stand_of c.args.after in
+    let a = c.args.self.now.search.opened in
+    let left = 200 - length c.args.self.now.front.items in
+    let most = c.args.self.now.search.modifiers in
+    let xs : List (ℕ × ℕ) = c.deref-pair-items.result.now in
+    let k = c.loop-pair.pair-index in
+    let ends = c.in_ok-reached.reached.ends in
+    let part = part_as game s (start_of c.origin_after.result) f c.in_ok-reached.reached.pairs.items xs ends c.origin_after.ensures c.deref-pair-items.ensures.value c.in_ok-reached.ensures.reached in
+    let taken = subst (λ (ds : List (ℕ × ℕ)). TakenSoFar game list_moves s f ds a now.search.opened left most) (take_all k xs c.loop-pair-test.false) c.loop-pair.invariant.forced in
+    let counts = listed_forced game c.game-game.ensures.lawful.numbered s f xs ends a now.search.opened left most part taken in
+    subst (λ (x : Searching). CountsForced game false list_moves s f a x.opened left most) (sym c.reuse.ensures) counts
+
+pub list_behind-returns-clause-forced : goal.list_behind-returns-clause-forced
+list_behind-returns-clause-forced g t c = λ later applied.
+    let game = c.args.self.now.search.game in
+    let q : ℕ × ℕ = c.args.pair in
+    let most = c.args.self.now.search.modifiers in
+    let cut = c.in_ok-cut.cut in
+    let size : 200 - length c.push.new.self.items ≡ 200 - (length c.args.self.now.front.items + 1) = ap (λ (n : ℕ). 200 - n) c.push.ensures.len in
+    subst (λ (n : ℕ). CountsForced game cut list_moves later (after q.1) c.args.self.now.search.opened c.list.new.self.search.opened n most) size
+    (made (λ s n. CountsForced game cut list_moves s (after n) c.args.self.now.search.opened c.list.new.self.search.opened (200 - length c.push.new.self.items) most) game c.game-game.result.now c.game-game.ensures.lawful.numbered c.args.self.now.state.state c.apply_at.new.state.state later q c.pair.inside.position c.game-game.ensures.game (ap (λ (x : ℕ × ℕ). x.1) c.pair.view_is) c.apply_at.ensures.applied applied
+    c.in_ok-cut.ensures.forced)

@@ -5,6 +5,7 @@ use Rattle.rbg_rules.specs.Moves.{stand_of}
 use Rattle.rbg_rules.specs.Questions.{list_moves}
 use Rattle.rbg_search.specs.Passing.{CountsUpTo}
 use Rattle.rbg_moves.specs.internal.Gathering.{Gathers, IsLegalBy, IsSwitchOr}
+use Rattle.rbg_moves.proofs.Forcing.{TakenSoFar}
 use Rattle.rbg_moves.proofs.list.Listing.+listing.Given as goal
 
 abbrev pub decreases-list : goal.decreases-list
@@ -24,4 +25,5 @@ invariant-list-loop-pair g l = record {
   few : length l.self.found.moves.items ≤ l.self.found.max;
   gathered : Gathers (IsLegalBy l.fn.self.search.game (record { state = l.fn.self.state.state; last = l.fn.after }) (IsSwitchOr l.fn.self.search.game.rules (take l.pair-index l.pair-items))) l.fn.self.front.items l.fn.self.found.max l.fn.self.found.moves.items l.self.found.moves.items false;
   counted : CountsUpTo l.fn.self.search.game list_moves l.fn.self.state.state (stand_of l.fn.after) (take l.pair-index l.pair-items) l.fn.self.search.opened l.self.search.opened;
+  forced : TakenSoFar l.fn.self.search.game list_moves l.fn.self.state.state (stand_of l.fn.after) (take l.pair-index l.pair-items) l.fn.self.search.opened l.self.search.opened (most_pairs - length l.fn.self.front.items) l.fn.self.search.modifiers;
 }

@@ -11,7 +11,7 @@ use Rattle.rbg_search.specs.Flat.{IsFlatPart}
 use Rattle.rbg_search.specs.Start.{start_of}
 use Rattle.rbg_search.specs.internal.Begun.{IsBegun}
 use Rattle.rbg_search.specs.internal.Behind.{IsReady, RunsBehindPair, SomeRunsBehind}
-use Rattle.rbg_search.specs.internal.Closure.{at_vertex}
+use Rattle.rbg_search.specs.internal.Closure.{at_vertex, Reached}
 use Rattle.rbg_search.specs.internal.Nesting.{NestsFrom}
 use Rattle.rbg_search.specs.internal.Part.{HasMarksOf}
 use Rattle.rbg_search.proofs.Asking.{back, mark_within, given_room, room_twice, asked_nests, some_nested, runs_one, none_more, some_behind, none_behind, runs_here, runs_there}
@@ -19,6 +19,12 @@ use Rattle.rbg_search.proofs.Behinds.{all_ready}
 use Rattle.rbg_search.proofs.Kept.{kept_same, kept_twice, back_same, onward, before, onward_rules, rules_before, further_on}
 use Rattle.rbg_search.specs.Counting.{CountsOpenings}
 use Rattle.rbg_search.specs.internal.Asked.{StandsInPattern, CountsAsked}
+use Rattle.rbg_search.specs.Forced.{CountsForced}
+use Rattle.rbg_search.specs.internal.Taking.{AsksForced, RanBehind}
+use Rattle.rbg_search.proofs.Behinds.{runs_at_end}
+use Rattle.rbg_search.proofs.Counted.{search_before}
+use Rattle.rbg_search.proofs.Forcing.{asks_begin, takes_none, word_forced}
+use Rattle.rbg_search.proofs.ForcingSteps.{ask_forced, flat_forced, one_forced, ran_some, ran_none, asked_forced}
 use Rattle.rbg_search.specs.declared.over.Over.TheVariants.{Deep, Wide, Memory}
 use Rattle.rbg_search.proofs.Patterns.{pattern_inside, inside_start}
 use Rattle.rbg_search.proofs.Countings.{asked_begin, reach_pairs}
@@ -84,6 +90,10 @@ flat_part-loop-flat-init g t c =
       counted =
           asked_begin c.args.self.now.game c.enter.ensures.lawful c.args.state.now.state (start_of c.args.origin) c.requires.start (take c.in_ok-flat.flat.taken c.in_ok-flat.flat.queue.pairs) c.args.self.now.opened c.begun.new.self.opened
           (ap (λ (x : Searching). x.opened) c.begun.ensures.kept ∙ c.in_ok-enter.ensures.opened);
+      forced = λ cut.
+          let first : c.begun.new.self.opened ≡ c.args.self.now.opened + 1 = ap (λ (x : Searching). x.opened) c.begun.ensures.kept ∙ c.in_ok-enter.ensures.opened in
+          subst (λ (n : ℕ). AsksForced c.args.self.now.game cut c.args.state.now.state (take n c.in_ok-flat.flat.queue.pairs) c.args.self.now.opened c.begun.new.self.opened c.args.self.now.modifiers) (sym c.in_ok-flat.ensures.none_taken)
+          (asks_begin c.args.self.now.game c.enter.ensures.lawful.numbered cut c.args.state.now.state c.args.self.now.opened c.begun.new.self.opened c.args.self.now.modifiers first);
     }
 
 pub flat_part-advance-requires-clause-fits : goal.flat_part-advance-requires-clause-fits
@@ -179,6 +189,9 @@ flat_part-loop-flat-preserved g t c =
           let fresh : ¬ Contains (take c.advance.new.flat.taken c.advance.new.flat.queue.pairs) (c.in-Some.vertex, c.in-Some.position) = search rules in
           subst (λ (ds : List (ℕ × ℕ)). CountsAsked c.args.self.now.game c.args.state.now.state f ds c.args.self.now.opened c.ask.new.self.opened) (sym c.in_ok-take.ensures.done)
           (ask_step c.args.self.now c.loop-flat.self c.args.state.now c.loop-flat.state c.advance.new.state f c.loop-flat.flat c.advance.new.flat c.in-Some.vertex c.in-Some.position c.args.self.now.opened c.ask.new.self.opened _ _ c.loop-flat.invariant.kept c.loop-flat.invariant.given_back given c.loop-flat.invariant.lawful begun pair.0 pair.2 c.in_ok-vertex.ensures.still_done fresh c.loop-flat.invariant.counted c.ask.ensures.counts).counts;
+      forced = λ cut.
+          subst (λ (ds : List (ℕ × ℕ)). AsksForced c.args.self.now.game cut c.args.state.now.state ds c.args.self.now.opened c.ask.new.self.opened c.args.self.now.modifiers) (sym c.in_ok-take.ensures.done)
+          (ask_forced c.args.self.now c.loop-flat.self c.args.state.now c.advance.new.state (take c.loop-flat.flat.taken c.loop-flat.flat.queue.pairs) (take c.advance.new.flat.taken c.advance.new.flat.queue.pairs) c.in-Some.vertex c.in-Some.position c.args.self.now.opened c.ask.new.self.opened cut c.loop-flat.invariant.kept given c.loop-flat.invariant.lawful.numbered c.in_ok-vertex.ensures.quiet (c.loop-flat.invariant.forced cut) (c.in_ok-valid.ensures.forced cut));
     }
 
 pub flat_part-returns-in_err-take-clause-kept : goal.flat_part-returns-in_err-take-clause-kept
@@ -299,6 +312,14 @@ runs_behind-loop-vertex-preserved g t c =
       counted = λ f a goes counts.
           let ready = c.requires.ready c.loop-vertex.vertex-index (0, 0) c.loop-vertex-test.true in
           (one_behind c.args.self.now c.loop-vertex.self c.args.state.now c.loop-vertex.state f c.args.pairs.now c.loop-vertex.vertex-index (0, 0) a c.runs_behind_one.new.self.opened c.args.modifiers ready.later _ _ c.loop-vertex.invariant.kept c.loop-vertex.invariant.given_back goes c.loop-vertex-test.true ready.applies (omega (arith, c.if-modifiers-le1.false)) (c.loop-vertex.invariant.counted f a goes counts) c.runs_behind_one.ensures.counts).counts;
+      grows =
+          let ready = c.requires.ready c.loop-vertex.vertex-index (0, 0) c.loop-vertex-test.true in
+          let one = one_forced c.args.self.now c.loop-vertex.self c.args.state.now c.loop-vertex.state c.args.pairs.now c.loop-vertex.vertex-index (0, 0) c.args.self.now.opened c.runs_behind_one.new.self.opened c.args.modifiers ready.later c.loop-vertex.invariant.kept c.loop-vertex.invariant.given_back c.loop-vertex-test.true ready.applies (omega (arith, c.if-modifiers-le1.false)) c.in_ok-runs_behind_one.ensures.forced in
+          omega (arith, c.loop-vertex.invariant.grows, one.grows);
+      forced = λ cut numbered.
+          let ready = c.requires.ready c.loop-vertex.vertex-index (0, 0) c.loop-vertex-test.true in
+          let one = one_forced c.args.self.now c.loop-vertex.self c.args.state.now c.loop-vertex.state c.args.pairs.now c.loop-vertex.vertex-index (0, 0) c.args.self.now.opened c.runs_behind_one.new.self.opened c.args.modifiers ready.later c.loop-vertex.invariant.kept c.loop-vertex.invariant.given_back c.loop-vertex-test.true ready.applies (omega (arith, c.if-modifiers-le1.false)) c.in_ok-runs_behind_one.ensures.forced in
+          one.forced cut numbered (c.loop-vertex.invariant.forced cut numbered);
     }
 
 pub runs_behind-returns-clause-answer : goal.runs_behind-returns-clause-answer
@@ -460,6 +481,8 @@ runs_behind-loop-vertex-init g t c = record {
   room = omega arith;
   none = λ k d within. absurd (omega (arith, within));
   counted = λ f a goes counts. behind_begin c.args.self.now.game goes.lawful.numbered c.args.state.now.state f a c.args.self.now.opened counts;
+  grows = omega arith;
+  forced = λ cut numbered. takes_none c.args.self.now.game numbered cut pattern c.args.state.now.state c.args.self.now.opened c.args.self.now.opened c.args.modifiers c.args.self.now.modifiers (omega arith);
 }
 
 pub runs_behind-returns-then-modifiers-le1-clause-counts :
@@ -555,3 +578,60 @@ word_runs-returns-clause-counts g t c =
     counted_only c.args.self.now.game pattern c.args.state.now.state (start_of c.args.origin) c.args.self.now.opened c.reuse-2.new.self.opened c.args.modifiers c.args.self.now.openings c.args.self.now.modifiers _ _
     (subst (λ (x : ℕ). CountsOpenings c.args.self.now.game pattern c.args.state.now.state (start_of c.args.origin) c.args.self.now.opened x) (sym (ap (λ (x : Searching). x.opened) c.reuse-2.ensures)) counts.counted)
     (ok_not_err c.in_ok-runs.runs Deep) (ok_not_err c.in_ok-runs.runs Wide)
+
+-- ---- what is forced
+
+pub flat_part-returns-clause-forced : goal.flat_part-returns-clause-forced
+flat_part-returns-clause-forced g t c = λ cut left.
+    let f : Start = start_of c.args.origin in
+    let here = c.loop-flat.self in
+    let done : List (ℕ × ℕ) = take c.loop-flat.flat.taken c.loop-flat.flat.queue.pairs in
+    let last : List (ℕ × ℕ) = take c.advance.new.flat.taken c.advance.new.flat.queue.pairs in
+    let met : (e : Start) → IsBegun here.game c.loop-flat.state.state e c.loop-flat.flat → (v p : ℕ) → Reached here.game c.loop-flat.state.state e v p → Contains last (v, p) = search rules in
+    let begun = onward (λ x u. IsBegun x u f c.loop-flat.flat) c.args.self.now here c.args.state.now c.loop-flat.state c.loop-flat.invariant.kept c.loop-flat.invariant.given_back c.loop-flat.invariant.begun in
+    subst (λ (n : ℕ). CountsForced c.args.self.now.game cut reach c.args.state.now.state f c.args.self.now.opened n left c.args.self.now.modifiers) (sym (ap (λ (x : Searching). x.opened) c.finish.ensures.kept))
+    (flat_forced c.args.self.now here c.args.state.now c.loop-flat.state f done last c.args.self.now.opened left cut c.loop-flat.invariant.kept c.loop-flat.invariant.given_back c.loop-flat.invariant.lawful.numbered c.in_ok-vertex.ensures.quiet (met f begun) (c.loop-flat.invariant.forced cut))
+
+pub runs_behind-returns-then-branch-clause-forced : goal.runs_behind-returns-then-branch-clause-forced
+runs_behind-returns-then-branch-clause-forced g t c =
+    let ready = c.requires.ready c.loop-vertex.vertex-index (0, 0) c.loop-vertex-test.true in
+    let one = one_forced c.args.self.now c.loop-vertex.self c.args.state.now c.loop-vertex.state c.args.pairs.now c.loop-vertex.vertex-index (0, 0) c.args.self.now.opened c.runs_behind_one.new.self.opened c.args.modifiers ready.later c.loop-vertex.invariant.kept c.loop-vertex.invariant.given_back c.loop-vertex-test.true ready.applies (omega (arith, c.if-modifiers-le1.false)) c.in_ok-runs_behind_one.ensures.forced in
+    ran_some c.args.self.now.game c.args.state.now.state c.args.pairs.now c.args.self.now.opened c.runs_behind_one.new.self.opened c.args.modifiers c.args.self.now.modifiers (omega (arith, c.loop-vertex.invariant.grows, one.grows))
+
+pub runs_behind-returns-clause-forced : goal.runs_behind-returns-clause-forced
+runs_behind-returns-clause-forced g t c =
+    ran_none c.args.self.now.game c.args.state.now.state c.args.pairs.now c.loop-vertex.vertex-index c.args.self.now.opened c.loop-vertex.self.opened c.args.modifiers c.args.self.now.modifiers (omega (arith, c.loop-vertex-test.false)) c.loop-vertex.invariant.grows c.loop-vertex.invariant.forced
+
+pub runs_behind_one-returns-clause-forced : goal.runs_behind_one-returns-clause-forced
+runs_behind_one-returns-clause-forced g t c = λ cut later applies.
+    subst (λ (u : AbstractState). CountsForced c.args.self.now.game cut pattern u (after c.args.position) c.args.self.now.opened c.word_runs-runs.new.self.opened (c.args.modifiers - 1) c.args.self.now.modifiers) (sym (c.apply_at.ensures.only later applies)) (c.in_ok-runs.ensures.forced cut)
+
+pub word_runs-returns-then-reached-clause-forced : goal.word_runs-returns-then-reached-clause-forced
+word_runs-returns-then-reached-clause-forced g t c = λ cut.
+    let f : Start = start_of c.args.origin in
+    let numbered = c.in_ok-reached.ensures.lawful.numbered in
+    let same : c.reuse.new.self.opened ≡ c.flat_part.new.self.opened = ap (λ (x : Searching). x.opened) c.reuse.ensures in
+    word_forced c.args.self.now.game numbered cut c.args.state.now.state f c.args.self.now.opened c.flat_part.new.self.opened c.reuse.new.self.opened c.args.modifiers c.args.self.now.modifiers
+    (runs_at_end c.args.self.now.game numbered c.args.state.now.state f c.in_ok-reached.reached.pairs.items c.in_ok-reached.reached.ends c.in_ok-reached.ensures.reached c.if-reached.true)
+    (omega (arith, same)) (c.in_ok-reached.ensures.forced cut c.args.modifiers)
+
+pub word_runs-returns-clause-forced : goal.word_runs-returns-clause-forced
+word_runs-returns-clause-forced g t c = λ cut.
+    let game = c.args.self.now.game in
+    let s : AbstractState = c.args.state.now.state in
+    let f : Start = start_of c.args.origin in
+    let numbered = c.in_ok-reached.ensures.lawful.numbered in
+    let found : List (ℕ × ℕ) = c.in_ok-reached.reached.pairs.items in
+    let b = c.flat_part.new.self.opened in
+    let last = c.runs_behind.new.self.opened in
+    let most = c.args.self.now.modifiers in
+    let same : c.reuse-2.new.self.opened ≡ last = ap (λ (x : Searching). x.opened) c.reuse-2.ensures in
+    let decides : IsTrue c.in_ok-runs.runs ↔ SomeRunsBehind game s found =
+    before (λ x u. IsTrue c.in_ok-runs.runs ↔ SomeRunsBehind x u found) c.args.self.now c.flat_part.new.self c.args.state.now c.flat_part.new.state c.flat_part.ensures.kept c.flat_part.ensures.given_back
+    (subst (λ (ps : List (ℕ × ℕ)). IsTrue c.in_ok-runs.runs ↔ SomeRunsBehind c.flat_part.new.self.game c.flat_part.new.state.state ps) c.deref.ensures.value c.in_ok-runs.ensures.answer) in
+    let answer = runs_there game numbered s f found c.in_ok-reached.reached.ends c.in_ok-runs.runs c.in_ok-reached.ensures.reached c.if-reached.false decides in
+    let ran : RanBehind game s found c.in_ok-runs.runs b last c.args.modifiers most =
+    search_before (λ y w. RanBehind y.game w found c.in_ok-runs.runs b last c.args.modifiers y.modifiers) c.args.self.now c.flat_part.new.self c.args.state.now c.flat_part.new.state c.flat_part.ensures.kept c.flat_part.ensures.given_back
+    (subst (λ (ps : List (ℕ × ℕ)). RanBehind c.flat_part.new.self.game c.flat_part.new.state.state ps c.in_ok-runs.runs b last c.args.modifiers c.flat_part.new.self.modifiers) c.deref.ensures.value c.in_ok-runs.ensures.forced) in
+    subst (λ (n : ℕ). CountsForced game cut pattern s f c.args.self.now.opened n c.args.modifiers most) (sym same)
+    (asked_forced game numbered s f found c.in_ok-reached.reached.ends c.in_ok-runs.runs c.args.self.now.opened b last c.args.modifiers most cut answer c.in_ok-reached.ensures.reached (c.in_ok-reached.ensures.forced cut c.args.modifiers) ran)

@@ -1,15 +1,18 @@
 -- Each call has fewer patterns or fewer modifiers before it; the semi-state is given back after each.
 use Rattle.std.proofs.Common.{◌≡◌, ◌+◌, ◌*◌, ◌-◌, ◌^◌, ◌≤◌, take, ℕ}
-use Rattle.std.specs.Prelude.{All}
+use Rattle.std.specs.Prelude.{All, Bool}
 use Rattle.rbg_rules.specs.Games.{IsGame}
 use Rattle.rbg_search.specs.Start.{start_of}
 use Rattle.rbg_search.specs.internal.Begun.{IsBegun}
 use Rattle.rbg_search.specs.internal.Behind.{RunsBehindPair}
+use Rattle.rbg_rules.specs.Positions.{IsNumbered}
 use Rattle.rbg_rules.specs.Words.{Start}
 use Rattle.rbg_rules.specs.Questions.{reach, pattern}
 use Rattle.rbg_search.specs.Counting.{CountsOpenings}
 use Rattle.rbg_search.specs.Passing.{CountsUpTo}
 use Rattle.rbg_search.specs.internal.Asked.{CountsAsked, GoesBehind}
+use Rattle.rbg_search.specs.internal.Taking.{AsksForced}
+use Rattle.rbg_search.specs.Forced.{TakesBehind}
 use Rattle.rbg_search.proofs.search.Search.+search.Given as goal
 
 abbrev pub decreases-flat_part : goal.decreases-flat_part
@@ -36,6 +39,9 @@ invariant-flat_part-loop-flat g l = record {
   begun : IsBegun l.fn.self.game l.fn.state.state (start_of l.fn.origin) l.flat;
   lawful : IsGame l.fn.self.game;
   counted : CountsAsked l.fn.self.game l.fn.state.state (start_of l.fn.origin) (take l.flat.taken l.flat.queue.pairs) l.fn.self.opened l.self.opened;
+  forced :
+      (cut : Bool) →
+      AsksForced l.fn.self.game cut l.fn.state.state (take l.flat.taken l.flat.queue.pairs) l.fn.self.opened l.self.opened l.fn.self.modifiers;
 }
 
 abbrev pub decreases-flat_part-loop-flat : goal.decreases-flat_part-loop-flat
@@ -52,4 +58,9 @@ invariant-runs_behind-loop-vertex g l = record {
       GoesBehind l.fn.self.game l.fn.state.state f l.pairs →
       CountsOpenings l.fn.self.game reach l.fn.state.state f a l.fn.self.opened →
       CountsUpTo l.fn.self.game pattern l.fn.state.state f (take l.vertex-index l.pairs) a l.self.opened;
+  grows : l.fn.self.opened ≤ l.self.opened;
+  forced :
+      (cut : Bool) →
+      IsNumbered l.fn.self.game.rules →
+      TakesBehind l.fn.self.game cut pattern l.fn.state.state (take l.vertex-index l.pairs) l.fn.self.opened l.self.opened l.fn.modifiers l.fn.self.modifiers;
 }

@@ -12,6 +12,8 @@ use Rattle.rbg_search.proofs.Asking.{room_twice}
 use Rattle.rbg_rules.specs.Questions.{pattern}
 use Rattle.rbg_search.specs.internal.Asked.{IsCounted}
 use Rattle.rbg_search.specs.declared.over.Over.TheVariants.{Deep, Wide, Memory}
+use Rattle.rbg_search.specs.Forced.{CountsForced}
+use Rattle.rbg_search.proofs.Forcing.{all_counted, none_deep}
 use Rattle.rbg_search.proofs.Countings.{none_counted}
 use Rattle.rbg_search.proofs.Counted.{ok_not_err, memory_not_deep, memory_not_wide}
 use Rattle.rbg_search.proofs.CountedSteps.{given_up, deep_is, not_memory}
@@ -88,3 +90,17 @@ returns-clause-deep g c =
 pub returns-clause-wide : goal.returns-clause-wide
 returns-clause-wide g c =
     λ w. absurd (ok_not_err _ Wide w)
+
+pub returns-clause-all_forced : goal.returns-clause-all_forced
+returns-clause-all_forced g c = λ cut.
+    let here : at_vertex c.reserve.new.self.state c.vertex-vertex.result ≡ c.args.state.now.state =
+    ap (λ (v : ℕ). at_vertex c.reserve.new.self.state v) c.vertex-vertex.ensures ∙ ap (λ (h : History). h.state) c.reserve.ensures.kept in
+    all_counted c.args.self.now.game cut pattern c.args.state.now.state (beginning (inside c.args.position)) c.args.self.now.opened c.ask.new.self.opened c.args.self.now.modifiers c.args.self.now.modifiers
+    (subst (λ (s : AbstractState). CountsForced c.args.self.now.game cut pattern s (beginning (inside c.args.position)) c.args.self.now.opened c.ask.new.self.opened c.args.self.now.modifiers c.args.self.now.modifiers) here (c.in_ok-valid.ensures.forced cut))
+
+pub returns-clause-not_deep : goal.returns-clause-not_deep
+returns-clause-not_deep g c = λ cut.
+    let here : at_vertex c.reserve.new.self.state c.vertex-vertex.result ≡ c.args.state.now.state =
+    ap (λ (v : ℕ). at_vertex c.reserve.new.self.state v) c.vertex-vertex.ensures ∙ ap (λ (h : History). h.state) c.reserve.ensures.kept in
+    none_deep c.args.self.now.game cut pattern c.args.state.now.state (beginning (inside c.args.position)) c.args.self.now.opened c.ask.new.self.opened c.args.self.now.modifiers c.args.self.now.modifiers
+    (subst (λ (s : AbstractState). CountsForced c.args.self.now.game cut pattern s (beginning (inside c.args.position)) c.args.self.now.opened c.ask.new.self.opened c.args.self.now.modifiers c.args.self.now.modifiers) here (c.in_ok-valid.ensures.forced cut)) (omega arith)

@@ -1,4 +1,4 @@
-use Rattle.std.proofs.Common.{◌≡◌, ap, subst}
+use Rattle.std.proofs.Common.{◌≡◌, ap, subst, arith}
 use Rattle.rbg_rules.specs.State.{AbstractGame}
 use Rattle.rbg_search.specs.Searching.{Searching}
 use Rattle.rbg_search.specs.Start.{start_of}
@@ -7,6 +7,7 @@ use Rattle.rbg_search.proofs.Orders.{flat_permuted, ready_within}
 use Rattle.rbg_rules.specs.Questions.{reach}
 use Rattle.rbg_search.specs.declared.over.Over.TheVariants.{Deep, Wide}
 use Rattle.rbg_search.proofs.Counted.{ok_not_err}
+use Rattle.rbg_search.proofs.Forcing.{all_counted, none_deep}
 use Rattle.rbg_search.proofs.CountedSteps.{given_up, deep_is}
 use Rattle.rbg_search.proofs.search.Search.reach.Goals as goal
 
@@ -46,3 +47,13 @@ returns-clause-deep g c = λ d. absurd (ok_not_err _ Deep d)
 
 pub returns-clause-wide : goal.returns-clause-wide
 returns-clause-wide g c = λ w. absurd (ok_not_err _ Wide w)
+
+pub returns-clause-all_forced : goal.returns-clause-all_forced
+returns-clause-all_forced g c = λ cut.
+    all_counted c.args.self.now.game cut reach c.args.state.now.state (start_of c.args.origin) c.args.self.now.opened c.flat_part.new.self.opened c.args.self.now.modifiers c.args.self.now.modifiers
+    (c.in_ok-reached.ensures.forced cut c.args.self.now.modifiers)
+
+pub returns-clause-not_deep : goal.returns-clause-not_deep
+returns-clause-not_deep g c = λ cut.
+    none_deep c.args.self.now.game cut reach c.args.state.now.state (start_of c.args.origin) c.args.self.now.opened c.flat_part.new.self.opened c.args.self.now.modifiers c.args.self.now.modifiers
+    (c.in_ok-reached.ensures.forced cut c.args.self.now.modifiers) (omega arith)

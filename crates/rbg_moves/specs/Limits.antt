@@ -1,0 +1,21 @@
+-- What an answer says of the limits.
+use Rattle.std.specs.Prelude.{ℕ, ◌≤◌, Bool}
+use Rattle.rbg_rules.specs.State.{AbstractGame}
+use Rattle.rbg_rules.specs.Moves.{AbstractPlace, stand_of}
+use Rattle.rbg_rules.specs.Questions.{Question, IsDeep, IsWide, HasForced, IsForcedDeep}
+use Rattle.rbg_rules.specs.Limits.{most_openings, most_modifiers}
+
+-- An opening of the question at a place has too many modifiers in a row.
+abbrev pub IsDeepAt : AbstractGame → Question → AbstractPlace → Type 0
+IsDeepAt game question place = IsDeep game question place.state (stand_of place.last) most_modifiers
+
+-- The question at a place has more openings than may be taken up.
+abbrev pub IsWideAt : AbstractGame → Question → AbstractPlace → Type 0
+IsWideAt game question place = IsWide game question place.state (stand_of place.last) most_openings
+
+-- The forced openings of the question at a place are within the limits: they are no more than may be taken up, and none
+-- has too many modifiers in a row.
+pub record FitsLimits (game : AbstractGame) (cut : Bool) (question : Question) (place : AbstractPlace) : Type 0 where
+  pub few :
+      (many : ℕ) → HasForced game cut question place.state (stand_of place.last) many → many ≤ most_openings
+  pub not_deep : ¬ IsForcedDeep game cut question place.state (stand_of place.last) most_modifiers

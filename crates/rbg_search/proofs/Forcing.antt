@@ -1,0 +1,448 @@
+-- Which openings are forced, and how those of a question are put together from the parts that a search takes up.
+use Rattle.std.proofs.Common.{◌≡◌, ◌≢◌, ℕ, zero, suc, ◌+◌, ◌-◌, ◌<◌, ◌≤◌, ◌⊎◌, List, [], ◌∷◌, ◌++◌, length, get_or, map, take, Bool, true, refl, sym, ap, ◌∙◌, subst, inl, inr, arith, append_assoc}
+use Rattle.std.specs.Prelude.{All, AllPairs, Contains}
+use Rattle.std.proofs.lemmas.List.{length-append, length-map, take_more}
+use Rattle.std.proofs.lemmas.List.Elements.{All-nil, All-cons, All-head, All-tail, All-weaker, Contains-append_left, Contains-append_right, Contains-push_cases, Contains-append_cases}
+use Rattle.rbg_rules.specs.Positions.{IsNumbered, IsModifierAt, IsSwitchAt, IsPatternAt, HasNoModifier, HasNoSwitch, is_modifier, inside}
+use Rattle.rbg_rules.specs.Words.{Start, beginning, after, Follows}
+use Rattle.rbg_rules.specs.State.{AbstractGame, AbstractState}
+use Rattle.rbg_rules.specs.Actions.{rest, step, Applies, Run}
+use Rattle.rbg_rules.specs.Moves.{RunPairs, stay, modify, pass}
+use Rattle.rbg_rules.specs.Questions.{Question, reach, pattern, Item, modifier_at, pattern_at, items_of, RunsOn, SomeWordRuns, GoesTo, IsForcedTo, Forced, at, behind, HasForced, IsForcedDeep}
+use Rattle.rbg_rules.proofs.MoveLemmas.{Applies_one}
+use Rattle.rbg_rules.proofs.LocalityLemmas.{locality_law}
+use Rattle.rbg_search.specs.Flat.{IsNext, IsFlatPart}
+use Rattle.rbg_search.specs.Forced.{HasFewInRow, CountsForced, TakesBehind}
+use Rattle.rbg_search.specs.internal.Closure.{at_vertex, Reached}
+use Rattle.rbg_search.specs.internal.Taking.{AsksForced}
+use Rattle.rbg_search.proofs.Closures.{quiet_place, reached, ends_at, next_found, behind_runs}
+use Rattle.rbg_search.proofs.Openings.{behind_runs_on}
+
+-- ---- a list of different items is no longer than one that has them all
+
+module _ {X : Type 0} where
+  pub record SplitAt (ys : List X) (x : X) : Type 0 where
+    pub before : List X
+    pub behind_it : List X
+    pub joined : ys ≡ before ++ x ∷ behind_it
+
+  split_at : (ys : List X) (x : X) → Contains ys x → SplitAt ys x
+  split_at [] x (k, under, is) = absurd (omega (arith, under))
+  split_at (y ∷ ys) x (zero, under, is) = record { before = []; behind_it = ys; joined = ap (λ (z : X). z ∷ ys) is }
+  split_at (y ∷ ys) x (suc k, under, is) =
+      let cut = split_at ys x (k, omega (arith, under), is) in
+      record { before = y ∷ cut.before; behind_it = cut.behind_it; joined = ap (λ (zs : List X). y ∷ zs) cut.joined }
+
+  cons_cases : (y : X) (ys : List X) (x : X) → Contains (y ∷ ys) x → (y ≡ x) ⊎ Contains ys x
+  cons_cases y ys x (zero, under, is) = inl is
+  cons_cases y ys x (suc k, under, is) = inr (k, omega (arith, under), is)
+
+  still_there : (us vs : List X) (x y : X) → x ≢ y → Contains (us ++ x ∷ vs) y → Contains (us ++ vs) y
+  still_there us vs x y other there = elim (Contains-append_cases us (x ∷ vs) y there) [
+    | inl first ↦ Contains-append_left us vs y first
+    | inr second ↦ elim (cons_cases x vs y second) [
+      | inl same ↦ absurd (other same)
+      | inr later ↦ Contains-append_right us vs y later
+    ]
+  ]
+
+  pub mapped : {Y : Type 0} (g : X → Y) (xs : List X) (x : X) → Contains xs x → Contains (map g xs) (g x)
+  mapped g [] x (k, under, is) = absurd (omega (arith, under))
+  mapped {Y} g (y ∷ xs) x there = elim (cons_cases y xs x there) [
+    | inl same ↦ (0, omega arith, ap g same)
+    | inr later ↦ Contains-append_right (g y ∷ []) (map g xs) (g x) (mapped g xs x later)
+  ]
+
+  pub no_longer : (xs ys : List X) → AllPairs (λ a b. a ≢ b) xs → All (Contains ys) xs → length xs ≤ length ys
+  no_longer [] ys different there = omega arith
+  no_longer (x ∷ xs) ys different there =
+      let cut = split_at ys x (All-head (Contains ys) x xs there) in
+      let others : All (λ y. x ≢ y) xs = λ k d under. different 0 (suc k) d (omega arith) (omega (arith, under)) in
+      let rest_different : AllPairs (λ a b. a ≢ b) xs = λ i j d less under. different (suc i) (suc j) d (omega (arith, less)) (omega (arith, under)) in
+      let rest_there : All (Contains (cut.before ++ cut.behind_it)) xs = λ k d under.
+      still_there cut.before cut.behind_it x (get_or xs k d) (others k d under)
+      (subst (λ (zs : List X). Contains zs (get_or xs k d)) cut.joined (All-tail (Contains ys) x xs there k d under)) in
+      let fewer = no_longer xs (cut.before ++ cut.behind_it) rest_different rest_there in
+      let whole : length ys ≡ length (cut.before ++ x ∷ cut.behind_it) = ap (λ (zs : List X). length zs) cut.joined in
+      let first = length-append cut.before (x ∷ cut.behind_it) in
+      let second = length-append cut.before cut.behind_it in
+      omega (arith, fewer, whole, first, second)
+
+-- ---- what a list that holds all says of the count, and of rows
+
+few_row : (most : ℕ) (row : List (ℕ × ℕ)) (later : List Item) (left : ℕ) → HasFewInRow left most (items_of row ++ later) → 0 < length row → length row < left
+few_row most [] later left few some = absurd (omega (arith, some))
+few_row most (q ∷ []) later left few some = omega (arith, few.0)
+few_row most (q ∷ r ∷ rs) later left few some =
+    let behind_it = few_row most (r ∷ rs) later (left - 1) few.1 (omega arith) in
+    omega (arith, few.0, behind_it)
+
+few_deep : (most : ℕ) → 0 < most → (before : List Item) (row : List (ℕ × ℕ)) (later : List Item) (left : ℕ) → left ≤ most → length row ≡ most → ¬ HasFewInRow left most (before ++ items_of row ++ later)
+few_deep most some [] row later left under count few =
+    let short = few_row most row later left few (omega (arith, some, count)) in
+    omega (arith, short, under, count)
+few_deep most some (modifier_at v p ∷ before) row later left under count few = few_deep most some before row later (left - 1) (omega (arith, under)) count few.1
+few_deep most some (pattern_at v p ∷ before) row later left under count few = few_deep most some before row later most (omega arith) count few
+
+module _ (game : AbstractGame) (cut : Bool) (question : Question) (s : AbstractState) (f : Start) (old new left most : ℕ) (counts : CountsForced game cut question s f old new left most) where
+  pub all_counted : (many : ℕ) → HasForced game cut question s f many → old + many ≤ new
+  all_counted many has =
+      let shorter = no_longer has.openings counts.openings has.different (All-weaker (Forced game cut question s f) (Contains counts.openings) counts.all has.openings has.forced) in
+      omega (arith, shorter, has.count, counts.fits)
+
+  pub none_deep : left ≤ most → 0 < most → ¬ IsForcedDeep game cut question s f most
+  none_deep under some deep = few_deep most some deep.before deep.row deep.later left under deep.count (counts.few (deep.before ++ items_of deep.row ++ deep.later) deep.forced)
+
+-- ---- the forced openings of `reach`
+
+-- The empty list, or what is forced in a pattern that is reached.
+pub data IsForcedHere (game : AbstractGame) (cut : Bool) (s : AbstractState) (f : Start) : List Item → Type 0 where
+  nothing : IsForcedHere game cut s f []
+  asked :
+      {v p : ℕ} {o : List Item} →
+      Reached game s f v p → IsPatternAt game.rules p →
+      Forced game cut pattern (at_vertex s v) (beginning (inside p)) o →
+      IsForcedHere game cut s f (pattern_at v p ∷ o)
+
+not_nothing : (q : ℕ × ℕ) (qs : List (ℕ × ℕ)) → (q ∷ qs) ≢ []
+not_nothing q qs e = cc
+
+module _ (game : AbstractGame) (numbered : IsNumbered game.rules) where
+  none_left : {w : List ℕ} {s t : AbstractState} → RunPairs game w s t [] → HasNoModifier game.rules w × Run game w s t
+  none_left stay = (All-nil (λ (k : ℕ). ¬ IsModifierAt game.rules k), rest)
+  none_left (pass {p} {w} applied quiet run) =
+      let more = none_left run in
+      (All-cons (λ (k : ℕ). ¬ IsModifierAt game.rules k) p w (quiet_place game numbered p applied quiet) more.0, step applied more.1)
+
+  pub forced_here : (cut : Bool) (s : AbstractState) (f : Start) (o : List Item) → Forced game cut reach s f o → IsForcedHere game cut s f o
+  forced_here cut s f o (at {ps = []} on none tt) = nothing
+  forced_here cut s f o (at {ps = q ∷ qs} on none tt) = absurd (not_nothing q qs none)
+  forced_here cut s f o (behind {m = m} {t = t} {ps = []} {p = p} {more = more} on none tt follows is inner) =
+      let quiet = none_left on.runs in
+      let here : t ≡ at_vertex s t.vertex = ends_at game numbered s t m quiet.0 quiet.1 in
+      asked (reached game numbered s t f m p quiet.0 quiet.1 follows) is (subst (λ (u : AbstractState). Forced game cut pattern u (beginning (inside p)) more) here inner)
+  forced_here cut s f o (behind {ps = q ∷ qs} on none tt follows is inner) = absurd (not_nothing q qs none)
+
+  -- ---- the forced openings of a question, by their first modifier
+
+  -- A run with pairs up to its first modifier, and behind it.
+  pub record FirstModifier (w : List ℕ) (s t : AbstractState) (v p : ℕ) (ps : List (ℕ × ℕ)) : Type 0 where
+    pub first_part : List ℕ
+    pub rest_of : List ℕ
+    pub here : AbstractState
+    pub later : AbstractState
+    pub joined : w ≡ first_part ++ p ∷ rest_of
+    pub quiet : HasNoModifier game.rules first_part
+    pub runs : Run game first_part s here
+    pub vertex : here.vertex ≡ v
+    pub applied : Applies game p here later
+    pub modifies : is_modifier applied.action ≡ true
+
+  first_modifier : {w : List ℕ} {s t : AbstractState} {v p : ℕ} {ps : List (ℕ × ℕ)} → RunPairs game w s t ((v, p) ∷ ps) → FirstModifier w s t v p ps
+  first_modifier (modify {w = w} {s = s} {middle = middle} applied modifies run) =
+      record { first_part = []; rest_of = w; here = s; later = middle; joined = refl; quiet = All-nil (λ (k : ℕ). ¬ IsModifierAt game.rules k); runs = rest; vertex = refl; applied = applied; modifies = modifies }
+  first_modifier (pass {p = q} {w = w} applied quiet run) =
+      let cut = first_modifier run in
+      record {
+        first_part = q ∷ cut.first_part;
+        rest_of = cut.rest_of;
+        here = cut.here;
+        later = cut.later;
+        joined = ap (λ (xs : List ℕ). q ∷ xs) cut.joined;
+        quiet = All-cons (λ (k : ℕ). ¬ IsModifierAt game.rules k) q cut.first_part (quiet_place game numbered q applied quiet) cut.quiet;
+        runs = step applied cut.runs;
+        vertex = cut.vertex;
+        applied = cut.applied;
+        modifies = cut.modifies;
+      }
+
+  all_right : {X : Type 0} (P : X → Type 0) (xs ys : List X) → All P (xs ++ ys) → All P ys
+  all_right P [] ys all = all
+  all_right P (x ∷ xs) ys all = all_right P xs ys (All-tail P x (xs ++ ys) all)
+
+  -- Behind its first modifier a run goes on.
+  pub record GoesThrough (s : AbstractState) (f : Start) (m : List ℕ) (t : AbstractState) (v p : ℕ) (ps : List (ℕ × ℕ)) : Type 0 where
+    pub next : IsNext game s f v p
+    pub applies : Applies game p (at_vertex s v) next.later
+    pub plain : ¬ IsSwitchAt game.rules p
+    pub first_part : List ℕ
+    pub rest_of : List ℕ
+    pub joined : m ≡ first_part ++ p ∷ rest_of
+    pub on : RunsOn game next.later (after p) rest_of t ps
+
+  pub goes_through : (s : AbstractState) (f : Start) (m : List ℕ) (t : AbstractState) (v p : ℕ) (ps : List (ℕ × ℕ)) → RunsOn game s f m t ((v, p) ∷ ps) → GoesThrough s f m t v p ps
+  goes_through s f m t v p ps on =
+      let cut = first_modifier on.runs in
+      let here : cut.here ≡ at_vertex s v = ends_at game numbered s cut.here cut.first_part cut.quiet cut.runs ∙ ap (λ (x : ℕ). at_vertex s x) cut.vertex in
+      let applies : Applies game p (at_vertex s v) cut.later = subst (λ (u : AbstractState). Applies game p u cut.later) here cut.applied in
+      let follows : Follows game.rules f (cut.first_part ++ p ∷ cut.rest_of) = subst (Follows game.rules f) cut.joined on.follows in
+      let no_switch : HasNoSwitch game.rules (cut.first_part ++ p ∷ cut.rest_of) = subst (HasNoSwitch game.rules) cut.joined on.no_switch in
+      let (behind_it, more) = behind_runs_on game numbered s cut.later t f v p m ps applies on in
+      record {
+        next = record {
+          before = cut.first_part;
+          here = cut.here;
+          later = cut.later;
+          no_modifier = cut.quiet;
+          runs = cut.runs;
+          vertex = cut.vertex;
+          follows = ((locality_law game.rules numbered f cut.first_part p cut.rest_of).0.0 follows).0;
+          modifies = record { action = cut.applied.action; stands = cut.applied.stands; modifies = cut.modifies };
+          applies = cut.applied;
+        };
+        applies = applies;
+        plain = All-head (λ k. ¬ IsSwitchAt game.rules k) p cut.rest_of (all_right (λ k. ¬ IsSwitchAt game.rules k) cut.first_part (p ∷ cut.rest_of) no_switch);
+        first_part = behind_it.before;
+        rest_of = behind_it.rest_of;
+        joined = behind_it.joined;
+        on = more;
+      }
+
+-- What is forced with no modifier taken; or behind a modifier to which the question may go, what is forced where it
+-- goes on as the second one.
+pub data IsForcedBy (game : AbstractGame) (cut : Bool) (question question' : Question) (s : AbstractState) (f : Start) : List Item → Type 0 where
+  here : {o : List Item} → Forced game cut reach s f o → IsForcedBy game cut question question' s f o
+  further :
+      {v p : ℕ} {o : List Item} (later : AbstractState) →
+      IsNext game s f v p → Applies game p (at_vertex s v) later → ¬ IsSwitchAt game.rules p →
+      (ps : List (ℕ × ℕ)) → GoesTo game question s f ((v, p) ∷ ps) →
+      Forced game cut question' later (after p) o →
+      IsForcedBy game cut question question' s f (modifier_at v p ∷ o)
+
+-- Where the first question is forced behind a modifier, the second one goes and is forced there.
+abbrev pub ForcesOn : AbstractGame → Bool → Question → Question → AbstractState → Start → Type 0
+ForcesOn game cut question question' s f =
+    (v p : ℕ) (later : AbstractState) (ps : List (ℕ × ℕ)) →
+    IsNext game s f v p → Applies game p (at_vertex s v) later → ¬ IsSwitchAt game.rules p →
+    GoesTo game question s f ((v, p) ∷ ps) → IsForcedTo game cut question s f ((v, p) ∷ ps) →
+    GoesTo game question' later (after p) ps × IsForcedTo game cut question' later (after p) ps
+
+module _ (game : AbstractGame) (numbered : IsNumbered game.rules) where
+  pub forced_by : (cut : Bool) (question question' : Question) (s : AbstractState) (f : Start) → ForcesOn game cut question question' s f → (o : List Item) → Forced game cut question s f o → IsForcedBy game cut question question' s f o
+  forced_by cut question question' s f onward o (at {ps = []} on goes forced) = here (at on refl tt)
+  forced_by cut question question' s f onward o (at {m = m} {t = t} {ps = (v, p) ∷ ps} on goes forced) =
+      let cut_run = goes_through game numbered s f m t v p ps on in
+      let there = onward v p cut_run.next.later ps cut_run.next cut_run.applies cut_run.plain goes forced in
+      further cut_run.next.later cut_run.next cut_run.applies cut_run.plain ps goes (at cut_run.on there.0 there.1)
+  forced_by cut question question' s f onward o (behind {ps = []} on goes forced follows is inner) = here (behind on refl tt follows is inner)
+  forced_by cut question question' s f onward o (behind {m = m} {t = t} {ps = (v, p) ∷ ps} {p = q} on goes forced follows is inner) =
+      let cut_run = goes_through game numbered s f m t v p ps on in
+      let there = onward v p cut_run.next.later ps cut_run.next cut_run.applies cut_run.plain goes forced in
+      let whole : m ++ q ∷ [] ≡ cut_run.first_part ++ p ∷ (cut_run.rest_of ++ q ∷ []) = ap (λ (x : List ℕ). x ++ q ∷ []) cut_run.joined ∙ append_assoc cut_run.first_part (p ∷ cut_run.rest_of) (q ∷ []) in
+      let follows' : Follows game.rules f (cut_run.first_part ++ p ∷ (cut_run.rest_of ++ q ∷ [])) = subst (Follows game.rules f) whole follows in
+      further cut_run.next.later cut_run.next cut_run.applies cut_run.plain ps goes
+      (behind cut_run.on there.0 there.1 ((locality_law game.rules numbered f cut_run.first_part p (cut_run.rest_of ++ q ∷ [])).0.0 follows').1 is inner)
+
+  -- ---- while the patterns of a flat part are asked
+
+  nothing_in : (x : ℕ × ℕ) → ¬ Contains [] x
+  nothing_in x (k, under, there) = absurd (omega (arith, under))
+
+  pub asks_begin : (cut : Bool) (s : AbstractState) (old new most : ℕ) → new ≡ old + 1 → AsksForced game cut s [] old new most
+  asks_begin cut s old new most same = record {
+    openings = [] ∷ [];
+    nothing = (0, omega arith, refl);
+    all = λ v p o there is forced. absurd (nothing_in (v, p) there);
+    fits = omega (arith, same);
+    few = λ v p o there is forced. absurd (nothing_in (v, p) there);
+  }
+
+  abbrev same_pair : (v p w q : ℕ) → Type 0
+  same_pair v p w q = let x : ℕ × ℕ = (v, p) in let y : ℕ × ℕ = (w, q) in x ≡ y
+
+  -- One more pattern is asked; what was done between is at no pattern.
+  pub asks_more : (cut : Bool) (s : AbstractState) (done done' : List (ℕ × ℕ)) (v p : ℕ) (a b c most : ℕ) → ((w q : ℕ) → Contains done' (w, q) → IsPatternAt game.rules q → Contains done (w, q)) → AsksForced game cut s done a b most → CountsForced game cut pattern (at_vertex s v) (beginning (inside p)) b c most most → AsksForced game cut s (done' ++ (v, p) ∷ []) a c most
+  asks_more cut s done done' v p a b c most quiet asks more = record {
+    openings = asks.openings ++ map (λ o. pattern_at v p ∷ o) more.openings;
+    nothing = Contains-append_left asks.openings (map (λ o. pattern_at v p ∷ o) more.openings) [] asks.nothing;
+    all = λ w q o there is forced. elim (Contains-push_cases done' (v, p) (w, q) there) [
+      | inl earlier ↦ Contains-append_left asks.openings (map (λ o. pattern_at v p ∷ o) more.openings) (pattern_at w q ∷ o) (asks.all w q o (quiet w q earlier is) is forced)
+      | inr same ↦ Contains-append_right asks.openings (map (λ o. pattern_at v p ∷ o) more.openings) (pattern_at w q ∷ o) (here w q o same forced)
+    ];
+    fits = joined_fits;
+    few = λ w q o there is forced. elim (Contains-push_cases done' (v, p) (w, q) there) [
+      | inl earlier ↦ asks.few w q o (quiet w q earlier is) is forced
+      | inr same ↦ more.few o (moved w q o same forced)
+    ];
+  }
+    where
+      moved : (w q : ℕ) (o : List Item) → same_pair v p w q → Forced game cut pattern (at_vertex s w) (beginning (inside q)) o → Forced game cut pattern (at_vertex s v) (beginning (inside p)) o
+      moved w q o same forced = subst (λ (x : ℕ × ℕ). Forced game cut pattern (at_vertex s x.0) (beginning (inside x.1)) o) (sym same) forced
+
+      here : (w q : ℕ) (o : List Item) → same_pair v p w q → Forced game cut pattern (at_vertex s w) (beginning (inside q)) o → Contains (map (λ o. pattern_at v p ∷ o) more.openings) (pattern_at w q ∷ o)
+      here w q o same forced =
+          subst (λ (x : ℕ × ℕ). Contains (map (λ (r : List Item). pattern_at v p ∷ r) more.openings) (pattern_at x.0 x.1 ∷ o)) same
+          (mapped (λ (r : List Item). pattern_at v p ∷ r) more.openings o (more.all o (moved w q o same forced)))
+
+      joined_fits : a + length (asks.openings ++ map (λ o. pattern_at v p ∷ o) more.openings) ≤ c
+      joined_fits =
+          let both = length-append asks.openings (map (λ (o : List Item). pattern_at v p ∷ o) more.openings) in
+          let same = length-map more.openings (λ (o : List Item). pattern_at v p ∷ o) in
+          omega (arith, both, same, asks.fits, more.fits)
+
+  -- More is done, but at no pattern.
+  pub asks_still : (cut : Bool) (s : AbstractState) (done done' : List (ℕ × ℕ)) (a b most : ℕ) → ((w q : ℕ) → Contains done' (w, q) → IsPatternAt game.rules q → Contains done (w, q)) → AsksForced game cut s done a b most → AsksForced game cut s done' a b most
+  asks_still cut s done done' a b most quiet asks = record {
+    openings = asks.openings;
+    nothing = asks.nothing;
+    all = λ v p o there is forced. asks.all v p o (quiet v p there is) is forced;
+    fits = asks.fits;
+    few = λ v p o there is forced. asks.few v p o (quiet v p there is) is forced;
+  }
+
+  -- In the end they are all that is forced of `reach`.
+  pub asks_end : (cut : Bool) (s : AbstractState) (f : Start) (done : List (ℕ × ℕ)) (a b left most : ℕ) → ((v p : ℕ) → Reached game s f v p → Contains done (v, p)) → AsksForced game cut s done a b most → CountsForced game cut reach s f a b left most
+  asks_end cut s f done a b left most met asks = record {
+    openings = asks.openings;
+    all = λ o forced. there o (forced_here game numbered cut s f o forced);
+    fits = asks.fits;
+    few = λ o forced. short o (forced_here game numbered cut s f o forced);
+  }
+    where
+      there : (o : List Item) → IsForcedHere game cut s f o → Contains asks.openings o
+      there _ nothing = asks.nothing
+      there _ (asked {v = v} {p = p} {o = o} reached is forced) = asks.all v p o (met v p reached) is forced
+
+      short : (o : List Item) → IsForcedHere game cut s f o → HasFewInRow left most o
+      short _ nothing = tt
+      short _ (asked {v = v} {p = p} {o = o} reached is forced) = asks.few v p o (met v p reached) is forced
+
+  -- ---- behind the modifiers that come next
+
+  pub takes_none : (cut : Bool) (question : Question) (s : AbstractState) (a b left most : ℕ) → a ≤ b → TakesBehind game cut question s [] a b left most
+  takes_none cut question s a b left most grows = record {
+    openings = [];
+    all = λ v p later o there plain applies forced. absurd (nothing_in (v, p) there);
+    fits = omega (arith, grows);
+    few = λ v p later o there plain applies forced. absurd (nothing_in (v, p) there);
+  }
+
+  -- One more modifier was taken, and the question was asked behind it.
+  pub takes_more : (cut : Bool) (question : Question) (s : AbstractState) (done : List (ℕ × ℕ)) (v p : ℕ) (later : AbstractState) (a b c left most : ℕ) → Applies game p (at_vertex s v) later → 1 < left → TakesBehind game cut question s done a b left most → CountsForced game cut question later (after p) b c (left - 1) most → TakesBehind game cut question s (done ++ (v, p) ∷ []) a c left most
+  takes_more cut question s done v p later a b c left most applies more_left takes more = record {
+    openings = takes.openings ++ map (λ o. modifier_at v p ∷ o) more.openings;
+    all = λ w q later' o there plain applied forced. elim (Contains-push_cases done (v, p) (w, q) there) [
+      | inl earlier ↦ Contains-append_left takes.openings (map (λ o. modifier_at v p ∷ o) more.openings) (modifier_at w q ∷ o) (takes.all w q later' o earlier plain applied forced)
+      | inr same ↦ Contains-append_right takes.openings (map (λ o. modifier_at v p ∷ o) more.openings) (modifier_at w q ∷ o) (here_it w q later' o same applied forced)
+    ];
+    fits = joined_fits;
+    few = λ w q later' o there plain applied forced. elim (Contains-push_cases done (v, p) (w, q) there) [
+      | inl earlier ↦ takes.few w q later' o earlier plain applied forced
+      | inr same ↦ (more_left, more.few o (moved w q later' o same applied forced))
+    ];
+  }
+    where
+      moved : (w q : ℕ) (later' : AbstractState) (o : List Item) → same_pair v p w q → Applies game q (at_vertex s w) later' → Forced game cut question later' (after q) o → Forced game cut question later (after p) o
+      moved w q later' o same applied forced =
+          let applied' : Applies game p (at_vertex s v) later' = subst (λ (x : ℕ × ℕ). Applies game x.1 (at_vertex s x.0) later') (sym same) applied in
+          let one : later' ≡ later = Applies_one game numbered p applied' applies in
+          let forced' : Forced game cut question later' (after p) o = subst (λ (x : ℕ × ℕ). Forced game cut question later' (after x.1) o) (sym same) forced in
+          subst (λ (u : AbstractState). Forced game cut question u (after p) o) one forced'
+
+      here_it : (w q : ℕ) (later' : AbstractState) (o : List Item) → same_pair v p w q → Applies game q (at_vertex s w) later' → Forced game cut question later' (after q) o → Contains (map (λ o. modifier_at v p ∷ o) more.openings) (modifier_at w q ∷ o)
+      here_it w q later' o same applied forced =
+          subst (λ (x : ℕ × ℕ). Contains (map (λ (r : List Item). modifier_at v p ∷ r) more.openings) (modifier_at x.0 x.1 ∷ o)) same
+          (mapped (λ (r : List Item). modifier_at v p ∷ r) more.openings o (more.all o (moved w q later' o same applied forced)))
+
+      joined_fits : a + length (takes.openings ++ map (λ o. modifier_at v p ∷ o) more.openings) ≤ c
+      joined_fits =
+          let both = length-append takes.openings (map (λ (o : List Item). modifier_at v p ∷ o) more.openings) in
+          let same = length-map more.openings (λ (o : List Item). modifier_at v p ∷ o) in
+          omega (arith, both, same, takes.fits, more.fits)
+
+  -- A switch was passed over.
+  pub takes_skipped : (cut : Bool) (question : Question) (s : AbstractState) (done : List (ℕ × ℕ)) (v p : ℕ) (a b left most : ℕ) → IsSwitchAt game.rules p → TakesBehind game cut question s done a b left most → TakesBehind game cut question s (done ++ (v, p) ∷ []) a b left most
+  takes_skipped cut question s done v p a b left most switches takes = record {
+    openings = takes.openings;
+    all = λ w q later o there plain applied forced. elim (Contains-push_cases done (v, p) (w, q) there) [
+      | inl earlier ↦ takes.all w q later o earlier plain applied forced
+      | inr same ↦ absurd (plain (subst (λ (x : ℕ × ℕ). IsSwitchAt game.rules x.1) same switches))
+    ];
+    fits = takes.fits;
+    few = λ w q later o there plain applied forced. elim (Contains-push_cases done (v, p) (w, q) there) [
+      | inl earlier ↦ takes.few w q later o earlier plain applied forced
+      | inr same ↦ absurd (plain (subst (λ (x : ℕ × ℕ). IsSwitchAt game.rules x.1) same switches))
+    ];
+  }
+
+  -- The same where the modifiers that are done are the first ones of a list.
+  pub takes_on : (cut : Bool) (question : Question) (s : AbstractState) (xs : List (ℕ × ℕ)) (k : ℕ) (d : ℕ × ℕ) (later : AbstractState) (a b c left most : ℕ) → k < length xs → Applies game (get_or xs k d).1 (at_vertex s (get_or xs k d).0) later → 1 < left → TakesBehind game cut question s (take k xs) a b left most → CountsForced game cut question later (after (get_or xs k d).1) b c (left - 1) most → TakesBehind game cut question s (take (k + 1) xs) a c left most
+  takes_on cut question s xs k d later a b c left most under applies more_left takes more =
+      let x : ℕ × ℕ = get_or xs k d in
+      subst (λ (done : List (ℕ × ℕ)). TakesBehind game cut question s done a c left most) (sym (take_more xs k d under))
+      (takes_more cut question s (take k xs) x.0 x.1 later a b c left most applies more_left takes more)
+
+  pub takes_by : (cut : Bool) (question : Question) (s : AbstractState) (xs : List (ℕ × ℕ)) (k : ℕ) (d : ℕ × ℕ) (a b left most : ℕ) → k < length xs → IsSwitchAt game.rules (get_or xs k d).1 → TakesBehind game cut question s (take k xs) a b left most → TakesBehind game cut question s (take (k + 1) xs) a b left most
+  takes_by cut question s xs k d a b left most under switches takes =
+      let x : ℕ × ℕ = get_or xs k d in
+      subst (λ (done : List (ℕ × ℕ)). TakesBehind game cut question s done a b left most) (sym (take_more xs k d under))
+      (takes_skipped cut question s (take k xs) x.0 x.1 a b left most switches takes)
+
+  -- ---- a question, from its flat part and what is behind it
+
+  -- Where nothing is forced but with no modifier, what `reach` takes is all.
+  pub forced_at_once : (cut : Bool) (question : Question) (s : AbstractState) (f : Start) (a b c left most : ℕ) → ((o : List Item) → Forced game cut question s f o → Forced game cut reach s f o) → b ≤ c → CountsForced game cut reach s f a b left most → CountsForced game cut question s f a c left most
+  forced_at_once cut question s f a b c left most only grows counts = record {
+    openings = counts.openings;
+    all = λ o forced. counts.all o (only o forced);
+    fits = omega (arith, counts.fits, grows);
+    few = λ o forced. counts.few o (only o forced);
+  }
+
+  pub forced_behind : (cut : Bool) (question question' : Question) (s : AbstractState) (f : Start) (pairs : List (ℕ × ℕ)) (a b c left most : ℕ) → ForcesOn game cut question question' s f → ((v p : ℕ) (ps : List (ℕ × ℕ)) → IsNext game s f v p → ¬ IsSwitchAt game.rules p → GoesTo game question s f ((v, p) ∷ ps) → Contains pairs (v, p)) → CountsForced game cut reach s f a b left most → TakesBehind game cut question' s pairs b c left most → CountsForced game cut question s f a c left most
+  forced_behind cut question question' s f pairs a b c left most onward among counts takes = record {
+    openings = counts.openings ++ takes.openings;
+    all = λ o forced. there o (forced_by cut question question' s f onward o forced);
+    fits = joined_fits;
+    few = λ o forced. short o (forced_by cut question question' s f onward o forced);
+  }
+    where
+      there : (o : List Item) → IsForcedBy game cut question question' s f o → Contains (counts.openings ++ takes.openings) o
+      there o (here forced) = Contains-append_left counts.openings takes.openings o (counts.all o forced)
+      there _ (further {v = v} {p = p} {o = o} later next applies plain ps goes forced) =
+          Contains-append_right counts.openings takes.openings (modifier_at v p ∷ o) (takes.all v p later o (among v p ps next plain goes) plain applies forced)
+
+      short : (o : List Item) → IsForcedBy game cut question question' s f o → HasFewInRow left most o
+      short o (here forced) = counts.few o forced
+      short _ (further {v = v} {p = p} {o = o} later next applies plain ps goes forced) = takes.few v p later o (among v p ps next plain goes) plain applies forced
+
+      joined_fits : a + length (counts.openings ++ takes.openings) ≤ c
+      joined_fits =
+          let both = length-append counts.openings takes.openings in
+          omega (arith, both, counts.fits, takes.fits)
+
+  -- ---- a pattern's question
+
+  -- Where some word runs, nothing is forced behind a modifier.
+  pub answered_at_once : (cut : Bool) (s : AbstractState) (f : Start) → SomeWordRuns game s f → (o : List Item) → Forced game cut pattern s f o → Forced game cut reach s f o
+  answered_at_once cut s f runs o (at on goes (inl none)) = at on none tt
+  answered_at_once cut s f runs o (at on goes (inr never)) = absurd (never runs)
+  answered_at_once cut s f runs o (behind on goes (inl none) follows is inner) = behind on none tt follows is inner
+  answered_at_once cut s f runs o (behind on goes (inr never) follows is inner) = absurd (never runs)
+
+  no_word_behind : (s : AbstractState) (f : Start) (v p : ℕ) (later : AbstractState) → IsNext game s f v p → Applies game p (at_vertex s v) later → ¬ SomeWordRuns game s f → ¬ SomeWordRuns game later (after p)
+  no_word_behind s f v p later next applies never runs =
+      let is = next_found game numbered s f v p next in
+      never (behind_runs game numbered s f (record {
+        vertex = v;
+        position = p;
+        found = record { later = later; reached = is.reached; modifies = is.modifies; applies = applies };
+        runs = runs;
+      }))
+
+  -- Where none runs, none runs behind a modifier, and there too all is forced.
+  pub pattern_forces : (cut : Bool) (s : AbstractState) (f : Start) → ¬ SomeWordRuns game s f → ForcesOn game cut pattern pattern s f
+  pattern_forces cut s f never = λ v p later ps next applies plain goes forced.
+      let none : ¬ SomeWordRuns game later (after p) = no_word_behind s f v p later next applies never in (
+        (λ qs prefix (m, t, on, ends). none (record { word = m; end = t; pairs = qs; ends = ends; runs = on.runs })),
+        inr none,
+      )
+
+  -- A pattern's question where its flat part answers, or some word runs behind it.
+  pub word_forced : (cut : Bool) (s : AbstractState) (f : Start) (a b c left most : ℕ) → SomeWordRuns game s f → b ≤ c → CountsForced game cut reach s f a b left most → CountsForced game cut pattern s f a c left most
+  word_forced cut s f a b c left most runs grows counts = forced_at_once cut pattern s f a b c left most (answered_at_once cut s f runs) grows counts
+
+  -- .. and where none runs.
+  pub no_word_forced : (cut : Bool) (s : AbstractState) (f : Start) (pairs : List (ℕ × ℕ)) (ends : Bool) (a b c left most : ℕ) → ¬ SomeWordRuns game s f → IsFlatPart game s f pairs ends → CountsForced game cut reach s f a b left most → TakesBehind game cut pattern s pairs b c left most → CountsForced game cut pattern s f a c left most
+  no_word_forced cut s f pairs ends a b c left most never part counts takes =
+      forced_behind cut pattern pattern s f pairs a b c left most (pattern_forces cut s f never) (λ v p ps next plain goes. (part.next v p).1 next) counts takes

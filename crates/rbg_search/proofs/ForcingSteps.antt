@@ -1,0 +1,70 @@
+-- Each step of a search that takes forced openings up, by what it began with.
+use Rattle.std.proofs.Common.{◌≡◌, ℕ, ◌+◌, ◌-◌, ◌<◌, ◌≤◌, List, ◌∷◌, [], ◌++◌, length, get_or, take, Bool, true, false, refl, subst, arith}
+use Rattle.std.specs.Prelude.{Contains, IsTrue, ◌↔◌}
+use Rattle.std.proofs.lemmas.List.{take_all}
+use Rattle.rbg_rules.specs.Positions.{IsNumbered, IsPatternAt, inside}
+use Rattle.rbg_rules.specs.Words.{Start, beginning, after}
+use Rattle.rbg_rules.specs.State.{AbstractGame, AbstractState}
+use Rattle.rbg_rules.specs.Actions.{Applies}
+use Rattle.rbg_rules.specs.Questions.{SomeWordRuns, reach, pattern}
+use Rattle.rbg_state.specs.History.{History}
+use Rattle.rbg_search.specs.Flat.{IsFlatPart}
+use Rattle.rbg_search.specs.Forced.{CountsForced, TakesBehind}
+use Rattle.rbg_search.specs.Searching.{Searching}
+use Rattle.rbg_search.specs.internal.Closure.{at_vertex, Reached}
+use Rattle.rbg_search.specs.internal.Taking.{AsksForced, RanBehind}
+use Rattle.rbg_search.proofs.Counted.{onward_search, search_before}
+use Rattle.rbg_search.proofs.Forcing.{asks_more, asks_still, asks_end, takes_on, word_forced, no_word_forced}
+
+-- A pattern was asked in a flat part.
+pub ask_forced : (h k : Searching) (s u : History) (done done' : List (ℕ × ℕ)) (v p a b : ℕ) (cut : Bool) → k ≡ record h { opened = k.opened } → u ≡ record s { room = u.room } → IsNumbered h.game.rules → ((w q : ℕ) → Contains done' (w, q) → IsPatternAt k.game.rules q → Contains done (w, q)) → AsksForced h.game cut s.state done a k.opened h.modifiers → CountsForced k.game cut pattern (at_vertex u.state v) (beginning (inside p)) k.opened b k.modifiers k.modifiers → AsksForced h.game cut s.state (done' ++ (v, p) ∷ []) a b h.modifiers
+ask_forced h k s u done done' v p a b cut kept given numbered quiet asks more =
+    asks_more h.game numbered cut s.state done done' v p a k.opened b h.modifiers
+    (search_before (λ y w. (x q : ℕ) → Contains done' (x, q) → IsPatternAt y.game.rules q → Contains done (x, q)) h k s u kept given quiet) asks
+    (search_before (λ y w. CountsForced y.game cut pattern (at_vertex w v) (beginning (inside p)) k.opened b y.modifiers y.modifiers) h k s u kept given more)
+
+-- Each pattern was asked.
+pub flat_forced : (h k : Searching) (s l : History) (f : Start) (done done' : List (ℕ × ℕ)) (a left : ℕ) (cut : Bool) → k ≡ record h { opened = k.opened } → l ≡ record s { room = l.room } → IsNumbered h.game.rules → ((w q : ℕ) → Contains done' (w, q) → IsPatternAt k.game.rules q → Contains done (w, q)) → ((v p : ℕ) → Reached k.game l.state f v p → Contains done' (v, p)) → AsksForced h.game cut s.state done a k.opened h.modifiers → CountsForced h.game cut reach s.state f a k.opened left h.modifiers
+flat_forced h k s l f done done' a left cut kept given numbered quiet met asks =
+    asks_end h.game numbered cut s.state f done' a k.opened left h.modifiers
+    (search_before (λ y w. (v p : ℕ) → Reached y.game w f v p → Contains done' (v, p)) h k s l kept given met)
+    (asks_still h.game numbered cut s.state done done' a k.opened h.modifiers
+    (search_before (λ y w. (x q : ℕ) → Contains done' (x, q) → IsPatternAt y.game.rules q → Contains done (x, q)) h k s l kept given quiet) asks)
+
+-- The question was asked behind one more of the pairs.
+pub record BehindForced (h : Searching) (s : AbstractState) (pairs : List (ℕ × ℕ)) (i a b c left : ℕ) : Type 0 where
+  pub grows : b ≤ c
+  pub forced : (cut : Bool) → IsNumbered h.game.rules → TakesBehind h.game cut pattern s (take i pairs) a b left h.modifiers → TakesBehind h.game cut pattern s (take (i + 1) pairs) a c left h.modifiers
+
+pub one_forced : (h k : Searching) (s l : History) (pairs : List (ℕ × ℕ)) (i : ℕ) (d : ℕ × ℕ) (a b left : ℕ) (later : AbstractState) → k ≡ record h { opened = k.opened } → l ≡ record s { room = l.room } → i < length pairs → Applies h.game (get_or pairs i d).1 (at_vertex s.state (get_or pairs i d).0) later → 1 < left → ((cut : Bool) (t : AbstractState) → Applies k.game (get_or pairs i d).1 (at_vertex l.state (get_or pairs i d).0) t → CountsForced k.game cut pattern t (after (get_or pairs i d).1) k.opened b (left - 1) k.modifiers) → BehindForced h s.state pairs i a k.opened b left
+one_forced h k s l pairs i d a b left later kept given under applies some behind =
+    let x : ℕ × ℕ = get_or pairs i d in
+    let applies' : Applies k.game x.1 (at_vertex l.state x.0) later = onward_search (λ y w. Applies y.game x.1 (at_vertex w x.0) later) h k s l kept given applies in
+    let first = behind true later applies' in
+    record {
+      grows = omega (arith, first.fits);
+      forced = λ cut numbered takes.
+          takes_on h.game numbered cut pattern s.state pairs i d later a k.opened b left h.modifiers under applies some takes
+          (search_before (λ y w. CountsForced y.game cut pattern later (after x.1) k.opened b (left - 1) y.modifiers) h k s l kept given (behind cut later applies'));
+    }
+
+pub ran_some : (game : AbstractGame) (s : AbstractState) (pairs : List (ℕ × ℕ)) (a b left most : ℕ) → a ≤ b → RanBehind game s pairs true a b left most
+ran_some game s pairs a b left most grows = record { grows = grows; forced = λ cut numbered is. absurd (true_not_false is) }
+  where
+    true_not_false : true ≡ false → ⊥
+    true_not_false e = cc
+
+pub ran_none : (game : AbstractGame) (s : AbstractState) (pairs : List (ℕ × ℕ)) (i a b left most : ℕ) → length pairs ≤ i → a ≤ b → ((cut : Bool) → IsNumbered game.rules → TakesBehind game cut pattern s (take i pairs) a b left most) → RanBehind game s pairs false a b left most
+ran_none game s pairs i a b left most over grows takes = record {
+  grows = grows;
+  forced = λ cut numbered _. subst (λ (done : List (ℕ × ℕ)). TakesBehind game cut pattern s done a b left most) (take_all i pairs over) (takes cut numbered);
+}
+
+-- A pattern's question, where the flat part didn't answer it.
+pub asked_forced : (game : AbstractGame) → IsNumbered game.rules → (s : AbstractState) (f : Start) (pairs : List (ℕ × ℕ)) (ends runs : Bool) (a b c left most : ℕ) (cut : Bool) → IsTrue runs ↔ SomeWordRuns game s f → IsFlatPart game s f pairs ends → CountsForced game cut reach s f a b left most → RanBehind game s pairs runs b c left most → CountsForced game cut pattern s f a c left most
+asked_forced game numbered s f pairs ends true a b c left most cut decides part counts ran = word_forced game numbered cut s f a b c left most (decides.0 refl) ran.grows counts
+asked_forced game numbered s f pairs ends false a b c left most cut decides part counts ran =
+    no_word_forced game numbered cut s f pairs ends a b c left most (λ some. false_not_true (decides.1 some)) part counts (ran.forced cut numbered refl)
+  where
+    false_not_true : false ≡ true → ⊥
+    false_not_true e = cc

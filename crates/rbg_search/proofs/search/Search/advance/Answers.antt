@@ -1,0 +1,34 @@
+use Rattle.std.proofs.Common.{◌≡◌, ℕ, List, take, sym, ap, subst, arith}
+use Rattle.std.specs.Prelude.{Contains, Option, Some, None, Result, Ok, Err, IfOk, OnOk, IfNone}
+use Rattle.std.proofs.lemmas.List.{take_all}
+use Rattle.rbg_rules.specs.State.{AbstractGame, AbstractState}
+use Rattle.rbg_search.specs.Searching.{Searching}
+use Rattle.rbg_search.specs.internal.Closure.{Reached}
+use Rattle.rbg_search.specs.internal.Part.{IsPart}
+use Rattle.rbg_search.proofs.Parts.{all_met}
+use Rattle.rbg_search.proofs.search.Search.advance.Goals as goal
+
+where_none : {X E : Type 0} (r : Result (Option X) E) (A B C : Type 0) → (A → B → C) → IfOk r (λ next. IfNone next A) → OnOk r B → IfOk r (λ next. IfNone next C)
+where_none (Ok None) A B C f a b = f a b
+where_none (Ok (Some x)) A B C f a b = tt
+where_none (Err e) A B C f a b = tt
+
+pub returns-clause-met : goal.returns-clause-met
+returns-clause-met g c =
+    let game : AbstractGame = c.args.self.now.game in
+    let inner : AbstractGame = c.self.inside.rules in
+    let same : inner ≡ game = ap (λ (x : Searching). x.game) c.self.view_is in
+    let s : AbstractState = c.args.state.now.state in
+    let old = c.args.flat.now in
+    let new = c.advance.new.self in
+    where_none c.advance.result _ _ _
+    (λ whole part f begun v p met.
+    let all : take new.taken new.queue.pairs ≡ new.queue.pairs = take_all new.taken new.queue.pairs (omega (arith, whole)) in
+    let before : IsPart inner s f old.queue.pairs (take old.taken old.queue.pairs) old.found.items old.ends =
+    subst (λ (x : AbstractGame). IsPart x s f old.queue.pairs (take old.taken old.queue.pairs) old.found.items old.ends) (sym same) begun.part in
+    let now : IsPart inner s f new.queue.pairs (take new.taken new.queue.pairs) new.found.items new.ends = part f before in
+    let here : IsPart inner s f new.queue.pairs new.queue.pairs new.found.items new.ends =
+    subst (λ (ds : List (ℕ × ℕ)). IsPart inner s f new.queue.pairs ds new.found.items new.ends) all now in
+    let reached : Reached inner s f v p = subst (λ (x : AbstractGame). Reached x s f v p) (sym same) met in
+    subst (λ (ds : List (ℕ × ℕ)). Contains ds (v, p)) (sym all) (all_met inner s f c.game-game.ensures.lawful.numbered new.queue.pairs new.found.items new.ends here v p reached))
+    c.advance.ensures.done c.advance.ensures.part

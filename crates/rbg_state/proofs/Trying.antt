@@ -1,0 +1,70 @@
+-- What is told of an action that is tried, and of the position where it stands.
+use Rattle.std.proofs.Common.{◌≡◌, ℕ, ◌<◌, ◌≤◌, true, false, sym, refl, ap, subst, ◌∙◌, length}
+use Rattle.std.specs.Prelude.{pos, slice_index, Some}
+use Rattle.std.proofs.lemmas.Bool.{false_from_ne_true}
+use Rattle.rbg_base.specs.declared.relation.Relation.{Relation}
+use Rattle.rbg_rules.specs.Expression.{AbstractArithmetic, number, variable, piece_count, negated, sum, difference, product, quotient, AbstractAction, assignment, comparison}
+use Rattle.rbg_rules.specs.Positions.{HasAction, IsNumbered, IsModifierAt, IsPatternAt, is_modifier}
+use Rattle.rbg_rules.specs.State.{AbstractGame, AbstractState, IsStateOf}
+use Rattle.rbg_rules.specs.Actions.{Acts, Applies}
+use Rattle.rbg_rules.specs.Values.{value_of, if_fits, on_values, divided}
+use Rattle.rbg_rules.specs.Games.{IsGame}
+use Rattle.rbg_rules.specs.Translation.{shows_pattern}
+use Rattle.rbg_rules.specs.Table.{Shows, Stands}
+use Rattle.rbg_rules.specs.declared.rule.Action.{Action}
+use Rattle.rbg_rules.proofs.MoveLemmas.{applied_acts}
+use Rattle.rbg_rules.proofs.PositionLemmas.{one_stands}
+use Rattle.rbg_rules.proofs.StateLemmas.{state_law}
+use Rattle.rbg_rules.proofs.TableLemmas.{pattern_stands}
+use Rattle.rbg_state.specs.Trials.{Tells, IsTrial}
+use Rattle.rbg_state.specs.declared.state.trials.Trial.{Trial}
+use Rattle.rbg_state.specs.declared.state.trials.Trial.TheVariants.{Invalid, Modifies, LeadsTo}
+use Rattle.rbg_state.proofs.Applying.{ShownAction, shown_action}
+
+-- the semi-state with this current vertex
+abbrev pub standing : AbstractState → ℕ → AbstractState
+standing s v = record s { vertex = v }
+
+-- Arithmetic has the same value wherever one stands.
+pub same_value : (e : AbstractArithmetic) (s : AbstractState) (v : ℕ) → value_of e (standing s v) ≡ value_of e s
+same_value (number n) s v = refl
+same_value (variable x) s v = refl
+same_value (piece_count p) s v = refl
+same_value (negated e) s v = rw (same_value e s v) refl
+same_value (sum e f) s v = rw (same_value e s v, same_value f s v) refl
+same_value (difference e f) s v = rw (same_value e s v, same_value f s v) refl
+same_value (product e f) s v = rw (same_value e s v, same_value f s v) refl
+same_value (quotient e f) s v = rw (same_value e s v, same_value f s v) refl
+
+-- A comparison does the same wherever one stands.
+pub compares_there : (game : AbstractGame) (e f : AbstractArithmetic) (r : Relation) (s : AbstractState) (v : ℕ) → Acts game (comparison e r f) s s → Acts game (comparison e r f) (standing s v) (standing s v)
+compares_there game e f r s v (x, y, left, right, holds, same) = (x, y, same_value e s v ∙ left, same_value f s v ∙ right, holds, refl)
+
+pub compares_here : (game : AbstractGame) (e f : AbstractArithmetic) (r : Relation) (s t : AbstractState) (v : ℕ) → Acts game (comparison e r f) (standing s v) t → Acts game (comparison e r f) s s
+compares_here game e f r s t v (x, y, left, right, holds, same) = (x, y, sym (same_value e s v) ∙ left, sym (same_value f s v) ∙ right, holds, refl)
+
+true_not_false : true ≡ false → ⊥
+true_not_false e = cc
+
+module _ (game : AbstractGame) (lawful : IsGame game) (p : ℕ) (i : Action) (stands : Stands game.rules p i) (no_pattern : ¬ IsPatternAt game.rules p) (s : AbstractState) where
+  tried_by : (trial : Trial) → ShownAction game.rules p i → ((a : AbstractAction) → Shows a i → Tells game a s trial) → IsTrial game s p trial
+  tried_by Invalid here tells = λ u applies. tells here.action here.shown u (applied_acts game lawful.numbered p here.action here.stands applies)
+  tried_by Modifies here tells =
+      let (modifies, (t, acts)) = tells here.action here.shown in
+      (record { action = here.action; stands = here.stands; modifies = modifies }, (t, record { action = here.action; stands = here.stands; acts = acts }))
+  tried_by (LeadsTo v) here tells =
+      let (quiet, acts) = tells here.action here.shown in
+      ((λ m. true_not_false (sym m.modifies ∙ ap is_modifier (one_stands game.rules lawful.numbered p m.action here.action m.stands here.stands) ∙ quiet)), record { action = here.action; stands = here.stands; acts = acts })
+
+  pub tried : (trial : Trial) → ((a : AbstractAction) → Shows a i → Tells game a s trial) → IsTrial game s p trial
+  tried trial tells =
+      let plain = false_from_ne_true (shows_pattern i) (λ yes. no_pattern ((pattern_stands game.rules lawful.numbered p i stands).0 yes)) in
+      tried_by trial (shown_action game.rules p i plain stands) tells
+
+-- The vertex where an action leads is one of the board.
+pub leads_within : (game : AbstractGame) (lawful : IsGame game) (p : ℕ) (s : AbstractState) (v u : ℕ) → IsStateOf game s → v < length s.pieces → (trial : Trial) → IsTrial game (standing s v) p trial → trial ≡ LeadsTo u → u < length s.pieces
+leads_within game lawful p s v u fits below trial told is =
+    let there : IsTrial game (standing s v) p (LeadsTo u) = subst (IsTrial game (standing s v) p) is told in
+    let stands_there : IsStateOf game (standing s v) = record { player = fits.player; vertices = fits.vertices; pieces = fits.pieces; variables = fits.variables; bounds = fits.bounds; vertex = below } in
+    let fits_there : IsStateOf game (standing s u) = (state_law game lawful).1 p (standing s v) (standing s u) stands_there there.1 in
+    fits_there.vertex

@@ -1,0 +1,44 @@
+use Rattle.std.proofs.Common.{sym, ◌∙◌, refl, ap, arith}
+use Rattle.std.proofs.lemmas.Option.{get_or_from_slice_get}
+use Rattle.rbg_board.specs.Graph.{Graph, next}
+use Rattle.rbg_rules.specs.Expression.{assignment, comparison}
+use Rattle.rbg_rules.specs.Translation.{arithmetic_of}
+use Rattle.rbg_state.proofs.Reading.{reads_variables}
+use Rattle.rbg_state.proofs.Trying.{standing}
+use Rattle.rbg_state.proofs.state.SemiState.tell.Goals as goal
+
+pub returns-in-Shift : goal.returns-in-Shift
+returns-in-Shift c = rw c.in-Shift.is (λ a shown. rw shown (c.tell_shift.ensures c.args.game.now (standing c.args.self.now.state c.args.vertex) c.in-Shift.direction (sym (c.step.ensures.next ∙ ap (λ (g : Graph). next g c.args.vertex c.in-Shift.direction) c.requires.board))))
+
+pub returns-in-On : goal.returns-in-On
+returns-in-On c = rw c.in-On.is (λ a shown. rw (shown, ← c.deref.ensures.value) (c.tell_on.ensures c.args.game.now))
+
+pub returns-in-Compare : goal.returns-in-Compare
+returns-in-Compare c = rw c.in-Compare.is (λ a shown. rw shown (c.tell_compare.ensures c.args.game.now))
+
+pub returns-in-Assign : goal.returns-in-Assign
+returns-in-Assign c = rw c.in-Assign.is (λ a shown. rw shown (c.tell_assign.ensures c.args.game.now c.in-Assign.variable c.args.vertex (get_or_from_slice_get c.args.game.now.bounds c.in-Assign.variable c.bound.result 0 c.bound.ensures)))
+
+pub returns-in-Off : goal.returns-in-Off
+returns-in-Off c = rw c.in-Off.is (λ a shown. rw shown (refl, (_, refl)))
+
+pub returns-in-Switch : goal.returns-in-Switch
+returns-in-Switch c = rw c.in-Switch.is (λ a shown. rw shown (refl, (_, refl)))
+
+pub tell_assign-requires : goal.tell_assign-requires
+tell_assign-requires c =
+    let named = c.requires.named (assignment c.in-Assign.variable (arithmetic_of c.in-Assign.value)) (rw c.in-Assign.is refl) in
+    rw (c.requires.fits.variables ∙ c.requires.lawful.bounds) (reads_variables c.args.game.now (arithmetic_of c.in-Assign.value) named.1)
+
+pub bound-requires : goal.bound-requires
+bound-requires c = (c.requires.named (assignment c.in-Assign.variable (arithmetic_of c.in-Assign.value)) (rw c.in-Assign.is refl)).0
+
+pub tell_compare-requires-clause-left : goal.tell_compare-requires-clause-left
+tell_compare-requires-clause-left c =
+    let named = c.requires.named (comparison (arithmetic_of c.in-Compare.left) c.in-Compare.relation (arithmetic_of c.in-Compare.right)) (rw c.in-Compare.is refl) in
+    rw (c.requires.fits.variables ∙ c.requires.lawful.bounds) (reads_variables c.args.game.now (arithmetic_of c.in-Compare.left) named.0)
+
+pub tell_compare-requires-clause-right : goal.tell_compare-requires-clause-right
+tell_compare-requires-clause-right c =
+    let named = c.requires.named (comparison (arithmetic_of c.in-Compare.left) c.in-Compare.relation (arithmetic_of c.in-Compare.right)) (rw c.in-Compare.is refl) in
+    rw (c.requires.fits.variables ∙ c.requires.lawful.bounds) (reads_variables c.args.game.now (arithmetic_of c.in-Compare.right) named.1)

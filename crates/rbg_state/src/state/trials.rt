@@ -1,0 +1,125 @@
+//! What the actions of a game would do to a semi-state, which stays as it is.
+ghost use Rattle.std.specs.Prelude.{◌≡◌, ℕ, ◌<◌, ◌≤◌, false, length, slice_index, Option};
+ghost use Rattle.rbg_board.specs.Graph.{next};
+ghost use Rattle.rbg_rules.specs.Expression.{AbstractAction, shift, on, assignment, comparison};
+ghost use Rattle.rbg_rules.specs.State.{AbstractGame, AbstractState, IsStateOf};
+ghost use Rattle.rbg_rules.specs.Positions.{positions_of, IsPatternAt};
+ghost use Rattle.rbg_rules.specs.Games.{IsGame, IsActionOf};
+ghost use Rattle.rbg_rules.specs.Translation.{arithmetic_of, shows_pattern};
+ghost use Rattle.rbg_rules.specs.Table.{Shows};
+ghost use Rattle.rbg_state.specs.Reads.{ReadsBelow};
+ghost use Rattle.rbg_state.specs.Trials.{Tells, IsTrial};
+
+use super::SemiState;
+use super::actions::Applied;
+use rbg_base::{Piece, Position, Relation, Vertex};
+use rbg_board::Board;
+use rbg_rules::{Action, Arithmetic, Game};
+
+/// What an action would do at a vertex.
+#[derive(Clone, Copy, Debug, PartialEq, Eq)]
+pub enum Trial {
+    /// It isn't valid there.
+    Invalid,
+    /// It is a modifier, and valid there.
+    Modifies,
+    /// It is no modifier and valid there, and leads to this vertex.
+    LeadsTo(Vertex),
+}
+
+impl SemiState {
+    /// What the action at a position of the game would do if the vertex were the current one. Nothing changes.
+    pub fn try_at(&self, game: &Game, vertex: Vertex, position: Position) -> Trial
+        requires fits { IsStateOf game.now self.now.state }
+        requires vertex { vertex < length self.now.state.pieces }
+        requires from_one { 0 < position }
+        requires there { position ≤ length (positions_of game.now.rules) }
+        requires no_pattern { ¬ IsPatternAt game.now.rules position }
+        ensures told { IsTrial game.now (record self.now.state { vertex = vertex }) position result }
+        ensures there { (v : ℕ) → result ≡ Trial.LeadsTo v → v < length self.now.state.pieces }
+    {
+        self.tell(game, game.board(), game.action(position), vertex)
+    }
+
+    /// What an action would do at a vertex.
+    fn tell(&self, game: &Game, board: &Board, action: &Action, vertex: Vertex) -> Trial
+        requires lawful { IsGame game.now }
+        requires board { board.now ≡ game.now.board }
+        requires fits { IsStateOf game.now self.now.state }
+        requires vertex { vertex < length self.now.state.pieces }
+        requires named { (a : AbstractAction) → Shows a action.now → IsActionOf game.now a }
+        requires no_pattern { shows_pattern action.now ≡ false }
+        ensures { (a : AbstractAction) → Shows a action.now
+            → Tells game.now a (record self.now.state { vertex = vertex }) result }
+    {
+        match action {
+            Action::Shift { direction } => tell_shift(board.step(vertex, *direction)),
+            Action::On { pieces } => self.tell_on(pieces, vertex),
+            Action::Compare {
+                left,
+                relation,
+                right,
+            } => self.tell_compare(left, *relation, right, vertex),
+            Action::Assign { variable, value } => self.tell_assign(value, game.bound(*variable)),
+            Action::Off { .. } => Trial::Modifies,
+            Action::Switch { .. } => Trial::Modifies,
+            Action::Positive | Action::Negative => unreachable!(),
+        }
+    }
+
+    /// What an on of these pieces would do at a vertex.
+    fn tell_on(&self, pieces: &[Piece], vertex: Vertex) -> Trial
+        requires { vertex < length self.now.state.pieces }
+        ensures { (game : AbstractGame) → Tells game (on pieces.now) (record self.now.state { vertex = vertex }) result }
+    {
+        if pieces.contains(&self.piece(vertex)) {
+            Trial::LeadsTo(vertex)
+        } else {
+            Trial::Invalid
+        }
+    }
+
+    /// What a comparison would do at a vertex.
+    fn tell_compare(
+        &self,
+        left: &Arithmetic,
+        relation: Relation,
+        right: &Arithmetic,
+        vertex: Vertex,
+    ) -> Trial
+        requires left { ReadsBelow (length self.now.state.values) (arithmetic_of left.now) }
+        requires right { ReadsBelow (length self.now.state.values) (arithmetic_of right.now) }
+        ensures { (game : AbstractGame)
+            → Tells game (comparison (arithmetic_of left.now) relation (arithmetic_of right.now))
+            (record self.now.state { vertex = vertex }) result }
+    {
+        match self.compare(left, relation, right) {
+            Applied::Valid => Trial::LeadsTo(vertex),
+            Applied::Invalid => Trial::Invalid,
+        }
+    }
+
+    /// What an assignment to a variable with this bound would do, at any vertex.
+    fn tell_assign(&self, expression: &Arithmetic, bound: u32) -> Trial
+        requires { ReadsBelow (length self.now.state.values) (arithmetic_of expression.now) }
+        ensures { (game : AbstractGame) (variable vertex : ℕ) → slice_index game.bounds variable ≡ bound
+            → Tells game (assignment variable (arithmetic_of expression.now))
+            (record self.now.state { vertex = vertex }) result }
+    {
+        match self.assigned(expression, bound) {
+            Some(_) => Trial::Modifies,
+            None => Trial::Invalid,
+        }
+    }
+}
+
+/// What a shift would do that leads to this vertex, or nowhere.
+fn tell_shift(to: Option<Vertex>) -> Trial
+    ensures { (game : AbstractGame) (s : AbstractState) (direction : ℕ) → next game.board s.vertex direction ≡ to
+        → Tells game (shift direction) s result }
+{
+    match to {
+        Some(vertex) => Trial::LeadsTo(vertex),
+        None => Trial::Invalid,
+    }
+}
