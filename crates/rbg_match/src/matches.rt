@@ -15,7 +15,7 @@ use crate::played::PlayedGame;
 use crate::turns::play_on;
 use crate::{Config, Event, MAX_TURN_MS, Made, MatchError, Outbox};
 use rbg_base::Memory;
-use rbg_moves::Place;
+use rbg_moves::{Listed, Over, Place};
 use rbg_rules::Game;
 use rbg_wire::{Inbox, Outcome};
 use std::alloc::Global;
@@ -73,6 +73,7 @@ impl Match {
       ◌≤◌,
       ◌<◌,
       ◌-◌,
+      ◌⊎◌,
       ℕ,
       None,
       Some,
@@ -81,11 +82,17 @@ impl Match {
       slice_index,
       length,
       false,
+      Err,
+      IfOk,
       IsOk,
     };
     ghost use Rattle.rbg_match.specs.Config.{IsWithinLimits};
     ghost use Rattle.rbg_match.specs.Inputs.{IsTickAlone, counted, moment_of};
+    ghost use Rattle.rbg_moves.specs.Listing.{IsListed};
+    ghost use Rattle.rbg_rules.specs.Games.{IsGame};
+    ghost use Rattle.rbg_rules.specs.Heavy.{IsTooHard};
     ghost use Rattle.rbg_rules.specs.Places.{IsPlaceOf};
+    ghost use Rattle.rbg_rules.specs.Questions.{list_moves as listing_moves};
     ghost use Rattle.rbg_match.specs.Play.{due_of, refusals_of};
     ghost use Rattle.rbg_match.specs.Matches.{HasHistory, Opens, Steps};
     ghost use Rattle.rbg_wire.specs.declared.outcome.Outcome.{Outcome};
@@ -162,6 +169,18 @@ impl Match {
         &self.play.place
     }
 
+    /// The legal moves at the place that play has reached, or `max` of them where there are more. `Deep` and `Wide` say
+    /// that the question is above the limits.
+    pub fn list_moves(&self, max: usize) -> Result<Listed, Over>
+        requires { 0 < max }
+        ensures listed { IfOk result (λ listed.
+            IsListed self.now.game self.now.play.place max listed.moves.items listed.cut) }
+        ensures heavy { (result ≡ Err Over.Deep) ⊎ (result ≡ Err Over.Wide)
+            → IsTooHard self.now.game listing_moves self.now.play.place }
+    {
+        self.game.list_moves(&self.play.place, max)
+    }
+
     /// The moves so far.
     pub fn made(&self) -> &[Made]
         ensures { result.now ≡ self.now.play.made }
@@ -179,7 +198,8 @@ impl Match {
 
     /// The number of players, which is that of seats.
     pub fn players(&self) -> usize
-        ensures { result ≡ seats_of self.now.game }
+        ensures count { result ≡ seats_of self.now.game }
+        ensures lawful { IsGame self.now.game }
     {
         self.game.as_game().players()
     }

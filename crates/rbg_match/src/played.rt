@@ -1,14 +1,16 @@
 //! The game of a match, and the questions that play asks of its rules.
-ghost use Rattle.std.specs.Prelude.{◌≡◌, ◌≤◌, ◌⊎◌, length, Err, IfNone, IfOk, IfSome};
-ghost use Rattle.rbg_rules.specs.Heavy.{IsHeavyToFind, IsHeavyToTry};
+ghost use Rattle.std.specs.Prelude.{◌≡◌, ◌<◌, ◌≤◌, ◌⊎◌, length, Err, IfNone, IfOk, IfSome};
+ghost use Rattle.rbg_moves.specs.Listing.{IsListed};
+ghost use Rattle.rbg_rules.specs.Heavy.{IsHeavyToFind, IsHeavyToTry, IsTooHard};
 ghost use Rattle.rbg_rules.specs.Moves.{AbstractPlace, Finished, IsLegal, Legal};
 ghost use Rattle.rbg_rules.specs.Places.{IsPlaceOf};
+ghost use Rattle.rbg_rules.specs.Questions.{list_moves as listing_moves};
 ghost use Rattle.rbg_wire.specs.Messages.{ArePairs};
 ghost use Rattle.rbg_match.specs.Limits.{most_pairs};
 
 use rbg_auto::{Compact, Steps, compact};
 use rbg_base::Memory;
-use rbg_moves::{Move, Over, Place, find_move, make_move, try_move};
+use rbg_moves::{Listed, Move, Over, Place, find_move, list_moves, make_move, try_move};
 use rbg_rules::Game;
 use std::alloc::Global;
 use std::marker::Model;
@@ -82,6 +84,17 @@ impl PlayedGame {
             IsHeavyToTry self.now place.now pairs.now }
     {
         try_move(self.alloc, &self.game, &self.automaton, place, pairs)
+    }
+
+    /// The legal moves at a place, or `max` of them where there are more.
+    pub(crate) fn list_moves(&self, place: &Place, max: usize) -> Result<Listed, Over>
+        requires place { IsPlaceOf self.now place.now }
+        requires some { 0 < max }
+        ensures listed { IfOk result (λ listed. IsListed self.now place.now max listed.moves.items listed.cut) }
+        ensures heavy { (result ≡ Err Over.Deep) ⊎ (result ≡ Err Over.Wide)
+            → IsTooHard self.now listing_moves place.now }
+    {
+        list_moves(self.alloc, &self.game, &self.automaton, place, max)
     }
 
     /// The place after a legal move.
