@@ -1,0 +1,5 @@
+-- What the proofs of this crate share.
+pub mod Apart
+pub mod Cuts
+pub mod Lacking
+pub mod Reading

@@ -1,0 +1,145 @@
+-- What the calls find that read a line, and what they leave out.
+use Rattle.std.proofs.Common.{◌≡◌, ℕ, ◌<◌, ◌≤◌, ◌^◌, true, false, Option, Some, None, IfSome, IfNone, Result, Ok, Err, IfOk, List, [], ◌∷◌, ◌++◌, length, take, drop, decimal, codes, All, ap, sym, ◌∙◌, refl, subst}
+use Rattle.std.specs.Prelude.{IsTrue}
+use Rattle.std.specs.Result.{result_ok}
+use Rattle.std.specs.Str.{bytes_eq}
+use Rattle.std.proofs.lemmas.Slice.Eq.{bytes_eq-Decides}
+use Rattle.std.proofs.lemmas.List.{take-append-drop}
+use Rattle.std.proofs.Math.Seq.{take-append_seam}
+use Rattle.rbg_base.specs.Names.{is_name}
+use Rattle.rbg_wire.specs.declared.error.WireError.{WireError}
+use Rattle.rbg_wire.specs.declared.outcome.Outcome.{Outcome}
+use Rattle.rbg_wire.specs.Bytes.{LacksByte}
+use Rattle.rbg_wire.specs.Messages.{ArePairs, pairs_text}
+use Rattle.rbg_wire.specs.Reading.{SpellsPairs, SpellsOutcome}
+use Rattle.rbg_wire.specs.Words.{words_of}
+use Rattle.rbg_lines.specs.declared.entry.Entry.{Entry}
+use Rattle.rbg_lines.specs.declared.entry.Entry.TheVariants.{Move, End}
+use Rattle.rbg_lines.specs.declared.entry.Timed.{Timed}
+use Rattle.rbg_lines.specs.declared.heading.Start.{Start}
+use Rattle.rbg_lines.specs.declared.heading.Version.{Version}
+use Rattle.rbg_lines.specs.declared.heading.Version.TheVariants.{One, Two}
+use Rattle.rbg_lines.specs.Entries.{SpellsEntry, SpellsTimed}
+use Rattle.rbg_lines.specs.Heading.{version_text, SpellsPlayers, SpellsStart}
+use Rattle.rbg_lines.proofs.Cuts.{no_cut, same_cut}
+use Rattle.rbg_lines.proofs.Apart.{move_text, play_text, end_text, start_fields, space_lacks, spells_outcome, one_entry, one_timed, one_start, one_version, same_end, spelled_names, names_spelled}
+
+-- bytes behind a text
+pub prefix_found : (text bytes rest : List ℕ) → bytes_eq (take (length text) bytes) text ≡ true → rest ≡ drop (length text) bytes → bytes ≡ text ++ rest
+prefix_found text bytes rest test is =
+    let front : take (length text) bytes ≡ text = (bytes_eq-Decides (take (length text) bytes) text).0 test in
+    sym (take-append-drop (length text) bytes) ∙ (ap (λ f. f ++ drop (length text) bytes) front ∙ ap (λ r. text ++ r) (sym is))
+
+pub prefix_none : (text bytes : List ℕ) → bytes_eq (take (length text) bytes) text ≡ false → (rest : List ℕ) → bytes ≡ text ++ rest → ⊥
+prefix_none text bytes test rest is =
+    let front : take (length text) bytes ≡ text = ap (take (length text)) is ∙ take-append_seam text rest in
+    let apart : false ≡ true = sym test ∙ (bytes_eq-Decides (take (length text) bytes) text).1 front in
+    cc
+
+-- A text that is cut at its first space, where it is a number, a space and more.
+module _ (text word rest : List ℕ) (cut : text ≡ word ++ 32 ∷ rest) (lacks : LacksByte 32 word) where
+  pub cut_fields : (n : ℕ) (more : List ℕ) → n < 2 ^ 64 → text ≡ decimal n ++ 32 ∷ more → (word ≡ decimal n) × (rest ≡ more)
+  cut_fields n more small is = same_cut 32 word (decimal n) rest more lacks (space_lacks n small) (sym cut ∙ is)
+
+pub no_fields : (text more : List ℕ) (n : ℕ) → LacksByte 32 text → text ≡ decimal n ++ 32 ∷ more → ⊥
+no_fields text more n lacks is = no_cut 32 (decimal n) more (subst (LacksByte 32) is lacks)
+
+-- a number, a space and more
+pub with_number : (text word rest more : List ℕ) (n : ℕ) → text ≡ word ++ 32 ∷ rest → word ≡ decimal n → rest ≡ more → text ≡ decimal n ++ 32 ∷ more
+with_number text word rest more n cut number is = cut ∙ (ap (λ w. w ++ 32 ∷ rest) number ∙ ap (λ r. decimal n ++ 32 ∷ r) is)
+
+-- What an entry's fields are.
+pub move_fields : (text : List ℕ) (player : ℕ) (pairs : List (ℕ × ℕ)) → SpellsEntry text (Move player pairs) → text ≡ decimal player ++ 32 ∷ pairs_text pairs
+move_fields text player pairs h = h.is ∙ move_text player pairs
+
+pub spells_play : (text : List ℕ) → text ≡ 45 ∷ [] → SpellsEntry text (End None)
+spells_play text is = record { has = tt; is = is ∙ sym play_text }
+
+pub spells_end : (text : List ℕ) (outcome : Outcome) → SpellsOutcome text outcome → SpellsEntry text (End (Some outcome))
+spells_end text outcome h = record { has = h.has; is = h.is ∙ sym (end_text outcome) }
+
+-- The clause `only`, from the two others.
+only_from : {T : Type 0} (Spells : T → Type 0) → ((a b : T) → Spells a → Spells b → a ≡ b) → (answer : Option T) → IfSome answer Spells → IfNone answer ((x : T) → Spells x → ⊥) → (x : T) → Spells x → answer ≡ Some x
+only_from Spells one (Some found) h none x spelled = ap Some (one found x h spelled)
+only_from Spells one None h none x spelled = absurd (none x spelled)
+
+pub entry_only : (text : List ℕ) (answer : Option Entry) → IfSome answer (SpellsEntry text) → IfNone answer ((entry : Entry) → SpellsEntry text entry → ⊥) → (entry : Entry) → SpellsEntry text entry → answer ≡ Some entry
+entry_only text = only_from (SpellsEntry text) (one_entry text)
+
+pub timed_only : (text : List ℕ) (answer : Option Timed) → IfSome answer (SpellsTimed text) → IfNone answer ((timed : Timed) → SpellsTimed text timed → ⊥) → (timed : Timed) → SpellsTimed text timed → answer ≡ Some timed
+timed_only text = only_from (SpellsTimed text) (one_timed text)
+
+pub start_only : (text : List ℕ) (answer : Option Start) → IfSome answer (SpellsStart text) → IfNone answer ((start : Start) → SpellsStart text start → ⊥) → (start : Start) → SpellsStart text start → answer ≡ Some start
+start_only text = only_from (SpellsStart text) (one_start text)
+
+-- What the reader of pairs answers.
+pub pairs_read : (text : List ℕ) (answer : Result (List (ℕ × ℕ)) WireError) (pairs : List (ℕ × ℕ)) → IfOk answer (λ ps. SpellsPairs text ps × (length ps ≤ 200)) → Some pairs ≡ result_ok answer → SpellsPairs text pairs × (length pairs ≤ 200)
+pairs_read text (Ok found) pairs h is = let same : pairs ≡ found = cc in subst (λ ps. SpellsPairs text ps × (length ps ≤ 200)) (sym same) h
+pairs_read text (Err error) pairs h is = let apart : Some pairs ≡ None = is in cc
+
+pub pairs_not_read : (text : List ℕ) (answer : Result (List (ℕ × ℕ)) WireError) (pairs : List (ℕ × ℕ)) → ((ps : List (ℕ × ℕ)) → SpellsPairs text ps → length ps ≤ 200 → answer ≡ Ok ps) → None ≡ result_ok answer → ArePairs pairs → length pairs ≤ 200 → text ≡ pairs_text pairs → ⊥
+pairs_not_read text answer pairs only none are few is =
+    let same : answer ≡ Ok pairs = only pairs (record { are = are; is = is }) few in
+    let apart : None ≡ Some pairs = none ∙ ap result_ok same in
+    cc
+
+pub spells_move : (text : List ℕ) (player : ℕ) (pairs : List (ℕ × ℕ)) → player < 2 ^ 64 → ArePairs pairs → length pairs ≤ 200 → text ≡ decimal player ++ 32 ∷ pairs_text pairs → SpellsEntry text (Move player pairs)
+spells_move text player pairs small are few is = record { has = (small, are, few); is = is ∙ sym (move_text player pairs) }
+
+-- texts that were compared
+pub same_bytes : (text other : List ℕ) → true ≡ bytes_eq text other → text ≡ other
+same_bytes text other test = (bytes_eq-Decides text other).0 (sym test)
+
+pub other_bytes : (text other : List ℕ) → false ≡ bytes_eq text other → text ≡ other → ⊥
+other_bytes text other test same = let apart : false ≡ true = test ∙ (bytes_eq-Decides text other).1 same in cc
+
+-- no entry but these
+pub no_entry : (text : List ℕ) (answer : Result Outcome WireError) (error : WireError) → (text ≡ 45 ∷ [] → ⊥) → answer ≡ Err error → ((outcome : Outcome) → SpellsOutcome text outcome → answer ≡ Ok outcome) → ((player : ℕ) (pairs : List (ℕ × ℕ)) → SpellsEntry text (Move player pairs) → ⊥) → (entry : Entry) → SpellsEntry text entry → ⊥
+no_entry text answer error play failed only move (End None) h = play (h.is ∙ play_text)
+no_entry text answer error play failed only move (End (Some outcome)) h =
+    let apart : Err error ≡ Ok outcome = sym failed ∙ only outcome (spells_outcome text outcome h) in
+    cc
+no_entry text answer error play failed only move (Move player pairs) h = move player pairs h
+
+-- what is left where the answer is none
+pub when_none : {T : Type 0} {P Q : Type 0} (answer : Option T) → IfNone answer P → (P → Q) → IfNone answer Q
+when_none (Some found) h lift = tt
+when_none None h lift = lift h
+
+-- the versions
+pub text_one : version_text One ≡ codes "rbg 1"
+unfolding version_text
+text_one = refl
+
+pub text_two : version_text Two ≡ codes "rbg 2"
+unfolding version_text
+text_two = refl
+
+pub version_only : (text : List ℕ) (found : Version) → text ≡ version_text found → (version : Version) → text ≡ version_text version → Some found ≡ Some version
+version_only text found is version h = ap Some (one_version found version (sym is ∙ h))
+
+pub no_version : (text : List ℕ) → (text ≡ codes "rbg 1" → ⊥) → (text ≡ codes "rbg 2" → ⊥) → (version : Version) → text ≡ version_text version → ⊥
+no_version text first second One h = first (h ∙ text_one)
+no_version text first second Two h = second (h ∙ text_two)
+
+-- the start
+pub fields_of_start : (text fields : List ℕ) (start : Start) → text ≡ codes "start " ++ fields → SpellsStart text start → fields ≡ decimal start.turn_ms ++ 32 ∷ decimal start.now
+fields_of_start text fields start is h = same_end (codes "start ") fields (decimal start.turn_ms ++ 32 ∷ decimal start.now) (sym is ∙ (h.is ∙ start_fields start))
+
+pub spells_start : (text fields : List ℕ) (turn_ms now : ℕ) → turn_ms < 2 ^ 64 → now < 2 ^ 64 → text ≡ codes "start " ++ fields → fields ≡ decimal turn_ms ++ 32 ∷ decimal now → SpellsStart text (record { turn_ms = turn_ms; now = now })
+spells_start text fields turn_ms now first second is parts = record {
+  has = (first, second);
+  is = is ∙ (ap (λ f. codes "start " ++ f) parts ∙ sym (start_fields (record { turn_ms = turn_ms; now = now })));
+}
+
+-- the players
+pub players_named : (text rest : List ℕ) (found : List (List ℕ)) → text ≡ codes "players " ++ rest → found ≡ words_of rest → All (λ name. IsTrue (is_name name)) (words_of rest) → SpellsPlayers text found
+players_named text rest found is words named = rw (is, words) (names_spelled rest named)
+
+pub players_same : (text rest : List ℕ) (names : List (List ℕ)) → text ≡ codes "players " ++ rest → SpellsPlayers text names → words_of rest ≡ names
+players_same text rest names is h =
+    let parts = spelled_names text names h in
+    ap words_of (same_end (codes "players ") rest parts.0 (sym is ∙ parts.1)) ∙ parts.2
+
+pub players_not_named : (text rest : List ℕ) (names : List (List ℕ)) → text ≡ codes "players " ++ rest → (All (λ name. IsTrue (is_name name)) (words_of rest) → ⊥) → SpellsPlayers text names → ⊥
+players_not_named text rest names is none h = none (subst (All (λ name. IsTrue (is_name name))) (sym (players_same text rest names is h)) h.has.named)

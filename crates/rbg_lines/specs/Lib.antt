@@ -1,0 +1,6 @@
+-- The lines of a record.
+pub mod Entries
+pub mod Heading
+pub mod Laws
+pub mod Lines
+pub mod Names

@@ -1,0 +1,21 @@
+//! What the lines of a record tell of play.
+
+use rbg_pairs::Move;
+use rbg_wire::Outcome;
+
+/// An entry of a record: a move that was made, or how the record ends.
+#[derive(Clone, Debug, Drop, PartialEq, Eq)]
+pub enum Entry {
+    /// `<player> <pairs>`: the player made this move. The keeper is player 0.
+    Move { player: u64, pairs: Move },
+    /// `E..`: the match ended so. `-`: it is still in play.
+    End { outcome: Option<Outcome> },
+}
+
+/// An entry with its moment.
+#[derive(Clone, Debug, Drop, PartialEq, Eq)]
+pub struct Timed {
+    /// The moment in milliseconds.
+    pub at: u64,
+    pub entry: Entry,
+}

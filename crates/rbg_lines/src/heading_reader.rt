@@ -1,0 +1,80 @@
+//! The calls that read the first lines of a record. They allocate nothing.
+ghost use Rattle.std.specs.Prelude.{◌≡◌, ◌↔◌, ℕ, List, IfSome, IfNone, IsTrue, All};
+ghost use Rattle.std.specs.Option.{IsSomeAnd};
+ghost use Rattle.rbg_base.specs.Names.{is_name};
+ghost use Rattle.rbg_wire.specs.Words.{words_of};
+ghost use Rattle.rbg_lines.specs.declared.heading.Start.{Start as AnyStart};
+ghost use Rattle.rbg_lines.specs.declared.heading.Version.{Version as AnyVersion};
+ghost use Rattle.rbg_lines.specs.Heading.{version_text, SpellsPlayers, SpellsStart};
+ghost use Rattle.rbg_lines.specs.Names.{names_left};
+
+use crate::cutting::{after_text, cut_at};
+use crate::{Names, Start, Version};
+use rbg_base::{is_name, number_of_decimal};
+
+/// The version of which the whole text is the spelling.
+///
+/// Returns None if it is that of no version.
+pub fn read_version(line: &[u8]) -> Option<Version>
+    // The text is that of the version that is returned.
+    ensures found { IfSome result (λ version. line.now ≡ version_text version) }
+    // The version is returned whose text this is.
+    ensures only { (version : AnyVersion) → line.now ≡ version_text version → result ≡ Some version }
+{
+    if line == b"rbg 1".as_slice() {
+        Some(Version::One)
+    } else if line == b"rbg 2".as_slice() {
+        Some(Version::Two)
+    } else {
+        None
+    }
+}
+
+/// The names of the players of which the whole text is the spelling. They are borrowed from it.
+///
+/// Returns None if it is that of no players.
+pub fn read_players(line: &[u8]) -> Option<Names<'_>>
+    // The text is that of the names that are returned.
+    ensures found { IfSome result (λ names. SpellsPlayers line.now (names_left names)) }
+    // The names are returned whose text this is.
+    ensures only { (names : List (List ℕ))
+        → SpellsPlayers line.now names
+        → IsSomeAnd result (λ found. names_left found ≡ names) }
+{
+    let text = after_text(b"players ", line)?;
+    if are_names(text) {
+        Some(Names::of(text))
+    } else {
+        None
+    }
+}
+
+// Whether the words between the spaces are names.
+fn are_names(text: &[u8]) -> bool
+    ensures { IsTrue result ↔ All (λ name. IsTrue (is_name name)) (words_of text.now) }
+{
+    Names::of(text).all(|name| is_name(name))
+}
+
+/// The start of which the whole text is the spelling.
+///
+/// Returns None if it is that of no start.
+pub fn read_start(line: &[u8]) -> Option<Start>
+    // The text is that of the start that is returned.
+    ensures found { IfSome result (SpellsStart line.now) }
+    // The start is returned whose text this is.
+    ensures only { (start : AnyStart) → SpellsStart line.now start → result ≡ Some start }
+{
+    start_in(line)
+}
+
+fn start_in(line: &[u8]) -> Option<Start>
+    ensures found { IfSome result (SpellsStart line.now) }
+    ensures none { IfNone result ((start : AnyStart) → SpellsStart line.now start → ⊥) }
+{
+    let fields = after_text(b"start ", line)?;
+    let (turn_ms, now) = cut_at(b' ', fields)?;
+    let turn_ms = number_of_decimal(turn_ms)?;
+    let now = number_of_decimal(now)?;
+    Some(Start { turn_ms, now })
+}
