@@ -1,0 +1,27 @@
+-- What the first lines of a record lead to.
+use Rattle.std.proofs.Common.{◌≡◌, ℕ, ◌≤◌, List, sym, subst}
+use Rattle.rbg_rules.specs.State.{AbstractGame}
+use Rattle.rbg_rules.specs.Moves.{AbstractPlace}
+use Rattle.rbg_lines.specs.declared.heading.Start.{Start}
+use Rattle.rbg_lines.specs.declared.heading.Version.{Version}
+use Rattle.rbg_lines.specs.declared.heading.Version.TheVariants.{One, Two}
+use Rattle.rbg_lines.specs.Heading.{version_text, SpellsStart}
+use Rattle.rbg_match.specs.Config.{IsWithinLimits}
+use Rattle.rbg_match.specs.History.{start_place}
+use Rattle.rbg_match.specs.Limits.{latest_moment}
+use Rattle.rbg_record.specs.Right.{turn_config}
+use Rattle.rbg_record.specs.Lines.{version_next, players_next, start_next, entry_next, Leads}
+use Rattle.rbg_record.specs.Lines as lines
+
+pub begun_one : (game : AbstractGame) (text : List ℕ) (version : Version) (place : AbstractPlace) → text ≡ version_text version → version ≡ One → place ≡ start_place game → Leads game version_next text (entry_next (record { version = One; turn_ms = 1; last = 0; place = place }))
+begun_one game text version place is one start =
+    subst (λ (begun : AbstractPlace). Leads game version_next text (entry_next (record { version = One; turn_ms = 1; last = 0; place = begun }))) (sym start)
+    (lines.version_1 (subst (λ (told : Version). text ≡ version_text told) one is))
+
+pub begun_two : (game : AbstractGame) (text : List ℕ) (version : Version) → text ≡ version_text version → version ≡ Two → Leads game version_next text players_next
+begun_two game text version is two = lines.version_2 (subst (λ (told : Version). text ≡ version_text told) two is)
+
+pub begun_start : (game : AbstractGame) (text : List ℕ) (start : Start) (place : AbstractPlace) → SpellsStart text start → IsWithinLimits (turn_config start.turn_ms) → start.now ≤ latest_moment → place ≡ start_place game → Leads game start_next text (entry_next (record { version = Two; turn_ms = start.turn_ms; last = start.now; place = place }))
+begun_start game text start place spells lawful counted is =
+    subst (λ (begun : AbstractPlace). Leads game start_next text (entry_next (record { version = Two; turn_ms = start.turn_ms; last = start.now; place = begun }))) (sym is)
+    (lines.start spells lawful counted)

@@ -1,0 +1,136 @@
+-- Entries that lead on, and why others don't.
+use Rattle.std.proofs.Common.{◌≡◌, ◌≢◌, ℕ, ◌<◌, ◌≤◌, List, length, take, Option, Some, None, Result, Ok, Err, refl, sym, ◌∙◌, subst, arith}
+use Rattle.std.specs.Prelude.{IfErr, IfOk}
+use Rattle.rbg_wire.specs.declared.outcome.Outcome.{Outcome}
+use Rattle.rbg_wire.specs.declared.outcome.Outcome.TheVariants.{Finished, Time, Refusals, Gone, Heavy}
+use Rattle.rbg_rules.specs.State.{AbstractGame}
+use Rattle.rbg_rules.specs.Moves.{AbstractPlace, Legal}
+use Rattle.rbg_rules.specs.Moves as moves
+use Rattle.rbg_lines.specs.declared.entry.Entry.{Entry}
+use Rattle.rbg_lines.specs.declared.entry.Entry.TheVariants.{Move, End}
+use Rattle.rbg_lines.specs.declared.entry.Timed.{Timed}
+use Rattle.rbg_match.specs.History.{FitsOutcome, HasTurn}
+use Rattle.rbg_match.specs.Limits.{latest_moment}
+use Rattle.rbg_record.specs.declared.fault.Fault.{Fault}
+use Rattle.rbg_record.specs.declared.fault.Fault.TheVariants.{Form, Bad, Over, Memory}
+use Rattle.rbg_record.specs.Right.{turn_config}
+use Rattle.rbg_record.specs.Judged.{FitsUnasked}
+use Rattle.rbg_record.specs.Lines.{Standing, Reached, nothing_next, entry_next, IsMomentFor, SpellsIn, EntryLeads, Leads, play_at}
+use Rattle.rbg_record.specs.Lines as lines
+use Rattle.rbg_record.specs.internal.Reading.{SomeIsLegal, LeavesTurn, RefusesEntry, Refuses, reached_of}
+use Rattle.rbg_record.specs.declared.reached.Reached.{Reached as CodeReached}
+use Rattle.rbg_record.proofs.Deciding.{one_told}
+
+-- what holds of an entry that leads on
+record IsRightMove (game : AbstractGame) (standing : Standing) (at player : ℕ) (pairs : List (ℕ × ℕ)) : Type 0 where
+  pub mover : player ≡ standing.place.state.player
+  pub moment : IsMomentFor standing player at
+  pub counted : at ≤ latest_moment
+  pub to : AbstractPlace
+  pub legal : Legal game standing.place pairs to
+
+abbrev HasRight : AbstractGame → Standing → ℕ → Entry → Type 0
+HasRight game standing at (Move player pairs) = IsRightMove game standing at player pairs
+HasRight game standing at (End outcome) = FitsOutcome game (turn_config standing.turn_ms) (play_at standing outcome) standing.last at outcome × (at ≤ latest_moment)
+
+has_right : (game : AbstractGame) (standing : Standing) (told : Timed) (to : Reached) → EntryLeads game standing told to → HasRight game standing told.at told.entry
+has_right game standing told to (lines.move {to = next} mover moment counted legal) = record { mover = mover; moment = moment; counted = counted; to = next; legal = legal }
+has_right game standing told to (lines.end fits counted) = (fits, counted)
+
+fits_unasked : (game : AbstractGame) (standing : Standing) (at : ℕ) (entry : Entry) → HasRight game standing at entry → FitsUnasked game standing at entry
+fits_unasked game standing at (Move player pairs) right = (right.mover, right.moment)
+fits_unasked game standing at (End None) right = (right.0.0.0.player, right.0.1)
+fits_unasked game standing at (End (Some (Finished scores))) right = right.0.2
+fits_unasked game standing at (End (Some (Time player))) right = (right.0.1, (λ (keeper : player ≡ 0). right.0.0.0.player (sym right.0.1 ∙ keeper)), right.0.2)
+fits_unasked game standing at (End (Some (Refusals player))) right = ((right.0.0.0.player, right.0.1), right.0.2, right.0.3)
+fits_unasked game standing at (End (Some (Gone player))) right = ((right.0.0.0.player, right.0.1), right.0.2, right.0.3)
+fits_unasked game standing at (End (Some Heavy)) right = right.0
+
+is_counted : (game : AbstractGame) (standing : Standing) (at : ℕ) (entry : Entry) → HasRight game standing at entry → at ≤ latest_moment
+is_counted game standing at (Move player pairs) right = right.counted
+is_counted game standing at (End outcome) right = right.1
+
+-- a moment that is not counted
+pub too_late : (game : AbstractGame) (standing : Standing) (told : Timed) → latest_moment < told.at → (to : Reached) → EntryLeads game standing told to → ⊥
+too_late game standing told late to leads =
+    let counted = is_counted game standing told.at told.entry (has_right game standing told to leads) in
+    omega arith
+
+-- what needs no question is wrong
+pub unfit : (game : AbstractGame) (standing : Standing) (told : Timed) → (FitsUnasked game standing told.at told.entry → ⊥) → (to : Reached) → EntryLeads game standing told to → ⊥
+unfit game standing told wrong to leads = wrong (fits_unasked game standing told.at told.entry (has_right game standing told to leads))
+
+-- a move that isn't legal
+pub illegal_move : (game : AbstractGame) (standing : Standing) (at player : ℕ) (pairs : List (ℕ × ℕ)) → ((to : AbstractPlace) → Legal game standing.place pairs to → ⊥) → (to : Reached) → EntryLeads game standing (record { at = at; entry = Move player pairs }) to → ⊥
+illegal_move game standing at player pairs never to leads =
+    let right : IsRightMove game standing at player pairs = has_right game standing (record { at = at; entry = Move player pairs }) to leads in
+    never right.to right.legal
+
+pub legal_move : (game : AbstractGame) (standing : Standing) (at player : ℕ) (pairs : List (ℕ × ℕ)) (to : AbstractPlace) → FitsUnasked game standing at (Move player pairs) → at ≤ latest_moment → Legal game standing.place pairs to → EntryLeads game standing (record { at = at; entry = Move player pairs }) (entry_next (record standing { last = at; place = to }))
+legal_move game standing at player pairs to fits counted legal = lines.move fits.0 fits.1 counted legal
+
+has_turn : (game : AbstractGame) (place : AbstractPlace) → place.state.player ≢ 0 → SomeIsLegal game place → HasTurn game place
+has_turn game place player some = record { player = player; pairs = some.0; to = some.1.0; legal = some.1.1 }
+
+-- an end in a turn
+fits_turn : (game : AbstractGame) (standing : Standing) (at : ℕ) (outcome : Option Outcome) → LeavesTurn outcome → FitsUnasked game standing at (End outcome) → SomeIsLegal game standing.place → FitsOutcome game (turn_config standing.turn_ms) (play_at standing outcome) standing.last at outcome
+fits_turn game standing at None leaves fits some = ((has_turn game standing.place fits.0 some, refl), fits.1)
+fits_turn game standing at (Some (Finished scores)) leaves fits some = absurd leaves
+fits_turn game standing at (Some (Time player)) leaves fits some = ((has_turn game standing.place (λ (keeper : standing.place.state.player ≡ 0). fits.1 (fits.0 ∙ keeper)) some, refl), fits.0, fits.2)
+fits_turn game standing at (Some (Refusals player)) leaves fits some = ((has_turn game standing.place fits.0.0 some, refl), fits.0.1, fits.1, fits.2)
+fits_turn game standing at (Some (Gone player)) leaves fits some = ((has_turn game standing.place fits.0.0 some, refl), fits.0.1, fits.1, fits.2)
+fits_turn game standing at (Some Heavy) leaves fits some = absurd leaves
+
+pub turn_left : (game : AbstractGame) (standing : Standing) (at : ℕ) (outcome : Option Outcome) → LeavesTurn outcome → FitsUnasked game standing at (End outcome) → at ≤ latest_moment → SomeIsLegal game standing.place → EntryLeads game standing (record { at = at; entry = End outcome }) nothing_next
+turn_left game standing at outcome leaves fits counted some = lines.end (fits_turn game standing at outcome leaves fits some) counted
+
+some_legal : (game : AbstractGame) (standing : Standing) (at : ℕ) (outcome : Option Outcome) → LeavesTurn outcome → HasRight game standing at (End outcome) → SomeIsLegal game standing.place
+some_legal game standing at None leaves right = (right.0.0.0.pairs, (right.0.0.0.to, right.0.0.0.legal))
+some_legal game standing at (Some (Finished scores)) leaves right = absurd leaves
+some_legal game standing at (Some (Time player)) leaves right = (right.0.0.0.pairs, (right.0.0.0.to, right.0.0.0.legal))
+some_legal game standing at (Some (Refusals player)) leaves right = (right.0.0.0.pairs, (right.0.0.0.to, right.0.0.0.legal))
+some_legal game standing at (Some (Gone player)) leaves right = (right.0.0.0.pairs, (right.0.0.0.to, right.0.0.0.legal))
+some_legal game standing at (Some Heavy) leaves right = absurd leaves
+
+pub no_turn_left : (game : AbstractGame) (standing : Standing) (at : ℕ) (outcome : Option Outcome) → LeavesTurn outcome → moves.Finished game standing.place → (to : Reached) → EntryLeads game standing (record { at = at; entry = End outcome }) to → ⊥
+no_turn_left game standing at outcome leaves over to leads =
+    let some = some_legal game standing at outcome leaves (has_right game standing (record { at = at; entry = End outcome }) to leads) in
+    over.no_move some.0 some.1.0 some.1.1
+
+-- the end of play that is finished
+pub finished_end : (game : AbstractGame) (standing : Standing) (at : ℕ) (scores : List ℕ) → at ≡ standing.last → at ≤ latest_moment → moves.Finished game standing.place → scores ≡ take (length game.players) standing.place.state.values → EntryLeads game standing (record { at = at; entry = End (Some (Finished scores)) }) nothing_next
+finished_end game standing at scores moment counted over values = lines.end (over, values, moment) counted
+
+pub other_scores : (game : AbstractGame) (standing : Standing) (at : ℕ) (scores : List ℕ) → (scores ≡ take (length game.players) standing.place.state.values → ⊥) → (to : Reached) → EntryLeads game standing (record { at = at; entry = End (Some (Finished scores)) }) to → ⊥
+other_scores game standing at scores other to leads = other ((has_right game standing (record { at = at; entry = End (Some (Finished scores)) }) to leads).0.1)
+
+pub going_on : (game : AbstractGame) (standing : Standing) (at : ℕ) (scores : List ℕ) → SomeIsLegal game standing.place → (to : Reached) → EntryLeads game standing (record { at = at; entry = End (Some (Finished scores)) }) to → ⊥
+going_on game standing at scores some to leads =
+    let over = (has_right game standing (record { at = at; entry = End (Some (Finished scores)) }) to leads).0.0 in
+    over.no_move some.0 some.1.0 some.1.1
+
+-- an end above the limits
+pub heavy_end : (game : AbstractGame) (standing : Standing) (at : ℕ) (outcome : Outcome) → outcome ≡ Heavy → FitsUnasked game standing at (End (Some outcome)) → at ≤ latest_moment → EntryLeads game standing (record { at = at; entry = End (Some outcome) }) nothing_next
+heavy_end game standing at outcome is fits counted =
+    subst (λ (end : Outcome). EntryLeads game standing (record { at = at; entry = End (Some end) }) nothing_next) (sym is)
+    (lines.end (subst (λ (end : Outcome). FitsUnasked game standing at (End (Some end))) is fits) counted)
+
+-- the same of a line
+entry_behind : (game : AbstractGame) (standing : Standing) (text : List ℕ) (told : Timed) (to : Reached) → SpellsIn standing.version text told → Leads game (entry_next standing) text to → EntryLeads game standing told to
+entry_behind game standing text told to spells (lines.entry {told = other} spells' leads) =
+    subst (λ (entry : Timed). EntryLeads game standing entry to) (one_told standing.version text other told spells' spells) leads
+
+pub refused_line : (game : AbstractGame) (standing : Standing) (text : List ℕ) {A : Type 0} (told : Timed) (result : Result A Fault) → SpellsIn standing.version text told → IfErr result (RefusesEntry game standing told) → IfErr result (Refuses game (entry_next standing) text)
+refused_line game standing text told (Ok to) spells refuses = tt
+refused_line game standing text told (Err Form) spells refuses = absurd refuses
+refused_line game standing text told (Err Bad) spells refuses = ((told, spells), λ to leads. refuses to (entry_behind game standing text told to spells leads))
+refused_line game standing text told (Err Over) spells refuses = record { standing = standing; here = refl; told = told; form = spells; heavy = refuses }
+refused_line game standing text told (Err Memory) spells refuses = tt
+
+pub same_refusal : {A : Type 0} (game : AbstractGame) (standing : Standing) (told : Timed) (entry : Entry) (result : Result A Fault) → told.entry ≡ entry → IfErr result (RefusesEntry game standing (record { at = told.at; entry = entry })) → IfErr result (RefusesEntry game standing told)
+same_refusal game standing told entry result is refuses =
+    subst (λ (other : Entry). IfErr result (RefusesEntry game standing (record { at = told.at; entry = other }))) (sym is) refuses
+
+pub line_leads : (game : AbstractGame) (standing : Standing) (text : List ℕ) (told : Timed) (result : Result CodeReached Fault) → SpellsIn standing.version text told → IfOk result (λ to. EntryLeads game standing told (reached_of to)) → IfOk result (λ to. Leads game (entry_next standing) text (reached_of to))
+line_leads game standing text told (Ok to) spells leads = lines.entry spells leads
+line_leads game standing text told (Err fault) spells leads = tt

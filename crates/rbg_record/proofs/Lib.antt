@@ -1,0 +1,16 @@
+-- Lemmas, by topic.
+pub mod Beginning
+pub mod Deciding
+pub mod EntryLemmas
+pub mod Fitting
+pub mod Leading
+pub mod MatchRight
+pub mod MatchSpelled
+pub mod MigratingLemmas
+pub mod OneEnd
+pub mod OnePlain
+pub mod OneRecordLemmas
+pub mod PlayerNames
+pub mod SoFarLemmas
+pub mod Telling
+pub mod WrittenLemmas

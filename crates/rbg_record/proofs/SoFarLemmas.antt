@@ -1,0 +1,124 @@
+-- What was read of a record, line by line.
+use Rattle.std.proofs.Common.{◌≡◌, ℕ, ◌+◌, List, [], ◌∷◌, ◌++◌, length, refl, sym, ap, ◌∙◌, subst, arith, Bool, true, false}
+use Rattle.std.specs.Prelude.{◌==◌}
+use Rattle.std.proofs.lemmas.Bool.{true≢false}
+use Rattle.std.proofs.lemmas.List.{length-append}
+use Rattle.std.proofs.lemmas.List.Elements.{All-nil, All-push}
+use Rattle.rbg_wire.specs.Bytes.{LacksByte}
+use Rattle.rbg_rules.specs.State.{AbstractGame}
+use Rattle.rbg_lines.specs.Lines.{line_feed, lines_of, IsFirstLine}
+use Rattle.rbg_lines.proofs.Cuts.{no_cut}
+use Rattle.rbg_record.specs.declared.fault.Fault.{Fault}
+use Rattle.rbg_record.specs.declared.fault.Fault.TheVariants.{Form, Bad, Over, Memory}
+use Rattle.rbg_record.specs.Lines.{Reached, version_next, nothing_next, entry_next, HasForm, Leads, LeadTo}
+use Rattle.rbg_record.specs.Lines as lines
+use Rattle.rbg_record.specs.Judged.{BeginsWith, GoesOn, IsGoodByLines, IsFormFault, IsJudged}
+use Rattle.rbg_record.specs.Judged as judged
+use Rattle.rbg_record.specs.internal.Faults.{told_at}
+use Rattle.rbg_record.specs.internal.Reading.{IsReachedIn, Refuses}
+use Rattle.rbg_record.specs.internal.SoFar.{IsReadSoFar}
+use Rattle.rbg_record.proofs.Deciding.{last_line}
+use Rattle.rbg_record.proofs.OneEnd.{one_first, no_line}
+
+-- no line yet
+pub read_none : (game : AbstractGame) (bytes : List ℕ) → IsReadSoFar game bytes version_next bytes 1
+read_none game bytes = record {
+  texts = [];
+  begins = record { whole = All-nil (LacksByte line_feed); parts = refl };
+  number = refl;
+  leads = lines.none;
+  in_game = tt;
+  shorter = omega arith;
+}
+
+-- one more line
+pub begins_more : (bytes : List ℕ) (texts : List (List ℕ)) (text rest later : List ℕ) → BeginsWith bytes texts rest → IsFirstLine rest text later → BeginsWith bytes (texts ++ text ∷ []) later
+begins_more bytes texts text rest later begins first = record {
+  whole = All-push (LacksByte line_feed) texts text begins.whole first.whole;
+  parts = begins.parts ∙ (ap (λ more. lines_of texts ++ more) first.parts ∙ sym (last_line texts text later));
+}
+
+pub read_more : (game : AbstractGame) (bytes : List ℕ) (reached to : Reached) (rest text later : List ℕ) (line : ℕ) → IsReadSoFar game bytes reached rest line → IsFirstLine rest text later → Leads game reached text to → IsReachedIn game to → IsReadSoFar game bytes to later (line + 1)
+read_more game bytes reached to rest text later line so_far first leads in_game =
+    let left = ap length first.parts ∙ length-append text (line_feed ∷ later) in
+    let old = so_far.shorter in
+    let number : line + 1 ≡ length (so_far.texts ++ text ∷ []) + 1 = omega (arith, so_far.number, length-append so_far.texts (text ∷ [])) in
+    record {
+      texts = so_far.texts ++ text ∷ [];
+      begins = begins_more bytes so_far.texts text rest later so_far.begins first;
+      number = number;
+      leads = lines.more so_far.leads leads;
+      in_game = in_game;
+      shorter = omega arith;
+    }
+
+-- a line with a fault
+pub read_fault : (game : AbstractGame) (bytes : List ℕ) (reached : Reached) (rest text later : List ℕ) (line : ℕ) (fault : Fault) → IsReadSoFar game bytes reached rest line → IsFirstLine rest text later → Refuses game reached text fault → IsJudged game bytes (told_at fault line)
+read_fault game bytes reached rest text later line Form so_far first refuses = record {
+  texts = so_far.texts;
+  rest = rest;
+  begins = so_far.begins;
+  number = so_far.number;
+  reached = reached;
+  leads = so_far.leads;
+  stops = stops;
+}
+  where
+    stops : GoesOn (reached ≡ nothing_next) (HasForm reached) rest → ⊥
+    stops (judged.nothing_left over none) = no_line text later (sym first.parts ∙ none)
+    stops (judged.one_more text' later' first' form) = refuses (subst (HasForm reached) (one_first rest text' text later' later first' first).0 form)
+read_fault game bytes reached rest text later line Bad so_far first refuses = record {
+  texts = so_far.texts;
+  text = text;
+  rest = later;
+  begins = begins_more bytes so_far.texts text rest later so_far.begins first;
+  number = so_far.number;
+  reached = reached;
+  leads = so_far.leads;
+  form = refuses.0;
+  wrong = refuses.1;
+}
+read_fault game bytes reached rest text later line Over so_far first refuses = record {
+  texts = so_far.texts;
+  text = text;
+  rest = later;
+  begins = begins_more bytes so_far.texts text rest later so_far.begins first;
+  number = so_far.number;
+  standing = refuses.standing;
+  leads = subst (λ (to : Reached). LeadTo game so_far.texts to) refuses.here so_far.leads;
+  told = refuses.told;
+  form = refuses.form;
+  counted = refuses.heavy.counted;
+  fits = refuses.heavy.fits;
+  asks = refuses.heavy.asks;
+}
+read_fault game bytes reached rest text later line Memory so_far first refuses = tt
+
+-- no line is left, and the record has ended
+pub read_good : (game : AbstractGame) (bytes : List ℕ) (reached : Reached) (rest : List ℕ) (line : ℕ) → IsReadSoFar game bytes reached rest line → reached ≡ nothing_next → rest ≡ [] → IsGoodByLines game bytes
+read_good game bytes reached rest line so_far over none = record {
+  texts = so_far.texts;
+  begins = subst (λ (left : List ℕ). BeginsWith bytes so_far.texts left) none so_far.begins;
+  leads = subst (λ (to : Reached). LeadTo game so_far.texts to) over so_far.leads;
+}
+
+-- no line is left, but the record has not ended, or some bytes are left
+pub read_short : (game : AbstractGame) (bytes : List ℕ) (reached : Reached) (rest : List ℕ) (line : ℕ) → IsReadSoFar game bytes reached rest line → LacksByte line_feed rest → (reached ≡ nothing_next → rest ≡ [] → ⊥) → IsFormFault game bytes line
+read_short game bytes reached rest line so_far lacks going = record {
+  texts = so_far.texts;
+  rest = rest;
+  begins = so_far.begins;
+  number = so_far.number;
+  reached = reached;
+  leads = so_far.leads;
+  stops = stops;
+}
+  where
+    stops : GoesOn (reached ≡ nothing_next) (HasForm reached) rest → ⊥
+    stops (judged.nothing_left over none) = going over none
+    stops (judged.one_more text later first form) = no_cut line_feed text later (subst (LacksByte line_feed) first.parts lacks)
+
+pub not_empty : (rest : List ℕ) (empty : Bool) → empty ≡ (length rest == 0) → empty ≡ false → rest ≡ [] → ⊥
+not_empty rest empty is fails none =
+    let holds : (length rest == 0) ≡ true = ap (λ (left : List ℕ). length left == 0) none in
+    true≢false (sym holds ∙ (sym is ∙ fails))

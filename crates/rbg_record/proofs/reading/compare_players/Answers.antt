@@ -1,0 +1,8 @@
+use Rattle.std.proofs.Common.{List, ℕ, subst}
+use Rattle.rbg_lines.specs.Heading.{SpellsPlayers}
+use Rattle.rbg_record.specs.Lines as lines
+use Rattle.rbg_record.proofs.reading.compare_players.Goals as goal
+
+pub returns-then-are_players-clause-leads : goal.returns-then-are_players-clause-leads
+returns-then-are_players-clause-leads c =
+    lines.players (subst (λ (names : List (List ℕ)). SpellsPlayers c.args.text.now names) (c.are_players.ensures.0 c.if-are_players.true) c.in-Some.ensures.found)

@@ -1,0 +1,131 @@
+-- What is told of a record: that it is right, or the first line that is not, and what is wrong with it.
+use Rattle.std.specs.Prelude.{◌≡◌, ◌≢◌, ℕ, ◌+◌, ◌≤◌, List, [], ◌∷◌, ◌++◌, length, All, Some, None, Result, Ok, Err}
+use Rattle.rbg_wire.specs.declared.outcome.Outcome.TheVariants.{Finished, Time, Refusals, Gone, Heavy}
+use Rattle.rbg_wire.specs.Bytes.{LacksByte}
+use Rattle.rbg_rules.specs.Heavy.{IsHeavyToFind, IsHeavyToTry}
+use Rattle.rbg_rules.specs.State.{AbstractGame}
+use Rattle.rbg_match.specs.History.{IsInTurn}
+use Rattle.rbg_match.specs.Limits.{latest_moment}
+use Rattle.rbg_match.specs.PlayingOn.{seats_of}
+use Rattle.rbg_lines.specs.declared.entry.Entry.{Entry}
+use Rattle.rbg_lines.specs.declared.entry.Entry.TheVariants.{Move, End}
+use Rattle.rbg_lines.specs.declared.entry.Timed.{Timed}
+use Rattle.rbg_lines.specs.Lines.{line_feed, lines_of, IsFirstLine}
+use Rattle.rbg_record.specs.Lines.{
+  Standing,
+  Reached,
+  entry_next,
+  nothing_next,
+  HasForm,
+  SpellsIn,
+  IsMomentFor,
+  Leads,
+  LeadTo,
+}
+use Rattle.rbg_record.specs.Right.{turn_config}
+use Rattle.rbg_record.specs.declared.checked.Checked.{Checked}
+use Rattle.rbg_record.specs.declared.checked.Checked.TheVariants.{Good, Bad}
+use Rattle.rbg_record.specs.declared.error.RecordError.{RecordError}
+use Rattle.rbg_record.specs.declared.error.RecordError.TheVariants.{Form, Over, Memory}
+
+-- The bytes begin with lines of these texts, and the rest follows them.
+pub record BeginsWith (bytes : List ℕ) (texts : List (List ℕ)) (rest : List ℕ) : Type 0 where
+  pub whole : All (LacksByte line_feed) texts
+  pub parts : bytes ≡ lines_of texts ++ rest
+
+-- The rest of a record is of the form so far: the record is over and nothing is left, or the next line has a form that
+-- it may have.
+pub data GoesOn (over : Type 0) (HasForm : List ℕ → Type 0) (rest : List ℕ) : Type 0 where
+  nothing_left :
+      over →
+      rest ≡ [] →
+      GoesOn over HasForm rest
+  one_more : (text later : List ℕ) →
+      IsFirstLine rest text later →
+      HasForm text →
+      GoesOn over HasForm rest
+
+-- Each line is right behind those before it, and the record has ended with the last of them.
+pub record IsGoodByLines (game : AbstractGame) (bytes : List ℕ) : Type 0 where
+  pub texts : List (List ℕ)
+  pub begins : BeginsWith bytes texts []
+  pub leads : LeadTo game texts nothing_next
+
+-- The lines before this one are right, but what follows them is not of the form: it is the first fault of the record.
+-- Lines are numbered from 1. The line is missing where the record ends too early.
+pub record IsFormFault (game : AbstractGame) (bytes : List ℕ) (line : ℕ) : Type 0 where
+  pub texts : List (List ℕ)
+  pub rest : List ℕ
+  pub begins : BeginsWith bytes texts rest
+  pub number : line ≡ length texts + 1
+  pub reached : Reached
+  pub leads : LeadTo game texts reached
+  pub stops : ¬ GoesOn (reached ≡ nothing_next) (HasForm reached) rest
+
+-- The lines before this one are right. This one is of the form, but it isn't right behind them.
+pub record IsBadLine (game : AbstractGame) (bytes : List ℕ) (line : ℕ) : Type 0 where
+  pub texts : List (List ℕ)
+  pub text : List ℕ
+  pub rest : List ℕ
+  pub begins : BeginsWith bytes (texts ++ text ∷ []) rest
+  pub number : line ≡ length texts + 1
+  pub reached : Reached
+  pub leads : LeadTo game texts reached
+  pub form : HasForm reached text
+  pub wrong : (to : Reached) → ¬ Leads game reached text to
+
+-- A player is to move, and the moment is one of its turn.
+abbrev pub IsOnTurn : Standing → (at : ℕ) → Type 0
+IsOnTurn standing at =
+    (standing.place.state.player ≢ 0) × IsInTurn (turn_config standing.turn_ms) standing.last at
+
+-- What is looked at before a question is asked of the rules.
+--   Move: the player is the mover, and the moment is one for its move.
+--   None: a player is to move, and the moment is one of its turn.
+--   Finished: the moment is that of the last move.
+--   Time: the player is the mover and not the keeper, and at that moment its turn is due.
+--   Refusals, Gone: the same as for None, and the player that is named is one of the game.
+--   Heavy: the moment is one of the turn.
+abbrev pub FitsUnasked : AbstractGame → Standing → (at : ℕ) → Entry → Type 0
+FitsUnasked game standing at (Move player pairs) =
+    (player ≡ standing.place.state.player) × IsMomentFor standing player at
+FitsUnasked game standing at (End None) = IsOnTurn standing at
+FitsUnasked game standing at (End (Some (Finished scores))) = at ≡ standing.last
+FitsUnasked game standing at (End (Some (Time player))) =
+    (player ≡ standing.place.state.player) × (player ≢ 0) × (standing.last + standing.turn_ms ≤ at)
+FitsUnasked game standing at (End (Some (Refusals player))) =
+    IsOnTurn standing at × (1 ≤ player) × (player ≤ seats_of game)
+FitsUnasked game standing at (End (Some (Gone player))) =
+    IsOnTurn standing at × (1 ≤ player) × (player ≤ seats_of game)
+FitsUnasked game standing at (End (Some Heavy)) = IsInTurn (turn_config standing.turn_ms) standing.last at
+
+-- The question of an entry is above the limits: whether the move is legal, or whether there is a legal move. `E4` asks
+-- none.
+abbrev pub AsksHeavy : AbstractGame → Standing → Entry → Type 0
+AsksHeavy game standing (Move player pairs) = IsHeavyToTry game standing.place pairs
+AsksHeavy game standing (End (Some Heavy)) = ⊥
+AsksHeavy game standing (End _) = IsHeavyToFind game standing.place
+
+-- The lines before this one are right. This one is of the form, and all that needs no question fits; but its question
+-- is above the limits.
+pub record IsHeavyLine (game : AbstractGame) (bytes : List ℕ) (line : ℕ) : Type 0 where
+  pub texts : List (List ℕ)
+  pub text : List ℕ
+  pub rest : List ℕ
+  pub begins : BeginsWith bytes (texts ++ text ∷ []) rest
+  pub number : line ≡ length texts + 1
+  pub standing : Standing
+  pub leads : LeadTo game texts (entry_next standing)
+  pub told : Timed
+  pub form : SpellsIn standing.version text told
+  pub counted : told.at ≤ latest_moment
+  pub fits : FitsUnasked game standing told.at told.entry
+  pub asks : AsksHeavy game standing told.entry
+
+-- What is told of a record is true.
+abbrev pub IsJudged : AbstractGame → List ℕ → Result Checked RecordError → Type 0
+IsJudged game bytes (Ok Good) = IsGoodByLines game bytes
+IsJudged game bytes (Ok (Bad line)) = IsBadLine game bytes line
+IsJudged game bytes (Err (Form line)) = IsFormFault game bytes line
+IsJudged game bytes (Err (Over line)) = IsHeavyLine game bytes line
+IsJudged game bytes (Err Memory) = Unit {0}

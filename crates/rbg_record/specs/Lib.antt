@@ -1,0 +1,9 @@
+-- What a record is, which records are right, and what is told of one that isn't. Each file builds on those above it.
+pub mod Records
+pub mod Right
+pub mod Lines
+pub mod Judged
+pub mod Migration
+pub mod OfMatch
+pub mod Laws
+pub mod internal

@@ -1,0 +1,127 @@
+-- The lines of a record in turn: of which form each may be, and what those so far lead to.
+use Rattle.std.specs.Prelude.{◌≡◌, ◌≢◌, ℕ, ◌≤◌, List, [], ◌∷◌, ◌++◌, Option, Some}
+use Rattle.rbg_wire.specs.declared.outcome.Outcome.{Outcome}
+use Rattle.rbg_wire.specs.declared.outcome.Outcome.TheVariants.{Time}
+use Rattle.rbg_rules.specs.State.{AbstractGame}
+use Rattle.rbg_rules.specs.Moves.{AbstractPlace, Legal}
+use Rattle.rbg_match.specs.Config.{IsWithinLimits}
+use Rattle.rbg_match.specs.History.{start_place, IsInTurn, FitsOutcome}
+use Rattle.rbg_match.specs.Limits.{latest_moment}
+use Rattle.rbg_match.specs.Play.{AbstractPlay}
+use Rattle.rbg_lines.specs.declared.entry.Entry.{Entry}
+use Rattle.rbg_lines.specs.declared.entry.Entry.TheVariants.{Move, End}
+use Rattle.rbg_lines.specs.declared.entry.Timed.{Timed}
+use Rattle.rbg_lines.specs.declared.heading.Start.{Start}
+use Rattle.rbg_lines.specs.declared.heading.Version.{Version}
+use Rattle.rbg_lines.specs.declared.heading.Version.TheVariants.{One, Two}
+use Rattle.rbg_lines.specs.Entries.{SpellsEntry, SpellsTimed}
+use Rattle.rbg_lines.specs.Heading.{version_text, SpellsPlayers, SpellsStart}
+use Rattle.rbg_record.specs.Right.{told_play, turn_config}
+
+-- The moment that version 1 leaves out. All that happens does so at moment 0, but a time that is over ends at moment 1:
+-- there a turn lasts for one millisecond.
+abbrev pub unwritten_moment : Entry → ℕ
+unwritten_moment (End (Some (Time player))) = 1
+unwritten_moment _ = 0
+
+-- the entry with that moment
+abbrev pub with_moment : Entry → Timed
+with_moment entry = record { at = unwritten_moment entry; entry = entry }
+
+-- the text is that of this entry in a record of that version
+abbrev pub SpellsIn : Version → List ℕ → Timed → Type 0
+SpellsIn One text timed = SpellsEntry text timed.entry × (timed.at ≡ unwritten_moment timed.entry)
+SpellsIn Two text timed = SpellsTimed text timed
+
+-- Where the moves so far lead: the version of the record, the time for a turn, the moment of the last move (or of the
+-- beginning), and the place.
+pub record Standing : Type 0 where
+  pub version : Version
+  pub turn_ms : ℕ
+  pub last : ℕ
+  pub place : AbstractPlace
+
+-- What the lines so far lead to: what comes next is the version, the players, the start, or a move or the end; or
+-- nothing comes after the end.
+pub data Reached : Type 0 where
+  version_next : Reached
+  players_next : Reached
+  start_next : Reached
+  entry_next : Standing → Reached
+  nothing_next : Reached
+
+-- the text is of the form that a line may have there
+abbrev pub HasForm : Reached → List ℕ → Type 0
+HasForm version_next text = (version : Version) × (text ≡ version_text version)
+HasForm players_next text = (names : List (List ℕ)) × SpellsPlayers text names
+HasForm start_next text = (start : Start) × SpellsStart text start
+HasForm (entry_next standing) text = (timed : Timed) × SpellsIn standing.version text timed
+HasForm nothing_next text = ⊥
+
+-- A move of this player may have that moment: the keeper moves when its turn begins, and a player before its turn is
+-- due.
+pub record IsMomentFor (standing : Standing) (player at : ℕ) : Type 0 where
+  pub by_keeper : player ≡ 0 → at ≡ standing.last
+  pub by_player : player ≢ 0 → IsInTurn (turn_config standing.turn_ms) standing.last at
+
+-- the state of play there, if this is how the match ended
+abbrev pub play_at : Standing → Option Outcome → AbstractPlay
+play_at standing outcome = told_play [] outcome standing.place standing.last
+
+-- An entry is right where the moves so far lead, and leads on.
+--   move: it is one of the mover, at a moment of its turn that is counted, and it is legal.
+--   end: the outcome fits the place and the moments, and the moment is one that is counted.
+pub data EntryLeads (game : AbstractGame) (standing : Standing) : Timed → Reached → Type 0 where
+  move : {at player : ℕ} {pairs : List (ℕ × ℕ)} {to : AbstractPlace} →
+      player ≡ standing.place.state.player →
+      IsMomentFor standing player at →
+      at ≤ latest_moment →
+      Legal game standing.place pairs to →
+      EntryLeads game standing (record { at = at; entry = Move player pairs })
+      (entry_next (record standing { last = at; place = to }))
+  end : {at : ℕ} {outcome : Option Outcome} →
+      FitsOutcome game (turn_config standing.turn_ms) (play_at standing outcome) standing.last at outcome →
+      at ≤ latest_moment →
+      EntryLeads game standing (record { at = at; entry = End outcome }) nothing_next
+
+-- A line with this text is right behind the lines so far, and leads on.
+--   version_1: moves come next. The first turn begins at moment 0 and lasts for one millisecond.
+--   version_2: the players come next.
+--   players: they are those of the game.
+--   start: the time for a turn is within its limits, and the moment is one that is counted.
+--   entry: it is right where the moves so far lead.
+pub data Leads (game : AbstractGame) : Reached → (text : List ℕ) → Reached → Type 0 where
+  version_1 : {text : List ℕ} →
+      text ≡ version_text One →
+      Leads game version_next text
+      (entry_next (record { version = One; turn_ms = 1; last = 0; place = start_place game }))
+  version_2 : {text : List ℕ} →
+      text ≡ version_text Two →
+      Leads game version_next text players_next
+  players : {text : List ℕ} →
+      SpellsPlayers text game.players →
+      Leads game players_next text start_next
+  start : {text : List ℕ} {start : Start} →
+      SpellsStart text start →
+      IsWithinLimits (turn_config start.turn_ms) →
+      start.now ≤ latest_moment →
+      Leads game start_next text
+      (entry_next (record {
+        version = Two;
+        turn_ms = start.turn_ms;
+        last = start.now;
+        place = start_place game;
+      }))
+  entry : {standing : Standing} {text : List ℕ} {told : Timed} {to : Reached} →
+      SpellsIn standing.version text told →
+      EntryLeads game standing told to →
+      Leads game (entry_next standing) text to
+
+-- The first lines of a record have these texts. Each is right behind those before it, and this is what they lead to.
+pub data LeadTo (game : AbstractGame) : (texts : List (List ℕ)) → Reached → Type 0 where
+  none :
+      LeadTo game [] version_next
+  more : {texts : List (List ℕ)} {text : List ℕ} {from to : Reached} →
+      LeadTo game texts from →
+      Leads game from text to →
+      LeadTo game (texts ++ text ∷ []) to

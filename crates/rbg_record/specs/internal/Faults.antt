@@ -1,0 +1,34 @@
+-- The faults of a line, and what is told of a record that has one.
+use Rattle.std.specs.Prelude.{◌≡◌, ℕ, Result, Ok, Err}
+use Rattle.rbg_search.specs.declared.over.Over.{Over as OverLimits}
+use Rattle.rbg_search.specs.declared.over.Over.TheVariants.{Deep, Wide}
+use Rattle.rbg_search.specs.declared.over.Over.TheVariants as limits
+use Rattle.rbg_record.specs.declared.checked.Checked.{Checked}
+use Rattle.rbg_record.specs.declared.checked.Checked.TheVariants as checked
+use Rattle.rbg_record.specs.declared.error.RecordError.{RecordError}
+use Rattle.rbg_record.specs.declared.error.RecordError.TheVariants as error
+use Rattle.rbg_record.specs.declared.fault.Fault.{Fault}
+use Rattle.rbg_record.specs.declared.fault.Fault.TheVariants.{Form, Bad, Over, Memory}
+
+-- the fault of a question that was not answered
+abbrev pub fault_of : OverLimits → Fault
+fault_of Deep = Over
+fault_of Wide = Over
+fault_of limits.Memory = Memory
+
+abbrev pub IsFaultOf : OverLimits → Fault → Type 0
+IsFaultOf over fault = fault ≡ fault_of over
+
+-- what is told of a record with a fault at a line
+abbrev pub told_at : Fault → (line : ℕ) → Result Checked RecordError
+told_at Form line = Err (error.Form line)
+told_at Bad line = Ok (checked.Bad line)
+told_at Over line = Err (error.Over line)
+told_at Memory line = Err error.Memory
+
+-- a question was not answered: it is above the limits, or memory ran out
+abbrev pub IsOverOrMemory : Fault → Type 0
+IsOverOrMemory Form = ⊥
+IsOverOrMemory Bad = ⊥
+IsOverOrMemory Over = Unit {0}
+IsOverOrMemory Memory = Unit {0}

@@ -1,0 +1,29 @@
+-- What is written of a match, in each version.
+use Rattle.std.specs.Prelude.{ℕ, List, ◌++◌, Option, Some, None}
+use Rattle.std.specs.List.{flat_map}
+use Rattle.rbg_match.specs.declared.made.Made.{Made}
+use Rattle.rbg_match.specs.Matches.{MatchState}
+use Rattle.rbg_lines.specs.declared.entry.Entry.{Entry}
+use Rattle.rbg_lines.specs.declared.entry.Entry.TheVariants.{Move, End}
+use Rattle.rbg_lines.specs.declared.heading.Version.{Version}
+use Rattle.rbg_lines.specs.declared.heading.Version.TheVariants.{One, Two}
+use Rattle.rbg_lines.specs.Entries.{entry_text, moment_text}
+use Rattle.rbg_lines.specs.Lines.{line_of}
+
+-- the moment as a version tells it: version 1 tells none
+abbrev pub told_moment : Version → ℕ → Option ℕ
+told_moment One at = None
+told_moment Two at = Some at
+
+-- the text of an entry at a moment, in a version
+abbrev pub told_text : Version → ℕ → Entry → List ℕ
+told_text version at entry = moment_text (told_moment version at) ++ entry_text entry
+
+abbrev pub made_text : Version → Made → List ℕ
+made_text version made = told_text version made.at (Move made.player made.pairs)
+
+-- the lines of the moves and of the end
+abbrev pub entries_bytes : Version → MatchState → List ℕ
+entries_bytes version state =
+    flat_map (λ made. line_of (made_text version made)) state.play.made
+    ++ line_of (told_text version state.streams.moment (End state.play.outcome))

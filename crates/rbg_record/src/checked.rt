@@ -1,0 +1,10 @@
+//! What is told of a record that was read whole.
+
+/// What is told of a record that was read whole. Lines are numbered from 1.
+#[derive(Clone, Copy, Debug, PartialEq, Eq)]
+pub enum Checked {
+    /// The record is right.
+    Good,
+    /// The lines before this one are right, and it is of the form; but it isn't right behind them.
+    Bad { line: usize },
+}

@@ -1,0 +1,20 @@
+//! Records of matches: whether a record is right, and how a record of version 1 becomes one of version 2.
+#![tactic(auto)]
+
+mod checked;
+mod checking;
+mod error;
+mod fault;
+pub mod laws;
+mod migrating;
+mod moments;
+mod reached;
+mod reading;
+mod recorded;
+mod writing;
+
+pub use checked::Checked;
+pub use checking::check_record;
+pub use error::RecordError;
+pub use migrating::migrate;
+pub use writing::{write_record, write_record_1};

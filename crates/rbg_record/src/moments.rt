@@ -1,0 +1,109 @@
+//! The moments of a record, and what an entry tells without a question.
+ghost use Rattle.std.specs.Prelude.{◌≡◌, ◌↔◌, ◌≤◌, ◌+◌, Some, IsTrue};
+ghost use Rattle.rbg_match.specs.Config.{IsWithinLimits};
+ghost use Rattle.rbg_match.specs.History.{IsInTurn};
+ghost use Rattle.rbg_match.specs.Limits.{latest_moment};
+ghost use Rattle.rbg_lines.specs.declared.entry.Entry.TheVariants.{End as EndEntry};
+ghost use Rattle.rbg_record.specs.Lines.{IsMomentFor, unwritten_moment};
+ghost use Rattle.rbg_record.specs.Judged.{FitsUnasked, IsOnTurn};
+ghost use Rattle.rbg_record.specs.Right.{turn_config};
+ghost use Rattle.rbg_record.specs.internal.Reading.{standing_of};
+
+use crate::reached::Standing;
+use crate::recorded::RecordedGame;
+use rbg_lines::{Entry, Start, Timed};
+use rbg_match::{Config, MAX_TURN_MS};
+use rbg_wire::Outcome;
+
+/// The latest moment that is counted. It leaves room for the longest turn, so that each due moment is a `u64`.
+pub(crate) const LATEST_MOMENT: u64 = u64::MAX - MAX_TURN_MS;
+
+/// The moment of an entry that is written without one.
+pub(crate) fn unwritten(entry: &Entry) -> u64
+    ensures { result ≡ unwritten_moment entry.now }
+{
+    match entry {
+        Entry::End {
+            outcome: Some(Outcome::Time { .. }),
+        } => 1,
+        _ => 0,
+    }
+}
+
+/// Whether the time for a turn is within its limits, and the moment of the beginning is one that is counted.
+pub(crate) fn is_lawful(start: Start) -> bool
+    ensures { IsTrue result ↔ (IsWithinLimits (turn_config start.turn_ms) × (start.now ≤ latest_moment)) }
+{
+    let config = Config {
+        turn_ms: start.turn_ms,
+        refusals: 0,
+    };
+    config.is_within_limits() && start.now <= LATEST_MOMENT
+}
+
+impl Standing {
+    /// The current player; 0 is the keeper.
+    fn mover(&self) -> u64
+        ensures { result ≡ self.now.place.state.player }
+    {
+        u64::from(self.place.state.player())
+    }
+
+    /// Whether a moment is in the turn that began with the last move.
+    fn is_in_turn(&self, at: u64) -> bool
+        ensures { IsTrue result ↔ IsInTurn (turn_config self.now.turn_ms) self.now.last at }
+    {
+        self.last <= at && at - self.last < self.turn_ms
+    }
+
+    /// Whether that turn is due at a moment.
+    fn is_due(&self, at: u64) -> bool
+        ensures { IsTrue result ↔ (self.now.last + self.now.turn_ms ≤ at) }
+    {
+        self.last <= at && self.turn_ms <= at - self.last
+    }
+
+    /// Whether a player is to move, and a moment is in its turn.
+    fn is_on_turn(&self, at: u64) -> bool
+        ensures { IsTrue result ↔ IsOnTurn (standing_of self.now) at }
+    {
+        self.mover() != 0 && self.is_in_turn(at)
+    }
+
+    /// Whether a move of this player may have that moment.
+    fn allows(&self, player: u64, at: u64) -> bool
+        ensures { IsTrue result ↔ IsMomentFor (standing_of self.now) player at }
+    {
+        if player == 0 {
+            at == self.last
+        } else {
+            self.is_in_turn(at)
+        }
+    }
+
+    /// Whether what an entry tells without a question is right in a game.
+    pub(crate) fn fits(&self, game: &RecordedGame<'_>, told: &Timed) -> bool
+        ensures { IsTrue result ↔ FitsUnasked game.now (standing_of self.now) told.now.at told.now.entry }
+    {
+        let at = told.at;
+        match &told.entry {
+            Entry::Move { player, .. } => *player == self.mover() && self.allows(*player, at),
+            Entry::End { outcome: None } => self.is_on_turn(at),
+            Entry::End {
+                outcome: Some(outcome),
+            } => self.fits_outcome(game, at, *outcome),
+        }
+    }
+
+    fn fits_outcome(&self, game: &RecordedGame<'_>, at: u64, outcome: Outcome) -> bool
+        ensures { IsTrue result ↔ FitsUnasked game.now (standing_of self.now) at (EndEntry (Some outcome)) }
+    {
+        match outcome {
+            Outcome::Finished { .. } => at == self.last,
+            Outcome::Time { player } => { player == self.mover() && player != 0 && self.is_due(at) }
+            Outcome::Refusals { player } => self.is_on_turn(at) && game.has_player(player),
+            Outcome::Gone { player } => self.is_on_turn(at) && game.has_player(player),
+            Outcome::Heavy => self.is_in_turn(at),
+        }
+    }
+}

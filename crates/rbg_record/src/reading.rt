@@ -1,0 +1,278 @@
+//! The lines of a record in turn: each is read, and then judged behind those before it.
+ghost use Rattle.std.specs.Prelude.{◌≡◌, ◌≤◌, Some, IfErr, IfOk, IfSome, IfNone};
+ghost use Rattle.rbg_rules.specs.Places.{IsPlaceOf};
+ghost use Rattle.rbg_lines.specs.declared.entry.Timed.{Timed as AnyTimed};
+ghost use Rattle.rbg_lines.specs.declared.entry.Entry.TheVariants.{End as EndEntry, Move as MoveEntry};
+ghost use Rattle.rbg_wire.specs.declared.outcome.Outcome.TheVariants.{Finished};
+ghost use Rattle.rbg_match.specs.Limits.{latest_moment};
+ghost use Rattle.rbg_record.specs.Judged.{FitsUnasked};
+ghost use Rattle.rbg_record.specs.Lines.{
+  EntryLeads,
+  Leads,
+  SpellsIn,
+  version_next,
+  players_next,
+  start_next,
+  entry_next,
+};
+ghost use Rattle.rbg_record.specs.internal.Reading.{
+  IsReachedIn,
+  LeavesTurn,
+  Refuses,
+  RefusesEntry,
+  reached_of,
+  standing_of,
+};
+
+use crate::fault::Fault;
+use crate::moments::{LATEST_MOMENT, is_lawful, unwritten};
+use crate::reached::{Reached, Standing};
+use crate::recorded::RecordedGame;
+use rbg_lines::{
+    Entry, Timed, Version, read_entry, read_players, read_start, read_timed, read_version,
+};
+use rbg_moves::Move;
+use rbg_wire::{Outcome, Scores};
+
+/// What a line leads to behind the lines so far.
+pub(crate) fn read_line(
+    game: &RecordedGame<'_>,
+    reached: Reached,
+    text: &[u8],
+) -> Result<Reached, Fault>
+    requires { IsReachedIn game.now (reached_of reached) }
+    ensures leads { IfOk result (λ to. Leads game.now (reached_of reached) text.now (reached_of to)) }
+    ensures in_game { IfOk result (λ to. IsReachedIn game.now (reached_of to)) }
+    ensures refused { IfErr result (Refuses game.now (reached_of reached) text.now) }
+{
+    match reached {
+        Reached::Version => begin(game, text),
+        Reached::Players => compare_players(game, text),
+        Reached::Start => start(game, text),
+        Reached::Entry(standing) => go_on(game, standing, text),
+        Reached::Nothing => Err(Fault::Form),
+    }
+}
+
+/// Reads the version.
+fn begin(game: &RecordedGame<'_>, text: &[u8]) -> Result<Reached, Fault>
+    ensures leads { IfOk result (λ to. Leads game.now version_next text.now (reached_of to)) }
+    ensures in_game { IfOk result (λ to. IsReachedIn game.now (reached_of to)) }
+    ensures refused { IfErr result (Refuses game.now version_next text.now) }
+{
+    match read_version(text) {
+        None => Err(Fault::Form),
+        Some(Version::One) => Ok(Reached::Entry(Standing {
+            version: Version::One,
+            turn_ms: 1,
+            last: 0,
+            place: game.start()?,
+        })),
+        Some(Version::Two) => Ok(Reached::Players),
+    }
+}
+
+/// Reads the players, and compares them with those of the game.
+fn compare_players(game: &RecordedGame<'_>, text: &[u8]) -> Result<Reached, Fault>
+    ensures leads { IfOk result (λ to. Leads game.now players_next text.now (reached_of to)) }
+    ensures in_game { IfOk result (λ to. IsReachedIn game.now (reached_of to)) }
+    ensures refused { IfErr result (Refuses game.now players_next text.now) }
+{
+    let Some(names) = read_players(text) else {
+        return Err(Fault::Form);
+    };
+    if game.are_players(names) {
+        Ok(Reached::Start)
+    } else {
+        Err(Fault::Bad)
+    }
+}
+
+/// Reads the start.
+fn start(game: &RecordedGame<'_>, text: &[u8]) -> Result<Reached, Fault>
+    ensures leads { IfOk result (λ to. Leads game.now start_next text.now (reached_of to)) }
+    ensures in_game { IfOk result (λ to. IsReachedIn game.now (reached_of to)) }
+    ensures refused { IfErr result (Refuses game.now start_next text.now) }
+{
+    let Some(start) = read_start(text) else {
+        return Err(Fault::Form);
+    };
+    if !is_lawful(start) {
+        return Err(Fault::Bad);
+    }
+    Ok(Reached::Entry(Standing {
+        version: Version::Two,
+        turn_ms: start.turn_ms,
+        last: start.now,
+        place: game.start()?,
+    }))
+}
+
+/// Reads a move or the end.
+fn go_on(game: &RecordedGame<'_>, standing: Standing, text: &[u8]) -> Result<Reached, Fault>
+    requires { IsPlaceOf game.now standing.place }
+    ensures leads { IfOk result (λ to. Leads game.now (entry_next (standing_of standing)) text.now (reached_of to)) }
+    ensures in_game { IfOk result (λ to. IsReachedIn game.now (reached_of to)) }
+    ensures refused { IfErr result (Refuses game.now (entry_next (standing_of standing)) text.now) }
+{
+    let Some(told) = read_in(standing.version, text) else {
+        return Err(Fault::Form);
+    };
+    judge(game, standing, &told)
+}
+
+/// The entry of a line in a record of that version. In version 1 it has the moment that is not written.
+fn read_in(version: Version, text: &[u8]) -> Option<Timed>
+    ensures found { IfSome result (SpellsIn version text.now) }
+    ensures none { IfNone result ((told : AnyTimed) → ¬ SpellsIn version text.now told) }
+{
+    match version {
+        Version::One => {
+            let entry = read_entry(text)?;
+            Some(Timed {
+                at: unwritten(&entry),
+                entry,
+            })
+        }
+        Version::Two => read_timed(text),
+    }
+}
+
+/// What an entry leads to. What needs no question is looked at first.
+fn judge(game: &RecordedGame<'_>, standing: Standing, told: &Timed) -> Result<Reached, Fault>
+    requires { IsPlaceOf game.now standing.place }
+    ensures leads { IfOk result (λ to. EntryLeads game.now (standing_of standing) told.now (reached_of to)) }
+    ensures in_game { IfOk result (λ to. IsReachedIn game.now (reached_of to)) }
+    ensures refused { IfErr result (RefusesEntry game.now (standing_of standing) told.now) }
+{
+    if LATEST_MOMENT < told.at || !standing.fits(game, told) {
+        return Err(Fault::Bad);
+    }
+    match &told.entry {
+        Entry::Move { player, pairs } => make_move(game, standing, told.at, *player, pairs),
+        Entry::End { outcome } => end(game, &standing, told.at, *outcome),
+    }
+}
+
+/// What a move leads to, if it is legal.
+fn make_move(
+    game: &RecordedGame<'_>,
+    standing: Standing,
+    at: u64,
+    player: u64,
+    pairs: &Move,
+) -> Result<Reached, Fault>
+    requires place { IsPlaceOf game.now standing.place }
+    requires counted { at ≤ latest_moment }
+    requires fits { FitsUnasked game.now (standing_of standing) at (MoveEntry player pairs.now) }
+    ensures leads { IfOk result (λ to. EntryLeads game.now (standing_of standing)
+        (record { at = at; entry = MoveEntry player pairs.now }) (reached_of to)) }
+    ensures in_game { IfOk result (λ to. IsReachedIn game.now (reached_of to)) }
+    ensures refused { IfErr result (RefusesEntry game.now (standing_of standing)
+        (record { at = at; entry = MoveEntry player pairs.now })) }
+{
+    match game.try_move(&standing.place, pairs)? {
+        None => Err(Fault::Bad),
+        Some(place) => Ok(Reached::Entry(Standing {
+            version: standing.version,
+            turn_ms: standing.turn_ms,
+            last: at,
+            place,
+        })),
+    }
+}
+
+/// Nothing comes next, if the outcome fits the place.
+fn end(
+    game: &RecordedGame<'_>,
+    standing: &Standing,
+    at: u64,
+    outcome: Option<Outcome>,
+) -> Result<Reached, Fault>
+    requires place { IsPlaceOf game.now standing.now.place }
+    requires counted { at ≤ latest_moment }
+    requires fits { FitsUnasked game.now (standing_of standing.now) at (EndEntry outcome) }
+    ensures leads { IfOk result (λ to. EntryLeads game.now (standing_of standing.now)
+        (record { at = at; entry = EndEntry outcome }) (reached_of to)) }
+    ensures in_game { IfOk result (λ to. IsReachedIn game.now (reached_of to)) }
+    ensures refused { IfErr result (RefusesEntry game.now (standing_of standing.now)
+        (record { at = at; entry = EndEntry outcome })) }
+{
+    match outcome {
+        None => leave(game, standing, at, None),
+        Some(outcome) => end_with(game, standing, at, outcome),
+    }
+}
+
+/// Nothing comes next, if the match could end so.
+fn end_with(
+    game: &RecordedGame<'_>,
+    standing: &Standing,
+    at: u64,
+    outcome: Outcome,
+) -> Result<Reached, Fault>
+    requires place { IsPlaceOf game.now standing.now.place }
+    requires counted { at ≤ latest_moment }
+    requires fits { FitsUnasked game.now (standing_of standing.now) at (EndEntry (Some outcome)) }
+    ensures leads { IfOk result (λ to. EntryLeads game.now (standing_of standing.now)
+        (record { at = at; entry = EndEntry (Some outcome) }) (reached_of to)) }
+    ensures in_game { IfOk result (λ to. IsReachedIn game.now (reached_of to)) }
+    ensures refused { IfErr result (RefusesEntry game.now (standing_of standing.now)
+        (record { at = at; entry = EndEntry (Some outcome) })) }
+{
+    match outcome {
+        Outcome::Finished { scores } => finish(game, standing, at, scores),
+        Outcome::Time { .. } => leave(game, standing, at, Some(outcome)),
+        Outcome::Refusals { .. } => leave(game, standing, at, Some(outcome)),
+        Outcome::Gone { .. } => leave(game, standing, at, Some(outcome)),
+        Outcome::Heavy => Ok(Reached::Nothing),
+    }
+}
+
+/// Nothing comes next, if play is finished with these scores.
+fn finish(
+    game: &RecordedGame<'_>,
+    standing: &Standing,
+    at: u64,
+    scores: Scores,
+) -> Result<Reached, Fault>
+    requires place { IsPlaceOf game.now standing.now.place }
+    requires counted { at ≤ latest_moment }
+    requires fits { at ≡ standing.now.last }
+    ensures leads { IfOk result (λ to. EntryLeads game.now (standing_of standing.now)
+        (record { at = at; entry = EndEntry (Some (Finished scores)) }) (reached_of to)) }
+    ensures in_game { IfOk result (λ to. IsReachedIn game.now (reached_of to)) }
+    ensures refused { IfErr result (RefusesEntry game.now (standing_of standing.now)
+        (record { at = at; entry = EndEntry (Some (Finished scores)) })) }
+{
+    let finished = game.is_finished(&standing.place)?;
+    if finished && game.are_scores(&standing.place, &scores) {
+        Ok(Reached::Nothing)
+    } else {
+        Err(Fault::Bad)
+    }
+}
+
+/// Nothing comes next, if a player that is to move has a legal move.
+fn leave(
+    game: &RecordedGame<'_>,
+    standing: &Standing,
+    at: u64,
+    outcome: Option<Outcome>,
+) -> Result<Reached, Fault>
+    requires place { IsPlaceOf game.now standing.now.place }
+    requires counted { at ≤ latest_moment }
+    requires fits { FitsUnasked game.now (standing_of standing.now) at (EndEntry outcome) }
+    requires turn { LeavesTurn outcome }
+    ensures leads { IfOk result (λ to. EntryLeads game.now (standing_of standing.now)
+        (record { at = at; entry = EndEntry outcome }) (reached_of to)) }
+    ensures in_game { IfOk result (λ to. IsReachedIn game.now (reached_of to)) }
+    ensures refused { IfErr result (RefusesEntry game.now (standing_of standing.now)
+        (record { at = at; entry = EndEntry outcome })) }
+{
+    if game.is_finished(&standing.place)? {
+        Err(Fault::Bad)
+    } else {
+        Ok(Reached::Nothing)
+    }
+}

@@ -1,0 +1,106 @@
+//! Writing the record of a match.
+ghost use Rattle.std.specs.Prelude.{◌≡◌, ◌++◌, IfOk, OnOk, codes};
+ghost use Rattle.std.specs.List.{flat_map};
+ghost use Rattle.rbg_match.specs.Matches.{HasHistory};
+ghost use Rattle.rbg_lines.specs.Heading.{players_text};
+ghost use Rattle.rbg_lines.specs.Lines.{line_of};
+ghost use Rattle.rbg_record.specs.OfMatch.{record_of, plain_record_of};
+ghost use Rattle.rbg_record.specs.Records.{plain, timed, Spells};
+ghost use Rattle.rbg_record.specs.Right.{IsRightRecord};
+ghost use Rattle.rbg_record.specs.internal.Written.{entries_bytes, made_text, told_moment};
+
+use rbg_base::Memory;
+use rbg_lines::{
+    Start, Version, begin_players, end_line, write_end, write_move, write_player, write_start,
+    write_version,
+};
+use rbg_match::{Made, Match};
+use std::alloc::Global;
+
+/// The record of a match, in version 2.
+pub fn write_record(alloc: Global, played: &Match) -> Result<Vec<u8>, Memory>
+    ensures spelled { HasHistory played.now
+        → IfOk result (λ bytes. Spells bytes.items (timed (record_of played.now))) }
+    ensures right { HasHistory played.now
+        → IfOk result (λ bytes. IsRightRecord played.now.game bytes.items) }
+{
+    let _players = played.players();
+    let mut out = Vec::new(alloc);
+    write_version(Version::Two, &mut out)?;
+    write_players(played, &mut out)?;
+    let start = Start {
+        turn_ms: played.config().turn_ms,
+        now: played.began(),
+    };
+    write_start(start, &mut out)?;
+    write_entries(Version::Two, played, &mut out)?;
+    Ok(out)
+}
+
+/// The record of a match, in version 1.
+pub fn write_record_1(alloc: Global, played: &Match) -> Result<Vec<u8>, Memory>
+    ensures spelled { HasHistory played.now
+        → IfOk result (λ bytes. Spells bytes.items (plain (plain_record_of played.now))) }
+    ensures right { HasHistory played.now
+        → IfOk result (λ bytes. IsRightRecord played.now.game bytes.items) }
+{
+    let _players = played.players();
+    let mut out = Vec::new(alloc);
+    write_version(Version::One, &mut out)?;
+    write_entries(Version::One, played, &mut out)?;
+    Ok(out)
+}
+
+// Appends the line of the players.
+fn write_players(played: &Match, out: &mut Vec<u8>) -> Result<(), Memory>
+    ensures { OnOk result
+        (out.new.items ≡ out.old.items ++ line_of (players_text played.now.game.players)) }
+{
+    begin_players(out)?;
+    write_names(played, out)?;
+    end_line(out)
+}
+
+// Appends the players' names, with a space before each.
+fn write_names(played: &Match, out: &mut Vec<u8>) -> Result<(), Memory>
+    ensures { OnOk result
+        (out.new.items ≡ out.old.items ++ flat_map (λ name. codes " " ++ name) played.now.game.players) }
+{
+    for index in 0..played.players() {
+        write_player(played.player_name(index as u16 + 1).as_bytes(), out)?;
+    }
+    Ok(())
+}
+
+// Appends the lines of the moves and of the end, with their moments in version 2.
+fn write_entries(version: Version, played: &Match, out: &mut Vec<u8>) -> Result<(), Memory>
+    ensures { OnOk result (out.new.items ≡ out.old.items ++ entries_bytes version played.now) }
+{
+    write_moves(version, played.made(), out)?;
+    write_end(moment_in(version, played.moment()), played.outcome(), out)
+}
+
+fn write_moves(version: Version, moves: &[Made], out: &mut Vec<u8>) -> Result<(), Memory>
+    ensures { OnOk result
+        (out.new.items ≡ out.old.items ++ flat_map (λ made. line_of (made_text version made)) moves.now) }
+{
+    for made in moves {
+        write_move(
+            moment_in(version, made.at),
+            u64::from(made.player),
+            &made.pairs,
+            out,
+        )?;
+    }
+    Ok(())
+}
+
+// The moment as a version tells it: version 1 tells none.
+fn moment_in(version: Version, at: u64) -> Option<u64>
+    ensures { result ≡ told_moment version at }
+{
+    match version {
+        Version::One => None,
+        Version::Two => Some(at),
+    }
+}
