@@ -1,0 +1,4 @@
+mod AnswerLemmas
+mod HearingLemmas
+mod LawLemmas
+mod StreamLemmas

@@ -1,0 +1,5 @@
+use Rattle.rbg_player.proofs.LawLemmas.{not_heard}
+use Rattle.rbg_player.proofs.laws.faults_are_not_heard.Goals as goal
+
+pub returns : goal.returns
+returns c stage after message error said fault some near = not_heard fault some near

@@ -1,0 +1,15 @@
+use Rattle.std.proofs.Common.{refl}
+use Rattle.std.proofs.lemmas.Bool.{false≢true}
+use Rattle.rbg_player.specs.declared.error.PlayerError.TheVariants.{Memory}
+use Rattle.rbg_player.specs.Hearing.{no_player, memory}
+use Rattle.rbg_player.proofs.HearingLemmas.{passed_on, sits}
+use Rattle.rbg_player.proofs.seat.Seat.new.Goals as goal
+
+pub returns-then-not-is_player-clause-fault : goal.returns-then-not-is_player-clause-fault
+returns-then-not-is_player-clause-fault c = no_player c.in_ok-game.ensures.game (λ is. false≢true (c.if-not-is_player.ensures.1 is))
+
+pub returns-in_err-automaton-clause-fault : goal.returns-in_err-automaton-clause-fault
+returns-in_err-automaton-clause-fault c = passed_on c.from_residual-in_err-automaton.result Memory _ c.from_residual-in_err-automaton.ensures.1 memory
+
+pub returns-clause-sits : goal.returns-clause-sits
+returns-clause-sits c = sits c.args.player c.args.text.now c.in_ok-game.game c.in_ok-automaton.place c.in_ok-game.ensures.game (c.if-not-is_player.ensures.0 refl) c.in_ok-automaton.ensures.start

@@ -1,0 +1,88 @@
+-- What a player does where it hears a piece of its stream.
+use Rattle.std.specs.Prelude.{◌≡◌, ℕ, List, [], ◌∷◌, ◌++◌}
+use Rattle.std.specs.List.{flat_map}
+use Rattle.rbg_wire.specs.Messages.{AbstractMessage, spelling}
+use Rattle.rbg_wire.specs.Reading.{SpellsMessage, SpellsMove, SpellsTooMany, HasFewPairs}
+use Rattle.rbg_wire.specs.Streams.{Item, complete, too_long, Cut, cut}
+use Rattle.rbg_player.specs.declared.error.PlayerError.{PlayerError}
+use Rattle.rbg_player.specs.declared.error.PlayerError.TheVariants as errors
+use Rattle.rbg_player.specs.Limits.{message_limit}
+use Rattle.rbg_player.specs.Players.{Stage, failed, AbstractPlayer}
+use Rattle.rbg_player.specs.Hearing.{Hears, HasFault}
+
+-- The text is read as this message: it is its spelling, and a move has at most 200 pairs.
+pub record IsReadAs (text : List ℕ) (message : AbstractMessage) : Type 0 where
+  pub spelled : SpellsMessage text message
+  pub few : HasFewPairs message
+
+-- A player hears the items of a stream in turn, and says these messages.
+--   none: it hears nothing.
+--   more: it hears one more item, which is read as a message.
+pub data HearsAll (start : Stage) : List Item → (after : Stage) → (said : List AbstractMessage) → Type 0 where
+  none :
+      HearsAll start [] start []
+  more : {items : List Item} {text : List ℕ} {message : AbstractMessage} {middle after : Stage}
+      {first next : List AbstractMessage} →
+      HearsAll start items middle first →
+      IsReadAs text message →
+      Hears middle message after next →
+      HearsAll start (items ++ complete text ∷ []) after (first ++ next)
+
+-- Why a player doesn't go on where it hears an item.
+--   overlong: the item is too long.
+--   unreadable: its text spells no message.
+--   too_many: its text spells a move of more than 200 pairs.
+--   faulty: its text is read as a message that has a fault.
+pub data HasItemFault (stage : Stage) : Item → PlayerError → Type 0 where
+  overlong :
+      HasItemFault stage too_long errors.BadMessage
+  unreadable : {text : List ℕ} →
+      ((message : AbstractMessage) → ¬ SpellsMessage text message) →
+      HasItemFault stage (complete text) errors.BadMessage
+  too_many : {text : List ℕ} →
+      SpellsTooMany (SpellsMove text) →
+      HasItemFault stage (complete text) errors.BadMessage
+  faulty : {text : List ℕ} {message : AbstractMessage} {error : PlayerError} →
+      IsReadAs text message →
+      HasFault stage message error →
+      HasItemFault stage (complete text) error
+
+-- the items that a piece completes in a player's stream, and the new rest
+abbrev pub cut_of : AbstractPlayer → (piece : List ℕ) → Cut
+cut_of player piece = cut message_limit player.rest piece
+
+-- A player hears a piece of its stream well: it hears the items that the piece completes, keeps the rest, and what it
+-- says stands behind the bytes that were there.
+pub record HearsPiece
+    (old : AbstractPlayer) (piece : List ℕ) (new : AbstractPlayer) (before after : List ℕ)
+    : Type 0
+  where
+    pub said : List AbstractMessage
+    pub heard : HearsAll old.stage (cut_of old piece).items new.stage said
+    pub rest : new.rest ≡ (cut_of old piece).rest
+    pub told : after ≡ before ++ flat_map spelling said
+
+-- One of the items has a fault, and the items before it are heard well.
+pub record FailsIn (start : Stage) (items : List Item) (error : PlayerError) : Type 0 where
+  pub before : List Item
+  pub item : Item
+  pub behind : List Item
+  pub parts : items ≡ before ++ item ∷ behind
+  pub middle : Stage
+  pub said : List AbstractMessage
+  pub heard : HearsAll start before middle said
+  pub fault : HasItemFault middle item error
+
+-- Why a player answers an error to a piece of its stream.
+--   again: it has answered this error before.
+--   no_memory: memory ran out.
+--   here: an item that the piece completes has the fault.
+pub data Fails (old : AbstractPlayer) (piece : List ℕ) : PlayerError → Type 0 where
+  again : {error : PlayerError} →
+      old.stage ≡ failed error →
+      Fails old piece error
+  no_memory :
+      Fails old piece errors.Memory
+  here : {error : PlayerError} →
+      FailsIn old.stage (cut_of old piece).items error →
+      Fails old piece error

@@ -1,0 +1,43 @@
+-- Where the code's player stands, and what its calls do to the bytes that it writes.
+use Rattle.std.specs.Prelude.{◌≡◌, ℕ, List, [], ◌++◌}
+use Rattle.std.specs.List.{flat_map}
+use Rattle.rbg_wire.specs.Messages.{AbstractMessage, spelling}
+use Rattle.rbg_wire.specs.Streams.{Item, complete, Stream}
+use Rattle.rbg_player.specs.declared.stage.Stage.{Stage as CodeStage}
+use Rattle.rbg_player.specs.declared.stage.Stage.TheVariants.{Unnamed, Named, Seated, Playing, Ended, Failed}
+use Rattle.rbg_player.specs.Limits.{message_limit}
+use Rattle.rbg_player.specs.Players.{Stage, unnamed, named, seated, playing, ended, failed, AbstractPlayer}
+use Rattle.rbg_player.specs.Hearing.{Hears}
+use Rattle.rbg_player.specs.Streams.{IsReadAs}
+
+-- where the code's stage stands
+abbrev pub stage_of : CodeStage → Stage
+stage_of Unnamed = unnamed
+stage_of (Named player) = named player
+stage_of (Seated seat) = seated seat
+stage_of (Playing seat) = playing seat
+stage_of (Ended outcome) = ended outcome
+stage_of (Failed error) = failed error
+
+-- the player that stands there, with this inbox
+abbrev pub player_of : CodeStage → Stream → AbstractPlayer
+player_of stage inbox = record { stage = stage_of stage; rest = inbox.rest }
+
+-- A message is heard, and what is said stands behind the bytes that were there.
+pub record HearsAndSays (old : Stage) (message : AbstractMessage) (new : Stage) (before after : List ℕ) : Type 0 where
+  pub said : List AbstractMessage
+  pub hears : Hears old message new said
+  pub told : after ≡ before ++ flat_map spelling said
+
+-- An item is read as a message that is heard, and what is said stands behind the bytes that were there.
+pub record HearsItem (old : Stage) (item : Item) (new : Stage) (before after : List ℕ) : Type 0 where
+  pub text : List ℕ
+  pub message : AbstractMessage
+  pub is : item ≡ complete text
+  pub read : IsReadAs text message
+  pub hears : HearsAndSays old message new before after
+
+-- The inbox has the limit of a player's message, and no complete item is left in it.
+pub record IsReady (inbox : Stream) : Type 0 where
+  pub limit : inbox.limit ≡ message_limit
+  pub empty : inbox.items ≡ []

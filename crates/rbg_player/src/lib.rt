@@ -1,0 +1,17 @@
+//! A player: it hears the stream of a seat, follows play by the rules of the game, and says a legal move where it has
+//! one to make.
+#![tactic(auto)]
+
+mod chooser;
+mod error;
+mod heard;
+pub mod laws;
+mod player;
+mod seat;
+mod stage;
+
+pub use chooser::{Chooser, FirstChooser};
+pub use error::PlayerError;
+pub use heard::Heard;
+pub use player::{MAX_MESSAGE_BYTES, Player};
+pub use seat::MAX_CHOICES;

@@ -1,0 +1,178 @@
+//! A seat in a game, whose player follows play and chooses its moves.
+ghost use Rattle.std.specs.Prelude.{◌≡◌, ◌↔◌, ◌==◌, ℕ, [], length, Contains, None, IfErr, IfNone, IfOk, IfSome, IsTrue, OnOk};
+ghost use Rattle.rbg_pairs.specs.Move.{IsMoveLength};
+ghost use Rattle.rbg_game.specs.Loading.{Loads};
+ghost use Rattle.rbg_rules.specs.Games.{IsGame};
+ghost use Rattle.rbg_rules.specs.Places.{IsPlaceOf};
+ghost use Rattle.rbg_rules.specs.State.{start_of};
+ghost use Rattle.rbg_wire.specs.Messages.{game_message, move_message};
+ghost use Rattle.rbg_player.specs.Players.{named, playing, seated};
+ghost use Rattle.rbg_player.specs.Hearing.{HasFault, HasMoveToMake, Hears, IsMover, IsPlayerOf};
+ghost use Rattle.rbg_player.specs.internal.Sitting.{Follows, IsAnswer, IsUnanswered, Lists};
+
+use crate::{Chooser, PlayerError};
+use rbg_auto::{Compact, Steps, compact};
+use rbg_base::Memory;
+use rbg_game::{Game, load};
+use rbg_moves::{Move, Place, list_moves, try_move};
+use std::alloc::Global;
+use std::marker::Model;
+
+/// The most legal moves among which a player chooses.
+pub const MAX_CHOICES: usize = 64;
+
+/// A seat in a game. Contracts see the number of its player, the game and the place that play has reached. The
+/// automaton of the game's rules is made once.
+#[derive(Debug, Drop)]
+pub(crate) struct Seat {
+    alloc: Global,
+    player: u64,
+    game: Game,
+    automaton: Compact,
+    place: Place,
+}
+
+impl Model for Seat {
+    ghost use Rattle.rbg_player.specs.Players.{AbstractSeat};
+
+    ghost Value = { AbstractSeat };
+
+    ghost use Rattle.rbg_player.specs.internal.Codes.{coded_seat};
+
+    ghost coded = { coded_seat };
+
+    ghost view = { λ s. record { player = s.player; game = s.game; place = s.place } };
+
+    ghost use Rattle.rbg_rules.specs.Games.{IsGame};
+    ghost use Rattle.rbg_rules.specs.Places.{IsPlaceOf};
+
+    ghost invariant = { λ s.
+        IsGame s.game × ⟦<Compact as Steps>⟧.of_rules s.automaton s.game.rules × IsPlaceOf s.game s.place };
+}
+
+impl Seat {
+    /// The seat of a player in the game of a text, at the beginning of play.
+    pub(crate) fn new(alloc: Global, player: u64, text: &[u8]) -> Result<Seat, PlayerError>
+        ensures sits { IfOk result (λ seat. Hears (named player) (game_message text.now) (seated seat) []) }
+        ensures fault { IfErr result (HasFault (named player) (game_message text.now)) }
+    {
+        let game = load_game(alloc, text)?;
+        if !is_player(&game, player) {
+            return Err(PlayerError::BadMessage);
+        }
+        let (automaton, place) = prepare(alloc, &game)?;
+        Ok(Seat {
+            alloc,
+            player,
+            game,
+            automaton,
+            place,
+        })
+    }
+
+    /// Follows a move that was made. On an error the seat is unchanged.
+    pub(crate) fn follow(&mut self, pairs: &Move) -> Result<(), PlayerError>
+        ensures ok { OnOk result (Follows self.old pairs.now self.new) }
+        ensures fault { IfErr result (HasFault (playing self.old) (move_message pairs.now)) }
+    {
+        let to = try_move(self.alloc, &self.game, &self.automaton, &self.place, pairs)?;
+        match to {
+            Some(place) => {
+                self.place = place;
+                Ok(())
+            }
+            None => Err(PlayerError::NotLegal),
+        }
+    }
+
+    /// A legal move that the chooser chooses, where the player has a move to make.
+    pub(crate) fn choose_move<C: Chooser>(
+        &self,
+        chooser: &mut C,
+    ) -> Result<Option<Move>, PlayerError>
+        ensures chosen { IfOk result (λ chosen. IfSome chosen (IsAnswer self.now)) }
+        ensures none { IfOk result (λ chosen. IfNone chosen (¬ HasMoveToMake self.now)) }
+        ensures fault { IfErr result (IsUnanswered self.now) }
+    {
+        if !self.is_mover() {
+            return Ok(None);
+        }
+        let moves = self.list_moves()?;
+        Ok(choose_among(moves, chooser))
+    }
+
+    /// Whether the player is the mover.
+    fn is_mover(&self) -> bool
+        ensures { result ≡ (self.now.place.state.player == self.now.player) }
+    {
+        u64::from(self.place.state.player()) == self.player
+    }
+
+    /// The legal moves among which the player chooses.
+    fn list_moves(&self) -> Result<Vec<Move>, PlayerError>
+        ensures lists { IfOk result (λ moves. Lists self.now moves.items) }
+        ensures fault { IsMover self.now → IfErr result (IsUnanswered self.now) }
+        ensures lawful { IsGame self.now.game }
+        ensures fits { IsPlaceOf self.now.game self.now.place }
+    {
+        let listed = list_moves(
+            self.alloc,
+            &self.game,
+            &self.automaton,
+            &self.place,
+            MAX_CHOICES,
+        )?;
+        Ok(listed.moves)
+    }
+}
+
+/// One of the moves, which the chooser chooses. None if there is none.
+fn choose_among<C: Chooser>(mut moves: Vec<Move>, chooser: &mut C) -> Option<Move>
+    ensures chosen { IfSome result (Contains moves.items) }
+    ensures length { IfSome result (λ answer. IsMoveLength (length answer)) }
+    ensures none { IfNone result (moves.items ≡ []) }
+{
+    if moves.is_empty() {
+        return None;
+    }
+    let chosen = chooser.choose(moves.len());
+    let answer = moves.swap_remove(chosen);
+    let _pairs = answer.len();
+    Some(answer)
+}
+
+/// The automaton of the game's rules, and the place where play begins.
+fn prepare(alloc: Global, game: &Game) -> Result<(Compact, Place), Memory>
+    ensures automaton { IfOk result (λ made. ⟦<Compact as Steps>⟧.of_rules made.0 game.now.rules) }
+    ensures start { IfOk result (λ made. made.1 ≡ record { state = start_of game.now; last = None }) }
+    ensures lawful { IsGame game.now }
+    ensures fits { IfOk result (λ made. IsPlaceOf game.now made.1) }
+{
+    let _positions = game.positions();
+    let automaton = compact(alloc, game)?;
+    let place = Place::start(alloc, game)?;
+    Ok((automaton, place))
+}
+
+/// Whether the game has a player of that number.
+fn is_player(game: &Game, player: u64) -> bool
+    ensures { IsTrue result ↔ IsPlayerOf game.now player }
+{
+    1 <= player && player <= game.players() as u64
+}
+
+/// The game of a text.
+fn load_game(alloc: Global, text: &[u8]) -> Result<Game, PlayerError>
+    ensures game { IfOk result (Loads text.now) }
+    ensures fault { (player : ℕ) → IfErr result (HasFault (named player) (game_message text.now)) }
+{
+    match load(alloc, text) {
+        Ok(game) => Ok(game),
+        Err(error) => {
+            if error.is_memory() {
+                return Err(PlayerError::Memory);
+            }
+            Err(PlayerError::BadMessage)
+        }
+    }
+}

@@ -1,0 +1,111 @@
+//! A player hears the small game of docs/PROTOCOL.md, and streams that have a fault.
+use rbg_player::{FirstChooser, Heard, Player, PlayerError};
+use rbg_wire::read_outcome;
+use std::alloc::Global;
+use std::test::Fail;
+
+/// The small game of docs/LANGUAGE.md: white takes its cell, and then black takes its own.
+const GAME: &[u8] = b"#players = white(100), black(100)
+#pieces = e, w, b
+#board = rectangle(up,down,left,right,[e,e])
+#rules = ->white {e}[w] ->black right {e}[b] ->> {}
+";
+
+/// A game in which it is above the limits to tell what white may do.
+const HEAVY_GAME: &[u8] = b"#players = white(100), black(100)
+#pieces = e, w
+#board = rectangle(up,down,left,right,[e])
+#rules = ->white {! ([w])* {}} [w] ->black
+";
+
+/// What each seat is sent before the text of the game, and what its player says in the whole match.
+const SEATS: [(&[u8], &[u8]); 2] = [
+    (b"W1 white\0G", b"M0 3 0 4\0"),
+    (b"W2 black\0G", b"M1 7 1 8\0"),
+];
+
+/// What each seat is sent behind the text of the game. A refusal is answered by nothing.
+const PLAY: &[u8] = b"\0L1000 3\0M0 1\0R2\0M0 3 0 4\0M1 7 1 8\0E0 0 0\0";
+
+/// A match whose end is told twice.
+const ENDED_TWICE: &[u8] = b"\0L1000 3\0E4\0E4\0";
+
+/// Streams in three parts, each with the error that a player answers.
+const FAULTS: [([&[u8]; 3], PlayerError); 10] = [
+    ([b"M0 1\0", b"", b""], PlayerError::BadMessage),
+    ([b"W1 white\0W1 white\0", b"", b""], PlayerError::BadMessage),
+    (
+        [b"W1 white\0G", b"#players", b"\0"],
+        PlayerError::BadMessage,
+    ),
+    ([b"W3 red\0G", GAME, b"\0"], PlayerError::BadMessage),
+    ([b"W1 white\0G", GAME, b"\0M0 1\0"], PlayerError::BadMessage),
+    ([b"W1 white\0G", GAME, ENDED_TWICE], PlayerError::BadMessage),
+    (
+        [b"W1 white\0G", GAME, b"\0L1000 3\0M0 1\0M0 3\0"],
+        PlayerError::NotLegal,
+    ),
+    (
+        [b"W1 white\0G", HEAVY_GAME, b"\0L1000 3\0M0 1\0"],
+        PlayerError::Over,
+    ),
+    ([b"R5\0", b"", b""], PlayerError::NoSeat),
+    ([b"W1 white\0R5\0", b"", b""], PlayerError::BadMessage),
+];
+
+fn stream_of(alloc: Global, parts: [&[u8]; 3]) -> Result<Vec<u8>, Fail> {
+    let mut stream = Vec::new(alloc);
+    for part in parts {
+        stream.extend_from_slice(part)?;
+    }
+    Ok(stream)
+}
+
+/// What a new player tells last, and what it says, where it hears the stream in one piece.
+fn hear_whole(alloc: Global, stream: &[u8]) -> Result<(Heard, Vec<u8>), Fail> {
+    let mut said = Vec::new(alloc);
+    let heard = Player::new(alloc).hear(stream, &mut FirstChooser, &mut said)?;
+    Ok((heard, said))
+}
+
+/// The same where it hears the stream byte by byte.
+fn hear_bytes(alloc: Global, stream: &[u8]) -> Result<(Heard, Vec<u8>), Fail> {
+    let mut said = Vec::new(alloc);
+    let mut player = Player::new(alloc);
+    let mut heard = Heard::Going;
+    for byte in stream {
+        heard = player.hear(&[*byte], &mut FirstChooser, &mut said)?;
+    }
+    Ok((heard, said))
+}
+
+#[test]
+fn a_match_is_heard_in_one_piece_and_byte_by_byte(rt: HostRuntime) -> Result<(), Fail> {
+    let end = Heard::Ended(read_outcome(b"E0 0 0")?);
+    for (greeting, says) in SEATS {
+        let stream = stream_of(rt.alloc(), [greeting, GAME, PLAY])?;
+        let (heard, said) = hear_whole(rt.alloc(), &stream)?;
+        assert_eq!(rt; heard, end);
+        assert_eq!(rt; said.as_slice(), says);
+        let (heard, said) = hear_bytes(rt.alloc(), &stream)?;
+        assert_eq!(rt; heard, end);
+        assert_eq!(rt; said.as_slice(), says);
+    }
+    Ok(())
+}
+
+/// The error is answered again, and what was said before it in the same piece is taken back.
+#[test]
+fn each_error_is_answered_from_then_on(rt: HostRuntime) -> Result<(), Fail> {
+    for (parts, error) in FAULTS {
+        let stream = stream_of(rt.alloc(), parts)?;
+        let mut said = Vec::from_slice(rt.alloc(), b"kept")?;
+        let mut player = Player::new(rt.alloc());
+        for piece in [stream.as_slice(), b"".as_slice()] {
+            let heard = player.hear(piece, &mut FirstChooser, &mut said);
+            assert_eq!(rt; heard, Err(error), "{parts:?}");
+        }
+        assert_eq!(rt; said.as_slice(), b"kept".as_slice());
+    }
+    Ok(())
+}
