@@ -1,0 +1,134 @@
+-- Lemmas on lines in the middle of a call.
+use Rattle.std.proofs.Common.{◌≡◌, ◌≢◌, ℕ, ◌+◌, ◌<◌, List, [], ◌∷◌, ◌++◌, length, take, set, get_or, ap, sym, ◌∙◌, refl, subst, arith, ◌⊎◌, inl, inr, length-append, append-nil, zero, suc}
+use Rattle.std.proofs.lemmas.Grind.{get_or-set_at}
+use Rattle.std.proofs.lemmas.List.{get_or-set_other, length-set, take-append-le}
+use Rattle.rbg_match.specs.Deliveries.{Delivery, bytes_for, delivered_from}
+use Rattle.rbg_hall.specs.declared.progress.Progress.{Progress}
+use Rattle.rbg_hall.specs.Heard.{Heard}
+use Rattle.rbg_hall.specs.Serving.{queued_at}
+use Rattle.rbg_hall.specs.Told.{Told, Tells, told_at}
+use Rattle.rbg_hall.specs.internal.Lines.{has_taken, has_said, IsLineServed, AreServed, absent}
+use Rattle.rbg_hall.proofs.HeardLemmas.{SameOf, said_the_same, same_or_not}
+
+-- Behind the bytes that were queued more are queued.
+abbrev pub Extends : (queued now : List ℕ) → Type 0
+Extends queued now = (more : List ℕ) × (now ≡ queued ++ more)
+
+-- what each seat has after messages to the seats
+pub extended : (seat : ℕ) (queued : List (List ℕ)) (said : List Delivery) (index : ℕ) →
+    index < length queued → Extends (queued_at queued index) (queued_at (delivered_from seat queued said) index)
+extended seat [] said index within = ([], refl)
+extended seat (bytes ∷ others) said zero within = (bytes_for seat said, refl)
+extended seat (bytes ∷ others) said (suc index) within = extended (suc seat) others said index (omega (arith, within))
+
+-- a line that is served goes on so, where the same was heard of it and more is queued for its seat
+pub still_served : {L : Type 0} (told : L → Told → Type 0) (failure_count : L → ℕ) (seat : ℕ) (heard now : List Heard)
+    (queued more : List ℕ) (before : Told) (line : L) (progress : Progress) →
+    SameOf seat heard now → Extends queued more →
+    IsLineServed told failure_count seat heard queued before line progress →
+    IsLineServed told failure_count seat now more before line progress
+still_served told failure_count seat heard now queued more before line progress same extends is = record {
+  tells = subst (Tells told failure_count line) told_is is.tells;
+  within = omega (arith, is.within, ap length extends.1, length-append queued extends.0);
+  live = λ live. let was = is.live live in (same.ends ∙ was.0, same.failures ∙ was.1);
+  over = λ over now_live. is.over over (sym same.ends ∙ now_live.0, sym same.failures ∙ now_live.1);
+}
+  where
+    taken_is : take progress.taken queued ≡ take progress.taken more
+    taken_is = sym (ap (take progress.taken) extends.1 ∙ take-append-le progress.taken queued extends.0 is.within)
+
+    told_is : has_taken (has_said seat heard before) queued progress.taken ≡ has_taken (has_said seat now before) more progress.taken
+    told_is =
+        ap (λ said. has_taken said queued progress.taken) (sym (said_the_same seat heard now before same))
+        ∙ ap (λ taken. record (has_said seat now before) { taken = before.taken ++ taken }) taken_is
+
+-- Nothing is queued but behind what was.
+abbrev pub ExtendAll : (queued now : List (List ℕ)) → Type 0
+ExtendAll queued now = (index : ℕ) → index < length queued → Extends (queued_at queued index) (queued_at now index)
+
+pub same_of : (seat : ℕ) (heard : List Heard) → SameOf seat heard heard
+same_of seat heard = record { given = refl; ends = refl; failures = refl }
+
+-- the lines, where more is queued
+pub more_queued : {L : Type 0} (told : L → Told → Type 0) (failure_count : L → ℕ) (before : List Told)
+    (heard : List Heard) (queued now : List (List ℕ)) (lines : List L) (progress : List Progress) →
+    length queued ≡ length lines →
+    ExtendAll queued now →
+    AreServed told failure_count before heard queued lines progress →
+    AreServed told failure_count before heard now lines progress
+more_queued told failure_count before heard queued now lines progress as_many extends are = record {
+  as_many_before = are.as_many_before;
+  as_many_progress = are.as_many_progress;
+  each = λ index line within. still_served told failure_count (index + 1) heard heard (queued_at queued index)
+      (queued_at now index) (told_at before index) (get_or lines index line) (get_or progress index absent)
+      (same_of (index + 1) heard)
+      (extends index (omega (arith, within, as_many)))
+      (are.each index line within);
+}
+
+-- the lines, where something is heard of the clock or nobody
+pub heard_of_none : {L : Type 0} (told : L → Told → Type 0) (failure_count : L → ℕ) (before : List Told)
+    (heard now : List Heard) (queued : List (List ℕ)) (lines : List L) (progress : List Progress) →
+    ((index : ℕ) → SameOf (index + 1) heard now) →
+    AreServed told failure_count before heard queued lines progress →
+    AreServed told failure_count before now queued lines progress
+heard_of_none told failure_count before heard now queued lines progress same are = record {
+  as_many_before = are.as_many_before;
+  as_many_progress = are.as_many_progress;
+  each = λ index line within. still_served told failure_count (index + 1) heard now (queued_at queued index)
+      (queued_at queued index) (told_at before index) (get_or lines index line) (get_or progress index absent)
+      (same index)
+      ([], sym (append-nil (queued_at queued index)))
+      (are.each index line within);
+}
+
+-- the seat of another line
+pub other_seat : (index other : ℕ) → other ≢ index → index + 1 ≢ other + 1
+other_seat index other differ e = differ (omega (arith, e))
+
+-- the line at a place is served
+abbrev pub LineIs : {L : Type 0} → (L → Told → Type 0) → (L → ℕ) → (before : List Told) → List Heard →
+    (queued : List (List ℕ)) → (index : ℕ) → L → Progress → Type 0
+LineIs told failure_count before heard queued index line progress =
+    IsLineServed told failure_count (index + 1) heard (queued_at queued index) (told_at before index) line progress
+
+-- the lines, where one of them was used, and something may have been heard of it
+pub one_used : {L : Type 0} (told : L → Told → Type 0) (failure_count : L → ℕ) (before : List Told)
+    (heard now : List Heard) (queued : List (List ℕ)) (lines : List L) (progress : List Progress)
+    (index : ℕ) (line : L) (one : Progress) →
+    index < length lines →
+    ((other : ℕ) → other ≢ index → SameOf (other + 1) heard now) →
+    AreServed told failure_count before heard queued lines progress →
+    IsLineServed told failure_count (index + 1) now (queued_at queued index) (told_at before index) line one →
+    AreServed told failure_count before now queued (set lines index line) (set progress index one)
+one_used {L} told failure_count before heard now queued lines progress index line one there same are is = record {
+  as_many_before = are.as_many_before ∙ sym (length-set lines index line);
+  as_many_progress = length-set progress index one ∙ are.as_many_progress ∙ sym (length-set lines index line);
+  each = λ other d within. at other d (omega (arith, within, length-set lines index line)) (same_or_not other index);
+}
+  where
+    swap_both : (other : ℕ) (used used' : L) (come come' : Progress) → used ≡ used' → come ≡ come' →
+        LineIs told failure_count before now queued other used' come' →
+        LineIs told failure_count before now queued other used come
+    swap_both other used used' come come' used_is come_is holds =
+        subst (λ x. LineIs told failure_count before now queued other x come) (sym used_is) (subst (λ x. LineIs told failure_count before now queued other used' x) (sym come_is) holds)
+
+    at : (other : ℕ) (d : L) → other < length lines → (other ≡ index) ⊎ (other ≢ index) →
+        LineIs told failure_count before now queued other (get_or (set lines index line) other d)
+        (get_or (set progress index one) other absent)
+    at other d within (inl e) =
+        swap_both other (get_or (set lines index line) other d) line
+        (get_or (set progress index one) other absent) one
+        (get_or-set_at lines index other line d e there)
+        (get_or-set_at progress index other one absent e (omega (arith, there, are.as_many_progress)))
+        (subst (λ place. LineIs told failure_count before now queued place line one) (sym e) is)
+    at other d within (inr differ) =
+        swap_both other (get_or (set lines index line) other d) (get_or lines other d)
+        (get_or (set progress index one) other absent) (get_or progress other absent)
+        (get_or-set_other lines index other line d differ)
+        (get_or-set_other progress index other one absent differ)
+        (still_served told failure_count (other + 1) heard now (queued_at queued other) (queued_at queued other)
+        (told_at before other) (get_or lines other d) (get_or progress other absent)
+        (same other differ)
+        ([], sym (append-nil (queued_at queued other)))
+        (are.each other d within))
