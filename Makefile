@@ -6,14 +6,19 @@ CRATES := $(wildcard crates/*)
 # The programs with a stored run, and the crates with tests. Stored runs with words of their own are the gate's.
 STORED := $(filter-out $(patsubst crates/%/args,%,$(wildcard crates/*/args)) rbg_games,$(patsubst crates/%/stdin,%,$(wildcard crates/*/stdin)))
 TESTED := $(sort $(foreach file,$(shell grep -rl --include='*.rt' '^ *#\[test\]' crates),$(word 2,$(subst /, ,$(file)))))
+# The game of `make demo` and of `make clients`, and the port on which the clients' match is served.
+GAME := crates/rbg_games/data/tictactoe.rbg
+PORT := 4710
 # How long a test may take without the proof: its build checks each step.
 SECONDS := 600
 
-.PHONY: help run games try build test check fmt clean
+.PHONY: help run demo games clients try build test check fmt clean
 
 help:
 	@echo 'make run    referees the stored match (crates/rbg_manager/stdin), with no proof'
-	@echo 'make games  checks each of the games that come with it and counts its moves, with no proof'
+	@echo 'make demo   referees a match between two players over connections, and prints its record, with no proof'
+	@echo 'make games  checks each of the games that come with it, counts its moves and follows a match, with no proof'
+	@echo 'make clients  lets two example clients play a match over ./rbg serve, and checks its record (after make build)'
 	@echo 'make try    runs every stored run and every test, with no proof; make -j4 try runs four at once'
 	@echo 'make build  proves the programs and what they stand on, and leaves them as ./rbg and ./rbg_author'
 	@echo 'make test   the gate: every proof from nothing, the must-fail edits, each test, each program'
@@ -24,8 +29,18 @@ help:
 run:
 	@cd $(PROGRAM) && $(RT) try < stdin
 
+demo:
+	@cd $(PROGRAM) && $(RT) try --seconds $(SECONDS) -- demo $(abspath $(GAME))
+
 games:
-	@cd crates/rbg_games && $(RT) try --seconds $(SECONDS) $(foreach game,$(wildcard crates/rbg_games/data/*.rbg),--data $(notdir $(game))=data/$(notdir $(game))) < stdin
+	@cd crates/rbg_games && $(RT) try --seconds $(SECONDS) $(foreach file,$(wildcard crates/rbg_games/data/*.rbg crates/rbg_games/data/*.moves),--data $(notdir $(file))=data/$(notdir $(file))) < stdin
+
+clients:
+	@record=$$(mktemp) && \
+	{ ./rbg serve $(GAME) --port $(PORT) > $$record & served=$$!; sleep 1; \
+	  python3 clients/rbg_player.py $(PORT) & sleep 1; \
+	  python3 clients/rbg_player.py $(PORT) --random 1 && wait $$served; } && \
+	cat $$record && ./rbg replay $(GAME) $$record; status=$$?; rm -f $$record; exit $$status
 
 try: $(STORED:%=try-run-%) $(TESTED:%=try-test-%)
 

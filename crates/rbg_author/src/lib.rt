@@ -1,5 +1,5 @@
 //! What authors of games are told of a description: why it is refused, with the line and the place, or what its game
-//! has, and how many sequences of moves.
+//! has, how many sequences of moves, and how the board looks after each move of a match.
 #![tactic(auto)]
 
 mod excerpt;
@@ -12,6 +12,7 @@ mod place;
 mod program;
 mod reading;
 mod report;
+mod shown;
 mod spot;
 
 pub use explanation::explain;

@@ -3,24 +3,39 @@
 use crate::report::Report;
 use rbg_auto::{Compact, Steps, compact};
 use rbg_game::Game;
-use rbg_perft::{CountError, count_from_start};
+use rbg_perft::{CountError, Workspace, count_from_start};
 use std::alloc::{AllocError, Global};
 
 /// A line `DEPTH SEQUENCES ENDED` for each depth from 1 on: how many sequences of that many moves of the players there
 /// are from the beginning of play, and after how many of them play is finished. Where a number isn't found, its line
-/// is the word that says why, and it is the last.
+/// is the word that says why, and it is the last. Else the last line is `searched OPENINGS PAIRS`: how many openings the
+/// searches took up, and how many pairs of a position and a vertex they took.
 pub fn perft(alloc: Global, game: &Game, depth: u8) -> Result<Report, AllocError> {
     let Ok(steps) = compact(alloc, game) else {
         return Err(AllocError);
     };
     let mut text = Vec::new(alloc);
+    let mut workspace = Workspace::new(alloc);
     for moves in 1..=depth {
-        if let Some(error) = push_counts(alloc, &mut text, game, &steps, moves)? {
+        if let Some(error) = push_counts(alloc, &mut text, game, &steps, moves, &mut workspace)? {
             push_reason(&mut text, error)?;
             return Ok(Report { text, status: 1 });
         }
     }
+    push_searched(alloc, &mut text, &workspace)?;
     Ok(Report { text, status: 0 })
+}
+
+/// The line that says how much was searched.
+fn push_searched(
+    alloc: Global,
+    text: &mut Vec<u8>,
+    workspace: &Workspace,
+) -> Result<(), AllocError> {
+    let openings = workspace.openings();
+    let pairs = workspace.pairs();
+    let line = format!(in alloc; "searched {openings} {pairs}\n")?;
+    text.extend_from_slice(line.as_bytes())
 }
 
 /// The line of one depth, or why there is none.
@@ -30,10 +45,11 @@ fn push_counts(
     game: &Game,
     steps: &Compact,
     moves: u8,
+    workspace: &mut Workspace,
 ) -> Result<Option<CountError>, AllocError>
     requires steps { ⟦<Compact as Steps>⟧.of_rules steps.now game.now.rules }
 {
-    match count_from_start(alloc, game, steps, moves) {
+    match count_from_start(alloc, game, steps, moves, workspace) {
         Ok(counts) => {
             let sequences = counts.sequences;
             let ended = counts.ended;

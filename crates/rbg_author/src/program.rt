@@ -4,39 +4,52 @@ use crate::listing::listing;
 use crate::perft::perft;
 use crate::reading::{Read, read_game};
 use crate::report::{Report, print};
-use clap::{Arg, Command};
+use crate::shown::show_file;
+use clap::{Arg, ArgAction, ArgMatches, Command};
 use rbg_console::{Files, WordsError, file_argument, match_words};
 use std::alloc::{AllocError, Global};
-use std::io::Write;
+use std::io::{self, Write};
 
 /// The depth of `perft` where its words name none.
 const USUAL_DEPTH: u8 = 3;
 
-/// Runs the program: reads the file that its words name, writes what is said of it, and gives the status.
-pub fn run<F: Files, W: Write>(
+/// Runs the program: reads the file that its words name, and its input where they ask for it, writes what is said, and
+/// gives the status.
+pub fn run<F: Files, R: io::Read, W: Write>(
     alloc: Global,
     words: &[String],
     files: &mut F,
+    input: &mut R,
     output: &mut W,
 ) -> u8 {
-    print(output, &obey(alloc, words, files))
+    print(output, &obey(alloc, words, files, input))
 }
 
-fn obey<F: Files>(alloc: Global, words: &[String], files: &mut F) -> Result<Report, WordsError> {
+fn obey<F: Files, R: io::Read>(
+    alloc: Global,
+    words: &[String],
+    files: &mut F,
+    input: &mut R,
+) -> Result<Report, WordsError> {
     let matches = match_words(alloc, author_command(alloc)?, words)?;
     // the parse refuses words without a command and its file
     match matches.subcommand() {
         Some(("perft", words)) => {
-            let file = words.get_str("FILE").unwrap_or("");
             let depth = words.get_one::<u8>("DEPTH").unwrap_or(USUAL_DEPTH);
-            Ok(perft_file(alloc, files, file, depth)?)
+            Ok(perft_file(alloc, files, file_of(words), depth)?)
         }
-        Some((_, words)) => {
-            let file = words.get_str("FILE").unwrap_or("");
-            Ok(explain_file(alloc, files, file)?)
+        Some(("show", words)) => {
+            let only_last = words.get_flag("last");
+            Ok(show_file(alloc, files, file_of(words), input, only_last)?)
         }
+        Some((_, words)) => Ok(explain_file(alloc, files, file_of(words))?),
         None => Ok(explain_file(alloc, files, "")?),
     }
+}
+
+/// The file that words name.
+fn file_of<'a>(words: &ArgMatches<'a>) -> &'a str {
+    words.get_str("FILE").unwrap_or("")
 }
 
 fn author_command<'a>(alloc: Global) -> Result<Command<'a>, AllocError> {
@@ -45,7 +58,8 @@ fn author_command<'a>(alloc: Global) -> Result<Command<'a>, AllocError> {
         .about("Help for authors of games of Regular Boardgames")
         .subcommand_required(true)
         .subcommand(explain_command(alloc)?)?
-        .subcommand(perft_command(alloc)?)
+        .subcommand(perft_command(alloc)?)?
+        .subcommand(show_command(alloc)?)
 }
 
 fn explain_command<'a>(alloc: Global) -> Result<Command<'a>, AllocError> {
@@ -68,9 +82,23 @@ fn perft_command<'a>(alloc: Global) -> Result<Command<'a>, AllocError> {
         .arg(depth)
 }
 
+fn show_command<'a>(alloc: Global) -> Result<Command<'a>, AllocError> {
+    let file = file_argument(alloc, "The description of a game");
+    let last = Arg::new(alloc, "last")
+        .long("last")
+        .help("Shows only the last move and the board after it")
+        .action(ArgAction::SetTrue);
+    Command::new(alloc, "show")
+        .about(
+            "Shows the moves that standard input lists as pairs, a script or a record, and each board",
+        )
+        .arg(file.required(true))?
+        .arg(last)
+}
+
 fn explain_file<F: Files>(alloc: Global, files: &mut F, file: &str) -> Result<Report, AllocError> {
     match read_game(alloc, files, file)? {
-        Read::Game(game) => Ok(Report {
+        Read::Found(game) => Ok(Report {
             text: listing(alloc, &game)?.into_bytes(),
             status: 0,
         }),
@@ -85,7 +113,7 @@ fn perft_file<F: Files>(
     depth: u8,
 ) -> Result<Report, AllocError> {
     match read_game(alloc, files, file)? {
-        Read::Game(game) => perft(alloc, &game, depth),
+        Read::Found(game) => perft(alloc, &game, depth),
         Read::Other(report) => Ok(report),
     }
 }

@@ -1,4 +1,4 @@
-//! The game that a file describes, or what is said of the file.
+//! The text of a file and the game that it describes, or what is said of the file.
 
 use crate::explanation::explain;
 use crate::report::Report;
@@ -7,12 +7,10 @@ use rbg_game::{Game, LoadError, load};
 use rbg_macro::{MAX_TEXT, TextError};
 use std::alloc::{AllocError, Global};
 
-/// What a file was found to be.
+/// What was read, or what is said where it can't be had.
 #[derive(Drop)]
-pub(crate) enum Read {
-    /// The description of this game.
-    Game(Game),
-    /// No description of a game, as the report says.
+pub(crate) enum Read<T: Drop> {
+    Found(T),
     Other(Report),
 }
 
@@ -21,31 +19,53 @@ pub(crate) fn read_game<F: Files>(
     alloc: Global,
     files: &mut F,
     file: &str,
-) -> Result<Read, AllocError> {
+) -> Result<Read<Game>, AllocError> {
+    match read_text(alloc, files, file)? {
+        Read::Found(text) => match load(alloc, text.as_slice()) {
+            Ok(game) => Ok(Read::Found(game)),
+            Err(error) => Ok(Read::Other(refuse(alloc, file, text.as_slice(), error)?)),
+        },
+        Read::Other(report) => Ok(Read::Other(report)),
+    }
+}
+
+/// Reads the text of a file, if it is no longer than a description may be.
+pub(crate) fn read_text<F: Files>(
+    alloc: Global,
+    files: &mut F,
+    file: &str,
+) -> Result<Read<Vec<u8>>, AllocError> {
     match files.read_file(alloc, file, MAX_TEXT)? {
-        Input::Whole(text) => load_text(alloc, file, text.as_slice()),
-        Input::TooLong => refuse(alloc, file, &[], LoadError::Text(TextError::TooLong)),
-        Input::Device => {
-            let line = format!(in alloc; "{file}: the file can't be read\n")?;
-            Ok(Read::Other(Report {
-                text: line.into_bytes(),
-                status: DEVICE,
-            }))
+        Input::Whole(text) => Ok(Read::Found(text)),
+        Input::TooLong => {
+            let error = LoadError::Text(TextError::TooLong);
+            Ok(Read::Other(refuse(alloc, file, &[], error)?))
         }
+        Input::Device => Ok(Read::Other(unreadable(alloc, file)?)),
     }
 }
 
-fn load_text(alloc: Global, file: &str, text: &[u8]) -> Result<Read, AllocError> {
-    match load(alloc, text) {
-        Ok(game) => Ok(Read::Game(game)),
-        Err(error) if error.is_memory() => Err(AllocError),
-        Err(error) => refuse(alloc, file, text, error),
-    }
+/// What is said of a file that can't be read.
+pub(crate) fn unreadable(alloc: Global, file: &str) -> Result<Report, AllocError> {
+    let line = format!(in alloc; "{file}: the file can't be read\n")?;
+    Ok(Report {
+        text: line.into_bytes(),
+        status: DEVICE,
+    })
 }
 
-fn refuse(alloc: Global, file: &str, text: &[u8], error: LoadError) -> Result<Read, AllocError> {
-    Ok(Read::Other(Report {
+/// What is said of a text that is refused. A want of memory is passed on.
+pub(crate) fn refuse(
+    alloc: Global,
+    file: &str,
+    text: &[u8],
+    error: LoadError,
+) -> Result<Report, AllocError> {
+    if error.is_memory() {
+        return Err(AllocError);
+    }
+    Ok(Report {
         text: explain(alloc, file, text, error)?,
         status: 1,
-    }))
+    })
 }

@@ -12,6 +12,7 @@ fn run_on_system(rt: &HostRuntime, words: &[String]) -> u8 {
         rt.alloc(),
         words,
         &mut SystemFiles::new(rt),
+        &mut rt.stdin(),
         &mut io::writer(rt),
     )
 }

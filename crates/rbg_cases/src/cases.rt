@@ -21,6 +21,14 @@ pub struct Text<'a> {
     pub bytes: Vec<u8>,
 }
 
+/// What comes from the other end of a connection.
+#[derive(Debug, Drop)]
+pub struct Stream {
+    pub bytes: Vec<u8>,
+    /// Whether the stream ends behind its bytes. Else nothing more comes.
+    pub ends: bool,
+}
+
 /// A program that a case runs.
 #[derive(Clone, Copy, Debug, PartialEq, Eq)]
 pub enum Program {
@@ -28,7 +36,7 @@ pub enum Program {
     RbgAuthor,
 }
 
-/// One run of a program: its words, its files and its standard input.
+/// One run of a program: its words, its files, its connections and its standard input.
 #[derive(Debug, Drop)]
 pub struct Case<'a> {
     pub name: &'a [u8],
@@ -37,6 +45,7 @@ pub struct Case<'a> {
     pub shown: usize,
     pub words: Vec<String>,
     pub files: Vec<Text<'a>>,
+    pub streams: Vec<Stream>,
     pub input: Vec<u8>,
 }
 
@@ -47,6 +56,7 @@ enum Target<'a> {
     Text { name: &'a [u8] },
     Input,
     File { name: &'a [u8] },
+    Stream { ends: bool },
 }
 
 /// What was read so far: texts and cases, and the bytes of the part that is being read.
@@ -112,6 +122,7 @@ impl<'a> Reader<'a> {
                 shown: usize::MAX,
                 words: Vec::new(alloc),
                 files: Vec::new(alloc),
+                streams: Vec::new(alloc),
                 input: Vec::new(alloc),
             })?;
             self.target = Target::Input;
@@ -119,6 +130,10 @@ impl<'a> Reader<'a> {
             self.target = Target::Text { name };
         } else if let Some(name) = line.strip_prefix(b"file ") {
             self.target = Target::File { name };
+        } else if line == b"stream".as_slice() {
+            self.target = Target::Stream { ends: false };
+        } else if line == b"stream that ends".as_slice() {
+            self.target = Target::Stream { ends: true };
         } else {
             return Ok(false);
         }
@@ -132,6 +147,7 @@ impl<'a> Reader<'a> {
             (Target::Text { name }, _) => self.texts.push(Text { name, bytes })?,
             (Target::Input, Some(case)) => case.input = bytes,
             (Target::File { name }, Some(case)) => case.files.push(Text { name, bytes })?,
+            (Target::Stream { ends }, Some(case)) => case.streams.push(Stream { bytes, ends })?,
             _ => {}
         }
         Ok(())

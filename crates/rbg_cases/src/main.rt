@@ -9,6 +9,8 @@
 //! | `author` | the case runs `rbg_author`, else it runs `rbg` |
 //! | `last COUNT` | of what the case prints only this many lines are shown, the last ones |
 //! | `file NAME` | a file of the case begins; what follows is its bytes |
+//! | `stream` | what comes over a connection of the case begins; what follows is its bytes, and then nothing comes |
+//! | `stream that ends` | the same, but behind its bytes the stream ends |
 //! | `text NAME` | a text begins, which later lines can use; what follows is its bytes |
 //! | `\|TEXT` | adds the text and a line feed |
 //! | `+TEXT` | adds the text |
@@ -22,8 +24,10 @@
 #![tactic(auto)]
 
 mod cases;
+mod network;
 
 use crate::cases::{Case, CasesError, Program, Text, read_cases};
+use crate::network::MemoryNetwork;
 use rbg_console::{Files, Input, MAX_INPUT, read_input};
 use std::alloc::{AllocError, Global};
 use std::io::{self, Write};
@@ -64,12 +68,13 @@ fn run_program(alloc: Global, case: &Case<'_>, printed: &mut Vec<u8>) -> u8 {
     let mut files = CaseFiles {
         files: case.files.as_slice(),
     };
+    let mut input = case.input.as_slice();
     match case.program {
         Program::Rbg => {
-            let mut input = case.input.as_slice();
-            rbg_program::run(alloc, words, &mut files, &mut input, printed)
+            let mut network = MemoryNetwork::new(alloc, case.streams.as_slice());
+            rbg_program::run(alloc, words, &mut files, &mut network, &mut input, printed)
         }
-        Program::RbgAuthor => rbg_author::run(alloc, words, &mut files, printed),
+        Program::RbgAuthor => rbg_author::run(alloc, words, &mut files, &mut input, printed),
     }
 }
 

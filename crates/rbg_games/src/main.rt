@@ -1,9 +1,12 @@
-//! Checks the games that come with the program, and counts their moves. Standard input names their files and depths, one
-//! `NAME DEPTH` a line. For each file its name is printed, then what `rbg check` prints of it, and then what
-//! `rbg_author perft` prints up to that depth.
+//! Checks the games that come with the program, counts their moves and follows a whole match of each.
+//!
+//! Standard input has two words a line: the file of a game, and a depth or the file of a match. For a depth the file's
+//! name is printed, then what `rbg check` prints of it, and then what `rbg_author perft` prints up to that depth. For a
+//! match its name is printed, and then what `rbg_author show --last` prints of its moves.
 #![tactic(auto)]
 
-use rbg_console::{Input, MAX_INPUT, SystemFiles, read_input};
+use rbg_console::{Files, Input, MAX_INPUT, SystemFiles, read_input};
+use rbg_program::SystemNetwork;
 use std::alloc::{AllocError, Global};
 use std::io::{self, Write};
 use std::process::ExitCode;
@@ -25,6 +28,7 @@ fn check_game(rt: &HostRuntime, name: &str, output: &mut Vec<u8>) -> Result<bool
         rt.alloc(),
         words.as_slice(),
         &mut files,
+        &mut SystemNetwork::new(rt),
         &mut [].as_slice(),
         output,
     );
@@ -40,8 +44,36 @@ fn count_moves(
 ) -> Result<bool, AllocError> {
     let words = words_of(rt.alloc(), &["perft", name, depth])?;
     let mut files = SystemFiles::new(rt);
-    let status = rbg_author::run(rt.alloc(), words.as_slice(), &mut files, output);
+    let mut input = [].as_slice();
+    let status = rbg_author::run(rt.alloc(), words.as_slice(), &mut files, &mut input, output);
     Ok(status == 0)
+}
+
+/// Runs `rbg_author show --last` on the file and the moves of a match, and says whether each of them is legal.
+fn show_match(
+    rt: &HostRuntime,
+    name: &str,
+    moves: &[u8],
+    output: &mut Vec<u8>,
+) -> Result<bool, AllocError> {
+    let words = words_of(rt.alloc(), &["show", "--last", name])?;
+    let mut files = SystemFiles::new(rt);
+    let mut input = moves;
+    let status = rbg_author::run(rt.alloc(), words.as_slice(), &mut files, &mut input, output);
+    Ok(status == 0)
+}
+
+/// Follows the match that a file lists, and says whether all went well.
+fn follow_match(
+    rt: &HostRuntime,
+    name: &str,
+    file: &str,
+    output: &mut Vec<u8>,
+) -> Result<bool, AllocError> {
+    match SystemFiles::new(rt).read_file(rt.alloc(), file, MAX_INPUT)? {
+        Input::Whole(moves) => show_match(rt, name, moves.as_slice(), output),
+        Input::TooLong | Input::Device => Ok(false),
+    }
 }
 
 /// Does the task of a line, and says whether all went well.
@@ -49,12 +81,18 @@ fn do_line(rt: &HostRuntime, line: &[u8], output: &mut Vec<u8>) -> Result<bool, 
     let Ok(line) = str::from_utf8(line) else {
         return Ok(false);
     };
-    let Some((name, depth)) = line.split_once(' ') else {
+    let Some((name, task)) = line.split_once(' ') else {
         return Ok(false);
     };
-    output.extend_from_slice(name.as_bytes())?;
+    let is_match = task.ends_with(".moves");
+    let printed = if is_match { task } else { name };
+    output.extend_from_slice(printed.as_bytes())?;
     output.push(b'\n')?;
-    Ok(check_game(rt, name, output)? && count_moves(rt, name, depth, output)?)
+    if is_match {
+        follow_match(rt, name, task, output)
+    } else {
+        Ok(check_game(rt, name, output)? && count_moves(rt, name, task, output)?)
+    }
 }
 
 /// Does the tasks of the lines, and says whether all went well.

@@ -2,16 +2,17 @@
 #![tactic(auto)]
 
 use rbg_console::{SystemFiles, words};
-use rbg_program::{Fault, report, run};
+use rbg_program::{Fault, SystemNetwork, report, run};
 use std::io;
 use std::process::ExitCode;
 
-/// Runs the program on the system's files and streams, and gives its status.
+/// Runs the program on the system's files, connections and streams, and gives its status.
 fn run_on_system(rt: &HostRuntime, words: &[String]) -> u8 {
     run(
         rt.alloc(),
         words,
         &mut SystemFiles::new(rt),
+        &mut SystemNetwork::new(rt),
         &mut rt.stdin(),
         &mut io::writer(rt),
     )

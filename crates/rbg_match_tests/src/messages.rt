@@ -7,7 +7,7 @@ use rbg_wire::{
 use std::test::Fail;
 
 /// Texts that are messages.
-const MESSAGES: [&[u8]; 19] = [
+const MESSAGES: [&[u8]; 22] = [
     b"W1 white",
     b"W18446744073709551615 _9",
     b"G",
@@ -21,16 +21,19 @@ const MESSAGES: [&[u8]; 19] = [
     b"R2",
     b"R3",
     b"R4",
+    b"R5",
     b"E0 7",
     b"E0 1 2 3 4 5 6 7 18446744073709551615",
     b"E1 1",
     b"E2 2",
     b"E3 10",
     b"E4",
+    b"H0",
+    b"H18446744073709551615",
 ];
 
 /// Texts that are neither messages nor moves.
-const NO_MESSAGES: [&[u8]; 38] = [
+const NO_MESSAGES: [&[u8]; 40] = [
     b"",
     b"W",
     b"W1",
@@ -51,7 +54,7 @@ const NO_MESSAGES: [&[u8]; 38] = [
     b"L+1 2",
     b"R",
     b"R0",
-    b"R5",
+    b"R6",
     b"R01",
     b"R1 ",
     b"E",
@@ -67,7 +70,9 @@ const NO_MESSAGES: [&[u8]; 38] = [
     b"E11",
     b"E4 ",
     b"E5",
-    b"H1",
+    b"H",
+    b"H01",
+    b"H1 ",
     b"m0 1",
 ];
 
@@ -183,5 +188,6 @@ fn scores_and_reasons(rt: HostRuntime) -> Result<(), Fail> {
     assert_eq!(rt; Reason::OutOfTurn.number(), 2);
     assert_eq!(rt; Reason::NotLegal.number(), 3);
     assert_eq!(rt; Reason::MoveTooLong.number(), 4);
+    assert_eq!(rt; Reason::NoSeat.number(), 5);
     Ok(())
 }

@@ -1,5 +1,5 @@
 //! Runs of the program whose input or output fails, or has no end.
-use rbg_program::{Files, Input, run};
+use rbg_program::{Files, Input, SystemNetwork, run};
 use std::alloc::{AllocError, Global};
 use std::io::{self, ErrorKind, Read, Write};
 use std::test::Fail;
@@ -61,6 +61,7 @@ fn an_input_that_fails_or_has_no_end(rt: HostRuntime) {
             rt.alloc(),
             &[],
             &mut NoFiles,
+            &mut SystemNetwork::new(&rt),
             &mut Endless { reads },
             &mut output,
         );
@@ -72,7 +73,14 @@ fn an_input_that_fails_or_has_no_end(rt: HostRuntime) {
 #[test]
 fn a_failing_output_has_the_status_of_a_device(rt: HostRuntime) -> Result<(), Fail> {
     let mut reader = b"x".as_slice();
-    let status = run(rt.alloc(), &[], &mut NoFiles, &mut reader, &mut Closed);
+    let status = run(
+        rt.alloc(),
+        &[],
+        &mut NoFiles,
+        &mut SystemNetwork::new(&rt),
+        &mut reader,
+        &mut Closed,
+    );
     assert_eq!(rt; status, 3);
     Ok(())
 }

@@ -1,9 +1,13 @@
 //! Why a task is not done: each fault's printed line and its status.
 
+use crate::player_refusal::PlayerRefusal;
 use crate::script::ScriptError;
 use rbg_console::{DEVICE, Refusal, WordsError, write_text};
 use rbg_game::LoadError;
-use rbg_match::RefereeError;
+use rbg_hall::ServeError;
+use rbg_match::{MatchError, RefereeError};
+use rbg_player::PlayerError;
+use rbg_record::RecordError;
 use std::alloc::AllocError;
 use std::io::{self, Write};
 use thiserror::Error;
@@ -17,9 +21,24 @@ pub enum Fault {
     /// The line of the script that is not of its form; 0 where there is no script, or too long an input.
     #[error("script {0}")]
     Script(usize),
-    /// A file or standard input can't be read.
+    /// The first line of the record that is of the form but not right.
+    #[error("bad {0}")]
+    BadRecord(usize),
+    /// The first line of the record that is missing or not of the form; 0 where the record is too long.
+    #[error("form {0}")]
+    RecordForm(usize),
+    /// The first line of the record about which a question is above the limits.
+    #[error("over {0}")]
+    RecordOver(usize),
+    /// A file or standard input can't be read, or a connection can't be made, read or written.
     #[error("device")]
     Device,
+    /// The match, or the player's part in it, did not end in as many rounds as it may have.
+    #[error("rounds")]
+    Rounds,
+    /// The player gives up.
+    #[error("refused player {0}")]
+    Player(PlayerRefusal),
     #[error("memory")]
     Memory(#[from(alloc)] AllocError),
     /// The words ask for help or for the version, which is this text.
@@ -36,7 +55,12 @@ impl Fault {
         match self {
             Fault::Refused(_) => 1,
             Fault::Script(_) => 2,
+            Fault::BadRecord(_) => 2,
+            Fault::RecordForm(_) => 2,
+            Fault::RecordOver(_) => 2,
             Fault::Device => DEVICE,
+            Fault::Rounds => 3,
+            Fault::Player(_) => 3,
             Fault::Memory(_) => 4,
             Fault::Help(_) => 0,
             Fault::CommandLine(_) => 64,
@@ -50,6 +74,15 @@ impl From<LoadError> for Fault {
             Fault::Memory(AllocError)
         } else {
             Fault::Refused(Refusal(error))
+        }
+    }
+}
+
+impl From<MatchError> for Fault {
+    fn from(error: MatchError) -> Fault {
+        match error {
+            MatchError::Config => Fault::Script(1),
+            MatchError::Memory => Fault::Memory(AllocError),
         }
     }
 }
@@ -70,6 +103,40 @@ impl From<ScriptError> for Fault {
             ScriptError::Line(line) => Fault::Script(line),
             ScriptError::Memory(error) => Fault::Memory(error),
         }
+    }
+}
+
+impl From<RecordError> for Fault {
+    fn from(error: RecordError) -> Fault {
+        match error {
+            RecordError::Form { line } => Fault::RecordForm(line),
+            RecordError::Over { line } => Fault::RecordOver(line),
+            RecordError::Memory => Fault::Memory(AllocError),
+        }
+    }
+}
+
+impl From<ServeError> for Fault {
+    fn from(error: ServeError) -> Fault {
+        match error {
+            ServeError::Rounds => Fault::Rounds,
+            ServeError::Memory => Fault::Memory(AllocError),
+        }
+    }
+}
+
+impl From<PlayerError> for Fault {
+    fn from(error: PlayerError) -> Fault {
+        match error {
+            PlayerError::Memory => Fault::Memory(AllocError),
+            _ => Fault::Player(PlayerRefusal(error)),
+        }
+    }
+}
+
+impl From<io::Error> for Fault {
+    fn from(_error: io::Error) -> Fault {
+        Fault::Device
     }
 }
 

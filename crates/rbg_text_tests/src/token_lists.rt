@@ -1,5 +1,5 @@
-//! Texts and their tokens, or the first byte that is in no token.
-use rbg_macro::{MAX_TEXT, TextError, Token, TokenKind, tokens};
+//! Texts and their tokens.
+use rbg_macro::{Token, TokenKind, tokens};
 use std::alloc::Global;
 use std::str;
 use std::test::Fail;
@@ -53,26 +53,5 @@ fn texts_have_these_tokens(rt: HostRuntime) -> Result<(), Fail> {
         let found = shown(rt.alloc(), found.as_slice())?;
         assert_eq!(rt; found.as_str(), want);
     }
-    Ok(())
-}
-
-/// Texts, each with what is first wrong with it.
-const FAULTS: [(&[u8], TextError); 5] = [
-    (b"a @ \0", TextError::BadByte { at: 2 }),
-    (b"a \0 @", TextError::ZeroByte),
-    (b"a // \0", TextError::ZeroByte),
-    (b"a\xc3\xa9", TextError::BadByte { at: 1 }),
-    (b"// \xff\n\x0b", TextError::BadByte { at: 5 }),
-];
-
-#[test]
-fn the_first_bad_byte_decides(rt: HostRuntime) -> Result<(), Fail> {
-    for (text, want) in FAULTS {
-        assert_eq!(rt; tokens(rt.alloc(), text).err(), Some(want), "{text:?}");
-    }
-    let mut text = vec![in rt.alloc(); b' '; MAX_TEXT]?;
-    assert_eq!(rt; tokens(rt.alloc(), &text)?.as_slice().len(), 0);
-    text.push(b'@')?;
-    assert_eq!(rt; tokens(rt.alloc(), &text).err(), Some(TextError::TooLong));
     Ok(())
 }

@@ -1,0 +1,43 @@
+//! What `show` prints of a game and a list of moves.
+
+use crate::reading::{Read, read_text, refuse, unreadable};
+use crate::report::Report;
+use rbg_console::{Files, Input, MAX_INPUT, read_input};
+use rbg_show::{ShowError, show};
+use std::alloc::{AllocError, Global};
+use std::io;
+
+/// The moves that the input lists, each with the board after it, of the game that the file describes. With `only_last`
+/// only the last of them is shown.
+pub(crate) fn show_file<F: Files, R: io::Read>(
+    alloc: Global,
+    files: &mut F,
+    file: &str,
+    input: &mut R,
+    only_last: bool,
+) -> Result<Report, AllocError> {
+    match read_text(alloc, files, file)? {
+        Read::Found(text) => match read_input(alloc, input, MAX_INPUT)? {
+            Input::Whole(moves) => show_moves(alloc, file, &text, &moves, only_last),
+            Input::TooLong | Input::Device => unreadable(alloc, "standard input"),
+        },
+        Read::Other(report) => Ok(report),
+    }
+}
+
+fn show_moves(
+    alloc: Global,
+    file: &str,
+    text: &[u8],
+    moves: &[u8],
+    only_last: bool,
+) -> Result<Report, AllocError> {
+    match show(alloc, text, moves, only_last) {
+        Ok(shown) => Ok(Report {
+            text: shown.text,
+            status: if shown.is_whole { 0 } else { 1 },
+        }),
+        Err(ShowError::Load(error)) => refuse(alloc, file, text, error),
+        Err(ShowError::Memory(error)) => Err(error),
+    }
+}

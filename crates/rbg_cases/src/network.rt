@@ -1,0 +1,152 @@
+//! A network in memory. Its clock stands still, and a stream never waits.
+
+use crate::cases::Stream;
+use rbg_program::{Clock, Network};
+use std::alloc::Global;
+use std::cell::RefCell;
+use std::io::{self, ErrorKind, Read, Write};
+use std::rc::Rc;
+
+/// Bytes on their way from one end of a connection to the other.
+type Channel = Rc<RefCell<Vec<u8>>>;
+
+/// One end of a connection.
+#[derive(Drop)]
+pub struct MemoryStream {
+    incoming: Channel,
+    outgoing: Channel,
+    /// Whether the other end stays open, though nobody holds it.
+    stays_open: bool,
+}
+
+/// Connections in memory. Where a program has no other end in the same process, it gets a stream of the case.
+#[derive(Drop)]
+pub struct MemoryNetwork<'a> {
+    alloc: Global,
+    /// The streams of the case that no connection has yet.
+    streams: &'a [Stream],
+    listens: bool,
+    /// The other ends of the connections that are to be accepted.
+    waiting: Vec<MemoryStream>,
+}
+
+impl<'a> MemoryNetwork<'a> {
+    pub fn new(alloc: Global, streams: &'a [Stream]) -> MemoryNetwork<'a> {
+        MemoryNetwork {
+            alloc,
+            streams,
+            listens: false,
+            waiting: Vec::new(alloc),
+        }
+    }
+
+    fn new_channel(&self) -> io::Result<Channel> {
+        Ok(Rc::new(self.alloc, RefCell::new(Vec::new(self.alloc)))?)
+    }
+
+    /// The next stream of the case.
+    fn next_stream(&mut self) -> io::Result<MemoryStream> {
+        let Some((stream, others)) = self.streams.split_first() else {
+            return Err(io::Error::from(ErrorKind::ConnectionRefused));
+        };
+        self.streams = others;
+        let incoming = RefCell::new(stream.bytes.clone()?);
+        Ok(MemoryStream {
+            incoming: Rc::new(self.alloc, incoming)?,
+            outgoing: self.new_channel()?,
+            stays_open: !stream.ends,
+        })
+    }
+}
+
+impl<'a> Network for MemoryNetwork<'a> {
+    type Stream = MemoryStream;
+
+    type Listener = u16;
+
+    type Clock = StandingClock;
+
+    fn listen(&mut self, port: u16) -> io::Result<u16> {
+        self.listens = true;
+        Ok(port)
+    }
+
+    fn port_of(&mut self, listener: &u16) -> io::Result<u16> {
+        Ok(*listener)
+    }
+
+    fn accept(&mut self, _listener: &mut u16) -> io::Result<MemoryStream> {
+        match self.waiting.pop() {
+            Some(stream) => Ok(stream),
+            None => self.next_stream(),
+        }
+    }
+
+    fn connect(&mut self, _port: u16) -> io::Result<MemoryStream> {
+        if !self.listens {
+            return self.next_stream();
+        }
+        let there = self.new_channel()?;
+        let back = self.new_channel()?;
+        self.waiting.push(MemoryStream {
+            incoming: there.clone()?,
+            outgoing: back.clone()?,
+            stays_open: false,
+        })?;
+        Ok(MemoryStream {
+            incoming: back,
+            outgoing: there,
+            stays_open: false,
+        })
+    }
+
+    fn start_clock(&mut self) -> io::Result<StandingClock> {
+        Ok(StandingClock)
+    }
+}
+
+impl Read for MemoryStream {
+    fn read(&mut self, buffer: &mut [u8]) -> io::Result<usize> {
+        let Ok(mut bytes) = self.incoming.try_borrow_mut() else {
+            return Err(io::Error::from(ErrorKind::WouldBlock));
+        };
+        let bytes = &mut *bytes;
+        if !bytes.is_empty() {
+            let count = bytes.len().min(buffer.len());
+            buffer[..count].copy_from_slice(&bytes[..count]);
+            bytes.drain(..count);
+            return Ok(count);
+        }
+        if self.stays_open || Rc::strong_count(&self.incoming) > 1 {
+            Err(io::Error::from(ErrorKind::WouldBlock))
+        } else {
+            Ok(0)
+        }
+    }
+}
+
+impl Write for MemoryStream {
+    fn write(&mut self, buffer: &[u8]) -> io::Result<usize> {
+        let Ok(mut bytes) = self.outgoing.try_borrow_mut() else {
+            return Err(io::Error::from(ErrorKind::WouldBlock));
+        };
+        bytes.extend_from_slice(buffer)?;
+        Ok(buffer.len())
+    }
+
+    fn flush(&mut self) -> io::Result<()> {
+        Ok(())
+    }
+}
+
+/// A clock that always says 0.
+#[derive(Clone, Copy, Debug)]
+pub struct StandingClock;
+
+impl Clock for StandingClock {
+    ghost told = { λ _ _. Unit {0} };
+
+    fn now(&mut self) -> u64 {
+        0
+    }
+}

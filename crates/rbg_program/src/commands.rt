@@ -1,0 +1,132 @@
+//! The commands of the program, and their words.
+
+use clap::{Arg, Command};
+use rbg_console::file_argument;
+use std::alloc::{AllocError, Global};
+
+/// The program's command line.
+pub fn rbg_command<'a>(alloc: Global) -> Result<Command<'a>, AllocError> {
+    Command::new(alloc, "rbg")
+        .version("0.1.0")
+        .about("A referee for games of Regular Boardgames")
+        .after_help("Without a command it does what `referee` does without FILE.")
+        .subcommand(check_command(alloc)?)?
+        .subcommand(moves_command(alloc)?)?
+        .subcommand(referee_command(alloc)?)?
+        .subcommand(replay_command(alloc)?)?
+        .subcommand(migrate_command(alloc)?)?
+        .subcommand(demo_command(alloc)?)?
+        .subcommand(serve_command(alloc)?)?
+        .subcommand(play_command(alloc)?)
+}
+
+fn check_command<'a>(alloc: Global) -> Result<Command<'a>, AllocError> {
+    Command::new(alloc, "check")
+        .about("Prints how many of each thing the game has, or why the description is refused")
+        .arg(game_argument(alloc))
+}
+
+fn moves_command<'a>(alloc: Global) -> Result<Command<'a>, AllocError> {
+    Command::new(alloc, "moves")
+        .about(
+            "Prints the moves of the game's opening, and then the legal moves of the player to move",
+        )
+        .arg(game_argument(alloc))
+}
+
+fn referee_command<'a>(alloc: Global) -> Result<Command<'a>, AllocError> {
+    let file = file_argument(
+        alloc,
+        "The description of a game; without it standard input holds the description, a line `%%` and the script",
+    );
+    Command::new(alloc, "referee")
+        .about(
+            "Referees the match whose script is on standard input, and prints what each seat is sent",
+        )
+        .arg(file)
+}
+
+fn replay_command<'a>(alloc: Global) -> Result<Command<'a>, AllocError> {
+    Command::new(alloc, "replay")
+        .about("Checks whether a record is one of a match of the game, and right")
+        .arg(game_argument(alloc))?
+        .arg(record_argument(alloc, "The record of a match"))
+}
+
+fn migrate_command<'a>(alloc: Global) -> Result<Command<'a>, AllocError> {
+    Command::new(alloc, "migrate")
+        .about("Prints a record of version 1 as one of version 2")
+        .arg(game_argument(alloc))?
+        .arg(record_argument(alloc, "The record of version 1"))
+}
+
+fn demo_command<'a>(alloc: Global) -> Result<Command<'a>, AllocError> {
+    Command::new(alloc, "demo")
+        .about("Referees a match between players of its own, and prints its record")
+        .arg(game_argument(alloc))?
+        .arg(turn_option(alloc))?
+        .arg(refusals_option(alloc))?
+        .arg(rounds_option(alloc))
+}
+
+fn serve_command<'a>(alloc: Global) -> Result<Command<'a>, AllocError> {
+    Command::new(alloc, "serve")
+        .about("Referees a match between the players that connect to a port, and prints its record")
+        .arg(game_argument(alloc))?
+        .arg(port_option(alloc))?
+        .arg(turn_option(alloc))?
+        .arg(refusals_option(alloc))?
+        .arg(rounds_option(alloc))
+}
+
+fn play_command<'a>(alloc: Global) -> Result<Command<'a>, AllocError> {
+    Command::new(alloc, "play")
+        .about(
+            "Plays in the match that is served at a port, by the first move that it finds, and prints the last message",
+        )
+        .arg(port_option(alloc))?
+        .arg(rounds_option(alloc))
+}
+
+fn game_argument<'a>(alloc: Global) -> Arg<'a> {
+    file_argument(alloc, "The description of a game").required(true)
+}
+
+fn record_argument<'a>(alloc: Global, help: &'a str) -> Arg<'a> {
+    Arg::new(alloc, "RECORD").help(help).required(true)
+}
+
+fn port_option<'a>(alloc: Global) -> Arg<'a> {
+    Arg::new(alloc, "port")
+        .long("port")
+        .value_name("PORT")
+        .help("The port, 1 to 65535")
+        .value_parser(clap::value_parser!(u16).range(1..))
+        .required(true)
+}
+
+fn turn_option<'a>(alloc: Global) -> Arg<'a> {
+    Arg::new(alloc, "turn")
+        .long("turn")
+        .value_name("MS")
+        .help("The time for a turn in milliseconds, 1 to 3600000 [default: 60000]")
+        .value_parser(clap::value_parser!(u64).range(1..=3_600_000))
+}
+
+fn refusals_option<'a>(alloc: Global) -> Arg<'a> {
+    Arg::new(alloc, "refusals")
+        .long("refusals")
+        .value_name("COUNT")
+        .help("How many refusals a player is allowed, 0 to 100 [default: 3]")
+        .value_parser(clap::value_parser!(u32).range(0..=100))
+}
+
+fn rounds_option<'a>(alloc: Global) -> Arg<'a> {
+    Arg::new(alloc, "rounds")
+        .long("rounds")
+        .value_name("COUNT")
+        .help(
+            "The most rounds in which the connections are read, 0 to 4294967295 [default: 100000]",
+        )
+        .value_parser(clap::value_parser!(u64).range(0..=4_294_967_295))
+}

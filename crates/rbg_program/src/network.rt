@@ -1,0 +1,39 @@
+//! The network as the program sees it: connections on this machine, each to a port.
+
+use rbg_hall::Clock;
+use std::io::{self, ErrorKind, Read, Write};
+
+/// Connections on this machine, and the clock by which matches over them are played.
+///
+/// A stream waits a few milliseconds at most: where nothing has come or nothing can be sent by then, it answers with an
+/// error of one of the kinds that `is_nothing_yet` names.
+pub trait Network {
+    type Stream: Read + Write + Drop;
+
+    type Listener: Drop;
+
+    type Clock: Clock + Drop;
+
+    /// Listens on a port; where it is 0, on one that the system chooses.
+    fn listen(&mut self, port: u16) -> io::Result<Self::Listener>;
+
+    /// The port of a listener.
+    fn port_of(&mut self, listener: &Self::Listener) -> io::Result<u16>;
+
+    /// Waits for the next connection to a listener.
+    fn accept(&mut self, listener: &mut Self::Listener) -> io::Result<Self::Stream>;
+
+    /// Connects to a port.
+    fn connect(&mut self, port: u16) -> io::Result<Self::Stream>;
+
+    /// A clock that begins with 0 now.
+    fn start_clock(&mut self) -> io::Result<Self::Clock>;
+}
+
+/// Whether a stream only says that it has nothing now, or takes nothing now.
+pub fn is_nothing_yet(error: &io::Error) -> bool {
+    matches!(
+        error.kind(),
+        ErrorKind::WouldBlock | ErrorKind::TimedOut | ErrorKind::Interrupted
+    )
+}

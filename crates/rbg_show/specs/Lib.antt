@@ -1,0 +1,2 @@
+-- Where a game that is followed stands.
+pub mod Playing

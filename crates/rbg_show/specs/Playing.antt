@@ -1,0 +1,30 @@
+-- Where a game that is followed stands.
+use Rattle.std.specs.Prelude.{ℕ, List, Option, refl}
+use Rattle.std.specs.Coded.{Coded, coded_ℕ, coded_list, coded_option, coded×, code_by}
+use Rattle.rbg_rules.specs.State.{AbstractGame}
+use Rattle.rbg_rules.specs.Moves.{AbstractPlace}
+use Rattle.rbg_rules.specs.Codes.{coded_game}
+
+-- A game, and the place that play has reached in it.
+pub record Playing : Type 0 where
+  pub game : AbstractGame
+  pub place : AbstractPlace
+
+abbrev pub coded_place : Coded AbstractPlace
+coded_place =
+    code_by ((ℕ × (List ℕ × (List ℕ × ℕ))) × Option ℕ)
+    (coded× (coded× coded_ℕ (coded× (coded_list coded_ℕ) (coded× (coded_list coded_ℕ) coded_ℕ))) (coded_option coded_ℕ))
+    (λ p. ((p.state.player, (p.state.pieces, (p.state.values, p.state.vertex))), p.last))
+    (λ t. record {
+      state = record { player = t.0.0; pieces = t.0.1.0; values = t.0.1.1.0; vertex = t.0.1.1.1 };
+      last = t.1;
+    })
+    (λ _. refl)
+
+abbrev pub coded_playing : Coded Playing
+coded_playing =
+    code_by (AbstractGame × AbstractPlace)
+    (coded× coded_game coded_place)
+    (λ p. (p.game, p.place))
+    (λ t. record { game = t.0; place = t.1 })
+    (λ _. refl)

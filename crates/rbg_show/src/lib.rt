@@ -1,0 +1,14 @@
+//! A game followed on its board: moves as lists, scripts and records hold them, and the board after each as text.
+#![tactic(auto)]
+
+mod drawing;
+mod error;
+mod layout;
+mod line;
+mod play;
+mod showing;
+mod signs;
+mod stop;
+
+pub use error::ShowError;
+pub use showing::{Shown, show};

@@ -1,0 +1,132 @@
+//! A game that is played move by move.
+ghost use Rattle.std.specs.Prelude.{◌≡◌, None, IfOk, IfSome, IfNone, IsTrue, OnOk};
+ghost use Rattle.rbg_rules.specs.State.{start_of};
+ghost use Rattle.rbg_rules.specs.Moves.{AbstractPlace, Legal, IsLegal, Finished};
+
+use rbg_auto::{Compact, Steps, compact};
+use rbg_base::{Memory, Piece, Player, Variable, Vertex};
+use rbg_game::Game;
+use rbg_moves::{Move, Over, Place, find_move, make_move, try_move};
+use std::alloc::Global;
+use std::marker::Model;
+
+/// A game that is played move by move, and the place that is reached. Contracts see both.
+#[derive(Drop)]
+pub(crate) struct Play<'a> {
+    alloc: Global,
+    game: &'a Game,
+    steps: Compact,
+    place: Place,
+}
+
+impl<'a> Model for Play<'a> {
+    ghost use Rattle.rbg_show.specs.Playing.{Playing, coded_playing};
+
+    ghost Value = { Playing };
+
+    ghost coded = { coded_playing };
+
+    ghost view = { λ p. record { game = p.game.now; place = p.place } };
+
+    ghost use Rattle.rbg_rules.specs.Places.{IsPlaceOf};
+    ghost use Rattle.rbg_rules.specs.Games.{IsGame};
+
+    ghost invariant = { λ p. IsGame p.game.now × IsPlaceOf p.game.now p.place
+        × ⟦<Compact as Steps>⟧.of_rules p.steps p.game.now.rules };
+}
+
+impl<'a> Play<'a> {
+    /// The beginning of play.
+    pub(crate) fn start(alloc: Global, game: &'a Game) -> Result<Play<'a>, Memory>
+        ensures game { IfOk result (λ play. play.game ≡ game.now) }
+        ensures place { IfOk result (λ play. play.place ≡ record { state = start_of game.now; last = None }) }
+    {
+        let _positions = game.positions();
+        let steps = compact(alloc, game)?;
+        let place = Place::start(alloc, game)?;
+        Ok(Play {
+            alloc,
+            game,
+            steps,
+            place,
+        })
+    }
+
+    /// The player to move; 0 is the keeper.
+    pub(crate) fn player(&self) -> Player
+        ensures { result ≡ self.now.place.state.player }
+    {
+        self.place.state.player()
+    }
+
+    /// The name of the player to move.
+    pub(crate) fn mover(&self) -> &'a str {
+        match self.place.state.player() {
+            0 => "the keeper",
+            player => self.game.player_name(player),
+        }
+    }
+
+    /// Makes a move, if it is legal. Tells whether it was.
+    pub(crate) fn try_pairs(&mut self, pairs: &Move) -> Result<bool, Over>
+        ensures game { self.new.game ≡ self.old.game }
+        ensures legal { IfOk result (λ made. IsTrue made
+            → Legal self.old.game self.old.place pairs.now self.new.place) }
+        ensures illegal { IfOk result (λ made. ¬ IsTrue made
+            → (to : AbstractPlace) → ¬ Legal self.old.game self.old.place pairs.now to) }
+        ensures kept { IfOk result (λ made. ¬ IsTrue made → self.new.place ≡ self.old.place) }
+    {
+        match try_move(self.alloc, self.game, &self.steps, &self.place, pairs)? {
+            Some(place) => {
+                self.place = place;
+                Ok(true)
+            }
+            None => Ok(false),
+        }
+    }
+
+    /// A legal move, the one that the referee would make for the keeper. None where play is finished.
+    pub(crate) fn find(&self) -> Result<Option<Move>, Over>
+        ensures found { IfOk result (λ found. IfSome found (IsLegal self.now.game self.now.place)) }
+        ensures finished { IfOk result (λ found. IfNone found (Finished self.now.game self.now.place)) }
+    {
+        find_move(self.alloc, self.game, &self.steps, &self.place)
+    }
+
+    /// Makes a legal move.
+    pub(crate) fn make(&mut self, pairs: &Move) -> Result<(), Memory>
+        requires { IsLegal self.old.game self.old.place pairs.now }
+        ensures game { self.new.game ≡ self.old.game }
+        ensures made { OnOk result (Legal self.old.game self.old.place pairs.now self.new.place) }
+    {
+        self.place = make_move(self.game, &self.place, pairs)?;
+        Ok(())
+    }
+
+    /// The pieces on the vertices.
+    #[tactic(auto, using(crate::proofs::Pieces::take_one))]
+    pub(crate) fn pieces(&self) -> Result<Vec<Piece>, Memory>
+        ensures { IfOk result (λ pieces. pieces.items ≡ self.now.place.state.pieces) }
+    {
+        let mut pieces = Vec::new(self.alloc);
+        for vertex in 0..self.game.board().len() {
+            pieces.push(self.place.state.piece(vertex as Vertex))?;
+        }
+        Ok(pieces)
+    }
+
+    /// Writes what each variable holds, in a line.
+    pub(crate) fn push_values(&self, output: &mut Vec<u8>) -> Result<(), Memory> {
+        let mut lead = "";
+        for index in 0..self.game.variables() {
+            let variable = index as Variable;
+            let name = self.game.variable_name(variable);
+            let value = self.place.state.value(variable);
+            let text = format!(in self.alloc; "{lead}{name} {value}")?;
+            output.extend_from_slice(text.as_bytes())?;
+            lead = ", ";
+        }
+        output.push(b'\n')?;
+        Ok(())
+    }
+}
