@@ -1,19 +1,17 @@
 -- What is answered for one section, from what was read of its tokens.
 use Rattle.std.proofs.Common.{◌≡◌, ℕ, List, [], ◌∷◌, Result, Ok, Err, refl, sym, ◌∙◌}
 use Rattle.rbg_macro.specs.Token.{Lexeme}
-use Rattle.rbg_syntax.specs.declared.error.SyntaxError.{SyntaxError}
-use Rattle.rbg_syntax.specs.declared.error.SyntaxError.TheVariants as errors
+use Rattle.rbg_syntax.specs.declared.error.ReadError.{ReadError}
+use Rattle.rbg_syntax.specs.declared.error.ReadError.TheVariants as errors
 use Rattle.rbg_syntax.specs.internal.Reading.{Fault, misfit, Reading, Gives, Fails, FailsWithin, ended_at, whole_at}
 use Rattle.rbg_syntax.proofs.Readers.{IsReadBy, bind_ok, ok_one}
 use Rattle.rbg_syntax.proofs.Turns.{Fails-from, FailsWithin-shallow}
 
 -- What is returned for one section: the only value that its tokens spell, or that they spell none, unless memory ran
 -- out.
-abbrev pub Reads : {A B : Type 0} → (List Lexeme → B → List Lexeme → Type 0) → (A → B) → List Lexeme → Result A SyntaxError → Type 0
+abbrev pub Reads : {A B : Type 0} → (List Lexeme → B → List Lexeme → Type 0) → (A → B) → List Lexeme → Result A ReadError → Type 0
 Reads {A} {B} P view ts (Ok x) = P ts (view x) [] × ((y : B) → P ts y [] → y ≡ view x)
-Reads {A} {B} P view ts (Err (errors.Expected at what)) = (y : B) → P ts y [] → ⊥
-Reads P view ts (Err (errors.MissingSection which)) = ⊥
-Reads P view ts (Err (errors.SectionTwice which)) = ⊥
+Reads {A} {B} P view ts (Err (errors.Misfit at what)) = (y : B) → P ts y [] → ⊥
 Reads P view ts (Err (errors.TooDeep at)) = ⊥
 Reads P view ts (Err errors.Memory) = Unit {0}
 
@@ -32,11 +30,11 @@ ended_at-err : {A : Type 0} (x : A) (ts : List Lexeme) (f : Fault) → ended_at 
 ended_at-err x [] f e = cc
 ended_at-err x (t ∷ ts) f e = cc
 
-pub Fails-ended_at : {A : Type 0} (x : A) (ts : List Lexeme) (e : SyntaxError) → Fails e (ended_at {A = Unit {0}} tt ts) → Fails e (ended_at x ts)
+pub Fails-ended_at : {A : Type 0} (x : A) (ts : List Lexeme) (e : ReadError) → Fails e (ended_at {A = Unit {0}} tt ts) → Fails e (ended_at x ts)
 Fails-ended_at x ts e h = Fails-from e (ended_at tt ts) (ended_at x ts) (ended_at-err x ts) h
 
 -- the same, for rules
-pub FailsWithin-ended_at : {A : Type 0} (x : A) (ts : List Lexeme) (e : SyntaxError) → Fails e (ended_at {A = Unit {0}} tt ts) → FailsWithin e (ended_at x ts)
+pub FailsWithin-ended_at : {A : Type 0} (x : A) (ts : List Lexeme) (e : ReadError) → Fails e (ended_at {A = Unit {0}} tt ts) → FailsWithin e (ended_at x ts)
 FailsWithin-ended_at x ts e h = FailsWithin-shallow e (ended_at x ts) (Fails-ended_at x ts e h)
 
 pub ruleset endings = (ended_at-ok, Fails-ended_at, FailsWithin-ended_at)
@@ -60,10 +58,8 @@ module _ {B : Type 0} (least : ℕ) (P : List Lexeme → B → List Lexeme → T
       reads.sound ts y [] (first ∙ same_pair q y value none)
 
   -- what was read answers for the section
-  pub Reads-from_gives : {A : Type 0} (view : A → B) (r : Result A SyntaxError) → Gives view r (whole_at read ts) → Reads P view ts r
+  pub Reads-from_gives : {A : Type 0} (view : A → B) (r : Result A ReadError) → Gives view r (whole_at read ts) → Reads P view ts r
   Reads-from_gives view (Ok x) e = (whole_sound (view x) e, λ y d. ok_one y (view x) (sym (whole_complete y d) ∙ e))
-  Reads-from_gives view (Err (errors.Expected at what)) e = λ y d. err_no_ok (whole_at read ts) misfit y e (whole_complete y d)
-  Reads-from_gives view (Err (errors.MissingSection which)) e = e
-  Reads-from_gives view (Err (errors.SectionTwice which)) e = e
+  Reads-from_gives view (Err (errors.Misfit at what)) e = λ y d. err_no_ok (whole_at read ts) (misfit at) y e (whole_complete y d)
   Reads-from_gives view (Err (errors.TooDeep at)) e = e
   Reads-from_gives view (Err errors.Memory) e = tt

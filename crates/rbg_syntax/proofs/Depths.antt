@@ -1,5 +1,5 @@
 -- Rules at all depths of brackets, from what is read at one.
-use Rattle.std.proofs.Common.{◌≡◌, ◌≤◌, ◌+◌, ℕ, zero, suc, List, [], ◌∷◌, ◌++◌, true, Result, Ok, Err, refl, sym, ap, ◌∙◌, subst, arith, append-nil}
+use Rattle.std.proofs.Common.{◌≡◌, ◌≤◌, ◌+◌, ℕ, zero, suc, List, [], ◌∷◌, ◌++◌, true, Option, Result, Ok, Err, refl, sym, ap, ◌∙◌, subst, arith, append-nil}
 use Rattle.rbg_macro.specs.Token.{Lexeme}
 use Rattle.rbg_syntax.specs.Grammar.{AreRules}
 use Rattle.rbg_syntax.specs.Laws.{OneTooDeepLaw}
@@ -21,30 +21,30 @@ more_ok : (n m : ℕ) (ts : List Lexeme) (q : SpeltRule × List Lexeme) → rule
 more_ok n zero ts q e = subst (λ k. rules_at k ts ≡ Ok q) (omega arith) e
 more_ok n (suc m) ts q e = subst (λ k. rules_at k ts ≡ Ok q) (omega arith) ((outcome_of (m + n) ts (Ok q) (more_ok n m ts q e)).0)
 
-more_misfit : (n m : ℕ) (ts : List Lexeme) → rules_at n ts ≡ Err misfit → rules_at (m + n) ts ≡ Err misfit
-more_misfit n zero ts e = subst (λ k. rules_at k ts ≡ Err misfit) (omega arith) e
-more_misfit n (suc m) ts e = subst (λ k. rules_at k ts ≡ Err misfit) (omega arith) (outcome_of (m + n) ts (Err misfit) (more_misfit n m ts e))
+more_misfit : (n m : ℕ) (ts : List Lexeme) (place : Option ℕ) → rules_at n ts ≡ Err (misfit place) → rules_at (m + n) ts ≡ Err (misfit place)
+more_misfit n zero ts place e = subst (λ k. rules_at k ts ≡ Err (misfit place)) (omega arith) e
+more_misfit n (suc m) ts place e = subst (λ k. rules_at k ts ≡ Err (misfit place)) (omega arith) (outcome_of (m + n) ts (Err (misfit place)) (more_misfit n m ts place e))
 
 read_at_any : (n k : ℕ) (ts : List Lexeme) (r : SpeltRule) → AreRules k ts r [] → rules_at (k + n) ts ≡ Ok (r, [])
 read_at_any n k ts r d = subst (λ j. rules_at j ts ≡ Ok (r, [])) (omega arith) (more_ok k n ts (r, []) ((rules_read k).complete ts r [] d nothing_ends_rules))
 
-misfit_no_ok : {A : Type 0} (r : Result A Fault) (x : A) → r ≡ Err misfit → r ≡ Ok x → ⊥
-misfit_no_ok r x e f = cc
+misfit_no_ok : {A : Type 0} (r : Result A Fault) (x : A) (place : Option ℕ) → r ≡ Err (misfit place) → r ≡ Ok x → ⊥
+misfit_no_ok r x place e f = cc
 
-ended_no_rest : (x : SpeltRule) (rest : List Lexeme) → ended_at x rest ≡ Err misfit → rest ≡ [] → ⊥
-ended_no_rest x [] e same = cc
-ended_no_rest x (t ∷ ts) e same = cc
+ended_no_rest : (x : SpeltRule) (rest : List Lexeme) (place : Option ℕ) → ended_at x rest ≡ Err (misfit place) → rest ≡ [] → ⊥
+ended_no_rest x [] place e same = cc
+ended_no_rest x (t ∷ ts) place e same = cc
 
 -- tokens that don't fit spell nothing at any depth
-pub spells_nothing : (n k : ℕ) (ts : List Lexeme) (r : SpeltRule) → whole_at (rules_at n) ts ≡ Err misfit → AreRules k ts r [] → ⊥
+pub spells_nothing : (n k : ℕ) (ts : List Lexeme) (r : SpeltRule) (place : Option ℕ) → whole_at (rules_at n) ts ≡ Err (misfit place) → AreRules k ts r [] → ⊥
 unfolding whole_at
-spells_nothing n k ts r e d = go (rules_at n ts) refl e
+spells_nothing n k ts r place e d = go (rules_at n ts) refl e
   where
-    go : (v : Reading SpeltRule) → rules_at n ts ≡ v → (v >>= λ x. ended_at x.0 x.1) ≡ Err misfit → ⊥
+    go : (v : Reading SpeltRule) → rules_at n ts ≡ v → (v >>= λ x. ended_at x.0 x.1) ≡ Err (misfit place) → ⊥
     go (Ok q) is e =
         let same : q ≡ (r, []) = ok_one q (r, []) (sym (more_ok n k ts q is) ∙ read_at_any n k ts r d) in
-        ended_no_rest q.0 q.1 e (ap (λ (p : SpeltRule × List Lexeme). p.1) same)
-    go (Err misfit) is e = misfit_no_ok (rules_at (k + n) ts) (r, []) (more_misfit n k ts is) (read_at_any n k ts r d)
+        ended_no_rest q.0 q.1 place e (ap (λ (p : SpeltRule × List Lexeme). p.1) same)
+    go (Err (misfit at)) is e = misfit_no_ok (rules_at (k + n) ts) (r, []) at (more_misfit n k ts at is) (read_at_any n k ts r d)
     go (Err (too_deep at)) is e = cc
 
 ended_never : {A : Type 0} (x : A) (rest : List Lexeme) (at : ℕ) → ended_at x rest ≡ Err (too_deep at) → ⊥
@@ -57,7 +57,7 @@ deep_place n at ts e = go (rules_at n ts) refl e
   where
     go : (v : Reading SpeltRule) → rules_at n ts ≡ v → (v >>= λ x. ended_at x.0 x.1) ≡ Err (too_deep at) → Deep (AreRules (suc n)) n at ts
     go (Ok q) is e = absurd (ended_never q.0 q.1 at e)
-    go (Err misfit) is e = cc
+    go (Err (misfit place)) is e = cc
     go (Err (too_deep b)) is e =
         let same : b ≡ at = cc in
         subst (λ j. Deep (AreRules (suc n)) n j ts) same (outcome_of n ts (Err (too_deep b)) is)

@@ -1,15 +1,17 @@
 -- What is answered for the whole description, from the answers for its sections.
-use Rattle.std.proofs.Common.{◌≡◌, ◌≤◌, List, [], ◌∷◌, length, Some, None, Result, Ok, Err, refl, sym, ap, ◌∙◌, subst, arith, inl, inr}
+use Rattle.std.proofs.Common.{◌≡◌, ◌≤◌, List, [], ◌∷◌, length, ℕ, Option, Some, None, Result, Ok, Err, refl, sym, ap, ◌∙◌, subst, arith, inl, inr}
 use Rattle.std.specs.Prelude.{slice_get}
 use Rattle.rbg_macro.specs.Token.{Lexeme, SectionTokens}
 use Rattle.rbg_macro.specs.declared.source.SectionKind.{SectionKind}
 use Rattle.rbg_macro.specs.declared.source.SectionKind.TheVariants.{Players, Pieces, Variables, Board, Rules}
 use Rattle.rbg_macro.specs.declared.token.Symbol.TheVariants.{Comma}
+use Rattle.rbg_syntax.specs.declared.error.ReadError.{ReadError}
+use Rattle.rbg_syntax.specs.declared.error.ReadError.TheVariants as faults
 use Rattle.rbg_syntax.specs.declared.error.SyntaxError.{SyntaxError}
 use Rattle.rbg_syntax.specs.declared.error.SyntaxError.TheVariants as errors
 use Rattle.rbg_syntax.specs.Tree.{SpeltBounded, SpeltName, SpeltBoard, SpeltRule}
 use Rattle.rbg_syntax.specs.Grammar.{ArePlayers, AreVariables, ArePieces, IsBoard, AreRules}
-use Rattle.rbg_syntax.specs.internal.Reading.{Gives, GivesWithin, Fails, is_name, is_symbol, bounded_at, name_at, separated_at, listed_at, board_at, whole_at, variables_at}
+use Rattle.rbg_syntax.specs.internal.Reading.{Fault, misfit, Reading, Gives, GivesWithin, GivesAt, Fails, FailsWithin, error_in, placed, start_of, is_name, is_symbol, bounded_at, name_at, separated_at, listed_at, board_at, whole_at, variables_at}
 use Rattle.rbg_syntax.specs.internal.RuleReading.{rules_at}
 use Rattle.rbg_syntax.specs.Sections.{sections_of, AreDifferent}
 use Rattle.rbg_syntax.specs.Spells.{HasSection, MayHaveVariables, IsSpelt, HasFault}
@@ -18,6 +20,10 @@ use Rattle.rbg_syntax.proofs.Combinators.{EndsList, Stops}
 use Rattle.rbg_syntax.proofs.SectionReaders.{players_read, names_read, board_read}
 use Rattle.rbg_syntax.proofs.Answers.{Reads, Reads-from_gives, ok_value, whole_sound, whole_complete}
 use Rattle.rbg_syntax.proofs.Depths.{spells_nothing, too_deep_here}
+use Rattle.rbg_syntax.proofs.Misfits.{Judges}
+use Rattle.rbg_syntax.proofs.Places.{misspelt, one_error, placed_ok}
+use Rattle.rbg_syntax.proofs.RuleMisfits.{rules_judged}
+use Rattle.rbg_syntax.proofs.SectionMisfits.{players_judged, pieces_judged, variables_judged, board_judged}
 use Rattle.rbg_syntax.proofs.OneDescription.{one_variables, variables_read}
 use Rattle.rbg_syntax.proofs.RuleReaders.{EndsRules, nothing_ends_rules, rules_read}
 
@@ -31,39 +37,63 @@ pub has_section : (all : List SectionTokens) (kind : SectionKind) (s : SectionTo
 has_section all kind s different e = record { section = s; only = only_one (sections_of kind all) s (different kind) e; tokens = refl }
 
 -- a section that isn't read
-fault_of : {A B : Type 0} (all : List SectionTokens) (kind : SectionKind) (P : List Lexeme → B → List Lexeme → Type 0) (view : A → B) (ts : List Lexeme) (e : SyntaxError)
-    → HasSection all kind ts → (IsSpelt kind ts → (x : B) × P ts x []) → Reads P view ts (Err e) → HasFault all e
-fault_of all kind P view ts (errors.Expected at what) has spelt h = record { kind = kind; ts = ts; has = has; spells_nothing = λ s. let (x, d) = spelt s in h x d }
-fault_of all kind P view ts (errors.MissingSection which) has spelt h = absurd h
-fault_of all kind P view ts (errors.SectionTwice which) has spelt h = absurd h
-fault_of all kind P view ts (errors.TooDeep at) has spelt h = absurd h
-fault_of all kind P view ts errors.Memory has spelt h = tt
+module _ {A B : Type 0} (P : List Lexeme → B → List Lexeme → Type 0) (read : List Lexeme → Reading B) (j : Judges P read) (kind : SectionKind)
+    (see : (ts : List Lexeme) (x : B) → P ts x [] → IsSpelt kind ts) (refuted : (ts : List Lexeme) (place : Option ℕ) → whole_at read ts ≡ Err (misfit place) → IsSpelt kind ts → ⊥)
+    (all : List SectionTokens) (view : A → B) (s : SectionTokens) (only : sections_of kind all ≡ s ∷ []) where
+  fault_in : (d : ReadError) → Fails d (whole_at read s.tokens) → HasFault all (error_in s.at d)
+  fault_in (faults.Misfit place what) h = misspelt P read j kind see refuted all s only place what h
+  fault_in (faults.TooDeep at) h = absurd h
+  fault_in faults.Memory h = tt
+
+  fault_of : (r : Result A ReadError) (e : SyntaxError) → Gives view r (whole_at read s.tokens) → placed s.at r ≡ Err e → HasFault all e
+  fault_of (Ok x) e h same = cc
+  fault_of (Err d) e h same = subst (HasFault all) (one_error (error_in s.at d) e same) (fault_in d h)
+
+err_no_ok : {A : Type 0} (r : Result A Fault) (f : Fault) (x : A) → r ≡ Err f → r ≡ Ok x → ⊥
+err_no_ok r f x e g = cc
+
+-- tokens that don't fit spell nothing
+players_refuted : (ts : List Lexeme) (place : Option ℕ) → whole_at (separated_at Comma bounded_at) ts ≡ Err (misfit place) → IsSpelt Players ts → ⊥
+players_refuted ts place e s = err_no_ok _ (misfit place) s.0 e (whole_complete 1 ArePlayers (Stops Always (is_symbol Comma)) (separated_at Comma bounded_at) players_read (record { ends = refl; follows = tt }) ts s.0 s.1)
+
+pieces_refuted : (ts : List Lexeme) (place : Option ℕ) → whole_at (separated_at Comma name_at) ts ≡ Err (misfit place) → IsSpelt Pieces ts → ⊥
+pieces_refuted ts place e s = err_no_ok _ (misfit place) s.0 e (whole_complete 1 ArePieces (Stops Always (is_symbol Comma)) (separated_at Comma name_at) names_read (record { ends = refl; follows = tt }) ts s.0 s.1)
+
+board_refuted : (ts : List Lexeme) (place : Option ℕ) → whole_at board_at ts ≡ Err (misfit place) → IsSpelt Board ts → ⊥
+board_refuted ts place e s = err_no_ok _ (misfit place) s.0 e (whole_complete 1 IsBoard Always board_at board_read tt ts s.0 s.1)
+
+variables_refuted : (ts : List Lexeme) (place : Option ℕ) → whole_at (listed_at is_name bounded_at) ts ≡ Err (misfit place) → IsSpelt Variables ts → ⊥
+variables_refuted ts place e s =
+    err_no_ok _ (misfit place) s.0 e (whole_complete 0 AreVariables (EndsList Always is_name) (listed_at is_name bounded_at) variables_read (record { no_part = refl; no_comma = record { ends = refl; follows = tt } }) ts s.0 s.1)
+
+rules_refuted : (ts : List Lexeme) (place : Option ℕ) → whole_at (rules_at 128) ts ≡ Err (misfit place) → IsSpelt Rules ts → ⊥
+rules_refuted ts place e s = spells_nothing 128 s.0 ts s.1.0 place e s.1.1
 
 -- the answers for the sections
-pub players_reads : {A : Type 0} (view : A → List SpeltBounded) (ts : List Lexeme) (r : Result A SyntaxError) → Gives view r (whole_at (separated_at Comma bounded_at) ts) → Reads ArePlayers view ts r
+pub players_reads : {A : Type 0} (view : A → List SpeltBounded) (ts : List Lexeme) (r : Result A ReadError) → Gives view r (whole_at (separated_at Comma bounded_at) ts) → Reads ArePlayers view ts r
 players_reads view ts r = Reads-from_gives 1 ArePlayers (Stops Always (is_symbol Comma)) (separated_at Comma bounded_at) players_read (record { ends = refl; follows = tt }) ts view r
 
-pub pieces_reads : {A : Type 0} (view : A → List SpeltName) (ts : List Lexeme) (r : Result A SyntaxError) → Gives view r (whole_at (separated_at Comma name_at) ts) → Reads ArePieces view ts r
+pub pieces_reads : {A : Type 0} (view : A → List SpeltName) (ts : List Lexeme) (r : Result A ReadError) → Gives view r (whole_at (separated_at Comma name_at) ts) → Reads ArePieces view ts r
 pieces_reads view ts r = Reads-from_gives 1 ArePieces (Stops Always (is_symbol Comma)) (separated_at Comma name_at) names_read (record { ends = refl; follows = tt }) ts view r
 
-pub board_reads : {A : Type 0} (view : A → SpeltBoard) (ts : List Lexeme) (r : Result A SyntaxError) → Gives view r (whole_at board_at ts) → Reads IsBoard view ts r
+pub board_reads : {A : Type 0} (view : A → SpeltBoard) (ts : List Lexeme) (r : Result A ReadError) → Gives view r (whole_at board_at ts) → Reads IsBoard view ts r
 board_reads view ts r = Reads-from_gives 1 IsBoard Always board_at board_read tt ts view r
 
-listed_reads : {A : Type 0} (view : A → List SpeltBounded) (ts : List Lexeme) (r : Result A SyntaxError) → Gives view r (whole_at (listed_at is_name bounded_at) ts) → Reads AreVariables view ts r
+listed_reads : {A : Type 0} (view : A → List SpeltBounded) (ts : List Lexeme) (r : Result A ReadError) → Gives view r (whole_at (listed_at is_name bounded_at) ts) → Reads AreVariables view ts r
 listed_reads view ts r = Reads-from_gives 0 AreVariables (EndsList Always is_name) (listed_at is_name bounded_at) variables_read (record { no_part = refl; no_comma = record { ends = refl; follows = tt } }) ts view r
 
 -- their faults
-pub players_fault : {A : Type 0} (all : List SectionTokens) (view : A → List SpeltBounded) (ts : List Lexeme) (e : SyntaxError) → HasSection all Players ts
-    → Gives view (Err e) (whole_at (separated_at Comma bounded_at) ts) → HasFault all e
-players_fault all view ts e has h = fault_of all Players ArePlayers view ts e has (λ s. s) (players_reads view ts (Err e) h)
+pub players_fault : {A : Type 0} (all : List SectionTokens) (view : A → List SpeltBounded) (s : SectionTokens) (r : Result A ReadError) (e : SyntaxError) → AreDifferent all → slice_get (sections_of Players all) 0 ≡ Some s
+    → Gives view r (whole_at (separated_at Comma bounded_at) s.tokens) → placed s.at r ≡ Err e → HasFault all e
+players_fault all view s r e different first = fault_of ArePlayers (separated_at Comma bounded_at) players_judged Players (λ ts x d. (x, d)) players_refuted all view s (only_one (sections_of Players all) s (different Players) first) r e
 
-pub pieces_fault : {A : Type 0} (all : List SectionTokens) (view : A → List SpeltName) (ts : List Lexeme) (e : SyntaxError) → HasSection all Pieces ts
-    → Gives view (Err e) (whole_at (separated_at Comma name_at) ts) → HasFault all e
-pieces_fault all view ts e has h = fault_of all Pieces ArePieces view ts e has (λ s. s) (pieces_reads view ts (Err e) h)
+pub pieces_fault : {A : Type 0} (all : List SectionTokens) (view : A → List SpeltName) (s : SectionTokens) (r : Result A ReadError) (e : SyntaxError) → AreDifferent all → slice_get (sections_of Pieces all) 0 ≡ Some s
+    → Gives view r (whole_at (separated_at Comma name_at) s.tokens) → placed s.at r ≡ Err e → HasFault all e
+pieces_fault all view s r e different first = fault_of ArePieces (separated_at Comma name_at) pieces_judged Pieces (λ ts x d. (x, d)) pieces_refuted all view s (only_one (sections_of Pieces all) s (different Pieces) first) r e
 
-pub board_fault : {A : Type 0} (all : List SectionTokens) (view : A → SpeltBoard) (ts : List Lexeme) (e : SyntaxError) → HasSection all Board ts
-    → Gives view (Err e) (whole_at board_at ts) → HasFault all e
-board_fault all view ts e has h = fault_of all Board IsBoard view ts e has (λ s. s) (board_reads view ts (Err e) h)
+pub board_fault : {A : Type 0} (all : List SectionTokens) (view : A → SpeltBoard) (s : SectionTokens) (r : Result A ReadError) (e : SyntaxError) → AreDifferent all → slice_get (sections_of Board all) 0 ≡ Some s
+    → Gives view r (whole_at board_at s.tokens) → placed s.at r ≡ Err e → HasFault all e
+board_fault all view s r e different first = fault_of IsBoard board_at board_judged Board (λ ts x d. (x, d)) board_refuted all view s (only_one (sections_of Board all) s (different Board) first) r e
 
 -- rules: their only value, or that they spell none at any depth, or that a bracket is one too many
 pub rules_spelt : {A : Type 0} (view : A → SpeltRule) (ts : List Lexeme) (x : A) → GivesWithin view (Ok x) (whole_at (rules_at 128) ts) → AreRules 128 ts (view x) []
@@ -72,50 +102,63 @@ rules_spelt view ts x h = whole_sound 1 (AreRules 128) EndsRules (rules_at 128) 
 pub rules_only : {A : Type 0} (view : A → SpeltRule) (ts : List Lexeme) (x : A) → GivesWithin view (Ok x) (whole_at (rules_at 128) ts) → (r : SpeltRule) → AreRules 128 ts r [] → view x ≡ r
 rules_only view ts x h r d = ok_value (view x) r (sym h ∙ whole_complete 1 (AreRules 128) EndsRules (rules_at 128) (rules_read 128) nothing_ends_rules ts r d)
 
-pub rules_fault : {A : Type 0} (all : List SectionTokens) (view : A → SpeltRule) (ts : List Lexeme) (e : SyntaxError) → HasSection all Rules ts
-    → GivesWithin view (Err e) (whole_at (rules_at 128) ts) → HasFault all e
-rules_fault all view ts (errors.Expected at what) has h = record { kind = Rules; ts = ts; has = has; spells_nothing = λ s. spells_nothing 128 s.0 ts s.1.0 h s.1.1 }
-rules_fault all view ts (errors.MissingSection which) has h = absurd h
-rules_fault all view ts (errors.SectionTwice which) has h = absurd h
-rules_fault all view ts (errors.TooDeep at) has h = record { ts = ts; has = has; deep = too_deep_here at ts h }
-rules_fault all view ts errors.Memory has h = tt
+rules_fault_in : (all : List SectionTokens) (s : SectionTokens) (only : sections_of Rules all ≡ s ∷ []) (d : ReadError) → FailsWithin d (whole_at (rules_at 128) s.tokens) → HasFault all (error_in s.at d)
+rules_fault_in all s only (faults.Misfit place what) h = misspelt (AreRules 128) (rules_at 128) (rules_judged 128) Rules (λ ts x d. (128, (x, d))) rules_refuted all s only place what h
+rules_fault_in all s only (faults.TooDeep at) h = record { ts = s.tokens; has = record { section = s; only = only; tokens = refl }; deep = too_deep_here at s.tokens h }
+rules_fault_in all s only faults.Memory h = tt
+
+pub rules_fault : {A : Type 0} (all : List SectionTokens) (view : A → SpeltRule) (s : SectionTokens) (r : Result A ReadError) (e : SyntaxError) → AreDifferent all → slice_get (sections_of Rules all) 0 ≡ Some s
+    → GivesWithin view r (whole_at (rules_at 128) s.tokens) → placed s.at r ≡ Err e → HasFault all e
+rules_fault all view s (Ok x) e different first h same = cc
+rules_fault all view s (Err d) e different first h same =
+    subst (HasFault all) (one_error (error_in s.at d) e same) (rules_fault_in all s (only_one (sections_of Rules all) s (different Rules) first) d h)
 
 -- variables, which may have no section
 at_most_one : (x : SectionTokens) (xs : List SectionTokens) → length (x ∷ xs) ≤ 1 → xs ≡ []
 at_most_one x [] h = refl
 at_most_one x (y ∷ ys) h = absurd (omega arith)
 
-variables_section : (all : List SectionTokens) (s : SectionTokens) (ss : List SectionTokens) → AreDifferent all → sections_of Variables all ≡ s ∷ ss → HasSection all Variables s.tokens
-variables_section all s ss different is =
+only_variables : (all : List SectionTokens) (s : SectionTokens) (ss : List SectionTokens) → AreDifferent all → sections_of Variables all ≡ s ∷ ss → sections_of Variables all ≡ s ∷ []
+only_variables all s ss different is =
     let none : ss ≡ [] = at_most_one s ss (subst (λ xs. length xs ≤ 1) is (different Variables)) in
-    record { section = s; only = is ∙ ap (λ xs. s ∷ xs) none; tokens = refl }
+    is ∙ ap (λ xs. s ∷ xs) none
 
-pub variables_spelt : {A : Type 0} (all : List SectionTokens) (view : A → List SpeltBounded) (x : A) → AreDifferent all → Gives view (Ok x) (variables_at (sections_of Variables all)) → MayHaveVariables all (view x)
+spelt_variables : {A : Type 0} (all : List SectionTokens) (view : A → List SpeltBounded) (x : A) → AreDifferent all → Gives view (Ok x) (variables_at (sections_of Variables all)) → MayHaveVariables all (view x)
 unfolding variables_at
-variables_spelt {A} all view x different h = go (sections_of Variables all) refl h
+spelt_variables {A} all view x different h = go (sections_of Variables all) refl h
   where
     go : (xs : List SectionTokens) → sections_of Variables all ≡ xs → Gives view (Ok x) (variables_at xs) → MayHaveVariables all (view x)
     go [] is h = inl (is, sym (ok_value [] (view x) h))
-    go (s ∷ ss) is h = inr (record { ts = s.tokens; has = variables_section all s ss different is; spells = (listed_reads view s.tokens (Ok x) h).0 })
+    go (s ∷ ss) is h = inr (record { ts = s.tokens; has = record { section = s; only = only_variables all s ss different is; tokens = refl }; spells = (listed_reads view s.tokens (Ok x) h).0 })
 
-pub variables_only : {A : Type 0} (all : List SectionTokens) (view : A → List SpeltBounded) (x : A) → AreDifferent all → Gives view (Ok x) (variables_at (sections_of Variables all))
-    → (vs : List SpeltBounded) → MayHaveVariables all vs → view x ≡ vs
+pub variables_spelt : {A : Type 0} (all : List SectionTokens) (view : A → List SpeltBounded) (x : A) → AreDifferent all
+    → GivesAt (start_of (sections_of Variables all)) view (Ok x) (variables_at (sections_of Variables all)) → MayHaveVariables all (view x)
+variables_spelt all view x different h = spelt_variables all view x different (placed_ok view (variables_at (sections_of Variables all)) (start_of (sections_of Variables all)) h.0 x (sym h.1) h.2)
+
+pub variables_only : {A : Type 0} (all : List SectionTokens) (view : A → List SpeltBounded) (x : A) → AreDifferent all
+    → GivesAt (start_of (sections_of Variables all)) view (Ok x) (variables_at (sections_of Variables all)) → (vs : List SpeltBounded) → MayHaveVariables all vs → view x ≡ vs
 variables_only all view x different h vs may = one_variables (variables_spelt all view x different h) may
 
-pub variables_fault : {A : Type 0} (all : List SectionTokens) (view : A → List SpeltBounded) (e : SyntaxError) → AreDifferent all → Gives view (Err e) (variables_at (sections_of Variables all)) → HasFault all e
-unfolding variables_at
-variables_fault {A} all view e different h = go (sections_of Variables all) refl h
-  where
-    none : (d : SyntaxError) → Fails d (variables_at []) → HasFault all d
-    none (errors.Expected at what) h = let wrong : ⊥ = cc in absurd wrong
-    none (errors.MissingSection which) h = absurd h
-    none (errors.SectionTwice which) h = absurd h
-    none (errors.TooDeep at) h = absurd h
-    none errors.Memory h = tt
+-- where there is no section of variables, nothing is refused but by want of memory
+none_refused : {A : Type 0} (all : List SectionTokens) (view : A → List SpeltBounded) (r : Result A ReadError) (e : SyntaxError) → Gives view r (Ok []) → placed 0 r ≡ Err e → HasFault all e
+none_refused all view (Ok x) e h same = cc
+none_refused all view (Err (faults.Misfit place what)) e h same = cc
+none_refused all view (Err (faults.TooDeep at)) e h same = absurd h
+none_refused all view (Err faults.Memory) e h same = subst (HasFault all) (one_error errors.Memory e same) tt
 
-    go : (xs : List SectionTokens) → sections_of Variables all ≡ xs → Gives view (Err e) (variables_at xs) → HasFault all e
-    go [] is h = none e h
-    go (s ∷ ss) is h = fault_of all Variables AreVariables view s.tokens e (variables_section all s ss different is) (λ s. s) (listed_reads view s.tokens (Err e) h)
+pub variables_fault : {A : Type 0} (all : List SectionTokens) (view : A → List SpeltBounded) (e : SyntaxError) → AreDifferent all
+    → GivesAt (start_of (sections_of Variables all)) view (Err e) (variables_at (sections_of Variables all)) → HasFault all e
+unfolding variables_at
+variables_fault {A} all view e different h = go (sections_of Variables all) refl h.0 (sym h.1) h.2
+  where
+    go : (xs : List SectionTokens) → sections_of Variables all ≡ xs → (r : Result A ReadError) → placed (start_of xs) r ≡ Err e → Gives view r (variables_at xs) → HasFault all e
+    go [] is r same h = none_refused all view r e h same
+    go (s ∷ ss) is r same h =
+        fault_of AreVariables (listed_at is_name bounded_at) variables_judged Variables (λ ts x d. (x, d)) variables_refuted all view s (only_variables all s ss different is) r e h same
+
+pub variables_start : (xs : List SectionTokens) (s : SectionTokens) → Some s ≡ slice_get xs 0 → s.at ≡ start_of xs
+variables_start [] s e = cc
+variables_start (x ∷ xs) s e = let same : s ≡ x = cc in ap (λ (y : SectionTokens). y.at) same
 
 pub variables_first : (xs : List SectionTokens) (s : SectionTokens) → Some s ≡ slice_get xs 0 → variables_at xs ≡ whole_at (listed_at is_name bounded_at) s.tokens
 unfolding variables_at

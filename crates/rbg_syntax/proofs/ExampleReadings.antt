@@ -1,5 +1,5 @@
 -- The examples, by what is read of their tokens.
-use Rattle.std.proofs.Common.{◌≡◌, ℕ, zero, suc, List, [], ◌∷◌, Result, Ok, Err, ◌++◌, refl, ap, sym, ◌∙◌, subst, arith}
+use Rattle.std.proofs.Common.{◌≡◌, ℕ, zero, suc, List, [], ◌∷◌, Some, Result, Ok, Err, ◌++◌, refl, ap, sym, ◌∙◌, subst, arith}
 use Rattle.rbg_macro.specs.Token.{Lexeme}
 use Rattle.rbg_macro.specs.declared.token.Symbol.TheVariants as symbols
 use Rattle.rbg_syntax.specs.Examples.{sign, signs, letter, letter_name, in_parentheses, SumInParentheses, NegatedFactor, StarredAssignments, DeepestBrackets, TooManyBrackets, TwoStars, TwoMinuses, TooDeepAlone, MisspeltAlone}
@@ -64,8 +64,8 @@ minuses = sign symbols.Minus 0 ∷ sign symbols.Minus 1 ∷ letter 97 2 ∷ []
 
 pub two_minuses : TwoMinuses
 unfolding sum_at sum_over_at term_at factor_at primary_at number_or_name_at symbol_at name_at after_at
-two_minuses zero e d = err_no_ok (sum_at zero minuses) misfit (e, []) refl ((sum_read zero).complete minuses e [] d nothing_ends_sum)
-two_minuses (suc n) e d = err_no_ok (sum_at (suc n) minuses) misfit (e, []) refl ((sum_read (suc n)).complete minuses e [] d nothing_ends_sum)
+two_minuses zero e d = err_no_ok (sum_at zero minuses) (misfit (Some 1)) (e, []) refl ((sum_read zero).complete minuses e [] d nothing_ends_sum)
+two_minuses (suc n) e d = err_no_ok (sum_at (suc n) minuses) (misfit (Some 1)) (e, []) refl ((sum_read (suc n)).complete minuses e [] d nothing_ends_sum)
 
 pub too_deep_alone : TooDeepAlone
 unfolding whole_at rules_at atom_at rules_over_at sequence_at item_at bracket_atom_at open_atom_at separated_at symbol_at name_at repeated_at after_at within_at
@@ -76,12 +76,12 @@ too_deep_alone = record {
 }
 
 -- nothing begins with a closing parenthesis
-closing_misfit : (ts : List Lexeme) → whole_at (rules_at 0) (sign symbols.CloseParenthesis 0 ∷ ts) ≡ Err misfit
+closing_misfit : (ts : List Lexeme) → whole_at (rules_at 0) (sign symbols.CloseParenthesis 0 ∷ ts) ≡ Err (misfit (Some 0))
 unfolding whole_at rules_at atom_at rules_over_at sequence_at item_at open_atom_at separated_at symbol_at
 closing_misfit ts = refl
 
 closing_spells_nothing : (k : ℕ) (ts : List Lexeme) (r : SpeltRule) → AreRules k (sign symbols.CloseParenthesis 0 ∷ ts) r [] → ⊥
-closing_spells_nothing k ts r d = spells_nothing 0 k (sign symbols.CloseParenthesis 0 ∷ ts) r (closing_misfit ts) d
+closing_spells_nothing k ts r d = spells_nothing 0 k (sign symbols.CloseParenthesis 0 ∷ ts) r (Some 0) (closing_misfit ts) d
 
 closing_not_deep : (ts before : List Lexeme) (bracket : Lexeme) (behind rest : List Lexeme) → sign symbols.CloseParenthesis 0 ∷ ts ≡ before ++ bracket ∷ behind → open_after 0 before ≡ 128
     → IsSpelt Rules (before ++ bracket ∷ rest) → ⊥

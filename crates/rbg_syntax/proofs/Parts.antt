@@ -1,5 +1,5 @@
 -- A first part and further ones, as the parser reads them.
-use Rattle.std.proofs.Common.{◌≡◌, ◌-◌, ℕ, zero, suc, List, [], ◌∷◌, Bool, true, false, Result, Ok, Err, refl, ap, ◌∙◌, arith}
+use Rattle.std.proofs.Common.{◌≡◌, ◌-◌, ℕ, zero, suc, List, [], ◌∷◌, Bool, true, false, None, Result, Ok, Err, refl, ap, ◌∙◌, arith}
 use Rattle.rbg_macro.specs.Token.{Lexeme}
 use Rattle.rbg_macro.specs.declared.token.Symbol.{Symbol}
 use Rattle.rbg_macro.specs.declared.token.Symbol.TheVariants.{Plus, OpenParenthesis, CloseParenthesis, OpenBrace, CloseBrace, Question, Exclamation}
@@ -202,7 +202,7 @@ atom_none ts e = rw e
 
 -- the same bracket is one too many, whatever is read
 pub same_deep : {A B : Type 0} (ts : List Lexeme) (f : Fault) → too_deep_at {A = A} ts ≡ Err f → too_deep_at {A = B} ts ≡ Err f
-same_deep [] f e = let same : misfit ≡ f = cc in ap (λ g. Err g) same
+same_deep [] f e = let same : misfit None ≡ f = cc in ap (λ g. Err g) same
 same_deep (t ∷ ts) f e = let same : too_deep t.at ≡ f = cc in ap (λ g. Err g) same
 
 -- what is read between brackets

@@ -39,7 +39,7 @@ pub record Sample {A : Type 0} (P : List Lexeme → A → List Lexeme → Type 0
 -- What was read with so many brackets, against what is read with one more: the same, unless a bracket was one too many.
 abbrev pub Outcome : {A : Type 0} → (List Lexeme → A → List Lexeme → Type 0) → ℕ → List Lexeme → Reading A → Reading A → Type 0
 Outcome P n ts (Ok q) r = (r ≡ Ok q) × Piece P n ts q.0 q.1
-Outcome P n ts (Err misfit) r = r ≡ Err misfit
+Outcome P n ts (Err (misfit place)) r = r ≡ Err (misfit place)
 Outcome P n ts (Err (too_deep at)) r = Deep P n at ts
 
 -- one reading after another
@@ -49,7 +49,7 @@ pub bind : {A C : Type 0} (P : List Lexeme → A → List Lexeme → Type 0) (R 
     → ((at : ℕ) → Deep P n at us → Deep R n at ts)
     → Outcome R n ts (r >>= next) (r' >>= next')
 bind P R n us ts (Ok q) r' next next' o more deeper = subst (λ u. Outcome R n ts (next q) (u >>= next')) (sym o.0) (more q o.1)
-bind P R n us ts (Err misfit) r' next next' o more deeper = ap (λ u. u >>= next') o
+bind P R n us ts (Err (misfit place)) r' next next' o more deeper = ap (λ u. u >>= next') o
 bind P R n us ts (Err (too_deep at)) r' next next' o more deeper = deeper at o
 
 -- a phrase seen as another one

@@ -1,5 +1,5 @@
 -- When a function reads a phrase: what it gives is such a phrase, and each such phrase is given.
-use Rattle.std.proofs.Common.{◌≡◌, ◌≤◌, ◌+◌, ℕ, List, [], ◌∷◌, length, Bool, true, false, cond, Result, Ok, Err, refl, sym, ap, subst, arith}
+use Rattle.std.proofs.Common.{◌≡◌, ◌≤◌, ◌+◌, ℕ, List, [], ◌∷◌, length, Bool, true, false, cond, Some, Result, Ok, Err, refl, sym, ap, subst, arith}
 use denote.Enum.Bare.{same_true, true_same}
 use Rattle.std.specs.Str.{bytes_eq}
 use Rattle.std.proofs.lemmas.Slice.Eq.{bytes_eq-Decides}
@@ -26,23 +26,23 @@ pub record IsReadBy {A : Type 0} (least : ℕ) (P : List Lexeme → A → List L
 abbrev pub Always : List Lexeme → Type 0
 Always ts = Unit {0}
 
-pub chosen_ok : {A : Type 0} (b : Bool) (x y : A) → cond {A = Result A Fault} b (Ok x) (Err misfit) ≡ Ok y → (b ≡ true) × (x ≡ y)
-chosen_ok true x y e = (refl, cc)
-chosen_ok false x y e = cc
+pub chosen_ok : {A : Type 0} (b : Bool) (x y : A) (f : Fault) → cond {A = Result A Fault} b (Ok x) (Err f) ≡ Ok y → (b ≡ true) × (x ≡ y)
+chosen_ok true x y f e = (refl, cc)
+chosen_ok false x y f e = cc
 
 -- the front token of what token_at gives
 token_at_ok : (test : TokenKind → Bool) (ts : List Lexeme) (t : Lexeme) (rest : List Lexeme) → token_at test ts ≡ Ok (t, rest) → (ts ≡ t ∷ rest) × (test t.kind ≡ true)
 token_at_ok test [] t rest e = cc
 token_at_ok test (u ∷ us) t rest e =
-    let p = chosen_ok {A = Lexeme × List Lexeme} (test u.kind) (u, us) (t, rest) e in
+    let p = chosen_ok {A = Lexeme × List Lexeme} (test u.kind) (u, us) (t, rest) (misfit (Some u.at)) e in
     (ap (λ (q : Lexeme × List Lexeme). q.0 ∷ q.1) p.1, subst (λ (q : Lexeme × List Lexeme). test q.0.kind ≡ true) p.1 p.0)
 
-kind_of-is_name : (k : TokenKind) → is_name k ≡ true → k ≡ kinds.Name
+pub kind_of-is_name : (k : TokenKind) → is_name k ≡ true → k ≡ kinds.Name
 kind_of-is_name kinds.Name e = refl
 kind_of-is_name kinds.Number e = cc
 kind_of-is_name (kinds.Symbol s) e = cc
 
-kind_of-is_number : (k : TokenKind) → is_number k ≡ true → k ≡ kinds.Number
+pub kind_of-is_number : (k : TokenKind) → is_number k ≡ true → k ≡ kinds.Number
 kind_of-is_number kinds.Name e = cc
 kind_of-is_number kinds.Number e = refl
 kind_of-is_number (kinds.Symbol s) e = cc
@@ -116,9 +116,9 @@ number_read = record { sound = number_sound; complete = λ ts x rest d f. number
 word_sound : (text : List ℕ) (ts : List Lexeme) (at : ℕ) (rest : List Lexeme) → word_at text ts ≡ Ok (at, rest) → IsWord text ts at rest
 unfolding word_at
 word_sound text ts at rest e =
-    let (t, taken, given) = bind_ok (token_at is_name ts) (λ (t : Lexeme × List Lexeme). cond {A = Reading ℕ} (bytes_eq t.0.text text) (Ok (t.0.at, t.1)) (Err misfit)) (at, rest) e in
+    let (t, taken, given) = bind_ok (token_at is_name ts) (λ (t : Lexeme × List Lexeme). cond {A = Reading ℕ} (bytes_eq t.0.text text) (Ok (t.0.at, t.1)) (Err (misfit (Some t.0.at)))) (at, rest) e in
     let (here, is) = token_at_ok is_name ts t.0 t.1 taken in
-    let (same, given) = chosen_ok {A = ℕ × List Lexeme} (bytes_eq t.0.text text) (t.0.at, t.1) (at, rest) given in
+    let (same, given) = chosen_ok {A = ℕ × List Lexeme} (bytes_eq t.0.text text) (t.0.at, t.1) (at, rest) (misfit (Some t.0.at)) given in
     let k : IsWord text (t.0 ∷ t.1) t.0.at t.1 = word (kind_of-is_name t.0.kind is) ((bytes_eq-Decides t.0.text text).0 same) in
     subst (λ (q : ℕ × List Lexeme). IsWord text ts q.0 q.1) given (subst (λ us. IsWord text us t.0.at t.1) (sym here) k)
 

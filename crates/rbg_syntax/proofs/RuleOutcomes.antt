@@ -33,7 +33,7 @@ unfolding relation_at
 relation_never [] at e = cc
 relation_never (t ∷ ts) at e = go (is_relation t.kind) e
   where
-    go : (b : Bool) → cond {A = Reading Relation} b (Ok (relation_of t.kind, ts)) (Err misfit) ≡ Err (too_deep at) → ⊥
+    go : (b : Bool) → cond {A = Reading Relation} b (Ok (relation_of t.kind, ts)) (Err (misfit (Some t.at))) ≡ Err (too_deep at) → ⊥
     go true e = cc
     go false e = cc
 

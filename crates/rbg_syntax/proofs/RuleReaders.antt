@@ -1,5 +1,5 @@
 -- The readers of rules.
-use Rattle.std.proofs.Common.{◌≡◌, ◌≤◌, ◌+◌, ℕ, zero, suc, List, [], ◌∷◌, length, drop, Bool, true, false, cond, Ok, Err, refl, ◌∙◌, subst, arith, inl, inr}
+use Rattle.std.proofs.Common.{◌≡◌, ◌≤◌, ◌+◌, ℕ, zero, suc, List, [], ◌∷◌, length, drop, Bool, true, false, cond, Some, Ok, Err, refl, ◌∙◌, subst, arith, inl, inr}
 use Rattle.rbg_macro.specs.Token.{Lexeme}
 use Rattle.rbg_macro.specs.declared.token.Symbol.{Symbol}
 use Rattle.rbg_macro.specs.declared.token.Symbol.TheVariants.{DoubleEquals, NotEquals, LessOrEqual, GreaterOrEqual, Equals, LessThan, GreaterThan, Plus, Star, OpenParenthesis, CloseParenthesis, OpenBracket, CloseBracket, OpenBrace, CloseBrace, Comma, Dollar, Question, Exclamation}
@@ -22,7 +22,7 @@ second_test : {s : Symbol} {ts rest : List Lexeme} {at : ℕ} → IsSymbol s ts 
 second_test (symbol k) test = refl
 
 -- relations
-relation_here : (t : Lexeme) (rest : List Lexeme) (k : TokenKind) → t.kind ≡ k → is_relation k ≡ true → IsRelation (t ∷ rest) (relation_of k) rest
+pub relation_here : (t : Lexeme) (rest : List Lexeme) (k : TokenKind) → t.kind ≡ k → is_relation k ≡ true → IsRelation (t ∷ rest) (relation_of k) rest
 relation_here t rest kinds.Name same e = cc
 relation_here t rest kinds.Number same e = cc
 relation_here t rest (kinds.Symbol DoubleEquals) same e = equal (symbol same)
@@ -38,7 +38,7 @@ unfolding relation_at
 relation_sound [] x rest e = cc
 relation_sound (t ∷ ts) x rest e = first (is_relation t.kind) (relation_here t ts t.kind refl) e
   where
-    first : (b : Bool) → (b ≡ true → IsRelation (t ∷ ts) (relation_of t.kind) ts) → cond {A = Reading Relation} b (Ok (relation_of t.kind, ts)) (Err misfit) ≡ Ok (x, rest) → IsRelation (t ∷ ts) x rest
+    first : (b : Bool) → (b ≡ true → IsRelation (t ∷ ts) (relation_of t.kind) ts) → cond {A = Reading Relation} b (Ok (relation_of t.kind, ts)) (Err (misfit (Some t.at))) ≡ Ok (x, rest) → IsRelation (t ∷ ts) x rest
     first true here e = subst (λ (q : Relation × List Lexeme). IsRelation (t ∷ ts) q.0 q.1) (ok_one _ (x, rest) e) (here refl)
     first false here e = cc
 

@@ -1,5 +1,5 @@
 -- What one more bracket makes of readings that are put together of others.
-use Rattle.std.proofs.Common.{◌≡◌, ◌+◌, ℕ, zero, suc, List, [], ◌∷◌, length, Bool, true, false, cond, Result, Ok, Err, refl, sym, ap, subst}
+use Rattle.std.proofs.Common.{◌≡◌, ◌+◌, ℕ, zero, suc, List, [], ◌∷◌, length, Bool, true, false, cond, Option, Some, Result, Ok, Err, refl, sym, ap, subst}
 use Rattle.rbg_macro.specs.Token.{Lexeme}
 use Rattle.rbg_macro.specs.declared.token.Symbol.{Symbol}
 use Rattle.rbg_macro.specs.declared.token.Symbol.TheVariants.{Comma}
@@ -18,7 +18,7 @@ use Rattle.rbg_syntax.proofs.Readers.{symbol_read, name_read, number_read}
 pub bind_same : {A C : Type 0} (R : List Lexeme → C → List Lexeme → Type 0) (n : ℕ) (ts : List Lexeme) (r : Reading A) (next next' : A × List Lexeme → Reading C)
     → ((x : A) (rest : List Lexeme) → r ≡ Ok (x, rest) → Outcome R n ts (next (x, rest)) (next' (x, rest))) → ((at : ℕ) → r ≡ Err (too_deep at) → ⊥) → Outcome R n ts (r >>= next) (r >>= next')
 bind_same R n ts (Ok q) next next' more never = more q.0 q.1 refl
-bind_same R n ts (Err misfit) next next' more never = refl
+bind_same R n ts (Err (misfit place)) next next' more never = refl
 bind_same R n ts (Err (too_deep at)) next next' more never = absurd (never at refl)
 
 -- a phrase seen as another one, with another value
@@ -26,13 +26,13 @@ pub map_outcome : {A C : Type 0} (P : List Lexeme → A → List Lexeme → Type
     → ((ts : List Lexeme) (x : A) (rest : List Lexeme) → P ts x rest → R ts (f x) rest) → (ts : List Lexeme) (r r' : Reading A) → Outcome P n ts r r'
     → Outcome R n ts (r >>= λ q. Ok (f q.0, q.1)) (r' >>= λ q. Ok (f q.0, q.1))
 map_outcome P R f n see ts (Ok q) r' o = (ap (λ u. u >>= λ q. Ok (f q.0, q.1)) o.0, seen_piece P R f n see ts q.0 q.1 o.1)
-map_outcome P R f n see ts (Err misfit) r' o = ap (λ u. u >>= λ q. Ok (f q.0, q.1)) o
+map_outcome P R f n see ts (Err (misfit place)) r' o = ap (λ u. u >>= λ q. Ok (f q.0, q.1)) o
 map_outcome P R f n see ts (Err (too_deep at)) r' o = seen_deep P R f n at see ts o
 
 pub seen_outcome : {A : Type 0} (P R : List Lexeme → A → List Lexeme → Type 0) (n : ℕ)
     → ((ts : List Lexeme) (x : A) (rest : List Lexeme) → P ts x rest → R ts x rest) → (ts : List Lexeme) (r r' : Reading A) → Outcome P n ts r r' → Outcome R n ts r r'
 seen_outcome {A} P R n see ts (Ok q) r' o = (o.0, seen_piece P R (λ (x : A). x) n see ts q.0 q.1 o.1)
-seen_outcome P R n see ts (Err misfit) r' o = o
+seen_outcome P R n see ts (Err (misfit place)) r' o = o
 seen_outcome {A} P R n see ts (Err (too_deep at)) r' o = seen_deep P R (λ (x : A). x) n at see ts o
 
 -- a second reading, after a phrase
@@ -41,7 +41,7 @@ module _ {A B C : Type 0} (P : List Lexeme → A → List Lexeme → Type 0) (Q 
   pub later : (ts : List Lexeme) (x : A) (mid : List Lexeme) → Piece P n ts x mid → (r r' : Reading B) → Outcome Q n mid r r'
       → Outcome R n ts (r >>= λ q. Ok (f x q.0, q.1)) (r' >>= λ q. Ok (f x q.0, q.1))
   later ts x mid p (Ok q) r' o = (ap (λ u. u >>= λ q. Ok (f x q.0, q.1)) o.0, pieces P Q R f join n ts x mid q.0 q.1 p o.1)
-  later ts x mid p (Err misfit) r' o = ap (λ u. u >>= λ q. Ok (f x q.0, q.1)) o
+  later ts x mid p (Err (misfit place)) r' o = ap (λ u. u >>= λ q. Ok (f x q.0, q.1)) o
   later ts x mid p (Err (too_deep at)) r' o = second_deep P Q R f join n ts x mid at p o
 
   -- two readings, where the second one may be of no tokens or of those of the sample
@@ -56,13 +56,13 @@ later_alone : {A B : Type 0} (P : List Lexeme → A → List Lexeme → Type 0) 
     (join : (ts : List Lexeme) (x : A) (mid : List Lexeme) (y : B) (rest : List Lexeme) → P ts x mid → Q mid y rest → R ts y rest) (n : ℕ)
     (ts : List Lexeme) (x : A) (mid : List Lexeme) → Piece P n ts x mid → (r r' : Reading B) → Outcome Q n mid r r' → Outcome R n ts r r'
 later_alone {A} {B} P Q R join n ts x mid p (Ok q) r' o = (o.0, pieces P Q R (λ (x : A) (y : B). y) join n ts x mid q.0 q.1 p o.1)
-later_alone P Q R join n ts x mid p (Err misfit) r' o = o
+later_alone P Q R join n ts x mid p (Err (misfit place)) r' o = o
 later_alone {A} {B} P Q R join n ts x mid p (Err (too_deep at)) r' o = second_deep P Q R (λ (x : A) (y : B). y) join n ts x mid at p o
 
 -- single tokens
-never_chosen : {A : Type 0} (b : Bool) (x : A) (at : ℕ) → cond {A = Result A Fault} b (Ok x) (Err misfit) ≡ Err (too_deep at) → ⊥
-never_chosen true x at e = cc
-never_chosen false x at e = cc
+never_chosen : {A : Type 0} (b : Bool) (x : A) (place : Option ℕ) (at : ℕ) → cond {A = Result A Fault} b (Ok x) (Err (misfit place)) ≡ Err (too_deep at) → ⊥
+never_chosen true x place at e = cc
+never_chosen false x place at e = cc
 
 never_bound : {A C : Type 0} (r : Result A Fault) (f : A → C) (at : ℕ) → (r ≡ Err (too_deep at) → ⊥) → (r >>= λ x. Ok (f x)) ≡ Err (too_deep at) → ⊥
 never_bound (Ok x) f at never e = cc
@@ -70,7 +70,7 @@ never_bound (Err d) f at never e = let same : d ≡ too_deep at = cc in never (a
 
 token_never : (test : TokenKind → Bool) (ts : List Lexeme) (at : ℕ) → token_at test ts ≡ Err (too_deep at) → ⊥
 token_never test [] at e = cc
-token_never test (t ∷ ts) at e = never_chosen (test t.kind) (t, ts) at e
+token_never test (t ∷ ts) at e = never_chosen (test t.kind) (t, ts) (Some t.at) at e
 
 pub symbol_never : (s : Symbol) (ts : List Lexeme) (at : ℕ) → symbol_at s ts ≡ Err (too_deep at) → ⊥
 unfolding symbol_at
@@ -105,7 +105,7 @@ number_piece n (number {t = t} k) = record {
 alone : {A : Type 0} (P : List Lexeme → A → List Lexeme → Type 0) (n : ℕ) (ts : List Lexeme) (r : Reading A)
     → ((x : A) (rest : List Lexeme) → r ≡ Ok (x, rest) → Piece P n ts x rest) → ((at : ℕ) → r ≡ Err (too_deep at) → ⊥) → Outcome P n ts r r
 alone P n ts (Ok q) piece never = (refl, piece q.0 q.1 refl)
-alone P n ts (Err misfit) piece never = refl
+alone P n ts (Err (misfit place)) piece never = refl
 alone P n ts (Err (too_deep at)) piece never = absurd (never at refl)
 
 pub name_outcome : (n : ℕ) (ts : List Lexeme) → Outcome IsName n ts (name_at ts) (name_at ts)
@@ -184,7 +184,7 @@ module _ {A C : Type 0} (o c : Symbol) (opening : opens (kinds.Symbol o) ≡ tru
       (bind_same R (suc n) ts (symbol_at c q.1) (λ end. Ok (f at q.0, end.1)) (λ end. Ok (f at q.0, end.1))
       (λ end rest e. (refl, within_piece o c opening no_opening closing P R f join n q.0 d h.1 ((symbol_read c).sound q.1 end rest e)))
       (symbol_never c q.1))
-  inside {at = at} d (Err misfit) r' h = ap (λ u. u >>= close at) h
+  inside {at = at} d (Err (misfit place)) r' h = ap (λ u. u >>= close at) h
   inside d (Err (too_deep at)) r' h = within_deep o c opening no_opening closing P R f join n (record { kind = kinds.Symbol c; text = []; at = 0 }) refl d h
 
   pub bracket_outcome : (ts : List Lexeme) → Outcome R (suc n) ts (symbol_at o ts >>= λ at. read at.1 >>= λ x. symbol_at c x.1 >>= λ end. Ok (f at.0 x.0, end.1))

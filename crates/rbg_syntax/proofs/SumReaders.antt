@@ -12,7 +12,7 @@ use Rattle.rbg_syntax.specs.declared.expression.Multiplicative.TheVariants as mu
 use Rattle.rbg_syntax.specs.Tree.{SpeltName, SpeltNumber, SpeltExpression}
 use Rattle.rbg_syntax.specs.Phrase.{IsSymbol, symbol, IsName, name, IsNumber, number, After, after, Within, within}
 use Rattle.rbg_syntax.specs.Grammar.{IsFactor, plain, minus, IsFurtherFactor, times, over, IsTerm, term, IsFurtherTerm, plus, minus as less, IsSumOver, sum, IsNumberOrName, number as a_number, name as a_name, IsPrimary, IsSum}
-use Rattle.rbg_syntax.specs.internal.Reading.{misfit, Reading, ◌>>=◌, next_is, is_name, is_number, is_symbol, name_at, number_at, after_at, within_at}
+use Rattle.rbg_syntax.specs.internal.Reading.{misfit, Reading, ◌>>=◌, next_is, is_name, is_number, is_symbol, name_at, number_at, place_of, after_at, within_at}
 use Rattle.rbg_syntax.specs.internal.RuleReading.{too_deep_at, is_product_sign, is_sum_sign, number_or_name_at, factor_at, further_factor_at, term_at, further_term_at, sum_over_at, primary_at, sum_at}
 use Rattle.rbg_syntax.proofs.Readers.{bind_ok, ok_one, IsReadBy, Always, symbol_next, name_read, number_read, next_test-symbol}
 use Rattle.rbg_syntax.proofs.Combinators.{Begins, Stops, after_read, within_read, repeated_sound, repeated_complete, repeated_shorter, may_follow}
@@ -285,7 +285,7 @@ unfolding sum_at
 sum_read n = sums_read n
 
 -- neither a number nor a name
-pub no_number_or_name : (ts : List Lexeme) → next_is is_number ts ≡ false → next_is is_name ts ≡ false → number_or_name_at ts ≡ Err misfit
+pub no_number_or_name : (ts : List Lexeme) → next_is is_number ts ≡ false → next_is is_name ts ≡ false → number_or_name_at ts ≡ Err (misfit (place_of ts))
 unfolding number_or_name_at name_at
 no_number_or_name [] no_number no_name = refl
 no_number_or_name (t ∷ ts) no_number no_name = rw (no_number, no_name)

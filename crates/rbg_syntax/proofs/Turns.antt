@@ -1,14 +1,15 @@
 -- The turns of a reader's loop.
-use Rattle.std.proofs.Common.{◌≡◌, ◌≤◌, ◌<◌, ℕ, zero, suc, List, [], ◌∷◌, ◌++◌, length, drop, map, Bool, true, false, cond, Result, Ok, Err, refl, sym, ap, ◌∙◌, arith, append_assoc, append-nil}
+use Rattle.std.proofs.Common.{◌≡◌, ◌≤◌, ◌<◌, ℕ, zero, suc, List, [], ◌∷◌, ◌++◌, length, drop, map, Bool, true, false, cond, Option, Result, Ok, Err, refl, sym, ap, ◌∙◌, arith, append_assoc, append-nil}
 use Rattle.std.specs.Prelude.{IsErrAnd}
 use Rattle.std.proofs.lemmas.List.{map-append}
 use Rattle.rbg_macro.specs.Token.{Lexeme}
 use Rattle.rbg_macro.specs.declared.token.Symbol.{Symbol}
 use Rattle.rbg_macro.specs.declared.token.TokenKind.{TokenKind}
-use Rattle.rbg_syntax.specs.declared.error.SyntaxError.{SyntaxError}
-use Rattle.rbg_syntax.specs.declared.error.SyntaxError.TheVariants as errors
+use Rattle.rbg_syntax.specs.declared.error.Expectation.{Expectation}
+use Rattle.rbg_syntax.specs.declared.error.ReadError.{ReadError}
+use Rattle.rbg_syntax.specs.declared.error.ReadError.TheVariants as errors
 use Rattle.rbg_syntax.proofs.Readers.{bind_ok, symbol_read}
-use Rattle.rbg_syntax.specs.internal.Reading.{Fault, Fails, FailsWithin, Gives, GivesWithin, IsMisfit, Takes, TakesSome, further_at, misfit, too_deep, Reading, ◌>>=◌, next_is, is_symbol, symbol_at, repeated_within, repeated_at, after_at, separated_at}
+use Rattle.rbg_syntax.specs.internal.Reading.{Fault, Fails, FailsWithin, Gives, GivesWithin, Takes, TakesSome, further_at, misfit, too_deep, Reading, ◌>>=◌, next_is, is_symbol, symbol_at, repeated_within, repeated_at, after_at, separated_at}
 
 pub after_at-taken : {A : Type 0} (s : Symbol) (read : List Lexeme → Reading A) (ts : List Lexeme) → next_is (is_symbol s) ts ≡ true → after_at s read ts ≡ read (drop 1 ts)
 unfolding after_at symbol_at
@@ -40,7 +41,7 @@ module _ {A : Type 0} (test : TokenKind → Bool) (read : List Lexeme → Readin
   same_choice : (b : Bool) (ts : List Lexeme) (r s : Reading (List A)) → r ≡ s → cond b r (Ok ([], ts)) ≡ cond b s (Ok ([], ts))
   same_choice b ts r s e = rw e
 
-  within_enough : (m n : ℕ) (ts : List Lexeme) → length ts ≤ m → length ts ≤ n → repeated_within m test read ts ≡ repeated_within n test read ts
+  pub within_enough : (m n : ℕ) (ts : List Lexeme) → length ts ≤ m → length ts ≤ n → repeated_within m test read ts ≡ repeated_within n test read ts
   unfolding step
   within_enough zero zero ts h k = refl
   within_enough zero (suc n) [] h k = refl
@@ -77,7 +78,7 @@ repeated_ends test read xs (t ∷ ts) stops = rw (stops, append-nil)
 
 -- The turns of a loop over parts with a symbol between each two.
 module _ {A : Type 0} (read : List Lexeme → Reading A) (some : TakesSome read) (s : Symbol) where
-  after_some : TakesSome (after_at s read)
+  pub after_some : TakesSome (after_at s read)
   unfolding after_at
   after_some ts x rest e =
       let (at, here, further) = bind_ok (symbol_at s ts) (λ (at : ℕ × List Lexeme). read at.1) (x, rest) e in
@@ -121,15 +122,13 @@ module _ {A : Type 0} (read : List Lexeme → Reading A) (read_some : TakesSome 
   some_smaller ts rest x e = read_some ts x rest e
 
 -- what a failed reading means for a larger one
-pub Fails-from : {A B : Type 0} (e : SyntaxError) (r : Result A Fault) (whole : Result B Fault) → ((f : Fault) → r ≡ Err f → whole ≡ Err f) → Fails e r → Fails e whole
-Fails-from (errors.Expected at what) r whole more h = more misfit h
-Fails-from (errors.MissingSection which) r whole more h = h
-Fails-from (errors.SectionTwice which) r whole more h = h
+pub Fails-from : {A B : Type 0} (e : ReadError) (r : Result A Fault) (whole : Result B Fault) → ((f : Fault) → r ≡ Err f → whole ≡ Err f) → Fails e r → Fails e whole
+Fails-from (errors.Misfit at what) r whole more h = more (misfit at) h
 Fails-from (errors.TooDeep at) r whole more h = h
 Fails-from errors.Memory r whole more h = tt
 
 -- what the exit of a `?` on an error of this crate returns
-pub Gives-from_err : {A B C : Type 0} (view : A → B) (r : Result A SyntaxError) (e : SyntaxError) (part : Result C Fault) (whole : Result B Fault)
+pub Gives-from_err : {A B C : Type 0} (view : A → B) (r : Result A ReadError) (e : ReadError) (part : Result C Fault) (whole : Result B Fault)
     → IsErrAnd r (λ d. d ≡ e) → ((f : Fault) → part ≡ Err f → whole ≡ Err f) → Fails e part → Gives view r whole
 Gives-from_err view (Ok x) e part whole is more h = absurd is
 Gives-from_err view (Err d) e part whole is more h = rw is (Fails-from e part whole more h)
@@ -145,38 +144,30 @@ pub left : {s : Symbol} {flag : Bool} {old new : List Lexeme} → Takes s flag o
 left {s} {flag} {old} {new} h e = (h.found ∙ e, h.rest ∙ ap (λ b. cond b (drop 1 old) old) e)
 
 -- The same, where brackets may be nested too deep.
-pub FailsWithin-from : {A B : Type 0} (e : SyntaxError) (r : Result A Fault) (whole : Result B Fault) → ((f : Fault) → r ≡ Err f → whole ≡ Err f) → FailsWithin e r → FailsWithin e whole
-FailsWithin-from (errors.Expected at what) r whole more h = more misfit h
-FailsWithin-from (errors.MissingSection which) r whole more h = h
-FailsWithin-from (errors.SectionTwice which) r whole more h = h
+pub FailsWithin-from : {A B : Type 0} (e : ReadError) (r : Result A Fault) (whole : Result B Fault) → ((f : Fault) → r ≡ Err f → whole ≡ Err f) → FailsWithin e r → FailsWithin e whole
+FailsWithin-from (errors.Misfit at what) r whole more h = more (misfit at) h
 FailsWithin-from (errors.TooDeep at) r whole more h = more (too_deep at) h
 FailsWithin-from errors.Memory r whole more h = tt
 
-pub GivesWithin-from_err : {A B C : Type 0} (view : A → B) (r : Result A SyntaxError) (e : SyntaxError) (part : Result C Fault) (whole : Result B Fault)
+pub GivesWithin-from_err : {A B C : Type 0} (view : A → B) (r : Result A ReadError) (e : ReadError) (part : Result C Fault) (whole : Result B Fault)
     → IsErrAnd r (λ d. d ≡ e) → ((f : Fault) → part ≡ Err f → whole ≡ Err f) → FailsWithin e part → GivesWithin view r whole
 GivesWithin-from_err view (Ok x) e part whole is more h = absurd is
 GivesWithin-from_err view (Err d) e part whole is more h = rw is (FailsWithin-from e part whole more h)
 
 -- an error that no brackets cause
-pub FailsWithin-shallow : {A : Type 0} (e : SyntaxError) (r : Result A Fault) → Fails e r → FailsWithin e r
-FailsWithin-shallow (errors.Expected at what) r h = h
-FailsWithin-shallow (errors.MissingSection which) r h = h
-FailsWithin-shallow (errors.SectionTwice which) r h = h
+pub FailsWithin-shallow : {A : Type 0} (e : ReadError) (r : Result A Fault) → Fails e r → FailsWithin e r
+FailsWithin-shallow (errors.Misfit at what) r h = h
 FailsWithin-shallow (errors.TooDeep at) r h = absurd h
 FailsWithin-shallow errors.Memory r h = tt
 
-pub FailsWithin-misfit : {A : Type 0} (e : SyntaxError) (r : Result A Fault) → IsMisfit e → r ≡ Err misfit → FailsWithin e r
-FailsWithin-misfit (errors.Expected at what) r h is = is
-FailsWithin-misfit (errors.MissingSection which) r h is = absurd h
-FailsWithin-misfit (errors.SectionTwice which) r h is = absurd h
-FailsWithin-misfit (errors.TooDeep at) r h is = absurd h
-FailsWithin-misfit errors.Memory r h is = absurd h
+pub FailsWithin-misfit : {A : Type 0} (e : ReadError) (at : Option ℕ) (what : Expectation) (r : Result A Fault) → e ≡ errors.Misfit at what → r ≡ Err (misfit at) → FailsWithin e r
+FailsWithin-misfit e at what r same is = rw same is
 
 -- the further parts, after a first one
 pub further_begins : {A : Type 0} (first : A) (read : List Lexeme → Reading A) (test : TokenKind → Bool) (ts : List Lexeme) → further_at first test read ts ≡ prepend (first ∷ []) (repeated_at test read ts)
 unfolding further_at
 further_begins first read test ts = refl
 
-pub GivesWithin-shallow : {A B : Type 0} (view : A → B) (r : Result A SyntaxError) (read : Result B Fault) → Gives view r read → GivesWithin view r read
+pub GivesWithin-shallow : {A B : Type 0} (view : A → B) (r : Result A ReadError) (read : Result B Fault) → Gives view r read → GivesWithin view r read
 GivesWithin-shallow view (Ok x) read h = h
 GivesWithin-shallow view (Err e) read h = FailsWithin-shallow e read h

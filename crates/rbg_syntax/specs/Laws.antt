@@ -2,7 +2,8 @@
 use Rattle.std.specs.Prelude.{◌≡◌, ℕ, List}
 use Rattle.rbg_macro.specs.Token.{Lexeme, SectionTokens}
 use Rattle.rbg_syntax.specs.Formed.{IsWhole}
-use Rattle.rbg_syntax.specs.Spells.{Spells, HasFault, IsTooDeep}
+use Rattle.rbg_macro.specs.declared.source.SectionKind.{SectionKind}
+use Rattle.rbg_syntax.specs.Spells.{Spells, StopsAt, HasFault, IsTooDeep}
 use Rattle.rbg_syntax.specs.declared.error.SyntaxError.{SyntaxError}
 use Rattle.rbg_syntax.specs.declared.error.SyntaxError.TheVariants as errors
 use Rattle.rbg_syntax.specs.Tree.{SpeltDescription}
@@ -22,6 +23,12 @@ abbrev pub FaultLaw : Type 0
 FaultLaw =
     (sections : List SectionTokens) (d : SpeltDescription) (e : SyntaxError)
     → Spells sections d → HasFault sections e → e ≡ errors.Memory
+
+-- The tokens of a section stop fitting at most at one place.
+abbrev pub OnePlaceLaw : Type 0
+OnePlaceLaw =
+    (kind : SectionKind) (section : SectionTokens) (a b : ℕ)
+    → StopsAt kind section a → StopsAt kind section b → a ≡ b
 
 -- At most one bracket of a list of tokens is too deep.
 abbrev pub OneTooDeepLaw : Type 0

@@ -53,12 +53,37 @@ IsSpelt Variables ts = (vs : List SpeltBounded) × AreVariables ts vs []
 IsSpelt Board ts = (b : SpeltBoard) × IsBoard ts b []
 IsSpelt Rules ts = (brackets : ℕ) × ((r : SpeltRule) × AreRules brackets ts r [])
 
--- Some section's tokens spell nothing of its kind, at any depth of brackets.
-pub record IsMisspelt (sections : List SectionTokens) : Type 0 where
+-- with some tokens behind them, or none, the tokens spell something of this kind
+abbrev pub CanGoOn : SectionKind → List Lexeme → Type 0
+CanGoOn kind ts = (more : List Lexeme) × IsSpelt kind (ts ++ more)
+
+-- The token at this place is the first that doesn't fit: the tokens before it can go on, and with it they can't.
+pub record IsMisfit (kind : SectionKind) (ts : List Lexeme) (at : ℕ) : Type 0 where
+  pub before : List Lexeme
+  pub token : Lexeme
+  pub behind : List Lexeme
+  pub whole : ts ≡ before ++ token ∷ behind
+  pub place : token.at ≡ at
+  pub fits : CanGoOn kind before
+  pub refused : CanGoOn kind (before ++ token ∷ []) → ⊥
+
+-- All tokens of the section fit, but more are needed behind them. The place is that of the section's `#`.
+pub record EndsEarly (kind : SectionKind) (section : SectionTokens) (at : ℕ) : Type 0 where
+  pub place : section.at ≡ at
+  pub fits : CanGoOn kind section.tokens
+
+-- the place where the tokens of the section stop fitting
+abbrev pub StopsAt : SectionKind → SectionTokens → ℕ → Type 0
+StopsAt kind section at = IsMisfit kind section.tokens at ⊎ EndsEarly kind section at
+
+-- Some section's tokens spell nothing of its kind, at any depth of brackets, and this is the place where they stop
+-- fitting.
+pub record IsMisspelt (sections : List SectionTokens) (at : ℕ) : Type 0 where
   pub kind : SectionKind
   pub ts : List Lexeme
   pub has : HasSection sections kind ts
   pub spells_nothing : IsSpelt kind ts → ⊥
+  pub place : StopsAt kind has.section at
 
 abbrev pub opens : TokenKind → Bool
 opens kinds.Name = false
@@ -107,7 +132,7 @@ pub record OpensTooDeep (sections : List SectionTokens) (at : ℕ) : Type 0 wher
 
 -- The fault that an error names stands. Running out of memory is no fault of the sections.
 abbrev pub HasFault : List SectionTokens → SyntaxError → Type 0
-HasFault sections (errors.Expected at what) = IsMisspelt sections
+HasFault sections (errors.Expected at what) = IsMisspelt sections at
 HasFault sections (errors.MissingSection which) = (sections_of which sections ≡ []) × (which ≢ Variables)
 HasFault sections (errors.SectionTwice which) = IsFirstTwice sections which
 HasFault sections (errors.TooDeep at) = OpensTooDeep sections at

@@ -7,7 +7,7 @@ ghost use Rattle.rbg_syntax.specs.internal.Reading.{GivesWithin, FailsWithin, fu
 ghost use Rattle.rbg_syntax.specs.internal.RuleReading.{factor_at, further_factor_at, further_term_at, in_product, in_sum, is_product_sign, is_sum_sign, number_or_name_at, primary_at, sum_at, term_at};
 ghost use Rattle.rbg_syntax.specs.Views.{expression_of, factor_of, term_of};
 
-use crate::error::{Expectation, SyntaxError};
+use crate::error::{Expectation, ReadError};
 use crate::expression::{Additive, Expression, Factor, Multiplicative, Term};
 use crate::parser::Parser;
 use rbg_macro::{Symbol, TokenKind};
@@ -16,7 +16,7 @@ use std::alloc::Global;
 impl Parser<'_> {
     /// A sum.
     #[cycle(sum)]
-    pub(crate) fn sum(&mut self, alloc: Global, brackets: u8) -> Result<Expression, SyntaxError>
+    pub(crate) fn sum(&mut self, alloc: Global, brackets: u8) -> Result<Expression, ReadError>
         ensures { GivesWithin (λ e. (expression_of e, self.new)) result (sum_at brackets self.old) }
     {
         let first = self.term(alloc, brackets)?;
@@ -34,7 +34,7 @@ impl Parser<'_> {
         alloc: Global,
         first: Expression,
         brackets: u8,
-    ) -> Result<Vec<Term>, SyntaxError>
+    ) -> Result<Vec<Term>, ReadError>
         ensures { GivesWithin (λ v. (map term_of v.items, self.new)) result
             (further_at (additive.Plus, expression_of first) is_sum_sign (further_term_at (primary_at brackets)) self.old) }
     {
@@ -52,7 +52,7 @@ impl Parser<'_> {
     /// A sign, and the term after it.
     #[cycle(sum)]
     #[tactic(auto, unfolding(crate::specs::internal::RuleReading::further_term_at, crate::specs::internal::Reading::after_at))]
-    fn further_term(&mut self, alloc: Global, brackets: u8) -> Result<Term, SyntaxError>
+    fn further_term(&mut self, alloc: Global, brackets: u8) -> Result<Term, ReadError>
         ensures { GivesWithin (λ t. (term_of t, self.new)) result (further_term_at (primary_at brackets) self.old) }
     {
         if self.next_is(Symbol::Plus) {
@@ -69,7 +69,7 @@ impl Parser<'_> {
 
     /// A term.
     #[cycle(sum)]
-    fn term(&mut self, alloc: Global, brackets: u8) -> Result<Expression, SyntaxError>
+    fn term(&mut self, alloc: Global, brackets: u8) -> Result<Expression, ReadError>
         ensures { GivesWithin (λ e. (expression_of e, self.new)) result (term_at (primary_at brackets) self.old) }
     {
         let first = self.factor(alloc, brackets)?;
@@ -87,7 +87,7 @@ impl Parser<'_> {
         alloc: Global,
         first: Expression,
         brackets: u8,
-    ) -> Result<Vec<Factor>, SyntaxError>
+    ) -> Result<Vec<Factor>, ReadError>
         ensures { GivesWithin (λ v. (map factor_of v.items, self.new)) result
             (further_at (multiplicative.Times, expression_of first) is_product_sign
             (further_factor_at (primary_at brackets)) self.old) }
@@ -106,7 +106,7 @@ impl Parser<'_> {
     /// An operator, and the factor after it.
     #[cycle(sum)]
     #[tactic(auto, unfolding(crate::specs::internal::RuleReading::further_factor_at, crate::specs::internal::Reading::after_at))]
-    fn further_factor(&mut self, alloc: Global, brackets: u8) -> Result<Factor, SyntaxError>
+    fn further_factor(&mut self, alloc: Global, brackets: u8) -> Result<Factor, ReadError>
         ensures { GivesWithin (λ f. (factor_of f, self.new)) result (further_factor_at (primary_at brackets) self.old) }
     {
         if self.next_is(Symbol::Star) {
@@ -124,7 +124,7 @@ impl Parser<'_> {
     /// A factor.
     #[cycle(sum)]
     #[tactic(auto, using(crate::proofs::Trees::leaves), unfolding(crate::specs::internal::RuleReading::factor_at, crate::specs::internal::Reading::after_at))]
-    fn factor(&mut self, alloc: Global, brackets: u8) -> Result<Expression, SyntaxError>
+    fn factor(&mut self, alloc: Global, brackets: u8) -> Result<Expression, ReadError>
         ensures { GivesWithin (λ e. (expression_of e, self.new)) result (factor_at (primary_at brackets) self.old) }
     {
         if !self.next_is(Symbol::Minus) {
@@ -138,7 +138,7 @@ impl Parser<'_> {
     /// A number, a name, or a sum in parentheses.
     #[cycle(sum)]
     #[tactic(auto, unfolding(crate::specs::internal::Reading::within_at))]
-    fn primary(&mut self, alloc: Global, brackets: u8) -> Result<Expression, SyntaxError>
+    fn primary(&mut self, alloc: Global, brackets: u8) -> Result<Expression, ReadError>
         ensures { GivesWithin (λ e. (expression_of e, self.new)) result (primary_at brackets self.old) }
     {
         if !self.next_is(Symbol::OpenParenthesis) {
@@ -155,7 +155,7 @@ impl Parser<'_> {
 
     /// A number or a name.
     #[tactic(auto, using(crate::proofs::Trees::leaves), unfolding(crate::specs::internal::RuleReading::number_or_name_at))]
-    fn number_or_name(&mut self, alloc: Global) -> Result<Expression, SyntaxError>
+    fn number_or_name(&mut self, alloc: Global) -> Result<Expression, ReadError>
         ensures { GivesWithin (λ e. (expression_of e, self.new)) result (number_or_name_at self.old) }
     {
         if self.next_is_number() {

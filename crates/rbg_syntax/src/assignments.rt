@@ -7,7 +7,7 @@ ghost use Rattle.rbg_syntax.specs.internal.Reading.{Gives, GivesWithin, after_at
 ghost use Rattle.rbg_syntax.specs.internal.RuleReading.{IsRelationOf, assignment_at, comparison_at, in_brackets_at, relation_at, sum_at};
 ghost use Rattle.rbg_syntax.specs.Views.{rule_of};
 
-use crate::error::{Expectation, SyntaxError};
+use crate::error::{Expectation, ReadError};
 use crate::parser::Parser;
 use crate::rule::{Action, Rule};
 use crate::sequences::in_sequence;
@@ -18,7 +18,7 @@ use std::alloc::Global;
 impl Parser<'_> {
     /// A comparison.
     #[tactic(auto, using(crate::proofs::Trees::inner_atoms), unfolding(crate::specs::internal::RuleReading::comparison_at, crate::specs::internal::Reading::after_at, crate::specs::internal::Reading::within_at))]
-    pub(crate) fn comparison(&mut self, alloc: Global, brackets: u8) -> Result<Rule, SyntaxError>
+    pub(crate) fn comparison(&mut self, alloc: Global, brackets: u8) -> Result<Rule, ReadError>
         ensures { GivesWithin (λ r. (rule_of r, self.new)) result
             (within_at symbols.OpenBrace symbols.CloseBrace (after_at symbols.Dollar (comparison_at (sum_at brackets)))
             self.old) }
@@ -37,7 +37,7 @@ impl Parser<'_> {
     }
 
     #[tactic(auto, unfolding(crate::specs::internal::RuleReading::relation_at))]
-    fn relation(&mut self) -> Result<Relation, SyntaxError>
+    fn relation(&mut self) -> Result<Relation, ReadError>
         ensures { Gives (λ r. (r, self.new)) result (relation_at self.old) }
     {
         let token = self.front(Expectation::Relation)?;
@@ -52,7 +52,7 @@ impl Parser<'_> {
 
     /// An off, or an assignment list: the sequence of its assignments.
     #[tactic(auto, unfolding(crate::specs::internal::RuleReading::in_brackets_at, crate::specs::internal::RuleReading::assignments_at, crate::specs::internal::Reading::within_at, crate::specs::internal::Reading::after_at))]
-    pub(crate) fn in_brackets(&mut self, alloc: Global, brackets: u8) -> Result<Rule, SyntaxError>
+    pub(crate) fn in_brackets(&mut self, alloc: Global, brackets: u8) -> Result<Rule, ReadError>
         ensures { GivesWithin (λ r. (rule_of r, self.new)) result (in_brackets_at (sum_at brackets) self.old) }
     {
         if !self.second_is(Symbol::Dollar) {
@@ -65,7 +65,7 @@ impl Parser<'_> {
         Ok(in_sequence(parts))
     }
 
-    fn assignments(&mut self, alloc: Global, brackets: u8) -> Result<Vec<Rule>, SyntaxError>
+    fn assignments(&mut self, alloc: Global, brackets: u8) -> Result<Vec<Rule>, ReadError>
         ensures { GivesWithin (λ v. (map rule_of v.items, self.new)) result
             (separated_at symbols.Comma (assignment_at (sum_at brackets)) self.old) }
     {
@@ -79,7 +79,7 @@ impl Parser<'_> {
 
     /// An assignment.
     #[tactic(auto, using(crate::proofs::Trees::inner_atoms), unfolding(crate::specs::internal::RuleReading::assignment_at, crate::specs::internal::Reading::after_at))]
-    fn assignment(&mut self, alloc: Global, brackets: u8) -> Result<Rule, SyntaxError>
+    fn assignment(&mut self, alloc: Global, brackets: u8) -> Result<Rule, ReadError>
         ensures { GivesWithin (λ r. (rule_of r, self.new)) result (assignment_at (sum_at brackets) self.old) }
     {
         let variable = self.name(alloc)?;

@@ -2,7 +2,7 @@
 ghost use Rattle.rbg_syntax.specs.internal.Reading.{Gives, off_at, on_at, open_atom_at};
 ghost use Rattle.rbg_syntax.specs.Views.{rule_of};
 
-use crate::error::{Expectation, SyntaxError};
+use crate::error::{Expectation, ReadError};
 use crate::parser::Parser;
 use crate::rule::{Action, Rule};
 use rbg_macro::Symbol;
@@ -11,7 +11,7 @@ use std::alloc::Global;
 impl Parser<'_> {
     /// A shift or a switch.
     #[tactic(auto, using(crate::proofs::Trees::atoms), unfolding(crate::specs::internal::Reading::open_atom_at))]
-    pub(crate) fn open_atom(&mut self, alloc: Global) -> Result<Rule, SyntaxError>
+    pub(crate) fn open_atom(&mut self, alloc: Global) -> Result<Rule, ReadError>
         ensures { Gives (λ r. (rule_of r, self.new)) result (open_atom_at self.old) }
     {
         if self.next_is_name() {
@@ -29,7 +29,7 @@ impl Parser<'_> {
 
     /// An on.
     #[tactic(auto, using(crate::proofs::Trees::atoms, crate::proofs::PhraseLaws::name_takes_some), unfolding(crate::specs::internal::Reading::on_at, crate::specs::internal::Reading::within_at))]
-    pub(crate) fn on(&mut self, alloc: Global) -> Result<Rule, SyntaxError>
+    pub(crate) fn on(&mut self, alloc: Global) -> Result<Rule, ReadError>
         ensures { Gives (λ r. (rule_of r, self.new)) result (on_at self.old) }
     {
         self.symbol(Symbol::OpenBrace, Expectation::Opening)?;
@@ -45,7 +45,7 @@ impl Parser<'_> {
 
     /// An off.
     #[tactic(auto, using(crate::proofs::Trees::atoms), unfolding(crate::specs::internal::Reading::off_at, crate::specs::internal::Reading::within_at))]
-    pub(crate) fn off(&mut self, alloc: Global) -> Result<Rule, SyntaxError>
+    pub(crate) fn off(&mut self, alloc: Global) -> Result<Rule, ReadError>
         ensures { Gives (λ r. (rule_of r, self.new)) result (off_at self.old) }
     {
         self.symbol(Symbol::OpenBracket, Expectation::Opening)?;

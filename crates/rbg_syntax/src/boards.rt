@@ -4,7 +4,7 @@ ghost use Rattle.rbg_syntax.specs.internal.Reading.{Gives, board_at, direction_a
 ghost use Rattle.rbg_syntax.specs.Views.{board_of, name_of};
 
 use crate::description::Board;
-use crate::error::{Expectation, SyntaxError};
+use crate::error::{Expectation, ReadError};
 use crate::names::Name;
 use crate::parser::Parser;
 use rbg_macro::Symbol;
@@ -13,7 +13,7 @@ use std::alloc::Global;
 impl Parser<'_> {
     /// A board, by the name of its generator.
     #[tactic(auto, unfolding(crate::specs::internal::Reading::board_at))]
-    pub(crate) fn board(&mut self, alloc: Global) -> Result<Board, SyntaxError>
+    pub(crate) fn board(&mut self, alloc: Global) -> Result<Board, ReadError>
         ensures { Gives (λ b. (board_of b, self.new)) result (board_at self.old) }
     {
         if self.next_is_word(b"rectangle") {
@@ -26,7 +26,7 @@ impl Parser<'_> {
     }
 
     #[tactic(auto, unfolding(crate::specs::internal::Reading::generated_at, crate::specs::internal::Reading::within_at))]
-    fn rectangle_board(&mut self, alloc: Global) -> Result<Board, SyntaxError>
+    fn rectangle_board(&mut self, alloc: Global) -> Result<Board, ReadError>
         ensures { Gives (λ b. (board_of b, self.new)) result (generated_at (codes "rectangle") rectangle_at self.old) }
     {
         self.word(b"rectangle", Expectation::Generator)?;
@@ -37,7 +37,7 @@ impl Parser<'_> {
     }
 
     #[tactic(auto, unfolding(crate::specs::internal::Reading::generated_at, crate::specs::internal::Reading::within_at))]
-    fn hexagon_board(&mut self, alloc: Global) -> Result<Board, SyntaxError>
+    fn hexagon_board(&mut self, alloc: Global) -> Result<Board, ReadError>
         ensures { Gives (λ b. (board_of b, self.new)) result (generated_at (codes "hexagon") hexagon_at self.old) }
     {
         self.word(b"hexagon", Expectation::Generator)?;
@@ -48,7 +48,7 @@ impl Parser<'_> {
     }
 
     #[tactic(auto, unfolding(crate::specs::internal::Reading::generated_at, crate::specs::internal::Reading::within_at))]
-    fn graph_board(&mut self, alloc: Global) -> Result<Board, SyntaxError>
+    fn graph_board(&mut self, alloc: Global) -> Result<Board, ReadError>
         ensures { Gives (λ b. (board_of b, self.new)) result (generated_at (codes "graph") graph_at self.old) }
     {
         self.word(b"graph", Expectation::Generator)?;
@@ -59,7 +59,7 @@ impl Parser<'_> {
     }
 
     #[tactic(auto, using(crate::proofs::PhraseLaws::row_takes_some), unfolding(crate::specs::internal::Reading::rectangle_at, crate::specs::internal::Reading::rows_at))]
-    fn rectangle(&mut self, alloc: Global) -> Result<Board, SyntaxError>
+    fn rectangle(&mut self, alloc: Global) -> Result<Board, ReadError>
         ensures { Gives (λ b. (board_of b, self.new)) result (rectangle_at self.old) }
     {
         let up = self.direction(alloc)?;
@@ -74,7 +74,7 @@ impl Parser<'_> {
     }
 
     #[tactic(auto, using(crate::proofs::PhraseLaws::row_takes_some), unfolding(crate::specs::internal::Reading::hexagon_at, crate::specs::internal::Reading::rows_at))]
-    fn hexagon(&mut self, alloc: Global) -> Result<Board, SyntaxError>
+    fn hexagon(&mut self, alloc: Global) -> Result<Board, ReadError>
         ensures { Gives (λ b. (board_of b, self.new)) result (hexagon_at self.old) }
     {
         let north_west = self.direction(alloc)?;
@@ -91,7 +91,7 @@ impl Parser<'_> {
     }
 
     #[tactic(auto, using(crate::proofs::PhraseLaws::vertex_takes_some), unfolding(crate::specs::internal::Reading::graph_at))]
-    fn graph(&mut self, alloc: Global) -> Result<Board, SyntaxError>
+    fn graph(&mut self, alloc: Global) -> Result<Board, ReadError>
         ensures { Gives (λ b. (board_of b, self.new)) result (graph_at self.old) }
     {
         let vertices = self.repeated(alloc)?;
@@ -100,7 +100,7 @@ impl Parser<'_> {
 
     /// The name of a direction, with its comma.
     #[tactic(auto, unfolding(crate::specs::internal::Reading::direction_at, crate::specs::internal::Reading::with_comma_at))]
-    fn direction(&mut self, alloc: Global) -> Result<Name, SyntaxError>
+    fn direction(&mut self, alloc: Global) -> Result<Name, ReadError>
         ensures { Gives (λ n. (name_of n, self.new)) result (direction_at self.old) }
     {
         let name = self.name(alloc)?;

@@ -1,5 +1,6 @@
 //! Why sections spell no description.
-ghost use Rattle.rbg_syntax.specs.declared.error.SyntaxError.TheVariants as errors;
+ghost use Rattle.rbg_syntax.specs.declared.error.ReadError.TheVariants as errors;
+ghost use Rattle.rbg_syntax.specs.internal.Reading.{error_in};
 ghost use Rattle.std.specs.Prelude.{◌≡◌};
 
 use rbg_base::Memory;
@@ -11,7 +12,7 @@ use thiserror::Error;
 /// Why sections spell no description.
 #[derive(Clone, Copy, Debug, PartialEq, Eq, Error)]
 pub enum SyntaxError {
-    /// The token at this offset doesn't fit, or the section whose `#` is at this offset ends too early.
+    /// The token at this offset is the first that doesn't fit, or the section whose `#` is here ends too early.
     #[error("expected {what} at byte {at}")]
     Expected { at: usize, what: Expectation },
     #[error("the section {which:?} is missing")]
@@ -70,18 +71,49 @@ impl fmt::Display for Expectation {
     }
 }
 
-impl From<Memory> for SyntaxError {
-    ghost from_gives = { λ _ e. e ≡ errors.Memory };
+/// Why a reader stops. `parse` makes a `SyntaxError` of it.
+#[derive(Clone, Copy)]
+pub(crate) enum ReadError {
+    /// The token at this offset doesn't fit. With no offset, the section's tokens end where more are needed.
+    Misfit {
+        at: Option<usize>,
+        what: Expectation,
+    },
+    /// The opening bracket at this offset is one too many.
+    TooDeep {
+        at: usize,
+    },
+    Memory,
+}
 
-    fn from(_error: Memory) -> SyntaxError {
-        SyntaxError::Memory
+impl ReadError {
+    /// The error in a section whose `#` is at this offset.
+    pub(crate) fn in_section(self, start: usize) -> SyntaxError
+        ensures { result ≡ error_in start self }
+    {
+        match self {
+            ReadError::Misfit { at, what } => SyntaxError::Expected {
+                at: at.unwrap_or(start),
+                what,
+            },
+            ReadError::TooDeep { at } => SyntaxError::TooDeep { at },
+            ReadError::Memory => SyntaxError::Memory,
+        }
     }
 }
 
-impl<T: Drop> From<AllocFailed<T>> for SyntaxError {
+impl From<Memory> for ReadError {
     ghost from_gives = { λ _ e. e ≡ errors.Memory };
 
-    fn from(_error: AllocFailed<T>) -> SyntaxError {
-        SyntaxError::Memory
+    fn from(_error: Memory) -> ReadError {
+        ReadError::Memory
+    }
+}
+
+impl<T: Drop> From<AllocFailed<T>> for ReadError {
+    ghost from_gives = { λ _ e. e ≡ errors.Memory };
+
+    fn from(_error: AllocFailed<T>) -> ReadError {
+        ReadError::Memory
     }
 }

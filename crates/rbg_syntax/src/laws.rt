@@ -1,5 +1,5 @@
 //! Laws of what sections spell. Each function's contract is a law over the definitions; its body does nothing.
-ghost use Rattle.rbg_syntax.specs.Laws.{FaultLaw, OneDescriptionLaw, OneTooDeepLaw, WholeLaw};
+ghost use Rattle.rbg_syntax.specs.Laws.{FaultLaw, OneDescriptionLaw, OnePlaceLaw, OneTooDeepLaw, WholeLaw};
 
 /// Sections spell at most one description.
 pub fn sections_spell_one_description()
@@ -15,6 +15,12 @@ pub fn spelt_descriptions_are_whole()
 /// spell no description.
 pub fn a_fault_spells_no_description()
     ensures { FaultLaw }
+{}
+
+/// The tokens of a section stop fitting at most at one place: the first token that doesn't fit, or, where all of them
+/// fit, the section's `#`.
+pub fn sections_stop_fitting_at_one_place()
+    ensures { OnePlaceLaw }
 {}
 
 /// At most one bracket of the rules is too deep.

@@ -6,7 +6,7 @@ ghost use Rattle.rbg_macro.specs.declared.token.Symbol.TheVariants.{OpenBracket}
 ghost use Rattle.std.specs.Prelude.{List};
 
 use crate::description::{Bounded, Edge, Vertex};
-use crate::error::{Expectation, SyntaxError};
+use crate::error::{Expectation, ReadError};
 use crate::names::Name;
 use crate::parser::Parser;
 use crate::phrase::Phrase;
@@ -22,7 +22,7 @@ impl Phrase for Name {
 
     ghost begins = { is_name };
 
-    fn read_from(parser: &mut Parser<'_>, alloc: Global) -> Result<Name, SyntaxError> {
+    fn read_from(parser: &mut Parser<'_>, alloc: Global) -> Result<Name, ReadError> {
         parser.name(alloc)
     }
 
@@ -42,7 +42,7 @@ impl Phrase for Bounded {
 
     /// A player or a variable with its bound.
     #[tactic(auto, unfolding(crate::specs::internal::Reading::bounded_at, crate::specs::internal::Reading::within_at))]
-    fn read_from(parser: &mut Parser<'_>, alloc: Global) -> Result<Bounded, SyntaxError> {
+    fn read_from(parser: &mut Parser<'_>, alloc: Global) -> Result<Bounded, ReadError> {
         let name = parser.name(alloc)?;
         parser.symbol(Symbol::OpenParenthesis, Expectation::Opening)?;
         let bound = parser.number()?;
@@ -66,7 +66,7 @@ impl Phrase for Vec<Name> {
     ghost begins = { is_symbol OpenBracket };
 
     #[tactic(auto, using(crate::proofs::PhraseLaws::name_takes_some), unfolding(crate::specs::internal::Reading::row_at, crate::specs::internal::Reading::within_at))]
-    fn read_from(parser: &mut Parser<'_>, alloc: Global) -> Result<Vec<Name>, SyntaxError> {
+    fn read_from(parser: &mut Parser<'_>, alloc: Global) -> Result<Vec<Name>, ReadError> {
         parser.symbol(Symbol::OpenBracket, Expectation::Opening)?;
         let names = parser.listed(alloc)?;
         parser.symbol(Symbol::CloseBracket, Expectation::Closing)?;
@@ -89,7 +89,7 @@ impl Phrase for Edge {
 
     /// An edge to a vertex.
     #[tactic(auto, unfolding(crate::specs::internal::Reading::edge_at, crate::specs::internal::Reading::after_at))]
-    fn read_from(parser: &mut Parser<'_>, alloc: Global) -> Result<Edge, SyntaxError> {
+    fn read_from(parser: &mut Parser<'_>, alloc: Global) -> Result<Edge, ReadError> {
         let direction = parser.name(alloc)?;
         parser.symbol(Symbol::Colon, Expectation::Colon)?;
         let target = parser.name(alloc)?;
@@ -112,7 +112,7 @@ impl Phrase for Vertex {
 
     /// A vertex of a graph.
     #[tactic(auto, using(crate::proofs::PhraseLaws::edge_takes_some), unfolding(crate::specs::internal::Reading::vertex_at, crate::specs::internal::Reading::within_at))]
-    fn read_from(parser: &mut Parser<'_>, alloc: Global) -> Result<Vertex, SyntaxError> {
+    fn read_from(parser: &mut Parser<'_>, alloc: Global) -> Result<Vertex, ReadError> {
         let name = parser.name(alloc)?;
         parser.symbol(Symbol::OpenBracket, Expectation::Opening)?;
         let piece = parser.name(alloc)?;

@@ -2,11 +2,12 @@
 ghost use Rattle.std.specs.Prelude.{◌≡◌, [], ◌∷◌, drop, List, IfErr, IfOk, IfSome, IsTrue, MatchOption};
 ghost use Rattle.rbg_base.specs.Names.{is_name as is_a_name};
 ghost use Rattle.rbg_macro.specs.Token.{Lexeme, lexeme_of};
-ghost use Rattle.rbg_syntax.specs.internal.Reading.{FailsWithin, Gives, IsMisfit, Takes, ended_at, front_at, next_is, next_word, is_name, is_number, is_symbol, name_at, number_at, symbol_at, word_at};
+ghost use Rattle.rbg_syntax.specs.internal.Reading.{FailsWithin, Gives, Takes, ended_at, front_at, next_is, next_word, is_name, is_number, is_symbol, name_at, number_at, place_of, symbol_at, word_at};
+ghost use Rattle.rbg_syntax.specs.declared.error.ReadError.TheVariants as errors;
 ghost use Rattle.rbg_syntax.specs.internal.RuleReading.{too_deep_at};
 ghost use Rattle.rbg_syntax.specs.Views.{name_of, number_of};
 
-use crate::error::{Expectation, SyntaxError};
+use crate::error::{Expectation, ReadError};
 use crate::names::{Name, Number};
 use rbg_base::number_of_digits;
 use rbg_macro::{Section, Symbol, Token, TokenKind};
@@ -141,58 +142,63 @@ impl<'a> Parser<'a> {
     }
 
     /// The next token, or an error if there is none.
-    pub(crate) fn front(&self, what: Expectation) -> Result<Token<'a>, SyntaxError>
+    pub(crate) fn front(&self, what: Expectation) -> Result<Token<'a>, ReadError>
         ensures front { Gives (λ t. (lexeme_of t, drop 1 self.now)) result (front_at self.now) }
         ensures name { IfOk result (λ t. t.kind ≡ TokenKind.Name → IsTrue (is_a_name t.text.now)) }
     {
         match self.peek() {
             Some(token) => Ok(token),
-            None => Err(SyntaxError::Expected {
-                at: self.section.at(),
-                what,
-            }),
+            None => Err(ReadError::Misfit { at: None, what }),
         }
     }
 
     /// The error that the next token doesn't fit.
-    pub(crate) fn misfit(&self, what: Expectation) -> SyntaxError
-        ensures { IsMisfit result }
+    pub(crate) fn misfit(&self, what: Expectation) -> ReadError
+        ensures { result ≡ errors.Misfit (place_of self.now) what }
     {
-        let at = match self.peek() {
-            Some(token) => token.at,
-            None => self.section.at(),
-        };
-        SyntaxError::Expected { at, what }
+        match self.peek() {
+            Some(token) => ReadError::Misfit {
+                at: Some(token.at),
+                what,
+            },
+            None => ReadError::Misfit { at: None, what },
+        }
     }
 
     /// The error that the next token is one bracket too many.
-    pub(crate) fn too_deep(&self) -> SyntaxError
+    pub(crate) fn too_deep(&self) -> ReadError
         ensures { FailsWithin {B = Unit {0} × List Lexeme} result (too_deep_at self.now) }
     {
         match self.peek() {
-            Some(token) => SyntaxError::TooDeep { at: token.at },
+            Some(token) => ReadError::TooDeep { at: token.at },
             None => self.misfit(Expectation::Item),
         }
     }
 
     /// Returns an error if a token is left.
-    pub(crate) fn end(&self, what: Expectation) -> Result<(), SyntaxError>
+    pub(crate) fn end(&self, what: Expectation) -> Result<(), ReadError>
         ensures { Gives (λ x. x) result (ended_at tt self.now) }
     {
         match self.peek() {
-            Some(token) => Err(SyntaxError::Expected { at: token.at, what }),
+            Some(token) => Err(ReadError::Misfit {
+                at: Some(token.at),
+                what,
+            }),
             None => Ok(()),
         }
     }
 
     /// Passes the symbol, and returns its offset.
     #[tactic(auto, unfolding(crate::specs::internal::Reading::symbol_at))]
-    pub(crate) fn symbol(&mut self, symbol: Symbol, what: Expectation) -> Result<usize, SyntaxError>
+    pub(crate) fn symbol(&mut self, symbol: Symbol, what: Expectation) -> Result<usize, ReadError>
         ensures { Gives (λ at. (at, self.new)) result (symbol_at symbol self.old) }
     {
         let token = self.front(what)?;
         if !token.is(symbol) {
-            return Err(SyntaxError::Expected { at: token.at, what });
+            return Err(ReadError::Misfit {
+                at: Some(token.at),
+                what,
+            });
         }
         self.advance();
         Ok(token.at)
@@ -200,13 +206,13 @@ impl<'a> Parser<'a> {
 
     /// Passes a name.
     #[tactic(auto, unfolding(crate::specs::internal::Reading::name_at))]
-    pub(crate) fn name(&mut self, alloc: Global) -> Result<Name, SyntaxError>
+    pub(crate) fn name(&mut self, alloc: Global) -> Result<Name, ReadError>
         ensures { Gives (λ n. (name_of n, self.new)) result (name_at self.old) }
     {
         let token = self.front(Expectation::Name)?;
         if token.kind != TokenKind::Name {
-            return Err(SyntaxError::Expected {
-                at: token.at,
+            return Err(ReadError::Misfit {
+                at: Some(token.at),
                 what: Expectation::Name,
             });
         }
@@ -217,12 +223,15 @@ impl<'a> Parser<'a> {
 
     /// Passes a name that is this word, and returns its offset.
     #[tactic(auto, unfolding(crate::specs::internal::Reading::word_at))]
-    pub(crate) fn word(&mut self, text: &[u8], what: Expectation) -> Result<usize, SyntaxError>
+    pub(crate) fn word(&mut self, text: &[u8], what: Expectation) -> Result<usize, ReadError>
         ensures { Gives (λ at. (at, self.new)) result (word_at text.now self.old) }
     {
         let token = self.front(what)?;
         if token.kind != TokenKind::Name || token.text != text {
-            return Err(SyntaxError::Expected { at: token.at, what });
+            return Err(ReadError::Misfit {
+                at: Some(token.at),
+                what,
+            });
         }
         self.advance();
         Ok(token.at)
@@ -230,13 +239,13 @@ impl<'a> Parser<'a> {
 
     /// Passes a number.
     #[tactic(auto, unfolding(crate::specs::internal::Reading::number_at))]
-    pub(crate) fn number(&mut self) -> Result<Number, SyntaxError>
+    pub(crate) fn number(&mut self) -> Result<Number, ReadError>
         ensures { Gives (λ n. (number_of n, self.new)) result (number_at self.old) }
     {
         let token = self.front(Expectation::Number)?;
         if token.kind != TokenKind::Number {
-            return Err(SyntaxError::Expected {
-                at: token.at,
+            return Err(ReadError::Misfit {
+                at: Some(token.at),
                 what: Expectation::Number,
             });
         }

@@ -3,7 +3,7 @@ ghost use Rattle.std.specs.Prelude.{◌≡◌, slice_get, IfErr, IfOk};
 ghost use Rattle.rbg_macro.specs.declared.source.SectionKind.TheVariants.{Variables};
 ghost use Rattle.rbg_macro.specs.declared.token.Symbol.TheVariants.{Comma};
 ghost use Rattle.rbg_syntax.specs.Descriptions.{description_of};
-ghost use Rattle.rbg_syntax.specs.internal.Reading.{Gives, GivesWithin, board_at, bounded_at, is_name, listed_at, name_at, separated_at, variables_at, whole_at};
+ghost use Rattle.rbg_syntax.specs.internal.Reading.{Gives, GivesAt, GivesWithin, board_at, bounded_at, is_name, listed_at, name_at, placed, separated_at, start_of, variables_at, whole_at};
 ghost use Rattle.rbg_syntax.specs.internal.RuleReading.{rules_at};
 ghost use Rattle.rbg_syntax.specs.Sections.{IsMissing, sections_of};
 ghost use Rattle.rbg_syntax.specs.Spells.{HasFault, IsAnswer, Spells, max_brackets};
@@ -11,7 +11,7 @@ ghost use Rattle.rbg_syntax.specs.Tree.{SpeltDescription};
 ghost use Rattle.rbg_syntax.specs.Views.{board_of, bounded_list_of, names_of, rule_of};
 
 use crate::description::{Board, Bounded, Description};
-use crate::error::{Expectation, SyntaxError};
+use crate::error::{Expectation, ReadError, SyntaxError};
 use crate::names::Name;
 use crate::parser::Parser;
 use crate::rule::Rule;
@@ -39,11 +39,11 @@ pub fn parse(alloc: Global, source: &Source) -> Result<Description, SyntaxError>
     let pieces = needed(source, SectionKind::Pieces)?;
     let board = needed(source, SectionKind::Board)?;
     let rules = needed(source, SectionKind::Rules)?;
-    let players = read_players(alloc, players)?;
-    let pieces = read_pieces(alloc, pieces)?;
+    let players = placed(players.at(), read_players(alloc, players))?;
+    let pieces = placed(pieces.at(), read_pieces(alloc, pieces))?;
     let variables = variables_of(alloc, source)?;
-    let board = read_board(alloc, board)?;
-    let rules = read_rules(alloc, rules)?;
+    let board = placed(board.at(), read_board(alloc, board))?;
+    let rules = placed(rules.at(), read_rules(alloc, rules))?;
     Ok(Description {
         players,
         variables,
@@ -51,6 +51,16 @@ pub fn parse(alloc: Global, source: &Source) -> Result<Description, SyntaxError>
         board,
         rules,
     })
+}
+
+/// What was read of a section whose `#` is at this offset.
+fn placed<T>(start: usize, read: Result<T, ReadError>) -> Result<T, SyntaxError>
+    ensures { result ≡ placed start read }
+{
+    match read {
+        Ok(value) => Ok(value),
+        Err(error) => Err(error.in_section(start)),
+    }
 }
 
 /// The section of this kind, which every description must have.
@@ -62,7 +72,7 @@ fn needed(source: &Source, which: SectionKind) -> Result<Section<'_>, SyntaxErro
 }
 
 #[tactic(auto, using(crate::proofs::Answers::endings), unfolding(crate::specs::internal::Reading::whole_at))]
-fn read_players(alloc: Global, section: Section<'_>) -> Result<Vec<Bounded>, SyntaxError>
+fn read_players(alloc: Global, section: Section<'_>) -> Result<Vec<Bounded>, ReadError>
     ensures { Gives bounded_list_of result (whole_at (separated_at Comma bounded_at) section.entry.tokens) }
 {
     let mut parser = Parser::new(section);
@@ -72,7 +82,7 @@ fn read_players(alloc: Global, section: Section<'_>) -> Result<Vec<Bounded>, Syn
 }
 
 #[tactic(auto, using(crate::proofs::Answers::endings), unfolding(crate::specs::internal::Reading::whole_at))]
-fn read_pieces(alloc: Global, section: Section<'_>) -> Result<Vec<Name>, SyntaxError>
+fn read_pieces(alloc: Global, section: Section<'_>) -> Result<Vec<Name>, ReadError>
     ensures { Gives names_of result (whole_at (separated_at Comma name_at) section.entry.tokens) }
 {
     let mut parser = Parser::new(section);
@@ -83,16 +93,17 @@ fn read_pieces(alloc: Global, section: Section<'_>) -> Result<Vec<Name>, SyntaxE
 
 /// The variables. There are none where they have no section.
 fn variables_of(alloc: Global, source: &Source) -> Result<Vec<Bounded>, SyntaxError>
-    ensures { Gives bounded_list_of result (variables_at (sections_of Variables source.now)) }
+    ensures { GivesAt (start_of (sections_of Variables source.now)) bounded_list_of result
+        (variables_at (sections_of Variables source.now)) }
 {
     match find(source, SectionKind::Variables) {
-        Some(section) => read_variables(alloc, section),
+        Some(section) => placed(section.at(), read_variables(alloc, section)),
         None => Ok(Vec::new(alloc)),
     }
 }
 
 #[tactic(auto, using(crate::proofs::Answers::endings, crate::proofs::PhraseLaws::bounded_takes_some), unfolding(crate::specs::internal::Reading::whole_at))]
-fn read_variables(alloc: Global, section: Section<'_>) -> Result<Vec<Bounded>, SyntaxError>
+fn read_variables(alloc: Global, section: Section<'_>) -> Result<Vec<Bounded>, ReadError>
     ensures { Gives bounded_list_of result (whole_at (listed_at is_name bounded_at) section.entry.tokens) }
 {
     let mut parser = Parser::new(section);
@@ -107,7 +118,7 @@ fn read_variables(alloc: Global, section: Section<'_>) -> Result<Vec<Bounded>, S
 }
 
 #[tactic(auto, using(crate::proofs::Answers::endings), unfolding(crate::specs::internal::Reading::whole_at))]
-fn read_board(alloc: Global, section: Section<'_>) -> Result<Board, SyntaxError>
+fn read_board(alloc: Global, section: Section<'_>) -> Result<Board, ReadError>
     ensures { Gives board_of result (whole_at board_at section.entry.tokens) }
 {
     let mut parser = Parser::new(section);
@@ -117,7 +128,7 @@ fn read_board(alloc: Global, section: Section<'_>) -> Result<Board, SyntaxError>
 }
 
 #[tactic(auto, using(crate::proofs::Answers::endings), unfolding(crate::specs::internal::Reading::whole_at))]
-fn read_rules(alloc: Global, section: Section<'_>) -> Result<Rule, SyntaxError>
+fn read_rules(alloc: Global, section: Section<'_>) -> Result<Rule, ReadError>
     ensures { GivesWithin rule_of result (whole_at (rules_at max_brackets) section.entry.tokens) }
 {
     let mut parser = Parser::new(section);

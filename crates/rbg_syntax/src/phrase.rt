@@ -2,7 +2,7 @@
 ghost use Rattle.std.specs.Prelude.{◌≡◌, map};
 ghost use Rattle.rbg_syntax.specs.internal.Reading.{Gives, TakesSome, listed_at, next_is, repeated_at, separated_at};
 
-use crate::error::SyntaxError;
+use crate::error::ReadError;
 use crate::parser::Parser;
 use rbg_macro::{Symbol, TokenKind};
 use std::alloc::Global;
@@ -26,7 +26,7 @@ pub(crate) trait Phrase: Sized + Drop {
     ghost begins: { TokenKind → Bool };
 
     /// Reads one phrase.
-    fn read_from(parser: &mut Parser<'_>, alloc: Global) -> Result<Self, SyntaxError>
+    fn read_from(parser: &mut Parser<'_>, alloc: Global) -> Result<Self, ReadError>
         ensures { Gives (λ x. (view x, parser.new)) result (read parser.old) };
 
     /// Whether such a phrase may begin with a token of this kind.
@@ -50,7 +50,7 @@ impl Parser<'_> {
         &mut self,
         alloc: Global,
         separator: Symbol,
-    ) -> Result<Vec<T>, SyntaxError>
+    ) -> Result<Vec<T>, ReadError>
         requires { TakesSome T.read }
         ensures { Gives (λ v. (map T.view v.items, self.new)) result (separated_at separator T.read self.old) }
     {
@@ -64,7 +64,7 @@ impl Parser<'_> {
 
     /// Any number of phrases, with commas between them.
     #[tactic(auto, unfolding(crate::specs::internal::Reading::listed_at))]
-    pub(crate) fn listed<T: Phrase>(&mut self, alloc: Global) -> Result<Vec<T>, SyntaxError>
+    pub(crate) fn listed<T: Phrase>(&mut self, alloc: Global) -> Result<Vec<T>, ReadError>
         requires { TakesSome T.read }
         ensures { Gives (λ v. (map T.view v.items, self.new)) result (listed_at T.begins T.read self.old) }
     {
@@ -76,7 +76,7 @@ impl Parser<'_> {
     }
 
     /// Any number of phrases, one after the other.
-    pub(crate) fn repeated<T: Phrase>(&mut self, alloc: Global) -> Result<Vec<T>, SyntaxError>
+    pub(crate) fn repeated<T: Phrase>(&mut self, alloc: Global) -> Result<Vec<T>, ReadError>
         requires { TakesSome T.read }
         ensures { Gives (λ v. (map T.view v.items, self.new)) result (repeated_at T.begins T.read self.old) }
     {

@@ -6,7 +6,7 @@ ghost use Rattle.rbg_syntax.specs.internal.Reading.{GivesWithin, after_at, furth
 ghost use Rattle.rbg_syntax.specs.internal.RuleReading.{atom_at, begins_atom, bracket_atom_at, in_braces_at, in_choice, is_opening, item_at, pattern_at, rules_at, sequence_at, sum_at};
 ghost use Rattle.rbg_syntax.specs.Views.{rule_of};
 
-use crate::error::{Expectation, SyntaxError};
+use crate::error::{Expectation, ReadError};
 use crate::parser::Parser;
 use crate::rule::{Action, Rule};
 use crate::sequences::in_sequence;
@@ -16,7 +16,7 @@ use std::alloc::Global;
 impl Parser<'_> {
     /// Rules.
     #[cycle(rules)]
-    pub(crate) fn rules(&mut self, alloc: Global, brackets: u8) -> Result<Rule, SyntaxError>
+    pub(crate) fn rules(&mut self, alloc: Global, brackets: u8) -> Result<Rule, ReadError>
         ensures { GivesWithin (λ r. (rule_of r, self.new)) result (rules_at brackets self.old) }
     {
         let first = self.sequence(alloc, brackets)?;
@@ -34,7 +34,7 @@ impl Parser<'_> {
         alloc: Global,
         first: Rule,
         brackets: u8,
-    ) -> Result<Vec<Rule>, SyntaxError>
+    ) -> Result<Vec<Rule>, ReadError>
         ensures { GivesWithin (λ v. (map rule_of v.items, self.new)) result (further_at (rule_of first)
             (is_symbol symbols.Plus) (after_at symbols.Plus (sequence_at (atom_at brackets))) self.old) }
     {
@@ -48,7 +48,7 @@ impl Parser<'_> {
 
     /// A sequence.
     #[cycle(rules)]
-    fn sequence(&mut self, alloc: Global, brackets: u8) -> Result<Rule, SyntaxError>
+    fn sequence(&mut self, alloc: Global, brackets: u8) -> Result<Rule, ReadError>
         ensures { GivesWithin (λ r. (rule_of r, self.new)) result (sequence_at (atom_at brackets) self.old) }
     {
         let first = self.item(alloc, brackets)?;
@@ -66,7 +66,7 @@ impl Parser<'_> {
         alloc: Global,
         first: Rule,
         brackets: u8,
-    ) -> Result<Vec<Rule>, SyntaxError>
+    ) -> Result<Vec<Rule>, ReadError>
         ensures { GivesWithin (λ v. (map rule_of v.items, self.new)) result
             (further_at (rule_of first) begins_atom (item_at (atom_at brackets)) self.old) }
     {
@@ -81,7 +81,7 @@ impl Parser<'_> {
     /// An atom, and the `*` after it where there is one.
     #[cycle(rules)]
     #[tactic(auto, using(crate::proofs::Trees::stars), unfolding(crate::specs::internal::RuleReading::item_at))]
-    fn item(&mut self, alloc: Global, brackets: u8) -> Result<Rule, SyntaxError>
+    fn item(&mut self, alloc: Global, brackets: u8) -> Result<Rule, ReadError>
         ensures { GivesWithin (λ r. (rule_of r, self.new)) result (item_at (atom_at brackets) self.old) }
     {
         let rule = self.atom(alloc, brackets)?;
@@ -94,7 +94,7 @@ impl Parser<'_> {
 
     /// An atom.
     #[cycle(rules)]
-    fn atom(&mut self, alloc: Global, brackets: u8) -> Result<Rule, SyntaxError>
+    fn atom(&mut self, alloc: Global, brackets: u8) -> Result<Rule, ReadError>
         ensures { GivesWithin (λ r. (rule_of r, self.new)) result (atom_at brackets self.old) }
     {
         if !self.next_is_opening() {
@@ -109,7 +109,7 @@ impl Parser<'_> {
     /// An atom in brackets, in which at most so many further ones may be open.
     #[cycle(rules)]
     #[tactic(auto, unfolding(crate::specs::internal::RuleReading::bracket_atom_at, crate::specs::internal::Reading::within_at))]
-    fn bracket_atom(&mut self, alloc: Global, brackets: u8) -> Result<Rule, SyntaxError>
+    fn bracket_atom(&mut self, alloc: Global, brackets: u8) -> Result<Rule, ReadError>
         ensures { GivesWithin (λ r. (rule_of r, self.new)) result
             (bracket_atom_at (rules_at brackets) (sum_at brackets) self.old) }
     {
@@ -128,7 +128,7 @@ impl Parser<'_> {
     /// A pattern, a comparison or an on.
     #[cycle(rules)]
     #[tactic(auto, using(crate::proofs::Trees::inner_atoms, crate::proofs::Parts::patterns), unfolding(crate::specs::internal::RuleReading::in_braces_at))]
-    fn in_braces(&mut self, alloc: Global, brackets: u8) -> Result<Rule, SyntaxError>
+    fn in_braces(&mut self, alloc: Global, brackets: u8) -> Result<Rule, ReadError>
         ensures { GivesWithin (λ r. (rule_of r, self.new)) result
             (in_braces_at (rules_at brackets) (sum_at brackets) self.old) }
     {
@@ -156,7 +156,7 @@ impl Parser<'_> {
         alloc: Global,
         sign: Symbol,
         brackets: u8,
-    ) -> Result<(usize, Rule), SyntaxError>
+    ) -> Result<(usize, Rule), ReadError>
         ensures { GivesWithin (λ p. ((p.0, rule_of p.1), self.new)) result
             (pattern_at sign (rules_at brackets) self.old) }
     {

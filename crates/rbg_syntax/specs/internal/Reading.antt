@@ -1,6 +1,6 @@
 -- What the parser reads from the front of a list of tokens, piece by piece: a value and the tokens after it, or why
 -- there is none. Only the crate's private clauses cite it.
-use Rattle.std.specs.Prelude.{◌≡◌, ◌<◌, ◌&&◌, ℕ, zero, suc, List, [], ◌∷◌, Bool, true, false, codes, drop, length, Some, None, Result, Ok, Err, if◌then◌else◌}
+use Rattle.std.specs.Prelude.{◌≡◌, ◌<◌, ◌&&◌, ℕ, zero, suc, List, [], ◌∷◌, Bool, true, false, codes, drop, length, Option, Some, None, Result, Ok, Err, if◌then◌else◌}
 use Rattle.std.specs.Str.{bytes_eq}
 use denote.Enum.Bare.{sameb}
 use Rattle.rbg_macro.specs.Token.{Lexeme, SectionTokens}
@@ -11,12 +11,15 @@ use Rattle.rbg_macro.specs.declared.token.TokenKind.{TokenKind}
 use Rattle.rbg_macro.specs.declared.token.TokenKind.TheVariants as kinds
 use Rattle.rbg_syntax.specs.Tree.{SpeltName, SpeltNumber, SpeltBounded, SpeltEdge, SpeltVertex, SpeltBoard, rectangle, hexagon, graph, SpeltRule, act, shift, on, off, switch, sequence, no_rules, sequence_of}
 use Rattle.rbg_base.specs.Decimals.{number_of_digits}
+use Rattle.rbg_syntax.specs.declared.error.ReadError.{ReadError}
+use Rattle.rbg_syntax.specs.declared.error.ReadError.TheVariants as faults
 use Rattle.rbg_syntax.specs.declared.error.SyntaxError.{SyntaxError}
 use Rattle.rbg_syntax.specs.declared.error.SyntaxError.TheVariants as errors
 
--- why a piece isn't read: a token doesn't fit, or the bracket at this place is opened where none may be
+-- Why a piece isn't read: the token at this place doesn't fit, or the tokens end; or the bracket at this place is
+-- opened where none may be.
 pub data Fault : Type 0 where
-  misfit : Fault
+  misfit : Option ℕ → Fault
   too_deep : ℕ → Fault
 
 abbrev pub Reading : Type 0 → Type 0
@@ -33,37 +36,45 @@ abbrev pub ◌>>=◌ : {A B : Type 0} → Result A Fault → (A → Result B Fau
 (Err e) >>= f = Err e
 
 -- the error is that what is read doesn't fit, unless memory ran out
-abbrev pub Fails : {B : Type 0} → SyntaxError → Result B Fault → Type 0
-Fails (errors.Expected at what) read = read ≡ Err misfit
-Fails (errors.MissingSection which) read = ⊥
-Fails (errors.SectionTwice which) read = ⊥
-Fails (errors.TooDeep at) read = ⊥
-Fails errors.Memory read = Unit {0}
+abbrev pub Fails : {B : Type 0} → ReadError → Result B Fault → Type 0
+Fails (faults.Misfit at what) read = read ≡ Err (misfit at)
+Fails (faults.TooDeep at) read = ⊥
+Fails faults.Memory read = Unit {0}
 
 -- what a function returned, seen by view, is what is read, unless memory ran out
-abbrev pub Gives : {A B : Type 0} → (A → B) → Result A SyntaxError → Result B Fault → Type 0
+abbrev pub Gives : {A B : Type 0} → (A → B) → Result A ReadError → Result B Fault → Type 0
 Gives view (Ok x) read = read ≡ Ok (view x)
 Gives view (Err e) read = Fails e read
 
 -- The same, where the fault may also be a bracket that is one too many.
-abbrev pub FailsWithin : {B : Type 0} → SyntaxError → Result B Fault → Type 0
-FailsWithin (errors.Expected at what) read = read ≡ Err misfit
-FailsWithin (errors.MissingSection which) read = ⊥
-FailsWithin (errors.SectionTwice which) read = ⊥
-FailsWithin (errors.TooDeep at) read = read ≡ Err (too_deep at)
-FailsWithin errors.Memory read = Unit {0}
+abbrev pub FailsWithin : {B : Type 0} → ReadError → Result B Fault → Type 0
+FailsWithin (faults.Misfit at what) read = read ≡ Err (misfit at)
+FailsWithin (faults.TooDeep at) read = read ≡ Err (too_deep at)
+FailsWithin faults.Memory read = Unit {0}
 
-abbrev pub GivesWithin : {A B : Type 0} → (A → B) → Result A SyntaxError → Result B Fault → Type 0
+abbrev pub GivesWithin : {A B : Type 0} → (A → B) → Result A ReadError → Result B Fault → Type 0
 GivesWithin view (Ok x) read = read ≡ Ok (view x)
 GivesWithin view (Err e) read = FailsWithin e read
 
--- the error is that a token doesn't fit
-abbrev pub IsMisfit : SyntaxError → Type 0
-IsMisfit (errors.Expected at what) = Unit {0}
-IsMisfit (errors.MissingSection which) = ⊥
-IsMisfit (errors.SectionTwice which) = ⊥
-IsMisfit (errors.TooDeep at) = ⊥
-IsMisfit errors.Memory = ⊥
+-- the error of a reader, in a section whose `#` is at this place
+abbrev pub error_in : ℕ → ReadError → SyntaxError
+error_in start (faults.Misfit None what) = errors.Expected start what
+error_in start (faults.Misfit (Some at) what) = errors.Expected at what
+error_in start (faults.TooDeep at) = errors.TooDeep at
+error_in start faults.Memory = errors.Memory
+
+abbrev pub placed : {A : Type 0} → ℕ → Result A ReadError → Result A SyntaxError
+placed start (Ok x) = Ok x
+placed start (Err e) = Err (error_in start e)
+
+-- what a reader returned of a section whose `#` is at this place, and was placed there, is what is read
+abbrev pub GivesAt : {A B : Type 0} → ℕ → (A → B) → Result A SyntaxError → Result B Fault → Type 0
+GivesAt {A} start view r read = (q : Result A ReadError) × (r ≡ placed start q) × Gives view q read
+
+-- the place of the first of the sections
+abbrev pub start_of : List SectionTokens → ℕ
+start_of [] = 0
+start_of (s ∷ ss) = s.at
 
 -- the next token, if there is one, passes the test
 abbrev pub next_is : (TokenKind → Bool) → List Lexeme → Bool
@@ -85,16 +96,21 @@ is_symbol s kinds.Name = false
 is_symbol s kinds.Number = false
 is_symbol s (kinds.Symbol x) = sameb the_type x s
 
+-- the place of the next token, if there is one
+abbrev pub place_of : List Lexeme → Option ℕ
+place_of [] = None
+place_of (t ∷ ts) = Some t.at
+
 -- the next token
 abbrev pub front_at : List Lexeme → Reading Lexeme
-front_at [] = Err misfit
+front_at [] = Err (misfit None)
 front_at (t ∷ ts) = Ok (t, ts)
 
 -- the next token, if it passes the test
 abbrev pub token_at : (TokenKind → Bool) → List Lexeme → Reading Lexeme
 token_at test ts = do
   t ← front_at ts
-  if test t.0.kind then Ok t else Err misfit
+  if test t.0.kind then Ok t else Err (misfit (Some t.0.at))
 
 unfoldable pub symbol_at : Symbol → List Lexeme → Reading ℕ
 symbol_at s ts = do
@@ -119,7 +135,7 @@ number_at ts = do
 unfoldable pub word_at : List ℕ → List Lexeme → Reading ℕ
 word_at text ts = do
   t ← token_at is_name ts
-  if bytes_eq t.0.text text then Ok (t.0.at, t.1) else Err misfit
+  if bytes_eq t.0.text text then Ok (t.0.at, t.1) else Err (misfit (Some t.0.at))
 
 -- phrases as long as the next token passes the test; the number bounds the turns, and the count of the tokens is enough
 abbrev pub repeated_within :
@@ -247,7 +263,7 @@ board_at ts =
 -- a value, where no token is left
 abbrev pub ended_at : {A : Type 0} → A → List Lexeme → Result A Fault
 ended_at x [] = Ok x
-ended_at x (t ∷ ts) = Err misfit
+ended_at x (t ∷ ts) = Err (misfit (Some t.at))
 
 -- all of the tokens
 unfoldable pub whole_at : {A : Type 0} → (List Lexeme → Reading A) → List Lexeme → Result A Fault

@@ -17,7 +17,7 @@ use Rattle.rbg_syntax.specs.internal.Reading.{misfit, too_deep, Reading, ◌>>=�
 
 -- the bracket at the front is one too many
 abbrev pub too_deep_at : {A : Type 0} → List Lexeme → Reading A
-too_deep_at [] = Err misfit
+too_deep_at [] = Err (misfit None)
 too_deep_at (t ∷ ts) = Err (too_deep t.at)
 
 abbrev pub is_product_sign : TokenKind → Bool
@@ -135,7 +135,7 @@ IsRelationOf k None = is_relation k ≡ false
 unfoldable pub relation_at : List Lexeme → Reading Relation
 relation_at ts = do
   t ← front_at ts
-  if is_relation t.0.kind then Ok (relation_of t.0.kind, t.1) else Err misfit
+  if is_relation t.0.kind then Ok (relation_of t.0.kind, t.1) else Err (misfit (Some t.0.at))
 
 unfoldable pub comparison_at : (List Lexeme → Reading SpeltExpression) → List Lexeme → Reading SpeltRule
 comparison_at sum ts = do
