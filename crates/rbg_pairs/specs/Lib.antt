@@ -1,2 +1,3 @@
 -- Moves as they are written.
 pub mod Move
+pub mod List

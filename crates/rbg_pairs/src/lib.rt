@@ -3,9 +3,11 @@
 
 mod error;
 pub mod laws;
+mod list;
 mod moves;
 mod pair;
 
 pub use error::MoveLengthError;
+pub use list::MoveList;
 pub use moves::{MAX_PAIRS, Move};
 pub use pair::Pair;

@@ -65,6 +65,16 @@ impl Occupancy {
         })
     }
 
+    /// A copy, in the buffers of another one.
+    pub(crate) fn copy_into(&self, buffers: Occupancy) -> Result<Occupancy, Memory>
+        ensures { IfOk result (λ copy. copy ≡ self.now) }
+    {
+        Ok(Occupancy {
+            pieces: refilled(buffers.pieces, &self.pieces)?,
+            counts: refilled(buffers.counts, &self.counts)?,
+        })
+    }
+
     /// The piece on each vertex.
     pub(crate) fn pieces(&self) -> &[Piece]
         ensures { result.now ≡ self.now }
@@ -95,4 +105,14 @@ impl Occupancy {
         self.counts[piece as usize] += 1;
         replaced
     }
+}
+
+/// A buffer that holds these items and no others. Memory is taken only where it has no room for them.
+pub(crate) fn refilled<T: Copy + Drop>(buffer: Vec<T>, items: &[T]) -> Result<Vec<T>, Memory>
+    ensures { IfOk result (λ filled. filled.items ≡ items.now) }
+{
+    let mut buffer = buffer;
+    buffer.clear();
+    buffer.extend_from_slice(items)?;
+    Ok(buffer)
 }

@@ -4,7 +4,7 @@ ghost use Rattle.rbg_rules.specs.State.{start_of, IsStateOf};
 ghost use Rattle.rbg_state.specs.Changes.{set, IsChangeWithin};
 
 use crate::change::Change;
-use crate::occupancy::Occupancy;
+use crate::occupancy::{Occupancy, refilled};
 use rbg_base::{Memory, Piece, Player, Variable, Vertex};
 use rbg_rules::Game;
 use std::alloc::Global;
@@ -51,6 +51,19 @@ impl Parts {
             vertex: self.vertex,
             occupancy: self.occupancy.try_clone()?,
             values: self.values.clone()?,
+        })
+    }
+
+    /// A copy, in the buffers of others.
+    pub(crate) fn copy_into(&self, buffers: Parts) -> Result<Parts, Memory>
+        ensures { IfOk result (λ copy. copy ≡ self.now) }
+    {
+        let player = self.player;
+        Ok(Parts {
+            player,
+            vertex: self.vertex,
+            occupancy: self.occupancy.copy_into(buffers.occupancy)?,
+            values: refilled(buffers.values, &self.values)?,
         })
     }
 

@@ -64,6 +64,18 @@ impl SemiState {
         })
     }
 
+    /// A copy, in the buffers of another semi-state. It has no change to take back. Memory is taken only where the buffers
+    /// have no room for it. Where there is none, the buffers are lost.
+    pub fn copy_into(&self, buffers: SemiState) -> Result<SemiState, Memory>
+        ensures state { IfOk result (λ copy. copy.state ≡ self.now.state) }
+        ensures past { IfOk result (λ copy. copy.past ≡ []) }
+    {
+        let mut changes = buffers.changes;
+        changes.clear();
+        let parts = self.parts.copy_into(buffers.parts)?;
+        Ok(SemiState { parts, changes })
+    }
+
     /// The current player, from 1; 0 is the keeper.
     pub fn player(&self) -> Player
         ensures { result ≡ self.now.state.player }
