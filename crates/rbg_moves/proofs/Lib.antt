@@ -8,3 +8,4 @@ pub mod Outcome
 pub mod Further
 pub mod Seeking
 pub mod Forcing
+pub mod Copies

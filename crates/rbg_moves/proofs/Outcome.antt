@@ -6,7 +6,7 @@ use Rattle.std.proofs.lemmas.List.{map-id}
 use Rattle.std.proofs.lemmas.List.Sorted.{IsPermutation-sym, All-permutation, Contains-permutation, length_permutation}
 use Rattle.rbg_rules.specs.State.{AbstractGame}
 use Rattle.rbg_rules.specs.Moves.{AbstractPlace, IsLegal}
-use Rattle.rbg_moves.specs.Listing.{IsMoveBefore, IsListed}
+use Rattle.rbg_moves.specs.Listing.{IsMoveBefore, IsListed, IsGathered}
 use Rattle.rbg_moves.specs.internal.Gathering.{Gathers}
 use Rattle.rbg_moves.proofs.Order.{still_different}
 
@@ -14,27 +14,40 @@ use Rattle.rbg_moves.proofs.Order.{still_different}
 all_found : (game : AbstractGame) (place : AbstractPlace) (max : ℕ) (moves : List (List (ℕ × ℕ))) (cut : Bool) (all : Gathers (IsLegal game place) [] max [] moves cut) → moves ≡ all.found
 all_found game place max moves cut all = all.grown ∙ map-id all.found
 
-pub all_differ : (game : AbstractGame) (place : AbstractPlace) (max : ℕ) (moves : List (List (ℕ × ℕ))) (cut : Bool) → Gathers (IsLegal game place) [] max [] moves cut → AllPairs (λ a b. a ≢ b) moves
-all_differ game place max moves cut all = subst (AllPairs (λ a b. a ≢ b)) (sym (all_found game place max moves cut all)) all.different
-
-pub listed : (game : AbstractGame) (place : AbstractPlace) (max : ℕ) (moves sorted : List (List (ℕ × ℕ))) (cut : Bool) → Gathers (IsLegal game place) [] max [] moves cut → IsPermutation moves sorted → AllPairs IsMoveBefore sorted → IsListed game place max sorted cut
-listed game place max moves sorted cut all moved order = record {
-  legal = All-permutation (IsLegal game place) moves sorted moved (subst (All (IsLegal game place)) (sym found) all.wanted);
-  different = still_different moves sorted moved (all_differ game place max moves cut all);
-  order = order;
-  few = subst (λ (n : ℕ). n ≤ max) (sym size) all.few;
-  whole = λ e pairs legal. Contains-permutation moves sorted pairs moved (subst (λ (xs : List (List (ℕ × ℕ))). Contains xs pairs) (sym found) (all.whole e pairs legal));
-  full = λ e. size ∙ all.full e;
+-- What was gathered are legal moves.
+pub gathered : (game : AbstractGame) (place : AbstractPlace) (max : ℕ) (moves : List (List (ℕ × ℕ))) (cut : Bool) → Gathers (IsLegal game place) [] max [] moves cut → IsGathered game place max moves cut
+gathered game place max moves cut all = record {
+  legal = subst (All (IsLegal game place)) (sym found) all.wanted;
+  different = subst (AllPairs (λ a b. a ≢ b)) (sym found) all.different;
+  few = all.few;
+  whole = λ e pairs legal. subst (λ (xs : List (List (ℕ × ℕ))). Contains xs pairs) (sym found) (all.whole e pairs legal);
+  full = all.full;
   more = λ e. let other = all.more e in record {
     pairs = other.pairs;
     legal = other.wanted;
-    missing = λ there. other.missing (subst (λ (xs : List (List (ℕ × ℕ))). Contains xs other.pairs) found (Contains-permutation sorted moves other.pairs (IsPermutation-sym moves sorted moved) there));
+    missing = λ there. other.missing (subst (λ (xs : List (List (ℕ × ℕ))). Contains xs other.pairs) found there);
   };
 }
   where
     found : moves ≡ all.found
     found = all_found game place max moves cut all
 
+-- What was gathered is listed in order.
+pub listed : (game : AbstractGame) (place : AbstractPlace) (max : ℕ) (moves sorted : List (List (ℕ × ℕ))) (cut : Bool) → IsGathered game place max moves cut → IsPermutation moves sorted → AllPairs IsMoveBefore sorted → IsListed game place max sorted cut
+listed game place max moves sorted cut all moved order = record {
+  legal = All-permutation (IsLegal game place) moves sorted moved all.legal;
+  different = still_different moves sorted moved all.different;
+  order = order;
+  few = subst (λ (n : ℕ). n ≤ max) (sym size) all.few;
+  whole = λ e pairs legal. Contains-permutation moves sorted pairs moved (all.whole e pairs legal);
+  full = λ e. size ∙ all.full e;
+  more = λ e. let other = all.more e in record {
+    pairs = other.pairs;
+    legal = other.legal;
+    missing = λ there. other.missing (Contains-permutation sorted moves other.pairs (IsPermutation-sym moves sorted moved) there);
+  };
+}
+  where
     size : length sorted ≡ length moves
     size = length_permutation moves sorted moved
 

@@ -31,3 +31,16 @@ pub record IsListed
     pub whole : cut ≡ false → (pairs : List (ℕ × ℕ)) → IsLegal game place pairs → Contains moves pairs
     pub full : cut ≡ true → length moves ≡ max
     pub more : cut ≡ true → OtherMove game place moves
+
+-- The moves are legal, each stands once, and they are at most `max`. If they are not cut, every legal move is among
+-- them. If they are cut, they are exactly `max`, and there is another legal move.
+pub record IsGathered
+    (game : AbstractGame) (place : AbstractPlace) (max : ℕ) (moves : List (List (ℕ × ℕ))) (cut : Bool)
+    : Type 0
+  where
+    pub legal : All (IsLegal game place) moves
+    pub different : AllPairs (λ a b. a ≢ b) moves
+    pub few : length moves ≤ max
+    pub whole : cut ≡ false → (pairs : List (ℕ × ℕ)) → IsLegal game place pairs → Contains moves pairs
+    pub full : cut ≡ true → length moves ≡ max
+    pub more : cut ≡ true → OtherMove game place moves

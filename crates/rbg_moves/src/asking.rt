@@ -1,6 +1,6 @@
 //! What the questions at a place have in common.
-ghost use Rattle.std.specs.Prelude.{◌≡◌, ◌<◌, ◌↔◌, [], ◌∷◌, ◌++◌, length, IsTrue};
-ghost use Rattle.rbg_pairs.specs.Move.{most_pairs};
+ghost use Rattle.std.specs.Prelude.{◌≡◌, ◌<◌, ◌↔◌, [], ◌∷◌, ◌++◌, length, IfOk, IsTrue};
+ghost use Rattle.rbg_pairs.specs.Move.{IsMoveLength};
 ghost use Rattle.rbg_rules.specs.Games.{IsGame};
 ghost use Rattle.rbg_rules.specs.Limits.{most_openings, most_modifiers};
 ghost use Rattle.rbg_rules.specs.Positions.{IsSwitchAt};
@@ -9,12 +9,13 @@ ghost use Rattle.rbg_search.specs.Start.{start_of, IsPositionOf};
 ghost use Rattle.rbg_moves.specs.internal.Shown.{shows_switch};
 
 use rbg_auto::{Expr, Steps};
-use rbg_base::Position;
+use rbg_base::{Memory, Position};
 use rbg_pairs::{Move, Pair};
 use rbg_rules::limits::{MAX_MODIFIERS, MAX_OPENINGS};
 use rbg_rules::{Action, Game};
 use rbg_search::{Budget, Origin, Search, Workspace};
 use std::alloc::Global;
+use std::mem::replace;
 
 /// A search that may take up as many openings as a question may have.
 pub(crate) fn search_in<'a, S: Steps>(
@@ -62,16 +63,29 @@ fn switches(action: &Action) -> bool
     matches!(action, Action::Switch { .. })
 }
 
-/// The move of these pairs and one more.
-pub(crate) fn move_of(front: &[Pair], last: Pair) -> Move
-    requires { length front.now < most_pairs }
-    ensures { result ≡ front.now ++ last ∷ [] }
+/// The move of these pairs.
+pub(crate) fn move_of(pairs: &[Pair]) -> Move
+    requires { IsMoveLength (length pairs.now) }
+    ensures { result ≡ pairs.now }
 {
-    match Move::try_from(front) {
-        Ok(mut pairs) => {
-            pairs.push(last);
-            pairs
-        }
-        Err(_) => Move::new(last),
+    match Move::try_from(pairs) {
+        Ok(whole) => whole,
+        Err(_) => unreachable!(),
     }
+}
+
+/// These pairs and one more, in the buffer, which is left empty.
+pub(crate) fn joined(
+    buffer: &mut Vec<Pair>,
+    front: &[Pair],
+    last: Pair,
+) -> Result<Vec<Pair>, Memory>
+    ensures { IfOk result (λ pairs. pairs.items ≡ front.now ++ last ∷ []) }
+{
+    let alloc = *buffer.allocator();
+    let mut pairs = replace(buffer, Vec::new(alloc));
+    pairs.clear();
+    pairs.extend_from_slice(front)?;
+    pairs.push(last)?;
+    Ok(pairs)
 }

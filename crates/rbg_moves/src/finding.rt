@@ -17,15 +17,16 @@ ghost use Rattle.rbg_search.specs.Forced.{CountsForced};
 ghost use Rattle.rbg_moves.specs.Limits.{IsDeepAt, IsWideAt, FitsLimits};
 ghost use Rattle.rbg_moves.specs.internal.Stepping.{standing_at, place_behind, IsValidAt, GoesOnByMove, GoesOnBehind};
 
-use crate::asking::{is_switch, move_of, origin_after, search_in};
+use crate::asking::{is_switch, joined, move_of, origin_after, search_in};
 use crate::place::Place;
 use crate::stepping::apply_at;
+use crate::workspace::Workspace;
 use arrayvec::ArrayVec;
 use rbg_auto::Steps;
 use rbg_base::{Position, Vertex};
 use rbg_pairs::{MAX_PAIRS, Move, Pair};
 use rbg_rules::Game;
-use rbg_search::{Over, Search, Workspace};
+use rbg_search::{Over, Search};
 use rbg_state::SemiState;
 use std::alloc::Global;
 
@@ -72,16 +73,46 @@ pub fn find_move_with<S: Steps>(
     ensures wide { result ≡ Err Over.Wide → IsWideAt game.now find_move place.now }
     ensures fits { OnOk result ((cut : Bool) → FitsLimits game.now cut find_move place.now) }
 {
+    let Some(pairs) = find_pairs_with(alloc, game, steps, place, workspace)? else {
+        return Ok(None);
+    };
+    let found = move_of(pairs.as_slice());
+    workspace.keep_pairs(pairs);
+    Ok(Some(found))
+}
+
+/// As `find_move_with`, with the pairs of the move in a list, which `Workspace::keep_pairs` takes back.
+pub fn find_pairs_with<S: Steps>(
+    alloc: Global,
+    game: &Game,
+    steps: &S,
+    place: &Place,
+    workspace: &mut Workspace,
+) -> Result<Option<Vec<Pair>>, Over>
+    requires steps { S.of_rules steps.now game.now.rules }
+    requires place { IsPlaceOf game.now place.now }
+    ensures found { IfOk result (λ found. IfSome found (λ pairs. IsLegal game.now place.now pairs.items)) }
+    ensures length { IfOk result (λ found. IfSome found (λ pairs. IsMoveLength (length pairs.items))) }
+    ensures finished { IfOk result (λ found. IfNone found (Finished game.now place.now)) }
+    ensures heavy { (result ≡ Err Over.Deep) ⊎ (result ≡ Err Over.Wide) → IsHeavyToFind game.now place.now }
+    ensures deep { result ≡ Err Over.Deep → IsDeepAt game.now find_move place.now }
+    ensures wide { result ≡ Err Over.Wide → IsWideAt game.now find_move place.now }
+    ensures fits { OnOk result ((cut : Bool) → FitsLimits game.now cut find_move place.now) }
+{
     let _positions = game.positions();
+    let state = workspace.copy_of(&place.state)?;
     let mut finding = Finding {
-        search: search_in(alloc, game, steps, workspace),
-        state: place.state.try_clone()?,
+        search: search_in(alloc, game, steps, &mut workspace.searches),
+        state,
         front: ArrayVec::new(),
+        whole: workspace.take_pairs(),
     };
     let found = finding.find(place.after)?;
     // What was taken up is within the budget.
     let _opened = finding.search.opened();
-    finding.search.leave(workspace);
+    finding.search.leave(&mut workspace.searches);
+    workspace.keep_state(finding.state);
+    workspace.keep_pairs(finding.whole);
     Ok(found)
 }
 
@@ -92,20 +123,23 @@ struct Finding<'a, S: Steps> {
     state: SemiState,
     /// The modifiers that were applied, each with its vertex.
     front: ArrayVec<Pair, MAX_PAIRS>,
+    /// A buffer for the move that is found.
+    whole: Vec<Pair>,
 }
 
 impl<'a, S: Steps> Finding<'a, S> {
     /// Some move that goes on from here, with the modifiers before it.
     #[cycle(finding)]
-    fn find(&mut self, after: Option<Position>) -> Result<Option<Move>, Over>
+    fn find(&mut self, after: Option<Position>) -> Result<Option<Vec<Pair>>, Over>
         requires place { IsPlaceOf self.old.search.game (record { state = self.old.state.state; last = after }) }
         requires short { length self.old.front.items < most_pairs }
         ensures search { self.new.search ≡ record self.old.search { opened = self.new.search.opened } }
         ensures state { OnOk result (self.new.state ≡ record self.old.state { room = self.new.state.room }) }
         ensures room { OnOk result (self.old.state.room ≤ self.new.state.room) }
         ensures front { OnOk result (self.new.front.items ≡ self.old.front.items) }
-        ensures found { IfOk result (λ found. IfSome found (GoesOnByMove self.old.search.game
-            (record { state = self.old.state.state; last = after }) self.old.front.items)) }
+        ensures found { IfOk result (λ found. IfSome found (λ pairs. GoesOnByMove self.old.search.game
+            (record { state = self.old.state.state; last = after }) self.old.front.items pairs.items)) }
+        ensures length { IfOk result (λ found. IfSome found (λ pairs. IsMoveLength (length pairs.items))) }
         ensures none { IfOk result (λ found. IfNone found (Finished self.old.search.game
             (record { state = self.old.state.state; last = after }))) }
         ensures counted { OnOk result (CountsOpenings self.old.search.game find_move self.old.state.state
@@ -123,7 +157,9 @@ impl<'a, S: Steps> Finding<'a, S> {
         let game = self.search.game();
         let reached = self.search.reach(&mut self.state, origin_after(after))?;
         if let Some(last) = first_switch(game, &reached.pairs) {
-            return Ok(Some(move_of(self.front.as_slice(), last)));
+            let pairs = joined(&mut self.whole, self.front.as_slice(), last)?;
+            self.search.reuse(reached)?;
+            return Ok(Some(pairs));
         }
         for pair in &reached.pairs {
             let (vertex, position) = *pair;
@@ -132,6 +168,7 @@ impl<'a, S: Steps> Finding<'a, S> {
             }
             let found = self.find_behind(game, vertex, position)?;
             if let Some(pairs) = found {
+                self.search.reuse(reached)?;
                 return Ok(Some(pairs));
             }
         }
@@ -146,7 +183,7 @@ impl<'a, S: Steps> Finding<'a, S> {
         game: &Game,
         vertex: Vertex,
         position: Position,
-    ) -> Result<Option<Move>, Over>
+    ) -> Result<Option<Vec<Pair>>, Over>
         requires game { game.now ≡ self.old.search.game }
         requires lawful { IsGame game.now }
         requires fits { IsStateOf game.now self.old.state.state }
@@ -157,8 +194,9 @@ impl<'a, S: Steps> Finding<'a, S> {
         ensures state { OnOk result (self.new.state ≡ record self.old.state { room = self.new.state.room }) }
         ensures room { OnOk result (self.old.state.room ≤ self.new.state.room) }
         ensures front { OnOk result (self.new.front.items ≡ self.old.front.items) }
-        ensures found { IfOk result (λ found. IfSome found (GoesOnBehind game.now self.old.state.state
-            vertex position self.old.front.items)) }
+        ensures found { IfOk result (λ found. IfSome found (λ pairs. GoesOnBehind game.now self.old.state.state
+            vertex position self.old.front.items pairs.items)) }
+        ensures length { IfOk result (λ found. IfSome found (λ pairs. IsMoveLength (length pairs.items))) }
         ensures none { IfOk result (λ found. IfNone found ((later : AbstractState)
             → Applies game.now position (standing_at self.old.state.state vertex) later
             → Finished game.now (place_behind later position))) }

@@ -15,19 +15,20 @@ ghost use Rattle.rbg_search.specs.Counting.{CountsOpenings, IsOverBudget};
 ghost use Rattle.rbg_search.specs.Passing.{IsTooDeep};
 ghost use Rattle.rbg_search.specs.Forced.{CountsForced};
 ghost use Rattle.rbg_moves.specs.Limits.{IsDeepAt, IsWideAt, FitsLimits};
-ghost use Rattle.rbg_moves.specs.Listing.{IsListed, IsMoveBefore};
+ghost use Rattle.rbg_moves.specs.Listing.{IsGathered, IsListed, IsMoveBefore};
 ghost use Rattle.rbg_moves.specs.internal.Gathering.{Gathers, GathersBehind, ListsSwitches};
 ghost use Rattle.rbg_moves.specs.internal.Stepping.{standing_at, IsValidAt};
 
 use crate::asking::{is_switch, move_of, origin_after, search_in};
 use crate::place::Place;
 use crate::stepping::apply_at;
+use crate::workspace::Workspace;
 use arrayvec::ArrayVec;
 use rbg_auto::Steps;
 use rbg_base::{Memory, Position, Vertex};
-use rbg_pairs::{MAX_PAIRS, Move, Pair};
+use rbg_pairs::{MAX_PAIRS, Move, MoveList, Pair};
 use rbg_rules::Game;
-use rbg_search::{Over, Search, Workspace};
+use rbg_search::{Over, Search};
 use rbg_state::SemiState;
 use std::alloc::Global;
 
@@ -36,6 +37,15 @@ use std::alloc::Global;
 pub struct Listed {
     /// The moves in order: pair by pair, by vertex and then by position.
     pub moves: Vec<Move>,
+    /// Whether there are more legal moves.
+    pub cut: bool,
+}
+
+/// The legal moves that were found.
+#[derive(Debug, Drop)]
+pub struct Gathered {
+    /// The moves in the order in which they were found.
+    pub moves: MoveList,
     /// Whether there are more legal moves.
     pub cut: bool,
 }
@@ -82,22 +92,63 @@ pub fn list_moves_with<S: Steps>(
     ensures wide { result ≡ Err Over.Wide → IsWideAt game.now listing_moves place.now }
     ensures fits { IfOk result (λ listed. FitsLimits game.now listed.cut listing_moves place.now) }
 {
+    let gathered = gather_moves_with(alloc, game, steps, place, max, workspace)?;
+    let mut moves = moves_of(alloc, &gathered.moves)?;
+    let cut = gathered.cut;
+    workspace.keep_moves(gathered.moves);
+    sort(&mut moves);
+    Ok(Listed { moves, cut })
+}
+
+/// As `list_moves_with`, but the moves stand in the order in which they were found, in a list that
+/// `Workspace::keep_moves` takes back.
+pub fn gather_moves_with<S: Steps>(
+    alloc: Global,
+    game: &Game,
+    steps: &S,
+    place: &Place,
+    max: usize,
+    workspace: &mut Workspace,
+) -> Result<Gathered, Over>
+    requires steps { S.of_rules steps.now game.now.rules }
+    requires place { IsPlaceOf game.now place.now }
+    requires some { 0 < max }
+    ensures gathered { IfOk result (λ gathered.
+        IsGathered game.now place.now max gathered.moves gathered.cut) }
+    ensures heavy { (result ≡ Err Over.Deep) ⊎ (result ≡ Err Over.Wide)
+        → IsTooHard game.now listing_moves place.now }
+    ensures deep { result ≡ Err Over.Deep → IsDeepAt game.now listing_moves place.now }
+    ensures wide { result ≡ Err Over.Wide → IsWideAt game.now listing_moves place.now }
+    ensures fits { IfOk result (λ gathered. FitsLimits game.now gathered.cut listing_moves place.now) }
+{
+    let state = workspace.copy_of(&place.state)?;
     let mut listing = Listing {
-        search: search_in(alloc, game, steps, workspace),
-        state: place.state.try_clone()?,
+        search: search_in(alloc, game, steps, &mut workspace.searches),
+        state,
         front: ArrayVec::new(),
         found: Found {
-            moves: Vec::new(alloc),
+            moves: workspace.take_moves(),
             max,
         },
     };
     let cut = listing.list(place.after)?;
     // What was taken up is within the budget.
     let _opened = listing.search.opened();
-    listing.search.leave(workspace);
-    let mut moves = listing.found.moves;
-    sort(&mut moves);
-    Ok(Listed { moves, cut })
+    listing.search.leave(&mut workspace.searches);
+    workspace.keep_state(listing.state);
+    let moves = listing.found.moves;
+    Ok(Gathered { moves, cut })
+}
+
+/// The moves of a list, each as a value of its own.
+fn moves_of(alloc: Global, list: &MoveList) -> Result<Vec<Move>, Memory>
+    ensures { IfOk result (λ moves. moves.items ≡ list.now) }
+{
+    let mut moves = Vec::with_capacity(alloc, list.len())?;
+    for index in 0..list.len() {
+        moves.push(move_of(list.get(index)))?;
+    }
+    Ok(moves)
 }
 
 /// Sorts moves that differ.
@@ -112,7 +163,7 @@ fn sort(moves: &mut Vec<Move>)
 /// The moves that were found.
 #[derive(Drop)]
 struct Found {
-    moves: Vec<Move>,
+    moves: MoveList,
     /// How many they may be.
     max: usize,
 }
@@ -128,10 +179,10 @@ impl Found {
         requires lawful { IsGame game.now }
         requires within { All (λ pair. IsPositionOf game.now.rules pair.1) pairs.now }
         requires short { length front.now < most_pairs }
-        requires few { length self.old.moves.items ≤ self.old.max }
+        requires few { length self.old.moves ≤ self.old.max }
         ensures max { self.new.max ≡ self.old.max }
         ensures lists { IfOk result (λ cut. ListsSwitches game.now pairs.now pairs.now
-            front.now self.old.max self.old.moves.items self.new.moves.items cut) }
+            front.now self.old.max self.old.moves self.new.moves cut) }
         ensures over { (over : Over) → result ≡ Err over → over ≡ Over.Memory }
     {
         for pair in pairs {
@@ -140,7 +191,7 @@ impl Found {
                 if self.moves.len() == self.max {
                     return Ok(true);
                 }
-                self.moves.push(move_of(front, Pair { vertex, position }))?;
+                self.moves.push(front, Pair { vertex, position })?;
             }
         }
         Ok(false)
@@ -163,7 +214,7 @@ impl<'a, S: Steps> Listing<'a, S> {
     fn list(&mut self, after: Option<Position>) -> Result<bool, Over>
         requires place { IsPlaceOf self.old.search.game (record { state = self.old.state.state; last = after }) }
         requires short { length self.old.front.items < most_pairs }
-        requires few { length self.old.found.moves.items ≤ self.old.found.max }
+        requires few { length self.old.found.moves ≤ self.old.found.max }
         ensures lawful { IsGame self.old.search.game }
         ensures search { self.new.search ≡ record self.old.search { opened = self.new.search.opened } }
         ensures state { OnOk result (self.new.state ≡ record self.old.state { room = self.new.state.room }) }
@@ -172,7 +223,7 @@ impl<'a, S: Steps> Listing<'a, S> {
         ensures max { self.new.found.max ≡ self.old.found.max }
         ensures gathered { IfOk result (λ cut.
             Gathers (IsLegal self.old.search.game (record { state = self.old.state.state; last = after }))
-            self.old.front.items self.old.found.max self.old.found.moves.items self.new.found.moves.items cut) }
+            self.old.front.items self.old.found.max self.old.found.moves self.new.found.moves cut) }
         ensures counted { OnOk result (CountsOpenings self.old.search.game listing_moves self.old.state.state
             (stand_of after) self.old.search.opened self.new.search.opened) }
         ensures deep { result ≡ Err Over.Deep
@@ -215,15 +266,15 @@ impl<'a, S: Steps> Listing<'a, S> {
         requires valid { IsValidAt self.old.search.game self.old.state.state pair.0 pair.1 }
         requires room { 2 ≤ self.old.state.room }
         requires short { length self.old.front.items + 1 < most_pairs }
-        requires few { length self.old.found.moves.items ≤ self.old.found.max }
+        requires few { length self.old.found.moves ≤ self.old.found.max }
         ensures search { self.new.search ≡ record self.old.search { opened = self.new.search.opened } }
         ensures state { OnOk result (self.new.state ≡ record self.old.state { room = self.new.state.room }) }
         ensures room { OnOk result (self.old.state.room ≤ self.new.state.room) }
         ensures front { OnOk result (self.new.front.items ≡ self.old.front.items) }
         ensures max { self.new.found.max ≡ self.old.found.max }
         ensures gathered { IfOk result (λ cut. GathersBehind self.old.search.game self.old.state.state pair
-            self.old.front.items self.old.found.max self.old.found.moves.items self.new.found.moves.items cut) }
-        ensures few { OnOk result (length self.new.found.moves.items ≤ self.old.found.max) }
+            self.old.front.items self.old.found.max self.old.found.moves self.new.found.moves cut) }
+        ensures few { OnOk result (length self.new.found.moves ≤ self.old.found.max) }
         ensures counted { OnOk result ((later : AbstractState)
             → Applies self.old.search.game pair.1 (standing_at self.old.state.state pair.0) later
             → CountsOpenings self.old.search.game listing_moves later (after pair.1)

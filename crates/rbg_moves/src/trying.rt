@@ -12,11 +12,12 @@ ghost use Rattle.rbg_moves.specs.internal.Stepping.{place_behind, IsTried};
 use crate::asking::{is_switch, search_in};
 use crate::place::Place;
 use crate::stepping::take;
+use crate::workspace::Workspace;
 use rbg_auto::Steps;
 use rbg_base::Position;
 use rbg_pairs::{Move, Pair};
 use rbg_rules::Game;
-use rbg_search::{Over, Search, Workspace};
+use rbg_search::{Over, Search};
 use rbg_state::SemiState;
 use std::alloc::Global;
 
@@ -44,13 +45,40 @@ pub fn try_move<S: Steps>(
     ensures wide { result ≡ Err Over.Wide → IsWideAt game.now (try_move pairs.now) place.now }
     ensures fits { OnOk result ((cut : Bool) → FitsLimits game.now cut (try_move pairs.now) place.now) }
 {
-    let _positions = game.positions();
     let mut workspace = Workspace::new(alloc);
-    let mut search = search_in(alloc, game, steps, &mut workspace);
-    let mut state = place.state.try_clone()?;
+    try_move_with(alloc, game, steps, place, pairs, &mut workspace)
+}
+
+/// As `try_move`, with the buffers of a workspace, which also counts what is taken up. Where there is no answer, its
+/// buffers are lost.
+pub fn try_move_with<S: Steps>(
+    alloc: Global,
+    game: &Game,
+    steps: &S,
+    place: &Place,
+    pairs: &Move,
+    workspace: &mut Workspace,
+) -> Result<Option<Place>, Over>
+    requires steps { S.of_rules steps.now game.now.rules }
+    requires place { IsPlaceOf game.now place.now }
+    ensures legal { IfOk result (λ after. IfSome after (Legal game.now place.now pairs.now)) }
+    ensures only { IfOk result (λ after. IfSome after (λ to.
+        (other : AbstractPlace) → Legal game.now place.now pairs.now other → other ≡ to)) }
+    ensures in_game { IfOk result (λ after. IfSome after (IsPlaceOf game.now)) }
+    ensures illegal { IfOk result (λ after. IfNone after (
+        (to : AbstractPlace) → ¬ Legal game.now place.now pairs.now to)) }
+    ensures heavy { (result ≡ Err Over.Deep) ⊎ (result ≡ Err Over.Wide) → IsHeavyToTry game.now place.now pairs.now }
+    ensures deep { result ≡ Err Over.Deep → IsDeepAt game.now (try_move pairs.now) place.now }
+    ensures wide { result ≡ Err Over.Wide → IsWideAt game.now (try_move pairs.now) place.now }
+    ensures fits { OnOk result ((cut : Bool) → FitsLimits game.now cut (try_move pairs.now) place.now) }
+{
+    let _positions = game.positions();
+    let mut search = search_in(alloc, game, steps, &mut workspace.searches);
+    let mut state = workspace.copy_of(&place.state)?;
     let end = follow(&mut search, &mut state, place.after, pairs.as_slice())?;
     // What was taken up is within the budget.
     let _opened = search.opened();
+    search.leave(&mut workspace.searches);
     match end {
         Some(last) => Ok(Some(Place {
             state,

@@ -1,81 +1,19 @@
--- The legal moves of a place are listed.
-use Rattle.std.proofs.Common.{rules, ◌≡◌, ℕ, ◌-◌, List, [], length, sym, subst, ap, ◌∙◌, inl, inr, arith}
-use Rattle.rbg_rules.specs.State.{AbstractGame, AbstractState}
-use Rattle.rbg_rules.specs.Limits.{most_openings, most_modifiers}
-use Rattle.rbg_rules.specs.Positions.{IsNumbered}
-use Rattle.rbg_rules.specs.Words.{Start}
-use Rattle.rbg_search.specs.Passing.{IsTooDeep}
-use Rattle.rbg_search.proofs.CallerLemmas.{too_deep}
-use Rattle.rbg_moves.proofs.Steps.{deep_from, wide_from}
-use Rattle.rbg_rules.specs.Questions.{list_moves, IsDeep}
-use Rattle.rbg_search.specs.Searching.{Searching}
-use Rattle.rbg_moves.proofs.Forcing.{fits_at}
-use Rattle.rbg_rules.specs.Moves.{AbstractPlace, stand_of}
-use Rattle.rbg_moves.proofs.Outcome.{all_differ, listed, gathered_at}
+-- What was gathered is listed.
+use Rattle.std.proofs.Common.{◌≢◌, ℕ, List, sym, subst}
+use Rattle.std.specs.Prelude.{AllPairs}
+use Rattle.rbg_moves.specs.Listing.{IsGathered}
+use Rattle.rbg_moves.proofs.Outcome.{listed}
 use Rattle.rbg_moves.proofs.list.list_moves_with.Goals as goal
-
-deep_of : (g : AbstractGame) → IsNumbered g.rules → (s : AbstractState) (f : Start) (items : List (ℕ × ℕ)) (most : ℕ) → items ≡ [] → most ≡ most_modifiers → IsTooDeep g list_moves s f (200 - length items) most → IsDeep g list_moves s f most
-deep_of g numbered s f items most none limit deep =
-    let there : IsTooDeep g list_moves s f most_modifiers most = subst (λ (qs : List (ℕ × ℕ)). IsTooDeep g list_moves s f (200 - length qs) most) none deep in
-    subst (λ (n : ℕ). IsDeep g list_moves s f n) (sym limit) (too_deep g numbered (subst (λ (n : ℕ). IsTooDeep g list_moves s f most_modifiers n) limit there))
-
-pub returns-in_err-cut-clause-deep : goal.returns-in_err-cut-clause-deep
-returns-in_err-cut-clause-deep g c e =
-    let asked = c.search_in.result in
-    let s = c.in_ok-try_clone.field-0.state in
-    let f = stand_of c.place.inside.after in
-    let state : s ≡ c.args.place.now.state = c.in_ok-try_clone.ensures.state ∙ ap (λ (y : AbstractPlace). y.state) c.place.view_is in
-    let start : f ≡ stand_of c.args.place.now.last = ap (λ (y : AbstractPlace). stand_of y.last) c.place.view_is in
-    deep_from c.args.game.now list_moves c.args.place.now asked.game s f asked.modifiers c.search_in.ensures.game state start c.search_in.ensures.modifiers
-    (deep_of asked.game c.list.ensures.lawful.numbered s f c.new.result.items asked.modifiers c.new.ensures c.search_in.ensures.modifiers (c.list.ensures.deep (search rules)))
-
-pub returns-in_err-cut-clause-wide : goal.returns-in_err-cut-clause-wide
-returns-in_err-cut-clause-wide g c e =
-    let asked = c.search_in.result in
-    let s = c.in_ok-try_clone.field-0.state in
-    let f = stand_of c.place.inside.after in
-    let state : s ≡ c.args.place.now.state = c.in_ok-try_clone.ensures.state ∙ ap (λ (y : AbstractPlace). y.state) c.place.view_is in
-    let start : f ≡ stand_of c.args.place.now.last = ap (λ (y : AbstractPlace). stand_of y.last) c.place.view_is in
-    let numbered : IsNumbered c.args.game.now.rules = subst (λ (y : AbstractGame). IsNumbered y.rules) c.search_in.ensures.game c.list.ensures.lawful.numbered in
-    wide_from c.args.game.now numbered list_moves c.args.place.now asked.game s f asked.opened asked.openings
-    c.search_in.ensures.game state start c.search_in.ensures.opened c.search_in.ensures.openings (c.list.ensures.wide (search rules))
-
-pub returns-in_err-cut-clause-heavy : goal.returns-in_err-cut-clause-heavy
-returns-in_err-cut-clause-heavy g c h = elim h [
-  | inl e ↦ inl (returns-in_err-cut-clause-deep g c e)
-  | inr e ↦ inr (returns-in_err-cut-clause-wide g c e)
-]
 
 pub sort-requires : goal.sort-requires
 sort-requires g c =
-    let game = c.args.game.now in
-    let place = c.args.place.now in
-    let here : AbstractPlace = record { state = c.in_ok-try_clone.field-0.state; last = c.place.inside.after } in
-    let same_place : here ≡ place = ap (λ (s : AbstractState). let x : AbstractPlace = record { state = s; last = c.place.inside.after } in x) c.in_ok-try_clone.ensures.state ∙ c.place.view_is in
-    all_differ game place c.args.max c.list.new.self.found.moves.items c.in_ok-cut.cut
-    (gathered_at game c.search_in.result.game place here c.new.result.items c.args.max c.new-2.result.items c.list.new.self.found.moves.items c.in_ok-cut.cut c.search_in.ensures.game same_place c.new.ensures c.new-2.ensures.items c.in_ok-cut.ensures.gathered)
+    subst (λ (ms : List (List (ℕ × ℕ))). AllPairs (λ a b. a ≢ b) ms) (sym c.in_ok-moves.ensures) c.in_ok-gathered.ensures.gathered.different
 
 pub returns-clause-listed : goal.returns-clause-listed
 returns-clause-listed g c =
     let game = c.args.game.now in
     let place = c.args.place.now in
-    let here : AbstractPlace = record { state = c.in_ok-try_clone.field-0.state; last = c.place.inside.after } in
-    let same_place : here ≡ place = ap (λ (s : AbstractState). let x : AbstractPlace = record { state = s; last = c.place.inside.after } in x) c.in_ok-try_clone.ensures.state ∙ c.place.view_is in
-    listed game place c.args.max c.list.new.self.found.moves.items c.sort.new.moves.items c.in_ok-cut.cut
-    (gathered_at game c.search_in.result.game place here c.new.result.items c.args.max c.new-2.result.items c.list.new.self.found.moves.items c.in_ok-cut.cut c.search_in.ensures.game same_place c.new.ensures c.new-2.ensures.items c.in_ok-cut.ensures.gathered)
+    let cut = c.in_ok-gathered.gathered.cut in
+    listed game place c.args.max c.in_ok-moves.moves.items c.sort.new.moves.items cut
+    (subst (λ (ms : List (List (ℕ × ℕ))). IsGathered game place c.args.max ms cut) (sym c.in_ok-moves.ensures) c.in_ok-gathered.ensures.gathered)
     c.sort.ensures.permutation c.sort.ensures.order
-
-pub returns-clause-fits : goal.returns-clause-fits
-returns-clause-fits g c =
-    let game = c.args.game.now in
-    let asked = c.search_in.result in
-    let s = c.in_ok-try_clone.field-0.state in
-    let f = stand_of c.place.inside.after in
-    let new = c.list.new.self.search in
-    let left = 200 - length c.new.result.items in
-    let state : s ≡ c.args.place.now.state = c.in_ok-try_clone.ensures.state ∙ ap (λ (y : AbstractPlace). y.state) c.place.view_is in
-    let start : f ≡ stand_of c.args.place.now.last = ap (λ (y : AbstractPlace). stand_of y.last) c.place.view_is in
-    let budget : new.openings ≡ most_openings = ap (λ (y : Searching). y.openings) c.list.ensures.search ∙ c.search_in.ensures.openings in
-    let none : length c.new.result.items ≡ 0 = ap (λ (ps : List (ℕ × ℕ)). length ps) c.new.ensures in
-    fits_at game asked.game c.args.place.now s f c.in_ok-cut.cut list_moves asked.opened new.opened left asked.modifiers new.openings
-    c.search_in.ensures.game state start c.search_in.ensures.opened c.opened-opened.ensures.within budget (omega (arith, none)) c.search_in.ensures.modifiers c.in_ok-cut.ensures.forced

@@ -1,79 +1,23 @@
-use Rattle.std.proofs.Common.{◌≡◌, ℕ, suc, ◌+◌, List, ◌∷◌, drop, sym, ap, ◌∙◌, subst, arith}
-use Rattle.std.specs.Prelude.{Option}
-use Rattle.std.proofs.Math.Seq.{drop-cons}
-use Rattle.std.proofs.lemmas.List.{drop_all}
-use Rattle.rbg_rules.specs.State.{AbstractState}
-use Rattle.rbg_rules.specs.Actions.{Applies}
-use Rattle.rbg_rules.specs.Moves.{AbstractPlace, stand_of, Legal}
+use Rattle.std.proofs.Common.{ℕ, List, sym, subst}
+use Rattle.rbg_rules.specs.Moves.{AbstractPlace, Legal, IsLegal}
 use Rattle.rbg_rules.specs.Places.{IsPlaceOf}
-use Rattle.rbg_state.specs.History.{History}
-use Rattle.rbg_moves.specs.internal.Stepping.{standing_at, place_behind, IsValidAt, IsMadeFrom, goes_on}
-use Rattle.rbg_moves.proofs.Steps.{made_next, made_on, made_end, valid_next, next_there, place_after}
+use Rattle.rbg_moves.proofs.Copies.{from_copy}
 use Rattle.rbg_moves.proofs.making.make_move.Goals as goal
 
-from_copy : (place : AbstractPlace) (s t : AbstractState) (last : Option ℕ) → s ≡ t → (record { state = t; last = last }) ≡ place → (let r : AbstractPlace = record { state = s; last = last } in r) ≡ place
-from_copy place s t last copied is = ap (λ (u : AbstractState). let r : AbstractPlace = record { state = u; last = last } in r) copied ∙ is
-
-pub loop-pair-init : goal.loop-pair-init
-loop-pair-init c =
-    let game = c.args.game.now in
+pub make_all-requires-clause-place : goal.make_all-requires-clause-place
+make_all-requires-clause-place c =
     let there = from_copy c.args.place.now c.in_ok-state.state.state c.place.inside.state.state c.place.inside.after c.in_ok-state.ensures.state c.place.view_is in
-    record {
-      in_game = subst (IsPlaceOf game) (sym there) c.requires.place;
-      goes_on = λ to legal. goes_on (subst (λ (x : AbstractPlace). Legal game x c.as_slice-all.result.now to) (sym there) (subst (λ (ps : List (ℕ × ℕ)). Legal game c.args.place.now ps to) (sym c.as_slice-all.ensures.pairs) legal));
-    }
+    subst (IsPlaceOf c.args.game.now) (sym there) c.requires.place
 
-pub apply_at-requires-clause-valid : goal.apply_at-requires-clause-valid
-apply_at-requires-clause-valid c =
-    let game = c.args.game.now in
-    let lawful = c.positions-positions.ensures.lawful in
-    let all = c.as_slice-all.result.now in
-    let k = c.loop-pair.pair-index in
-    let s = c.loop-pair.state.state in
-    let place : AbstractPlace = record { state = s; last = c.loop-pair.after } in
-    let v = c.pair.inside.vertex in
-    let p = c.pair.inside.position in
-    let cons : drop k all ≡ (v, p) ∷ drop (suc k) all = drop-cons all k c.pair-item.result c.loop-pair-test.true ∙ ap (λ (q : ℕ × ℕ). q ∷ drop (suc k) all) (sym c.pair-item.is ∙ sym c.pair.view_is) in
-    let to = c.requires.legal.0 in
-    let made = subst (λ (ps : List (ℕ × ℕ)). IsMadeFrom game place ps to) cons (c.loop-pair.invariant.goes_on to c.requires.legal.1) in
-    let next = made_next game lawful.numbered place v p (drop (suc k) all) to made in
-    let same : c.reserve.new.self.state ≡ s = ap (λ (x : History). x.state) c.reserve.ensures.kept in
-    subst (λ (u : AbstractState). IsValidAt game u v p) (sym same)
-    (valid_next game lawful.numbered s (stand_of c.loop-pair.after) v p (next_there game lawful s (stand_of c.loop-pair.after) v p c.loop-pair.invariant.in_game.state next) next)
-
-pub loop-pair-preserved : goal.loop-pair-preserved
-loop-pair-preserved c =
-    let game = c.args.game.now in
-    let lawful = c.positions-positions.ensures.lawful in
-    let all = c.as_slice-all.result.now in
-    let k = c.loop-pair.pair-index in
-    let s = c.loop-pair.state.state in
-    let place : AbstractPlace = record { state = s; last = c.loop-pair.after } in
-    let v = c.pair.inside.vertex in
-    let p = c.pair.inside.position in
-    let cons : drop k all ≡ (v, p) ∷ drop (suc k) all = drop-cons all k c.pair-item.result c.loop-pair-test.true ∙ ap (λ (q : ℕ × ℕ). q ∷ drop (suc k) all) (sym c.pair-item.is ∙ sym c.pair.view_is) in
-    let to = c.requires.legal.0 in
-    let made = subst (λ (ps : List (ℕ × ℕ)). IsMadeFrom game place ps to) cons (c.loop-pair.invariant.goes_on to c.requires.legal.1) in
-    let next = made_next game lawful.numbered place v p (drop (suc k) all) to made in
-    let same : c.reserve.new.self.state ≡ s = ap (λ (x : History). x.state) c.reserve.ensures.kept in
-    let later = c.apply_at.new.state.state in
-    let applied : Applies game p (standing_at s v) later = subst (λ (u : AbstractState). Applies game p (standing_at u v) later) same c.apply_at.ensures.applied in
-    let further : suc k ≡ k + 1 = omega arith in
-    record {
-      in_game = place_after game lawful.numbered later p next.modifies c.apply_at.ensures.fits;
-      goes_on = λ end legal. subst (λ (n : ℕ). IsMadeFrom game (place_behind later p) (drop n all) end) further
-          (made_on game lawful.numbered place v p (drop (suc k) all) end later applied
-          (subst (λ (ps : List (ℕ × ℕ)). IsMadeFrom game place ps end) cons (c.loop-pair.invariant.goes_on end legal)));
-    }
+pub make_all-requires-clause-legal : goal.make_all-requires-clause-legal
+make_all-requires-clause-legal c =
+    let there = from_copy c.args.place.now c.in_ok-state.state.state c.place.inside.state.state c.place.inside.after c.in_ok-state.ensures.state c.place.view_is in
+    subst (λ (x : AbstractPlace). IsLegal c.args.game.now x c.as_slice.result.now) (sym there)
+    (subst (λ (ps : List (ℕ × ℕ)). IsLegal c.args.game.now c.args.place.now ps) (sym c.as_slice.ensures.pairs) c.requires.legal)
 
 pub returns-clause-to : goal.returns-clause-to
 returns-clause-to c =
-    let game = c.args.game.now in
-    let lawful = c.positions-positions.ensures.lawful in
-    let all = c.as_slice-all.result.now in
-    let k = c.loop-pair.pair-index in
-    let s = c.loop-pair.state.state in
-    let place : AbstractPlace = record { state = s; last = c.loop-pair.after } in
-    let to = c.requires.legal.0 in
-    let made = subst (λ (ps : List (ℕ × ℕ)). IsMadeFrom game place ps to) (drop_all k all c.loop-pair-test.false) (c.loop-pair.invariant.goes_on to c.requires.legal.1) in
-    subst (λ (x : AbstractPlace). Legal game c.args.place.now c.args.pairs.now x) (made_end game lawful.numbered place to made) c.requires.legal.1
+    let there = from_copy c.args.place.now c.in_ok-state.state.state c.place.inside.state.state c.place.inside.after c.in_ok-state.ensures.state c.place.view_is in
+    let from : AbstractPlace = record { state = c.in_ok-state.state.state; last = c.place.inside.after } in
+    subst (λ (x : AbstractPlace). Legal c.args.game.now x c.args.pairs.now c.in_ok-to.to) there
+    (subst (λ (ps : List (ℕ × ℕ)). Legal c.args.game.now from ps c.in_ok-to.to) c.as_slice.ensures.pairs c.in_ok-to.ensures.to)

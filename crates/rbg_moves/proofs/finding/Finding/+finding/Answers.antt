@@ -1,8 +1,8 @@
 -- A move that goes on from where one stands.
 use Rattle.std.proofs.Common.{rules, ◌≡◌, ℕ, suc, ◌+◌, ◌-◌, ◌<◌, List, ◌∷◌, [], ◌++◌, length, get_or, false, refl, sym, ap, ◌∙◌, subst, arith}
 use Rattle.std.specs.Prelude.{All, Option, Some, None, IfSome, IfNone}
-use Rattle.std.proofs.lemmas.List.{take_all}
-use Rattle.rbg_pairs.specs.Move.{most_pairs}
+use Rattle.std.proofs.lemmas.List.{take_all, length_push}
+use Rattle.rbg_pairs.specs.Move.{most_pairs, IsMoveLength}
 use Rattle.rbg_rules.specs.Positions.{IsSwitchAt}
 use Rattle.rbg_rules.specs.Words.{Start, after}
 use Rattle.rbg_rules.specs.State.{AbstractGame, AbstractState, IsStateOf}
@@ -64,7 +64,7 @@ find-returns-in-Some-clause-found g t c =
     let switches : IsSwitchAt game.rules last.1 = subst (λ (h : AbstractGame). IsSwitchAt h.rules last.1) c.game-game.ensures.game c.in-Some.ensures.switches in
     record {
       pairs = last ∷ [];
-      joined = c.move_of.ensures ∙ ap (λ (qs : List (ℕ × ℕ)). qs ++ last ∷ []) c.as_slice.ensures.value;
+      joined = c.in_ok-pairs.ensures ∙ ap (λ (qs : List (ℕ × ℕ)). qs ++ last ∷ []) c.as_slice.ensures.value;
       legal = (place_behind next.later last.1, legal_end game numbered (record { state = s; last = c.args.after }) last.0 last.1 next.later next switches (next_applies game numbered s f last.0 last.1 next));
     }
 
@@ -74,7 +74,8 @@ find-returns-in-Some-clause-counted g t c =
     let s = c.args.self.now.state.state in
     let f = stand_of c.args.after in
     let numbered = c.game-game.ensures.lawful.numbered in
-    counts_reached game numbered (find_begins game s f) (subst (λ (h : Start). CountsOpenings game reach s h c.args.self.now.search.opened c.reach.new.self.opened) c.origin_after.ensures c.reach.ensures.counted)
+    subst (λ (x : Searching). CountsOpenings game find_move s f c.args.self.now.search.opened x.opened) (sym c.reuse.ensures)
+    (counts_reached game numbered (find_begins game s f) (subst (λ (h : Start). CountsOpenings game reach s h c.args.self.now.search.opened c.reach.new.self.opened) c.origin_after.ensures c.reach.ensures.counted))
 
 pub find-loop-pair-init : goal.find-loop-pair-init
 find-loop-pair-init g t c =
@@ -278,9 +279,9 @@ find-returns-in-Some-found-clause-found g t c =
     let now = c.loop-pair.self in
     let there : now.state.state ≡ s = ap (λ (x : History). x.state) c.loop-pair.invariant.state in
     let applied = applied_back game c.game-game.result.now s now.state.state next.later v p c.game-game.ensures.game there (pair_applies game s f xs ends k here) in
-    let behind = some_at c.in_ok-found.found c.in-Some-found.pairs (GoesOnBehind c.game-game.result.now now.state.state v p now.front.items) c.in-Some-found.is c.in_ok-found.ensures.found in
-    behind_found game numbered (record { state = s; last = c.args.after }) v p c.args.self.now.front.items c.in-Some-found.pairs next (pair_plain game s f xs ends k here)
-    (behind_as game c.game-game.result.now s now.state.state v p c.args.self.now.front.items now.front.items c.in-Some-found.pairs c.game-game.ensures.game there c.loop-pair.invariant.front behind)
+    let behind = some_at c.in_ok-found.found c.in-Some-found.pairs (λ pairs. GoesOnBehind c.game-game.result.now now.state.state v p now.front.items pairs.items) c.in-Some-found.is c.in_ok-found.ensures.found in
+    behind_found game numbered (record { state = s; last = c.args.after }) v p c.args.self.now.front.items c.in-Some-found.pairs.items next (pair_plain game s f xs ends k here)
+    (behind_as game c.game-game.result.now s now.state.state v p c.args.self.now.front.items now.front.items c.in-Some-found.pairs.items c.game-game.ensures.game there c.loop-pair.invariant.front behind)
 
 pub find-returns-in-Some-found-clause-counted : goal.find-returns-in-Some-found-clause-counted
 find-returns-in-Some-found-clause-counted g t c =
@@ -302,7 +303,8 @@ find-returns-in-Some-found-clause-counted g t c =
     let there : now.state.state ≡ s = ap (λ (x : History). x.state) c.loop-pair.invariant.state in
     let applied = applied_back game c.game-game.result.now s now.state.state next.later v p c.game-game.ensures.game there (pair_applies game s f xs ends k here) in
     let counted = counts_as game c.game-game.result.now next.later p now.search.opened c.find_behind.new.self.search.opened c.game-game.ensures.game (c.in_ok-found.ensures.counted next.later applied) in
-    counts_end game numbered (pair_counts game s f xs ends k here c.args.self.now.search.opened now.search.opened c.find_behind.new.self.search.opened c.loop-pair.invariant.counted counted)
+    subst (λ (x : Searching). CountsOpenings game find_move s f c.args.self.now.search.opened x.opened) (sym c.reuse-in-Some-found.ensures)
+    (counts_end game numbered (pair_counts game s f xs ends k here c.args.self.now.search.opened now.search.opened c.find_behind.new.self.search.opened c.loop-pair.invariant.counted counted))
 
 pub find-loop-pair-preserved : goal.find-loop-pair-preserved
 find-loop-pair-preserved g t c =
@@ -358,8 +360,9 @@ find-returns-in-Some-clause-forced g t c =
     let next = next_from game s f (start_of c.origin_after.result) c.deref.result.now items c.in_ok-reached.reached.ends last c.in_ok-reached.ensures.reached c.origin_after.ensures c.deref.ensures.value c.in-Some.ensures.there in
     let switches : IsSwitchAt game.rules last.1 = subst (λ (h : AbstractGame). IsSwitchAt h.rules last.1) c.game-game.ensures.game c.in-Some.ensures.switches in
     let legal = legal_end game numbered place last.0 last.1 next.later next switches (next_applies game numbered s f last.0 last.1 next) in
-    found_forced game numbered place (last ∷ []) c.args.self.now.search.opened c.reach.new.self.opened c.reach.new.self.opened left most (place_behind next.later last.1, legal) (omega arith)
-    (subst (λ (h : Start). CountsForced game false reach s h c.args.self.now.search.opened c.reach.new.self.opened left most) c.origin_after.ensures (c.in_ok-reached.ensures.forced false left))
+    subst (λ (x : Searching). CountsForced game false find_move s f c.args.self.now.search.opened x.opened left most) (sym c.reuse.ensures)
+    (found_forced game numbered place (last ∷ []) c.args.self.now.search.opened c.reach.new.self.opened c.reach.new.self.opened left most (place_behind next.later last.1, legal) (omega arith)
+    (subst (λ (h : Start). CountsForced game false reach s h c.args.self.now.search.opened c.reach.new.self.opened left most) c.origin_after.ensures (c.in_ok-reached.ensures.forced false left)))
 
 pub find-returns-in-Some-found-clause-forced : goal.find-returns-in-Some-found-clause-forced
 find-returns-in-Some-found-clause-forced g t c =
@@ -380,11 +383,12 @@ find-returns-in-Some-found-clause-forced g t c =
     let now = c.loop-pair.self in
     let there : now.state.state ≡ s = ap (λ (x : History). x.state) c.loop-pair.invariant.state in
     let applied = applied_back game c.game-game.result.now s now.state.state next.later v p c.game-game.ensures.game there (pair_applies game s f xs ends k here) in
-    let behind = some_at c.in_ok-found.found c.in-Some-found.pairs (GoesOnBehind c.game-game.result.now now.state.state v p now.front.items) c.in-Some-found.is c.in_ok-found.ensures.found in
-    let found = behind_found game numbered (record { state = s; last = c.args.after }) v p c.args.self.now.front.items c.in-Some-found.pairs next (pair_plain game s f xs ends k here)
-    (behind_as game c.game-game.result.now s now.state.state v p c.args.self.now.front.items now.front.items c.in-Some-found.pairs c.game-game.ensures.game there c.loop-pair.invariant.front behind) in
+    let behind = some_at c.in_ok-found.found c.in-Some-found.pairs (λ pairs. GoesOnBehind c.game-game.result.now now.state.state v p now.front.items pairs.items) c.in-Some-found.is c.in_ok-found.ensures.found in
+    let found = behind_found game numbered (record { state = s; last = c.args.after }) v p c.args.self.now.front.items c.in-Some-found.pairs.items next (pair_plain game s f xs ends k here)
+    (behind_as game c.game-game.result.now s now.state.state v p c.args.self.now.front.items now.front.items c.in-Some-found.pairs.items c.game-game.ensures.game there c.loop-pair.invariant.front behind) in
     let more = c.in_ok-found.ensures.forced next.later applied in
-    found_so_far game numbered (record { state = s; last = c.args.after }) found.pairs _ c.args.self.now.search.opened now.search.opened c.find_behind.new.self.search.opened (most_pairs - length c.args.self.now.front.items) c.args.self.now.search.modifiers found.legal c.loop-pair.invariant.forced (omega (arith, more.fits))
+    subst (λ (x : Searching). CountsForced game false find_move s f c.args.self.now.search.opened x.opened (most_pairs - length c.args.self.now.front.items) c.args.self.now.search.modifiers) (sym c.reuse-in-Some-found.ensures)
+    (found_so_far game numbered (record { state = s; last = c.args.after }) found.pairs _ c.args.self.now.search.opened now.search.opened c.find_behind.new.self.search.opened (most_pairs - length c.args.self.now.front.items) c.args.self.now.search.modifiers found.legal c.loop-pair.invariant.forced (omega (arith, more.fits)))
 
 pub find-returns-clause-forced : goal.find-returns-clause-forced
 find-returns-clause-forced g t c =
@@ -406,7 +410,7 @@ find-returns-clause-forced g t c =
     let finished = none_found game numbered place f xs ends part refl plain all in
     let taken = subst (λ (ds : List (ℕ × ℕ)). TakenSoFar game find_move s f ds a c.loop-pair.self.search.opened left most) (take_all k xs c.loop-pair-test.false) c.loop-pair.invariant.forced in
     let counts = finished_forced game numbered place xs ends a c.loop-pair.self.search.opened left most finished part taken in
-    subst (λ (x : Searching). CountsForced game false find_move s f a x.opened left most) (sym c.reuse.ensures) counts
+    subst (λ (x : Searching). CountsForced game false find_move s f a x.opened left most) (sym c.reuse-2.ensures) counts
 
 pub find_behind-returns-clause-forced : goal.find_behind-returns-clause-forced
 find_behind-returns-clause-forced g t c later applied =
@@ -417,3 +421,16 @@ find_behind-returns-clause-forced g t c later applied =
     let fewer : most_pairs - length c.push.new.self.items ≡ left = ap (λ (n : ℕ). most_pairs - n) c.push.ensures.len in
     one_behind game c.requires.lawful.numbered p (standing_at c.args.self.now.state.state c.args.vertex) c.apply_at.new.state.state later (λ (u : AbstractState). CountsForced game false find_move u (after p) c.args.self.now.search.opened c.find.new.self.search.opened left most) c.apply_at.ensures.applied applied
     (forced_as game c.args.self.now.search.game false find_move c.apply_at.new.state.state (after p) c.args.self.now.search.opened c.find.new.self.search.opened _ _ _ _ (sym c.requires.game) fewer refl c.in_ok-found.ensures.forced)
+
+-- ---- how long the move is
+
+pub find-returns-in-Some-clause-length : goal.find-returns-in-Some-clause-length
+find-returns-in-Some-clause-length g t c =
+    let front : List (ℕ × ℕ) = c.args.self.now.front.items in
+    let whole : c.in_ok-pairs.pairs.items ≡ front ++ c.in-Some.last ∷ [] = c.in_ok-pairs.ensures ∙ ap (λ (qs : List (ℕ × ℕ)). qs ++ c.in-Some.last ∷ []) c.as_slice.ensures.value in
+    let size : length c.in_ok-pairs.pairs.items ≡ length front + 1 = ap (λ (qs : List (ℕ × ℕ)). length qs) whole ∙ length_push front c.in-Some.last in
+    (omega (arith, size), omega (arith, size, c.requires.short))
+
+pub find-returns-in-Some-found-clause-length : goal.find-returns-in-Some-found-clause-length
+find-returns-in-Some-found-clause-length g t c =
+    some_at c.in_ok-found.found c.in-Some-found.pairs (λ pairs. IsMoveLength (length pairs.items)) c.in-Some-found.is c.in_ok-found.ensures.length

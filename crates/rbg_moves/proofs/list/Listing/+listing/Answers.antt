@@ -62,8 +62,8 @@ list-returns-then-branch-clause-gathered g t c =
     let ends = c.in_ok-reached.reached.ends in
     let front : List (ℕ × ℕ) = c.args.self.now.front.items in
     let max = c.args.self.now.found.max in
-    let old : List (List (ℕ × ℕ)) = c.args.self.now.found.moves.items in
-    let new : List (List (ℕ × ℕ)) = c.add_switches.new.self.moves.items in
+    let old : List (List (ℕ × ℕ)) = c.args.self.now.found.moves in
+    let new : List (List (ℕ × ℕ)) = c.add_switches.new.self.moves in
     let part = part_as game place.state (start_of c.origin_after.result) (stand_of place.last) pairs pairs ends c.origin_after.ensures refl c.in_ok-reached.ensures.reached in
     switches_cut game place pairs ends part front max old new
     (switches_as c.game-game.result.now game c.deref.result.now pairs c.as_slice.result.now front max old new c.in_ok-add_switches.field-0 true c.game-game.ensures.game c.deref.ensures.value c.as_slice.ensures.value c.if-branch.true c.in_ok-add_switches.ensures.lists)
@@ -82,8 +82,8 @@ list-loop-pair-init g t c =
     let ends = c.in_ok-reached.reached.ends in
     let front : List (ℕ × ℕ) = c.args.self.now.front.items in
     let max = c.args.self.now.found.max in
-    let old : List (List (ℕ × ℕ)) = c.args.self.now.found.moves.items in
-    let new : List (List (ℕ × ℕ)) = c.add_switches.new.self.moves.items in
+    let old : List (List (ℕ × ℕ)) = c.args.self.now.found.moves in
+    let new : List (List (ℕ × ℕ)) = c.add_switches.new.self.moves in
     let part = part_as game place.state (start_of c.origin_after.result) (stand_of place.last) pairs pairs ends c.origin_after.ensures refl c.in_ok-reached.ensures.reached in
     let gathered = others_begin game numbered place pairs ends part front max old new
     (switches_as c.game-game.result.now game c.deref.result.now pairs c.as_slice.result.now front max old new c.in_ok-add_switches.field-0 false c.game-game.ensures.game c.deref.ensures.value c.as_slice.ensures.value c.if-branch.false c.in_ok-add_switches.ensures.lists) in
@@ -201,11 +201,11 @@ list-returns-then-branch-2-clause-gathered g t c =
     let same_state = ap (λ (h : History). h.state) c.loop-pair.invariant.state in
     let front : List (ℕ × ℕ) = c.args.self.now.front.items in
     let max = c.args.self.now.found.max in
-    let old : List (List (ℕ × ℕ)) = c.args.self.now.found.moves.items in
-    let new : List (List (ℕ × ℕ)) = c.list_behind.new.self.found.moves.items in
-    let behind = subst (λ (b : Bool). GathersBehind now.search.game now.state.state q now.front.items now.found.max now.found.moves.items new b) c.if-branch-2.true c.in_ok-list_behind.ensures.gathered in
+    let old : List (List (ℕ × ℕ)) = c.args.self.now.found.moves in
+    let new : List (List (ℕ × ℕ)) = c.list_behind.new.self.found.moves in
+    let behind = subst (λ (b : Bool). GathersBehind now.search.game now.state.state q now.front.items now.found.max now.found.moves new b) c.if-branch-2.true c.in_ok-list_behind.ensures.gathered in
     others_cut game place (take (k + 1) xs) front max old new
-    (further_gathered game now.search.game c.game-game.ensures.lawful.numbered place now.state.state xs ends part front now.front.items max now.found.max old now.found.moves.items new true k q under (get_or_default xs k q (0, 0) under) plain same same_state c.loop-pair.invariant.front c.loop-pair.invariant.max c.loop-pair.invariant.gathered behind)
+    (further_gathered game now.search.game c.game-game.ensures.lawful.numbered place now.state.state xs ends part front now.front.items max now.found.max old now.found.moves new true k q under (get_or_default xs k q (0, 0) under) plain same same_state c.loop-pair.invariant.front c.loop-pair.invariant.max c.loop-pair.invariant.gathered behind)
 
 pub list-returns-then-branch-2-clause-counted : goal.list-returns-then-branch-2-clause-counted
 list-returns-then-branch-2-clause-counted g t c =
@@ -241,14 +241,14 @@ list-loop-pair-preserved g t c =
     let same_state = ap (λ (h : History). h.state) inv.state in
     let front : List (ℕ × ℕ) = c.args.self.now.front.items in
     let max = c.args.self.now.found.max in
-    let old : List (List (ℕ × ℕ)) = c.args.self.now.found.moves.items in
+    let old : List (List (ℕ × ℕ)) = c.args.self.now.found.moves in
     elim c.if-not-is_switch.branch [
       | list-then-not-is_switch+else-len-eq-MAX_PAIRS+in_ok-list_behind+else-branch-2 w ↦
           let then = w.list_behind.new.self in
           let done = w.in_ok-list_behind.ensures in
-          let new : List (List (ℕ × ℕ)) = then.found.moves.items in
+          let new : List (List (ℕ × ℕ)) = then.found.moves in
           let plain = plain_told game c.game-game.result.now q.1 c.is_switch.result c.game-game.ensures.game c.is_switch.ensures w.if-not-is_switch.true in
-          let behind = subst (λ (b : Bool). GathersBehind now.search.game now.state.state q now.front.items now.found.max now.found.moves.items new b) w.if-branch-2.false done.gathered in
+          let behind = subst (λ (b : Bool). GathersBehind now.search.game now.state.state q now.front.items now.found.max now.found.moves new b) w.if-branch-2.false done.gathered in
           rw w.self-is (record {
             search = done.search ∙ ap (λ (x : Searching). let y : Searching = record x { opened = then.search.opened } in y) inv.search;
             state = done.state ∙ ap (λ (x : History). let y : History = record x { room = then.state.room } in y) inv.state;
@@ -257,7 +257,7 @@ list-loop-pair-preserved g t c =
             front = done.front ∙ inv.front;
             max = done.max ∙ inv.max;
             few = subst (λ (n : ℕ). length new ≤ n) (sym done.max) done.few;
-            gathered = further_gathered game now.search.game c.game-game.ensures.lawful.numbered place now.state.state xs ends part front now.front.items max now.found.max old now.found.moves.items new false k q under (get_or_default xs k q (0, 0) under) plain same same_state inv.front inv.max inv.gathered behind;
+            gathered = further_gathered game now.search.game c.game-game.ensures.lawful.numbered place now.state.state xs ends part front now.front.items max now.found.max old now.found.moves new false k q under (get_or_default xs k q (0, 0) under) plain same same_state inv.front inv.max inv.gathered behind;
             counted = further_counted game now.search.game c.game-game.ensures.lawful.numbered place now.state.state xs ends part k q under (get_or_default xs k q (0, 0) under) plain same same_state c.args.self.now.search.opened now.search.opened then.search.opened inv.counted done.counted;
             forced =
                 let next : IsNext game place.state (stand_of place.last) q.0 q.1 = (part.next q.0 q.1).0 (k, under, get_or_default xs k q (0, 0) under) in
@@ -282,7 +282,7 @@ list-loop-pair-preserved g t c =
             front = inv.front;
             max = inv.max;
             few = inv.few;
-            gathered = others_skip game place xs front max old now.found.moves.items k q under (get_or_default xs k q (0, 0) under) switches inv.gathered;
+            gathered = others_skip game place xs front max old now.found.moves k q under (get_or_default xs k q (0, 0) under) switches inv.gathered;
             counted = counts_skipped game c.game-game.ensures.lawful.numbered xs k inv.counted under;
             forced = so_far_skipped game c.game-game.ensures.lawful.numbered list_moves place.state (stand_of place.last) xs k c.args.self.now.search.opened now.search.opened _ _ under switches inv.forced;
           })
@@ -299,12 +299,12 @@ list-returns-clause-gathered g t c =
     let part = part_as game place.state (start_of c.origin_after.result) (stand_of place.last) c.in_ok-reached.reached.pairs.items xs ends c.origin_after.ensures c.deref-pair-items.ensures.value c.in_ok-reached.ensures.reached in
     let front : List (ℕ × ℕ) = c.args.self.now.front.items in
     let max = c.args.self.now.found.max in
-    let old : List (List (ℕ × ℕ)) = c.args.self.now.found.moves.items in
+    let old : List (List (ℕ × ℕ)) = c.args.self.now.found.moves in
     let past = c.loop-pair-test.false in
     let up = c.loop-pair.auto.pair-index-end in
     let all : k ≡ length xs = omega (arith, past, up) in
-    others_end game c.game-game.ensures.lawful.numbered place xs ends part front max old now.found.moves.items
-    (subst (λ (n : ℕ). Gathers (IsLegalBy game place (IsSwitchOr game.rules (take n xs))) front max old now.found.moves.items false) all c.loop-pair.invariant.gathered)
+    others_end game c.game-game.ensures.lawful.numbered place xs ends part front max old now.found.moves
+    (subst (λ (n : ℕ). Gathers (IsLegalBy game place (IsSwitchOr game.rules (take n xs))) front max old now.found.moves false) all c.loop-pair.invariant.gathered)
 
 pub list_behind-list-requires : goal.list_behind-list-requires
 list_behind-list-requires g t c κs within =
@@ -346,8 +346,8 @@ list_behind-returns-clause-gathered g t c =
     let q : ℕ × ℕ = c.args.pair in
     let front : List (ℕ × ℕ) = c.args.self.now.front.items in
     let max = c.args.self.now.found.max in
-    let old : List (List (ℕ × ℕ)) = c.args.self.now.found.moves.items in
-    let new : List (List (ℕ × ℕ)) = c.list.new.self.found.moves.items in
+    let old : List (List (ℕ × ℕ)) = c.args.self.now.found.moves in
+    let new : List (List (ℕ × ℕ)) = c.list.new.self.found.moves in
     let cut = c.in_ok-cut.cut in
     let here = c.apply_at.new.state.state in
     let gathered = subst (λ (ys : List (ℕ × ℕ)). Gathers (IsLegal game (place_behind here c.pair.inside.position)) ys max old new cut) c.push.ensures.items c.in_ok-cut.ensures.gathered in

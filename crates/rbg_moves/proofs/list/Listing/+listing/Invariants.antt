@@ -22,8 +22,8 @@ invariant-list-loop-pair g l = record {
   enough : 2 ≤ l.self.state.room;
   front : l.self.front.items ≡ l.fn.self.front.items;
   max : l.self.found.max ≡ l.fn.self.found.max;
-  few : length l.self.found.moves.items ≤ l.self.found.max;
-  gathered : Gathers (IsLegalBy l.fn.self.search.game (record { state = l.fn.self.state.state; last = l.fn.after }) (IsSwitchOr l.fn.self.search.game.rules (take l.pair-index l.pair-items))) l.fn.self.front.items l.fn.self.found.max l.fn.self.found.moves.items l.self.found.moves.items false;
+  few : length l.self.found.moves ≤ l.self.found.max;
+  gathered : Gathers (IsLegalBy l.fn.self.search.game (record { state = l.fn.self.state.state; last = l.fn.after }) (IsSwitchOr l.fn.self.search.game.rules (take l.pair-index l.pair-items))) l.fn.self.front.items l.fn.self.found.max l.fn.self.found.moves l.self.found.moves false;
   counted : CountsUpTo l.fn.self.search.game list_moves l.fn.self.state.state (stand_of l.fn.after) (take l.pair-index l.pair-items) l.fn.self.search.opened l.self.search.opened;
   forced : TakenSoFar l.fn.self.search.game list_moves l.fn.self.state.state (stand_of l.fn.after) (take l.pair-index l.pair-items) l.fn.self.search.opened l.self.search.opened (most_pairs - length l.fn.self.front.items) l.fn.self.search.modifiers;
 }

@@ -3,10 +3,10 @@ use Rattle.std.proofs.Common.{drop}
 use Rattle.rbg_rules.specs.Moves.{AbstractPlace, Legal}
 use Rattle.rbg_rules.specs.Places.{IsPlaceOf}
 use Rattle.rbg_moves.specs.internal.Stepping.{IsMadeFrom}
-use Rattle.rbg_moves.proofs.making.make_move.Given as goal
+use Rattle.rbg_moves.proofs.making.make_all.Given as goal
 
 abbrev pub invariant-loop-pair : goal.invariant-loop-pair
 invariant-loop-pair l = record {
   in_game : IsPlaceOf l.game (record { state = l.state.state; last = l.after });
-  goes_on : (to : AbstractPlace) → Legal l.game l.place l.pairs to → IsMadeFrom l.game (record { state = l.state.state; last = l.after }) (drop l.pair-index l.all) to;
+  goes_on : (to : AbstractPlace) → Legal l.game (record { state = l.fn.state.state; last = l.fn.after }) l.pairs to → IsMadeFrom l.game (record { state = l.state.state; last = l.after }) (drop l.pair-index l.pairs) to;
 }

@@ -10,8 +10,9 @@ use Rattle.rbg_search.specs.Searching.{Searching}
 use Rattle.rbg_search.specs.Forced.{CountsForced}
 use Rattle.rbg_moves.specs.Limits.{IsDeepAt, IsWideAt, FitsLimits}
 use Rattle.rbg_moves.proofs.Forcing.{counts_uncut, fits_at, illegal_fits}
+use Rattle.rbg_moves.proofs.Copies.{from_copy}
 use Rattle.rbg_moves.proofs.Steps.{deep_from, wide_from}
-use Rattle.rbg_moves.proofs.trying.try_move.Goals as goal
+use Rattle.rbg_moves.proofs.trying.try_move_with.Goals as goal
 
 tried_as : (game g : AbstractGame) (place from : AbstractPlace) (ps qs : List (ℕ × ℕ)) (new : AbstractState) (end end' : Option ℕ) → g ≡ game → from ≡ place → qs ≡ ps → end ≡ end' → IsTried g from qs new end → IsTried game place ps new end'
 tried_as game g place from ps qs new end end' same there is becomes tried =
@@ -23,9 +24,6 @@ tried_as game g place from ps qs new end end' same there is becomes tried =
 some_counts : (o : Option ℕ) (last : ℕ) (A : Type 0) → o ≡ Some last → IfSome o (λ _. A) → A
 some_counts (Some x) last A is fact = fact
 some_counts None last A is fact = absurd cc
-
-from_copy : (place : AbstractPlace) (s t : AbstractState) (last : Option ℕ) → s ≡ t → (record { state = t; last = last }) ≡ place → (let r : AbstractPlace = record { state = s; last = last } in r) ≡ place
-from_copy place s t last copied is = ap (λ (u : AbstractState). let r : AbstractPlace = record { state = u; last = last } in r) copied ∙ is
 
 pub returns-in_err-end-clause-deep : goal.returns-in_err-end-clause-deep
 returns-in_err-end-clause-deep x c e =
@@ -60,8 +58,8 @@ returns-in-Some-clause-only x c other also =
     let legal = tried_as game c.search_in-search.result.game c.args.place.now _ c.args.pairs.now c.as_slice.result.now c.follow.new.state.state c.in_ok-end.end _ c.search_in-search.ensures.game there c.as_slice.ensures.pairs c.in-Some.is c.in_ok-end.ensures.tried in
     one_place_law game c.positions-positions.ensures.lawful.numbered c.args.place.now c.args.pairs.now other (place_behind c.follow.new.state.state c.in-Some.last) also legal
 
-pub returns-clause-illegal : goal.returns-clause-illegal
-returns-clause-illegal x c to legal =
+pub returns-in-None-clause-illegal : goal.returns-in-None-clause-illegal
+returns-in-None-clause-illegal x c to legal =
     let game = c.args.game.now in
     let there = from_copy c.args.place.now c.in_ok-state.state.state c.place.inside.state.state c.place.inside.after c.in_ok-state.ensures.state c.place.view_is in
     tried_as game c.search_in-search.result.game c.args.place.now _ c.args.pairs.now c.as_slice.result.now c.follow.new.state.state c.in_ok-end.end _ c.search_in-search.ensures.game there c.as_slice.ensures.pairs c.in-None.is c.in_ok-end.ensures.tried to legal
@@ -83,8 +81,8 @@ returns-in-Some-clause-fits x c = λ cut.
     c.search_in-search.ensures.game state start c.search_in-search.ensures.opened c.opened-opened.ensures.within budget (omega (arith, c.as_slice.ensures.range)) c.search_in-search.ensures.modifiers
     (counts_uncut asked.game cut (try_move ps) s f asked.opened new.opened (length ps) asked.modifiers counts))
 
-pub returns-clause-fits : goal.returns-clause-fits
-returns-clause-fits x c = λ cut.
+pub returns-in-None-clause-fits : goal.returns-in-None-clause-fits
+returns-in-None-clause-fits x c = λ cut.
     let game = c.args.game.now in
     let there = from_copy c.args.place.now c.in_ok-state.state.state c.place.inside.state.state c.place.inside.after c.in_ok-state.ensures.state c.place.view_is in
     illegal_fits game cut c.args.place.now c.args.pairs.now

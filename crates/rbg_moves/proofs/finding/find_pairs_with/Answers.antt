@@ -15,22 +15,22 @@ use Rattle.rbg_moves.proofs.Forcing.{counts_uncut, fits_at}
 use Rattle.std.specs.Prelude.{◌++◌, Option, Some, None, IfSome}
 use Rattle.rbg_rules.specs.Moves.{IsLegal}
 use Rattle.rbg_moves.specs.internal.Stepping.{GoesOnByMove}
-use Rattle.rbg_moves.proofs.finding.find_move_with.Goals as goal
+use Rattle.rbg_moves.proofs.finding.find_pairs_with.Goals as goal
 
 -- What goes on from no pairs by a legal move is that move.
-found_legal : (game asked : AbstractGame) (place here : AbstractPlace) (front : List (ℕ × ℕ)) (found : Option (List (ℕ × ℕ))) → asked ≡ game → here ≡ place → front ≡ [] → IfSome found (GoesOnByMove asked here front) → IfSome found (IsLegal game place)
-found_legal game asked place here front None same_game same_place none goes = tt
-found_legal game asked place here front (Some whole) same_game same_place none goes =
-    let joined : whole ≡ goes.pairs = goes.joined ∙ ap (λ (qs : List (ℕ × ℕ)). qs ++ goes.pairs) none in
+found_legal : {A : Type 0} (items : A → List (ℕ × ℕ)) (game asked : AbstractGame) (place here : AbstractPlace) (front : List (ℕ × ℕ)) (found : Option A) → asked ≡ game → here ≡ place → front ≡ [] → IfSome found (λ whole. GoesOnByMove asked here front (items whole)) → IfSome found (λ whole. IsLegal game place (items whole))
+found_legal items game asked place here front None same_game same_place none goes = tt
+found_legal items game asked place here front (Some whole) same_game same_place none goes =
+    let joined : items whole ≡ goes.pairs = goes.joined ∙ ap (λ (qs : List (ℕ × ℕ)). qs ++ goes.pairs) none in
     subst (IsLegal game place) (sym joined)
     (subst (λ (x : AbstractGame). IsLegal x place goes.pairs) same_game
     (subst (λ (p : AbstractPlace). IsLegal asked p goes.pairs) same_place goes.legal))
 
 pub returns-clause-found : goal.returns-clause-found
 returns-clause-found x c =
-    let here : AbstractPlace = record { state = c.in_ok-try_clone.field-0.state; last = c.place.inside.after } in
-    let same_place : here ≡ c.args.place.now = ap (λ (s : AbstractState). let y : AbstractPlace = record { state = s; last = c.place.inside.after } in y) c.in_ok-try_clone.ensures.state ∙ c.place.view_is in
-    found_legal c.args.game.now c.search_in.result.game c.args.place.now here c.new.result.items c.in_ok-found.found c.search_in.ensures.game same_place c.new.ensures c.in_ok-found.ensures.found
+    let here : AbstractPlace = record { state = c.in_ok-state.state.state; last = c.place.inside.after } in
+    let same_place : here ≡ c.args.place.now = ap (λ (s : AbstractState). let y : AbstractPlace = record { state = s; last = c.place.inside.after } in y) c.in_ok-state.ensures.state ∙ c.place.view_is in
+    found_legal (λ pairs. pairs.items) c.args.game.now c.search_in.result.game c.args.place.now here c.new.result.items c.in_ok-found.found c.search_in.ensures.game same_place c.new.ensures c.in_ok-found.ensures.found
 
 deep_of : (g : AbstractGame) → IsNumbered g.rules → (s : AbstractState) (f : Start) (items : List (ℕ × ℕ)) (most : ℕ) → items ≡ [] → most ≡ most_modifiers → IsTooDeep g find_move s f (most_pairs - length items) most → IsDeep g find_move s f most
 deep_of g numbered s f items most none limit deep =
@@ -40,9 +40,9 @@ deep_of g numbered s f items most none limit deep =
 pub returns-in_err-found-clause-deep : goal.returns-in_err-found-clause-deep
 returns-in_err-found-clause-deep x c e =
     let asked = c.search_in.result in
-    let s = c.in_ok-try_clone.field-0.state in
+    let s = c.in_ok-state.state.state in
     let f = stand_of c.place.inside.after in
-    let state : s ≡ c.args.place.now.state = c.in_ok-try_clone.ensures.state ∙ ap (λ (y : AbstractPlace). y.state) c.place.view_is in
+    let state : s ≡ c.args.place.now.state = c.in_ok-state.ensures.state ∙ ap (λ (y : AbstractPlace). y.state) c.place.view_is in
     let start : f ≡ stand_of c.args.place.now.last = ap (λ (y : AbstractPlace). stand_of y.last) c.place.view_is in
     let numbered : IsNumbered asked.game.rules = subst (λ (y : AbstractGame). IsNumbered y.rules) (sym c.search_in.ensures.game) c.positions-positions.ensures.lawful.numbered in
     deep_from c.args.game.now find_move c.args.place.now asked.game s f asked.modifiers c.search_in.ensures.game state start c.search_in.ensures.modifiers
@@ -51,9 +51,9 @@ returns-in_err-found-clause-deep x c e =
 pub returns-in_err-found-clause-wide : goal.returns-in_err-found-clause-wide
 returns-in_err-found-clause-wide x c e =
     let asked = c.search_in.result in
-    let s = c.in_ok-try_clone.field-0.state in
+    let s = c.in_ok-state.state.state in
     let f = stand_of c.place.inside.after in
-    let state : s ≡ c.args.place.now.state = c.in_ok-try_clone.ensures.state ∙ ap (λ (y : AbstractPlace). y.state) c.place.view_is in
+    let state : s ≡ c.args.place.now.state = c.in_ok-state.ensures.state ∙ ap (λ (y : AbstractPlace). y.state) c.place.view_is in
     let start : f ≡ stand_of c.args.place.now.last = ap (λ (y : AbstractPlace). stand_of y.last) c.place.view_is in
     wide_from c.args.game.now c.positions-positions.ensures.lawful.numbered find_move c.args.place.now asked.game s f asked.opened asked.openings
     c.search_in.ensures.game state start c.search_in.ensures.opened c.search_in.ensures.openings (c.find.ensures.wide (search rules))
@@ -68,11 +68,11 @@ pub returns-clause-fits : goal.returns-clause-fits
 returns-clause-fits x c = λ cut.
     let game = c.args.game.now in
     let asked = c.search_in.result in
-    let s = c.in_ok-try_clone.field-0.state in
+    let s = c.in_ok-state.state.state in
     let f = stand_of c.place.inside.after in
     let new = c.find.new.self.search in
     let left = most_pairs - length c.new.result.items in
-    let state : s ≡ c.args.place.now.state = c.in_ok-try_clone.ensures.state ∙ ap (λ (y : AbstractPlace). y.state) c.place.view_is in
+    let state : s ≡ c.args.place.now.state = c.in_ok-state.ensures.state ∙ ap (λ (y : AbstractPlace). y.state) c.place.view_is in
     let start : f ≡ stand_of c.args.place.now.last = ap (λ (y : AbstractPlace). stand_of y.last) c.place.view_is in
     let budget : new.openings ≡ most_openings = ap (λ (y : Searching). y.openings) c.find.ensures.search ∙ c.search_in.ensures.openings in
     let none : length c.new.result.items ≡ 0 = ap (λ (ps : List (ℕ × ℕ)). length ps) c.new.ensures in

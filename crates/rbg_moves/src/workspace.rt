@@ -1,0 +1,106 @@
+//! What questions leave to later ones.
+ghost use Rattle.std.specs.Prelude.{◌≡◌, [], IfOk};
+
+use crate::place::Place;
+use rbg_base::Memory;
+use rbg_pairs::{MoveList, Pair};
+use rbg_search::Workspace as SearchWorkspace;
+use rbg_state::SemiState;
+use std::alloc::Global;
+use std::mem::replace;
+
+/// What questions leave to later ones: their buffers, and what they took up in all.
+#[derive(Debug, Drop)]
+pub struct Workspace {
+    pub(crate) searches: SearchWorkspace,
+    /// Semi-states that are not in use.
+    states: Vec<SemiState>,
+    /// A list of pairs that is not in use.
+    buffer: Vec<Pair>,
+    /// Lists of moves that are not in use.
+    lists: Vec<MoveList>,
+}
+
+impl Workspace {
+    /// A workspace that no question has used.
+    pub fn new(alloc: Global) -> Workspace {
+        Workspace {
+            searches: SearchWorkspace::new(alloc),
+            states: Vec::new(alloc),
+            buffer: Vec::new(alloc),
+            lists: Vec::new(alloc),
+        }
+    }
+
+    /// How many openings the questions took up.
+    pub fn openings(&self) -> u64 {
+        self.searches.openings()
+    }
+
+    /// How many pairs of a position and a vertex the questions took.
+    pub fn pairs(&self) -> u64 {
+        self.searches.pairs()
+    }
+
+    /// Keeps the buffers of a place that is no longer needed.
+    pub fn keep(&mut self, place: Place) {
+        self.keep_state(place.state);
+    }
+
+    /// Keeps a list of pairs that is no longer needed.
+    pub fn keep_pairs(&mut self, pairs: Vec<Pair>) {
+        self.buffer = pairs;
+    }
+
+    /// Keeps a list of moves that is no longer needed.
+    pub fn keep_moves(&mut self, moves: MoveList) {
+        // where there is no memory, it is let go
+        let _kept = self.lists.push(moves);
+    }
+
+    /// Keeps a semi-state that is no longer needed.
+    pub(crate) fn keep_state(&mut self, state: SemiState) {
+        // where there is no memory, it is let go
+        let _kept = self.states.push(state);
+    }
+
+    /// A copy of a semi-state, with no change to take back.
+    pub(crate) fn copy_of(&mut self, state: &SemiState) -> Result<SemiState, Memory>
+        ensures state { IfOk result (λ copy. copy.state ≡ state.now.state) }
+        ensures past { IfOk result (λ copy. copy.past ≡ []) }
+    {
+        match self.states.pop() {
+            Some(buffers) => state.copy_into(buffers),
+            None => state.try_clone(),
+        }
+    }
+
+    /// A list of no pairs.
+    pub(crate) fn take_pairs(&mut self) -> Vec<Pair>
+        ensures { result.items ≡ [] }
+    {
+        let alloc = *self.buffer.allocator();
+        let mut pairs = replace(&mut self.buffer, Vec::new(alloc));
+        pairs.clear();
+        pairs
+    }
+
+    /// A list of no moves.
+    pub(crate) fn take_moves(&mut self) -> MoveList
+        ensures { result ≡ [] }
+    {
+        match self.lists.pop() {
+            Some(moves) => emptied(moves),
+            None => MoveList::new(*self.lists.allocator()),
+        }
+    }
+}
+
+/// The list without its moves.
+fn emptied(moves: MoveList) -> MoveList
+    ensures { result ≡ [] }
+{
+    let mut moves = moves;
+    moves.clear();
+    moves
+}
