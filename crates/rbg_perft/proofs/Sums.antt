@@ -1,6 +1,7 @@
 -- Sums over a list, item by item; and what is counted behind the first moves is counted from the place.
-use Rattle.std.proofs.Common.{◌≡◌, ℕ, suc, ◌+◌, ◌-◌, ◌<◌, ◌≤◌, List, [], ◌∷◌, ◌++◌, length, take, get_or, subst, sym, arith, Result, Ok, Err}
-use Rattle.std.specs.Prelude.{IfOk}
+use Rattle.std.proofs.Common.{◌≡◌, ℕ, suc, ◌+◌, ◌-◌, ◌<◌, ◌≤◌, List, [], ◌∷◌, ◌++◌, length, take, get_or, subst, sym, arith}
+use Rattle.std.specs.Prelude.{All, Some, slice_get}
+use Rattle.std.proofs.lemmas.Option.{slice_get_within, get_or_from_slice_get}
 use Rattle.std.proofs.lemmas.List.{take_more, take_all}
 use Rattle.rbg_rules.specs.State.{AbstractGame}
 use Rattle.rbg_rules.specs.Moves.{AbstractPlace}
@@ -22,12 +23,11 @@ sums_end Has xs k m n all sums = subst (λ ys. Sums Has ys m n) (take_all k xs a
 counted_next : (game : AbstractGame) (moves : ℕ) (place to : AbstractPlace) (all : List (List (ℕ × ℕ))) (m n : ℕ) → Settles game place to → AreLegalMoves game to all → Sums (AreCountedBehind game moves to) all m n → AreCounted game (suc moves) place m n
 counted_next game moves place to all m n settles legal sums = (to, all, settles, legal, sums)
 
-counted_from : (game : AbstractGame) (moves : ℕ) (place to : AbstractPlace) (all : List (List (ℕ × ℕ))) (m n : ℕ) → 0 < moves → Settles game place to → AreLegalMoves game to all → Sums (AreCountedBehind game (moves - 1) to) all m n → AreCounted game moves place m n
+pub counted_from : (game : AbstractGame) (moves : ℕ) (place to : AbstractPlace) (all : List (List (ℕ × ℕ))) (m n : ℕ) → 0 < moves → Settles game place to → AreLegalMoves game to all → Sums (AreCountedBehind game (moves - 1) to) all m n → AreCounted game moves place m n
 counted_from game moves place to all m n some settles legal sums =
     let next : suc (moves - 1) ≡ moves = omega (arith, some) in
     subst (λ k. AreCounted game k place m n) next (counted_next game (moves - 1) place to all m n settles legal sums)
 
-pub counted_behind : {A E : Type 0} (sequences ended : A → ℕ) (game : AbstractGame) (moves : ℕ) (place to : AbstractPlace) (all listed : List (List (ℕ × ℕ))) → 0 < moves → Settles game place to → AreLegalMoves game to all → listed ≡ all → (result : Result A E) → IfOk result (λ counts. Sums (AreCountedBehind game (moves - 1) to) listed (sequences counts) (ended counts)) → IfOk result (λ counts. AreCounted game moves place (sequences counts) (ended counts))
-counted_behind sequences ended game moves place to all listed some settles legal same (Ok counts) sums =
-    counted_from game moves place to all (sequences counts) (ended counts) some settles legal (subst (λ xs. Sums (AreCountedBehind game (moves - 1) to) xs (sequences counts) (ended counts)) same sums)
-counted_behind sequences ended game moves place to all listed some settles legal same (Err error) sums = tt
+-- what holds of all items holds of the one that is found
+pub all_at : {A : Type 0} (P : A → Type 0) (xs : List A) (i : ℕ) (x : A) → All P xs → slice_get xs i ≡ Some x → P x
+all_at P xs i x all is = subst P (get_or_from_slice_get xs i x x is) (all i x (slice_get_within xs i x is))

@@ -7,7 +7,7 @@ ghost use Rattle.rbg_perft.specs.Counting.{AreCounted, AreCountedBehind, AreLega
 use crate::error::CountError;
 use crate::settling::settle;
 use rbg_auto::Steps;
-use rbg_moves::{Move, Place, Workspace, find_move_with, list_moves_with, make_move};
+use rbg_moves::{MoveList, Place, Workspace, find_pairs_with, gather_moves_with, make_move_with};
 use rbg_rules::Game;
 use std::alloc::Global;
 
@@ -24,6 +24,18 @@ pub struct Counts {
 const NONE: Counts = Counts {
     sequences: 0,
     ended: 0,
+};
+
+/// One sequence, after which play goes on.
+const GOING: Counts = Counts {
+    sequences: 1,
+    ended: 0,
+};
+
+/// One sequence, after which play is finished.
+const ENDED: Counts = Counts {
+    sequences: 1,
+    ended: 1,
 };
 
 impl Counts {
@@ -57,10 +69,15 @@ pub fn count_sequences<S: Steps>(
 {
     let place = settle(alloc, game, steps, place, workspace)?;
     if moves == 0 {
-        return count_here(alloc, game, steps, &place, workspace);
+        let here = count_here(alloc, game, steps, &place, workspace)?;
+        workspace.keep(place);
+        return Ok(here);
     }
     let listed = list_all(alloc, game, steps, &place, workspace)?;
-    count_behind(alloc, game, steps, &place, &listed, moves - 1, workspace)
+    let counts = count_behind(alloc, game, steps, &place, &listed, moves - 1, workspace)?;
+    workspace.keep_moves(listed);
+    workspace.keep(place);
+    Ok(counts)
 }
 
 /// Counts the sequences that begin with one of these moves and have so many further ones.
@@ -70,7 +87,7 @@ fn count_behind<S: Steps>(
     game: &Game,
     steps: &S,
     place: &Place,
-    firsts: &[Move],
+    firsts: &MoveList,
     further: u8,
     workspace: &mut Workspace,
 ) -> Result<Counts, CountError>
@@ -81,8 +98,9 @@ fn count_behind<S: Steps>(
         Sums (AreCountedBehind game.now further place.now) firsts.now counts.sequences counts.ended) }
 {
     let mut counts = NONE;
-    for pairs in firsts {
-        let to = make_move(game, place, pairs)?;
+    for index in 0..firsts.len() {
+        let pairs = firsts.get(index);
+        let to = make_move_with(game, place, pairs, workspace)?;
         let behind = count_sequences(alloc, game, steps, to, further, workspace)?;
         counts = counts.join(behind).ok_or(CountError::TooMany)?;
     }
@@ -102,14 +120,13 @@ fn count_here<S: Steps>(
     ensures one { IfOk result (λ counts. counts.sequences ≡ 1) }
     ensures ended { IfOk result (λ counts. TellsFinished game.now place.now counts.ended) }
 {
-    let ended = match find_move_with(alloc, game, steps, place, workspace)? {
-        Some(_) => 0,
-        None => 1,
-    };
-    Ok(Counts {
-        sequences: 1,
-        ended,
-    })
+    match find_pairs_with(alloc, game, steps, place, workspace)? {
+        Some(pairs) => {
+            workspace.keep_pairs(pairs);
+            Ok(GOING)
+        }
+        None => Ok(ENDED),
+    }
 }
 
 /// The legal moves, each once.
@@ -119,12 +136,13 @@ fn list_all<S: Steps>(
     steps: &S,
     place: &Place,
     workspace: &mut Workspace,
-) -> Result<Vec<Move>, CountError>
+) -> Result<MoveList, CountError>
     requires steps { S.of_rules steps.now game.now.rules }
     requires place { IsPlaceOf game.now place.now }
-    ensures all { IfOk result (λ moves. AreLegalMoves game.now place.now moves.items) }
+    ensures all { IfOk result (λ moves. AreLegalMoves game.now place.now moves) }
 {
     // no list in memory is so long that it is cut there
-    let listed = list_moves_with(alloc, game, steps, place, usize::MAX, workspace)?;
-    Ok(listed.moves)
+    let gathered = gather_moves_with(alloc, game, steps, place, usize::MAX, workspace)?;
+    let _count = gathered.moves.len();
+    Ok(gathered.moves)
 }

@@ -1,11 +1,13 @@
 //! The keeper's moves before a player's.
 ghost use Rattle.std.specs.Prelude.{◌≡◌, ◌≢◌, IfOk};
+ghost use Rattle.rbg_rules.specs.Moves.{Legal, IsLegal};
 ghost use Rattle.rbg_rules.specs.Places.{IsPlaceOf};
 ghost use Rattle.rbg_perft.specs.Counting.{Settles};
 
 use crate::error::CountError;
 use rbg_auto::Steps;
-use rbg_moves::{Place, Workspace, find_move_with, make_move};
+use rbg_base::Memory;
+use rbg_moves::{Pair, Place, Workspace, find_pairs_with, make_move_with};
 use rbg_rules::Game;
 use std::alloc::Global;
 
@@ -30,12 +32,30 @@ pub(crate) fn settle<S: Steps>(
         if place.state.player() != 0 {
             return Ok(place);
         }
-        match find_move_with(alloc, game, steps, &place, workspace)? {
-            Some(pairs) => place = make_move(game, &place, &pairs)?,
+        match find_pairs_with(alloc, game, steps, &place, workspace)? {
+            Some(pairs) => place = moved(game, place, pairs, workspace)?,
             None => return Ok(place),
         }
     }
     rested(place)
+}
+
+/// The place to which the pairs of a legal move lead. The workspace gets what is no longer needed.
+fn moved(
+    game: &Game,
+    place: Place,
+    pairs: Vec<Pair>,
+    workspace: &mut Workspace,
+) -> Result<Place, Memory>
+    requires place { IsPlaceOf game.now place }
+    requires legal { IsLegal game.now place pairs.items }
+    ensures to { IfOk result (Legal game.now place pairs.items) }
+    ensures in_game { IfOk result (IsPlaceOf game.now) }
+{
+    let to = make_move_with(game, &place, pairs.as_slice(), workspace)?;
+    workspace.keep_pairs(pairs);
+    workspace.keep(place);
+    Ok(to)
 }
 
 /// The place, where a player is to move.

@@ -9,6 +9,6 @@ decreases-count_behind g l = 2 * l.further + 1
 abbrev pub decreases-count_sequences : goal.decreases-count_sequences
 decreases-count_sequences g l = 2 * l.moves
 
-abbrev pub invariant-count_behind-loop-pairs : goal.invariant-count_behind-loop-pairs
-invariant-count_behind-loop-pairs g l =
-    Sums (AreCountedBehind l.fn.game l.fn.further l.fn.place) (take l.pairs-index l.fn.firsts) l.counts.sequences l.counts.ended
+abbrev pub invariant-count_behind-loop-index : goal.invariant-count_behind-loop-index
+invariant-count_behind-loop-index g l =
+    Sums (AreCountedBehind l.fn.game l.fn.further l.fn.place) (take l.index l.firsts) l.counts.sequences l.counts.ended

@@ -19,11 +19,11 @@ returns-then-player-ne0-clause-settles g c =
 pub returns-then-player-ne0-clause-place : goal.returns-then-player-ne0-clause-place
 returns-then-player-ne0-clause-place g c = c.loop.invariant.0
 
-pub find_move_with-requires-clause-place : goal.find_move_with-requires-clause-place
-find_move_with-requires-clause-place g c = c.loop.invariant.0
+pub find_pairs_with-requires-clause-place : goal.find_pairs_with-requires-clause-place
+find_pairs_with-requires-clause-place g c = c.loop.invariant.0
 
-pub make_move-requires-clause-place : goal.make_move-requires-clause-place
-make_move-requires-clause-place g c = c.loop.invariant.0
+pub moved-requires-clause-place : goal.moved-requires-clause-place
+moved-requires-clause-place g c = c.loop.invariant.0
 
 pub returns-in-None-clause-settles : goal.returns-in-None-clause-settles
 returns-in-None-clause-settles g c = record { moves = c.loop.invariant.1; rests = inr (subst (λ o. IfNone o (Finished c.args.game.now c.loop.place)) c.in-None.is c.in_ok-pairs.ensures.finished) }
