@@ -61,51 +61,68 @@ fn stream_of(alloc: Global, parts: [&[u8]; 3]) -> Result<Vec<u8>, Fail> {
     Ok(stream)
 }
 
-/// What a new player tells last, and what it says, where it hears the stream in one piece.
-fn hear_whole(alloc: Global, stream: &[u8]) -> Result<(Heard, Vec<u8>), Fail> {
-    let mut said = Vec::new(alloc);
-    let heard = Player::new(alloc).hear(stream, &mut FirstChooser, &mut said)?;
-    Ok((heard, said))
+/// What a new player tells last where it hears a stream in one piece. What it says is appended to `said`.
+fn hear_whole(alloc: Global, stream: &[u8], said: &mut Vec<u8>) -> Result<Heard, PlayerError> {
+    Player::new(alloc).hear(stream, &mut FirstChooser, said)
 }
 
 /// The same where it hears the stream byte by byte.
-fn hear_bytes(alloc: Global, stream: &[u8]) -> Result<(Heard, Vec<u8>), Fail> {
-    let mut said = Vec::new(alloc);
+fn hear_bytes(alloc: Global, stream: &[u8], said: &mut Vec<u8>) -> Result<Heard, PlayerError> {
     let mut player = Player::new(alloc);
-    let mut heard = Heard::Going;
+    let mut heard = Ok(Heard::Going);
     for byte in stream {
-        heard = player.hear(&[*byte], &mut FirstChooser, &mut said)?;
+        heard = player.hear(&[*byte], &mut FirstChooser, said);
     }
-    Ok((heard, said))
+    heard
+}
+
+/// What a player answers to a stream, and then to a piece of no bytes.
+fn answers(
+    player: &mut Player,
+    stream: &[u8],
+    said: &mut Vec<u8>,
+) -> [Result<Heard, PlayerError>; 2] {
+    [
+        player.hear(stream, &mut FirstChooser, said),
+        player.hear(b"", &mut FirstChooser, said),
+    ]
+}
+
+/// Whether the player of the seat hears its match to the end, and says its move: in one piece and byte by byte.
+fn hears_its_match(alloc: Global, greeting: &[u8], says: &[u8]) -> Result<bool, Fail> {
+    let end = Ok(Heard::Ended(read_outcome(b"E0 0 0")?));
+    let stream = stream_of(alloc, [greeting, GAME, PLAY])?;
+    let mut whole = Vec::new(alloc);
+    let mut bytes = Vec::new(alloc);
+    Ok(
+        hear_whole(alloc, &stream, &mut whole) == end
+            && hear_bytes(alloc, &stream, &mut bytes) == end
+            && whole.as_slice() == says
+            && bytes.as_slice() == says,
+    )
 }
 
 #[test]
 fn a_match_is_heard_in_one_piece_and_byte_by_byte(rt: HostRuntime) -> Result<(), Fail> {
-    let end = Heard::Ended(read_outcome(b"E0 0 0")?);
     for (greeting, says) in SEATS {
-        let stream = stream_of(rt.alloc(), [greeting, GAME, PLAY])?;
-        let (heard, said) = hear_whole(rt.alloc(), &stream)?;
-        assert_eq!(rt; heard, end);
-        assert_eq!(rt; said.as_slice(), says);
-        let (heard, said) = hear_bytes(rt.alloc(), &stream)?;
-        assert_eq!(rt; heard, end);
-        assert_eq!(rt; said.as_slice(), says);
+        assert!(rt; hears_its_match(rt.alloc(), greeting, says)?);
     }
     Ok(())
 }
 
-/// The error is answered again, and what was said before it in the same piece is taken back.
+/// Whether the player answers the error to the stream of these parts and from then on, and what was said before it in
+/// the same piece is taken back.
+fn answers_error(alloc: Global, parts: [&[u8]; 3], error: PlayerError) -> Result<bool, Fail> {
+    let stream = stream_of(alloc, parts)?;
+    let mut said = Vec::from_slice(alloc, b"kept")?;
+    let answers = answers(&mut Player::new(alloc), &stream, &mut said);
+    Ok(answers == [Err(error), Err(error)] && said.as_slice() == b"kept".as_slice())
+}
+
 #[test]
 fn each_error_is_answered_from_then_on(rt: HostRuntime) -> Result<(), Fail> {
     for (parts, error) in FAULTS {
-        let stream = stream_of(rt.alloc(), parts)?;
-        let mut said = Vec::from_slice(rt.alloc(), b"kept")?;
-        let mut player = Player::new(rt.alloc());
-        for piece in [stream.as_slice(), b"".as_slice()] {
-            let heard = player.hear(piece, &mut FirstChooser, &mut said);
-            assert_eq!(rt; heard, Err(error), "{parts:?}");
-        }
-        assert_eq!(rt; said.as_slice(), b"kept".as_slice());
+        assert!(rt; answers_error(rt.alloc(), parts, error)?, "{parts:?}");
     }
     Ok(())
 }

@@ -6,18 +6,28 @@ use std::alloc::{AllocError, Global};
 
 /// The program's command line.
 pub fn rbg_command<'a>(alloc: Global) -> Result<Command<'a>, AllocError> {
-    Command::new(alloc, "rbg")
-        .version("0.1.0")
-        .about("A referee for games of Regular Boardgames")
-        .after_help("Without a command it does what `referee` does without FILE.")
-        .subcommand(check_command(alloc)?)?
-        .subcommand(moves_command(alloc)?)?
-        .subcommand(referee_command(alloc)?)?
-        .subcommand(replay_command(alloc)?)?
-        .subcommand(migrate_command(alloc)?)?
-        .subcommand(demo_command(alloc)?)?
-        .subcommand(serve_command(alloc)?)?
-        .subcommand(play_command(alloc)?)
+    let command = Ok(
+        Command::new(alloc, "rbg")
+            .version("0.1.0")
+            .about("A referee for games of Regular Boardgames")
+            .after_help("Without a command it does what `referee` does without FILE."),
+    );
+    let command = add(command, check_command(alloc));
+    let command = add(command, moves_command(alloc));
+    let command = add(command, referee_command(alloc));
+    let command = add(command, replay_command(alloc));
+    let command = add(command, migrate_command(alloc));
+    let command = add(command, demo_command(alloc));
+    let command = add(command, serve_command(alloc));
+    add(command, play_command(alloc))
+}
+
+/// A command with one more command of its own.
+fn add<'a>(
+    command: Result<Command<'a>, AllocError>,
+    added: Result<Command<'a>, AllocError>,
+) -> Result<Command<'a>, AllocError> {
+    command?.subcommand(added?)
 }
 
 fn check_command<'a>(alloc: Global) -> Result<Command<'a>, AllocError> {
@@ -61,19 +71,23 @@ fn migrate_command<'a>(alloc: Global) -> Result<Command<'a>, AllocError> {
 }
 
 fn demo_command<'a>(alloc: Global) -> Result<Command<'a>, AllocError> {
-    Command::new(alloc, "demo")
+    let command = Command::new(alloc, "demo")
         .about("Referees a match between players of its own, and prints its record")
-        .arg(game_argument(alloc))?
-        .arg(turn_option(alloc))?
-        .arg(refusals_option(alloc))?
-        .arg(rounds_option(alloc))
+        .arg(game_argument(alloc))?;
+    add_service(alloc, command)
 }
 
 fn serve_command<'a>(alloc: Global) -> Result<Command<'a>, AllocError> {
-    Command::new(alloc, "serve")
+    let command = Command::new(alloc, "serve")
         .about("Referees a match between the players that connect to a port, and prints its record")
         .arg(game_argument(alloc))?
-        .arg(port_option(alloc))?
+        .arg(port_option(alloc))?;
+    add_service(alloc, command)
+}
+
+/// A command with the options of how a match is served.
+fn add_service<'a>(alloc: Global, command: Command<'a>) -> Result<Command<'a>, AllocError> {
+    command
         .arg(turn_option(alloc))?
         .arg(refusals_option(alloc))?
         .arg(rounds_option(alloc))

@@ -4,7 +4,7 @@
 use crate::fault::Fault;
 use rbg_console::{Files, Input, MAX_INPUT, read_input};
 use rbg_game::LoadError;
-use rbg_macro::TextError;
+use rbg_macro::{MAX_TEXT, TextError};
 use std::alloc::Global;
 use std::io::Read;
 
@@ -32,6 +32,15 @@ fn whole(input: Input) -> Result<Option<Vec<u8>>, Fault> {
         Input::TooLong => Ok(None),
         Input::Device => Err(Fault::Device),
     }
+}
+
+/// The text of the description that a file has.
+pub fn read_description<F: Files>(
+    alloc: Global,
+    files: &mut F,
+    name: &str,
+) -> Result<Vec<u8>, Fault> {
+    text_of(read_within(alloc, files, name, MAX_TEXT)?)
 }
 
 /// The text of a description's file.

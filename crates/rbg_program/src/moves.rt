@@ -1,14 +1,13 @@
 //! The command `moves`: the moves of the opening, and then the legal moves of the player who is to move.
 
 use crate::fault::Fault;
-use crate::inputs::{read_within, text_of};
+use crate::inputs::read_description;
 use crate::printed::push_scores;
 use rbg_base::Player;
 use rbg_console::Files;
 use rbg_game::load;
-use rbg_macro::MAX_TEXT;
-use rbg_match::{Config, Match};
-use rbg_moves::{Move, Over};
+use rbg_match::{Config, Made, Match};
+use rbg_moves::{Listed, Move, Over};
 use rbg_wire::Outcome;
 use std::alloc::{AllocError, Global};
 use std::fmt::Write;
@@ -24,23 +23,39 @@ const CONFIG: Config = Config {
 
 /// The opening of the game that the file describes, and the moves with which it can go on.
 pub fn list_file<F: Files>(alloc: Global, files: &mut F, file: &str) -> Result<Vec<u8>, Fault> {
-    let text = text_of(read_within(alloc, files, file, MAX_TEXT)?)?;
-    let game = load(alloc, text.as_slice())?;
-    let (opened, _) = Match::new(alloc, game, text.as_slice(), CONFIG, 0)?;
-    Ok(lines(alloc, &opened)?.into_bytes())
+    let text = read_description(alloc, files, file)?;
+    list_text(alloc, text.as_slice())
+}
+
+/// The same of the game that a text describes.
+fn list_text(alloc: Global, text: &[u8]) -> Result<Vec<u8>, Fault> {
+    let game = load(alloc, text)?;
+    let (opened, _) = Match::new(alloc, game, text, CONFIG, 0)?;
+    Ok(lines(alloc, &opened)?)
 }
 
 /// The lines of a match that has just been opened.
-fn lines(alloc: Global, opened: &Match) -> Result<String, AllocError> {
+fn lines(alloc: Global, opened: &Match) -> Result<Vec<u8>, AllocError> {
     let mut lines = String::new(alloc);
-    for made in opened.made() {
-        push_move(&mut lines, "made", made.player, &made.pairs)?;
+    push_made(&mut lines, opened.made())?;
+    push_rest(&mut lines, opened)?;
+    Ok(lines.into_bytes())
+}
+
+/// `made <player> <pairs>` for each move of the opening.
+fn push_made(lines: &mut String, moves: &[Made]) -> Result<(), AllocError> {
+    for made in moves {
+        push_move(lines, "made", made.player, &made.pairs)?;
     }
+    Ok(())
+}
+
+/// How the match ended, or how it can go on.
+fn push_rest(lines: &mut String, opened: &Match) -> Result<(), AllocError> {
     match opened.outcome() {
-        Some(outcome) => push_end(&mut lines, &outcome)?,
-        None => push_legal_moves(&mut lines, opened)?,
+        Some(outcome) => push_end(lines, &outcome),
+        None => push_legal_moves(lines, opened),
     }
-    Ok(lines)
 }
 
 /// `<word> <player> <pairs>`
@@ -73,17 +88,18 @@ fn push_end(lines: &mut String, outcome: &Outcome) -> Result<(), AllocError> {
 /// `move <player> <pairs>` for each legal move, and `cut` where there are more of them; or `over`.
 fn push_legal_moves(lines: &mut String, opened: &Match) -> Result<(), AllocError> {
     match opened.list_moves(MAX_LISTED) {
-        Ok(listed) => {
-            let player = opened.place().state.player();
-            for pairs in &listed.moves {
-                push_move(lines, "move", player, pairs)?;
-            }
-            if listed.cut {
-                lines.push_str("cut\n")?;
-            }
-            Ok(())
-        }
+        Ok(listed) => push_listed(lines, opened.place().state.player(), &listed),
         Err(Over::Memory) => Err(AllocError),
         Err(_) => lines.push_str("over\n"),
     }
+}
+
+fn push_listed(lines: &mut String, player: Player, listed: &Listed) -> Result<(), AllocError> {
+    for pairs in &listed.moves {
+        push_move(lines, "move", player, pairs)?;
+    }
+    if listed.cut {
+        lines.push_str("cut\n")?;
+    }
+    Ok(())
 }

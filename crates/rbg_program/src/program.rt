@@ -2,7 +2,7 @@
 //! fault.
 
 use crate::fault::{Fault, report};
-use crate::inputs::{read_within, text_of};
+use crate::inputs::read_description;
 use crate::moves::list_file;
 use crate::network::Network;
 use crate::records::{migrate_files, replay_files};
@@ -10,9 +10,8 @@ use crate::refereeing::{referee_file, referee_input};
 use crate::serving::{demo_file, play, serve_file};
 use crate::task::Task;
 use rbg_console::{Files, count_line};
-use rbg_game::load;
-use rbg_macro::MAX_TEXT;
-use std::alloc::Global;
+use rbg_game::{Game, load};
+use std::alloc::{AllocError, Global};
 use std::io::{Read, Write};
 
 /// Runs the program: reads what its words ask for, writes the lines, and gives the status.
@@ -53,9 +52,18 @@ fn obey<F: Files, N: Network, R: Read>(
 
 /// The counts of the game that the file describes.
 fn check_file<F: Files>(alloc: Global, files: &mut F, file: &str) -> Result<Vec<u8>, Fault> {
-    let text = text_of(read_within(alloc, files, file, MAX_TEXT)?)?;
-    let game = load(alloc, text.as_slice())?;
-    let mut line = count_line(alloc, &game)?;
+    let text = read_description(alloc, files, file)?;
+    check_text(alloc, text.as_slice())
+}
+
+fn check_text(alloc: Global, text: &[u8]) -> Result<Vec<u8>, Fault> {
+    let game = load(alloc, text)?;
+    Ok(counts(alloc, &game)?)
+}
+
+/// The counts of a game, in a line.
+fn counts(alloc: Global, game: &Game) -> Result<Vec<u8>, AllocError> {
+    let mut line = count_line(alloc, game)?;
     line.push('\n')?;
     Ok(line.into_bytes())
 }

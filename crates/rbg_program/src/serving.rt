@@ -5,7 +5,7 @@ ghost use Rattle.rbg_match.specs.PlayingOn.{seats_of};
 
 use crate::client::Client;
 use crate::fault::Fault;
-use crate::inputs::{read_within, text_of};
+use crate::inputs::read_description;
 use crate::network::Network;
 use crate::printed::outcome_line;
 use crate::stream_line::{PlayedLine, StreamLine};
@@ -13,11 +13,12 @@ use crate::task::Service;
 use rbg_console::Files;
 use rbg_game::{Game, load};
 use rbg_hall::{Clock, Line, serve};
-use rbg_macro::MAX_TEXT;
 use rbg_match::Match;
 use rbg_player::Heard;
 use rbg_record::{write_record, write_record_1};
+use rbg_wire::Outcome;
 use std::alloc::Global;
+use std::io::{Read, Write};
 
 /// Referees a match of the file's game between the first players that connect to the port, and gives its record.
 pub fn serve_file<F: Files, N: Network>(
@@ -28,13 +29,22 @@ pub fn serve_file<F: Files, N: Network>(
     port: u16,
     service: Service,
 ) -> Result<Vec<u8>, Fault> {
-    let text = text_of(read_within(alloc, files, file, MAX_TEXT)?)?;
-    let game = load(alloc, text.as_slice())?;
-    let mut lines = accept_players(alloc, network, port, game.players())?;
-    let mut clock = network.start_clock()?;
-    let lines = lines.as_mut_slice();
-    let played = serve_match(alloc, game, text.as_slice(), service, lines, &mut clock)?;
+    let text = read_description(alloc, files, file)?;
+    let played = serve_text(alloc, text.as_slice(), network, port, service)?;
     Ok(write_record(alloc, &played)?)
+}
+
+/// Referees a match of the text's game between the first players that connect to the port.
+fn serve_text<N: Network>(
+    alloc: Global,
+    text: &[u8],
+    network: &mut N,
+    port: u16,
+    service: Service,
+) -> Result<Match, Fault> {
+    let game = load(alloc, text)?;
+    let mut lines = accept_players(alloc, network, port, game.players())?;
+    serve_lines(alloc, game, text, network, service, lines.as_mut_slice())
 }
 
 /// Referees a match of the file's game between players of this process, and gives its record of version 1.
@@ -45,13 +55,21 @@ pub fn demo_file<F: Files, N: Network>(
     network: &mut N,
     service: Service,
 ) -> Result<Vec<u8>, Fault> {
-    let text = text_of(read_within(alloc, files, file, MAX_TEXT)?)?;
-    let game = load(alloc, text.as_slice())?;
-    let mut lines = connect_players(alloc, network, game.players())?;
-    let mut clock = network.start_clock()?;
-    let lines = lines.as_mut_slice();
-    let played = serve_match(alloc, game, text.as_slice(), service, lines, &mut clock)?;
+    let text = read_description(alloc, files, file)?;
+    let played = demo_text(alloc, text.as_slice(), network, service)?;
     Ok(write_record_1(alloc, &played)?)
+}
+
+/// Referees a match of the text's game between players of this process.
+fn demo_text<N: Network>(
+    alloc: Global,
+    text: &[u8],
+    network: &mut N,
+    service: Service,
+) -> Result<Match, Fault> {
+    let game = load(alloc, text)?;
+    let mut lines = connect_players(alloc, network, game.players())?;
+    serve_lines(alloc, game, text, network, service, lines.as_mut_slice())
 }
 
 /// Plays a seat of the match at the port, and gives the match's last message. A read is a round.
@@ -62,9 +80,17 @@ pub fn play<N: Network>(
     rounds: u64,
 ) -> Result<Vec<u8>, Fault> {
     let mut client = Client::new(alloc, network.connect(port)?);
+    let outcome = play_rounds(&mut client, rounds)?;
+    Ok(outcome_line(alloc, &outcome)?)
+}
+
+fn play_rounds<S: Read + Write + Drop>(
+    client: &mut Client<S>,
+    rounds: u64,
+) -> Result<Outcome, Fault> {
     for _ in 0..rounds {
         if let Heard::Ended(outcome) = client.turn()? {
-            return Ok(outcome_line(alloc, &outcome)?);
+            return Ok(outcome);
         }
     }
     Err(Fault::Rounds)
@@ -80,10 +106,20 @@ fn accept_players<N: Network>(
     ensures { IfOk result (λ lines. length lines.items ≡ players) }
 {
     let mut listener = network.listen(port)?;
+    accept_lines(alloc, network, &mut listener, players)
+}
+
+fn accept_lines<N: Network>(
+    alloc: Global,
+    network: &mut N,
+    listener: &mut N::Listener,
+    players: usize,
+) -> Result<Vec<StreamLine<N::Stream>>, Fault>
+    ensures { IfOk result (λ lines. length lines.items ≡ players) }
+{
     let mut lines = Vec::with_capacity(alloc, players)?;
     for _ in 0..players {
-        let stream = network.accept(&mut listener)?;
-        lines.push(StreamLine::new(stream))?;
+        lines.push(StreamLine::new(network.accept(listener)?))?;
     }
     Ok(lines)
 }
@@ -97,17 +133,53 @@ fn connect_players<N: Network>(
     ensures { IfOk result (λ lines. length lines.items ≡ players) }
 {
     let mut listener = network.listen(0)?;
-    let port = network.port_of(&listener)?;
+    connect_lines(alloc, network, &mut listener, players)
+}
+
+fn connect_lines<N: Network>(
+    alloc: Global,
+    network: &mut N,
+    listener: &mut N::Listener,
+    players: usize,
+) -> Result<Vec<PlayedLine<N::Stream>>, Fault>
+    ensures { IfOk result (λ lines. length lines.items ≡ players) }
+{
+    let port = network.port_of(listener)?;
     let mut lines = Vec::with_capacity(alloc, players)?;
     for _ in 0..players {
-        let client = Client::new(alloc, network.connect(port)?);
-        let line = StreamLine::new(network.accept(&mut listener)?);
-        lines.push(PlayedLine::new(line, client))?;
+        lines.push(connect_line(alloc, network, port, listener)?)?;
     }
     Ok(lines)
 }
 
-/// Referees a match over the lines, one for each seat, until it has ended.
+/// A line whose player is connected to the port, which is the listener's.
+fn connect_line<N: Network>(
+    alloc: Global,
+    network: &mut N,
+    port: u16,
+    listener: &mut N::Listener,
+) -> Result<PlayedLine<N::Stream>, Fault> {
+    let client = Client::new(alloc, network.connect(port)?);
+    let line = StreamLine::new(network.accept(listener)?);
+    Ok(PlayedLine::new(line, client))
+}
+
+/// Referees a match over the lines, one for each seat, until it has ended. A clock begins with it.
+fn serve_lines<N: Network, L: Line>(
+    alloc: Global,
+    game: Game,
+    text: &[u8],
+    network: &mut N,
+    service: Service,
+    lines: &mut [L],
+) -> Result<Match, Fault>
+    requires loaded { Loads text.now game }
+    requires lines { length lines.old ≡ seats_of game }
+{
+    let mut clock = network.start_clock()?;
+    serve_match(alloc, game, text, service, lines, &mut clock)
+}
+
 fn serve_match<L: Line, C: Clock>(
     alloc: Global,
     game: Game,
@@ -119,8 +191,7 @@ fn serve_match<L: Line, C: Clock>(
     requires loaded { Loads text.now game }
     requires lines { length lines.old ≡ seats_of game }
 {
-    let now = clock.now();
-    let (mut played, mut outbox) = Match::new(alloc, game, text, service.config, now)?;
+    let (mut played, mut outbox) = Match::new(alloc, game, text, service.config, clock.now())?;
     serve(
         alloc,
         lines,
