@@ -2,9 +2,13 @@
 //!
 //! Standard input has two words a line: the file of a game, and a depth or the file of a match. For a depth the file's
 //! name is printed, then what `rbg check` prints of it, and then what `rbg_author perft` prints up to that depth. For a
-//! match its name is printed, and then what `rbg_author show --last` prints of its moves.
+//! match its name is printed, and then what `rbg_author show --last` prints of its moves. A game's file may also be
+//! that of another board for it (`GameFiles`).
 #![tactic(auto)]
 
+mod boards;
+
+use boards::GameFiles;
 use rbg_console::{Files, Input, MAX_INPUT, SystemFiles, read_input};
 use rbg_program::SystemNetwork;
 use std::alloc::{AllocError, Global};
@@ -23,7 +27,7 @@ fn words_of(alloc: Global, texts: &[&str]) -> Result<Vec<String>, AllocError> {
 /// Runs `rbg check` on the file, and says whether it describes a game.
 fn check_game(rt: &HostRuntime, name: &str, output: &mut Vec<u8>) -> Result<bool, AllocError> {
     let words = words_of(rt.alloc(), &["check", name])?;
-    let mut files = SystemFiles::new(rt);
+    let mut files = GameFiles::new(rt);
     let status = rbg_program::run(
         rt.alloc(),
         words.as_slice(),
@@ -43,7 +47,7 @@ fn count_moves(
     output: &mut Vec<u8>,
 ) -> Result<bool, AllocError> {
     let words = words_of(rt.alloc(), &["perft", name, depth])?;
-    let mut files = SystemFiles::new(rt);
+    let mut files = GameFiles::new(rt);
     let mut input = [].as_slice();
     let status = rbg_author::run(rt.alloc(), words.as_slice(), &mut files, &mut input, output);
     Ok(status == 0)

@@ -1,0 +1,65 @@
+//! Games that begin on another board. A file with the ending `.board` has the section of a board, and no other.
+
+use rbg_console::{Files, Input, SystemFiles};
+use std::alloc::{AllocError, Global};
+
+/// The files of the system, where `GAME.PLACE.board` stands for the description of `GAME.rbg` with that file's board.
+#[derive(Drop)]
+pub struct GameFiles<'a> {
+    files: SystemFiles<'a>,
+}
+
+impl<'a> GameFiles<'a> {
+    pub fn new(rt: &'a HostRuntime) -> GameFiles<'a> {
+        GameFiles {
+            files: SystemFiles::new(rt),
+        }
+    }
+
+    /// Reads the game of a name without its ending, with the board of a file.
+    fn read_with_board(
+        &mut self,
+        alloc: Global,
+        game: &str,
+        board: &str,
+        limit: usize,
+    ) -> Result<Input, AllocError> {
+        let game = format!(in alloc; "{game}.rbg")?;
+        let Input::Whole(description) = self.files.read_file(alloc, game.as_str(), limit)? else {
+            return Ok(Input::Device);
+        };
+        let Input::Whole(board) = self.files.read_file(alloc, board, limit)? else {
+            return Ok(Input::Device);
+        };
+        let text = with_board(alloc, description.as_slice(), board.as_slice())?;
+        Ok(Input::Whole(text))
+    }
+}
+
+impl Files for GameFiles<'_> {
+    fn read_file(&mut self, alloc: Global, name: &str, limit: usize) -> Result<Input, AllocError> {
+        let stem = name.strip_suffix(".board").unwrap_or("");
+        match stem.split_once('.') {
+            Some((game, _)) => self.read_with_board(alloc, game, name, limit),
+            None => self.files.read_file(alloc, name, limit),
+        }
+    }
+}
+
+/// The description with this text in place of its section `#board`. A section begins where a line begins with `#`.
+fn with_board(alloc: Global, description: &[u8], board: &[u8]) -> Result<Vec<u8>, AllocError> {
+    let mut text = Vec::new(alloc);
+    let mut replaced = false;
+    for line in description.split_inclusive(|byte| *byte == b'\n') {
+        if line.starts_with(b"#") {
+            replaced = line.starts_with(b"#board");
+            if replaced {
+                text.extend_from_slice(board)?;
+            }
+        }
+        if !replaced {
+            text.extend_from_slice(line)?;
+        }
+    }
+    Ok(text)
+}
