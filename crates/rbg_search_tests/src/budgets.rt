@@ -1,0 +1,162 @@
+//! What questions take up, and where a budget ends them.
+ghost use Rattle.std.specs.Prelude.{IfOk};
+ghost use Rattle.rbg_rules.specs.Places.{IsPlaceOf};
+
+use rbg_auto::{Steps, compact};
+use rbg_game::load;
+use rbg_moves::{Move, Over, Pair, Place, Workspace, find_move_with, try_move};
+use rbg_rules::Game;
+use rbg_search::{Budget, Search};
+use std::alloc::{AllocError, Global};
+use std::test::Fail;
+
+/// What a pattern answered, and what was taken up for it.
+#[derive(Debug, Clone, Copy, PartialEq, Eq)]
+struct Answer {
+    valid: Result<bool, Over>,
+    opened: u32,
+    taken: u64,
+}
+
+/// The first sections of a game.
+const HEAD: &str = "#players = white(100), black(100)\n#pieces = e, w\n";
+
+/// The game of these rules on this row.
+fn text_of(alloc: Global, row: &str, rules: &str) -> Result<String, AllocError> {
+    format!(in alloc; "{HEAD}#board = rectangle(up,down,left,right,{row})\n#rules = {rules}")
+}
+
+/// The place after the switch at position 1.
+fn white_to_move<S: Steps>(alloc: Global, game: &Game, steps: &S) -> Result<Place, Fail>
+    requires { S.of_rules steps.now game.now.rules }
+    ensures { IfOk result (IsPlaceOf game.now) }
+{
+    let start = Place::start(alloc, game)?;
+    let switch = Move::new(Pair {
+        vertex: 0,
+        position: 1,
+    });
+    let to = try_move(alloc, game, steps, &start, &switch)?;
+    let place = to.ok_or("the rules begin with a switch")?;
+    Ok(place)
+}
+
+/// Asks the pattern at position 2 at a place.
+fn ask_at<S: Steps>(
+    alloc: Global,
+    game: &Game,
+    steps: &S,
+    place: &Place,
+    budget: Budget,
+) -> Result<Answer, Fail>
+    requires steps { S.of_rules steps.now game.now.rules }
+    requires place { IsPlaceOf game.now place.now }
+{
+    if game.positions() < 2 || !game.is_pattern(2) {
+        Err("no pattern stands at position 2")?;
+    }
+    let mut state = place.state.try_clone()?;
+    let mut search = Search::new(alloc, game, steps, budget);
+    Ok(Answer {
+        valid: search.pattern(&mut state, 2),
+        opened: search.opened(),
+        taken: search.taken(),
+    })
+}
+
+/// Asks the pattern at position 2 when white is to move.
+fn ask(alloc: Global, row: &str, rules: &str, budget: Budget) -> Result<Answer, Fail> {
+    let text = text_of(alloc, row, rules)?;
+    let game = load(alloc, text.as_bytes())?;
+    let steps = compact(alloc, &game)?;
+    let place = white_to_move(alloc, &game, &steps)?;
+    ask_at(alloc, &game, &steps, &place, budget)
+}
+
+#[test]
+fn a_pattern_takes_up_its_openings_and_no_more_than_allowed(rt: HostRuntime) -> Result<(), Fail> {
+    let rules = "->white {! ([w] + [e]) {}} ->black";
+    for (openings, modifiers, valid, opened, taken) in [
+        (3, 200, Ok(true), 3, 4),
+        (3, 2, Ok(true), 3, 4),
+        (2, 200, Err(Over::Wide), 2, 3),
+        (1, 200, Err(Over::Wide), 1, 2),
+        (0, 200, Err(Over::Wide), 0, 0),
+        (3, 1, Err(Over::Deep), 1, 2),
+        (3, 0, Err(Over::Deep), 1, 2),
+    ] {
+        let budget = Budget {
+            openings,
+            modifiers,
+        };
+        let answer = ask(rt.alloc(), "[e]", rules, budget)?;
+        let wanted = Answer {
+            valid,
+            opened,
+            taken,
+        };
+        assert_eq!(rt; answer, wanted, "at {openings} and {modifiers}");
+    }
+    Ok(())
+}
+
+/// A text that many times.
+fn repeated(alloc: Global, text: &str, count: usize) -> Result<String, AllocError> {
+    let mut whole = String::new(alloc);
+    for _ in 0..count {
+        whole.push_str(text)?;
+    }
+    Ok(whole)
+}
+
+/// Eight patterns, one inside the other, each with these actions at its beginning. None of them has a word that runs.
+fn nested(alloc: Global, actions: &str) -> Result<String, AllocError> {
+    let level = format!(in alloc; "{{! {actions} ")?;
+    let levels = repeated(alloc, level.as_str(), 8)?;
+    let ends = repeated(alloc, "{}}", 8)?;
+    format!(in alloc; "->white {levels}{ends} ->black")
+}
+
+#[test]
+fn eight_nested_patterns_with_stars_of_offs_end(rt: HostRuntime) -> Result<(), Fail> {
+    let budget = Budget {
+        openings: 100_000,
+        modifiers: 200,
+    };
+    for (actions, valid) in [
+        ("([w])*", Err(Over::Deep)),
+        ("([w] + [e])*", Err(Over::Deep)),
+        ("(right + left + {e} [w])*", Err(Over::Wide)),
+    ] {
+        let rules = nested(rt.alloc(), actions)?;
+        let answer = ask(rt.alloc(), "[e,e,e]", rules.as_str(), budget)?;
+        assert_eq!(rt; answer.valid, valid, "at {actions}");
+        assert!(rt; answer.opened <= 100_000, "at {actions}");
+    }
+    Ok(())
+}
+
+/// How many openings are taken up to find that white has no move; none where white has one.
+fn openings_of_none(alloc: Global, rules: &str) -> Result<Option<u64>, Fail> {
+    let text = text_of(alloc, "[e]", rules)?;
+    let game = load(alloc, text.as_bytes())?;
+    let steps = compact(alloc, &game)?;
+    let place = white_to_move(alloc, &game, &steps)?;
+    let mut workspace = Workspace::new(alloc);
+    let found = find_move_with(alloc, &game, &steps, &place, &mut workspace)?;
+    Ok(match found {
+        Some(_) => None,
+        None => Some(workspace.openings()),
+    })
+}
+
+#[test]
+fn a_question_without_an_answer_takes_up_all_its_openings(rt: HostRuntime) -> Result<(), Fail> {
+    for (choices, openings) in [(0, 1), (1, 3), (2, 7), (10, 2_047), (15, 65_535)] {
+        let choices = repeated(rt.alloc(), "([w] + [e])", choices)?;
+        let rules = format!(in rt.alloc(); "->white {choices} {{}}")?;
+        let found = openings_of_none(rt.alloc(), rules.as_str())?;
+        assert_eq!(rt; found, Some(openings), "at {rules}");
+    }
+    Ok(())
+}

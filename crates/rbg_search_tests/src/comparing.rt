@@ -1,0 +1,206 @@
+//! What searches reach and which patterns hold, beside the slow answers.
+ghost use Rattle.std.specs.Prelude.{◌<◌, ◌≤◌, length};
+ghost use Rattle.rbg_rules.specs.Laws.{IsStart};
+ghost use Rattle.rbg_rules.specs.Places.{IsPlaceOf};
+ghost use Rattle.rbg_rules.specs.Positions.{positions_of, IsPatternAt};
+ghost use Rattle.rbg_search.specs.Start.{start_of};
+
+use crate::asked::Asked;
+use crate::meaning::{Known, Next};
+use crate::odd::{Odd, Tally, add, expect};
+use crate::table::Stands;
+use crate::words::Word;
+use crate::world::World;
+use rbg_auto::{Expr, Steps};
+use rbg_base::Position;
+use rbg_moves::Place;
+use rbg_rules::Game;
+use rbg_search::{Budget, Origin, Over, Reached, Search, Workspace};
+
+/// What searches may take up here: what goes on for ever ends soon.
+const BUDGET: Budget = Budget {
+    openings: 2_000,
+    modifiers: 30,
+};
+
+/// At the beginning of the rules.
+fn at_beginning(game: &Game) -> Origin
+    ensures { IsStart game.now.rules (start_of result) }
+{
+    let _positions = game.positions();
+    Origin::Begin(Expr::Rules)
+}
+
+/// After a position.
+fn after(game: &Game, position: Position) -> Origin
+    requires from_one { 0 < position }
+    requires there { position ≤ length (positions_of game.now.rules) }
+    ensures { IsStart game.now.rules (start_of result) }
+{
+    let _positions = game.positions();
+    Origin::After(position)
+}
+
+/// At the beginning of a pattern.
+fn in_pattern(game: &Game, position: Position) -> Origin
+    requires there { IsPatternAt game.now.rules position }
+    ensures { IsStart game.now.rules (start_of result) }
+{
+    let _positions = game.positions();
+    Origin::Begin(Expr::Inside(position))
+}
+
+/// What is reached from a place.
+fn reach<S: Steps>(
+    asked: &Asked<'_, S>,
+    place: &Place,
+    origin: Origin,
+    workspace: &mut Workspace,
+) -> Result<Result<Reached, Over>, Odd>
+    requires steps { S.of_rules asked.now.steps.now asked.now.game.now.rules }
+    requires place { IsPlaceOf asked.now.game.now place.now }
+    requires stands { IsStart asked.now.game.now.rules (start_of origin) }
+{
+    let mut state = place.state.try_clone()?;
+    let mut search = Search::with_workspace(
+        asked.alloc,
+        asked.game,
+        asked.steps,
+        BUDGET,
+        workspace,
+    );
+    let reached = search.reach(&mut state, origin);
+    search.leave(workspace);
+    expect(state == place.state, Odd::Reach)?;
+    Ok(reached)
+}
+
+/// Compares what is reached with the slow answer.
+fn expect_reached(reached: Result<Reached, Over>, next: &Next) -> Result<(), Odd> {
+    let Ok(reached) = reached else {
+        return expect(!next.whole, Odd::Limits);
+    };
+    for pair in &next.pairs {
+        expect(reached.pairs.contains(pair), Odd::Reach)?;
+    }
+    expect(reached.ends || !next.ends, Odd::Reach)?;
+    if next.whole {
+        expect(reached.ends == next.ends, Odd::Reach)?;
+        expect(reached.pairs.len() == next.pairs.len(), Odd::Reach)?;
+    }
+    Ok(())
+}
+
+/// Compares what is reached from somewhere in the rules, where these are the words that go on from there.
+fn compare_start<S: Steps>(
+    asked: &Asked<'_, S>,
+    place: &Place,
+    world: &World,
+    origin: Origin,
+    words: &[Word],
+    workspace: &mut Workspace,
+    tally: &mut Tally,
+) -> Result<(), Odd>
+    requires steps { S.of_rules asked.now.steps.now asked.now.game.now.rules }
+    requires place { IsPlaceOf asked.now.game.now place.now }
+    requires stands { IsStart asked.now.game.now.rules (start_of origin) }
+{
+    let next = asked.rules.next(asked.alloc, world, words)?;
+    tally.count_next(&next);
+    let reached = reach(asked, place, origin, workspace)?;
+    expect_reached(reached, &next)
+}
+
+/// Whether the pattern at a position holds at a place.
+fn pattern<S: Steps>(
+    asked: &Asked<'_, S>,
+    place: &Place,
+    position: Position,
+    workspace: &mut Workspace,
+) -> Result<Result<bool, Over>, Odd>
+    requires steps { S.of_rules asked.now.steps.now asked.now.game.now.rules }
+    requires place { IsPlaceOf asked.now.game.now place.now }
+    requires there { IsPatternAt asked.now.game.now.rules position }
+{
+    let mut state = place.state.try_clone()?;
+    let mut search = Search::with_workspace(
+        asked.alloc,
+        asked.game,
+        asked.steps,
+        BUDGET,
+        workspace,
+    );
+    let valid = search.pattern(&mut state, position);
+    search.leave(workspace);
+    expect(state == place.state, Odd::Pattern)?;
+    Ok(valid)
+}
+
+/// Compares whether a pattern holds with the slow answer.
+fn expect_pattern(valid: Result<bool, Over>, known: Known, tally: &mut Tally) -> Result<(), Odd> {
+    let Ok(valid) = valid else {
+        return expect(matches!(known, Known::Unknown), Odd::Limits);
+    };
+    match known {
+        Known::Yes => {
+            add(&mut tally.valid, 1);
+            expect(valid, Odd::Pattern)
+        }
+        Known::No => {
+            add(&mut tally.invalid, 1);
+            expect(!valid, Odd::Pattern)
+        }
+        Known::Unknown => Ok(()),
+    }
+}
+
+/// Compares what is reached after a position, and at the beginning of the pattern there and whether it holds.
+fn compare_position<S: Steps>(
+    asked: &Asked<'_, S>,
+    place: &Place,
+    world: &World,
+    position: Position,
+    workspace: &mut Workspace,
+    tally: &mut Tally,
+) -> Result<(), Odd>
+    requires steps { S.of_rules asked.now.steps.now asked.now.game.now.rules }
+    requires place { IsPlaceOf asked.now.game.now place.now }
+    requires from_one { 0 < position }
+    requires there { position ≤ length (positions_of asked.now.game.now.rules) }
+{
+    let Some(entry) = asked.rules.table.entry(position) else {
+        return Err(Odd::Load);
+    };
+    let origin = after(asked.game, position);
+    compare_start(asked, place, world, origin, &entry.rests, workspace, tally)?;
+    let Stands::Pattern { words, .. } = &entry.stands else {
+        return expect(!asked.game.is_pattern(position), Odd::Load);
+    };
+    if !asked.game.is_pattern(position) {
+        return Err(Odd::Load);
+    }
+    let origin = in_pattern(asked.game, position);
+    compare_start(asked, place, world, origin, words, workspace, tally)?;
+    let valid = pattern(asked, place, position, workspace)?;
+    expect_pattern(valid, asked.rules.is_valid(world, position), tally)
+}
+
+/// Compares what is reached from everywhere in the rules, and which patterns hold, at a place.
+pub(crate) fn compare_reach<S: Steps>(
+    asked: &Asked<'_, S>,
+    place: &Place,
+    world: &World,
+    tally: &mut Tally,
+) -> Result<(), Odd>
+    requires steps { S.of_rules asked.now.steps.now asked.now.game.now.rules }
+    requires place { IsPlaceOf asked.now.game.now place.now }
+{
+    let mut workspace = Workspace::new(asked.alloc);
+    let origin = at_beginning(asked.game);
+    let words = asked.rules.table.words.as_slice();
+    compare_start(asked, place, world, origin, words, &mut workspace, tally)?;
+    for position in 1..=asked.game.positions() as Position {
+        compare_position(asked, place, world, position, &mut workspace, tally)?;
+    }
+    Ok(())
+}

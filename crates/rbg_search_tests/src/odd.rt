@@ -1,0 +1,115 @@
+//! Why a game isn't compared to its end, and how much was compared.
+use crate::meaning::{Moves, Next};
+use crate::words::WordsError;
+use rbg_base::Memory;
+use std::alloc::AllocFailed;
+
+/// Why a game isn't compared to its end.
+#[derive(Clone, Copy, Debug, PartialEq, Eq, Drop)]
+pub(crate) enum Odd {
+    /// The rules have too many words.
+    TooMany,
+    /// A search is above its limits though the answer is known: a pattern that a short word shows to be valid may begin
+    /// with words that have no end.
+    Limits,
+    Memory,
+    /// The game isn't loaded as it was written.
+    Load,
+    /// An answer of that call isn't the slow one.
+    Reach,
+    Pattern,
+    Try,
+    Find,
+    List,
+}
+
+impl From<Memory> for Odd {
+    fn from(_error: Memory) -> Odd {
+        Odd::Memory
+    }
+}
+
+impl<T: Drop> From<AllocFailed<T>> for Odd {
+    fn from(_error: AllocFailed<T>) -> Odd {
+        Odd::Memory
+    }
+}
+
+impl From<WordsError> for Odd {
+    fn from(error: WordsError) -> Odd {
+        match error {
+            WordsError::TooMany => Odd::TooMany,
+            WordsError::Memory => Odd::Memory,
+        }
+    }
+}
+
+/// Ends the comparison where something isn't so.
+pub(crate) fn expect(holds: bool, odd: Odd) -> Result<(), Odd> {
+    if holds { Ok(()) } else { Err(odd) }
+}
+
+/// How much was compared.
+#[derive(Clone, Copy, Debug, Default, PartialEq, Eq)]
+pub(crate) struct Tally {
+    /// Games that were compared, such with too many words, and such that met the limits of a search.
+    pub(crate) games: u32,
+    pub(crate) skipped: u32,
+    pub(crate) limited: u32,
+    /// Legal moves, and those of more than one pair.
+    pub(crate) moves: u32,
+    pub(crate) longer_moves: u32,
+    /// Places whose moves are all known, and such that have none.
+    pub(crate) whole_places: u32,
+    pub(crate) finished: u32,
+    /// Lists of pairs that are no moves.
+    pub(crate) illegal: u32,
+    /// What is reached: pairs, ends, and starts from which all is known.
+    pub(crate) pairs: u32,
+    pub(crate) ends: u32,
+    pub(crate) whole_starts: u32,
+    /// Patterns that are valid or not.
+    pub(crate) valid: u32,
+    pub(crate) invalid: u32,
+}
+
+/// Adds to a count.
+pub(crate) fn add(count: &mut u32, more: usize) {
+    *count = count.saturating_add(more.min(1_000) as u32);
+}
+
+impl Tally {
+    pub(crate) fn count_next(&mut self, next: &Next) {
+        add(&mut self.pairs, next.pairs.len());
+        add(&mut self.ends, next.ends as usize);
+        add(&mut self.whole_starts, next.whole as usize);
+    }
+
+    pub(crate) fn count_moves(&mut self, moves: &Moves) {
+        add(&mut self.moves, moves.moves.len());
+        for played in &moves.moves {
+            add(&mut self.longer_moves, (played.pairs.len() > 1) as usize);
+        }
+        add(&mut self.whole_places, moves.whole as usize);
+        add(
+            &mut self.finished,
+            (moves.whole && moves.moves.is_empty()) as usize,
+        );
+    }
+
+    /// Whether so much was compared that each kind of answer was met often.
+    pub(crate) fn shows_enough(&self) -> bool {
+        self.games > 1_500
+            && self.limited < 10
+            && self.moves > 5_000
+            && self.longer_moves > 2_000
+            && self.whole_places > 3_000
+            && self.finished > 500
+            && self.illegal > 10_000
+            && self.pairs > 40_000
+            && self.ends > 10_000
+            && self.whole_starts > 50_000
+            && self.valid > 1_000
+            && self.invalid > 1_000
+    }
+}

@@ -1,0 +1,245 @@
+//! Which moves are legal and where they lead, beside the slow answers.
+ghost use Rattle.std.specs.Prelude.{◌<◌, IfOk, IfSome};
+ghost use Rattle.rbg_rules.specs.State.{IsStateOf};
+ghost use Rattle.rbg_rules.specs.Places.{IsPlaceOf};
+
+use crate::asked::Asked;
+use crate::meaning::{Moves, Played};
+use crate::odd::{Odd, Tally, add, expect};
+use crate::words::Word;
+use crate::world::World;
+use rbg_auto::Steps;
+use rbg_base::{Position, Variable, Vertex};
+use rbg_moves::{Listed, Move, Over, Pair, Place, find_move, list_moves, try_move};
+use rbg_rules::Game;
+use rbg_state::SemiState;
+
+/// Whether a semi-state is the one of the slow answers.
+fn is_same(game: &Game, state: &SemiState, world: &World) -> bool
+    requires { IsStateOf game.now state.now.state }
+{
+    let mut same = state.player() == world.player && state.vertex() == world.vertex;
+    for vertex in 0..game.board().len() {
+        let piece = state.piece(vertex as Vertex);
+        same = same && world.pieces.get(vertex).copied() == Some(piece);
+    }
+    for variable in 0..game.variables() {
+        let value = i64::from(state.value(variable as Variable));
+        same = same && world.values.get(variable).copied() == Some(value);
+    }
+    same
+}
+
+/// What trying pairs answers: none where they are no move, or where the search gives up.
+fn try_pairs<S: Steps>(
+    asked: &Asked<'_, S>,
+    place: &Place,
+    pairs: &[Pair],
+) -> Result<Option<Place>, Over>
+    requires steps { S.of_rules asked.now.steps.now asked.now.game.now.rules }
+    requires place { IsPlaceOf asked.now.game.now place.now }
+    ensures { IfOk result (λ after. IfSome after (IsPlaceOf asked.now.game.now)) }
+{
+    let Ok(pairs) = Move::try_from(pairs) else {
+        return Ok(None);
+    };
+    try_move(asked.alloc, asked.game, asked.steps, place, &pairs)
+}
+
+/// Compares a legal move with what trying it answers.
+fn compare_legal<S: Steps>(
+    asked: &Asked<'_, S>,
+    place: &Place,
+    played: &Played,
+    whole: bool,
+) -> Result<(), Odd>
+    requires steps { S.of_rules asked.now.steps.now asked.now.game.now.rules }
+    requires place { IsPlaceOf asked.now.game.now place.now }
+{
+    match try_pairs(asked, place, &played.pairs) {
+        Ok(Some(to)) => {
+            let same = is_same(asked.game, &to.state, &played.world);
+            expect(same && to.after == Some(played.last), Odd::Try)
+        }
+        Ok(None) => Err(Odd::Try),
+        Err(_) => expect(!whole, Odd::Limits),
+    }
+}
+
+/// Compares pairs that may be no move with what trying them answers, where all moves are known.
+fn compare_pairs<S: Steps>(
+    asked: &Asked<'_, S>,
+    place: &Place,
+    pairs: &[Pair],
+    moves: &Moves,
+    tally: &mut Tally,
+) -> Result<(), Odd>
+    requires steps { S.of_rules asked.now.steps.now asked.now.game.now.rules }
+    requires place { IsPlaceOf asked.now.game.now place.now }
+{
+    if !moves.whole || moves.has(pairs) {
+        return Ok(());
+    }
+    add(&mut tally.illegal, 1);
+    match try_pairs(asked, place, pairs) {
+        Ok(None) => Ok(()),
+        Ok(Some(_)) => Err(Odd::Try),
+        Err(_) => Err(Odd::Limits),
+    }
+}
+
+/// Tries what differs from a legal move in a little.
+fn compare_near<S: Steps>(
+    asked: &Asked<'_, S>,
+    place: &Place,
+    played: &Played,
+    moves: &Moves,
+    tally: &mut Tally,
+) -> Result<(), Odd>
+    requires steps { S.of_rules asked.now.steps.now asked.now.game.now.rules }
+    requires place { IsPlaceOf asked.now.game.now place.now }
+{
+    let Some((last, front)) = played.pairs.split_last() else {
+        return Err(Odd::Try);
+    };
+    compare_pairs(asked, place, front, moves, tally)?;
+    let mut pairs = Vec::new(asked.alloc);
+    pairs.extend_from_slice(front)?;
+    for pair in [
+        Pair {
+            vertex: last.vertex ^ 1,
+            ..*last
+        },
+        Pair {
+            position: last.position ^ 1,
+            ..*last
+        },
+        *last,
+        *last,
+    ] {
+        pairs.push(pair)?;
+        compare_pairs(asked, place, &pairs, moves, tally)?;
+    }
+    Ok(())
+}
+
+/// Tries each position alone.
+fn compare_single<S: Steps>(
+    asked: &Asked<'_, S>,
+    place: &Place,
+    moves: &Moves,
+    tally: &mut Tally,
+) -> Result<(), Odd>
+    requires steps { S.of_rules asked.now.steps.now asked.now.game.now.rules }
+    requires place { IsPlaceOf asked.now.game.now place.now }
+{
+    let vertex = place.state.vertex();
+    for position in 1..=asked.game.positions() as Position {
+        let pair = Pair { vertex, position };
+        compare_pairs(asked, place, &[pair], moves, tally)?;
+    }
+    Ok(())
+}
+
+/// Whether the moves listed are in order, each once.
+fn is_sorted(moves: &[Move]) -> bool {
+    let mut before: Option<&Move> = None;
+    for played in moves {
+        if let Some(before) = before
+            && before >= played
+        {
+            return false;
+        }
+        before = Some(played);
+    }
+    true
+}
+
+/// Whether a list of at most `max` moves is right.
+fn is_list(listed: &Listed, moves: &Moves, max: usize) -> bool {
+    let count = listed.moves.len();
+    let mut right = is_sorted(&listed.moves) && count <= max;
+    if !listed.cut {
+        for played in &moves.moves {
+            let pairs = played.pairs.as_slice();
+            right = right && listed.moves.iter().any(|one| one.as_slice() == pairs);
+        }
+    }
+    if moves.whole {
+        for one in &listed.moves {
+            right = right && moves.has(one.as_slice());
+        }
+        let all = moves.moves.len();
+        right = right && listed.cut == (max < all) && count == all.min(max);
+    }
+    right
+}
+
+/// Compares the list of at most `max` moves.
+fn compare_list<S: Steps>(
+    asked: &Asked<'_, S>,
+    place: &Place,
+    moves: &Moves,
+    max: usize,
+) -> Result<(), Odd>
+    requires steps { S.of_rules asked.now.steps.now asked.now.game.now.rules }
+    requires place { IsPlaceOf asked.now.game.now place.now }
+    requires some { 0 < max }
+{
+    match list_moves(asked.alloc, asked.game, asked.steps, place, max) {
+        Ok(listed) => expect(is_list(&listed, moves, max), Odd::List),
+        Err(_) => expect(!moves.whole, Odd::Limits),
+    }
+}
+
+/// Compares the move that is found.
+fn compare_found<S: Steps>(asked: &Asked<'_, S>, place: &Place, moves: &Moves) -> Result<(), Odd>
+    requires steps { S.of_rules asked.now.steps.now asked.now.game.now.rules }
+    requires place { IsPlaceOf asked.now.game.now place.now }
+{
+    match find_move(asked.alloc, asked.game, asked.steps, place) {
+        Ok(Some(found)) => expect(!moves.whole || moves.has(found.as_slice()), Odd::Find),
+        Ok(None) => expect(moves.moves.is_empty(), Odd::Find),
+        Err(_) => expect(!moves.whole, Odd::Limits),
+    }
+}
+
+/// Compares all that is asked of moves at a place, where these words go on from it, and returns the moves.
+pub(crate) fn compare_moves<S: Steps>(
+    asked: &Asked<'_, S>,
+    place: &Place,
+    world: &World,
+    words: &[Word],
+    tally: &mut Tally,
+) -> Result<Moves, Odd>
+    requires steps { S.of_rules asked.now.steps.now asked.now.game.now.rules }
+    requires place { IsPlaceOf asked.now.game.now place.now }
+{
+    let moves = asked.rules.moves(asked.alloc, world, words)?;
+    tally.count_moves(&moves);
+    compare_found(asked, place, &moves)?;
+    compare_list(asked, place, &moves, 200)?;
+    compare_list(asked, place, &moves, 2)?;
+    compare_single(asked, place, &moves, tally)?;
+    for played in &moves.moves {
+        compare_legal(asked, place, played, moves.whole)?;
+        compare_near(asked, place, played, &moves, tally)?;
+    }
+    Ok(moves)
+}
+
+/// The place after a move that is legal.
+pub(crate) fn play<S: Steps>(
+    asked: &Asked<'_, S>,
+    place: &Place,
+    played: &Played,
+) -> Result<Option<Place>, Odd>
+    requires steps { S.of_rules asked.now.steps.now asked.now.game.now.rules }
+    requires place { IsPlaceOf asked.now.game.now place.now }
+    ensures { IfOk result (λ after. IfSome after (IsPlaceOf asked.now.game.now)) }
+{
+    match try_pairs(asked, place, &played.pairs) {
+        Ok(after) => Ok(after),
+        Err(_) => Ok(None),
+    }
+}

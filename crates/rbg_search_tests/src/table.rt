@@ -1,0 +1,107 @@
+//! The actions of rules by position, and the words that go on from each.
+use crate::tree::{Action, Tree};
+use crate::words::{Word, WordsError, rests_anywhere, words};
+use rbg_base::Position;
+use std::alloc::Global;
+
+/// What stands at a position.
+#[derive(Drop)]
+pub(crate) enum Stands {
+    Action(Action),
+    /// A pattern, with the words of its inside.
+    Pattern { positive: bool, words: Vec<Word> },
+}
+
+/// A position of the rules.
+#[derive(Drop)]
+pub(crate) struct Entry {
+    pub(crate) stands: Stands,
+    /// What follows the position to the end of a word, in the rules or the inside of a pattern where it stands.
+    pub(crate) rests: Vec<Word>,
+}
+
+/// The words of rules.
+#[derive(Drop)]
+pub(crate) struct Table {
+    /// From position 1 on.
+    pub(crate) entries: Vec<Entry>,
+    /// The words of the rules.
+    pub(crate) words: Vec<Word>,
+}
+
+impl Table {
+    pub(crate) fn new(alloc: Global, rules: &Tree) -> Result<Table, WordsError> {
+        let words = words(alloc, rules)?;
+        let mut entries = Vec::new(alloc);
+        lay(alloc, rules, rules, &mut entries)?;
+        Ok(Table { entries, words })
+    }
+
+    /// What the rules have at a position.
+    pub(crate) fn entry(&self, position: Position) -> Option<&Entry> {
+        let number = (position as usize).checked_sub(1)?;
+        self.entries.get(number)
+    }
+
+    /// Whether a modifier stands at a position.
+    pub(crate) fn is_modifier(&self, position: Position) -> bool {
+        match self.entry(position) {
+            Some(entry) => match &entry.stands {
+                Stands::Action(action) => action.is_modifier(),
+                Stands::Pattern { .. } => false,
+            },
+            None => false,
+        }
+    }
+
+    /// Whether a switch stands at a position.
+    pub(crate) fn is_switch(&self, position: Position) -> bool {
+        match self.entry(position) {
+            Some(entry) => matches!(&entry.stands, Stands::Action(Action::Switch(_))),
+            None => false,
+        }
+    }
+}
+
+/// Appends the positions of a part of the rules in order of text.
+fn lay(
+    alloc: Global,
+    rules: &Tree,
+    part: &Tree,
+    entries: &mut Vec<Entry>,
+) -> Result<(), WordsError> {
+    match part {
+        Tree::Act { position, action } => {
+            let rests = rests_anywhere(alloc, rules, *position)?;
+            let stands = Stands::Action(*action);
+            entries.push(Entry { stands, rests })?;
+            Ok(())
+        }
+        Tree::Pattern {
+            position,
+            positive,
+            inside,
+        } => {
+            let rests = rests_anywhere(alloc, rules, *position)?;
+            let stands = Stands::Pattern {
+                positive: *positive,
+                words: words(alloc, inside)?,
+            };
+            entries.push(Entry { stands, rests })?;
+            lay(alloc, rules, inside, entries)
+        }
+        Tree::Then(parts) => {
+            for part in parts {
+                lay(alloc, rules, part, entries)?;
+            }
+            Ok(())
+        }
+        Tree::Or(parts) => {
+            for part in parts {
+                lay(alloc, rules, part, entries)?;
+            }
+            Ok(())
+        }
+        Tree::Star(part) => lay(alloc, rules, part, entries),
+    }
+}

@@ -1,0 +1,256 @@
+//! Words of rules, each cut behind its sixth letter. A letter is the position of an action.
+ghost use Rattle.std.specs.Prelude.{◌≤◌, ◌<◌};
+
+use crate::tree::Tree;
+use rbg_base::Position;
+use std::alloc::{AllocError, AllocFailed, Global};
+
+/// The most letters of a word that are looked at.
+pub(crate) const LETTERS: usize = 6;
+
+/// Rules with more words than that aren't looked at.
+const MOST_WORDS: usize = 100;
+
+/// A word, or the first letters of a longer word.
+#[derive(Clone, Copy, PartialEq, Eq)]
+pub(crate) struct Word {
+    length: usize,
+    letters: [Position; LETTERS],
+    /// Whether these are only the first letters.
+    longer: bool,
+}
+
+/// Why the words of rules aren't known.
+#[derive(Clone, Copy, Debug, PartialEq, Eq, Drop)]
+pub(crate) enum WordsError {
+    TooMany,
+    Memory,
+}
+
+impl From<AllocError> for WordsError {
+    fn from(_error: AllocError) -> WordsError {
+        WordsError::Memory
+    }
+}
+
+impl<T: Drop> From<AllocFailed<T>> for WordsError {
+    fn from(_error: AllocFailed<T>) -> WordsError {
+        WordsError::Memory
+    }
+}
+
+impl Word {
+    /// The word without a letter.
+    const EMPTY: Word = Word {
+        length: 0,
+        letters: [0; LETTERS],
+        longer: false,
+    };
+
+    /// The word of one letter.
+    fn of(letter: Position) -> Word {
+        let mut word = Word::EMPTY;
+        word.push(letter);
+        word
+    }
+
+    /// A letter by its number from 0, if the word is known so far and has it.
+    pub(crate) fn letter(&self, number: usize) -> Option<Position> {
+        if number < self.length {
+            self.letters.get(number).copied()
+        } else {
+            None
+        }
+    }
+
+    /// Whether only the first letters are known.
+    pub(crate) fn is_longer(&self) -> bool {
+        self.longer
+    }
+
+    fn push(&mut self, letter: Position) {
+        if self.length < LETTERS {
+            self.letters[self.length] = letter;
+            self.length += 1;
+        } else {
+            self.longer = true;
+        }
+    }
+
+    /// This word and another one after it.
+    fn joined(self, other: &Word) -> Word {
+        if self.longer {
+            return self;
+        }
+        let mut word = self;
+        for number in 0..LETTERS {
+            if let Some(letter) = other.letter(number) {
+                word.push(letter);
+            }
+        }
+        word.longer = word.longer || other.longer;
+        word
+    }
+}
+
+/// Adds a word to a list that doesn't have it.
+fn add(words: &mut Vec<Word>, word: Word) -> Result<(), WordsError> {
+    if words.contains(&word) {
+        return Ok(());
+    }
+    if words.len() >= MOST_WORDS {
+        return Err(WordsError::TooMany);
+    }
+    words.push(word)?;
+    Ok(())
+}
+
+/// Adds words to a list that doesn't have them.
+fn add_all(words: &mut Vec<Word>, more: &[Word]) -> Result<(), WordsError> {
+    for word in more {
+        add(words, *word)?;
+    }
+    Ok(())
+}
+
+/// Each word of the first list with each word of the second after it.
+fn join(alloc: Global, firsts: &[Word], seconds: &[Word]) -> Result<Vec<Word>, WordsError> {
+    let mut joined = Vec::new(alloc);
+    for first in firsts {
+        for second in seconds {
+            add(&mut joined, first.joined(second))?;
+        }
+    }
+    Ok(joined)
+}
+
+/// The list of one word.
+fn only(alloc: Global, word: Word) -> Result<Vec<Word>, WordsError> {
+    let mut words = Vec::new(alloc);
+    words.push(word)?;
+    Ok(words)
+}
+
+/// Any number of words joined: none, or one and then more. Seven of them that aren't empty are longer than six letters.
+fn repeat(alloc: Global, words: &[Word]) -> Result<Vec<Word>, WordsError> {
+    let mut one_or_none = only(alloc, Word::EMPTY)?;
+    add_all(&mut one_or_none, words)?;
+    let mut repeated = only(alloc, Word::EMPTY)?;
+    for _ in 0..=LETTERS {
+        repeated = join(alloc, &repeated, &one_or_none)?;
+    }
+    Ok(repeated)
+}
+
+/// The words of the rules: an action has the word of its one position, a sequence joins a word of each part, a sum has
+/// the words of its parts, and a star joins any number of words.
+pub(crate) fn words(alloc: Global, tree: &Tree) -> Result<Vec<Word>, WordsError> {
+    match tree {
+        Tree::Act { position, .. } => only(alloc, Word::of(*position)),
+        Tree::Pattern { position, .. } => only(alloc, Word::of(*position)),
+        Tree::Then(parts) => {
+            let mut all = only(alloc, Word::EMPTY)?;
+            for part in parts {
+                let more = words(alloc, part)?;
+                all = join(alloc, &all, &more)?;
+            }
+            Ok(all)
+        }
+        Tree::Or(parts) => {
+            let mut all = Vec::new(alloc);
+            for part in parts {
+                let more = words(alloc, part)?;
+                add_all(&mut all, &more)?;
+            }
+            Ok(all)
+        }
+        Tree::Star(part) => {
+            let once = words(alloc, part)?;
+            repeat(alloc, &once)
+        }
+    }
+}
+
+/// What follows a position up to the end of a word, for each word of the rules that has it outside patterns.
+fn rests(alloc: Global, tree: &Tree, after: Position) -> Result<Vec<Word>, WordsError> {
+    match tree {
+        Tree::Act { position, .. } => rests_of_one(alloc, *position, after),
+        Tree::Pattern { position, .. } => rests_of_one(alloc, *position, after),
+        Tree::Then(parts) => {
+            let mut all = Vec::new(alloc);
+            for part in parts {
+                let more = words(alloc, part)?;
+                all = join(alloc, &all, &more)?;
+                let within = rests(alloc, part, after)?;
+                add_all(&mut all, &within)?;
+            }
+            Ok(all)
+        }
+        Tree::Or(parts) => {
+            let mut all = Vec::new(alloc);
+            for part in parts {
+                let within = rests(alloc, part, after)?;
+                add_all(&mut all, &within)?;
+            }
+            Ok(all)
+        }
+        Tree::Star(part) => {
+            let once = words(alloc, part)?;
+            let more = repeat(alloc, &once)?;
+            let within = rests(alloc, part, after)?;
+            join(alloc, &within, &more)
+        }
+    }
+}
+
+/// What follows a position in the word of one letter.
+fn rests_of_one(alloc: Global, letter: Position, after: Position) -> Result<Vec<Word>, WordsError> {
+    if letter == after {
+        only(alloc, Word::EMPTY)
+    } else {
+        Ok(Vec::new(alloc))
+    }
+}
+
+/// The same in the insides of the patterns of the rules.
+fn rests_in_patterns(alloc: Global, tree: &Tree, after: Position) -> Result<Vec<Word>, WordsError> {
+    match tree {
+        Tree::Act { .. } => Ok(Vec::new(alloc)),
+        Tree::Pattern { inside, .. } => {
+            let mut all = rests(alloc, inside, after)?;
+            let deeper = rests_in_patterns(alloc, inside, after)?;
+            add_all(&mut all, &deeper)?;
+            Ok(all)
+        }
+        Tree::Then(parts) => {
+            let mut all = Vec::new(alloc);
+            for part in parts {
+                let within = rests_in_patterns(alloc, part, after)?;
+                add_all(&mut all, &within)?;
+            }
+            Ok(all)
+        }
+        Tree::Or(parts) => {
+            let mut all = Vec::new(alloc);
+            for part in parts {
+                let within = rests_in_patterns(alloc, part, after)?;
+                add_all(&mut all, &within)?;
+            }
+            Ok(all)
+        }
+        Tree::Star(part) => rests_in_patterns(alloc, part, after),
+    }
+}
+
+/// What follows a position up to the end of a word of the expression that has it: the rules, or the inside of a
+/// pattern. A position stands in one of them alone.
+pub(crate) fn rests_anywhere(
+    alloc: Global,
+    rules: &Tree,
+    after: Position,
+) -> Result<Vec<Word>, WordsError> {
+    let mut all = rests(alloc, rules, after)?;
+    let deeper = rests_in_patterns(alloc, rules, after)?;
+    add_all(&mut all, &deeper)?;
+    Ok(all)
+}
