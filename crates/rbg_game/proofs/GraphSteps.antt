@@ -29,7 +29,7 @@ pieces_more vertices i vertex below is =
     ap (map (λ (v : SpeltVertex). v.piece)) (map-take_more vertex_of vertices i vertex below is) ∙ map-append (λ (v : SpeltVertex). v.piece) (map vertex_of (take i vertices)) (vertex_of vertex ∷ [])
 
 pub names_more : (vertices : List Vertex) (i : ℕ) (vertex : Vertex) → i < length vertices → vertex ≡ get_or vertices i vertex
-    → vertex_names (map vertex_of (take (i + 1) vertices)) ≡ vertex_names (map vertex_of (take i vertices)) ++ vertex.name.text.items ∷ []
+    → vertex_names (map vertex_of (take (i + 1) vertices)) ≡ vertex_names (map vertex_of (take i vertices)) ++ vertex.name.text.now ∷ []
 names_more vertices i vertex below is =
     ap vertex_names (map-take_more vertex_of vertices i vertex below is) ∙ map-append (λ (v : SpeltVertex). v.name.text) (map vertex_of (take i vertices)) (vertex_of vertex ∷ [])
 
@@ -41,7 +41,7 @@ directions_more vertices i vertex below is =
     ∙ ap (λ l. directions_named (map vertex_of (take i vertices)) ++ l) (append-nil (edge_directions (map edge_of vertex.edges.items)))
 
 pub edges_more : (edges : List Edge) (i : ℕ) (edge : Edge) → i < length edges → edge ≡ get_or edges i edge
-    → edge_directions (map edge_of (take (i + 1) edges)) ≡ edge_directions (map edge_of (take i edges)) ++ edge.direction.text.items ∷ []
+    → edge_directions (map edge_of (take (i + 1) edges)) ≡ edge_directions (map edge_of (take i edges)) ++ edge.direction.text.now ∷ []
 edges_more edges i edge below is =
     ap edge_directions (map-take_more edge_of edges i edge below is) ∙ map-append (λ (e : SpeltEdge). e.direction.text) (map edge_of (take i edges)) (edge_of edge ∷ [])
 
@@ -57,32 +57,32 @@ names_before vertices i n text there =
     (subst (λ l. slice_get l n ≡ Some text) (ap (map (λ (v : SpeltVertex). v.name.text)) (sym (take-map vertex_of i vertices)) ∙ sym (take-map (λ (v : SpeltVertex). v.name.text) i (map vertex_of vertices))) there)).0
 
 -- a vertex whose name has an earlier number has the name of an earlier vertex
-pub name_again : (vertices : List Vertex) (i : ℕ) (vertex : Vertex) (old new : List (List ℕ)) (n : ℕ) → i < length vertices → vertex ≡ get_or vertices i vertex → old ≡ vertex_names (map vertex_of (take i vertices)) → Joins old new vertex.name.text.items n → n < i
+pub name_again : (vertices : List Vertex) (i : ℕ) (vertex : Vertex) (old new : List (List ℕ)) (n : ℕ) → i < length vertices → vertex ≡ get_or vertices i vertex → old ≡ vertex_names (map vertex_of (take i vertices)) → Joins old new vertex.name.text.now n → n < i
     → HasGraphFault (map vertex_of vertices) board_errors.SameVertex
 name_again vertices i vertex old new n below is before joins earlier =
     let long : length old ≡ i = ap length before ∙ names_long vertices i (omega (arith, below)) in
     elim joins.table [
       | inl known ↦
-          let there : slice_get old n ≡ Some vertex.name.text.items = subst (λ t. slice_get t n ≡ Some vertex.name.text.items) known.1 joins.number in
+          let there : slice_get old n ≡ Some vertex.name.text.now = subst (λ t. slice_get t n ≡ Some vertex.name.text.now) known.1 joins.number in
           same_vertex (record {
             i = n;
             j = i;
-            text = vertex.name.text.items;
+            text = vertex.name.text.now;
             before = earlier;
-            first = names_before vertices i n vertex.name.text.items (subst (λ t. slice_get t n ≡ Some vertex.name.text.items) before there);
+            first = names_before vertices i n vertex.name.text.now (subst (λ t. slice_get t n ≡ Some vertex.name.text.now) before there);
             second = slice_get-map_at (λ (v : SpeltVertex). v.name.text) (map vertex_of vertices) i (vertex_of vertex) (slice_get-map_read vertex_of vertices i vertex below is);
           })
       | inr added ↦ absurd (omega (arith, added.0, long, earlier))
     ]
 
 -- any other joins the names
-pub name_new : (vertices : List Vertex) (i : ℕ) (vertex : Vertex) (old new : List (List ℕ)) (n : ℕ) → i < length vertices → vertex ≡ get_or vertices i vertex → old ≡ vertex_names (map vertex_of (take i vertices)) → Joins old new vertex.name.text.items n → ¬ (n < i)
+pub name_new : (vertices : List Vertex) (i : ℕ) (vertex : Vertex) (old new : List (List ℕ)) (n : ℕ) → i < length vertices → vertex ≡ get_or vertices i vertex → old ≡ vertex_names (map vertex_of (take i vertices)) → Joins old new vertex.name.text.now n → ¬ (n < i)
     → new ≡ vertex_names (map vertex_of (take (i + 1) vertices))
 name_new vertices i vertex old new n below is before joins later =
     let long : length old ≡ i = ap length before ∙ names_long vertices i (omega (arith, below)) in
     elim joins.table [
       | inl known ↦ absurd (later (omega (arith, known.0, long)))
-      | inr added ↦ added.1 ∙ ap (λ l. l ++ vertex.name.text.items ∷ []) before ∙ sym (names_more vertices i vertex below is)
+      | inr added ↦ added.1 ∙ ap (λ l. l ++ vertex.name.text.now ∷ []) before ∙ sym (names_more vertices i vertex below is)
     ]
 
 -- a name that is known is found, unless memory runs out
@@ -94,12 +94,12 @@ known_found known name _ there no_memory = refl
 
 -- the directions of a vertex's edges are known
 pub all_known : (vertices : List Vertex) (directions : List (List ℕ)) (i : ℕ) (vertex : Vertex) → i < length vertices → vertex ≡ get_or vertices i vertex → IsOrderOfFirstUse (directions_named (map vertex_of vertices)) directions
-    → All (λ edge. Contains directions edge.direction.text.items) vertex.edges.items
+    → All (λ edge. Contains directions edge.direction.text.now) vertex.edges.items
 all_known vertices directions i vertex below is order = λ k d within.
     let edge : Edge = get_or vertex.edges.items k d in
     let here : Contains vertex.edges.items edge = (k, within, get_or_default vertex.edges.items k edge d within) in
-    order.all edge.direction.text.items
-    (Contains-flat_map (λ (v : SpeltVertex). edge_directions v.edges) (map vertex_of vertices) (vertex_of vertex) edge.direction.text.items (Contains-map_read vertex_of vertices i vertex below is)
+    order.all edge.direction.text.now
+    (Contains-flat_map (λ (v : SpeltVertex). edge_directions v.edges) (map vertex_of vertices) (vertex_of vertex) edge.direction.text.now (Contains-map_read vertex_of vertices i vertex below is)
     (Contains-map (λ (e : SpeltEdge). e.direction.text) (map edge_of vertex.edges.items) (edge_of edge) (Contains-map edge_of vertex.edges.items edge here)))
 
 -- a vertex by numbers, from its place and the numbers of the pieces
@@ -113,7 +113,7 @@ cell_made table directions names vertices place vertex pieces edges below is are
     let within : place < length whole = slice_get_within whole place (vertex_of vertex).piece spelt in
     let at : IsNumberOf table (get_or whole place (vertex_of vertex).piece) (get_or pieces place 0) = AllZip-at (IsNumberOf table) whole pieces place (vertex_of vertex).piece 0 named within in
     record {
-      name = subst (λ l. slice_get l place ≡ Some vertex.name.text.items) (sym are) (slice_get-map_at (λ (v : SpeltVertex). v.name.text) (map vertex_of vertices) place (vertex_of vertex) here);
+      name = subst (λ l. slice_get l place ≡ Some vertex.name.text.now) (sym are) (slice_get-map_at (λ (v : SpeltVertex). v.name.text) (map vertex_of vertices) place (vertex_of vertex) here);
       piece = at ∙ ap (λ (n : SpeltName). Some n.text) (get_or_from_slice_get whole place (vertex_of vertex).piece (vertex_of vertex).piece spelt);
       edges = made;
     }

@@ -31,6 +31,10 @@ one_source text a b x y = sections_once y.tokens a b (subst (λ ts. HasSections 
 pub one_spelt : (text : List ℕ) (a b : SpeltDescription) → Describes text a → Describes text b → a ≡ b
 one_spelt text a b x y = one_description y.sections a b (subst (λ ss. Spells ss a) (one_source text x.sections y.sections x.has y.has) x.spells) y.spells
 
+-- What the sections of a text spell is what the text spells.
+pub described : (text : List ℕ) (sections : List SectionTokens) (d : SpeltDescription) → HasSectionsOf text sections → Spells sections d → Describes text d
+described text sections d has spells = record { sections = sections; has = has; spells = spells }
+
 -- An error that is passed on.
 pub refused_by : {T : Type 0} (result : Result T LoadError) (text : List ℕ) (error : LoadError) → IsErrAnd result (λ e. e ≡ error) → IsRefused text error → IfErr result (IsRefused text)
 refused_by (Ok x) text error is refused = absurd is

@@ -26,18 +26,18 @@ use std::alloc::{AllocError, Global};
 ///
 /// Faults are looked for in this order: names and bounds of players and variables, and names of pieces, in order of
 /// text; too many of them; the board; the rules in order of text.
-pub fn check(alloc: Global, description: Description) -> Result<Game, GameError>
-    ensures game { IfOk result (IsGameOf (description_of description)) }
+pub fn check(alloc: Global, description: Description<'_>) -> Result<Game, GameError>
+    ensures game { IfOk result (IsGameOf (description_of description.entry)) }
 
     // The description has the fault that an error names, and unless memory ran out it is no game.
-    ensures fault { IfErr result (HasFault (description_of description)) }
-    ensures refused { IfErr result (λ e. e ≢ GameError.Memory → (game : AbstractGame) → ¬ IsGameOf (description_of description) game) }
+    ensures fault { IfErr result (HasFault (description_of description.entry)) }
+    ensures refused { IfErr result (λ e. e ≢ GameError.Memory → (game : AbstractGame) → ¬ IsGameOf (description_of description.entry) game) }
 {
     check_parts(alloc, &description.into_parts())
 }
 
 /// The game of a description in parts.
-fn check_parts(alloc: Global, parts: &DescriptionParts) -> Result<Game, GameError>
+fn check_parts(alloc: Global, parts: &DescriptionParts<'_>) -> Result<Game, GameError>
     requires { IsWhole (description_of_parts parts.now) }
     ensures game { IfOk result (IsGameOf (description_of_parts parts.now)) }
     ensures fault { IfErr result (HasFault (description_of_parts parts.now)) }

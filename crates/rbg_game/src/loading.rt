@@ -1,13 +1,12 @@
 //! From the text of a game to the game.
-ghost use Rattle.std.specs.Prelude.{◌≡◌, IfOk, IfErr};
-ghost use Rattle.rbg_syntax.specs.Descriptions.{description_of};
-ghost use Rattle.rbg_game.specs.Loading.{HasSectionsOf, Describes, Loads, IsRefused};
+ghost use Rattle.std.specs.Prelude.{IfOk, IfErr};
+ghost use Rattle.rbg_game.specs.Loading.{HasSectionsOf, Loads, IsRefused};
 
 use crate::checking::check;
 use crate::error::LoadError;
 use rbg_macro::{Source, expand, tokens};
 use rbg_rules::Game;
-use rbg_syntax::{Description, parse};
+use rbg_syntax::parse;
 use std::alloc::Global;
 
 /// The game of a text: its tokens are cut, its macros are expanded, its sections are read, and what they spell is
@@ -16,21 +15,13 @@ pub fn load(alloc: Global, text: &[u8]) -> Result<Game, LoadError>
     ensures game { IfOk result (Loads text.now) }
     ensures refused { IfErr result (IsRefused text.now) }
 {
-    let description = describe(alloc, text)?;
+    let source = read_sections(alloc, text)?;
+    let description = parse(alloc, &source)?;
     Ok(check(alloc, description)?)
 }
 
-/// What the text spells.
-fn describe(alloc: Global, text: &[u8]) -> Result<Description, LoadError>
-    ensures spelt { IfOk result (λ d. Describes text.now (description_of d)) }
-    ensures refused { IfErr result (IsRefused text.now) }
-{
-    let source = read_sections(alloc, text)?;
-    Ok(parse(alloc, &source)?)
-}
-
 /// The sections of the text, expanded.
-fn read_sections(alloc: Global, text: &[u8]) -> Result<Source, LoadError>
+fn read_sections(alloc: Global, text: &[u8]) -> Result<Source<'_>, LoadError>
     ensures sections { IfOk result (HasSectionsOf text.now) }
     ensures refused { IfErr result (IsRefused text.now) }
 {

@@ -4,13 +4,14 @@ use Rattle.std.proofs.Math.ListN.{drop_of_length-le}
 use Rattle.std.proofs.lemmas.List.{map-append, append-nil, drop-map, length-map, get_or-drop, take_more}
 use Rattle.std.specs.Borrow.{Bor}
 use Rattle.std.specs.List.{slice_range}
-use Rattle.rbg_macro.specs.declared.token.Token.{Token}
+use Rattle.rbg_macro.specs.declared.read_token.ReadToken.{ReadToken}
 use Rattle.rbg_macro.specs.Call.{Arguments, arguments, arguments_by, nesting, Within, Cuts, Ends, Mismatched, closing, cutting, with_token, with_argument}
 use Rattle.rbg_macro.specs.internal.Calls.{AreArguments}
 use Rattle.rbg_macro.specs.declared.token.TokenKind.{TokenKind}
 use Rattle.rbg_macro.specs.Kinds.{opens, closes, is_semicolon, is_close_parenthesis}
 use Rattle.rbg_macro.specs.internal.Template.{lists_in}
-use Rattle.rbg_macro.specs.Token.{Lexeme, lexeme_of}
+use Rattle.rbg_macro.specs.internal.ReadTokens.{read_lexeme}
+use Rattle.rbg_macro.specs.Token.{Lexeme}
 
 -- arguments with complete ones, and the beginning of one, before them
 abbrev pub with_front : List (List Lexeme) → List Lexeme → Arguments → Arguments
@@ -41,22 +42,22 @@ front_with_argument (d ∷ ds) begun a =
     (ap (λ (l : List Lexeme). ds ++ l ∷ a.first ∷ a.others) (append-nil begun) ∙ sym (append_assoc ds (begun ∷ []) (a.first ∷ a.others)))
 
 -- how far the arguments were cut, and what is left
-pub record HasCut (tokens : List Token) (at further start : ℕ) (found : List (Bor (List Token))) : Type 0 where
+pub record HasCut (tokens : List ReadToken) (at further start : ℕ) (found : List (Bor (List ReadToken))) : Type 0 where
   pub within : at ≤ length tokens
   pub begun : start ≤ at
   pub nested : further ≤ at
-  pub goes_on : arguments 0 (map lexeme_of tokens) ≡
-      option_map (with_front (lists_in found) (map lexeme_of (slice_range tokens start at))) (arguments further (map lexeme_of (drop at tokens)))
+  pub goes_on : arguments 0 (map read_lexeme tokens) ≡
+      option_map (with_front (lists_in found) (map read_lexeme (slice_range tokens start at))) (arguments further (map read_lexeme (drop at tokens)))
 
 no_front : (o : Option Arguments) → o ≡ option_map (with_front [] []) o
 no_front None = refl
 no_front (Some a) = refl
 
-pub none_cut : (tokens : List Token) → HasCut tokens 0 0 0 []
-none_cut tokens = record { within = omega arith; begun = omega arith; nested = omega arith; goes_on = no_front (arguments 0 (map lexeme_of tokens)) }
+pub none_cut : (tokens : List ReadToken) → HasCut tokens 0 0 0 []
+none_cut tokens = record { within = omega arith; begun = omega arith; nested = omega arith; goes_on = no_front (arguments 0 (map read_lexeme tokens)) }
 
 -- a part that ends one element later
-range_more : (tokens : List Token) (start at : ℕ) (d : Token) → start ≤ at → at < length tokens →
+range_more : (tokens : List ReadToken) (start at : ℕ) (d : ReadToken) → start ≤ at → at < length tokens →
     slice_range tokens start (at + 1) ≡ slice_range tokens start at ++ get_or tokens at d ∷ []
 range_more tokens start at d begun below =
     let longer : at + 1 - start ≡ at - start + 1 = omega arith in
@@ -64,25 +65,25 @@ range_more tokens start at d begun below =
     let place : start + (at - start) ≡ at = omega arith in
     ap (λ (n : ℕ). take n (drop start tokens)) longer
     ∙ take_more (drop start tokens) (at - start) d room
-    ∙ ap (λ (t : Token). slice_range tokens start at ++ t ∷ []) (get_or-drop start tokens (at - start) d ∙ ap (λ (i : ℕ). get_or tokens i d) place)
+    ∙ ap (λ (t : ReadToken). slice_range tokens start at ++ t ∷ []) (get_or-drop start tokens (at - start) d ∙ ap (λ (i : ℕ). get_or tokens i d) place)
 
-empty_range : (tokens : List Token) (at : ℕ) → slice_range tokens at at ≡ []
+empty_range : (tokens : List ReadToken) (at : ℕ) → slice_range tokens at at ≡ []
 empty_range tokens at =
     let none : at - at ≡ 0 = omega arith in
     ap (λ (n : ℕ). take n (drop at tokens)) none ∙ take-zero (drop at tokens)
   where
-    take-zero : (ts : List Token) → take 0 ts ≡ []
+    take-zero : (ts : List ReadToken) → take 0 ts ≡ []
     take-zero [] = refl
     take-zero (t ∷ ts) = refl
 
 -- what the arguments are from a token on
-arguments_at : (tokens : List Token) (at further : ℕ) (d : Token) → at < length tokens →
-    arguments further (map lexeme_of (drop at tokens)) ≡
-    arguments_by (nesting (get_or tokens at d).kind further) (lexeme_of (get_or tokens at d)) (map lexeme_of (drop (at + 1) tokens))
-    (λ n. arguments n (map lexeme_of (drop (at + 1) tokens)))
+arguments_at : (tokens : List ReadToken) (at further : ℕ) (d : ReadToken) → at < length tokens →
+    arguments further (map read_lexeme (drop at tokens)) ≡
+    arguments_by (nesting (get_or tokens at d).kind further) (read_lexeme (get_or tokens at d)) (map read_lexeme (drop (at + 1) tokens))
+    (λ n. arguments n (map read_lexeme (drop (at + 1) tokens)))
 arguments_at tokens at further d below =
     let next : suc at ≡ at + 1 = omega arith in
-    ap (λ ts. arguments further (map lexeme_of ts)) (drop-cons tokens at d below ∙ ap (λ (n : ℕ). get_or tokens at d ∷ drop n tokens) next)
+    ap (λ ts. arguments further (map read_lexeme ts)) (drop-cons tokens at d below ∙ ap (λ (n : ℕ). get_or tokens at d ∷ drop n tokens) next)
 
 -- a token leaves at most one more bracket open
 nested_within : (kind : TokenKind) (further n : ℕ) → nesting kind further ≡ Within n → n ≤ further + 1
@@ -119,20 +120,20 @@ option_map_twice : {A B C : Type 0} (f : B → C) (g : A → B) (o : Option A) �
 option_map_twice f g None = refl
 option_map_twice f g (Some a) = refl
 
-pub cut_within : (tokens : List Token) (at further start n : ℕ) (d : Token) (found : List (Bor (List Token))) → HasCut tokens at further start found →
+pub cut_within : (tokens : List ReadToken) (at further start n : ℕ) (d : ReadToken) (found : List (Bor (List ReadToken))) → HasCut tokens at further start found →
     at < length tokens → Within n ≡ nesting (get_or tokens at d).kind further → HasCut tokens (at + 1) n start found
 cut_within tokens at further start n d found so_far below is = record {
   within = omega arith;
   begun = omega (arith, so_far.begun);
   nested = omega (arith, so_far.nested, nested_within (get_or tokens at d).kind further n (sym is));
   goes_on =
-      let t : Lexeme = lexeme_of (get_or tokens at d) in
-      let begun : List Lexeme = map lexeme_of (slice_range tokens start at) in
-      let left : Option Arguments = arguments n (map lexeme_of (drop (at + 1) tokens)) in
-      let here : arguments further (map lexeme_of (drop at tokens)) ≡ option_map (with_token t) left =
+      let t : Lexeme = read_lexeme (get_or tokens at d) in
+      let begun : List Lexeme = map read_lexeme (slice_range tokens start at) in
+      let left : Option Arguments = arguments n (map read_lexeme (drop (at + 1) tokens)) in
+      let here : arguments further (map read_lexeme (drop at tokens)) ≡ option_map (with_token t) left =
       arguments_at tokens at further d below ∙ rw (← is) refl in
-      let longer : map lexeme_of (slice_range tokens start (at + 1)) ≡ begun ++ t ∷ [] =
-      ap (map lexeme_of) (range_more tokens start at d so_far.begun below) ∙ map-append lexeme_of (slice_range tokens start at) (get_or tokens at d ∷ []) in
+      let longer : map read_lexeme (slice_range tokens start (at + 1)) ≡ begun ++ t ∷ [] =
+      ap (map read_lexeme) (range_more tokens start at d so_far.begun below) ∙ map-append read_lexeme (slice_range tokens start at) (get_or tokens at d ∷ []) in
       so_far.goes_on
       ∙ ap (option_map (with_front (lists_in found) begun)) here
       ∙ option_map_twice (with_front (lists_in found) begun) (with_token t) left
@@ -140,7 +141,7 @@ cut_within tokens at further start n d found so_far below is = record {
       ∙ rw (← longer) refl;
 }
 
-pub cut_apart : (tokens : List Token) (at further start : ℕ) (d : Token) (argument : Bor (List Token)) (found new : List (Bor (List Token))) → HasCut tokens at further start found →
+pub cut_apart : (tokens : List ReadToken) (at further start : ℕ) (d : ReadToken) (argument : Bor (List ReadToken)) (found new : List (Bor (List ReadToken))) → HasCut tokens at further start found →
     at < length tokens → Cuts ≡ nesting (get_or tokens at d).kind further → argument.now ≡ slice_range tokens start at → new ≡ found ++ argument ∷ [] →
     HasCut tokens (at + 1) further (at + 1) new
 cut_apart tokens at further start d argument found new so_far below is cut added = record {
@@ -149,14 +150,14 @@ cut_apart tokens at further start d argument found new so_far below is cut added
   nested = omega (arith, so_far.nested);
   goes_on =
       let none = nested_cut (get_or tokens at d).kind further (sym is) in
-      let t : Lexeme = lexeme_of (get_or tokens at d) in
-      let begun : List Lexeme = map lexeme_of (slice_range tokens start at) in
-      let left : Option Arguments = arguments 0 (map lexeme_of (drop (at + 1) tokens)) in
-      let here : arguments further (map lexeme_of (drop at tokens)) ≡ option_map with_argument left =
+      let t : Lexeme = read_lexeme (get_or tokens at d) in
+      let begun : List Lexeme = map read_lexeme (slice_range tokens start at) in
+      let left : Option Arguments = arguments 0 (map read_lexeme (drop (at + 1) tokens)) in
+      let here : arguments further (map read_lexeme (drop at tokens)) ≡ option_map with_argument left =
       arguments_at tokens at further d below ∙ rw (← is) refl in
       let more : lists_in new ≡ lists_in found ++ begun ∷ [] =
-      ap lists_in added ∙ map-append (λ (l : Bor (List Token)). map lexeme_of l.now) found (argument ∷ [])
-      ∙ ap (λ ts. lists_in found ++ map lexeme_of ts ∷ []) cut in
+      ap lists_in added ∙ map-append (λ (l : Bor (List ReadToken)). map read_lexeme l.now) found (argument ∷ [])
+      ∙ ap (λ ts. lists_in found ++ map read_lexeme ts ∷ []) cut in
       so_far.goes_on
       ∙ ap (option_map (with_front (lists_in found) begun)) here
       ∙ option_map_twice (with_front (lists_in found) begun) with_argument left
@@ -164,29 +165,29 @@ cut_apart tokens at further start d argument found new so_far below is cut added
       ∙ rw (← more, empty_range tokens (at + 1), none) refl;
 }
 
-pub cut_ends : (tokens : List Token) (at further start : ℕ) (d : Token) (argument : Bor (List Token)) (found new : List (Bor (List Token))) → HasCut tokens at further start found →
+pub cut_ends : (tokens : List ReadToken) (at further start : ℕ) (d : ReadToken) (argument : Bor (List ReadToken)) (found new : List (Bor (List ReadToken))) → HasCut tokens at further start found →
     at < length tokens → Ends ≡ nesting (get_or tokens at d).kind further → argument.now ≡ slice_range tokens start at → new ≡ found ++ argument ∷ [] →
-    AreArguments (map lexeme_of tokens) (lists_in new) (at + 1)
+    AreArguments (map read_lexeme tokens) (lists_in new) (at + 1)
 cut_ends tokens at further start d argument found new so_far below is cut added =
-    let begun : List Lexeme = map lexeme_of (slice_range tokens start at) in
-    let last : Arguments = record { first = []; others = []; rest = map lexeme_of (drop (at + 1) tokens) } in
-    let here : arguments further (map lexeme_of (drop at tokens)) ≡ Some last = arguments_at tokens at further d below ∙ rw (← is) refl in
+    let begun : List Lexeme = map read_lexeme (slice_range tokens start at) in
+    let last : Arguments = record { first = []; others = []; rest = map read_lexeme (drop (at + 1) tokens) } in
+    let here : arguments further (map read_lexeme (drop at tokens)) ≡ Some last = arguments_at tokens at further d below ∙ rw (← is) refl in
     let more : lists_in new ≡ lists_in found ++ begun ∷ [] =
-    ap lists_in added ∙ map-append (λ (l : Bor (List Token)). map lexeme_of l.now) found (argument ∷ [])
-    ∙ ap (λ ts. lists_in found ++ map lexeme_of ts ∷ []) cut in
+    ap lists_in added ∙ map-append (λ (l : Bor (List ReadToken)). map read_lexeme l.now) found (argument ∷ [])
+    ∙ ap (λ ts. lists_in found ++ map read_lexeme ts ∷ []) cut in
     record {
       found = with_front (lists_in found) begun last;
       is_found = so_far.goes_on ∙ ap (option_map (with_front (lists_in found) begun)) here;
       are = more ∙ ap (λ (l : List Lexeme). lists_in found ++ l ∷ []) (sym (append-nil begun)) ∙ sym (lists-with_front (lists_in found) begun last);
-      rest = rest-with_front (lists_in found) begun last ∙ sym (drop-map lexeme_of (at + 1) tokens);
-      within = omega (arith, length-map tokens lexeme_of);
+      rest = rest-with_front (lists_in found) begun last ∙ sym (drop-map read_lexeme (at + 1) tokens);
+      within = omega (arith, length-map tokens read_lexeme);
     }
 
-pub cut_mismatched : (tokens : List Token) (at further start : ℕ) (d : Token) (found : List (Bor (List Token))) → HasCut tokens at further start found →
-    at < length tokens → Mismatched ≡ nesting (get_or tokens at d).kind further → arguments 0 (map lexeme_of tokens) ≡ None
+pub cut_mismatched : (tokens : List ReadToken) (at further start : ℕ) (d : ReadToken) (found : List (Bor (List ReadToken))) → HasCut tokens at further start found →
+    at < length tokens → Mismatched ≡ nesting (get_or tokens at d).kind further → arguments 0 (map read_lexeme tokens) ≡ None
 cut_mismatched tokens at further start d found so_far below is =
     so_far.goes_on ∙ rw (arguments_at tokens at further d below, ← is) refl
 
-pub cut_missing : (tokens : List Token) (at further start : ℕ) (found : List (Bor (List Token))) → HasCut tokens at further start found →
-    length tokens ≤ at → arguments 0 (map lexeme_of tokens) ≡ None
+pub cut_missing : (tokens : List ReadToken) (at further start : ℕ) (found : List (Bor (List ReadToken))) → HasCut tokens at further start found →
+    length tokens ≤ at → arguments 0 (map read_lexeme tokens) ≡ None
 cut_missing tokens at further start found so_far all = so_far.goes_on ∙ rw (drop_of_length-le tokens all) refl

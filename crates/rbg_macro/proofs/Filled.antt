@@ -5,13 +5,13 @@ use Rattle.std.proofs.lemmas.List.Folds.{length-flat_map-take}
 use Rattle.std.proofs.lemmas.Grind.{flat_map-append}
 use Rattle.std.specs.Borrow.{Bor}
 use Rattle.rbg_macro.specs.declared.macros.Piece.{Piece as KeptPiece}
-use Rattle.rbg_macro.specs.declared.token.Token.{Token}
+use Rattle.rbg_macro.specs.declared.read_token.ReadToken.{ReadToken}
 use Rattle.rbg_macro.specs.Macro.{filled, filled_piece}
 use Rattle.rbg_macro.specs.internal.Template.{piece_in, lists_in}
 use Rattle.rbg_macro.specs.Token.{Lexeme}
 
 -- the length of the pieces so far
-pub record FilledSoFar (body : List KeptPiece) (arguments : List (Bor (List Token))) (i len room : ℕ) : Type 0 where
+pub record FilledSoFar (body : List KeptPiece) (arguments : List (Bor (List ReadToken))) (i len room : ℕ) : Type 0 where
   pub is : len ≡ length (filled (map piece_in (take i body)) (lists_in arguments))
   pub fits : len ≤ room
 
@@ -25,7 +25,7 @@ filled-more body lists i d below =
     ∙ ap (λ (l : List Lexeme). filled (map piece_in (take i body)) lists ++ l) (append-nil (filled_piece lists (piece_in (get_or body i d))))
 
 -- if one more piece doesn't fit, the whole body doesn't
-pub too_long : (body : List KeptPiece) (arguments : List (Bor (List Token))) (i len room more : ℕ) (d : KeptPiece) → FilledSoFar body arguments i len room →
+pub too_long : (body : List KeptPiece) (arguments : List (Bor (List ReadToken))) (i len room more : ℕ) (d : KeptPiece) → FilledSoFar body arguments i len room →
     i < length body → more ≡ length (filled_piece (lists_in arguments) (piece_in (get_or body i d))) → room - len < more →
     room < length (filled (map piece_in body) (lists_in arguments))
 too_long body arguments i len room more d so_far below is over =

@@ -78,8 +78,8 @@ pub record HasListed (end : ℕ) (tokens : List Token) (at : ℕ) (keys : List (
   pub goes_on : parameter_list end [] (map lexeme_of tokens) ≡ parameter_list end (texts_in keys) (map lexeme_of (drop at tokens))
 
 -- two tokens further on
-pub two_tokens : (ts : List Token) (at : ℕ) → drop 2 (map lexeme_of (drop at ts)) ≡ map lexeme_of (drop (at + 2) ts)
-two_tokens ts at = drop-map lexeme_of 2 (drop at ts) ∙ ap (map lexeme_of) (drop-drop 2 at ts)
+pub two_tokens : {A B : Type 0} (f : A → B) (ts : List A) (at : ℕ) → drop 2 (map f (drop at ts)) ≡ map f (drop (at + 2) ts)
+two_tokens f ts at = drop-map f 2 (drop at ts) ∙ ap (map f) (drop-drop 2 at ts)
 
 -- a parameter and the token after it are two tokens of the list
 pub two_more : (earlier parameters : List (List ℕ)) (ts : List Token) (at : ℕ) (next : Lexeme) → at ≤ length ts → AddsParameter earlier parameters (map lexeme_of (drop at ts)) next → at + 2 ≤ length ts
@@ -93,7 +93,7 @@ listed_behind : (end : ℕ) (tokens : List Token) (at : ℕ) (keys new_keys : Li
     cond (is_close_parenthesis next.kind) (Ok (texts_in new_keys, map lexeme_of (drop (at + 2) tokens)))
     (cond (is_semicolon next.kind) (parameter_list end (texts_in new_keys) (map lexeme_of (drop (at + 2) tokens))) (Err (BadDefinition next.at)))
 listed_behind end tokens at keys new_keys rest next so_far is adds =
-    so_far.goes_on ∙ rw (← is, listed_step end (texts_in keys) (texts_in new_keys) (map lexeme_of rest) next adds, is, two_tokens tokens at) refl
+    so_far.goes_on ∙ rw (← is, listed_step end (texts_in keys) (texts_in new_keys) (map lexeme_of rest) next adds, is, two_tokens lexeme_of tokens at) refl
 
 pub list_ends : (end : ℕ) (tokens : List Token) (at : ℕ) (keys new_keys : List (Bor (List ℕ))) (rest : List Token) (next : Lexeme) →
     HasListed end tokens at keys → rest ≡ drop at tokens → AddsParameter (texts_in keys) (texts_in new_keys) (map lexeme_of rest) next →

@@ -8,7 +8,7 @@ use Rattle.rbg_macro.specs.declared.error.MacroError.{MacroError}
 use Rattle.rbg_macro.specs.declared.error.MacroError.TheVariants.{BadJoin}
 use Rattle.rbg_macro.specs.declared.joining.JoinedToken.{JoinedToken}
 use Rattle.rbg_macro.specs.declared.joining.JoinedToken.TheVariants.{Single, Joined}
-use Rattle.rbg_macro.specs.declared.token.Token.{Token}
+use Rattle.rbg_macro.specs.declared.read_token.ReadToken.{ReadToken}
 use Rattle.rbg_macro.specs.declared.token.TokenKind.{TokenKind}
 use Rattle.rbg_macro.specs.internal.Joined.{joined_word, IsJoinedWithin, word_at, JoinsChain, AddsChain, FailsChain, begins_with_tilde}
 use Rattle.rbg_macro.specs.internal.Marks.{IsMarked, IsMarkedWord, Word, lexeme_in_word, word_of}
@@ -17,7 +17,8 @@ use Rattle.rbg_macro.specs.declared.buffer.Span.{Span}
 use Rattle.rbg_macro.specs.Macro.{Macro}
 use Rattle.rbg_macro.specs.Joining.{joined, joined_from, behind}
 use Rattle.rbg_macro.specs.Kinds.{is_tilde}
-use Rattle.rbg_macro.specs.Token.{Lexeme, lexeme_of}
+use Rattle.rbg_macro.specs.internal.ReadTokens.{read_lexeme}
+use Rattle.rbg_macro.specs.Token.{Lexeme}
 use Rattle.std.proofs.lemmas.List.{take_rest}
 use Rattle.std.proofs.lemmas.List.Elements.{All-push}
 use Rattle.rbg_macro.proofs.Marks.{word_added}
@@ -36,9 +37,9 @@ same_joined texts more (t ∷ ts) all =
     cc
 
 -- the first token of a list that has one
-first_of : (ts : List Token) (d : Token) (first : Lexeme) (rest : List Lexeme) → map lexeme_of ts ≡ first ∷ rest → first.at ≡ (get_or ts 0 d).at
+first_of : (ts : List ReadToken) (d : ReadToken) (first : Lexeme) (rest : List Lexeme) → map read_lexeme ts ≡ first ∷ rest → first.at ≡ (get_or ts 0 d).at
 first_of [] d first rest is = cc
-first_of (t ∷ ts) d first rest is = let same : lexeme_of t ≡ first = cc in ap (λ (l : Lexeme). l.at) (sym same)
+first_of (t ∷ ts) d first rest is = let same : read_lexeme t ≡ first = cc in ap (λ (l : Lexeme). l.at) (sym same)
 
 -- a word is added whose bytes are in the new texts, which begin with the old ones
 pub adds_word : (texts new_texts : List ℕ) (tokens new_tokens : List JoinedToken) (s : Span) (number : Option ℕ) →
@@ -51,9 +52,9 @@ adds_word texts new_texts tokens new_tokens s number all grown added =
     ap (map (joined_word new_texts)) added ∙ map-append (joined_word new_texts) tokens _ ∙ rw old refl
 
 -- the new word is marked like the others
-pub adds_mark : (macros : List Macro) (texts new_texts : List ℕ) (tokens new_tokens : List JoinedToken) (s : Span) (t u : Token) →
+pub adds_mark : (macros : List Macro) (texts new_texts : List ℕ) (tokens new_tokens : List JoinedToken) (s : Span) (t u : ReadToken) →
     All (IsJoinedWithin texts) tokens → take (length texts) new_texts ≡ texts → new_tokens ≡ tokens ++ Joined s t.macro_number ∷ [] →
-    lexeme_of t ≡ lexeme_of u → lexeme_of u ≡ lexeme_in new_texts s → IsMarked macros t →
+    read_lexeme t ≡ read_lexeme u → read_lexeme u ≡ lexeme_in new_texts s → IsMarked macros t →
     All (IsMarkedWord macros) (map (joined_word texts) tokens) → All (IsMarkedWord macros) (map (joined_word new_texts) new_tokens)
 adds_mark macros texts new_texts tokens new_tokens s t u all grown added same is marked earlier =
     let w : Word = record { lexeme = lexeme_in new_texts s; macro_number = t.macro_number } in
@@ -61,11 +62,11 @@ adds_mark macros texts new_texts tokens new_tokens s t u all grown added same is
     subst (All (IsMarkedWord macros)) (sym (adds_word texts new_texts tokens new_tokens s t.macro_number all grown added))
     (All-push (IsMarkedWord macros) (map (joined_word texts) tokens) w earlier (subst (IsMarkedWord macros) word marked))
 
-pub adds_chain : (texts new_texts : List ℕ) (tokens new_tokens : List JoinedToken) (ts : List Token) (d : Token) (kind : TokenKind) (count start end : ℕ) (number : Option ℕ) →
+pub adds_chain : (texts new_texts : List ℕ) (tokens new_tokens : List JoinedToken) (ts : List ReadToken) (d : ReadToken) (kind : TokenKind) (count start end : ℕ) (number : Option ℕ) →
     All (IsJoinedWithin texts) tokens → take (length texts) new_texts ≡ texts →
-    JoinsChain (map lexeme_of ts) kind (drop (length texts) new_texts) count → start ≡ length texts → end ≡ length new_texts →
+    JoinsChain (map read_lexeme ts) kind (drop (length texts) new_texts) count → start ≡ length texts → end ≡ length new_texts →
     new_tokens ≡ tokens ++ Joined (record { kind = kind; start = start; end = end; at = (get_or ts 0 d).at }) number ∷ [] →
-    AddsChain (map lexeme_in_word (map (joined_word texts) tokens)) (map lexeme_in_word (map (joined_word new_texts) new_tokens)) (map lexeme_of ts) count
+    AddsChain (map lexeme_in_word (map (joined_word texts) tokens)) (map lexeme_in_word (map (joined_word new_texts) new_tokens)) (map read_lexeme ts) count
 adds_chain texts new_texts tokens new_tokens ts d kind count start end number all grown chain first last added = record {
   kind = kind;
   word = drop (length texts) new_texts;
@@ -99,81 +100,81 @@ joined_first : (t : Lexeme) (rest : List Lexeme) → begins_with_tilde (t ∷ re
 joined_first t rest apart = rw apart refl
 
 -- how far a list was joined, and what is left
-pub record HasJoinedTo (list : List Token) (at : ℕ) (done : List Lexeme) : Type 0 where
+pub record HasJoinedTo (list : List ReadToken) (at : ℕ) (done : List Lexeme) : Type 0 where
   pub within : at ≤ length list
-  pub apart : begins_with_tilde (map lexeme_of (drop at list)) ≡ false
-  pub goes_on : joined (map lexeme_of list) ≡ behind_all done (joined (map lexeme_of (drop at list)))
+  pub apart : begins_with_tilde (map read_lexeme (drop at list)) ≡ false
+  pub goes_on : joined (map read_lexeme list) ≡ behind_all done (joined (map read_lexeme (drop at list)))
 
-pub join_begins : (list : List Token) → begins_with_tilde (map lexeme_of list) ≡ false → HasJoinedTo list 0 []
-join_begins list apart = record { within = omega arith; apart = apart; goes_on = none (joined (map lexeme_of list)) }
+pub join_begins : (list : List ReadToken) → begins_with_tilde (map read_lexeme list) ≡ false → HasJoinedTo list 0 []
+join_begins list apart = record { within = omega arith; apart = apart; goes_on = none (joined (map read_lexeme list)) }
   where
     none : (read : Result (List Lexeme) MacroError) → read ≡ behind_all [] read
     none (Ok ts) = refl
     none (Err e) = refl
 
-pub single_joined : (list rest : List Token) (at : ℕ) (d : Token) (done new : List Lexeme) → HasJoinedTo list at done → at < length list →
-    rest ≡ drop (at + 1) list → begins_with_tilde (map lexeme_of rest) ≡ false → new ≡ done ++ lexeme_of (get_or list at d) ∷ [] →
+pub single_joined : (list rest : List ReadToken) (at : ℕ) (d : ReadToken) (done new : List Lexeme) → HasJoinedTo list at done → at < length list →
+    rest ≡ drop (at + 1) list → begins_with_tilde (map read_lexeme rest) ≡ false → new ≡ done ++ read_lexeme (get_or list at d) ∷ [] →
     HasJoinedTo list (at + 1) new
 single_joined list rest at d done new so_far below is apart added = record {
   within = omega arith;
   apart = rw (← is) apart;
   goes_on =
-      let t : Lexeme = lexeme_of (get_or list at d) in
-      let begins : map lexeme_of (drop at list) ≡ t ∷ map lexeme_of rest = ap (map lexeme_of) (drop-cons list at d below) ∙ rw (is, add-one) refl in
+      let t : Lexeme = read_lexeme (get_or list at d) in
+      let begins : map read_lexeme (drop at list) ≡ t ∷ map read_lexeme rest = ap (map read_lexeme) (drop-cons list at d below) ∙ rw (is, add-one) refl in
       so_far.goes_on
-      ∙ ap (behind_all done) (ap joined begins ∙ joined_first t (map lexeme_of rest) (rw begins at so_far.apart) ∙ joined_from-apart t (map lexeme_of rest) apart)
-      ∙ behind_one_more done t (joined (map lexeme_of rest))
+      ∙ ap (behind_all done) (ap joined begins ∙ joined_first t (map read_lexeme rest) (rw begins at so_far.apart) ∙ joined_from-apart t (map read_lexeme rest) apart)
+      ∙ behind_one_more done t (joined (map read_lexeme rest))
       ∙ rw (← added, is) refl;
 }
 
-pub chain_added : (list rest : List Token) (at n : ℕ) (done new : List Lexeme) → HasJoinedTo list at done →
-    rest ≡ drop at list → AddsChain done new (map lexeme_of rest) n → HasJoinedTo list (at + n) new
+pub chain_added : (list rest : List ReadToken) (at n : ℕ) (done new : List Lexeme) → HasJoinedTo list at done →
+    rest ≡ drop at list → AddsChain done new (map read_lexeme rest) n → HasJoinedTo list (at + n) new
 chain_added list rest at n done new so_far is adds = record {
-  within = omega (arith, so_far.within, adds.chain.within, length-map rest lexeme_of, ap length is, length-drop at list);
+  within = omega (arith, so_far.within, adds.chain.within, length-map rest read_lexeme, ap length is, length-drop at list);
   apart = rw further at adds.chain.apart;
   goes_on =
-      let ts : List Lexeme = map lexeme_of rest in
+      let ts : List Lexeme = map read_lexeme rest in
       let w : Lexeme = word_at adds.chain.first.at adds.kind adds.word in
       so_far.goes_on
       ∙ ap (behind_all done)
-      (ap (λ us. joined (map lexeme_of us)) (sym is) ∙ ap joined adds.chain.tokens
+      (ap (λ us. joined (map read_lexeme us)) (sym is) ∙ ap joined adds.chain.tokens
       ∙ joined_first adds.chain.first adds.chain.rest (rw (adds.chain.tokens) at clean)
       ∙ adds.chain.joins ∙ joined_from-apart w (drop n ts) adds.chain.apart)
       ∙ behind_one_more done w (joined (drop n ts))
       ∙ rw (← adds.added, further) refl;
 }
   where
-    further : drop n (map lexeme_of rest) ≡ map lexeme_of (drop (at + n) list)
-    further = drop-map lexeme_of n rest ∙ ap (λ us. map lexeme_of (drop n us)) is ∙ ap (map lexeme_of) (drop-drop n at list)
+    further : drop n (map read_lexeme rest) ≡ map read_lexeme (drop (at + n) list)
+    further = drop-map read_lexeme n rest ∙ ap (λ us. map read_lexeme (drop n us)) is ∙ ap (map read_lexeme) (drop-drop n at list)
 
-    clean : begins_with_tilde (map lexeme_of rest) ≡ false
+    clean : begins_with_tilde (map read_lexeme rest) ≡ false
     clean = rw is so_far.apart
 
-pub join_fails : (list rest : List Token) (at : ℕ) (done : List Lexeme) (e : MacroError) → HasJoinedTo list at done →
-    rest ≡ drop at list → FailsChain (map lexeme_of rest) e → joined (map lexeme_of list) ≡ Err e
+pub join_fails : (list rest : List ReadToken) (at : ℕ) (done : List Lexeme) (e : MacroError) → HasJoinedTo list at done →
+    rest ≡ drop at list → FailsChain (map read_lexeme rest) e → joined (map read_lexeme list) ≡ Err e
 join_fails list rest at done e so_far is fails =
-    let clean : begins_with_tilde (map lexeme_of rest) ≡ false = rw is so_far.apart in
+    let clean : begins_with_tilde (map read_lexeme rest) ≡ false = rw is so_far.apart in
     so_far.goes_on
     ∙ ap (behind_all done)
-    (ap (λ us. joined (map lexeme_of us)) (sym is) ∙ ap joined fails.tokens
+    (ap (λ us. joined (map read_lexeme us)) (sym is) ∙ ap joined fails.tokens
     ∙ joined_first fails.first fails.rest (rw (fails.tokens) at clean) ∙ fails.fails)
 
-pub all_joined : (list : List Token) (at : ℕ) (done : List Lexeme) → HasJoinedTo list at done → length list ≤ at → joined (map lexeme_of list) ≡ Ok done
+pub all_joined : (list : List ReadToken) (at : ℕ) (done : List Lexeme) → HasJoinedTo list at done → length list ≤ at → joined (map read_lexeme list) ≡ Ok done
 all_joined list at done so_far all = so_far.goes_on ∙ rw (drop_of_length-le list all) (ap Ok (append-nil done))
 
 -- a list that begins with `~`
-pub begins_badly : (list : List Token) (d : Token) → begins_with_tilde (map lexeme_of list) ≡ true → joined (map lexeme_of list) ≡ Err (BadJoin (get_or list 0 d).at)
+pub begins_badly : (list : List ReadToken) (d : ReadToken) → begins_with_tilde (map read_lexeme list) ≡ true → joined (map read_lexeme list) ≡ Err (BadJoin (get_or list 0 d).at)
 begins_badly [] d tilde = cc
 begins_badly (t ∷ ts) d tilde = rw tilde refl
 
 -- a list without a `~` is joined already
-no_tilde_first : (ts : List Token) → list_any (λ t. is_tilde t.kind) ts ≡ false → begins_with_tilde (map lexeme_of ts) ≡ false
+no_tilde_first : (ts : List ReadToken) → list_any (λ t. is_tilde t.kind) ts ≡ false → begins_with_tilde (map read_lexeme ts) ≡ false
 no_tilde_first [] none = refl
 no_tilde_first (t ∷ ts) none = (or_parts (is_tilde t.kind) (list_any (λ u. is_tilde u.kind) ts) none).0
 
-pub joined_already : (ts : List Token) → list_any (λ t. is_tilde t.kind) ts ≡ false → joined (map lexeme_of ts) ≡ Ok (map lexeme_of ts)
+pub joined_already : (ts : List ReadToken) → list_any (λ t. is_tilde t.kind) ts ≡ false → joined (map read_lexeme ts) ≡ Ok (map read_lexeme ts)
 joined_already [] none = refl
 joined_already (t ∷ ts) none =
     let (first, others) = or_parts (is_tilde t.kind) (list_any (λ u. is_tilde u.kind) ts) none in
     let rest = joined_already ts others in
-    joined_first (lexeme_of t) (map lexeme_of ts) first ∙ joined_from-apart (lexeme_of t) (map lexeme_of ts) (no_tilde_first ts others) ∙ rw rest refl
+    joined_first (read_lexeme t) (map read_lexeme ts) first ∙ joined_from-apart (read_lexeme t) (map read_lexeme ts) (no_tilde_first ts others) ∙ rw rest refl

@@ -10,12 +10,13 @@ use Rattle.std.specs.Str.{bytes_eq}
 use Rattle.rbg_base.proofs.CallerLemmas.{AllZip-push_one, none_of_not_some}
 use Rattle.rbg_macro.specs.declared.macros.Piece.{Piece as KeptPiece}
 use Rattle.rbg_macro.specs.declared.macros.Template.{Template}
-use Rattle.rbg_macro.specs.declared.token.Token.{Token}
+use Rattle.rbg_macro.specs.declared.read_token.ReadToken.{ReadToken}
 use Rattle.rbg_macro.specs.Kinds.{is_name_kind}
 use Rattle.rbg_macro.specs.Macro.{Macro, macro_named}
 use Rattle.rbg_macro.specs.internal.Marks.{AreMarkedLists, FillsMarks, IsMarkedWord, KeepsMarks, Word, lexeme_in_word, word_of, IsNumberOf, IsMarked, IsMarkedPiece, IsMarkedTemplate, IsTemplateAt}
 use Rattle.rbg_macro.specs.internal.Template.{macro_of, macro_in, piece_in, IsNamed}
-use Rattle.rbg_macro.specs.Token.{Lexeme, lexeme_of}
+use Rattle.rbg_macro.specs.internal.ReadTokens.{read_lexeme}
+use Rattle.rbg_macro.specs.Token.{Lexeme}
 use Rattle.rbg_macro.proofs.Names.{lookup_none, lookup_some}
 
 -- the macro whose template is at an index
@@ -101,7 +102,7 @@ pub all_marked : (macros : List Macro) (templates : List Template) → AllZip (I
 all_marked macros templates all enough = rw (take_all (length templates) macros enough) at all
 
 -- a part of a list is marked where the list is
-pub keeps_one_more : (tokens : List Token) (start at : ℕ) (argument : Bor (List Token)) (found new : List (Bor (List Token))) → KeepsMarks tokens found →
+pub keeps_one_more : (tokens : List ReadToken) (start at : ℕ) (argument : Bor (List ReadToken)) (found new : List (Bor (List ReadToken))) → KeepsMarks tokens found →
     argument.now ≡ slice_range tokens start at → new ≡ found ++ argument ∷ [] → KeepsMarks tokens new
 keeps_one_more tokens start at argument found new so_far cut added = record {
   keeps = λ macros all.
@@ -111,11 +112,11 @@ keeps_one_more tokens start at argument found new so_far cut added = record {
       subst (AreMarkedLists macros) (sym added) (All-push (λ l. All (IsMarked macros) l.now) found argument (so_far.keeps macros all) last);
 }
 
-pub keeps_none : (tokens : List Token) → KeepsMarks tokens []
+pub keeps_none : (tokens : List ReadToken) → KeepsMarks tokens []
 keeps_none tokens = record { keeps = λ macros all. All-nil (λ l. All (IsMarked macros) l.now) }
 
 -- one more piece
-pub fills_more : (body : List KeptPiece) (arguments : List (Bor (List Token))) (i : ℕ) (d : KeptPiece) (old new : List Token) → i < length body → FillsMarks body arguments old →
+pub fills_more : (body : List KeptPiece) (arguments : List (Bor (List ReadToken))) (i : ℕ) (d : KeptPiece) (old new : List ReadToken) → i < length body → FillsMarks body arguments old →
     ((macros : List Macro) → All (IsMarked macros) old → IsMarkedPiece macros (get_or body i d) → AreMarkedLists macros arguments → All (IsMarked macros) new) →
     FillsMarks body arguments new
 fills_more body arguments i d old new below so_far more = record {
@@ -123,7 +124,7 @@ fills_more body arguments i d old new below so_far more = record {
 }
 
 -- words and their tokens
-pub lexemes_of_words : (ts : List Token) (ws : List Word) → map word_of ts ≡ ws → map lexeme_of ts ≡ map lexeme_in_word ws
+pub lexemes_of_words : (ts : List ReadToken) (ws : List Word) → map word_of ts ≡ ws → map read_lexeme ts ≡ map lexeme_in_word ws
 lexemes_of_words [] [] is = refl
 lexemes_of_words [] (w ∷ ws) is = cc
 lexemes_of_words (t ∷ ts) [] is = cc
@@ -131,22 +132,22 @@ lexemes_of_words (t ∷ ts) (w ∷ ws) is =
     let first : word_of t ≡ w = cc in
     let others : map word_of ts ≡ ws = cc in
     let rest = lexemes_of_words ts ws others in
-    let same : lexeme_of t ≡ w.lexeme = ap lexeme_in_word first in
+    let same : read_lexeme t ≡ w.lexeme = ap lexeme_in_word first in
     cc
 
-marks_of_tokens : (macros : List Macro) (ts : List Token) → All (IsMarkedWord macros) (map word_of ts) → All (IsMarked macros) ts
+marks_of_tokens : (macros : List Macro) (ts : List ReadToken) → All (IsMarkedWord macros) (map word_of ts) → All (IsMarked macros) ts
 marks_of_tokens macros [] all = All-nil (IsMarked macros)
 marks_of_tokens macros (t ∷ ts) all =
     All-cons (IsMarked macros) t ts (All-head (IsMarkedWord macros) (word_of t) (map word_of ts) all) (marks_of_tokens macros ts (All-tail (IsMarkedWord macros) (word_of t) (map word_of ts) all))
 
-pub marks_of_words : (macros : List Macro) (ts : List Token) (ws : List Word) → map word_of ts ≡ ws → All (IsMarkedWord macros) ws → All (IsMarked macros) ts
+pub marks_of_words : (macros : List Macro) (ts : List ReadToken) (ws : List Word) → map word_of ts ≡ ws → All (IsMarkedWord macros) ws → All (IsMarked macros) ts
 marks_of_words macros ts ws is all = marks_of_tokens macros ts (subst (All (IsMarkedWord macros)) (sym is) all)
 
 pub word_added : (old new : List Word) (w : Word) → new ≡ old ++ w ∷ [] → map lexeme_in_word new ≡ map lexeme_in_word old ++ w.lexeme ∷ []
 word_added old new w added = ap (map lexeme_in_word) added ∙ map-append lexeme_in_word old (w ∷ [])
 
 -- a token of a marked list is added to marked words
-pub mark_added : (macros : List Macro) (list : List Token) (at : ℕ) (d : Token) (old new : List Word) → at < length list → All (IsMarked macros) list →
+pub mark_added : (macros : List Macro) (list : List ReadToken) (at : ℕ) (d : ReadToken) (old new : List Word) → at < length list → All (IsMarked macros) list →
     All (IsMarkedWord macros) old → new ≡ old ++ word_of (get_or list at d) ∷ [] → All (IsMarkedWord macros) new
 mark_added macros list at d old new below all earlier added =
     subst (All (IsMarkedWord macros)) (sym added) (All-push (IsMarkedWord macros) old (word_of (get_or list at d)) earlier (All-get_or (IsMarked macros) list at d below all))

@@ -5,26 +5,27 @@ use Rattle.std.proofs.lemmas.List.{append-nil, drop-map, drop-drop, length-map}
 use Rattle.rbg_macro.specs.declared.error.MacroError.{MacroError}
 use Rattle.rbg_macro.specs.declared.expansion.Progress.{Progress}
 use Rattle.rbg_macro.specs.declared.limits.TheConstants.{MAX_KEPT}
-use Rattle.rbg_macro.specs.declared.token.Token.{Token}
+use Rattle.rbg_macro.specs.declared.read_token.ReadToken.{ReadToken}
 use Rattle.rbg_macro.specs.Call.{Stays, meets}
 use Rattle.rbg_macro.specs.Expansion.{Expands, list, Reads, nothing, stays, call, Fails, no_join, reading, FailsReading, too_many_kept, behind_kept, in_call, behind_call}
 use Rattle.rbg_macro.specs.Macro.{Macro}
 use Rattle.rbg_macro.specs.internal.Progress.{IsWithinLimits, ReadsOn, ReadsJoined, FailsJoined, GivesWay, IsTooMany, no_join as joins_not, reading as fails_reading}
-use Rattle.rbg_macro.specs.Token.{Lexeme, lexeme_of}
+use Rattle.rbg_macro.specs.internal.ReadTokens.{read_lexeme}
+use Rattle.rbg_macro.specs.Token.{Lexeme}
 
 -- The list was read up to a place. If the rest expands to something, then the list expands to what was kept, followed
 -- by it, and a fault of the rest is a fault of the list.
-pub record HasRead (macros : List Macro) (d : ℕ) (tokens : List Token) (at : ℕ) (old now : Progress) : Type 0 where
+pub record HasRead (macros : List Macro) (d : ℕ) (tokens : List ReadToken) (at : ℕ) (old now : Progress) : Type 0 where
   pub within : at ≤ length tokens
   pub limits : IsWithinLimits now
   pub added : List Lexeme
   pub spent : ℕ
   pub kept : now.kept ≡ old.kept ++ added
   pub read : now.read ≡ old.read + spent
-  pub reads : (us : List Lexeme) (m : ℕ) → Reads macros d (map lexeme_of (drop at tokens)) us m → Reads macros d (map lexeme_of tokens) (added ++ us) (spent + m)
-  pub fails : (e : MacroError) → FailsReading macros d now.read (length now.kept) (map lexeme_of (drop at tokens)) e → FailsReading macros d old.read (length old.kept) (map lexeme_of tokens) e
+  pub reads : (us : List Lexeme) (m : ℕ) → Reads macros d (map read_lexeme (drop at tokens)) us m → Reads macros d (map read_lexeme tokens) (added ++ us) (spent + m)
+  pub fails : (e : MacroError) → FailsReading macros d now.read (length now.kept) (map read_lexeme (drop at tokens)) e → FailsReading macros d old.read (length old.kept) (map read_lexeme tokens) e
 
-pub nothing_read : (macros : List Macro) (d : ℕ) (tokens : List Token) (now : Progress) → IsWithinLimits now → HasRead macros d tokens 0 now now
+pub nothing_read : (macros : List Macro) (d : ℕ) (tokens : List ReadToken) (now : Progress) → IsWithinLimits now → HasRead macros d tokens 0 now now
 nothing_read macros d tokens now limits = record {
   within = omega arith;
   limits = limits;
@@ -37,13 +38,13 @@ nothing_read macros d tokens now limits = record {
 }
 
 -- the token at a place, and what follows it
-next_token : (tokens behind : List Token) (at : ℕ) (d : Token) → at < length tokens → behind ≡ drop (at + 1) tokens →
-    map lexeme_of (drop at tokens) ≡ lexeme_of (get_or tokens at d) ∷ map lexeme_of behind
-next_token tokens behind at d below is = ap (map lexeme_of) (drop-cons tokens at d below) ∙ rw (is, add-one) refl
+next_token : (tokens behind : List ReadToken) (at : ℕ) (d : ReadToken) → at < length tokens → behind ≡ drop (at + 1) tokens →
+    map read_lexeme (drop at tokens) ≡ read_lexeme (get_or tokens at d) ∷ map read_lexeme behind
+next_token tokens behind at d below is = ap (map read_lexeme) (drop-cons tokens at d below) ∙ rw (is, add-one) refl
 
-pub token_kept : (macros : List Macro) (l : ℕ) (tokens behind : List Token) (at : ℕ) (d : Token) (old now new : Progress) → HasRead macros l tokens at old now →
-    at < length tokens → behind ≡ drop (at + 1) tokens → meets macros (lexeme_of (get_or tokens at d)) (map lexeme_of behind) ≡ Stays →
-    new ≡ record now { kept = now.kept ++ lexeme_of (get_or tokens at d) ∷ [] } → length now.kept < MAX_KEPT →
+pub token_kept : (macros : List Macro) (l : ℕ) (tokens behind : List ReadToken) (at : ℕ) (d : ReadToken) (old now new : Progress) → HasRead macros l tokens at old now →
+    at < length tokens → behind ≡ drop (at + 1) tokens → meets macros (read_lexeme (get_or tokens at d)) (map read_lexeme behind) ≡ Stays →
+    new ≡ record now { kept = now.kept ++ read_lexeme (get_or tokens at d) ∷ [] } → length now.kept < MAX_KEPT →
     HasRead macros l tokens (at + 1) old new
 token_kept macros l tokens behind at d old now new so_far below is met kept room = record {
   within = omega arith;
@@ -56,20 +57,20 @@ token_kept macros l tokens behind at d old now new so_far below is met kept room
   kept = ap (λ (p : Progress). p.kept) kept ∙ ap (λ (ts : List Lexeme). ts ++ t ∷ []) so_far.kept ∙ append_assoc old.kept so_far.added (t ∷ []);
   read = ap (λ (p : Progress). p.read) kept ∙ so_far.read;
   reads = λ us m r.
-      let here : Reads macros l (map lexeme_of (drop at tokens)) (t ∷ us) m = rw begins (stays l t (map lexeme_of behind) us m met (rw is r)) in
+      let here : Reads macros l (map read_lexeme (drop at tokens)) (t ∷ us) m = rw begins (stays l t (map read_lexeme behind) us m met (rw is r)) in
       rw (append_assoc so_far.added (t ∷ []) us) (so_far.reads (t ∷ us) m here);
   fails = λ e f.
       let one_more : length new.kept ≡ length now.kept + 1 =
       ap (λ (p : Progress). length p.kept) kept ∙ length-append now.kept (t ∷ []) in
       let same_read : new.read ≡ now.read = ap (λ (p : Progress). p.read) kept in
-      let behind_it : FailsReading macros l now.read (length now.kept + 1) (map lexeme_of behind) e = rw (← one_more, ← same_read, is) f in
-      so_far.fails e (rw begins (behind_kept l now.read (length now.kept) t (map lexeme_of behind) e met room behind_it));
+      let behind_it : FailsReading macros l now.read (length now.kept + 1) (map read_lexeme behind) e = rw (← one_more, ← same_read, is) f in
+      so_far.fails e (rw begins (behind_kept l now.read (length now.kept) t (map read_lexeme behind) e met room behind_it));
 }
   where
     t : Lexeme
-    t = lexeme_of (get_or tokens at d)
+    t = read_lexeme (get_or tokens at d)
 
-    begins : map lexeme_of (drop at tokens) ≡ lexeme_of (get_or tokens at d) ∷ map lexeme_of behind
+    begins : map read_lexeme (drop at tokens) ≡ read_lexeme (get_or tokens at d) ∷ map read_lexeme behind
     begins = next_token tokens behind at d below is
 
 -- a body that was counted and read expands
@@ -77,46 +78,46 @@ body_expands : (macros : List Macro) (d : ℕ) (body : List Lexeme) (counted new
     Expands macros d body reads.reads.added (length body + reads.reads.spent)
 body_expands macros d body counted new reads = list d body reads.js reads.reads.added reads.reads.spent reads.joins reads.reads.reads
 
-pub call_read : (macros : List Macro) (l : ℕ) (tokens behind : List Token) (at n : ℕ) (d : Token) (body : List Lexeme) (old now counted new : Progress) → HasRead macros l tokens at old now →
+pub call_read : (macros : List Macro) (l : ℕ) (tokens behind : List ReadToken) (at n : ℕ) (d : ReadToken) (body : List Lexeme) (old now counted new : Progress) → HasRead macros l tokens at old now →
     at < length tokens → behind ≡ drop (at + 1) tokens →
-    GivesWay macros l (lexeme_of (get_or tokens at d)) (map lexeme_of behind) now.read body n →
+    GivesWay macros l (read_lexeme (get_or tokens at d)) (map read_lexeme behind) now.read body n →
     counted ≡ record now { read = now.read + length body } → ReadsJoined macros (l + 1) body counted new →
     HasRead macros l tokens (at + (n + 1)) old new
 call_read macros l tokens behind at n d body old now counted new so_far below is way counts reads = record {
-  within = omega (arith, way.within, length-map behind lexeme_of, ap length is, length-drop (at + 1) tokens);
+  within = omega (arith, way.within, length-map behind read_lexeme, ap length is, length-drop (at + 1) tokens);
   limits = reads.reads.within;
   added = so_far.added ++ vs;
   spent = so_far.spent + (length body + reads.reads.spent);
   kept = new_kept ∙ ap (λ (ts : List Lexeme). ts ++ vs) so_far.kept ∙ append_assoc old.kept so_far.added vs;
   read = omega (arith, new_read, so_far.read);
   reads = λ us m r.
-      let here : Reads macros l (map lexeme_of (drop at tokens)) (vs ++ us) (length body + reads.reads.spent + m) =
-      rw begins (call l t (map lexeme_of behind) body (drop n (map lexeme_of behind)) vs us (length body + reads.reads.spent) m way.meets way.not_deep expands (rw further r)) in
+      let here : Reads macros l (map read_lexeme (drop at tokens)) (vs ++ us) (length body + reads.reads.spent + m) =
+      rw begins (call l t (map read_lexeme behind) body (drop n (map read_lexeme behind)) vs us (length body + reads.reads.spent) m way.meets way.not_deep expands (rw further r)) in
       let sum : so_far.spent + (length body + reads.reads.spent) + m ≡ so_far.spent + (length body + reads.reads.spent + m) = omega arith in
       rw (append_assoc so_far.added vs us, sum) (so_far.reads (vs ++ us) (length body + reads.reads.spent + m) here);
   fails = λ e f.
       let read_is : now.read + (length body + reads.reads.spent) ≡ new.read = sym new_read in
       let kept_is : length now.kept + length vs ≡ length new.kept = omega (arith, ap length new_kept, length-append now.kept vs) in
-      let behind_it : FailsReading macros l (now.read + (length body + reads.reads.spent)) (length now.kept + length vs) (drop n (map lexeme_of behind)) e =
+      let behind_it : FailsReading macros l (now.read + (length body + reads.reads.spent)) (length now.kept + length vs) (drop n (map read_lexeme behind)) e =
       rw (read_is, kept_is, further) f in
-      so_far.fails e (rw begins (behind_call l now.read (length now.kept) (length body + reads.reads.spent) t (map lexeme_of behind) body (drop n (map lexeme_of behind)) vs e
+      so_far.fails e (rw begins (behind_call l now.read (length now.kept) (length body + reads.reads.spent) t (map read_lexeme behind) body (drop n (map read_lexeme behind)) vs e
       way.meets way.not_deep expands (omega (arith, new_read, reads.reads.within.read)) (omega (arith, kept_is, reads.reads.within.kept)) behind_it));
 }
   where
     t : Lexeme
-    t = lexeme_of (get_or tokens at d)
+    t = read_lexeme (get_or tokens at d)
 
     vs : List Lexeme
     vs = reads.reads.added
 
-    begins : map lexeme_of (drop at tokens) ≡ lexeme_of (get_or tokens at d) ∷ map lexeme_of behind
+    begins : map read_lexeme (drop at tokens) ≡ read_lexeme (get_or tokens at d) ∷ map read_lexeme behind
     begins = next_token tokens behind at d below is
 
-    further : drop n (map lexeme_of behind) ≡ map lexeme_of (drop (at + (n + 1)) tokens)
+    further : drop n (map read_lexeme behind) ≡ map read_lexeme (drop (at + (n + 1)) tokens)
     further =
         let place : at + 1 + n ≡ at + (n + 1) = omega arith in
-        drop-map lexeme_of n behind ∙ ap (λ ts. map lexeme_of (drop n ts)) is ∙ ap (map lexeme_of) (drop-drop n (at + 1) tokens)
-        ∙ ap (λ (i : ℕ). map lexeme_of (drop i tokens)) place
+        drop-map read_lexeme n behind ∙ ap (λ ts. map read_lexeme (drop n ts)) is ∙ ap (map read_lexeme) (drop-drop n (at + 1) tokens)
+        ∙ ap (λ (i : ℕ). map read_lexeme (drop i tokens)) place
 
     expands : Expands macros (l + 1) body reads.reads.added (length body + reads.reads.spent)
     expands = body_expands macros (l + 1) body counted new reads
@@ -128,14 +129,14 @@ call_read macros l tokens behind at n d body old now counted new so_far below is
     new_read = omega (arith, reads.reads.read, ap (λ (p : Progress). p.read) counts)
 
 -- a fault in a call's body
-pub call_fails : (macros : List Macro) (l : ℕ) (tokens behind : List Token) (at n : ℕ) (d : Token) (body : List Lexeme) (old now counted : Progress) (e : MacroError) → HasRead macros l tokens at old now →
+pub call_fails : (macros : List Macro) (l : ℕ) (tokens behind : List ReadToken) (at n : ℕ) (d : ReadToken) (body : List Lexeme) (old now counted : Progress) (e : MacroError) → HasRead macros l tokens at old now →
     at < length tokens → behind ≡ drop (at + 1) tokens →
-    GivesWay macros l (lexeme_of (get_or tokens at d)) (map lexeme_of behind) now.read body n →
+    GivesWay macros l (read_lexeme (get_or tokens at d)) (map read_lexeme behind) now.read body n →
     counted ≡ record now { read = now.read + length body } → FailsJoined macros (l + 1) body counted e →
-    FailsReading macros l old.read (length old.kept) (map lexeme_of tokens) e
+    FailsReading macros l old.read (length old.kept) (map read_lexeme tokens) e
 call_fails macros l tokens behind at n d body old now counted e so_far below is way counts fails =
     so_far.fails e (rw (next_token tokens behind at d below is)
-    (in_call l now.read (length now.kept) (lexeme_of (get_or tokens at d)) (map lexeme_of behind) body (drop n (map lexeme_of behind)) e way.meets way.not_deep (inside fails)))
+    (in_call l now.read (length now.kept) (read_lexeme (get_or tokens at d)) (map read_lexeme behind) body (drop n (map read_lexeme behind)) e way.meets way.not_deep (inside fails)))
   where
     inside : FailsJoined macros (l + 1) body counted e → Fails macros (l + 1) now.read (length now.kept) body e
     inside (joins_not joins) = no_join (l + 1) now.read (length now.kept) body e way.counted joins
@@ -145,21 +146,21 @@ call_fails macros l tokens behind at n d body old now counted e so_far below is 
         reading (l + 1) now.read (length now.kept) body js e way.counted joins (rw (← read_is, ← kept_is) f)
 
 -- a fault at a token
-pub token_fails : (macros : List Macro) (l : ℕ) (tokens behind : List Token) (at : ℕ) (d : Token) (old now : Progress) (e : MacroError) → HasRead macros l tokens at old now →
+pub token_fails : (macros : List Macro) (l : ℕ) (tokens behind : List ReadToken) (at : ℕ) (d : ReadToken) (old now : Progress) (e : MacroError) → HasRead macros l tokens at old now →
     at < length tokens → behind ≡ drop (at + 1) tokens →
-    FailsReading macros l now.read (length now.kept) (lexeme_of (get_or tokens at d) ∷ map lexeme_of behind) e →
-    FailsReading macros l old.read (length old.kept) (map lexeme_of tokens) e
+    FailsReading macros l now.read (length now.kept) (read_lexeme (get_or tokens at d) ∷ map read_lexeme behind) e →
+    FailsReading macros l old.read (length old.kept) (map read_lexeme tokens) e
 token_fails macros l tokens behind at d old now e so_far below is f = so_far.fails e (rw (next_token tokens behind at d below is) f)
 
-pub token_too_many : (macros : List Macro) (l : ℕ) (tokens behind : List Token) (at : ℕ) (d : Token) (old now : Progress) (e : MacroError) → HasRead macros l tokens at old now →
-    at < length tokens → behind ≡ drop (at + 1) tokens → meets macros (lexeme_of (get_or tokens at d)) (map lexeme_of behind) ≡ Stays →
-    IsTooMany e (MAX_KEPT ≤ length now.kept) → FailsReading macros l old.read (length old.kept) (map lexeme_of tokens) e
+pub token_too_many : (macros : List Macro) (l : ℕ) (tokens behind : List ReadToken) (at : ℕ) (d : ReadToken) (old now : Progress) (e : MacroError) → HasRead macros l tokens at old now →
+    at < length tokens → behind ≡ drop (at + 1) tokens → meets macros (read_lexeme (get_or tokens at d)) (map read_lexeme behind) ≡ Stays →
+    IsTooMany e (MAX_KEPT ≤ length now.kept) → FailsReading macros l old.read (length old.kept) (map read_lexeme tokens) e
 token_too_many macros l tokens behind at d old now e so_far below is met many =
     token_fails macros l tokens behind at d old now e so_far below is
-    (rw many.is (too_many_kept l now.read (length now.kept) (lexeme_of (get_or tokens at d)) (map lexeme_of behind) met many.holds))
+    (rw many.is (too_many_kept l now.read (length now.kept) (read_lexeme (get_or tokens at d)) (map read_lexeme behind) met many.holds))
 
-pub all_read : (macros : List Macro) (l : ℕ) (tokens : List Token) (at : ℕ) (old now : Progress) → HasRead macros l tokens at old now → length tokens ≤ at →
-    ReadsOn macros l (map lexeme_of tokens) old now
+pub all_read : (macros : List Macro) (l : ℕ) (tokens : List ReadToken) (at : ℕ) (old now : Progress) → HasRead macros l tokens at old now → length tokens ≤ at →
+    ReadsOn macros l (map read_lexeme tokens) old now
 all_read macros l tokens at old now so_far all = record {
   added = so_far.added;
   spent = so_far.spent;

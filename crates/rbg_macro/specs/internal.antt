@@ -6,5 +6,6 @@ pub mod Joined
 pub mod Marks
 pub mod Part
 pub mod Progress
+pub mod ReadTokens
 pub mod Span
 pub mod Template

@@ -1,9 +1,10 @@
-//! A list of tokens that owns their texts, in one buffer that begins with the whole text they came from.
-ghost use Rattle.std.specs.Prelude.{◌≡◌, ◌<◌, ◌↔◌, [], ◌∷◌, ◌++◌, length, take, slice_get, Some, IfOk, OnOk, OnErr};
-ghost use Rattle.std.specs.Prelude.{IsTrue};
-ghost use Rattle.rbg_macro.specs.internal.Span.{StandsAt};
+//! A list of tokens that shares the text which they came from, and owns the bytes that were joined.
+ghost use Rattle.std.specs.Prelude.{◌≡◌, ◌<◌, [], ◌∷◌, ◌++◌, length, take, slice_get, Some, IfOk, OnOk};
+ghost use Rattle.rbg_macro.specs.internal.ReadTokens.{read_lexeme};
+ghost use Rattle.rbg_macro.specs.internal.Span.{lexeme_in, IsKeptAs, IsSpanWithin};
 ghost use Rattle.rbg_macro.specs.Token.{lexeme_of};
 
+use crate::read_token::{Bytes, ReadToken};
 use crate::token::{Token, TokenKind};
 use rbg_base::Memory;
 use std::alloc::Global;
@@ -18,55 +19,56 @@ pub(crate) struct Span {
     pub(crate) at: usize,
 }
 
-/// Tokens that own their texts. Tokens of the text share its one copy.
-#[derive(Debug, Drop)]
-pub(crate) struct TokenBuffer {
-    texts: Vec<u8>,
-    spans: Vec<Span>,
+/// A token that was kept: one of the text, or one that was joined, whose bytes are in the buffer.
+#[derive(Clone, Copy, Debug)]
+pub(crate) enum KeptToken<'t> {
+    OfText(Token<'t>),
+    Joined(Span),
 }
 
-impl Model for TokenBuffer {
+/// The tokens that were kept. Only the bytes that were joined are copied.
+#[derive(Debug, Drop)]
+pub(crate) struct TokenBuffer<'t> {
+    joined: Vec<u8>,
+    tokens: Vec<KeptToken<'t>>,
+}
+
+impl<'t> Model for TokenBuffer<'t> {
     ghost use Rattle.std.specs.Prelude.{List, map, All};
     ghost use Rattle.rbg_macro.specs.Token.{Lexeme};
 
     ghost Value = { List Lexeme };
 
-    ghost use Rattle.rbg_macro.specs.internal.Span.{lexeme_in, IsSpanWithin};
+    ghost use Rattle.rbg_macro.specs.internal.Span.{kept_lexeme, IsKeptWithin};
 
-    ghost view = { λ b. map (lexeme_in b.texts.items) b.spans.items };
+    ghost view = { λ b. map (kept_lexeme b.joined.items) b.tokens.items };
 
-    ghost invariant = { λ b. All (IsSpanWithin b.texts.items) b.spans.items };
+    ghost invariant = { λ b. All (IsKeptWithin b.joined.items) b.tokens.items };
 }
 
-impl TokenBuffer {
-    /// No tokens yet, with a copy of the text that they come from.
-    pub(crate) fn with_text(alloc: Global, text: &[u8]) -> Result<Self, Memory>
-        ensures { IfOk result (λ b. b ≡ []) }
+impl<'t> TokenBuffer<'t> {
+    /// No tokens yet.
+    pub(crate) fn new(alloc: Global) -> Self
+        ensures { result ≡ [] }
     {
-        Ok(TokenBuffer {
-            texts: text.to_vec(alloc)?,
-            spans: Vec::new(alloc),
-        })
+        TokenBuffer {
+            joined: Vec::new(alloc),
+            tokens: Vec::new(alloc),
+        }
     }
 
     pub(crate) fn len(&self) -> usize
         ensures { result ≡ length self.now }
     {
-        self.spans.len()
+        self.tokens.len()
     }
 
-    /// Adds a token at the end. Its bytes are copied only if they aren't found at the token's offset, as is the case for
-    /// a joined token.
-    pub(crate) fn push(&mut self, token: &Token<'_>) -> Result<(), Memory>
-        ensures { OnOk result (self.new ≡ self.old ++ lexeme_of token.now ∷ []) }
+    /// Adds a token at the end.
+    pub(crate) fn push(&mut self, token: &ReadToken<'t, '_>) -> Result<(), Memory>
+        ensures { OnOk result (self.new ≡ self.old ++ read_lexeme token.now ∷ []) }
     {
-        let start = place(&mut self.texts, token.at, token.text)?;
-        self.spans.push(Span {
-            kind: token.kind,
-            start,
-            end: start + token.text.len(),
-            at: token.at,
-        })?;
+        let kept = keep(&mut self.joined, token)?;
+        self.tokens.push(kept)?;
         Ok(())
     }
 
@@ -75,36 +77,48 @@ impl TokenBuffer {
         requires { index < length self.now }
         ensures { slice_get self.now index ≡ Some (lexeme_of result) }
     {
-        let spans = self.spans.as_slice();
-        let span = spans[index];
-        Token {
-            kind: span.kind,
-            text: &self.texts[span.start..span.end],
-            at: span.at,
-            macro_number: None,
+        let tokens = self.tokens.as_slice();
+        match tokens[index] {
+            KeptToken::OfText(token) => token,
+            KeptToken::Joined(span) => span.token(&self.joined),
         }
     }
 }
 
-/// The place of some bytes in the texts: the offset `at` if they are found there. Otherwise they are added at the end.
-fn place(texts: &mut Vec<u8>, at: usize, bytes: &[u8]) -> Result<usize, Memory>
-    ensures ok { IfOk result (StandsAt texts.new.items bytes.now) }
-    ensures front { take (length texts.old.items) texts.new.items ≡ texts.old.items }
+/// The token as it is kept. If it was joined, its bytes are added at the end of the buffer.
+fn keep<'t>(joined: &mut Vec<u8>, token: &ReadToken<'t, '_>) -> Result<KeptToken<'t>, Memory>
+    ensures ok { IfOk result (IsKeptAs joined.new.items (read_lexeme token.now)) }
+    ensures front { take (length joined.old.items) joined.new.items ≡ joined.old.items }
 {
-    if stands_at(texts, at, bytes) {
-        return Ok(at);
+    match token.bytes {
+        Bytes::OfText(text) => Ok(KeptToken::OfText(Token {
+            kind: token.kind,
+            text,
+            at: token.at,
+        })),
+        Bytes::Joined(text) => {
+            let start = joined.len();
+            joined.extend_from_slice(text)?;
+            Ok(KeptToken::Joined(Span {
+                kind: token.kind,
+                start,
+                end: joined.len(),
+                at: token.at,
+            }))
+        }
     }
-    let start = texts.len();
-    texts.extend_from_slice(bytes)?;
-    Ok(start)
 }
 
-/// Whether the bytes are at this offset of the texts.
-fn stands_at(texts: &[u8], at: usize, bytes: &[u8]) -> bool
-    ensures { IsTrue result ↔ StandsAt texts.now bytes.now at }
-{
-    let Some(end) = at.checked_add(bytes.len()) else {
-        return false;
-    };
-    texts.get(at..end) == Some(bytes)
+impl Span {
+    /// The token whose bytes are at this place of the texts.
+    fn token<'s>(&self, texts: &'s [u8]) -> Token<'s>
+        requires { IsSpanWithin texts.now self.now }
+        ensures { lexeme_of result ≡ lexeme_in texts.now self.now }
+    {
+        Token {
+            kind: self.kind,
+            text: &texts[self.start..self.end],
+            at: self.at,
+        }
+    }
 }

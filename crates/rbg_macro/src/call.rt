@@ -6,25 +6,26 @@ ghost use Rattle.rbg_macro.specs.internal.Calls.{nesting_of, AreArguments, IsCal
 ghost use Rattle.rbg_macro.specs.Errors.{UnlessMemory};
 ghost use Rattle.rbg_macro.specs.Macro.{filled, filled_piece};
 ghost use Rattle.rbg_macro.specs.internal.Marks.{IsMarked, IsMarkedCall, KeepsMarks};
+ghost use Rattle.rbg_macro.specs.internal.ReadTokens.{read_lexeme};
 ghost use Rattle.rbg_macro.specs.internal.Template.{piece_in, lists_in};
-ghost use Rattle.rbg_macro.specs.Token.{lexeme_of};
 
 use crate::error::MacroError;
 use crate::macros::Piece;
 use crate::marking::MarkedMacros;
-use crate::token::{Token, TokenKind};
+use crate::read_token::ReadToken;
+use crate::token::TokenKind;
 use rbg_base::Memory;
 use smallvec::SmallVec;
 use std::alloc::Global;
 
 /// The arguments of a call. Most calls have few.
-pub(crate) type Arguments<'a> = SmallVec<&'a [Token<'a>], 4>;
+pub(crate) type Arguments<'t, 'j> = SmallVec<&'j [ReadToken<'t, 'j>], 4>;
 
 /// A call of a macro: the macro's body, the arguments, and the number of tokens of the call after the macro's name.
 #[derive(Drop)]
-pub(crate) struct Call<'m, 'a> {
-    pub(crate) body: &'m [Piece<'a>],
-    pub(crate) arguments: Arguments<'a>,
+pub(crate) struct Call<'m, 't, 'j> {
+    pub(crate) body: &'m [Piece<'t>],
+    pub(crate) arguments: Arguments<'t, 'j>,
     pub(crate) len: usize,
 }
 
@@ -72,12 +73,12 @@ fn closing(kind: TokenKind, further: usize) -> Effect
 
 /// The arguments in the tokens after a call's `(`, and the number of their tokens together with the `)`. Returns `None`
 /// if the token that closes the call is missing or isn't `)`.
-fn find_arguments<'a>(
+fn find_arguments<'t, 'j>(
     alloc: Global,
-    tokens: &'a [Token<'a>],
-) -> Result<Option<(Arguments<'a>, usize)>, Memory>
-    ensures arguments { IfOk result (λ o. MatchOption o (arguments 0 (map lexeme_of tokens.now) ≡ None)
-        (λ x. AreArguments (map lexeme_of tokens.now) (lists_in x.0.items) x.1)) }
+    tokens: &'j [ReadToken<'t, 'j>],
+) -> Result<Option<(Arguments<'t, 'j>, usize)>, Memory>
+    ensures arguments { IfOk result (λ o. MatchOption o (arguments 0 (map read_lexeme tokens.now) ≡ None)
+        (λ x. AreArguments (map read_lexeme tokens.now) (lists_in x.0.items) x.1)) }
     ensures marks { IfOk result (λ o. IfSome o (λ x. KeepsMarks tokens.now x.0.items)) }
 {
     let mut found = SmallVec::new(alloc);
@@ -104,20 +105,20 @@ fn find_arguments<'a>(
 
 /// The call that the token begins if it is a macro's name: of a macro without parameters it is the
 /// name alone, else the arguments follow.
-pub(crate) fn find_call<'m, 'a>(
+pub(crate) fn find_call<'m, 't, 'j>(
     alloc: Global,
-    macros: &'m MarkedMacros<'a>,
-    name: &Token<'a>,
-    behind: &'a [Token<'a>],
-) -> Result<Option<Call<'m, 'a>>, MacroError>
+    macros: &'m MarkedMacros<'t>,
+    name: &ReadToken<'t, 'j>,
+    behind: &'j [ReadToken<'t, 'j>],
+) -> Result<Option<Call<'m, 't, 'j>>, MacroError>
     requires named { IsMarked macros.now name.now }
     requires behind { All (IsMarked macros.now) behind.now }
     ensures ok { IfOk result (λ o. MatchOption o
-        (meets macros.now (lexeme_of name.now) (map lexeme_of behind.now) ≡ Stays)
-        (IsCall macros.now (lexeme_of name.now) (map lexeme_of behind.now))) }
+        (meets macros.now (read_lexeme name.now) (map read_lexeme behind.now) ≡ Stays)
+        (IsCall macros.now (read_lexeme name.now) (map read_lexeme behind.now))) }
     ensures marked { IfOk result (λ o. IfSome o (IsMarkedCall macros.now)) }
-    ensures err { IfErr result (UnlessMemory (λ e. IsNoCall macros.now (lexeme_of name.now)
-        (map lexeme_of behind.now) e)) }
+    ensures err { IfErr result (UnlessMemory (λ e. IsNoCall macros.now (read_lexeme name.now)
+        (map read_lexeme behind.now) e)) }
 {
     let Some(template) = macros.get(name) else {
         return Ok(None);
@@ -148,8 +149,8 @@ pub(crate) fn find_call<'m, 'a>(
 }
 
 /// Whether the first token is `(`.
-fn begins_with_parenthesis(tokens: &[Token<'_>]) -> bool
-    ensures { result ≡ begins_with_parenthesis (map lexeme_of tokens.now) }
+fn begins_with_parenthesis(tokens: &[ReadToken<'_, '_>]) -> bool
+    ensures { result ≡ begins_with_parenthesis (map read_lexeme tokens.now) }
 {
     match tokens.first() {
         Some(token) => token.kind.is_open_parenthesis(),

@@ -22,25 +22,25 @@ use std::alloc::Global;
 
 /// A section with its own tokens.
 #[derive(Clone, Copy, Debug)]
-pub(crate) struct SectionBody<'a> {
+pub(crate) struct SectionBody<'t, 's> {
     pub(crate) kind: SectionKind,
     pub(crate) at: usize,
-    pub(crate) tokens: &'a [Token<'a>],
+    pub(crate) tokens: &'s [Token<'t>],
 }
 
 /// The sections in order of the text, and the macros.
 #[derive(Drop)]
-pub(crate) struct Definitions<'a> {
-    pub(crate) sections: Vec<SectionBody<'a>>,
-    pub(crate) macros: Macros<'a>,
+pub(crate) struct Definitions<'t, 's> {
+    pub(crate) sections: Vec<SectionBody<'t, 's>>,
+    pub(crate) macros: Macros<'t>,
 }
 
 /// The next token of a head and what follows it, if the token is a name. A head that ends before is
 /// refused at `end`.
-fn expect_name<'a>(
-    tokens: &'a [Token<'a>],
+fn expect_name<'t, 's>(
+    tokens: &'s [Token<'t>],
     end: usize,
-) -> Result<(Token<'a>, &'a [Token<'a>]), MacroError>
+) -> Result<(Token<'t>, &'s [Token<'t>]), MacroError>
     ensures { Gives (λ x. (lexeme_of x.0, map lexeme_of x.1.now)) result
         (expect (λ t. is_name_kind t.kind) end (map lexeme_of tokens.now)) }
 {
@@ -54,7 +54,7 @@ fn expect_name<'a>(
 }
 
 /// What follows the next token of a head, if the token is `=`.
-fn expect_equals<'a>(tokens: &'a [Token<'a>], end: usize) -> Result<&'a [Token<'a>], MacroError>
+fn expect_equals<'t, 's>(tokens: &'s [Token<'t>], end: usize) -> Result<&'s [Token<'t>], MacroError>
     ensures { Gives (λ x. map lexeme_of x.now) result (behind_equals end (map lexeme_of tokens.now)) }
 {
     let Some((token, behind)) = tokens.split_first() else {
@@ -67,14 +67,14 @@ fn expect_equals<'a>(tokens: &'a [Token<'a>], end: usize) -> Result<&'a [Token<'
 }
 
 /// A macro's parameters, and what follows them.
-type Parameters<'a> = (IndexSet<&'a [u8]>, &'a [Token<'a>]);
+type Parameters<'t, 's> = (IndexSet<&'t [u8]>, &'s [Token<'t>]);
 
 /// Adds the parameter that is the first token, and returns the token after it.
-fn parameter<'a>(
-    names: &mut IndexSet<&'a [u8]>,
-    tokens: &'a [Token<'a>],
+fn parameter<'t>(
+    names: &mut IndexSet<&'t [u8]>,
+    tokens: &[Token<'t>],
     end: usize,
-) -> Result<Token<'a>, MacroError>
+) -> Result<Token<'t>, MacroError>
     ensures ok { IfOk result (λ x. AddsParameter (texts_in names.old.keys) (texts_in names.new.keys)
         (map lexeme_of tokens.now) (lexeme_of x)) }
     ensures err { IfErr result (UnlessMemory (λ e. parameter_list end (texts_in names.old.keys)
@@ -98,11 +98,11 @@ fn parameter<'a>(
 }
 
 /// The parameters after a `(`, up to the `)` after the last one.
-fn parameter_list<'a>(
+fn parameter_list<'t, 's>(
     alloc: Global,
-    tokens: &'a [Token<'a>],
+    tokens: &'s [Token<'t>],
     end: usize,
-) -> Result<Parameters<'a>, MacroError>
+) -> Result<Parameters<'t, 's>, MacroError>
     ensures { Gives (λ x. (texts_in x.0.keys, map lexeme_of x.1.now)) result
         (parameter_list end [] (map lexeme_of tokens.now)) }
 {
@@ -121,11 +121,11 @@ fn parameter_list<'a>(
 }
 
 /// A macro's parameters and its body, which follow its name.
-fn behind_name<'a>(
+fn behind_name<'t, 's>(
     alloc: Global,
-    tokens: &'a [Token<'a>],
+    tokens: &'s [Token<'t>],
     end: usize,
-) -> Result<Parameters<'a>, MacroError>
+) -> Result<Parameters<'t, 's>, MacroError>
     ensures { Gives (λ x. (texts_in x.0.keys, map lexeme_of x.1.now)) result
         (behind_name end (map lexeme_of tokens.now)) }
 {
@@ -162,7 +162,7 @@ fn section_named(name: &[u8]) -> Option<SectionKind>
     }
 }
 
-impl<'a> Definitions<'a> {
+impl<'t, 's> Definitions<'t, 's> {
     fn new(alloc: Global) -> Self
         ensures { defines_of result ≡ record { sections = []; macros = [] } }
     {
@@ -174,11 +174,11 @@ impl<'a> Definitions<'a> {
 }
 
 /// Adds what a part defines. Its tokens are those after the `#` at the offset `at`, up to the next `#`.
-fn define<'a>(
+fn define<'t, 's>(
     alloc: Global,
-    definitions: &mut Definitions<'a>,
+    definitions: &mut Definitions<'t, 's>,
     at: usize,
-    tokens: &'a [Token<'a>],
+    tokens: &'s [Token<'t>],
     end: usize,
 ) -> Result<(), MacroError>
     ensures ok { OnOk result (AddsDefined (defines_of definitions.old) (defines_of definitions.new)
@@ -231,10 +231,10 @@ fn first_at(tokens: &[Token<'_>], otherwise: usize) -> usize
 }
 
 /// What the tokens define.
-pub(crate) fn read_definitions<'a>(
+pub(crate) fn read_definitions<'t, 's>(
     alloc: Global,
-    tokens: &'a [Token<'a>],
-) -> Result<Definitions<'a>, MacroError>
+    tokens: &'s [Token<'t>],
+) -> Result<Definitions<'t, 's>, MacroError>
     ensures { Gives defines_of result (definitions_of (map lexeme_of tokens.now)) }
 {
     check_begin(tokens)?;

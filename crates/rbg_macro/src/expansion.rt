@@ -11,7 +11,7 @@ ghost use Rattle.rbg_macro.specs.internal.Marks.{IsMarked, IsMarkedWord};
 ghost use Rattle.rbg_macro.specs.internal.Progress.{ReadsOn, ReadsJoined, ReadsSection, FailsJoined, GivesWay};
 ghost use Rattle.rbg_macro.specs.internal.Progress.{IsTooMany, IsWithinLimits};
 ghost use Rattle.rbg_macro.specs.internal.Span.{section_in, IsSectionWithin};
-ghost use Rattle.rbg_macro.specs.Token.{lexeme_of};
+ghost use Rattle.rbg_macro.specs.internal.ReadTokens.{read_lexeme};
 
 use crate::buffer::TokenBuffer;
 use crate::call::find_call;
@@ -21,18 +21,19 @@ use crate::filling::{fill, filled_len};
 use crate::joining::join;
 use crate::limits::{MAX_KEPT, MAX_LEVEL, MAX_READ};
 use crate::marking::MarkedMacros;
+use crate::read_token::ReadToken;
 use crate::source::{SectionSpan, Source};
-use crate::token::{Token, Tokens};
+use crate::token::Tokens;
 use std::alloc::Global;
 
 /// How far an expansion has come: how many tokens were read, and which were kept.
 #[derive(Debug, Drop)]
-struct Progress {
+struct Progress<'t> {
     read: usize,
-    kept: TokenBuffer,
+    kept: TokenBuffer<'t>,
 }
 
-impl Progress {
+impl<'t> Progress<'t> {
     /// Counts the tokens of a list.
     fn count(&mut self, len: usize)
         requires { self.old.read + len ≤ MAX_READ }
@@ -42,8 +43,8 @@ impl Progress {
     }
 
     /// Keeps a token that stays.
-    fn keep(&mut self, token: &Token<'_>) -> Result<(), MacroError>
-        ensures ok { OnOk result (self.new ≡ record self.old { kept = self.old.kept ++ lexeme_of token.now ∷ [] }) }
+    fn keep(&mut self, token: &ReadToken<'t, '_>) -> Result<(), MacroError>
+        ensures ok { OnOk result (self.new ≡ record self.old { kept = self.old.kept ++ read_lexeme token.now ∷ [] }) }
         ensures fits { OnOk result (length self.old.kept < MAX_KEPT) }
         ensures err { IfErr result (UnlessMemory (λ e. IsTooMany e (MAX_KEPT ≤ length self.old.kept))) }
     {
@@ -57,24 +58,24 @@ impl Progress {
 
 /// The tokens that replace a call, and the number of tokens of the call after the macro's name. Returns `None` if the
 /// token isn't the name of a macro.
-fn body_of_call<'a>(
+fn body_of_call<'t, 'j>(
     alloc: Global,
-    macros: &MarkedMacros<'a>,
+    macros: &MarkedMacros<'t>,
     level: usize,
-    name: &Token<'a>,
-    behind: &'a [Token<'a>],
+    name: &ReadToken<'t, 'j>,
+    behind: &'j [ReadToken<'t, 'j>],
     read: usize,
-) -> Result<Option<(Vec<Token<'a>>, usize)>, MacroError>
+) -> Result<Option<(Vec<ReadToken<'t, 'j>>, usize)>, MacroError>
     requires within { read ≤ MAX_READ }
     requires named { IsMarked macros.now name.now }
     requires behind { All (IsMarked macros.now) behind.now }
     ensures ok { IfOk result (λ o. MatchOption o
-        (meets macros.now (lexeme_of name.now) (map lexeme_of behind.now) ≡ Stays)
-        (λ x. GivesWay macros.now level (lexeme_of name.now) (map lexeme_of behind.now) read
-        (map lexeme_of x.0.items) x.1)) }
+        (meets macros.now (read_lexeme name.now) (map read_lexeme behind.now) ≡ Stays)
+        (λ x. GivesWay macros.now level (read_lexeme name.now) (map read_lexeme behind.now) read
+        (map read_lexeme x.0.items) x.1)) }
     ensures marked { IfOk result (λ o. IfSome o (λ x. All (IsMarked macros.now) x.0.items)) }
     ensures err { IfErr result (UnlessMemory (λ e. (k : ℕ) →
-        FailsReading macros.now level read k (lexeme_of name.now ∷ map lexeme_of behind.now) e)) }
+        FailsReading macros.now level read k (read_lexeme name.now ∷ map read_lexeme behind.now) e)) }
 {
     let Some(call) = find_call(alloc, macros, name, behind)? else {
         return Ok(None);
@@ -91,7 +92,7 @@ fn body_of_call<'a>(
 }
 
 /// Whether the list has a `~`. A list without one is joined already.
-fn has_tilde(list: &[Token<'_>]) -> bool
+fn has_tilde(list: &[ReadToken<'_, '_>]) -> bool
     ensures { result ≡ list_any (λ t. is_tilde t.kind) list.now }
 {
     list.iter().any(|t| t.kind.is_tilde())
@@ -99,42 +100,42 @@ fn has_tilde(list: &[Token<'_>]) -> bool
 
 /// Joins a list that was counted, and reads it.
 #[cycle(expansion)]
-fn read_list<'a>(
+fn read_list<'t, 'j>(
     alloc: Global,
-    macros: &MarkedMacros<'a>,
+    macros: &MarkedMacros<'t>,
     level: usize,
-    list: &'a [Token<'a>],
-    progress: &mut Progress,
+    list: &'j [ReadToken<'t, 'j>],
+    progress: &mut Progress<'t>,
 ) -> Result<(), MacroError>
     requires level { level ≤ MAX_LEVEL }
     requires within { IsWithinLimits progress.old }
     requires marked { All (IsMarked macros.now) list.now }
-    ensures ok { OnOk result (ReadsJoined macros.now level (map lexeme_of list.now) progress.old progress.new) }
-    ensures err { IfErr result (UnlessMemory (FailsJoined macros.now level (map lexeme_of list.now) progress.old)) }
+    ensures ok { OnOk result (ReadsJoined macros.now level (map read_lexeme list.now) progress.old progress.new) }
+    ensures err { IfErr result (UnlessMemory (FailsJoined macros.now level (map read_lexeme list.now) progress.old)) }
 {
     if !has_tilde(list) {
         return read_joined(alloc, macros, level, list, progress);
     }
     let joined = join(alloc, macros, list)?;
     let tokens = joined.tokens(alloc)?;
-    read_joined(alloc, &*macros, level, &tokens, progress)
+    read_joined(alloc, macros, level, &tokens, progress)
 }
 
 /// Reads a joined list: keeps the tokens that stay, and expands the calls.
 #[cycle(expansion)]
-fn read_joined<'a>(
+fn read_joined<'t, 'j>(
     alloc: Global,
-    macros: &MarkedMacros<'a>,
+    macros: &MarkedMacros<'t>,
     level: usize,
-    list: &'a [Token<'a>],
-    progress: &mut Progress,
+    list: &'j [ReadToken<'t, 'j>],
+    progress: &mut Progress<'t>,
 ) -> Result<(), MacroError>
     requires level { level ≤ MAX_LEVEL }
     requires within { IsWithinLimits progress.old }
     requires marked { All (IsMarked macros.now) list.now }
-    ensures ok { OnOk result (ReadsOn macros.now level (map lexeme_of list.now) progress.old progress.new) }
+    ensures ok { OnOk result (ReadsOn macros.now level (map read_lexeme list.now) progress.old progress.new) }
     ensures err { IfErr result (UnlessMemory (FailsReading macros.now level progress.old.read
-        (length progress.old.kept) (map lexeme_of list.now))) }
+        (length progress.old.kept) (map read_lexeme list.now))) }
 {
     let mut at = 0;
     while at < list.len() {
@@ -152,7 +153,7 @@ fn read_joined<'a>(
             }
             Some((body, len)) => {
                 progress.count(body.len());
-                read_list(alloc, &*macros, level + 1, &body, progress)?;
+                read_list(alloc, macros, level + 1, &body, progress)?;
                 at += len + 1;
             }
         }
@@ -161,11 +162,11 @@ fn read_joined<'a>(
 }
 
 /// Expands a section. Its tokens are kept after those of the earlier sections.
-fn read_section<'a>(
+fn read_section<'t>(
     alloc: Global,
-    macros: &MarkedMacros<'a>,
-    section: &SectionBody<'a>,
-    progress: &mut Progress,
+    macros: &MarkedMacros<'t>,
+    section: &SectionBody<'t, '_>,
+    progress: &mut Progress<'t>,
 ) -> Result<SectionSpan, MacroError>
     requires { IsWithinLimits progress.old }
     ensures ok { IfOk result (ReadsSection macros.now (section_of section.now) progress.old progress.new) }
@@ -178,7 +179,7 @@ fn read_section<'a>(
     let tokens = macros.mark_all(alloc, section.tokens)?;
     let start = progress.kept.len();
     progress.count(tokens.len());
-    read_list(alloc, &*macros, 0, &tokens, progress)?;
+    read_list(alloc, macros, 0, &tokens, progress)?;
     Ok(SectionSpan {
         kind: section.kind,
         at: section.at,
@@ -188,13 +189,12 @@ fn read_section<'a>(
 }
 
 /// Expands the sections one by one, and returns the tokens that were kept and where each section's tokens are among
-/// them. The bytes of a token that is in the text are not copied a second time.
-fn expand_sections<'a>(
+/// them. Only the bytes of joined tokens are copied.
+fn expand_sections<'t>(
     alloc: Global,
-    text: &[u8],
-    macros: &MarkedMacros<'a>,
-    bodies: &[SectionBody<'a>],
-) -> Result<(TokenBuffer, Vec<SectionSpan>), MacroError>
+    macros: &MarkedMacros<'t>,
+    bodies: &[SectionBody<'t, '_>],
+) -> Result<(TokenBuffer<'t>, Vec<SectionSpan>), MacroError>
     ensures within { IfOk result (λ x. All (IsSectionWithin (length x.0)) x.1.items) }
     ensures ok { IfOk result (λ x. ExpandsWithin macros.now (map section_of bodies.now)
         (map (section_in x.0) x.1.items)) }
@@ -202,7 +202,7 @@ fn expand_sections<'a>(
 {
     let mut progress = Progress {
         read: 0,
-        kept: TokenBuffer::with_text(alloc, text)?,
+        kept: TokenBuffer::new(alloc),
     };
     let mut sections = Vec::with_capacity(alloc, bodies.len())?;
     for body in bodies {
@@ -213,13 +213,13 @@ fn expand_sections<'a>(
 }
 
 /// The sections that the tokens define, expanded: each macro call is replaced by the macro's body with
-/// the call's arguments, and `~` joins the tokens beside it.
-pub fn expand(alloc: Global, tokens: &Tokens<'_>) -> Result<Source, MacroError>
+/// the call's arguments, and `~` joins the tokens beside it. The source borrows the text, and not the tokens.
+pub fn expand<'t>(alloc: Global, tokens: &Tokens<'t>) -> Result<Source<'t>, MacroError>
     ensures sections { IfOk result (HasSections tokens.now) }
     ensures fault { IfErr result (HasMacroFault tokens.now) }
 {
     let definitions = read_definitions(alloc, tokens.as_slice())?;
     let macros = MarkedMacros::new(alloc, definitions.macros)?;
-    let (kept, sections) = expand_sections(alloc, tokens.text(), &macros, &definitions.sections)?;
+    let (kept, sections) = expand_sections(alloc, &macros, &definitions.sections)?;
     Ok(Source::new(kept, sections))
 }

@@ -3,17 +3,20 @@ ghost use Rattle.std.specs.Prelude.{ℕ, ◌≡◌, ◌+◌, ◌<◌, ◌≤◌,
 ghost use Rattle.std.specs.Prelude.{All, MatchOption, IfOk, OnOk};
 ghost use Rattle.rbg_macro.specs.Macro.{Macro, filled, filled_piece};
 ghost use Rattle.rbg_macro.specs.internal.Marks.{AreMarkedLists, FillsMarks, IsMarked, IsMarkedPiece};
+ghost use Rattle.rbg_macro.specs.internal.ReadTokens.{read_lexeme};
 ghost use Rattle.rbg_macro.specs.internal.Template.{piece_in, lists_in};
-ghost use Rattle.rbg_macro.specs.Token.{lexeme_of};
 
 use crate::macros::Piece;
-use crate::token::Token;
+use crate::read_token::ReadToken;
 use rbg_base::Memory;
 use std::alloc::Global;
 
 /// The argument with this index, or no tokens.
-fn argument_at<'a>(arguments: &[&'a [Token<'a>]], index: usize) -> &'a [Token<'a>]
-    ensures tokens { map lexeme_of result.now ≡ unwrap_or (slice_get (lists_in arguments.now) index) [] }
+fn argument_at<'t, 'j>(
+    arguments: &[&'j [ReadToken<'t, 'j>]],
+    index: usize,
+) -> &'j [ReadToken<'t, 'j>]
+    ensures tokens { map read_lexeme result.now ≡ unwrap_or (slice_get (lists_in arguments.now) index) [] }
     ensures marks { (macros : List Macro) → AreMarkedLists macros arguments.now → All (IsMarked macros) result.now }
 {
     if index < arguments.len() {
@@ -23,7 +26,7 @@ fn argument_at<'a>(arguments: &[&'a [Token<'a>]], index: usize) -> &'a [Token<'a
 }
 
 /// How many tokens a piece becomes.
-fn piece_len<'a>(piece: &Piece<'a>, arguments: &[&'a [Token<'a>]]) -> usize
+fn piece_len<'t, 'j>(piece: &Piece<'t>, arguments: &[&'j [ReadToken<'t, 'j>]]) -> usize
     ensures { result ≡ length (filled_piece (lists_in arguments.now) (piece_in piece.now)) }
 {
     match piece {
@@ -33,9 +36,9 @@ fn piece_len<'a>(piece: &Piece<'a>, arguments: &[&'a [Token<'a>]]) -> usize
 }
 
 /// How many tokens the body becomes, if there is room for them.
-pub(crate) fn filled_len<'a>(
-    body: &[Piece<'a>],
-    arguments: &[&'a [Token<'a>]],
+pub(crate) fn filled_len<'t, 'j>(
+    body: &[Piece<'t>],
+    arguments: &[&'j [ReadToken<'t, 'j>]],
     room: usize,
 ) -> Option<usize>
     ensures { MatchOption result (room < length (filled (map piece_in body.now) (lists_in arguments.now)))
@@ -53,12 +56,12 @@ pub(crate) fn filled_len<'a>(
 }
 
 /// Adds what a piece becomes.
-fn push_piece<'a>(
-    tokens: &mut Vec<Token<'a>>,
-    piece: &Piece<'a>,
-    arguments: &[&'a [Token<'a>]],
+fn push_piece<'t, 'j>(
+    tokens: &mut Vec<ReadToken<'t, 'j>>,
+    piece: &Piece<'t>,
+    arguments: &[&'j [ReadToken<'t, 'j>]],
 ) -> Result<(), Memory>
-    ensures tokens { OnOk result (map lexeme_of tokens.new.items ≡ map lexeme_of tokens.old.items ++ filled_piece
+    ensures tokens { OnOk result (map read_lexeme tokens.new.items ≡ map read_lexeme tokens.old.items ++ filled_piece
         (lists_in arguments.now) (piece_in piece.now)) }
     ensures marks { OnOk result ((macros : List Macro) → All (IsMarked macros) tokens.old.items →
         IsMarkedPiece macros piece.now → AreMarkedLists macros arguments.now → All (IsMarked macros) tokens.new.items) }
@@ -71,14 +74,14 @@ fn push_piece<'a>(
 }
 
 /// The body with the arguments put in, which has `len` tokens.
-pub(crate) fn fill<'a>(
+pub(crate) fn fill<'t, 'j>(
     alloc: Global,
-    body: &[Piece<'a>],
-    arguments: &[&'a [Token<'a>]],
+    body: &[Piece<'t>],
+    arguments: &[&'j [ReadToken<'t, 'j>]],
     len: usize,
-) -> Result<Vec<Token<'a>>, Memory>
+) -> Result<Vec<ReadToken<'t, 'j>>, Memory>
     ensures tokens { IfOk result (λ v.
-        map lexeme_of v.items ≡ filled (map piece_in body.now) (lists_in arguments.now)) }
+        map read_lexeme v.items ≡ filled (map piece_in body.now) (lists_in arguments.now)) }
     ensures marks { IfOk result (λ v. FillsMarks body.now arguments.now v.items) }
 {
     let mut tokens = Vec::with_capacity(alloc, len)?;

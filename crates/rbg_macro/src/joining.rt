@@ -6,36 +6,38 @@ ghost use Rattle.rbg_macro.specs.Errors.{UnlessMemory};
 ghost use Rattle.rbg_macro.specs.internal.Joined.{AddsChain, JoinsNext, JoinsChain, FailsChain, IsJoinedWithin};
 ghost use Rattle.rbg_macro.specs.internal.Joined.{begins_with_tilde, joined_word, word_at};
 ghost use Rattle.rbg_macro.specs.internal.Marks.{IsMarked, IsMarkedWord, word_of, lexeme_in_word};
+ghost use Rattle.rbg_macro.specs.internal.ReadTokens.{read_lexeme};
 ghost use Rattle.rbg_macro.specs.internal.Span.{lexeme_in, IsSpanWithin};
 ghost use Rattle.rbg_macro.specs.Joining.{joined, joined_from, joined_kind};
 ghost use Rattle.rbg_macro.specs.Kinds.{is_tilde};
-ghost use Rattle.rbg_macro.specs.Token.{Lexeme, lexeme_of};
+ghost use Rattle.rbg_macro.specs.Token.{Lexeme};
 
 use crate::buffer::Span;
 use crate::error::MacroError;
 use crate::limits::MAX_JOINED;
 use crate::marking::MarkedMacros;
-use crate::token::{Token, TokenKind};
+use crate::read_token::{Bytes, ReadToken};
+use crate::token::TokenKind;
 use rbg_base::Memory;
 use std::alloc::Global;
 use std::marker::Model;
 
 /// A token that stayed as it was, or one that was joined, whose bytes are in a buffer.
 #[derive(Clone, Copy, Debug)]
-pub(crate) enum JoinedToken<'a> {
-    Single(Token<'a>),
+pub(crate) enum JoinedToken<'t, 'j> {
+    Single(ReadToken<'t, 'j>),
     /// With the number of the macro that it names.
     Joined(Span, Option<usize>),
 }
 
 /// A joined list, with the texts of its joined tokens.
 #[derive(Drop)]
-pub(crate) struct JoinedList<'a> {
+pub(crate) struct JoinedList<'t, 'j> {
     texts: Vec<u8>,
-    tokens: Vec<JoinedToken<'a>>,
+    tokens: Vec<JoinedToken<'t, 'j>>,
 }
 
-impl<'a> Model for JoinedList<'a> {
+impl<'t, 'j> Model for JoinedList<'t, 'j> {
     ghost use Rattle.std.specs.Prelude.{List, map, All};
     ghost use Rattle.rbg_macro.specs.internal.Marks.{Word};
 
@@ -60,8 +62,8 @@ fn joined_kind(left: TokenKind, right: TokenKind) -> Option<TokenKind>
 }
 
 /// Whether the first token is `~`.
-pub(crate) fn begins_with_tilde(tokens: &[Token<'_>]) -> bool
-    ensures { result ≡ begins_with_tilde (map lexeme_of tokens.now) }
+pub(crate) fn begins_with_tilde(tokens: &[ReadToken<'_, '_>]) -> bool
+    ensures { result ≡ begins_with_tilde (map read_lexeme tokens.now) }
 {
     match tokens.first() {
         Some(token) => token.kind.is_tilde(),
@@ -74,15 +76,15 @@ fn join_next(
     texts: &mut Vec<u8>,
     start: usize,
     kind: TokenKind,
-    tokens: &[Token<'_>],
+    tokens: &[ReadToken<'_, '_>],
 ) -> Result<TokenKind, MacroError>
     requires start { start ≤ length texts.old.items }
-    requires tilde { IsTrue (begins_with_tilde (map lexeme_of tokens.now)) }
+    requires tilde { IsTrue (begins_with_tilde (map read_lexeme tokens.now)) }
     ensures ok { IfOk result (λ k. JoinsNext kind k (drop start texts.old.items) (drop start texts.new.items)
-        (map lexeme_of tokens.now)) }
+        (map read_lexeme tokens.now)) }
     ensures front { take (length texts.old.items) texts.new.items ≡ texts.old.items }
     ensures err { IfErr result (UnlessMemory (λ e. (at : ℕ) →
-        joined_from (word_at at kind (drop start texts.old.items)) (map lexeme_of tokens.now) ≡ Err e)) }
+        joined_from (word_at at kind (drop start texts.old.items)) (map read_lexeme tokens.now) ≡ Err e)) }
 {
     let at = tokens[0].at;
     if tokens.len() == 1 {
@@ -92,26 +94,30 @@ fn join_next(
     let Some(joined) = joined_kind(kind, right.kind) else {
         return Err(MacroError::BadJoin { at });
     };
-    let len = (texts.len() - start).saturating_add(right.text.len());
+    let bytes = right.text();
+    let len = (texts.len() - start).saturating_add(bytes.len());
     if len > MAX_JOINED {
         return Err(MacroError::BadJoin { at });
     }
-    texts.extend_from_slice(right.text)?;
+    texts.extend_from_slice(bytes)?;
     Ok(joined)
 }
 
 /// Joins the first token with those that follow, each after a `~`. Adds the word's bytes to the texts, and returns its
 /// kind and the number of tokens that it took.
-fn join_chain(texts: &mut Vec<u8>, tokens: &[Token<'_>]) -> Result<(TokenKind, usize), MacroError>
+fn join_chain(
+    texts: &mut Vec<u8>,
+    tokens: &[ReadToken<'_, '_>],
+) -> Result<(TokenKind, usize), MacroError>
     requires { 0 < length tokens.now }
-    ensures ok { IfOk result (λ x. JoinsChain (map lexeme_of tokens.now) x.0
+    ensures ok { IfOk result (λ x. JoinsChain (map read_lexeme tokens.now) x.0
         (drop (length texts.old.items) texts.new.items) x.1) }
     ensures front { take (length texts.old.items) texts.new.items ≡ texts.old.items }
-    ensures err { IfErr result (UnlessMemory (λ e. FailsChain (map lexeme_of tokens.now) e)) }
+    ensures err { IfErr result (UnlessMemory (λ e. FailsChain (map read_lexeme tokens.now) e)) }
 {
     let start = texts.len();
     let first = tokens[0];
-    texts.extend_from_slice(first.text)?;
+    texts.extend_from_slice(first.text())?;
     let mut kind = first.kind;
     let mut count = 1;
     while begins_with_tilde(&tokens[count..]) {
@@ -121,7 +127,7 @@ fn join_chain(texts: &mut Vec<u8>, tokens: &[Token<'_>]) -> Result<(TokenKind, u
     Ok((kind, count))
 }
 
-impl<'a> JoinedList<'a> {
+impl<'t, 'j> JoinedList<'t, 'j> {
     fn new(alloc: Global) -> Self
         ensures { result ≡ [] }
     {
@@ -132,7 +138,7 @@ impl<'a> JoinedList<'a> {
     }
 
     /// Adds a token that stays as it is.
-    fn push(&mut self, token: Token<'a>) -> Result<(), Memory>
+    fn push(&mut self, token: ReadToken<'t, 'j>) -> Result<(), Memory>
         ensures { OnOk result (self.new ≡ self.old ++ word_of token.entry ∷ []) }
     {
         self.tokens.push(JoinedToken::Single(token))?;
@@ -144,13 +150,13 @@ impl<'a> JoinedList<'a> {
     fn push_chain(
         &mut self,
         macros: &MarkedMacros<'_>,
-        tokens: &[Token<'_>],
+        tokens: &[ReadToken<'_, '_>],
     ) -> Result<usize, MacroError>
         requires { 0 < length tokens.now }
         ensures ok { IfOk result (AddsChain (map lexeme_in_word self.old) (map lexeme_in_word self.new)
-            (map lexeme_of tokens.now)) }
+            (map read_lexeme tokens.now)) }
         ensures marks { OnOk result (All (IsMarkedWord macros.now) self.old → All (IsMarkedWord macros.now) self.new) }
-        ensures err { IfErr result (UnlessMemory (λ e. FailsChain (map lexeme_of tokens.now) e)) }
+        ensures err { IfErr result (UnlessMemory (λ e. FailsChain (map read_lexeme tokens.now) e)) }
     {
         let at = tokens[0].at;
         let start = self.texts.len();
@@ -169,7 +175,7 @@ impl<'a> JoinedList<'a> {
     }
 
     /// The tokens of the list, which borrow its texts.
-    pub(crate) fn tokens(&self, alloc: Global) -> Result<Vec<Token<'_>>, Memory>
+    pub(crate) fn tokens<'s>(&'s self, alloc: Global) -> Result<Vec<ReadToken<'t, 's>>, Memory>
         ensures { IfOk result (λ v. map word_of v.items ≡ self.now) }
     {
         let mut tokens = Vec::with_capacity(alloc, self.tokens.len())?;
@@ -181,13 +187,13 @@ impl<'a> JoinedList<'a> {
 }
 
 /// The token itself, or the one whose bytes are in the texts.
-fn resolve<'s>(token: &JoinedToken<'s>, texts: &'s [u8]) -> Token<'s>
+fn resolve<'t, 's>(token: &JoinedToken<'t, 's>, texts: &'s [u8]) -> ReadToken<'t, 's>
     requires { IsJoinedWithin texts.now token.now }
     ensures { word_of result ≡ joined_word texts.now token.now }
 {
     match token {
         JoinedToken::Single(token) => *token,
-        JoinedToken::Joined(span, number) => Token {
+        JoinedToken::Joined(span, number) => ReadToken {
             macro_number: *number,
             ..token_at(span, texts)
         },
@@ -195,26 +201,26 @@ fn resolve<'s>(token: &JoinedToken<'s>, texts: &'s [u8]) -> Token<'s>
 }
 
 /// The token whose bytes are at a place of the texts.
-fn token_at<'s>(span: &Span, texts: &'s [u8]) -> Token<'s>
+fn token_at<'t, 's>(span: &Span, texts: &'s [u8]) -> ReadToken<'t, 's>
     requires { IsSpanWithin texts.now span.now }
-    ensures { lexeme_of result ≡ lexeme_in texts.now span.now }
+    ensures { read_lexeme result ≡ lexeme_in texts.now span.now }
 {
-    Token {
+    ReadToken {
         kind: span.kind,
-        text: &texts[span.start..span.end],
+        bytes: Bytes::Joined(&texts[span.start..span.end]),
         at: span.at,
         macro_number: None,
     }
 }
 
 /// The list, joined over its whole length from the left.
-pub(crate) fn join<'a>(
+pub(crate) fn join<'t, 'j>(
     alloc: Global,
     macros: &MarkedMacros<'_>,
-    list: &'a [Token<'a>],
-) -> Result<JoinedList<'a>, MacroError>
+    list: &[ReadToken<'t, 'j>],
+) -> Result<JoinedList<'t, 'j>, MacroError>
     requires { All (IsMarked macros.now) list.now }
-    ensures joined { Gives (map lexeme_in_word) result (joined (map lexeme_of list.now)) }
+    ensures joined { Gives (map lexeme_in_word) result (joined (map read_lexeme list.now)) }
     ensures marked { IfOk result (All (IsMarkedWord macros.now)) }
 {
     let mut joined = JoinedList::new(alloc);

@@ -42,19 +42,14 @@ pub fn tokens(alloc: Global, text: &[u8]) -> Result<Tokens<'_>, TextError>
             Part::Skipped(len) => at += len,
             Part::Token(kind, len) => {
                 let text = &rest[..len];
-                tokens.push(Token {
-                    kind,
-                    text,
-                    at,
-                    macro_number: None,
-                })?;
+                tokens.push(Token { kind, text, at })?;
                 at += len;
             }
             Part::ZeroByte => return Err(TextError::ZeroByte),
             Part::BadByte => return Err(TextError::BadByte { at }),
         }
     }
-    Ok(Tokens::new(text, tokens))
+    Ok(Tokens::new(tokens))
 }
 
 /// What the bytes begin with.

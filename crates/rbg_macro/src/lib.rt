@@ -13,6 +13,7 @@ mod lexer;
 mod limits;
 mod macros;
 mod marking;
+mod read_token;
 mod source;
 mod token;
 

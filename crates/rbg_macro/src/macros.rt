@@ -7,8 +7,10 @@ ghost use Rattle.std.specs.Str.{bytes_eq};
 ghost use Rattle.rbg_macro.specs.Macro.{macro_named, piece_of, body_of};
 ghost use Rattle.rbg_macro.specs.internal.Template.{macro_of, piece_in, texts_in};
 ghost use Rattle.rbg_macro.specs.internal.Marks.{IsNumberOf, IsTemplateAt};
+ghost use Rattle.rbg_macro.specs.internal.ReadTokens.{read_lexeme};
 ghost use Rattle.rbg_macro.specs.Token.{lexeme_of};
 
+use crate::read_token::ReadToken;
 use crate::token::Token;
 use indexmap::{IndexMap, IndexSet};
 use rbg_base::Memory;
@@ -17,25 +19,25 @@ use std::marker::Model;
 
 /// What a macro's body is made of: its own tokens, and the places where an argument is put.
 #[derive(Clone, Copy, Debug)]
-pub(crate) enum Piece<'a> {
-    Word(Token<'a>),
+pub(crate) enum Piece<'t> {
+    Word(ReadToken<'t, 't>),
     Place(usize),
 }
 
 /// How many parameters a macro has, and its body.
 #[derive(Debug, Drop)]
-pub(crate) struct Template<'a> {
+pub(crate) struct Template<'t> {
     pub(crate) parameters: usize,
-    pub(crate) body: Vec<Piece<'a>>,
+    pub(crate) body: Vec<Piece<'t>>,
 }
 
 /// The macros by name, in order of the text.
 #[derive(Drop)]
-pub(crate) struct Macros<'a> {
-    by_name: IndexMap<&'a [u8], Template<'a>>,
+pub(crate) struct Macros<'t> {
+    by_name: IndexMap<&'t [u8], Template<'t>>,
 }
 
-impl<'a> Model for Macros<'a> {
+impl<'t> Model for Macros<'t> {
     ghost use Rattle.std.specs.Prelude.{List, map};
     ghost use Rattle.rbg_macro.specs.Macro.{Macro};
 
@@ -46,12 +48,12 @@ impl<'a> Model for Macros<'a> {
     ghost view = { λ m. map macro_in m.by_name.entries };
 }
 
-impl<'a> Template<'a> {
+impl<'t> Template<'t> {
     /// The template of a macro with these parameters and this body.
     pub(crate) fn new(
         alloc: Global,
-        parameters: &IndexSet<&'a [u8]>,
-        tokens: &'a [Token<'a>],
+        parameters: &IndexSet<&'t [u8]>,
+        tokens: &[Token<'t>],
     ) -> Result<Self, Memory>
         ensures parameters { IfOk result (λ t. t.parameters ≡ length (texts_in parameters.now.keys)) }
         ensures body { IfOk result (λ t. map piece_in t.body.items ≡ body_of (texts_in parameters.now.keys)
@@ -69,19 +71,19 @@ impl<'a> Template<'a> {
 }
 
 /// What the token is in the body of a macro with these parameters.
-fn word_or_place<'a>(parameters: &IndexSet<&'a [u8]>, token: &Token<'a>) -> Piece<'a>
+fn word_or_place<'t>(parameters: &IndexSet<&'t [u8]>, token: &Token<'t>) -> Piece<'t>
     ensures { piece_in result ≡ piece_of (texts_in parameters.now.keys) (lexeme_of token.now) }
 {
     if !token.kind.is_name() {
-        return Piece::Word(*token);
+        return Piece::Word(ReadToken::of_text(token));
     }
     match parameters.get_index_of(token.text) {
         Some(index) => Piece::Place(index),
-        None => Piece::Word(*token),
+        None => Piece::Word(ReadToken::of_text(token)),
     }
 }
 
-impl<'a> Macros<'a> {
+impl<'t> Macros<'t> {
     pub(crate) fn new(alloc: Global) -> Self
         ensures { result ≡ [] }
     {
@@ -98,7 +100,7 @@ impl<'a> Macros<'a> {
     }
 
     /// Adds a macro of a new name.
-    pub(crate) fn insert(&mut self, name: &'a [u8], template: Template<'a>) -> Result<(), Memory>
+    pub(crate) fn insert(&mut self, name: &'t [u8], template: Template<'t>) -> Result<(), Memory>
         requires { IsFalse (list_any (λ m. bytes_eq name.now m.name) self.old) }
         ensures { OnOk result (self.new ≡ self.old ++ macro_of name.now template.entry ∷ []) }
     {
@@ -107,18 +109,18 @@ impl<'a> Macros<'a> {
     }
 
     /// The number of the macro that the token names. It costs the token's bytes.
-    pub(crate) fn number_of(&self, token: &Token<'_>) -> Option<usize>
-        ensures { MatchOption result (macro_named self.now (lexeme_of token.now) ≡ None)
-            (IsNumberOf self.now (lexeme_of token.now)) }
+    pub(crate) fn number_of(&self, token: &ReadToken<'_, '_>) -> Option<usize>
+        ensures { MatchOption result (macro_named self.now (read_lexeme token.now) ≡ None)
+            (IsNumberOf self.now (read_lexeme token.now)) }
     {
         if token.kind.is_name() {
-            return self.by_name.get_index_of(token.text);
+            return self.by_name.get_index_of(token.text());
         }
         None
     }
 
     /// The template of the macro with this number.
-    pub(crate) fn template(&self, number: usize) -> Option<&Template<'a>>
+    pub(crate) fn template(&self, number: usize) -> Option<&Template<'t>>
         ensures { MatchOption result (length self.now ≤ number) (λ t. IsTemplateAt self.now number t.now) }
     {
         match self.by_name.get_index(number) {

@@ -3,10 +3,12 @@
 ghost use Rattle.std.specs.Prelude.{◌≡◌, ◌≤◌, List, length, map, None, Some, MatchOption, IfOk, IfSome, All};
 ghost use Rattle.rbg_macro.specs.Macro.{macro_named};
 ghost use Rattle.rbg_macro.specs.internal.Marks.{IsMarked, IsMarkedPiece, IsMarkedTemplate};
+ghost use Rattle.rbg_macro.specs.internal.ReadTokens.{read_lexeme};
 ghost use Rattle.rbg_macro.specs.internal.Template.{piece_in, IsNamed};
 ghost use Rattle.rbg_macro.specs.Token.{lexeme_of};
 
 use crate::macros::{Macros, Piece, Template};
+use crate::read_token::ReadToken;
 use crate::token::Token;
 use rbg_base::Memory;
 use std::alloc::Global;
@@ -14,12 +16,12 @@ use std::marker::Model;
 
 /// The macros, with the tokens of their bodies marked.
 #[derive(Drop)]
-pub(crate) struct MarkedMacros<'a> {
-    macros: Macros<'a>,
-    templates: Vec<Template<'a>>,
+pub(crate) struct MarkedMacros<'t> {
+    macros: Macros<'t>,
+    templates: Vec<Template<'t>>,
 }
 
-impl<'a> Model for MarkedMacros<'a> {
+impl<'t> Model for MarkedMacros<'t> {
     ghost use Rattle.std.specs.Prelude.{List};
     ghost use Rattle.rbg_macro.specs.Macro.{Macro};
 
@@ -33,20 +35,20 @@ impl<'a> Model for MarkedMacros<'a> {
     ghost invariant = { λ m. AllZip (IsMarkedTemplate m.macros) m.macros m.templates.items };
 }
 
-impl<'a> Macros<'a> {
+impl<'t> Macros<'t> {
     /// The token with its mark.
-    pub(crate) fn mark<'b>(&self, token: &Token<'b>) -> Token<'b>
-        ensures token { lexeme_of result ≡ lexeme_of token.now }
+    pub(crate) fn mark<'a, 'j>(&self, token: &ReadToken<'a, 'j>) -> ReadToken<'a, 'j>
+        ensures token { read_lexeme result ≡ read_lexeme token.now }
         ensures marked { IsMarked self.now result }
     {
-        Token {
+        ReadToken {
             macro_number: self.number_of(token),
             ..*token
         }
     }
 
     /// The piece with its mark.
-    fn mark_piece(&self, piece: &Piece<'a>) -> Piece<'a>
+    fn mark_piece(&self, piece: &Piece<'t>) -> Piece<'t>
         ensures piece { piece_in result ≡ piece_in piece.now }
         ensures marked { IsMarkedPiece self.now result }
     {
@@ -57,7 +59,7 @@ impl<'a> Macros<'a> {
     }
 
     /// The template with marks.
-    fn mark_template(&self, alloc: Global, template: &Template<'a>) -> Result<Template<'a>, Memory>
+    fn mark_template(&self, alloc: Global, template: &Template<'t>) -> Result<Template<'t>, Memory>
         ensures parameters { IfOk result (λ t. t.parameters ≡ template.now.parameters) }
         ensures body { IfOk result (λ t. map piece_in t.body.items ≡ map piece_in template.now.body.items) }
         ensures marked { IfOk result (λ t. All (IsMarkedPiece self.now) t.body.items) }
@@ -73,9 +75,9 @@ impl<'a> Macros<'a> {
     }
 }
 
-impl<'a> MarkedMacros<'a> {
+impl<'t> MarkedMacros<'t> {
     /// The macros, marked.
-    pub(crate) fn new(alloc: Global, macros: Macros<'a>) -> Result<Self, Memory>
+    pub(crate) fn new(alloc: Global, macros: Macros<'t>) -> Result<Self, Memory>
         ensures { IfOk result (λ m. m ≡ macros.entry) }
     {
         let mut templates = Vec::new(alloc);
@@ -87,34 +89,34 @@ impl<'a> MarkedMacros<'a> {
     }
 
     /// The token with its mark.
-    pub(crate) fn mark<'b>(&self, token: &Token<'b>) -> Token<'b>
-        ensures token { lexeme_of result ≡ lexeme_of token.now }
+    pub(crate) fn mark<'a, 'j>(&self, token: &ReadToken<'a, 'j>) -> ReadToken<'a, 'j>
+        ensures token { read_lexeme result ≡ read_lexeme token.now }
         ensures marked { IsMarked self.now result }
     {
         self.macros.mark(token)
     }
 
     /// The tokens with their marks.
-    pub(crate) fn mark_all<'b>(
+    pub(crate) fn mark_all<'a>(
         &self,
         alloc: Global,
-        tokens: &[Token<'b>],
-    ) -> Result<Vec<Token<'b>>, Memory>
-        ensures tokens { IfOk result (λ v. map lexeme_of v.items ≡ map lexeme_of tokens.now) }
+        tokens: &[Token<'a>],
+    ) -> Result<Vec<ReadToken<'a, 'a>>, Memory>
+        ensures tokens { IfOk result (λ v. map read_lexeme v.items ≡ map lexeme_of tokens.now) }
         ensures marked { IfOk result (λ v. All (IsMarked self.now) v.items) }
     {
         let mut marked = Vec::with_capacity(alloc, tokens.len())?;
         for token in tokens {
-            marked.push(self.mark(token))?;
+            marked.push(self.mark(&ReadToken::of_text(token)))?;
         }
         Ok(marked)
     }
 
     /// The macro that the token names, whatever the length of its name.
-    pub(crate) fn get(&self, token: &Token<'_>) -> Option<&Template<'a>>
+    pub(crate) fn get(&self, token: &ReadToken<'_, '_>) -> Option<&Template<'t>>
         requires { IsMarked self.now token.now }
-        ensures named { MatchOption result (macro_named self.now (lexeme_of token.now) ≡ None)
-            (λ t. IsNamed self.now (lexeme_of token.now) t.now) }
+        ensures named { MatchOption result (macro_named self.now (read_lexeme token.now) ≡ None)
+            (λ t. IsNamed self.now (read_lexeme token.now) t.now) }
         ensures marked { IfSome result (λ t. All (IsMarkedPiece self.now) t.now.body.items) }
     {
         match token.macro_number {

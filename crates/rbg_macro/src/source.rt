@@ -1,4 +1,4 @@
-//! The expanded sections of a description, which own the texts of their tokens.
+//! The expanded sections of a description, which share its text and own what macros joined.
 ghost use Rattle.std.specs.Prelude.{◌≡◌, ◌<◌, ◌==◌, IsTrue, Some, length, slice_get};
 ghost use Rattle.rbg_base.specs.Names.{is_name};
 ghost use Rattle.rbg_macro.specs.Spelling.{is_number};
@@ -41,14 +41,14 @@ pub(crate) struct SectionSpan {
     pub(crate) end: usize,
 }
 
-/// The sections of a description in order of the text, with their macros expanded.
+/// The sections of a description in order of the text, with their macros expanded. They borrow the text.
 #[derive(Debug, Drop)]
-pub struct Source {
-    tokens: TokenBuffer,
+pub struct Source<'t> {
+    tokens: TokenBuffer<'t>,
     sections: Vec<SectionSpan>,
 }
 
-impl Model for Source {
+impl<'t> Model for Source<'t> {
     ghost use Rattle.std.specs.Prelude.{List, map, All, length};
     ghost use Rattle.rbg_macro.specs.Token.{SectionTokens};
 
@@ -64,7 +64,7 @@ impl Model for Source {
 /// One section of a source.
 #[derive(Debug, Drop)]
 pub struct Section<'a> {
-    tokens: &'a TokenBuffer,
+    tokens: &'a TokenBuffer<'a>,
     span: SectionSpan,
 }
 
@@ -81,13 +81,13 @@ impl<'a> Model for Section<'a> {
     ghost invariant = { λ s. IsSectionIn s.tokens.now s.span };
 }
 
-impl Source {
+impl<'t> Source<'t> {
     ghost use Rattle.std.specs.Prelude.{◌≡◌, ◌<◌, ◌==◌, All, Some, length, map, slice_get};
     ghost use Rattle.rbg_macro.specs.internal.Span.{section_in, IsSectionIn};
 
-    pub(crate) fn new(tokens: TokenBuffer, sections: Vec<SectionSpan>) -> Self
+    pub(crate) fn new(tokens: TokenBuffer<'t>, sections: Vec<SectionSpan>) -> Self
         requires { All (IsSectionIn tokens) sections.items }
-        ensures { result ≡ map (section_in tokens) sections.items }
+        ensures { result ≡ map (section_in tokens.entry) sections.items }
     {
         Source { tokens, sections }
     }

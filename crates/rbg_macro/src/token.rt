@@ -167,8 +167,6 @@ pub struct Token<'a> {
     pub kind: TokenKind,
     pub text: &'a [u8],
     pub at: usize,
-    /// The number of the macro that it names. It is set while macros are expanded.
-    pub(crate) macro_number: Option<usize>,
 }
 
 impl Token<'_> {
@@ -183,7 +181,6 @@ impl Token<'_> {
 /// The tokens of a text, which they borrow.
 #[derive(Debug, Drop)]
 pub struct Tokens<'a> {
-    text: &'a [u8],
     tokens: Vec<Token<'a>>,
 }
 
@@ -206,16 +203,11 @@ impl<'a> Tokens<'a> {
     ghost use Rattle.rbg_macro.specs.Spelling.{IsLexeme};
     ghost use Rattle.rbg_macro.specs.Token.{lexeme_of};
 
-    pub(crate) fn new(text: &'a [u8], tokens: Vec<Token<'a>>) -> Self
+    pub(crate) fn new(tokens: Vec<Token<'a>>) -> Self
         requires { All IsLexeme (map lexeme_of tokens.items) }
         ensures { result ≡ map lexeme_of tokens.entry.items }
     {
-        Tokens { text, tokens }
-    }
-
-    /// The text that they were cut from. It saves copies, and no contract rests on it.
-    pub(crate) fn text(&self) -> &'a [u8] {
-        self.text
+        Tokens { tokens }
     }
 
     /// The tokens in order of the text.

@@ -1,32 +1,29 @@
 -- Names of the language are ASCII, and so texts; lists of different names.
-use Rattle.std.proofs.Common.{◌≡◌, ℕ, zero, suc, ◌<◌, List, [], ◌∷◌, ◌++◌, ◌⊎◌, inl, inr, true, Bool, ◌||◌, Some, None, length, get_or, refl, sym, ◌∙◌, ap, arith, slice_get}
-use Rattle.std.proofs.Common.{Vec, Option, option_map, MatchOption, is_some, false}
+use Rattle.std.proofs.Common.{◌≡◌, ℕ, zero, suc, ◌<◌, List, [], ◌∷◌, ◌++◌, ◌⊎◌, inl, inr, true, Bool, Some, None, length, get_or, refl, sym, ◌∙◌, ap, arith, slice_get}
+use Rattle.std.proofs.Common.{Vec, Option, MatchOption, is_some, false, subst, BTreeMap}
+use Rattle.std.specs.BTreeMap.{Updates}
+use Rattle.std.specs.Cmp.{eq_by_cmp_equiv}
+use Rattle.std.specs.Cmp.Lexicographic.{slice_cmp, nat_list_cmp_total, nat_list_eq_equiv}
 use Rattle.std.specs.Global.{Global}
-use Rattle.std.specs.Bool.{Decides}
-use Rattle.std.specs.List.{list_any, position, Contains}
-use Rattle.indexmap.specs.IndexSet.{insert_key}
+use Rattle.std.specs.List.{Contains}
+use Rattle.std.specs.Map.{lookup, IsKeyTest, AreApart, KeepsOthers}
+use Rattle.std.specs.Ordering.{is_eq, nat_cmp}
 use Rattle.std.specs.Str.{IsUtf8, bytes_eq}
 use Rattle.std.proofs.lemmas.Bool.{true≢false}
 use Rattle.std.proofs.lemmas.Bool.Decides.{nat_tests}
 use Rattle.std.proofs.lemmas.Slice.Eq.{bytes_eq-Decides}
-use Rattle.std.proofs.lemmas.List.Quantifiers.{position-Some}
+use Rattle.std.proofs.lemmas.Map.Text.{is_eq-slice_cmp}
 use Rattle.std.proofs.lemmas.List.{length-map, map-append, get_or-map}
 use Rattle.std.proofs.lemmas.List.Elements.{All-push, All-weaker, All-get_or}
 use Rattle.std.proofs.lemmas.List.Sums.{AllPass-from_list_all}
-use Rattle.std.proofs.lemmas.Option.{slice_get-get_or, slice_get-map}
 use Rattle.std.proofs.lemmas.Str.{IsUtf8-from_ascii}
 use Rattle.std.proofs.lemmas.Str.Ascii.{IsAscii-from_all}
 use Rattle.rbg_base.specs.Names.{is_name, is_name_part}
-use Rattle.rbg_base.proofs.CallerLemmas.{name_parts, Contains-from_get, get_from-Contains}
+use Rattle.rbg_base.proofs.CallerLemmas.{name_parts, Contains-from_get, get_from-Contains, slice_get-append_left}
 use Rattle.rbg_rules.specs.LawfulNames.{AreDifferentNames, AreLawfulNames, AreNames}
 use Rattle.rbg_numbering.specs.NameTables.{bytes_of}
-
-differs : (a b : List ℕ) → (a ≡ b → ⊥) → bytes_eq a b ≡ false
-differs a b other = by_test (bytes_eq a b) (bytes_eq-Decides a b)
-  where
-    by_test : (r : Bool) → Decides r (a ≡ b) → r ≡ false
-    by_test true same = absurd (other (same.0 refl))
-    by_test false not_same = refl
+use Rattle.rbg_numbering.specs.internal.Tables.{GivesPlaces, number_for}
+use Rattle.rbg_numbering.proofs.Lists.{slice_get-last}
 
 name_part_is_ascii : (b : ℕ) → is_name_part b ≡ true → b < 128
 name_part_is_ascii b h = grind (arith, nat_tests)
@@ -61,42 +58,41 @@ pub AreLawfulNames-push : (names : List (List ℕ)) (name : List ℕ) → AreLaw
 AreLawfulNames-push names name lawful is new =
     record { names = All-push (λ n. is_name n ≡ true) names name lawful.names is; differ = record { one_number = push_differs names name lawful.differ new } }
 
-either_false : (a b : Bool) → (a || b) ≡ false → (a ≡ false) × (b ≡ false)
-either_false true b h = cc
-either_false false b h = (refl, h)
+apart_in_order : (bs cs ks : List ℕ) → bytes_eq bs cs ≡ false → is_eq (slice_cmp nat_cmp bs ks) ≡ true → is_eq (slice_cmp nat_cmp cs ks) ≡ false
+apart_in_order bs cs ks apart same =
+    is_eq-slice_cmp cs ks ∙ nat_list_eq_equiv.symm cs ks ∙ sym (nat_list_eq_equiv.congr bs ks cs (sym (is_eq-slice_cmp bs ks) ∙ same)) ∙ apart
 
--- A test that no key passes finds no name.
-name_nowhere : (keys : List (Vec ℕ Global)) (text : List ℕ) → list_any (λ k. bytes_eq text k.items) keys ≡ false → (n : ℕ) → slice_get (bytes_of keys) n ≡ Some text → ⊥
-name_nowhere [] text none n is = cc
-name_nowhere (k ∷ ks) text none zero is =
-    let same : text ≡ k.items = cc in
-    let passes : bytes_eq text k.items ≡ true = (bytes_eq-Decides text k.items).1 same in
-    let fails : bytes_eq text k.items ≡ false = (either_false (bytes_eq text k.items) (list_any (λ q. bytes_eq text q.items) ks) none).0 in
-    true≢false (sym passes ∙ fails)
-name_nowhere (k ∷ ks) text none (suc n) is = name_nowhere ks text (either_false (bytes_eq text k.items) (list_any (λ q. bytes_eq text q.items) ks) none).1 n is
+other_entries : {K X : Type 0} (eq : K → K → Bool) (test : K → Bool) (old new : List (K × X)) → KeepsOthers eq test old new → (other : K → Bool) → IsKeyTest eq other → AreApart test other → lookup other new ≡ lookup other old
+unfolding KeepsOthers
+other_entries eq test old new h = h
 
-name_there : (keys : List (Vec ℕ Global)) (text : List ℕ) (n : ℕ) → position (λ k. bytes_eq text k.items) keys ≡ Some n → slice_get (bytes_of keys) n ≡ Some text
-name_there [] text n is = cc
-name_there (k ∷ ks) text n is =
-    let (below, passes, before) = position-Some (λ (q : Vec ℕ Global). bytes_eq text q.items) (k ∷ ks) n k is in
-    let same : text ≡ (get_or (k ∷ ks) n k).items = (bytes_eq-Decides text (get_or (k ∷ ks) n k).items).0 passes in
-    slice_get-map (λ (q : Vec ℕ Global). q.items) (k ∷ ks) n ∙ ap (option_map (λ (q : Vec ℕ Global). q.items)) (slice_get-get_or (k ∷ ks) n k below) ∙ ap Some (sym same)
+-- An entry that is put into the map leaves the numbers of other texts.
+number_for_other : (old new : BTreeMap (Vec ℕ Global) ℕ) (key : Vec ℕ Global) (n : ℕ) → Updates (λ x y. slice_cmp nat_cmp x.items y.items) old new key (Some n) → (text : List ℕ) → bytes_eq key.items text ≡ false → number_for new text ≡ number_for old text
+number_for_other old new key n put text apart =
+    other_entries _ _ old.entries new.entries put.3 (λ k. is_eq (slice_cmp nat_cmp text k.items)) (λ x y. (eq_by_cmp_equiv nat_list_cmp_total).congr text x.items y.items) (λ k. apart_in_order key.items text k.items apart)
 
--- What a look-up among the keys finds.
-pub name_found : (keys : List (Vec ℕ Global)) (text : List ℕ) (found : Option ℕ) → found ≡ position (λ k. bytes_eq text k.items) keys → is_some found ≡ list_any (λ k. bytes_eq text k.items) keys → MatchOption found (¬ Contains (bytes_of keys) text) (λ n. slice_get (bytes_of keys) n ≡ Some text)
-name_found keys text None at any =
-    λ has. let (n, is) = get_from-Contains (bytes_of keys) text has in name_nowhere keys text (sym any) n is
-name_found keys text (Some n) at any = name_there keys text n (sym at)
-
--- A new key goes last.
-pub key_goes_last : (keys new : List (Vec ℕ Global)) (key : Vec ℕ Global) (text : List ℕ) → key.items ≡ text → new ≡ insert_key (λ x y. bytes_eq x.items y.items) keys key → ¬ Contains (bytes_of keys) text → bytes_of new ≡ bytes_of keys ++ text ∷ []
-key_goes_last keys new key text same is absent =
-    let none : list_any (λ k. bytes_eq key.items k.items) keys ≡ false = no_key keys key.items (λ n at. absent (Contains-from_get (bytes_of keys) n text (at ∙ ap Some same))) in
-    ap bytes_of (is ∙ rw none refl) ∙ map-append (λ (k : Vec ℕ Global). k.items) keys (key ∷ []) ∙ ap (λ (t : List ℕ). bytes_of keys ++ t ∷ []) same
+-- A name that is put at the end takes its place there as its number.
+pub GivesPlaces-push : (names : List (List ℕ)) (name : List ℕ) (old new : BTreeMap (Vec ℕ Global) ℕ) (key : Vec ℕ Global) (number : ℕ) → key.items ≡ name → number ≡ length names → Updates (λ x y. slice_cmp nat_cmp x.items y.items) old new key (Some number) → GivesPlaces names old → GivesPlaces (names ++ name ∷ []) new
+GivesPlaces-push names name old new key number same last put places text = by_test (bytes_eq key.items text) refl
   where
-    no_key : (ks : List (Vec ℕ Global)) (t : List ℕ) → ((n : ℕ) → slice_get (bytes_of ks) n ≡ Some t → ⊥) → list_any (λ k. bytes_eq t k.items) ks ≡ false
-    no_key [] t none = refl
-    no_key (k ∷ ks) t none = rw (differs t k.items (λ e. none 0 (ap Some (sym e)))) (no_key ks t (λ n at. none (suc n) at))
+    by_test : (r : Bool) → bytes_eq key.items text ≡ r → MatchOption (number_for new text) (¬ Contains (names ++ name ∷ []) text) (λ n. slice_get (names ++ name ∷ []) n ≡ Some text)
+    by_test true is =
+        let at : name ≡ text = sym same ∙ (bytes_eq-Decides key.items text).0 is in
+        let found : number_for new text ≡ Some (length names) = subst (λ t. number_for new t ≡ Some number) (same ∙ at) put.1 ∙ ap Some last in
+        rw found (slice_get-last names name ∙ ap Some at)
+    by_test false is =
+        rw (number_for_other old new key number put text is) (wider (number_for old text) (places text))
+      where
+        wider : (o : Option ℕ) → MatchOption o (¬ Contains names text) (λ n. slice_get names n ≡ Some text) → MatchOption o (¬ Contains (names ++ name ∷ []) text) (λ n. slice_get (names ++ name ∷ []) n ≡ Some text)
+        wider None absent = λ has. let (n, at) = get_from-Contains (names ++ name ∷ []) text has in
+            elim (slice_get-push_cases names name text n at) [
+              | inl before ↦ absent (Contains-from_get names n text before)
+              | inr end ↦ absurd (true≢false (sym ((bytes_eq-Decides key.items text).1 (same ∙ end.1)) ∙ is))
+            ]
+        wider (Some n) at = slice_get-append_left names (name ∷ []) n text at
+
+pub bytes_of-push : (names : List (Vec ℕ Global)) (name : Vec ℕ Global) (text : List ℕ) → name.items ≡ text → bytes_of (names ++ name ∷ []) ≡ bytes_of names ++ text ∷ []
+bytes_of-push names name text same = map-append (λ (n : Vec ℕ Global). n.items) names (name ∷ []) ∙ ap (λ (t : List ℕ). bytes_of names ++ t ∷ []) same
 
 -- Each key is a name.
 pub key_is_name : (keys : List (Vec ℕ Global)) (i : ℕ) (key : Vec ℕ Global) → AreNames (bytes_of keys) → i < length keys → key ≡ get_or keys i key → is_name key.items ≡ true

@@ -2,3 +2,4 @@
 pub mod Arithmetic
 pub mod Actions
 pub mod Steps
+pub mod Tables

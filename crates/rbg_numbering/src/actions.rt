@@ -26,7 +26,7 @@ pub(crate) fn add_action(
     alloc: Global,
     names: &NameTables<'_>,
     patterns_left: usize,
-    action: &rbg_syntax::Action,
+    action: &rbg_syntax::Action<'_>,
     actions: &mut Vec<Action>,
 ) -> Result<u32, GameError>
     requires plain { is_spelt_pattern (spelt_action_of action.now) ≡ false }
@@ -75,7 +75,7 @@ fn number_action(
     alloc: Global,
     names: &NameTables<'_>,
     patterns_left: usize,
-    action: &rbg_syntax::Action,
+    action: &rbg_syntax::Action<'_>,
 ) -> Result<Action, GameError>
     requires plain { is_spelt_pattern (spelt_action_of action.now) ≡ false }
     requires formed { is_formed_action (spelt_action_of action.now) ≡ true }
@@ -122,7 +122,7 @@ fn number_action(
 }
 
 /// The number of a player, from 1 on. None is the keeper.
-fn number_of_player(table: &NameTable, player: &Option<Name>) -> Result<u16, GameError>
+fn number_of_player(table: &NameTable, player: &Option<Name<'_>>) -> Result<u16, GameError>
     requires { length table.now < 2 ^ 16 }
     ensures number { IfOk result (IsPlayer table.now (option_map name_of player.now)) }
     ensures fault { IfErr result (HasLookUpFault table.now (player_names (option_map name_of player.now))) }

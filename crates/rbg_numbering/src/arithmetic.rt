@@ -21,7 +21,7 @@ use std::alloc::Global;
 pub(crate) fn number_expression(
     alloc: Global,
     names: &NameTables<'_>,
-    expression: &Expression,
+    expression: &Expression<'_>,
 ) -> Result<Arithmetic, GameError>
     requires formed { is_formed_expression (expression_of expression.now) ≡ true }
     requires limits { IsWithinLimits (names_of names.now) }
@@ -45,7 +45,7 @@ pub(crate) fn number_expression(
 fn number_terms(
     alloc: Global,
     names: &NameTables<'_>,
-    terms: &[Term],
+    terms: &[Term<'_>],
 ) -> Result<Arithmetic, GameError>
     requires some { 0 < length terms.now }
     requires formed { All (λ t. is_formed_expression (expression_of t.value) ≡ true) terms.now }
@@ -67,7 +67,11 @@ fn number_terms(
 
 /// What a term adds to the terms before it, or takes away.
 #[cycle(arithmetic)]
-fn number_term(alloc: Global, names: &NameTables<'_>, term: &Term) -> Result<Operation, GameError>
+fn number_term(
+    alloc: Global,
+    names: &NameTables<'_>,
+    term: &Term<'_>,
+) -> Result<Operation, GameError>
     requires formed { is_formed_expression (expression_of term.now.value) ≡ true }
     requires limits { IsWithinLimits (names_of names.now) }
     ensures value { IfOk result (AddsTerm (names_of names.now) (term_of term.now)) }
@@ -87,7 +91,7 @@ fn number_term(alloc: Global, names: &NameTables<'_>, term: &Term) -> Result<Ope
 fn number_factors(
     alloc: Global,
     names: &NameTables<'_>,
-    factors: &[Factor],
+    factors: &[Factor<'_>],
 ) -> Result<Arithmetic, GameError>
     requires some { 0 < length factors.now }
     requires formed { All (λ f. is_formed_expression (expression_of f.value) ≡ true) factors.now }
@@ -112,7 +116,7 @@ fn number_factors(
 fn number_factor(
     alloc: Global,
     names: &NameTables<'_>,
-    factor: &Factor,
+    factor: &Factor<'_>,
 ) -> Result<Operation, GameError>
     requires formed { is_formed_expression (expression_of factor.now.value) ≡ true }
     requires limits { IsWithinLimits (names_of names.now) }
@@ -140,12 +144,12 @@ fn number_number(number: Number) -> Result<Arithmetic, GameError>
 }
 
 /// The variable of a name, or else the piece.
-fn number_name(names: &NameTables<'_>, name: &Name) -> Result<Arithmetic, GameError>
+fn number_name(names: &NameTables<'_>, name: &Name<'_>) -> Result<Arithmetic, GameError>
     requires { IsWithinLimits (names_of names.now) }
     ensures value { IfOk result (λ a. ArithmeticIs (names_of names.now) (SpeltExpression.name (name_of name.now)) (arithmetic_of a)) }
     ensures fault { IfErr result (HasArithmeticFault (names_of names.now) (SpeltExpression.name (name_of name.now))) }
 {
-    if let Some(variable) = names.variables.number_of(&name.text) {
+    if let Some(variable) = names.variables.number_of(name.text) {
         return Ok(Arithmetic::Variable(variable as u16));
     }
     Ok(Arithmetic::PieceCount(names.pieces.find(name)?))

@@ -10,15 +10,18 @@ ghost use Rattle.rbg_numbering.specs.Names.{IsNumberOf};
 ghost use Rattle.rbg_numbering.specs.NameTables.{HasLookUpFault, HasNameFault};
 
 use crate::error::GameError;
-use indexmap::IndexSet;
 use rbg_syntax::Name;
 use std::alloc::{AllocError, Global};
+use std::collections::BTreeMap;
 use std::marker::Model;
 
 /// Different names, numbered from 0 in order of text.
 #[derive(Debug, Drop)]
 pub struct NameTable {
-    names: IndexSet<Vec<u8>>,
+    /// The names in order of their numbers.
+    names: Vec<Vec<u8>>,
+    /// The number of each name.
+    numbers: BTreeMap<Vec<u8>, usize>,
 }
 
 impl Model for NameTable {
@@ -28,11 +31,11 @@ impl Model for NameTable {
 
     ghost use Rattle.rbg_numbering.specs.NameTables.{bytes_of};
 
-    ghost view = { λ table. bytes_of table.names.keys };
+    ghost view = { λ table. bytes_of table.names.items };
 
-    ghost use Rattle.rbg_rules.specs.LawfulNames.{AreLawfulNames};
+    ghost use Rattle.rbg_numbering.specs.internal.Tables.{IsTable};
 
-    ghost invariant = { λ table. AreLawfulNames (bytes_of table.names.keys) };
+    ghost invariant = { λ table. IsTable (bytes_of table.names.items) table.numbers };
 }
 
 impl NameTable {
@@ -40,7 +43,8 @@ impl NameTable {
         ensures { result ≡ [] }
     {
         NameTable {
-            names: IndexSet::new(alloc),
+            names: Vec::new(alloc),
+            numbers: BTreeMap::new(alloc),
         }
     }
 
@@ -55,23 +59,23 @@ impl NameTable {
     pub fn number_of(&self, text: &[u8]) -> Option<usize>
         ensures { MatchOption result (¬ Contains self.now text.now) (λ n. slice_get self.now n ≡ Some text.now) }
     {
-        self.names.get_index_of(text)
+        self.numbers.get(text).copied()
     }
 
     /// The number of a name that a description uses.
-    pub fn find(&self, name: &Name) -> Result<u16, GameError>
+    pub fn find(&self, name: &Name<'_>) -> Result<u16, GameError>
         requires { length self.now ≤ 2 ^ 16 }
         ensures number { IfOk result (IsNumberOf self.now (name_of name.now)) }
         ensures fault { IfErr result (HasLookUpFault self.now (name_of name.now ∷ [])) }
     {
-        match self.number_of(&name.text) {
+        match self.number_of(name.text) {
             Some(number) => Ok(number as u16),
             None => Err(GameError::UnknownName { at: name.at }),
         }
     }
 
     /// The numbers of names that a description uses.
-    pub fn find_all(&self, alloc: Global, names: &[Name]) -> Result<Vec<u16>, GameError>
+    pub fn find_all(&self, alloc: Global, names: &[Name<'_>]) -> Result<Vec<u16>, GameError>
         requires { length self.now ≤ 2 ^ 16 }
         ensures numbers { IfOk result (λ ns. AllZip (IsNumberOf self.now) (map name_of names.now) ns.items) }
         ensures fault { IfErr result (HasLookUpFault self.now (map name_of names.now)) }
@@ -84,15 +88,31 @@ impl NameTable {
     }
 
     /// Adds a name after the others.
-    pub fn insert(&mut self, name: &Name) -> Result<(), GameError>
-        ensures ok { OnOk result (self.new ≡ self.old ++ name.now.text.items ∷ []) }
+    pub fn insert(&mut self, name: &Name<'_>) -> Result<(), GameError>
+        ensures ok { OnOk result (self.new ≡ self.old ++ name.now.text.now ∷ []) }
         ensures kept { OnErr result (self.new ≡ self.old) }
         ensures fault { IfErr result (HasNameFault self.old (name_of name.now ∷ [])) }
     {
-        if self.number_of(&name.text).is_some() {
+        if self.number_of(name.text).is_some() {
             return Err(GameError::SameName { at: name.at });
         }
-        self.names.insert(name.text.clone()?)?;
+        self.push(name.text)?;
+        Ok(())
+    }
+
+    /// Adds a name that is not in the table.
+    fn push(&mut self, text: &[u8]) -> Result<(), AllocError>
+        requires name { is_name text.now ≡ true }
+        requires new { ¬ Contains self.old text.now }
+        ensures ok { OnOk result (self.new ≡ self.old ++ text.now ∷ []) }
+        ensures kept { OnErr result (self.new ≡ self.old) }
+    {
+        let alloc = *self.names.allocator();
+        let name = Vec::from_slice(alloc, text)?;
+        let key = Vec::from_slice(alloc, text)?;
+        self.names.reserve(1)?;
+        self.numbers.insert(key, self.names.len())?;
+        self.names.push_reserved(name);
         Ok(())
     }
 
@@ -101,7 +121,7 @@ impl NameTable {
         ensures { IfOk result (λ names. texts names.items ≡ self.now) }
     {
         let mut names = Vec::with_capacity(alloc, self.names.len())?;
-        for name in self.names.as_slice() {
+        for name in &self.names {
             names.push(name_text(name)?)?;
         }
         Ok(names)

@@ -18,7 +18,7 @@ use std::alloc::Global;
 pub fn number_rules(
     alloc: Global,
     names: &NameTables<'_>,
-    rule: &rbg_syntax::Rule,
+    rule: &rbg_syntax::Rule<'_>,
 ) -> Result<Rules, GameError>
     requires formed { is_formed (rule_of rule.now) ≡ true }
     requires limits { IsWithinLimits (names_of names.now) }
@@ -36,7 +36,7 @@ fn number_rule(
     alloc: Global,
     names: &NameTables<'_>,
     patterns_left: usize,
-    rule: &rbg_syntax::Rule,
+    rule: &rbg_syntax::Rule<'_>,
     actions: &mut Vec<Action>,
 ) -> Result<Rule, GameError>
     requires formed { is_formed (rule_of rule.now) ≡ true }
@@ -69,7 +69,7 @@ fn number_parts(
     alloc: Global,
     names: &NameTables<'_>,
     patterns_left: usize,
-    parts: &[rbg_syntax::Rule],
+    parts: &[rbg_syntax::Rule<'_>],
     actions: &mut Vec<Action>,
 ) -> Result<Vec<Rule>, GameError>
     requires formed { All (λ part. is_formed (rule_of part) ≡ true) parts.now }
@@ -94,7 +94,7 @@ fn number_act(
     alloc: Global,
     names: &NameTables<'_>,
     patterns_left: usize,
-    action: &rbg_syntax::Action,
+    action: &rbg_syntax::Action<'_>,
     actions: &mut Vec<Action>,
 ) -> Result<Rule, GameError>
     requires formed { is_formed_action (action_of action.now) ≡ true }

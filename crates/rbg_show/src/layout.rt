@@ -28,7 +28,7 @@ impl Layout {
         }
     }
 
-    fn of_board(alloc: Global, board: &Board) -> Result<Layout, AllocError> {
+    fn of_board(alloc: Global, board: &Board<'_>) -> Result<Layout, AllocError> {
         Ok(match board {
             Board::Rectangle { rows, .. } => Layout::Rectangle {
                 rows: lengths(alloc, rows)?,
@@ -43,14 +43,14 @@ impl Layout {
     }
 }
 
-fn lengths(alloc: Global, rows: &[Vec<Name>]) -> Result<Vec<usize>, AllocError> {
+fn lengths(alloc: Global, rows: &[Vec<Name<'_>>]) -> Result<Vec<usize>, AllocError> {
     rows.iter().map(|row| row.len()).collect(alloc)
 }
 
-fn names(alloc: Global, vertices: &[Vertex]) -> Result<Vec<Vec<u8>>, AllocError> {
+fn names(alloc: Global, vertices: &[Vertex<'_>]) -> Result<Vec<Vec<u8>>, AllocError> {
     let mut names = Vec::new(alloc);
     for vertex in vertices {
-        names.push(vertex.name.text.clone()?)?;
+        names.push(Vec::from_slice(alloc, vertex.name.text)?)?;
     }
     Ok(names)
 }

@@ -21,7 +21,7 @@ use Rattle.rbg_syntax.specs.declared.rule.Action.{Action, fold-Action}
 use Rattle.rbg_syntax.specs.declared.rule.Action.TheOpen.{Action-F, Rule-F}
 
 abbrev pub name_of : Name → SpeltName
-name_of n = record { text = n.text.items; at = n.at }
+name_of n = record { text = n.text.now; at = n.at }
 
 abbrev pub number_of : Number → SpeltNumber
 number_of n = record { value = n.value; at = n.at }
@@ -42,8 +42,8 @@ abbrev pub vertex_of : Vertex → SpeltVertex
 vertex_of v = record { name = name_of v.name; piece = name_of v.piece; edges = map edge_of v.edges.items }
 
 abbrev pub board_of : Board → SpeltBoard
-board_of (Rectangle directions rows) = SpeltBoard.rectangle (map name_of directions) (map names_of rows.items)
-board_of (Hexagon directions rows) = SpeltBoard.hexagon (map name_of directions) (map names_of rows.items)
+board_of (Rectangle directions rows) = SpeltBoard.rectangle (map name_of directions.names) (map names_of rows.items)
+board_of (Hexagon directions rows) = SpeltBoard.hexagon (map name_of directions.names) (map names_of rows.items)
 board_of (Graph vertices) = SpeltBoard.graph (map vertex_of vertices.items)
 
 -- a factor and a term, with its expression already seen as what it spells

@@ -13,10 +13,10 @@ use crate::parser::Parser;
 use rbg_macro::{Symbol, TokenKind};
 use std::alloc::Global;
 
-impl Parser<'_> {
+impl<'a> Parser<'a> {
     /// A sum.
     #[cycle(sum)]
-    pub(crate) fn sum(&mut self, alloc: Global, brackets: u8) -> Result<Expression, ReadError>
+    pub(crate) fn sum(&mut self, alloc: Global, brackets: u8) -> Result<Expression<'a>, ReadError>
         ensures { GivesWithin (λ e. (expression_of e, self.new)) result (sum_at brackets self.old) }
     {
         let first = self.term(alloc, brackets)?;
@@ -32,11 +32,11 @@ impl Parser<'_> {
     fn further_terms(
         &mut self,
         alloc: Global,
-        first: Expression,
+        first: Expression<'a>,
         brackets: u8,
-    ) -> Result<Vec<Term>, ReadError>
+    ) -> Result<Vec<Term<'a>>, ReadError>
         ensures { GivesWithin (λ v. (map term_of v.items, self.new)) result
-            (further_at (additive.Plus, expression_of first) is_sum_sign (further_term_at (primary_at brackets)) self.old) }
+            (further_at (additive.Plus, expression_of first.entry) is_sum_sign (further_term_at (primary_at brackets)) self.old) }
     {
         let mut terms = Vec::new(alloc);
         terms.push(Term {
@@ -52,7 +52,7 @@ impl Parser<'_> {
     /// A sign, and the term after it.
     #[cycle(sum)]
     #[tactic(auto, unfolding(crate::specs::internal::RuleReading::further_term_at, crate::specs::internal::Reading::after_at))]
-    fn further_term(&mut self, alloc: Global, brackets: u8) -> Result<Term, ReadError>
+    fn further_term(&mut self, alloc: Global, brackets: u8) -> Result<Term<'a>, ReadError>
         ensures { GivesWithin (λ t. (term_of t, self.new)) result (further_term_at (primary_at brackets) self.old) }
     {
         if self.next_is(Symbol::Plus) {
@@ -69,7 +69,7 @@ impl Parser<'_> {
 
     /// A term.
     #[cycle(sum)]
-    fn term(&mut self, alloc: Global, brackets: u8) -> Result<Expression, ReadError>
+    fn term(&mut self, alloc: Global, brackets: u8) -> Result<Expression<'a>, ReadError>
         ensures { GivesWithin (λ e. (expression_of e, self.new)) result (term_at (primary_at brackets) self.old) }
     {
         let first = self.factor(alloc, brackets)?;
@@ -85,11 +85,11 @@ impl Parser<'_> {
     fn further_factors(
         &mut self,
         alloc: Global,
-        first: Expression,
+        first: Expression<'a>,
         brackets: u8,
-    ) -> Result<Vec<Factor>, ReadError>
+    ) -> Result<Vec<Factor<'a>>, ReadError>
         ensures { GivesWithin (λ v. (map factor_of v.items, self.new)) result
-            (further_at (multiplicative.Times, expression_of first) is_product_sign
+            (further_at (multiplicative.Times, expression_of first.entry) is_product_sign
             (further_factor_at (primary_at brackets)) self.old) }
     {
         let mut factors = Vec::new(alloc);
@@ -106,7 +106,7 @@ impl Parser<'_> {
     /// An operator, and the factor after it.
     #[cycle(sum)]
     #[tactic(auto, unfolding(crate::specs::internal::RuleReading::further_factor_at, crate::specs::internal::Reading::after_at))]
-    fn further_factor(&mut self, alloc: Global, brackets: u8) -> Result<Factor, ReadError>
+    fn further_factor(&mut self, alloc: Global, brackets: u8) -> Result<Factor<'a>, ReadError>
         ensures { GivesWithin (λ f. (factor_of f, self.new)) result (further_factor_at (primary_at brackets) self.old) }
     {
         if self.next_is(Symbol::Star) {
@@ -124,7 +124,7 @@ impl Parser<'_> {
     /// A factor.
     #[cycle(sum)]
     #[tactic(auto, using(crate::proofs::Trees::leaves), unfolding(crate::specs::internal::RuleReading::factor_at, crate::specs::internal::Reading::after_at))]
-    fn factor(&mut self, alloc: Global, brackets: u8) -> Result<Expression, ReadError>
+    fn factor(&mut self, alloc: Global, brackets: u8) -> Result<Expression<'a>, ReadError>
         ensures { GivesWithin (λ e. (expression_of e, self.new)) result (factor_at (primary_at brackets) self.old) }
     {
         if !self.next_is(Symbol::Minus) {
@@ -138,11 +138,11 @@ impl Parser<'_> {
     /// A number, a name, or a sum in parentheses.
     #[cycle(sum)]
     #[tactic(auto, unfolding(crate::specs::internal::Reading::within_at))]
-    fn primary(&mut self, alloc: Global, brackets: u8) -> Result<Expression, ReadError>
+    fn primary(&mut self, alloc: Global, brackets: u8) -> Result<Expression<'a>, ReadError>
         ensures { GivesWithin (λ e. (expression_of e, self.new)) result (primary_at brackets self.old) }
     {
         if !self.next_is(Symbol::OpenParenthesis) {
-            return self.number_or_name(alloc);
+            return self.number_or_name();
         }
         if brackets == 0 {
             return Err(self.too_deep());
@@ -155,7 +155,7 @@ impl Parser<'_> {
 
     /// A number or a name.
     #[tactic(auto, using(crate::proofs::Trees::leaves), unfolding(crate::specs::internal::RuleReading::number_or_name_at))]
-    fn number_or_name(&mut self, alloc: Global) -> Result<Expression, ReadError>
+    fn number_or_name(&mut self) -> Result<Expression<'a>, ReadError>
         ensures { GivesWithin (λ e. (expression_of e, self.new)) result (number_or_name_at self.old) }
     {
         if self.next_is_number() {
@@ -165,7 +165,7 @@ impl Parser<'_> {
         if !self.next_is_name() {
             return Err(self.misfit(Expectation::Factor));
         }
-        let name = self.name(alloc)?;
+        let name = self.name()?;
         Ok(Expression::Name(name))
     }
 
@@ -204,8 +204,8 @@ fn is_product_sign(kind: TokenKind) -> bool
 
 /// The parts of a sum as one expression. One part is that part.
 #[tactic(auto, using(crate::proofs::Trees::sums))]
-fn in_sum(mut terms: Vec<Term>) -> Expression
-    ensures { expression_of result ≡ in_sum (map term_of terms.items) }
+fn in_sum(mut terms: Vec<Term<'_>>) -> Expression<'_>
+    ensures { expression_of result ≡ in_sum (map term_of terms.entry.items) }
 {
     if terms.len() != 1 {
         return Expression::Sum(terms);
@@ -218,8 +218,8 @@ fn in_sum(mut terms: Vec<Term>) -> Expression
 
 /// The parts of a product as one expression. One part is that part.
 #[tactic(auto, using(crate::proofs::Trees::products))]
-fn in_product(mut factors: Vec<Factor>) -> Expression
-    ensures { expression_of result ≡ in_product (map factor_of factors.items) }
+fn in_product(mut factors: Vec<Factor<'_>>) -> Expression<'_>
+    ensures { expression_of result ≡ in_product (map factor_of factors.entry.items) }
 {
     if factors.len() != 1 {
         return Expression::Product(factors);

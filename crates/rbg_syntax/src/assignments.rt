@@ -15,10 +15,10 @@ use rbg_base::Relation;
 use rbg_macro::{Symbol, TokenKind};
 use std::alloc::Global;
 
-impl Parser<'_> {
+impl<'a> Parser<'a> {
     /// A comparison.
     #[tactic(auto, using(crate::proofs::Trees::inner_atoms), unfolding(crate::specs::internal::RuleReading::comparison_at, crate::specs::internal::Reading::after_at, crate::specs::internal::Reading::within_at))]
-    pub(crate) fn comparison(&mut self, alloc: Global, brackets: u8) -> Result<Rule, ReadError>
+    pub(crate) fn comparison(&mut self, alloc: Global, brackets: u8) -> Result<Rule<'a>, ReadError>
         ensures { GivesWithin (λ r. (rule_of r, self.new)) result
             (within_at symbols.OpenBrace symbols.CloseBrace (after_at symbols.Dollar (comparison_at (sum_at brackets)))
             self.old) }
@@ -52,11 +52,11 @@ impl Parser<'_> {
 
     /// An off, or an assignment list: the sequence of its assignments.
     #[tactic(auto, unfolding(crate::specs::internal::RuleReading::in_brackets_at, crate::specs::internal::RuleReading::assignments_at, crate::specs::internal::Reading::within_at, crate::specs::internal::Reading::after_at))]
-    pub(crate) fn in_brackets(&mut self, alloc: Global, brackets: u8) -> Result<Rule, ReadError>
+    pub(crate) fn in_brackets(&mut self, alloc: Global, brackets: u8) -> Result<Rule<'a>, ReadError>
         ensures { GivesWithin (λ r. (rule_of r, self.new)) result (in_brackets_at (sum_at brackets) self.old) }
     {
         if !self.second_is(Symbol::Dollar) {
-            return self.off(alloc);
+            return self.off();
         }
         self.symbol(Symbol::OpenBracket, Expectation::Item)?;
         self.symbol(Symbol::Dollar, Expectation::Name)?;
@@ -65,7 +65,7 @@ impl Parser<'_> {
         Ok(in_sequence(parts))
     }
 
-    fn assignments(&mut self, alloc: Global, brackets: u8) -> Result<Vec<Rule>, ReadError>
+    fn assignments(&mut self, alloc: Global, brackets: u8) -> Result<Vec<Rule<'a>>, ReadError>
         ensures { GivesWithin (λ v. (map rule_of v.items, self.new)) result
             (separated_at symbols.Comma (assignment_at (sum_at brackets)) self.old) }
     {
@@ -79,10 +79,10 @@ impl Parser<'_> {
 
     /// An assignment.
     #[tactic(auto, using(crate::proofs::Trees::inner_atoms), unfolding(crate::specs::internal::RuleReading::assignment_at, crate::specs::internal::Reading::after_at))]
-    fn assignment(&mut self, alloc: Global, brackets: u8) -> Result<Rule, ReadError>
+    fn assignment(&mut self, alloc: Global, brackets: u8) -> Result<Rule<'a>, ReadError>
         ensures { GivesWithin (λ r. (rule_of r, self.new)) result (assignment_at (sum_at brackets) self.old) }
     {
-        let variable = self.name(alloc)?;
+        let variable = self.name()?;
         self.symbol(Symbol::Equals, Expectation::Equals)?;
         let value = self.sum(alloc, brackets)?;
         Ok(Rule::Act(Action::Assign { variable, value }))

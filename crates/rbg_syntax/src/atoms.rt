@@ -8,19 +8,19 @@ use crate::rule::{Action, Rule};
 use rbg_macro::Symbol;
 use std::alloc::Global;
 
-impl Parser<'_> {
+impl<'a> Parser<'a> {
     /// A shift or a switch.
     #[tactic(auto, using(crate::proofs::Trees::atoms), unfolding(crate::specs::internal::Reading::open_atom_at))]
-    pub(crate) fn open_atom(&mut self, alloc: Global) -> Result<Rule, ReadError>
+    pub(crate) fn open_atom(&mut self) -> Result<Rule<'a>, ReadError>
         ensures { Gives (λ r. (rule_of r, self.new)) result (open_atom_at self.old) }
     {
         if self.next_is_name() {
-            let direction = self.name(alloc)?;
+            let direction = self.name()?;
             return Ok(Rule::Act(Action::Shift(direction)));
         }
         if self.next_is(Symbol::Arrow) {
             let at = self.symbol(Symbol::Arrow, Expectation::Item)?;
-            let player = Some(self.name(alloc)?);
+            let player = Some(self.name()?);
             return Ok(Rule::Act(Action::Switch { at, player }));
         }
         let at = self.symbol(Symbol::DoubleArrow, Expectation::Item)?;
@@ -29,7 +29,7 @@ impl Parser<'_> {
 
     /// An on.
     #[tactic(auto, using(crate::proofs::Trees::atoms, crate::proofs::PhraseLaws::name_takes_some), unfolding(crate::specs::internal::Reading::on_at, crate::specs::internal::Reading::within_at))]
-    pub(crate) fn on(&mut self, alloc: Global) -> Result<Rule, ReadError>
+    pub(crate) fn on(&mut self, alloc: Global) -> Result<Rule<'a>, ReadError>
         ensures { Gives (λ r. (rule_of r, self.new)) result (on_at self.old) }
     {
         self.symbol(Symbol::OpenBrace, Expectation::Opening)?;
@@ -45,11 +45,11 @@ impl Parser<'_> {
 
     /// An off.
     #[tactic(auto, using(crate::proofs::Trees::atoms), unfolding(crate::specs::internal::Reading::off_at, crate::specs::internal::Reading::within_at))]
-    pub(crate) fn off(&mut self, alloc: Global) -> Result<Rule, ReadError>
+    pub(crate) fn off(&mut self) -> Result<Rule<'a>, ReadError>
         ensures { Gives (λ r. (rule_of r, self.new)) result (off_at self.old) }
     {
         self.symbol(Symbol::OpenBracket, Expectation::Opening)?;
-        let piece = self.name(alloc)?;
+        let piece = self.name()?;
         self.symbol(Symbol::CloseBracket, Expectation::Closing)?;
         Ok(Rule::Act(Action::Off(piece)))
     }

@@ -3,17 +3,17 @@ ghost use Rattle.std.specs.Prelude.{codes};
 ghost use Rattle.rbg_syntax.specs.internal.Reading.{Gives, board_at, direction_at, generated_at, graph_at, hexagon_at, next_word, rectangle_at};
 ghost use Rattle.rbg_syntax.specs.Views.{board_of, name_of};
 
-use crate::description::Board;
+use crate::description::{Board, HexagonDirections, RectangleDirections};
 use crate::error::{Expectation, ReadError};
 use crate::names::Name;
 use crate::parser::Parser;
 use rbg_macro::Symbol;
 use std::alloc::Global;
 
-impl Parser<'_> {
+impl<'a> Parser<'a> {
     /// A board, by the name of its generator.
     #[tactic(auto, unfolding(crate::specs::internal::Reading::board_at))]
-    pub(crate) fn board(&mut self, alloc: Global) -> Result<Board, ReadError>
+    pub(crate) fn board(&mut self, alloc: Global) -> Result<Board<'a>, ReadError>
         ensures { Gives (λ b. (board_of b, self.new)) result (board_at self.old) }
     {
         if self.next_is_word(b"rectangle") {
@@ -26,7 +26,7 @@ impl Parser<'_> {
     }
 
     #[tactic(auto, unfolding(crate::specs::internal::Reading::generated_at, crate::specs::internal::Reading::within_at))]
-    fn rectangle_board(&mut self, alloc: Global) -> Result<Board, ReadError>
+    fn rectangle_board(&mut self, alloc: Global) -> Result<Board<'a>, ReadError>
         ensures { Gives (λ b. (board_of b, self.new)) result (generated_at (codes "rectangle") rectangle_at self.old) }
     {
         self.word(b"rectangle", Expectation::Generator)?;
@@ -37,7 +37,7 @@ impl Parser<'_> {
     }
 
     #[tactic(auto, unfolding(crate::specs::internal::Reading::generated_at, crate::specs::internal::Reading::within_at))]
-    fn hexagon_board(&mut self, alloc: Global) -> Result<Board, ReadError>
+    fn hexagon_board(&mut self, alloc: Global) -> Result<Board<'a>, ReadError>
         ensures { Gives (λ b. (board_of b, self.new)) result (generated_at (codes "hexagon") hexagon_at self.old) }
     {
         self.word(b"hexagon", Expectation::Generator)?;
@@ -48,7 +48,7 @@ impl Parser<'_> {
     }
 
     #[tactic(auto, unfolding(crate::specs::internal::Reading::generated_at, crate::specs::internal::Reading::within_at))]
-    fn graph_board(&mut self, alloc: Global) -> Result<Board, ReadError>
+    fn graph_board(&mut self, alloc: Global) -> Result<Board<'a>, ReadError>
         ensures { Gives (λ b. (board_of b, self.new)) result (generated_at (codes "graph") graph_at self.old) }
     {
         self.word(b"graph", Expectation::Generator)?;
@@ -59,39 +59,43 @@ impl Parser<'_> {
     }
 
     #[tactic(auto, using(crate::proofs::PhraseLaws::row_takes_some), unfolding(crate::specs::internal::Reading::rectangle_at, crate::specs::internal::Reading::rows_at))]
-    fn rectangle(&mut self, alloc: Global) -> Result<Board, ReadError>
+    fn rectangle(&mut self, alloc: Global) -> Result<Board<'a>, ReadError>
         ensures { Gives (λ b. (board_of b, self.new)) result (rectangle_at self.old) }
     {
-        let up = self.direction(alloc)?;
-        let down = self.direction(alloc)?;
-        let left = self.direction(alloc)?;
-        let right = self.direction(alloc)?;
+        let up = self.direction()?;
+        let down = self.direction()?;
+        let left = self.direction()?;
+        let right = self.direction()?;
         let rows = self.repeated(alloc)?;
         Ok(Board::Rectangle {
-            directions: [up, down, left, right],
+            directions: RectangleDirections {
+                names: [up, down, left, right],
+            },
             rows,
         })
     }
 
     #[tactic(auto, using(crate::proofs::PhraseLaws::row_takes_some), unfolding(crate::specs::internal::Reading::hexagon_at, crate::specs::internal::Reading::rows_at))]
-    fn hexagon(&mut self, alloc: Global) -> Result<Board, ReadError>
+    fn hexagon(&mut self, alloc: Global) -> Result<Board<'a>, ReadError>
         ensures { Gives (λ b. (board_of b, self.new)) result (hexagon_at self.old) }
     {
-        let north_west = self.direction(alloc)?;
-        let north_east = self.direction(alloc)?;
-        let east = self.direction(alloc)?;
-        let south_east = self.direction(alloc)?;
-        let south_west = self.direction(alloc)?;
-        let west = self.direction(alloc)?;
+        let north_west = self.direction()?;
+        let north_east = self.direction()?;
+        let east = self.direction()?;
+        let south_east = self.direction()?;
+        let south_west = self.direction()?;
+        let west = self.direction()?;
         let rows = self.repeated(alloc)?;
         Ok(Board::Hexagon {
-            directions: [north_west, north_east, east, south_east, south_west, west],
+            directions: HexagonDirections {
+                names: [north_west, north_east, east, south_east, south_west, west],
+            },
             rows,
         })
     }
 
     #[tactic(auto, using(crate::proofs::PhraseLaws::vertex_takes_some), unfolding(crate::specs::internal::Reading::graph_at))]
-    fn graph(&mut self, alloc: Global) -> Result<Board, ReadError>
+    fn graph(&mut self, alloc: Global) -> Result<Board<'a>, ReadError>
         ensures { Gives (λ b. (board_of b, self.new)) result (graph_at self.old) }
     {
         let vertices = self.repeated(alloc)?;
@@ -100,10 +104,10 @@ impl Parser<'_> {
 
     /// The name of a direction, with its comma.
     #[tactic(auto, unfolding(crate::specs::internal::Reading::direction_at, crate::specs::internal::Reading::with_comma_at))]
-    fn direction(&mut self, alloc: Global) -> Result<Name, ReadError>
+    fn direction(&mut self) -> Result<Name<'a>, ReadError>
         ensures { Gives (λ n. (name_of n, self.new)) result (direction_at self.old) }
     {
-        let name = self.name(alloc)?;
+        let name = self.name()?;
         self.symbol(Symbol::Comma, Expectation::Comma)?;
         Ok(name)
     }

@@ -5,31 +5,31 @@ use crate::names::{Name, Number};
 /// An arithmetic expression.
 #[cycle(expression)]
 #[derive(Debug, PartialEq, Eq, Drop)]
-pub enum Expression {
+pub enum Expression<'a> {
     Number(Number),
-    Name(Name),
+    Name(Name<'a>),
     /// 0 minus the expression, as `-x`.
-    Negated(Box<Expression>),
+    Negated(Box<Expression<'a>>),
     /// At least two terms, taken from the left. The first has `Plus`.
-    Sum(Vec<Term>),
+    Sum(Vec<Term<'a>>),
     /// At least two factors, taken from the left. The first has `Times`.
-    Product(Vec<Factor>),
+    Product(Vec<Factor<'a>>),
 }
 
 /// A part of a sum.
 #[cycle(expression)]
 #[derive(Debug, PartialEq, Eq, Drop)]
-pub struct Term {
+pub struct Term<'a> {
     pub operator: Additive,
-    pub value: Expression,
+    pub value: Expression<'a>,
 }
 
 /// A part of a product.
 #[cycle(expression)]
 #[derive(Debug, PartialEq, Eq, Drop)]
-pub struct Factor {
+pub struct Factor<'a> {
     pub operator: Multiplicative,
-    pub value: Expression,
+    pub value: Expression<'a>,
 }
 
 /// What is done with a term.

@@ -20,7 +20,10 @@ mod rules;
 mod sections;
 mod sequences;
 
-pub use description::{Board, Bounded, Description, DescriptionParts, Edge, Vertex};
+pub use description::{
+    Board, Bounded, Description, DescriptionParts, Edge, HexagonDirections, RectangleDirections,
+    Vertex,
+};
 pub use error::{Expectation, SyntaxError};
 pub use expression::{Additive, Expression, Factor, Multiplicative, Term};
 pub use names::{Name, Number};

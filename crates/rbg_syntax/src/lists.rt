@@ -3,7 +3,7 @@ ghost use Rattle.rbg_syntax.specs.internal.Reading.{bounded_at, edge_at, is_name
 ghost use Rattle.rbg_syntax.specs.Tree.{SpeltBounded, SpeltEdge, SpeltName, SpeltVertex};
 ghost use Rattle.rbg_syntax.specs.Views.{bounded_of, edge_of, name_of, names_of, vertex_of};
 ghost use Rattle.rbg_macro.specs.declared.token.Symbol.TheVariants.{OpenBracket};
-ghost use Rattle.std.specs.Prelude.{List};
+ghost use Rattle.std.specs.Prelude.{◌≡◌, List};
 
 use crate::description::{Bounded, Edge, Vertex};
 use crate::error::{Expectation, ReadError};
@@ -13,7 +13,7 @@ use crate::phrase::Phrase;
 use rbg_macro::{Symbol, TokenKind};
 use std::alloc::Global;
 
-impl Phrase for Name {
+impl<'a> Phrase<'a> for Name<'a> {
     ghost Spelt = { SpeltName };
 
     ghost view = { name_of };
@@ -22,16 +22,18 @@ impl Phrase for Name {
 
     ghost begins = { is_name };
 
-    fn read_from(parser: &mut Parser<'_>, alloc: Global) -> Result<Name, ReadError> {
-        parser.name(alloc)
+    fn read_from(parser: &mut Parser<'a>, _alloc: Global) -> Result<Name<'a>, ReadError> {
+        parser.name()
     }
 
-    fn begins_with(kind: TokenKind) -> bool {
+    fn begins_with(kind: TokenKind) -> bool
+        ensures { result ≡ is_name kind }
+    {
         kind == TokenKind::Name
     }
 }
 
-impl Phrase for Bounded {
+impl<'a> Phrase<'a> for Bounded<'a> {
     ghost Spelt = { SpeltBounded };
 
     ghost view = { bounded_of };
@@ -42,21 +44,23 @@ impl Phrase for Bounded {
 
     /// A player or a variable with its bound.
     #[tactic(auto, unfolding(crate::specs::internal::Reading::bounded_at, crate::specs::internal::Reading::within_at))]
-    fn read_from(parser: &mut Parser<'_>, alloc: Global) -> Result<Bounded, ReadError> {
-        let name = parser.name(alloc)?;
+    fn read_from(parser: &mut Parser<'a>, _alloc: Global) -> Result<Bounded<'a>, ReadError> {
+        let name = parser.name()?;
         parser.symbol(Symbol::OpenParenthesis, Expectation::Opening)?;
         let bound = parser.number()?;
         parser.symbol(Symbol::CloseParenthesis, Expectation::Closing)?;
         Ok(Bounded { name, bound })
     }
 
-    fn begins_with(kind: TokenKind) -> bool {
+    fn begins_with(kind: TokenKind) -> bool
+        ensures { result ≡ is_name kind }
+    {
         kind == TokenKind::Name
     }
 }
 
 /// A row of a board.
-impl Phrase for Vec<Name> {
+impl<'a> Phrase<'a> for Vec<Name<'a>> {
     ghost Spelt = { List SpeltName };
 
     ghost view = { names_of };
@@ -66,19 +70,21 @@ impl Phrase for Vec<Name> {
     ghost begins = { is_symbol OpenBracket };
 
     #[tactic(auto, using(crate::proofs::PhraseLaws::name_takes_some), unfolding(crate::specs::internal::Reading::row_at, crate::specs::internal::Reading::within_at))]
-    fn read_from(parser: &mut Parser<'_>, alloc: Global) -> Result<Vec<Name>, ReadError> {
+    fn read_from(parser: &mut Parser<'a>, alloc: Global) -> Result<Vec<Name<'a>>, ReadError> {
         parser.symbol(Symbol::OpenBracket, Expectation::Opening)?;
         let names = parser.listed(alloc)?;
         parser.symbol(Symbol::CloseBracket, Expectation::Closing)?;
         Ok(names)
     }
 
-    fn begins_with(kind: TokenKind) -> bool {
+    fn begins_with(kind: TokenKind) -> bool
+        ensures { result ≡ is_symbol OpenBracket kind }
+    {
         kind == TokenKind::Symbol(Symbol::OpenBracket)
     }
 }
 
-impl Phrase for Edge {
+impl<'a> Phrase<'a> for Edge<'a> {
     ghost Spelt = { SpeltEdge };
 
     ghost view = { edge_of };
@@ -89,19 +95,21 @@ impl Phrase for Edge {
 
     /// An edge to a vertex.
     #[tactic(auto, unfolding(crate::specs::internal::Reading::edge_at, crate::specs::internal::Reading::after_at))]
-    fn read_from(parser: &mut Parser<'_>, alloc: Global) -> Result<Edge, ReadError> {
-        let direction = parser.name(alloc)?;
+    fn read_from(parser: &mut Parser<'a>, _alloc: Global) -> Result<Edge<'a>, ReadError> {
+        let direction = parser.name()?;
         parser.symbol(Symbol::Colon, Expectation::Colon)?;
-        let target = parser.name(alloc)?;
+        let target = parser.name()?;
         Ok(Edge { direction, target })
     }
 
-    fn begins_with(kind: TokenKind) -> bool {
+    fn begins_with(kind: TokenKind) -> bool
+        ensures { result ≡ is_name kind }
+    {
         kind == TokenKind::Name
     }
 }
 
-impl Phrase for Vertex {
+impl<'a> Phrase<'a> for Vertex<'a> {
     ghost Spelt = { SpeltVertex };
 
     ghost view = { vertex_of };
@@ -112,10 +120,10 @@ impl Phrase for Vertex {
 
     /// A vertex of a graph.
     #[tactic(auto, using(crate::proofs::PhraseLaws::edge_takes_some), unfolding(crate::specs::internal::Reading::vertex_at, crate::specs::internal::Reading::within_at))]
-    fn read_from(parser: &mut Parser<'_>, alloc: Global) -> Result<Vertex, ReadError> {
-        let name = parser.name(alloc)?;
+    fn read_from(parser: &mut Parser<'a>, alloc: Global) -> Result<Vertex<'a>, ReadError> {
+        let name = parser.name()?;
         parser.symbol(Symbol::OpenBracket, Expectation::Opening)?;
-        let piece = parser.name(alloc)?;
+        let piece = parser.name()?;
         parser.symbol(Symbol::CloseBracket, Expectation::Closing)?;
         parser.symbol(Symbol::OpenBrace, Expectation::Opening)?;
         let edges = parser.listed(alloc)?;
@@ -123,7 +131,9 @@ impl Phrase for Vertex {
         Ok(Vertex { name, piece, edges })
     }
 
-    fn begins_with(kind: TokenKind) -> bool {
+    fn begins_with(kind: TokenKind) -> bool
+        ensures { result ≡ is_name kind }
+    {
         kind == TokenKind::Name
     }
 }

@@ -2,12 +2,12 @@
 ghost use Rattle.std.specs.Prelude.{IsTrue};
 ghost use Rattle.rbg_base.specs.Names.{is_name};
 
-/// A name of the language, and the offset in the text where it stands.
-#[derive(Debug, PartialEq, Eq, Drop)]
-pub struct Name {
-    pub text: Vec<u8>,
+/// A name of the language, whose bytes are borrowed, and the offset in the text where it stands.
+#[derive(Clone, Copy, Debug, PartialEq, Eq)]
+pub struct Name<'a> {
+    pub text: &'a [u8],
     pub at: usize,
-    pub ghost valid: { IsTrue (is_name text.items) },
+    pub ghost valid: { IsTrue (is_name text.now) },
 }
 
 /// A number, and the offset in the text where it stands.

@@ -11,7 +11,6 @@ use crate::error::{Expectation, ReadError};
 use crate::names::{Name, Number};
 use rbg_base::number_of_digits;
 use rbg_macro::{Section, Symbol, Token, TokenKind};
-use std::alloc::Global;
 use std::marker::Model;
 
 /// What is left of a section's tokens.
@@ -206,7 +205,7 @@ impl<'a> Parser<'a> {
 
     /// Passes a name.
     #[tactic(auto, unfolding(crate::specs::internal::Reading::name_at))]
-    pub(crate) fn name(&mut self, alloc: Global) -> Result<Name, ReadError>
+    pub(crate) fn name(&mut self) -> Result<Name<'a>, ReadError>
         ensures { Gives (λ n. (name_of n, self.new)) result (name_at self.old) }
     {
         let token = self.front(Expectation::Name)?;
@@ -217,8 +216,10 @@ impl<'a> Parser<'a> {
             });
         }
         self.advance();
-        let text = Vec::from_slice(alloc, token.text)?;
-        Ok(Name { text, at: token.at })
+        Ok(Name {
+            text: token.text,
+            at: token.at,
+        })
     }
 
     /// Passes a name that is this word, and returns its offset.

@@ -26,7 +26,7 @@ const MAX_BRACKETS: u8 = 128;
 ///
 /// `SectionTwice` comes before `MissingSection`, and that before the others. The sections are read in the
 /// order players, pieces, variables, board and rules, each from the left, and the first fault decides.
-pub fn parse(alloc: Global, source: &Source) -> Result<Description, SyntaxError>
+pub fn parse<'a>(alloc: Global, source: &'a Source<'_>) -> Result<Description<'a>, SyntaxError>
     // The result is what the sections spell.
     ensures found { IfOk result (λ d. Spells source.now (description_of d)) }
     ensures only { (d : SpeltDescription) → Spells source.now d → IsAnswer d result }
@@ -64,15 +64,15 @@ fn placed<T>(start: usize, read: Result<T, ReadError>) -> Result<T, SyntaxError>
 }
 
 /// The section of this kind, which every description must have.
-fn needed(source: &Source, which: SectionKind) -> Result<Section<'_>, SyntaxError>
+fn needed<'a>(source: &'a Source<'_>, which: SectionKind) -> Result<Section<'a>, SyntaxError>
     ensures found { IfOk result (λ s. slice_get (sections_of which source.now) 0 ≡ Some s) }
     ensures missing { IfErr result (IsMissing which source.now) }
 {
     find(source, which).ok_or(SyntaxError::MissingSection { which })
 }
 
-#[tactic(auto, using(crate::proofs::Answers::endings), unfolding(crate::specs::internal::Reading::whole_at))]
-fn read_players(alloc: Global, section: Section<'_>) -> Result<Vec<Bounded>, ReadError>
+#[tactic(auto, using(crate::proofs::Answers::endings, crate::proofs::PhraseLaws::bounded_takes_some), unfolding(crate::specs::internal::Reading::whole_at))]
+fn read_players(alloc: Global, section: Section<'_>) -> Result<Vec<Bounded<'_>>, ReadError>
     ensures { Gives bounded_list_of result (whole_at (separated_at Comma bounded_at) section.entry.tokens) }
 {
     let mut parser = Parser::new(section);
@@ -81,8 +81,8 @@ fn read_players(alloc: Global, section: Section<'_>) -> Result<Vec<Bounded>, Rea
     Ok(players)
 }
 
-#[tactic(auto, using(crate::proofs::Answers::endings), unfolding(crate::specs::internal::Reading::whole_at))]
-fn read_pieces(alloc: Global, section: Section<'_>) -> Result<Vec<Name>, ReadError>
+#[tactic(auto, using(crate::proofs::Answers::endings, crate::proofs::PhraseLaws::name_takes_some), unfolding(crate::specs::internal::Reading::whole_at))]
+fn read_pieces(alloc: Global, section: Section<'_>) -> Result<Vec<Name<'_>>, ReadError>
     ensures { Gives names_of result (whole_at (separated_at Comma name_at) section.entry.tokens) }
 {
     let mut parser = Parser::new(section);
@@ -92,7 +92,7 @@ fn read_pieces(alloc: Global, section: Section<'_>) -> Result<Vec<Name>, ReadErr
 }
 
 /// The variables. There are none where they have no section.
-fn variables_of(alloc: Global, source: &Source) -> Result<Vec<Bounded>, SyntaxError>
+fn variables_of<'a>(alloc: Global, source: &'a Source<'_>) -> Result<Vec<Bounded<'a>>, SyntaxError>
     ensures { GivesAt (start_of (sections_of Variables source.now)) bounded_list_of result
         (variables_at (sections_of Variables source.now)) }
 {
@@ -103,7 +103,7 @@ fn variables_of(alloc: Global, source: &Source) -> Result<Vec<Bounded>, SyntaxEr
 }
 
 #[tactic(auto, using(crate::proofs::Answers::endings, crate::proofs::PhraseLaws::bounded_takes_some), unfolding(crate::specs::internal::Reading::whole_at))]
-fn read_variables(alloc: Global, section: Section<'_>) -> Result<Vec<Bounded>, ReadError>
+fn read_variables(alloc: Global, section: Section<'_>) -> Result<Vec<Bounded<'_>>, ReadError>
     ensures { Gives bounded_list_of result (whole_at (listed_at is_name bounded_at) section.entry.tokens) }
 {
     let mut parser = Parser::new(section);
@@ -118,7 +118,7 @@ fn read_variables(alloc: Global, section: Section<'_>) -> Result<Vec<Bounded>, R
 }
 
 #[tactic(auto, using(crate::proofs::Answers::endings), unfolding(crate::specs::internal::Reading::whole_at))]
-fn read_board(alloc: Global, section: Section<'_>) -> Result<Board, ReadError>
+fn read_board(alloc: Global, section: Section<'_>) -> Result<Board<'_>, ReadError>
     ensures { Gives board_of result (whole_at board_at section.entry.tokens) }
 {
     let mut parser = Parser::new(section);
@@ -128,7 +128,7 @@ fn read_board(alloc: Global, section: Section<'_>) -> Result<Board, ReadError>
 }
 
 #[tactic(auto, using(crate::proofs::Answers::endings), unfolding(crate::specs::internal::Reading::whole_at))]
-fn read_rules(alloc: Global, section: Section<'_>) -> Result<Rule, ReadError>
+fn read_rules(alloc: Global, section: Section<'_>) -> Result<Rule<'_>, ReadError>
     ensures { GivesWithin rule_of result (whole_at (rules_at max_brackets) section.entry.tokens) }
 {
     let mut parser = Parser::new(section);

@@ -8,7 +8,7 @@ use rbg_macro::{Symbol, TokenKind};
 use std::alloc::Global;
 
 /// A phrase of the grammar that is read from the front of the tokens.
-pub(crate) trait Phrase: Sized + Drop {
+pub(crate) trait Phrase<'a>: Sized + Drop {
     ghost use Rattle.std.specs.Prelude.{◌≡◌, List, Bool};
     ghost use Rattle.rbg_macro.specs.Token.{Lexeme};
     ghost use Rattle.rbg_macro.specs.declared.token.TokenKind.{TokenKind};
@@ -26,7 +26,7 @@ pub(crate) trait Phrase: Sized + Drop {
     ghost begins: { TokenKind → Bool };
 
     /// Reads one phrase.
-    fn read_from(parser: &mut Parser<'_>, alloc: Global) -> Result<Self, ReadError>
+    fn read_from(parser: &mut Parser<'a>, alloc: Global) -> Result<Self, ReadError>
         ensures { Gives (λ x. (view x, parser.new)) result (read parser.old) };
 
     /// Whether such a phrase may begin with a token of this kind.
@@ -34,9 +34,9 @@ pub(crate) trait Phrase: Sized + Drop {
         ensures { result ≡ begins kind };
 }
 
-impl Parser<'_> {
+impl<'a> Parser<'a> {
     /// Whether the next token may begin such a phrase.
-    fn next_begins<T: Phrase>(&self) -> bool
+    fn next_begins<T: Phrase<'a>>(&self) -> bool
         ensures { result ≡ next_is T.begins self.now }
     {
         match self.peek() {
@@ -46,7 +46,7 @@ impl Parser<'_> {
     }
 
     /// At least one phrase, with the symbol between each two.
-    pub(crate) fn separated<T: Phrase>(
+    pub(crate) fn separated<T: Phrase<'a>>(
         &mut self,
         alloc: Global,
         separator: Symbol,
@@ -64,7 +64,7 @@ impl Parser<'_> {
 
     /// Any number of phrases, with commas between them.
     #[tactic(auto, unfolding(crate::specs::internal::Reading::listed_at))]
-    pub(crate) fn listed<T: Phrase>(&mut self, alloc: Global) -> Result<Vec<T>, ReadError>
+    pub(crate) fn listed<T: Phrase<'a>>(&mut self, alloc: Global) -> Result<Vec<T>, ReadError>
         requires { TakesSome T.read }
         ensures { Gives (λ v. (map T.view v.items, self.new)) result (listed_at T.begins T.read self.old) }
     {
@@ -76,7 +76,7 @@ impl Parser<'_> {
     }
 
     /// Any number of phrases, one after the other.
-    pub(crate) fn repeated<T: Phrase>(&mut self, alloc: Global) -> Result<Vec<T>, ReadError>
+    pub(crate) fn repeated<T: Phrase<'a>>(&mut self, alloc: Global) -> Result<Vec<T>, ReadError>
         requires { TakesSome T.read }
         ensures { Gives (λ v. (map T.view v.items, self.new)) result (repeated_at T.begins T.read self.old) }
     {

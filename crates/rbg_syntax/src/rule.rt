@@ -7,49 +7,49 @@ use rbg_base::Relation;
 /// A regular expression over actions.
 #[cycle(rule)]
 #[derive(Debug, PartialEq, Eq, Drop)]
-pub enum Rule {
-    Act(Action),
+pub enum Rule<'a> {
+    Act(Action<'a>),
     /// A sequence of at least two parts, or an assignment list of at least two assignments.
-    Then(Vec<Rule>),
+    Then(Vec<Rule<'a>>),
     /// A sum of at least two parts.
-    Or(Vec<Rule>),
-    Star(Box<Rule>),
+    Or(Vec<Rule<'a>>),
+    Star(Box<Rule<'a>>),
 }
 
 /// An action of the rules.
 #[cycle(rule)]
 #[derive(Debug, PartialEq, Eq, Drop)]
-pub enum Action {
+pub enum Action<'a> {
     /// `up`
-    Shift(Name),
+    Shift(Name<'a>),
     /// `{x, y}`
-    On(Vec<Name>),
+    On(Vec<Name<'a>>),
     /// `[x]`
-    Off(Name),
+    Off(Name<'a>),
     /// `[$ v = e]`
     Assign {
-        variable: Name,
-        value: Expression,
+        variable: Name<'a>,
+        value: Expression<'a>,
     },
     /// `{$ e == f}`
     Compare {
-        left: Expression,
+        left: Expression<'a>,
         relation: Relation,
-        right: Expression,
+        right: Expression<'a>,
     },
     /// `->p` with its player, `->>` with none, and the offset of the arrow.
     Switch {
         at: usize,
-        player: Option<Name>,
+        player: Option<Name<'a>>,
     },
     /// `{? M}`, with the offset of its `{`.
     PositivePattern {
         at: usize,
-        rule: Box<Rule>,
+        rule: Box<Rule<'a>>,
     },
     /// `{! M}`, with the offset of its `{`.
     NegativePattern {
         at: usize,
-        rule: Box<Rule>,
+        rule: Box<Rule<'a>>,
     },
 }

@@ -13,10 +13,10 @@ use crate::sequences::in_sequence;
 use rbg_macro::{Symbol, TokenKind};
 use std::alloc::Global;
 
-impl Parser<'_> {
+impl<'a> Parser<'a> {
     /// Rules.
     #[cycle(rules)]
-    pub(crate) fn rules(&mut self, alloc: Global, brackets: u8) -> Result<Rule, ReadError>
+    pub(crate) fn rules(&mut self, alloc: Global, brackets: u8) -> Result<Rule<'a>, ReadError>
         ensures { GivesWithin (λ r. (rule_of r, self.new)) result (rules_at brackets self.old) }
     {
         let first = self.sequence(alloc, brackets)?;
@@ -32,10 +32,10 @@ impl Parser<'_> {
     fn further_sequences(
         &mut self,
         alloc: Global,
-        first: Rule,
+        first: Rule<'a>,
         brackets: u8,
-    ) -> Result<Vec<Rule>, ReadError>
-        ensures { GivesWithin (λ v. (map rule_of v.items, self.new)) result (further_at (rule_of first)
+    ) -> Result<Vec<Rule<'a>>, ReadError>
+        ensures { GivesWithin (λ v. (map rule_of v.items, self.new)) result (further_at (rule_of first.entry)
             (is_symbol symbols.Plus) (after_at symbols.Plus (sequence_at (atom_at brackets))) self.old) }
     {
         let mut parts = Vec::new(alloc);
@@ -48,7 +48,7 @@ impl Parser<'_> {
 
     /// A sequence.
     #[cycle(rules)]
-    fn sequence(&mut self, alloc: Global, brackets: u8) -> Result<Rule, ReadError>
+    fn sequence(&mut self, alloc: Global, brackets: u8) -> Result<Rule<'a>, ReadError>
         ensures { GivesWithin (λ r. (rule_of r, self.new)) result (sequence_at (atom_at brackets) self.old) }
     {
         let first = self.item(alloc, brackets)?;
@@ -64,11 +64,11 @@ impl Parser<'_> {
     fn further_items(
         &mut self,
         alloc: Global,
-        first: Rule,
+        first: Rule<'a>,
         brackets: u8,
-    ) -> Result<Vec<Rule>, ReadError>
+    ) -> Result<Vec<Rule<'a>>, ReadError>
         ensures { GivesWithin (λ v. (map rule_of v.items, self.new)) result
-            (further_at (rule_of first) begins_atom (item_at (atom_at brackets)) self.old) }
+            (further_at (rule_of first.entry) begins_atom (item_at (atom_at brackets)) self.old) }
     {
         let mut parts = Vec::new(alloc);
         parts.push(first)?;
@@ -81,7 +81,7 @@ impl Parser<'_> {
     /// An atom, and the `*` after it where there is one.
     #[cycle(rules)]
     #[tactic(auto, using(crate::proofs::Trees::stars), unfolding(crate::specs::internal::RuleReading::item_at))]
-    fn item(&mut self, alloc: Global, brackets: u8) -> Result<Rule, ReadError>
+    fn item(&mut self, alloc: Global, brackets: u8) -> Result<Rule<'a>, ReadError>
         ensures { GivesWithin (λ r. (rule_of r, self.new)) result (item_at (atom_at brackets) self.old) }
     {
         let rule = self.atom(alloc, brackets)?;
@@ -94,11 +94,11 @@ impl Parser<'_> {
 
     /// An atom.
     #[cycle(rules)]
-    fn atom(&mut self, alloc: Global, brackets: u8) -> Result<Rule, ReadError>
+    fn atom(&mut self, alloc: Global, brackets: u8) -> Result<Rule<'a>, ReadError>
         ensures { GivesWithin (λ r. (rule_of r, self.new)) result (atom_at brackets self.old) }
     {
         if !self.next_is_opening() {
-            return self.open_atom(alloc);
+            return self.open_atom();
         }
         if brackets == 0 {
             return Err(self.too_deep());
@@ -109,7 +109,7 @@ impl Parser<'_> {
     /// An atom in brackets, in which at most so many further ones may be open.
     #[cycle(rules)]
     #[tactic(auto, unfolding(crate::specs::internal::RuleReading::bracket_atom_at, crate::specs::internal::Reading::within_at))]
-    fn bracket_atom(&mut self, alloc: Global, brackets: u8) -> Result<Rule, ReadError>
+    fn bracket_atom(&mut self, alloc: Global, brackets: u8) -> Result<Rule<'a>, ReadError>
         ensures { GivesWithin (λ r. (rule_of r, self.new)) result
             (bracket_atom_at (rules_at brackets) (sum_at brackets) self.old) }
     {
@@ -128,7 +128,7 @@ impl Parser<'_> {
     /// A pattern, a comparison or an on.
     #[cycle(rules)]
     #[tactic(auto, using(crate::proofs::Trees::inner_atoms, crate::proofs::Parts::patterns), unfolding(crate::specs::internal::RuleReading::in_braces_at))]
-    fn in_braces(&mut self, alloc: Global, brackets: u8) -> Result<Rule, ReadError>
+    fn in_braces(&mut self, alloc: Global, brackets: u8) -> Result<Rule<'a>, ReadError>
         ensures { GivesWithin (λ r. (rule_of r, self.new)) result
             (in_braces_at (rules_at brackets) (sum_at brackets) self.old) }
     {
@@ -156,7 +156,7 @@ impl Parser<'_> {
         alloc: Global,
         sign: Symbol,
         brackets: u8,
-    ) -> Result<(usize, Rule), ReadError>
+    ) -> Result<(usize, Rule<'a>), ReadError>
         ensures { GivesWithin (λ p. ((p.0, rule_of p.1), self.new)) result
             (pattern_at sign (rules_at brackets) self.old) }
     {
@@ -216,8 +216,8 @@ fn is_opening(kind: TokenKind) -> bool
 
 /// The parts of a sum of rules as one rule. One part is that part.
 #[tactic(auto, using(crate::proofs::Trees::choices))]
-fn in_choice(mut parts: Vec<Rule>) -> Rule
-    ensures { rule_of result ≡ in_choice (map rule_of parts.items) }
+fn in_choice(mut parts: Vec<Rule<'_>>) -> Rule<'_>
+    ensures { rule_of result ≡ in_choice (map rule_of parts.entry.items) }
 {
     if parts.len() != 1 {
         return Rule::Or(parts);

@@ -6,7 +6,7 @@ use crate::error::SyntaxError;
 use rbg_macro::{Section, SectionKind, Source};
 
 /// The first section of this kind.
-pub(crate) fn find(source: &Source, kind: SectionKind) -> Option<Section<'_>>
+pub(crate) fn find<'a>(source: &'a Source<'_>, kind: SectionKind) -> Option<Section<'a>>
     ensures { result ≡ slice_get (sections_of kind source.now) 0 }
 {
     for index in 0..source.len() {
@@ -19,7 +19,7 @@ pub(crate) fn find(source: &Source, kind: SectionKind) -> Option<Section<'_>>
 }
 
 /// Whether one of the first `end` sections is of this kind.
-fn stands_before(source: &Source, kind: SectionKind, end: usize) -> bool
+fn stands_before(source: &Source<'_>, kind: SectionKind, end: usize) -> bool
     requires { end ≤ length source.now }
     ensures { IsTrue result ↔ (0 < count_of kind (take end source.now)) }
 {
@@ -33,7 +33,7 @@ fn stands_before(source: &Source, kind: SectionKind, end: usize) -> bool
 
 /// Returns an error if there are two sections of one kind. It names the first section, in order of the text, whose
 /// kind came before.
-pub(crate) fn refuse_twice(source: &Source) -> Result<(), SyntaxError>
+pub(crate) fn refuse_twice(source: &Source<'_>) -> Result<(), SyntaxError>
     ensures once { OnOk result (AreDifferent source.now) }
     ensures twice { IfErr result (IsTwice source.now) }
 {

@@ -5,21 +5,15 @@ use std::alloc::Global;
 use std::str;
 use std::test::Fail;
 
-fn parsed(alloc: Global, text: &str) -> Result<Result<Description, SyntaxError>, Fail> {
-    let tokens = tokens(alloc, text.as_bytes())?;
-    let source = expand(alloc, &tokens)?;
-    Ok(parse(alloc, &source))
-}
-
 /// A name as its text and its place.
-fn show_name(text: &mut String, name: &Name) -> Result<(), Fail> {
-    let bytes = str::from_utf8(&name.text)?;
+fn show_name(text: &mut String, name: &Name<'_>) -> Result<(), Fail> {
+    let bytes = str::from_utf8(name.text)?;
     let at = name.at;
     write!(text, "{bytes}@{at} ")?;
     Ok(())
 }
 
-fn show_names(text: &mut String, names: &[Name]) -> Result<(), Fail> {
+fn show_names(text: &mut String, names: &[Name<'_>]) -> Result<(), Fail> {
     for name in names {
         show_name(text, name)?;
     }
@@ -35,10 +29,10 @@ fn show_number(text: &mut String, number: Number) -> Result<(), Fail> {
     Ok(())
 }
 
-fn show_board(text: &mut String, board: &Board) -> Result<(), Fail> {
+fn show_board(text: &mut String, board: &Board<'_>) -> Result<(), Fail> {
     match board {
         Board::Rectangle { directions, rows } => {
-            show_names(text, directions)?;
+            show_names(text, &directions.names)?;
             for row in rows {
                 write!(text, "[")?;
                 show_names(text, row)?;
@@ -50,7 +44,7 @@ fn show_board(text: &mut String, board: &Board) -> Result<(), Fail> {
     Ok(())
 }
 
-fn show_item(text: &mut String, rule: &Rule) -> Result<(), Fail> {
+fn show_item(text: &mut String, rule: &Rule<'_>) -> Result<(), Fail> {
     match rule {
         Rule::Act(Action::Shift(direction)) => show_name(text, direction)?,
         Rule::Act(Action::On(pieces)) => {
@@ -75,7 +69,7 @@ fn show_item(text: &mut String, rule: &Rule) -> Result<(), Fail> {
     Ok(())
 }
 
-fn show_rules(text: &mut String, rules: &Rule) -> Result<(), Fail> {
+fn show_rules(text: &mut String, rules: &Rule<'_>) -> Result<(), Fail> {
     match rules {
         Rule::Then(parts) => {
             write!(text, "then ")?;
@@ -89,7 +83,7 @@ fn show_rules(text: &mut String, rules: &Rule) -> Result<(), Fail> {
 }
 
 /// A description as text: a line for each section.
-fn shown(alloc: Global, description: &Description) -> Result<String, Fail> {
+fn shown(alloc: Global, description: &Description<'_>) -> Result<String, Fail> {
     let mut text = String::new(alloc);
     for player in description.players() {
         show_name(&mut text, &player.name)?;
@@ -105,6 +99,14 @@ fn shown(alloc: Global, description: &Description) -> Result<String, Fail> {
     write!(text, "\n")?;
     show_rules(&mut text, description.rules())?;
     Ok(text)
+}
+
+/// The description that a text spells, as text.
+fn shown_from(alloc: Global, text: &str) -> Result<String, Fail> {
+    let tokens = tokens(alloc, text.as_bytes())?;
+    let source = expand(alloc, &tokens)?;
+    let description = parse(alloc, &source)?;
+    shown(alloc, &description)
 }
 
 /// Descriptions, each with the lines that show it.
@@ -137,8 +139,7 @@ right@14 ",
 #[test]
 fn sections_spell_these_descriptions(rt: HostRuntime) -> Result<(), Fail> {
     for (text, want) in DESCRIPTIONS {
-        let description = parsed(rt.alloc(), text)??;
-        let found = shown(rt.alloc(), &description)?;
+        let found = shown_from(rt.alloc(), text)?;
         assert_eq!(rt; found.as_str(), want);
     }
     Ok(())

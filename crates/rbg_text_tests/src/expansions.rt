@@ -5,7 +5,7 @@ use std::str;
 use std::test::Fail;
 
 /// The sections as text: each one's kind and place, then its tokens, each with its place.
-fn shown(alloc: Global, source: &Source) -> Result<String, Fail> {
+fn shown(alloc: Global, source: &Source<'_>) -> Result<String, Fail> {
     let mut text = String::new(alloc);
     for i in 0..source.len() {
         let section = source.section(i);

@@ -29,7 +29,7 @@ pub(crate) struct NamedBoard {
 fn number_rows(
     alloc: Global,
     pieces: &NameTable,
-    rows: &[Vec<Name>],
+    rows: &[Vec<Name<'_>>],
 ) -> Result<Vec<Vec<u16>>, GameError>
     requires { length pieces.now ≤ 2 ^ 16 }
     ensures numbers { IfOk result (λ ns. AllZip (AllZip (IsNumberOf pieces.now)) (map names_of rows.now) (rows_of ns.items)) }
@@ -68,8 +68,8 @@ pub(crate) fn name_board(directions: NameTable, board: Board) -> NamedBoard
 fn make_rectangle(
     alloc: Global,
     pieces: &NameTable,
-    names: &[Name; 4],
-    rows: &[Vec<Name>],
+    names: &[Name<'_>; 4],
+    rows: &[Vec<Name<'_>>],
 ) -> Result<NamedBoard, GameError>
     requires { length pieces.now ≤ MAX_PIECES }
     ensures board { IfOk result
@@ -89,8 +89,8 @@ fn make_rectangle(
 fn make_hexagon(
     alloc: Global,
     pieces: &NameTable,
-    names: &[Name; 6],
-    rows: &[Vec<Name>],
+    names: &[Name<'_>; 6],
+    rows: &[Vec<Name<'_>>],
 ) -> Result<NamedBoard, GameError>
     requires { length pieces.now ≤ MAX_PIECES }
     ensures board { IfOk result
@@ -111,7 +111,7 @@ fn make_hexagon(
 pub(crate) fn make_board(
     alloc: Global,
     pieces: &NameTable,
-    board: &rbg_syntax::Board,
+    board: &rbg_syntax::Board<'_>,
 ) -> Result<NamedBoard, GameError>
     requires { length pieces.now ≤ MAX_PIECES }
     ensures board { IfOk result (λ b. MakesBoard pieces.now (board_of board.now) b.directions b.board) }
@@ -119,10 +119,10 @@ pub(crate) fn make_board(
 {
     match board {
         rbg_syntax::Board::Rectangle { directions, rows } => {
-            make_rectangle(alloc, pieces, directions, rows)
+            make_rectangle(alloc, pieces, &directions.names, rows)
         }
         rbg_syntax::Board::Hexagon { directions, rows } => {
-            make_hexagon(alloc, pieces, directions, rows)
+            make_hexagon(alloc, pieces, &directions.names, rows)
         }
         rbg_syntax::Board::Graph { vertices } => make_graph(alloc, pieces, vertices),
     }

@@ -9,11 +9,11 @@ use rbg_syntax::Name;
 use std::alloc::Global;
 
 /// The number of a name. A name that is new joins the table.
-pub(crate) fn join(table: &mut NameTable, name: &Name) -> Result<usize, GameError>
-    ensures number { IfOk result (Joins table.old table.new name.now.text.items) }
+pub(crate) fn join(table: &mut NameTable, name: &Name<'_>) -> Result<usize, GameError>
+    ensures number { IfOk result (Joins table.old table.new name.now.text.now) }
     ensures memory { IfErr result (λ error. error ≡ GameError.Memory) }
 {
-    match table.number_of(&name.text) {
+    match table.number_of(name.text) {
         Some(number) => Ok(number),
         None => {
             let number = table.len();
@@ -26,7 +26,7 @@ pub(crate) fn join(table: &mut NameTable, name: &Name) -> Result<usize, GameErro
 /// Numbers the names of directions in a new table. Equal names have one number.
 pub(crate) fn number_directions(
     alloc: Global,
-    names: &[Name],
+    names: &[Name<'_>],
     numbers: &mut [u16],
 ) -> Result<NameTable, GameError>
     requires one_each { length numbers.old ≡ length names.now }

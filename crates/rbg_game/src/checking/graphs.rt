@@ -24,7 +24,7 @@ use std::alloc::Global;
 fn number_pieces(
     alloc: Global,
     pieces: &NameTable,
-    vertices: &[Vertex],
+    vertices: &[Vertex<'_>],
 ) -> Result<Vec<u16>, GameError>
     requires { length pieces.now ≤ 2 ^ 16 }
     ensures numbers { IfOk result
@@ -39,7 +39,7 @@ fn number_pieces(
 }
 
 /// Adds the directions of edges that are new to the table.
-fn join_directions(table: &mut NameTable, edges: &[Edge]) -> Result<(), GameError>
+fn join_directions(table: &mut NameTable, edges: &[Edge<'_>]) -> Result<(), GameError>
     ensures order { OnOk result (AddsInOrder (edge_directions (map edge_of edges.now)) table.old table.new) }
     ensures memory { IfErr result (λ error. error ≡ GameError.Memory) }
 {
@@ -50,7 +50,7 @@ fn join_directions(table: &mut NameTable, edges: &[Edge]) -> Result<(), GameErro
 }
 
 /// The directions of vertices in order of first use.
-fn name_directions(alloc: Global, vertices: &[Vertex]) -> Result<NameTable, GameError>
+fn name_directions(alloc: Global, vertices: &[Vertex<'_>]) -> Result<NameTable, GameError>
     ensures order { IfOk result (IsOrderOfFirstUse (directions_named (map vertex_of vertices.now))) }
     ensures memory { IfErr result (λ error. error ≡ GameError.Memory) }
 {
@@ -62,7 +62,7 @@ fn name_directions(alloc: Global, vertices: &[Vertex]) -> Result<NameTable, Game
 }
 
 /// The names of vertices, which have to differ.
-fn name_vertices(alloc: Global, vertices: &[Vertex]) -> Result<NameTable, GameError>
+fn name_vertices(alloc: Global, vertices: &[Vertex<'_>]) -> Result<NameTable, GameError>
     ensures names { IfOk result (λ names. names ≡ vertex_names (map vertex_of vertices.now)) }
     ensures differ { IfOk result AreDifferentNames }
     ensures fault { IfErr result
@@ -84,10 +84,10 @@ fn number_edges(
     alloc: Global,
     directions: &NameTable,
     names: &NameTable,
-    edges: &[Edge],
+    edges: &[Edge<'_>],
 ) -> Result<Vec<(u16, u32)>, GameError>
     requires few { length directions.now ≤ MAX_DIRECTIONS }
-    requires known { All (λ edge. Contains directions.now edge.direction.text.items) edges.now }
+    requires known { All (λ edge. Contains directions.now edge.direction.text.now) edges.now }
     requires vertices { length names.now ≤ MAX_VERTICES }
     ensures edges { IfOk result (λ es. AllZip (IsEdge directions.now names.now) (map edge_of edges.now) es.items) }
     ensures memory { IfErr result (λ error. error ≡ GameError.Memory) }
@@ -95,7 +95,7 @@ fn number_edges(
     let mut numbers = Vec::with_capacity(alloc, edges.len())?;
     for edge in edges {
         let direction = directions.find(&edge.direction)?;
-        let target = names.number_of(&edge.target.text).unwrap_or(names.len());
+        let target = names.number_of(edge.target.text).unwrap_or(names.len());
         numbers.push((direction, target as u32))?;
     }
     Ok(numbers)
@@ -107,7 +107,7 @@ fn number_cells(
     pieces: &[u16],
     directions: &NameTable,
     names: &NameTable,
-    vertices: &[Vertex],
+    vertices: &[Vertex<'_>],
 ) -> Result<Vec<Cell>, GameError>
     requires few { length directions.now ≤ MAX_DIRECTIONS }
     requires known { IsOrderOfFirstUse (directions_named (map vertex_of vertices.now)) directions.now }
@@ -136,7 +136,7 @@ fn number_cells(
 pub(crate) fn make_graph(
     alloc: Global,
     pieces: &NameTable,
-    vertices: &[Vertex],
+    vertices: &[Vertex<'_>],
 ) -> Result<NamedBoard, GameError>
     requires { length pieces.now ≤ MAX_PIECES }
     ensures board { IfOk result

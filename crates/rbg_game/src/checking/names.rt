@@ -30,7 +30,7 @@ pub(crate) struct Things {
 /// Then they are counted.
 pub(crate) fn number_things(
     alloc: Global,
-    description: &DescriptionParts,
+    description: &DescriptionParts<'_>,
 ) -> Result<Things, GameError>
     ensures things { IfOk result (AreThingsOf (description_of_parts description.now)) }
     ensures fault { IfErr result (HasFault (description_of_parts description.now)) }
@@ -67,7 +67,7 @@ pub(crate) fn number_things(
 }
 
 /// Adds names after those of the table.
-fn add_names(table: &mut NameTable, names: &[Name]) -> Result<(), GameError>
+fn add_names(table: &mut NameTable, names: &[Name<'_>]) -> Result<(), GameError>
     ensures names { OnOk result (table.new ≡ table.old ++ texts_of (map name_of names.now)) }
     ensures fault { IfErr result (HasNameFault table.old (map name_of names.now)) }
 {
@@ -78,7 +78,7 @@ fn add_names(table: &mut NameTable, names: &[Name]) -> Result<(), GameError>
 }
 
 /// Adds the names of players after those of the table.
-fn add_players(table: &mut NameTable, players: &[Bounded]) -> Result<(), GameError>
+fn add_players(table: &mut NameTable, players: &[Bounded<'_>]) -> Result<(), GameError>
     ensures names { OnOk result (table.new ≡ table.old ++ holder_names (map bounded_of players.now)) }
     ensures fault { IfErr result (HasHolderFault table.old (map bounded_of players.now)) }
 {
@@ -92,7 +92,7 @@ fn add_players(table: &mut NameTable, players: &[Bounded]) -> Result<(), GameErr
 fn add_holders(
     table: &mut NameTable,
     bounds: &mut Vec<u32>,
-    holders: &[Bounded],
+    holders: &[Bounded<'_>],
 ) -> Result<(), GameError>
     ensures names { OnOk result (table.new ≡ table.old ++ holder_names (map bounded_of holders.now)) }
     ensures bounds { OnOk result (AddsBounds (map bounded_of holders.now) bounds.old.items bounds.new.items) }
@@ -108,9 +108,9 @@ fn add_holders(
 fn add_holder(
     table: &mut NameTable,
     bounds: &mut Vec<u32>,
-    holder: &Bounded,
+    holder: &Bounded<'_>,
 ) -> Result<(), GameError>
-    ensures name { OnOk result (table.new ≡ table.old ++ holder.now.name.text.items ∷ []) }
+    ensures name { OnOk result (table.new ≡ table.old ++ holder.now.name.text.now ∷ []) }
     ensures bound { OnOk result (AddsBounds (bounded_of holder.now ∷ []) bounds.old.items bounds.new.items) }
     ensures fault { IfErr result (HasHolderFault table.old (bounded_of holder.now ∷ [])) }
 {

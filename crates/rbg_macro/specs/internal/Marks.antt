@@ -6,10 +6,11 @@ use Rattle.rbg_macro.specs.declared.call.Call.{Call}
 use Rattle.rbg_macro.specs.declared.macros.Piece.{Piece as KeptPiece}
 use Rattle.rbg_macro.specs.declared.macros.Piece.TheVariants as kept
 use Rattle.rbg_macro.specs.declared.macros.Template.{Template}
-use Rattle.rbg_macro.specs.declared.token.Token.{Token}
+use Rattle.rbg_macro.specs.declared.read_token.ReadToken.{ReadToken}
 use Rattle.rbg_macro.specs.Macro.{Macro, macro_named}
 use Rattle.rbg_macro.specs.internal.Template.{macro_of, piece_in}
-use Rattle.rbg_macro.specs.Token.{Lexeme, lexeme_of}
+use Rattle.rbg_macro.specs.internal.ReadTokens.{read_lexeme}
+use Rattle.rbg_macro.specs.Token.{Lexeme}
 
 -- a token and its mark
 pub record Word : Type 0 where
@@ -20,8 +21,8 @@ pub record Word : Type 0 where
 abbrev pub lexeme_in_word : Word → Lexeme
 lexeme_in_word w = w.lexeme
 
-abbrev pub word_of : Token → Word
-word_of t = record { lexeme = lexeme_of t; macro_number = t.macro_number }
+abbrev pub word_of : ReadToken → Word
+word_of t = record { lexeme = read_lexeme t; macro_number = t.macro_number }
 
 -- The token names the macro with this number. The name itself is left open, since equal bytes may lie in two places.
 pub record IsNumberOf (macros : List Macro) (t : Lexeme) (n : ℕ) : Type 0 where
@@ -34,7 +35,7 @@ pub record IsNumberOf (macros : List Macro) (t : Lexeme) (n : ℕ) : Type 0 wher
 pub record IsMarkedWord (macros : List Macro) (w : Word) : Type 0 where
   pub mark : MatchOption w.macro_number (macro_named macros w.lexeme ≡ None) (IsNumberOf macros w.lexeme)
 
-abbrev pub IsMarked : List Macro → Token → Type 0
+abbrev pub IsMarked : List Macro → ReadToken → Type 0
 IsMarked macros t = IsMarkedWord macros (word_of t)
 
 abbrev pub IsMarkedPiece : List Macro → KeptPiece → Type 0
@@ -53,15 +54,15 @@ pub record IsTemplateAt (macros : List Macro) (n : ℕ) (template : Template) : 
   pub stands : slice_get macros n ≡ Some (macro_of name template)
 
 -- in each of the lists every token is marked
-abbrev pub AreMarkedLists : List Macro → List (Bor (List Token)) → Type 0
+abbrev pub AreMarkedLists : List Macro → List (Bor (List ReadToken)) → Type 0
 AreMarkedLists macros lists = All (λ l. All (IsMarked macros) l.now) lists
 
 -- the lists are cut from tokens, and where those are marked these are
-pub record KeepsMarks (tokens : List Token) (lists : List (Bor (List Token))) : Type 0 where
+pub record KeepsMarks (tokens : List ReadToken) (lists : List (Bor (List ReadToken))) : Type 0 where
   pub keeps : (macros : List Macro) → All (IsMarked macros) tokens → AreMarkedLists macros lists
 
 -- the tokens are made of pieces and arguments, and where those are marked these are
-pub record FillsMarks (body : List KeptPiece) (arguments : List (Bor (List Token))) (tokens : List Token) : Type 0 where
+pub record FillsMarks (body : List KeptPiece) (arguments : List (Bor (List ReadToken))) (tokens : List ReadToken) : Type 0 where
   pub fills : (macros : List Macro) → All (IsMarkedPiece macros) body → AreMarkedLists macros arguments →
       All (IsMarked macros) tokens
 

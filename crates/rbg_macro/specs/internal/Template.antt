@@ -4,12 +4,13 @@ use Rattle.std.specs.Borrow.{Bor}
 use Rattle.rbg_macro.specs.declared.macros.Piece.{Piece as KeptPiece}
 use Rattle.rbg_macro.specs.declared.macros.Piece.TheVariants as kept
 use Rattle.rbg_macro.specs.declared.macros.Template.{Template}
-use Rattle.rbg_macro.specs.declared.token.Token.{Token}
+use Rattle.rbg_macro.specs.declared.read_token.ReadToken.{ReadToken}
 use Rattle.rbg_macro.specs.Macro.{Macro, Piece, Word, Place, macro_named}
-use Rattle.rbg_macro.specs.Token.{Lexeme, lexeme_of}
+use Rattle.rbg_macro.specs.internal.ReadTokens.{read_lexeme}
+use Rattle.rbg_macro.specs.Token.{Lexeme}
 
 abbrev pub piece_in : KeptPiece → Piece
-piece_in (kept.Word t) = Word (lexeme_of t)
+piece_in (kept.Word t) = Word (read_lexeme t)
 piece_in (kept.Place k) = Place k
 
 abbrev pub macro_of : List ℕ → Template → Macro
@@ -23,8 +24,8 @@ abbrev pub texts_in : List (Bor (List ℕ)) → List (List ℕ)
 texts_in texts = map (λ t. t.now) texts
 
 -- the tokens of the lists behind references
-abbrev pub lists_in : List (Bor (List Token)) → List (List Lexeme)
-lists_in lists = map (λ l. map lexeme_of l.now) lists
+abbrev pub lists_in : List (Bor (List ReadToken)) → List (List Lexeme)
+lists_in lists = map (λ l. map read_lexeme l.now) lists
 
 -- the token names a macro with this template
 pub record IsNamed (macros : List Macro) (t : Lexeme) (template : Template) : Type 0 where

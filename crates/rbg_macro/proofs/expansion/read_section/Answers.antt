@@ -4,6 +4,7 @@ use Rattle.std.proofs.lemmas.List.{length-map}
 use Rattle.std.proofs.lemmas.Result.{err_from_is_err_and}
 use Rattle.rbg_macro.specs.internal.Defines.{section_of}
 use Rattle.rbg_macro.specs.Expansion.{Fails}
+use Rattle.rbg_macro.specs.internal.ReadTokens.{read_lexeme}
 use Rattle.rbg_macro.specs.Token.{lexeme_of}
 use Rattle.rbg_macro.proofs.Exits.{unless_weaker}
 use Rattle.rbg_macro.proofs.Sections.{section_too_long, section_read, section_fails}
@@ -17,7 +18,7 @@ pub returns-in_err-read_list-clause-err : goal.returns-in_err-read_list-clause-e
 returns-in_err-read_list-clause-err c =
     let p = err_from_is_err_and c.from_residual-in_err-read_list.result c.from_residual-in_err-read_list.ensures.1 in
     let size : c.len.result ≡ length (section_of c.args.section.now).tokens =
-    c.len.ensures ∙ c.in_ok-tokens.tokens.ok.0 ∙ sym (length-map c.in_ok-tokens.tokens.items lexeme_of) ∙ ap length c.in_ok-tokens.ensures.tokens in
+    c.len.ensures ∙ c.in_ok-tokens.tokens.ok.0 ∙ sym (length-map c.in_ok-tokens.tokens.items read_lexeme) ∙ ap length c.in_ok-tokens.ensures.tokens in
     let counted : c.count.new.self ≡ record c.args.progress.now { read = c.args.progress.now.read + length (section_of c.args.section.now).tokens } =
     c.count.ensures ∙ ap (λ (n : ℕ). record c.args.progress.now { read = c.args.progress.now.read + n }) size in
     let seen = rw c.deref.ensures.value at c.in_err-read_list.ensures.err in
@@ -29,7 +30,7 @@ returns-in_err-read_list-clause-err c =
 pub returns-clause-ok : goal.returns-clause-ok
 returns-clause-ok c =
     let size : c.len.result ≡ length (section_of c.args.section.now).tokens =
-    c.len.ensures ∙ c.in_ok-tokens.tokens.ok.0 ∙ sym (length-map c.in_ok-tokens.tokens.items lexeme_of) ∙ ap length c.in_ok-tokens.ensures.tokens in
+    c.len.ensures ∙ c.in_ok-tokens.tokens.ok.0 ∙ sym (length-map c.in_ok-tokens.tokens.items read_lexeme) ∙ ap length c.in_ok-tokens.ensures.tokens in
     let counted : c.count.new.self ≡ record c.args.progress.now { read = c.args.progress.now.read + length (section_of c.args.section.now).tokens } =
     c.count.ensures ∙ ap (λ (n : ℕ). record c.args.progress.now { read = c.args.progress.now.read + n }) size in
     let seen = rw c.deref.ensures.value at c.in_ok-read_list.ensures.ok in

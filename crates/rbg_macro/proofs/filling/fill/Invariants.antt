@@ -3,8 +3,8 @@ use Rattle.std.proofs.Common.{◌≡◌, map, take}
 use Rattle.rbg_macro.specs.Macro.{filled}
 use Rattle.rbg_macro.specs.internal.Marks.{FillsMarks}
 use Rattle.rbg_macro.specs.internal.Template.{piece_in, lists_in}
-use Rattle.rbg_macro.specs.Token.{lexeme_of}
+use Rattle.rbg_macro.specs.internal.ReadTokens.{read_lexeme}
 use Rattle.rbg_macro.proofs.filling.fill.Given as goal
 
 abbrev pub invariant-loop-piece : goal.invariant-loop-piece
-invariant-loop-piece l = (map lexeme_of l.tokens.items ≡ filled (map piece_in (take l.piece-index l.body)) (lists_in l.arguments)) × FillsMarks l.body l.arguments l.tokens.items
+invariant-loop-piece l = (map read_lexeme l.tokens.items ≡ filled (map piece_in (take l.piece-index l.body)) (lists_in l.arguments)) × FillsMarks l.body l.arguments l.tokens.items

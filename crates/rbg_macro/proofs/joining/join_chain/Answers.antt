@@ -7,7 +7,7 @@ use Rattle.rbg_macro.proofs.joining.join_chain.Goals as goal
 pub loop-texts-init : goal.loop-texts-init
 loop-texts-init c =
     first_word c.args.tokens.now _ c.args.texts.now.items _ c.len-start.result c.requires (c.len-start.ensures ∙ c.args.texts.now.ok.0)
-    c.in_ok-extend_from_slice.ensures.items
+    (rw c.text.ensures at c.in_ok-extend_from_slice.ensures.items)
 
 pub loop-texts-preserved : goal.loop-texts-preserved
 loop-texts-preserved c =

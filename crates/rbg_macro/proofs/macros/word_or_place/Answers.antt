@@ -8,4 +8,4 @@ pub returns-in-Some : goal.returns-in-Some
 returns-in-Some c = place_of (lexeme_of c.args.token.now) c.args.parameters.now.keys c.in-Some.index (sym c.is_name.ensures ∙ c.if-not-is_name.false) c.in-Some.ensures.index
 
 pub returns-in-None : goal.returns-in-None
-returns-in-None c = word_of (lexeme_of c.args.token.now) c.args.parameters.now.keys (sym c.is_name.ensures ∙ c.if-not-is_name.false) c.in-None.ensures.index
+returns-in-None c = rw c.of_text-in-None.ensures (word_of (lexeme_of c.args.token.now) c.args.parameters.now.keys (sym c.is_name.ensures ∙ c.if-not-is_name.false) c.in-None.ensures.index)

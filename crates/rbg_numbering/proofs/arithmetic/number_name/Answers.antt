@@ -9,15 +9,15 @@ use Rattle.rbg_numbering.proofs.ArithmeticLemmas.{unknown_alone}
 use Rattle.rbg_numbering.proofs.arithmetic.number_name.Goals as goal
 
 pub returns-in-Some-clause-value : goal.returns-in-Some-clause-value
-returns-in-Some-clause-value c = inl (c.in-Some.variable, rw c.deref.ensures.value at c.in-Some.ensures, arithmetic_of-Variable c.in-Some.variable)
+returns-in-Some-clause-value c = inl (c.in-Some.variable, c.in-Some.ensures, arithmetic_of-Variable c.in-Some.variable)
 
 pub returns-in_err-find-clause-fault : goal.returns-in_err-find-clause-fault
 returns-in_err-find-clause-fault c =
     let names = names_of c.args.names.now in
     let name = name_of c.args.name.now in
     passed_on c.from_residual.result c.in_err-find.field-0.0 (HasArithmeticFault names (SpeltExpression.name name)) c.from_residual.ensures.1
-    (unknown_alone names name c.in_err-find.field-0.0 (rw c.deref.ensures.value at c.in_default.ensures) c.in_err-find.ensures.fault)
+    (unknown_alone names name c.in_err-find.field-0.0 (c.in_default.ensures) c.in_err-find.ensures.fault)
 
 pub returns-clause-value : goal.returns-clause-value
 returns-clause-value c =
-    inr (rw c.deref.ensures.value at c.in_default.ensures, (c.in_ok-find.field-0, c.in_ok-find.ensures.number, arithmetic_of-PieceCount c.in_ok-find.field-0))
+    inr (c.in_default.ensures, (c.in_ok-find.field-0, c.in_ok-find.ensures.number, arithmetic_of-PieceCount c.in_ok-find.field-0))

@@ -12,4 +12,4 @@ loop-edge-preserved c =
     let edge = c.edge-item.result in
     let P : List (List ℕ) → Type 0 = λ names. AddsInOrder names c.args.table.now c.join.new.table in
     subst P (sym (edges_more edges i edge c.loop-edge-test.true c.edge-item.is))
-    (adds_one (edge_directions (map edge_of (take i edges))) c.args.table.now c.loop-edge.table c.join.new.table edge.direction.text.items c.in_ok-join.field-0 c.loop-edge.invariant c.in_ok-join.ensures.number)
+    (adds_one (edge_directions (map edge_of (take i edges))) c.args.table.now c.loop-edge.table c.join.new.table edge.direction.text.now c.in_ok-join.field-0 c.loop-edge.invariant c.in_ok-join.ensures.number)

@@ -13,7 +13,7 @@ use Rattle.rbg_game.proofs.checking.graphs.number_cells.Goals as goal
 
 pub number_edges-requires-clause-known : goal.number_edges-requires-clause-known
 number_edges-requires-clause-known c =
-    subst (λ (edges : List Edge). All (λ edge. Contains c.args.directions.now edge.direction.text.items) edges) (sym c.deref.ensures.value)
+    subst (λ (edges : List Edge). All (λ edge. Contains c.args.directions.now edge.direction.text.now) edges) (sym c.deref.ensures.value)
     (all_known c.args.vertices.now c.args.directions.now c.loop-place.place c.index-vertices-place.result c.loop-place-test.true c.index-vertices-place.is c.requires.known)
 
 pub loop-place-preserved : goal.loop-place-preserved

@@ -1,5 +1,5 @@
-use Rattle.std.proofs.Common.{◌≡◌, ℕ, List, Some, MatchOption, sym, subst}
-use Rattle.std.specs.Prelude.{slice_get, Contains}
+use Rattle.std.proofs.Common.{sym, subst}
+use Rattle.std.specs.Prelude.{Contains}
 use Rattle.std.proofs.lemmas.Result.{err_from_is_err_and}
 use Rattle.rbg_syntax.specs.Views.{name_of, edge_of}
 use Rattle.rbg_syntax.specs.declared.description.Edge.{Edge}
@@ -12,8 +12,8 @@ pub returns-in_err-direction-clause-memory : goal.returns-in_err-direction-claus
 returns-in_err-direction-clause-memory c =
     let edge = c.edge-item.result in
     let p = err_from_is_err_and c.from_residual-in_err-direction.result c.from_residual-in_err-direction.ensures.1 in
-    let there : Contains c.args.directions.now edge.direction.text.items =
-    subst (λ (e : Edge). Contains c.args.directions.now e.direction.text.items) (sym c.edge-item.is) (c.requires.known c.loop-edge.edge-index edge c.loop-edge-test.true) in
+    let there : Contains c.args.directions.now edge.direction.text.now =
+    subst (λ (e : Edge). Contains c.args.directions.now e.direction.text.now) (sym c.edge-item.is) (c.requires.known c.loop-edge.edge-index edge c.loop-edge-test.true) in
     rw (p.1, p.2) (known_found c.args.directions.now (name_of edge.direction) c.in_err-direction.field-0.0 there c.in_err-direction.ensures.fault)
 
 pub loop-edge-preserved : goal.loop-edge-preserved
@@ -21,8 +21,7 @@ loop-edge-preserved c =
     let names = c.args.names.now in
     let edge = c.edge-item.result in
     let found = c.number_of.result in
-    let here = subst (λ (text : List ℕ). MatchOption found (¬ Contains names text) (λ n. slice_get names n ≡ Some text)) c.deref.ensures.value c.number_of.ensures in
-    let target = subst (IsTarget names (name_of edge.target)) (sym c.unwrap_or-target.ensures) (target_of names (name_of edge.target) found c.len.result here c.len.ensures.count) in
+    let target = subst (IsTarget names (name_of edge.target)) (sym c.unwrap_or-target.ensures) (target_of names (name_of edge.target) found c.len.result c.number_of.ensures c.len.ensures.count) in
     rw c.in_ok-push.ensures.items
     (AllZip-step (IsEdge c.args.directions.now names) edge_of c.args.edges.now c.loop-edge.numbers.items c.loop-edge.edge-index edge (c.in_ok-direction.direction, c.unwrap_or-target.result) c.loop-edge-test.true c.edge-item.is c.loop-edge.invariant
     (record { direction = c.in_ok-direction.ensures.number; target = target }))

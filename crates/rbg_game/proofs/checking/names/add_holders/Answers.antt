@@ -32,8 +32,8 @@ loop-holder-preserved c =
     map_more bounded_of holders i holder c.loop-holder-test.true ∙ ap (λ h. old ++ bounded_of h ∷ []) (sym c.holder-item.is) in
     let Q : List SpeltBounded → Type 0 = λ l. (c.add_holder.new.table ≡ c.args.table.now ++ holder_names l) × AddsBounds l c.args.bounds.now.items c.add_holder.new.bounds.items in
     subst Q (sym more) (
-      c.in_ok-add_holder.ensures.name ∙ ap (λ (l : List (List ℕ)). l ++ holder.name.text.items ∷ []) c.loop-holder.invariant.0
-          ∙ append_assoc c.args.table.now (holder_names old) (holder.name.text.items ∷ [])
+      c.in_ok-add_holder.ensures.name ∙ ap (λ (l : List (List ℕ)). l ++ holder.name.text.now ∷ []) c.loop-holder.invariant.0
+          ∙ append_assoc c.args.table.now (holder_names old) (holder.name.text.now ∷ [])
           ∙ ap (λ (l : List (List ℕ)). c.args.table.now ++ l) (sym (map-append (λ (h : SpeltBounded). h.name.text) old (bounded_of holder ∷ []))),
       AddsBounds-append old (bounded_of holder ∷ []) c.args.bounds.now.items c.loop-holder.bounds.items c.add_holder.new.bounds.items c.loop-holder.invariant.1 c.in_ok-add_holder.ensures.bound,
     )

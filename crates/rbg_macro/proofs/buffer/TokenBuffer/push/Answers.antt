@@ -1,11 +1,12 @@
 -- The earlier tokens stay, and the new one is the last.
-use Rattle.std.proofs.Common.{◌∷◌, [], ◌++◌, List, ◌∙◌, ap, refl}
-use Rattle.rbg_macro.specs.Token.{Lexeme, lexeme_of}
-use Rattle.rbg_macro.proofs.Spans.{pushed}
+use Rattle.std.proofs.Common.{◌∷◌, [], ◌++◌, List, ◌∙◌, ap}
+use Rattle.rbg_macro.specs.internal.ReadTokens.{read_lexeme}
+use Rattle.rbg_macro.specs.Token.{Lexeme}
+use Rattle.rbg_macro.proofs.Spans.{kept_more}
 use Rattle.rbg_macro.proofs.buffer.TokenBuffer.push.Goals as goal
 
 pub returns : goal.returns
 returns c =
-    pushed c.self.inside.texts.items _ c.self.inside.spans.items _ c.in_ok-start.start _ c.args.token.now c.self.invariant
-    c.place.ensures.front c.in_ok-start.ensures.ok refl c.in_ok-push.ensures.items
-    ∙ ap (λ (ts : List Lexeme). ts ++ lexeme_of c.args.token.now ∷ []) c.self.view_is
+    kept_more c.self.inside.joined.items _ c.self.inside.tokens.items _ (read_lexeme c.args.token.now) c.in_ok-kept.kept c.self.invariant
+    c.keep.ensures.front c.in_ok-kept.ensures.ok c.in_ok-push.ensures.items
+    ∙ ap (λ (ts : List Lexeme). ts ++ read_lexeme c.args.token.now ∷ []) c.self.view_is

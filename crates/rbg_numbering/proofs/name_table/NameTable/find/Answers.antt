@@ -3,4 +3,4 @@ use Rattle.rbg_numbering.proofs.LookUps.{unknown_alone}
 use Rattle.rbg_numbering.proofs.name_table.NameTable.find.Goals as goal
 
 pub returns-in-None-clause-fault : goal.returns-in-None-clause-fault
-returns-in-None-clause-fault c = unknown_alone c.args.self.now (name_of c.args.name.now) (λ known. c.in-None.ensures (rw c.deref.ensures.value known))
+returns-in-None-clause-fault c = unknown_alone c.args.self.now (name_of c.args.name.now) c.in-None.ensures

@@ -1,5 +1,8 @@
-use Rattle.rbg_numbering.proofs.NameLemmas.{name_found}
+use Rattle.std.proofs.Common.{◌≡◌, ◌∙◌}
+use Rattle.rbg_numbering.specs.internal.Tables.{number_for}
 use Rattle.rbg_numbering.proofs.name_table.NameTable.number_of.Goals as goal
 
 pub returns : goal.returns
-returns c = rw (← c.self.view_is) (name_found c.self.inside.names.keys c.args.text.now c.get_index_of.result c.get_index_of.ensures.index c.get_index_of.ensures.found)
+returns c =
+    let is : c.copied.result ≡ number_for c.self.inside.numbers c.args.text.now = c.copied.ensures ∙ c.get.ensures.value in
+    rw (is, ← c.self.view_is) (c.self.invariant.places c.args.text.now)
