@@ -97,13 +97,9 @@ fn each_move_is_listed_once_and_in_order(rt: HostRuntime) -> Result<(), Fail> {
 }
 
 #[test]
-fn a_list_that_is_full_is_cut(rt: HostRuntime) -> Result<(), Fail> {
+fn a_list_that_is_full_has_the_first_moves(rt: HostRuntime) -> Result<(), Fail> {
     for max in 1..8 {
-        let Ok(found) = listed(rt.alloc(), CHOICES, max)? else {
-            panic!(rt; "the question is heavy");
-        };
-        assert!(rt; found.cut);
-        assert_eq!(rt; found.moves.len(), max);
+        expect_list(&rt, rt.alloc(), CHOICES, max, &EIGHT[..max], true)?;
     }
     Ok(())
 }
@@ -132,6 +128,7 @@ fn two_hundred_modifiers_are_too_deep(rt: HostRuntime) -> Result<(), Fail> {
         panic!(rt; "the list is cut before that");
     };
     assert!(rt; found.cut);
+    assert_eq!(rt; found.moves.len(), 199);
     let Err(over) = listed(rt.alloc(), ENDLESS, 200)? else {
         panic!(rt; "the moves have no end");
     };

@@ -1,6 +1,6 @@
 -- There are no more pairs than marks for them.
-use Rattle.std.proofs.Common.{◌≡◌, ◌≢◌, ℕ, ◌+◌, ◌-◌, ◌*◌, ◌<◌, ◌≤◌, List, map, length, get_or, suc, zero, true, refl, sym, ap, ◌∙◌, subst, arith}
-use Rattle.std.specs.Prelude.{AllPairs, Contains, Decides, ◌==◌, nat_eq}
+use Rattle.std.proofs.Common.{◌≡◌, ◌≢◌, ℕ, ◌+◌, ◌-◌, ◌*◌, ◌<◌, ◌≤◌, List, map, length, get_or, suc, zero, true, ap, ◌∙◌, arith}
+use Rattle.std.specs.Prelude.{Contains, nat_eq}
 use Rattle.std.specs.List.{list_any, IsDistinct}
 use Rattle.std.proofs.lemmas.Bool.{eqb-true}
 use Rattle.std.proofs.lemmas.Bool.Decides.{Decides-eqb}
@@ -24,7 +24,7 @@ row_before : (n p : ℕ) → 0 < p → n ≤ p * n
 row_before n zero some = absurd (omega (arith, some))
 row_before n (suc p) some = grind arith
 
-module _ (n size : ℕ) (words : List ℕ) (pairs : List (ℕ × ℕ)) (are : AreMarked n size words pairs) where
+module _ (n size c : ℕ) (words : List ℕ) (pairs : List (ℕ × ℕ)) (are : AreMarked n size c words pairs) where
   numbers : List ℕ
   numbers = map (number n) pairs
 

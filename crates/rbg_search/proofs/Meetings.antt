@@ -6,13 +6,13 @@ use Rattle.std.proofs.lemmas.Nat.{div-mul-add, mod-mul-add, rows}
 use Rattle.std.proofs.lemmas.List.{get_or-set_same, get_or-set_other, length-set, length-take, get_or-take, append-nil}
 use Rattle.std.proofs.lemmas.List.Elements.{All-nil, All-push, Contains-append_left, Contains-push, Contains-push_cases, Contains-get_or, All-contains, All-weaker}
 use Rattle.std.proofs.lemmas.List.Quantifiers.{all_pairs_push}
-use Rattle.rbg_search.specs.internal.Meeting.{HasMark, Adds, MeetsAll, AreMarked, is_marked, SetsMark}
+use Rattle.rbg_search.specs.internal.Meeting.{HasMark, Adds, MeetsAll, AreMarked, is_marked, mark_at, SetsMark}
 use Rattle.std.specs.Int.{bit_at}
 use Rattle.std.specs.Int.{w64}
 use Rattle.std.specs.Prelude.{bit_or, ◌^◌, zero, suc}
 use Rattle.std.proofs.Common.{replicate}
 use Rattle.std.proofs.lemmas.Nat.Bits.{bit_at-zero, bit_at_set_same, bit_at_set_other}
-use Rattle.std.proofs.lemmas.List.{length-replicate, get_or-replicate}
+use Rattle.std.proofs.lemmas.List.{length-replicate}
 
 abbrev pub pair : ℕ → ℕ → ℕ × ℕ
 pair v p = (v, p)
@@ -22,6 +22,19 @@ pub one_pair : (n v w p q : ℕ) → v < n → w < n → p * n + v ≡ q * n + w
 one_pair n v w p q first second same =
     let positions : p ≡ q = sym (div-mul-add p n v first) ∙ ap (λ (x : ℕ). x / n) same ∙ div-mul-add q n w second in
     let vertices : v ≡ w = sym (mod-mul-add p n v first) ∙ ap (λ (x : ℕ). x % n) same ∙ mod-mul-add q n w second in
+    λ i. (vertices i, positions i)
+
+-- A bit is one pair's.
+pub one_mark : (n columns v w p q : ℕ) → n ≤ columns * 64 → v < n → w < n → mark_at columns (v, p) ≡ mark_at columns (w, q) → pair v p ≡ pair w q
+one_mark n columns v w p q wide first second same =
+    let bits : (p * columns + v / 64) * 64 + v % 64 ≡ (q * columns + w / 64) * 64 + w % 64 = same in
+    let words : p * columns + v / 64 ≡ q * columns + w / 64 = omega (arith, bits) in
+    let column_v : v / 64 < columns = omega (arith, wide, first) in
+    let column_w : w / 64 < columns = omega (arith, wide, second) in
+    let both = one_pair columns (v / 64) (w / 64) p q column_v column_w words in
+    let positions : p ≡ q = ap (λ (x : ℕ × ℕ). x.1) both in
+    let parts : v / 64 ≡ w / 64 = ap (λ (x : ℕ × ℕ). x.0) both in
+    let vertices : v ≡ w = omega (arith, parts, bits, words) in
     λ i. (vertices i, positions i)
 
 pub same_or_not : (a b : ℕ) → (a ≡ b) ⊎ (a ≢ b)
@@ -35,42 +48,46 @@ same_or_not a b = by_test (a == b) (Decides-eqb a b)
     by_test false decides = inr (λ e. false_not_true (decides.1 e))
 
 -- A pair without its mark was not met, and one with it was.
-pub not_met : (n size : ℕ) (marks : List ℕ) (pairs : List (ℕ × ℕ)) (v p : ℕ) → AreMarked n size marks pairs → v < n → is_marked marks (p * n + v) ≡ false → ¬ Contains pairs (v, p)
-not_met n size marks pairs v p are below unmarked met = true_not_false (sym ((are.marked v p below).1 met) ∙ unmarked)
+pub not_met : (n size c : ℕ) (marks : List ℕ) (pairs : List (ℕ × ℕ)) (v p : ℕ) → AreMarked n size c marks pairs → v < n → is_marked marks (mark_at c (v, p)) ≡ false → ¬ Contains pairs (v, p)
+not_met n size c marks pairs v p are below unmarked met = true_not_false (sym ((are.marked v p below).1 met) ∙ unmarked)
   where
     true_not_false : true ≡ false → ⊥
     true_not_false e = cc
 
 -- A pair that was not met is added and marked.
-pub added : (n size : ℕ) (marks after : List ℕ) (pairs : List (ℕ × ℕ)) (v p : ℕ) → AreMarked n size marks pairs → HasMark n size (v, p) → is_marked marks (p * n + v) ≡ false → SetsMark marks after (p * n + v) → AreMarked n size after (pairs ++ (v, p) ∷ [])
-added n size marks after pairs v p are has unmarked sets = record {
-  room = omega (arith, are.room, sets.size);
+pub added : (n size c : ℕ) (marks after : List ℕ) (pairs : List (ℕ × ℕ)) (v p : ℕ) → AreMarked n size c marks pairs → HasMark n size (v, p) → is_marked marks (mark_at c (v, p)) ≡ false → SetsMark marks after (mark_at c (v, p)) → AreMarked n size c after (pairs ++ (v, p) ∷ [])
+added n size c marks after pairs v p are has unmarked sets = record {
+  wide = are.wide;
+  small = omega (arith, are.small, sets.size);
+  room = λ w q has_mark. let there = are.room w q has_mark in omega (arith, there, sets.size);
   within = All-push (HasMark n size) pairs (v, p) are.within has;
   marked = λ w q below. (to w q below, from w q below);
-  different = all_pairs_push (λ a b. a ≢ b) pairs (v, p) are.different (λ k d under same. not_met n size marks pairs v p are has.vertex unmarked (subst (Contains pairs) same (Contains-get_or pairs k d under)));
+  different = all_pairs_push (λ a b. a ≢ b) pairs (v, p) are.different (λ k d under same. not_met n size c marks pairs v p are has.vertex unmarked (subst (Contains pairs) same (Contains-get_or pairs k d under)));
 }
   where
-    other : (w q : ℕ) → q * n + w ≢ p * n + v → is_marked after (q * n + w) ≡ is_marked marks (q * n + w)
-    other w q differ = sets.others (q * n + w) differ
+    other : (w q : ℕ) → mark_at c (w, q) ≢ mark_at c (v, p) → is_marked after (mark_at c (w, q)) ≡ is_marked marks (mark_at c (w, q))
+    other w q differ = sets.others (mark_at c (w, q)) differ
 
-    to : (w q : ℕ) → w < n → is_marked after (q * n + w) ≡ true → Contains (pairs ++ (v, p) ∷ []) (w, q)
-    to w q below marked = elim (same_or_not (q * n + w) (p * n + v)) [
-      | inl same ↦ subst (Contains (pairs ++ (v, p) ∷ [])) (sym (one_pair n w v q p below has.vertex same)) (Contains-push pairs (v, p))
+    to : (w q : ℕ) → w < n → is_marked after (mark_at c (w, q)) ≡ true → Contains (pairs ++ (v, p) ∷ []) (w, q)
+    to w q below marked = elim (same_or_not (mark_at c (w, q)) (mark_at c (v, p))) [
+      | inl same ↦ subst (Contains (pairs ++ (v, p) ∷ [])) (sym (one_mark n c w v q p are.wide below has.vertex same)) (Contains-push pairs (v, p))
       | inr differ ↦ Contains-append_left pairs ((v, p) ∷ []) (w, q) ((are.marked w q below).0 (sym (other w q differ) ∙ marked))
     ]
 
-    from : (w q : ℕ) → w < n → Contains (pairs ++ (v, p) ∷ []) (w, q) → is_marked after (q * n + w) ≡ true
-    from w q below met = elim (same_or_not (q * n + w) (p * n + v)) [
+    from : (w q : ℕ) → w < n → Contains (pairs ++ (v, p) ∷ []) (w, q) → is_marked after (mark_at c (w, q)) ≡ true
+    from w q below met = elim (same_or_not (mark_at c (w, q)) (mark_at c (v, p))) [
       | inl same ↦ ap (λ (k : ℕ). is_marked after k) same ∙ sets.set
       | inr differ ↦ elim (Contains-push_cases pairs (v, p) (w, q) met) [
         | inl before ↦ other w q differ ∙ (are.marked w q below).1 before
-        | inr same ↦ absurd (differ (ap (λ (x : ℕ × ℕ). x.1 * n + x.0) (sym same)))
+        | inr same ↦ absurd (differ (ap (mark_at c) (sym same)))
       ]
     ]
 
 -- No pair was met where no mark is set.
-pub none_met : (n size : ℕ) (marks : List ℕ) → size ≤ length marks * 64 → ((v p : ℕ) → v < n → is_marked marks (p * n + v) ≡ false) → AreMarked n size marks []
-none_met n size marks room none = record {
+pub none_met : (n size c : ℕ) (marks : List ℕ) → n ≤ c * 64 → length marks < 2 ^ 64 → ((v p : ℕ) → HasMark n size (v, p) → p * c + v / 64 < length marks) → ((v p : ℕ) → v < n → is_marked marks (mark_at c (v, p)) ≡ false) → AreMarked n size c marks []
+none_met n size c marks wide small room none = record {
+  wide = wide;
+  small = small;
   room = room;
   within = All-nil (HasMark n size);
   marked = λ v p below. ((λ marked. absurd (true_not_false (sym marked ∙ none v p below))), (λ (k, under, is). absurd (omega (arith, under))));
@@ -93,10 +110,10 @@ zeros_unmarked many k = ap (λ (n : ℕ). bit_at n (k % 64) == 1) (none many (k 
     none (suc n) zero = refl
     none (suc n) (suc i) = none n i
 
-pub none_met_in_zeros : (n size many : ℕ) (marks : List ℕ) → marks ≡ replicate many 0 → size ≤ many * 64 → AreMarked n size marks []
-none_met_in_zeros n size many marks zeros room =
+pub none_met_in_zeros : (n size c many : ℕ) (marks : List ℕ) → marks ≡ replicate many 0 → n ≤ c * 64 → many < 2 ^ 64 → ((v p : ℕ) → HasMark n size (v, p) → p * c + v / 64 < many) → AreMarked n size c marks []
+none_met_in_zeros n size c many marks zeros wide small room =
     let long : length marks ≡ many = ap length zeros ∙ length-replicate many 0 in
-    none_met n size marks (omega (arith, long, room)) (λ v p below. ap (λ (ws : List ℕ). is_marked ws (p * n + v)) zeros ∙ zeros_unmarked many (p * n + v))
+    none_met n size c marks wide (omega (arith, long, small)) (λ v p has. let there = room v p has in omega (arith, long, there)) (λ v p below. ap (λ (ws : List ℕ). is_marked ws (mark_at c (v, p))) zeros ∙ zeros_unmarked many (mark_at c (v, p)))
 
 -- A mark that is set in its word, and no other there.
 pub sets_mark : (words : List ℕ) (k : ℕ) → k < length words * 64 → SetsMark words (set words (k / 64) (bit_or (get_or words (k / 64) 0) (1 * 2 ^ (k % 64) % 2 ^ 64))) k
@@ -153,12 +170,12 @@ unmarked_here words k below =
     ap (λ (n : ℕ). bit_at n (k % 64) == 1) (get_or-set_same words (k / 64) 0 0 there) ∙ ap (λ (n : ℕ). n == 1) (bit_at-zero (k % 64))
 
 -- Where the marks of the pairs are taken away and none is set, none is left.
-pub all_unmarked : (n size : ℕ) (marks left : List ℕ) (pairs : List (ℕ × ℕ)) → AreMarked n size marks pairs → length left ≡ length marks → All (λ q. is_marked left (q.1 * n + q.0) ≡ false) pairs → ((k : ℕ) → is_marked left k ≡ true → is_marked marks k ≡ true) → AreMarked n size left []
-all_unmarked n size marks left pairs are same_size gone kept = none_met n size left (omega (arith, are.room, same_size)) (λ v p below. by_kind v p below (is_marked left (p * n + v)) refl)
+pub all_unmarked : (n size c : ℕ) (marks left : List ℕ) (pairs : List (ℕ × ℕ)) → AreMarked n size c marks pairs → length left ≡ length marks → All (λ q. is_marked left (mark_at c q) ≡ false) pairs → ((k : ℕ) → is_marked left k ≡ true → is_marked marks k ≡ true) → AreMarked n size c left []
+all_unmarked n size c marks left pairs are same_size gone kept = none_met n size c left are.wide (omega (arith, are.small, same_size)) (λ v p has. let there = are.room v p has in omega (arith, there, same_size)) (λ v p below. by_kind v p below (is_marked left (mark_at c (v, p))) refl)
   where
-    by_kind : (v p : ℕ) → v < n → (r : Bool) → is_marked left (p * n + v) ≡ r → is_marked left (p * n + v) ≡ false
+    by_kind : (v p : ℕ) → v < n → (r : Bool) → is_marked left (mark_at c (v, p)) ≡ r → is_marked left (mark_at c (v, p)) ≡ false
     by_kind v p below false e = e
-    by_kind v p below true e = All-contains (λ q. is_marked left (q.1 * n + q.0) ≡ false) pairs (v, p) gone ((are.marked v p below).0 (kept (p * n + v) e))
+    by_kind v p below true e = All-contains (λ q. is_marked left (mark_at c q) ≡ false) pairs (v, p) gone ((are.marked v p below).0 (kept (mark_at c (v, p)) e))
 
 -- A pair stands for the first time where it was met.
 pub met_once : (pairs : List (ℕ × ℕ)) (k : ℕ) (q : ℕ × ℕ) → AllPairs (λ a b. a ≢ b) pairs → k < length pairs → get_or pairs k q ≡ q → ¬ Contains (take k pairs) q
@@ -203,8 +220,28 @@ mark_position n marks last v p size has =
     omega (arith, row, is)
 
 -- All marks are gone where the words are zeros.
-pub all_gone : (n many : ℕ) (words : List ℕ) (pairs : List (ℕ × ℕ)) → words ≡ replicate many 0 → All (λ q. is_marked words (q.1 * n + q.0) ≡ false) pairs
-all_gone n many words pairs zeros = λ k d below. ap (λ (ws : List ℕ). is_marked ws ((get_or pairs k d).1 * n + (get_or pairs k d).0)) zeros ∙ zeros_unmarked many ((get_or pairs k d).1 * n + (get_or pairs k d).0)
+pub all_gone : (c many : ℕ) (words : List ℕ) (pairs : List (ℕ × ℕ)) → words ≡ replicate many 0 → All (λ q. is_marked words (mark_at c q) ≡ false) pairs
+all_gone c many words pairs zeros = λ k d below. ap (λ (ws : List ℕ). is_marked ws (mark_at c (get_or pairs k d))) zeros ∙ zeros_unmarked many (mark_at c (get_or pairs k d))
+
+-- There is room for a pair's mark in the words of a queue for these positions.
+pub room_for : (n c last v p : ℕ) → n ≤ c * 64 → HasMark n ((last + 1) * n) (v, p) → p * c + v / 64 < (last + 1) * c
+room_for n c last v p wide has =
+    let vertex : v < n = has.vertex in
+    let here : p ≤ last = mark_position n ((last + 1) * n) last v p refl has in
+    let column : v / 64 < c = omega (arith, wide, vertex) in
+    let rows_here : p * c + c ≤ (last + 1) * c = grind arith in
+    omega (arith, column, rows_here)
+
+-- The word and the bit of a pair's mark.
+pub word_of_mark : (c v p : ℕ) → mark_at c (v, p) / 64 ≡ p * c + v / 64
+word_of_mark c v p =
+    let is : ((p * c + v / 64) * 64 + v % 64) / 64 ≡ p * c + v / 64 = omega arith in
+    is
+
+pub bit_of_mark : (c v p : ℕ) → mark_at c (v, p) % 64 ≡ v % 64
+bit_of_mark c v p =
+    let is : ((p * c + v / 64) * 64 + v % 64) % 64 ≡ v % 64 = omega arith in
+    is
 
 pub none_marked : (many k : ℕ) (words : List ℕ) (P : Type 0) → words ≡ replicate many 0 → is_marked words k ≡ true → P
 none_marked many k words P zeros is = absurd (true_not_false (sym is ∙ ap (λ (ws : List ℕ). is_marked ws k) zeros ∙ zeros_unmarked many k))

@@ -1,6 +1,6 @@
 //! One flat part: the pairs that are reached without a modifier, the modifiers found among them, and whether a word may
 //! end.
-ghost use Rattle.std.specs.Prelude.{◌≡◌, ℕ, ◌<◌, ◌≤◌, ◌+◌, ◌-◌, ◌↔◌, [], ◌∷◌, ◌++◌, length, take, slice_get, Contains, Some, IfOk, IfSome, IfNone, OnOk, IsTrue};
+ghost use Rattle.std.specs.Prelude.{◌≡◌, ℕ, ◌<◌, ◌≤◌, ◌+◌, ◌-◌, ◌^◌, ◌↔◌, [], ◌∷◌, ◌++◌, length, take, slice_get, Contains, Some, IfOk, IfSome, IfNone, OnOk, IsTrue};
 ghost use Rattle.rbg_rules.specs.State.{AbstractState, IsStateOf};
 ghost use Rattle.rbg_rules.specs.Positions.{IsPatternAt};
 ghost use Rattle.rbg_rules.specs.Words.{Start};
@@ -85,7 +85,6 @@ impl Flat {
     }
 
     /// Takes the next pair, of which this became.
-    #[inline(always)]
     pub(crate) fn take<S: Steps>(
         &mut self,
         rules: &GameSteps<'_, S>,
@@ -110,14 +109,47 @@ impl Flat {
         ensures within { OnOk result (self.new.taken ≤ length self.new.queue.pairs) }
     {
         let (vertex, position) = self.queue.pair(self.taken);
+        self.take_pair(rules, vertex, position, outcome)?;
+        Ok(())
+    }
+
+    /// Takes the next pair, which is this one, and of which this became.
+    #[inline(always)]
+    fn take_pair<S: Steps>(
+        &mut self,
+        rules: &GameSteps<'_, S>,
+        vertex: Vertex,
+        position: Position,
+        outcome: Outcome,
+    ) -> Result<(), Memory>
+        requires marks { HasMarksOf rules.now self.old.queue }
+        requires next { slice_get self.old.queue.pairs self.old.taken ≡ Some (vertex, position) }
+        requires once { ¬ Contains (take self.old.taken self.old.queue.pairs) (vertex, position) }
+        requires left { self.old.taken < length self.old.queue.pairs }
+        requires small { self.old.taken + 1 < 2 ^ 64 }
+        requires there { (u : ℕ) → outcome ≡ Outcome.LeadsTo u → u < length rules.now.board.first }
+        ensures marks { HasMarksOf rules.now self.new.queue }
+        ensures part { OnOk result ((s : AbstractState) (f : Start)
+            → IsOutcome rules.now s vertex position outcome
+            → IsPart rules.now s f self.old.queue.pairs (take self.old.taken self.old.queue.pairs)
+            self.old.found.items self.old.ends
+            → IsPart rules.now s f self.new.queue.pairs (take self.new.taken self.new.queue.pairs)
+            self.new.found.items self.new.ends) }
+        ensures taken { OnOk result (self.new.taken ≡ self.old.taken + 1) }
+        ensures done { OnOk result (take self.new.taken self.new.queue.pairs
+            ≡ take self.old.taken self.old.queue.pairs ++ (vertex, position) ∷ []) }
+        ensures within { OnOk result (self.new.taken ≤ length self.new.queue.pairs) }
+    {
         self.taken += 1;
         match outcome {
             Outcome::Invalid => {}
             Outcome::Modifies => self.found.push((vertex, position))?,
             Outcome::LeadsTo(to) => {
                 let here = Origin::After(position);
-                self.ends |= rules.may_end(here);
-                self.queue.meet_all(to, rules.following(here))?;
+                let ends = rules.may_end(here);
+                let following = rules.following(here);
+                self.ends |= ends;
+                self.queue.meet_all(to, following)?;
             }
         }
         Ok(())
@@ -161,29 +193,31 @@ impl Flat {
     {
         while self.taken < self.queue.len() {
             let (vertex, position) = self.queue.pair(self.taken);
-            if rules.game().is_pattern(position) {
+            let Some(outcome) = tried(rules.game(), state, vertex, position) else {
                 return Ok(Some((vertex, position)));
-            }
-            let outcome = tried(rules.game(), state, vertex, position);
-            self.take(rules, outcome)?;
+            };
+            self.take_pair(rules, vertex, position, outcome)?;
         }
         Ok(None)
     }
 }
 
-/// What becomes of an action that is no pattern where it is tried at a vertex. Nothing changes.
-fn tried(game: &Game, state: &SemiState, vertex: Vertex, position: Position) -> Outcome
+/// What becomes of an action where it is tried at a vertex; none where it is a pattern. Nothing changes.
+fn tried(game: &Game, state: &SemiState, vertex: Vertex, position: Position) -> Option<Outcome>
     requires lawful { IsGame game.now }
     requires fits { IsStateOf game.now state.now.state }
     requires there { vertex < length game.now.board.first }
     requires position { IsPositionOf game.now.rules position }
-    requires no_pattern { ¬ IsPatternAt game.now.rules position }
-    ensures outcome { IsOutcome game.now state.now.state vertex position result }
-    ensures there { (u : ℕ) → result ≡ Outcome.LeadsTo u → u < length game.now.board.first }
+    ensures outcome { IfSome result (λ outcome. IsOutcome game.now state.now.state vertex position outcome) }
+    ensures there { IfSome result (λ outcome. (u : ℕ) → outcome ≡ Outcome.LeadsTo u
+        → u < length game.now.board.first) }
+    ensures plain { IfSome result (λ _. ¬ IsPatternAt game.now.rules position) }
+    ensures pattern { IfNone result (IsPatternAt game.now.rules position) }
 {
     match state.try_at(game, vertex, position) {
-        Trial::Invalid => Outcome::Invalid,
-        Trial::Modifies => Outcome::Modifies,
-        Trial::LeadsTo(to) => Outcome::LeadsTo(to),
+        Trial::Pattern => None,
+        Trial::Invalid => Some(Outcome::Invalid),
+        Trial::Modifies => Some(Outcome::Modifies),
+        Trial::LeadsTo(to) => Some(Outcome::LeadsTo(to)),
     }
 }

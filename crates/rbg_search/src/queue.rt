@@ -1,6 +1,6 @@
 //! The pairs of a vertex and a position that a flat part meets, each once, in the order in which they are met.
-ghost use Rattle.std.specs.Prelude.{◌≡◌, ℕ, ◌<◌, ◌≤◌, ◌+◌, ◌-◌, ◌*◌, ◌/◌, ◌^◌, [], length, slice_get, Some, take, All, Contains, true, false, OnOk, OnErr, IfOk, IsTrue};
-ghost use Rattle.rbg_search.specs.internal.Meeting.{HasMark, Adds, MeetsAll, is_marked};
+ghost use Rattle.std.specs.Prelude.{◌≡◌, ℕ, ◌<◌, ◌≤◌, ◌+◌, ◌-◌, ◌*◌, ◌/◌, ◌%◌, ◌^◌, [], length, slice_get, Some, take, All, Contains, true, false, OnOk, OnErr, IfOk, IsTrue};
+ghost use Rattle.rbg_search.specs.internal.Meeting.{HasMark, Adds, MeetsAll, is_marked, mark_at};
 
 use rbg_base::{Memory, Position, Vertex};
 use std::alloc::Global;
@@ -12,7 +12,9 @@ pub(crate) struct Queue {
     vertices: usize,
     /// How many marks there are: one for each vertex, for each position.
     marks: usize,
-    /// The marks as a row of bits: whether each pair was met.
+    /// How many words hold the marks of a position: one for each 64 vertices.
+    columns: usize,
+    /// The marks as rows of bits, one row for each position: whether each pair was met.
     words: Vec<u64>,
     pairs: Vec<(Vertex, Position)>,
 }
@@ -26,7 +28,7 @@ impl Model for Queue {
 
     ghost use Rattle.rbg_search.specs.internal.Meeting.{AreMarked};
 
-    ghost invariant = { λ q. AreMarked q.vertices q.marks q.words.items q.pairs.items };
+    ghost invariant = { λ q. AreMarked q.vertices q.marks q.columns q.words.items q.pairs.items };
 }
 
 impl Queue {
@@ -37,11 +39,12 @@ impl Queue {
         ensures marks { IfOk result (λ queue. queue.marks ≡ (last + 1) * vertices) }
         ensures pairs { IfOk result (λ queue. queue.pairs ≡ []) }
     {
-        let marks = (last as usize + 1) * vertices;
+        let columns = (vertices + 63) / 64;
         Ok(Queue {
             vertices,
-            marks,
-            words: vec![in alloc; 0; marks / 64 + 1]?,
+            marks: (last as usize + 1) * vertices,
+            columns,
+            words: vec![in alloc; 0; (last as usize + 1) * columns]?,
             pairs: Vec::new(alloc),
         })
     }
@@ -81,10 +84,11 @@ impl Queue {
         ensures added { OnOk result (Adds self.old.pairs self.new.pairs (vertex, position)) }
         ensures refused { OnErr result (self.new ≡ self.old) }
     {
-        let mark = position as usize * self.vertices + vertex as usize;
-        if !is_marked(&self.words, mark) {
+        let word = position as usize * self.columns + vertex as usize / 64;
+        let bit = vertex % 64;
+        if !is_marked(&self.words, word, bit) {
             self.pairs.push((vertex, position))?;
-            self.words[mark / 64] |= 1 << (mark % 64);
+            self.words[word] |= 1 << bit;
         }
         Ok(())
     }
@@ -105,25 +109,26 @@ impl Queue {
     pub(crate) fn clear(&mut self)
         ensures { self.new ≡ record self.old { pairs = [] } }
     {
-        unmark(&mut self.words, &self.pairs, self.vertices);
+        unmark(&mut self.words, &self.pairs, self.columns);
         self.pairs.clear();
     }
 }
 
-/// Whether a mark is set.
-fn is_marked(words: &[u64], mark: usize) -> bool
-    requires { mark < length words.now * 64 }
-    ensures { result ≡ is_marked words.now mark }
+/// Whether the mark is set that is this bit of this word.
+fn is_marked(words: &[u64], word: usize, bit: u32) -> bool
+    requires word { word < length words.now }
+    requires bit { bit < 64 }
+    ensures { (k : ℕ) → k / 64 ≡ word → k % 64 ≡ bit → result ≡ is_marked words.now k }
 {
-    words[mark / 64] >> (mark % 64) & 1 == 1
+    words[word] >> bit & 1 == 1
 }
 
 /// Takes the marks of the pairs away, and maybe others.
-fn unmark(words: &mut [u64], pairs: &[(Vertex, Position)], vertices: usize)
-    requires small { All (λ q. q.1 * vertices + q.0 < 2 ^ 64) pairs.now }
-    requires there { All (λ q. (q.1 * vertices + q.0) / 64 < length words.old) pairs.now }
+fn unmark(words: &mut [u64], pairs: &[(Vertex, Position)], columns: usize)
+    requires small { All (λ q. q.1 * columns + q.0 / 64 < 2 ^ 64) pairs.now }
+    requires there { All (λ q. q.1 * columns + q.0 / 64 < length words.old) pairs.now }
     ensures size { length words.new ≡ length words.old }
-    ensures gone { All (λ q. is_marked words.new (q.1 * vertices + q.0) ≡ false) pairs.now }
+    ensures gone { All (λ q. is_marked words.new (mark_at columns q) ≡ false) pairs.now }
     ensures none_set { (k : ℕ) → is_marked words.new k ≡ true → is_marked words.old k ≡ true }
 {
     if words.len() <= pairs.len() {
@@ -131,7 +136,7 @@ fn unmark(words: &mut [u64], pairs: &[(Vertex, Position)], vertices: usize)
         return;
     }
     for (vertex, position) in pairs {
-        let mark = *position as usize * vertices + *vertex as usize;
-        words[mark / 64] = 0;
+        let word = *position as usize * columns + *vertex as usize / 64;
+        words[word] = 0;
     }
 }

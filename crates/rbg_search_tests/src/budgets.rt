@@ -75,27 +75,40 @@ fn ask(alloc: Global, row: &str, rules: &str, budget: Budget) -> Result<Answer, 
 
 #[test]
 fn a_pattern_takes_up_its_openings_and_no_more_than_allowed(rt: HostRuntime) -> Result<(), Fail> {
-    let rules = "->white {! ([w] + [e]) {}} ->black";
-    for (openings, modifiers, valid, opened, taken) in [
-        (3, 200, Ok(true), 3, 4),
-        (3, 2, Ok(true), 3, 4),
-        (2, 200, Err(Over::Wide), 2, 3),
-        (1, 200, Err(Over::Wide), 1, 2),
-        (0, 200, Err(Over::Wide), 0, 0),
-        (3, 1, Err(Over::Deep), 1, 2),
-        (3, 0, Err(Over::Deep), 1, 2),
+    let choice = "->white {! ([w] + [e]) {}} ->black";
+    // A heavy pattern and a light one, and a heavy one beside words that end. Patterns are asked in the order of the
+    // queue, each when its pair is taken, and all of them before an end answers yes; an end does so before modifiers.
+    let heavy_first = "->white {! ({! [w] {}} + {! {e}}) {}} ->black";
+    let light_first = "->white {! ({! {e}} + {! [w] {}}) {}} ->black";
+    let behind_a_shift = "->white {! (right {! {e}} + {! [w] {}}) {}} ->black";
+    let beside_an_end = "->white {? ({e} + {! [w] {}})} ->black";
+    let may_end = "->white {? ([w])*} ->black";
+    for (rules, openings, modifiers, valid, opened, taken) in [
+        (choice, 3, 200, Ok(true), 3, 4),
+        (choice, 3, 2, Ok(true), 3, 4),
+        (choice, 2, 200, Err(Over::Wide), 2, 3),
+        (choice, 1, 200, Err(Over::Wide), 1, 2),
+        (choice, 0, 200, Err(Over::Wide), 0, 0),
+        (choice, 3, 1, Err(Over::Deep), 1, 2),
+        (choice, 3, 0, Err(Over::Deep), 1, 2),
+        (choice, 1, 1, Err(Over::Deep), 1, 2),
+        (heavy_first, 2, 1, Err(Over::Deep), 2, 1),
+        (light_first, 2, 1, Err(Over::Wide), 2, 1),
+        (behind_a_shift, 2, 1, Err(Over::Deep), 2, 1),
+        (beside_an_end, 2, 1, Err(Over::Deep), 2, 1),
+        (may_end, 1, 1, Ok(true), 1, 1),
     ] {
         let budget = Budget {
             openings,
             modifiers,
         };
-        let answer = ask(rt.alloc(), "[e]", rules, budget)?;
+        let answer = ask(rt.alloc(), "[e,e]", rules, budget)?;
         let wanted = Answer {
             valid,
             opened,
             taken,
         };
-        assert_eq!(rt; answer, wanted, "at {openings} and {modifiers}");
+        assert_eq!(rt; answer, wanted, "at {rules}, {openings} and {modifiers}");
     }
     Ok(())
 }

@@ -1,24 +1,23 @@
 -- What is told of an action that is tried, and of the position where it stands.
-use Rattle.std.proofs.Common.{◌≡◌, ℕ, ◌<◌, ◌≤◌, true, false, sym, refl, ap, subst, ◌∙◌, length}
-use Rattle.std.specs.Prelude.{pos, slice_index, Some}
-use Rattle.std.proofs.lemmas.Bool.{false_from_ne_true}
+use Rattle.std.proofs.Common.{◌≡◌, ℕ, ◌<◌, Bool, true, false, sym, refl, ap, subst, ◌∙◌, length}
 use Rattle.rbg_base.specs.declared.relation.Relation.{Relation}
-use Rattle.rbg_rules.specs.Expression.{AbstractArithmetic, number, variable, piece_count, negated, sum, difference, product, quotient, AbstractAction, assignment, comparison}
-use Rattle.rbg_rules.specs.Positions.{HasAction, IsNumbered, IsModifierAt, IsPatternAt, is_modifier}
+use Rattle.rbg_rules.specs.Expression.{AbstractArithmetic, number, variable, piece_count, negated, sum, difference, product, quotient, AbstractAction, comparison}
+use Rattle.rbg_rules.specs.Positions.{HasAction, IsPatternAt, is_modifier}
 use Rattle.rbg_rules.specs.State.{AbstractGame, AbstractState, IsStateOf}
-use Rattle.rbg_rules.specs.Actions.{Acts, Applies}
-use Rattle.rbg_rules.specs.Values.{value_of, if_fits, on_values, divided}
-use Rattle.rbg_rules.specs.Games.{IsGame}
+use Rattle.rbg_rules.specs.Actions.{Acts}
+use Rattle.rbg_rules.specs.Values.{value_of}
+use Rattle.rbg_rules.specs.Games.{IsGame, IsActionOf}
 use Rattle.rbg_rules.specs.Translation.{shows_pattern}
 use Rattle.rbg_rules.specs.Table.{Shows, Stands}
 use Rattle.rbg_rules.specs.declared.rule.Action.{Action}
+use Rattle.rbg_rules.specs.declared.rule.Action.TheVariants.{Shift, On, Off, Assign, Compare, Switch, Positive, Negative}
 use Rattle.rbg_rules.proofs.MoveLemmas.{applied_acts}
 use Rattle.rbg_rules.proofs.PositionLemmas.{one_stands}
 use Rattle.rbg_rules.proofs.StateLemmas.{state_law}
 use Rattle.rbg_rules.proofs.TableLemmas.{pattern_stands}
 use Rattle.rbg_state.specs.Trials.{Tells, IsTrial}
 use Rattle.rbg_state.specs.declared.state.trials.Trial.{Trial}
-use Rattle.rbg_state.specs.declared.state.trials.Trial.TheVariants.{Invalid, Modifies, LeadsTo}
+use Rattle.rbg_state.specs.declared.state.trials.Trial.TheVariants.{Invalid, Modifies, Pattern, LeadsTo}
 use Rattle.rbg_state.proofs.Applying.{ShownAction, shown_action}
 
 -- the semi-state with this current vertex
@@ -46,20 +45,37 @@ compares_here game e f r s t v (x, y, left, right, holds, same) = (x, y, sym (sa
 true_not_false : true ≡ false → ⊥
 true_not_false e = cc
 
-module _ (game : AbstractGame) (lawful : IsGame game) (p : ℕ) (i : Action) (stands : Stands game.rules p i) (no_pattern : ¬ IsPatternAt game.rules p) (s : AbstractState) where
+module _ (game : AbstractGame) (lawful : IsGame game) (p : ℕ) (i : Action) (stands : Stands game.rules p i) (s : AbstractState) where
   tried_by : (trial : Trial) → ShownAction game.rules p i → ((a : AbstractAction) → Shows a i → Tells game a s trial) → IsTrial game s p trial
   tried_by Invalid here tells = λ u applies. tells here.action here.shown u (applied_acts game lawful.numbered p here.action here.stands applies)
   tried_by Modifies here tells =
       let (modifies, (t, acts)) = tells here.action here.shown in
       (record { action = here.action; stands = here.stands; modifies = modifies }, (t, record { action = here.action; stands = here.stands; acts = acts }))
+  tried_by Pattern here tells = absurd (tells here.action here.shown)
   tried_by (LeadsTo v) here tells =
       let (quiet, acts) = tells here.action here.shown in
       ((λ m. true_not_false (sym m.modifies ∙ ap is_modifier (one_stands game.rules lawful.numbered p m.action here.action m.stands here.stands) ∙ quiet)), record { action = here.action; stands = here.stands; acts = acts })
 
-  pub tried : (trial : Trial) → ((a : AbstractAction) → Shows a i → Tells game a s trial) → IsTrial game s p trial
-  tried trial tells =
-      let plain = false_from_ne_true (shows_pattern i) (λ yes. no_pattern ((pattern_stands game.rules lawful.numbered p i stands).0 yes)) in
-      tried_by trial (shown_action game.rules p i plain stands) tells
+  pub tried : (trial : Trial) → (shows_pattern i ≡ false → (a : AbstractAction) → Shows a i → Tells game a s trial) → (shows_pattern i ≡ true → trial ≡ Pattern) → IsTrial game s p trial
+  tried trial tells asks = by_kind (shows_pattern i) refl
+    where
+      by_kind : (r : Bool) → shows_pattern i ≡ r → IsTrial game s p trial
+      by_kind true is = subst (IsTrial game s p) (sym (asks is)) ((pattern_stands game.rules lawful.numbered p i stands).0 is)
+      by_kind false is = tried_by trial (shown_action game.rules p i is stands) (tells is)
+
+  pub tried_pattern : (trial : Trial) → (shows_pattern i ≡ true → trial ≡ Pattern) → IsPatternAt game.rules p → trial ≡ Pattern
+  tried_pattern trial asks is = asks ((pattern_stands game.rules lawful.numbered p i stands).1 is)
+
+-- An action that is shown at a position is one of the game's.
+pub named_here : (game : AbstractGame) → IsGame game → (p : ℕ) (i : Action) → Stands game.rules p i → (a : AbstractAction) → Shows a i → IsActionOf game a
+named_here game lawful p (Shift d) stands a shown = lawful.actions p a (subst (HasAction game.rules p) (sym shown) stands)
+named_here game lawful p (On pieces) stands a shown = lawful.actions p a (subst (HasAction game.rules p) (sym shown) stands)
+named_here game lawful p (Off x) stands a shown = lawful.actions p a (subst (HasAction game.rules p) (sym shown) stands)
+named_here game lawful p (Assign v e) stands a shown = lawful.actions p a (subst (HasAction game.rules p) (sym shown) stands)
+named_here game lawful p (Compare e r f) stands a shown = lawful.actions p a (subst (HasAction game.rules p) (sym shown) stands)
+named_here game lawful p (Switch n) stands a shown = lawful.actions p a (subst (HasAction game.rules p) (sym shown) stands)
+named_here game lawful p Positive stands a (x, shown) = subst (IsActionOf game) (sym shown) _
+named_here game lawful p Negative stands a (x, shown) = subst (IsActionOf game) (sym shown) _
 
 -- The vertex where an action leads is one of the board.
 pub leads_within : (game : AbstractGame) (lawful : IsGame game) (p : ℕ) (s : AbstractState) (v u : ℕ) → IsStateOf game s → v < length s.pieces → (trial : Trial) → IsTrial game (standing s v) p trial → trial ≡ LeadsTo u → u < length s.pieces

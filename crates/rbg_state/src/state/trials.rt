@@ -1,5 +1,5 @@
 //! What the actions of a game would do to a semi-state, which stays as it is.
-ghost use Rattle.std.specs.Prelude.{◌≡◌, ℕ, ◌<◌, ◌≤◌, false, length, slice_index, Option};
+ghost use Rattle.std.specs.Prelude.{◌≡◌, ℕ, ◌<◌, ◌≤◌, ◌↔◌, true, false, length, slice_index, Contains, IsTrue, Option};
 ghost use Rattle.rbg_board.specs.Graph.{next};
 ghost use Rattle.rbg_rules.specs.Expression.{AbstractAction, shift, on, assignment, comparison};
 ghost use Rattle.rbg_rules.specs.State.{AbstractGame, AbstractState, IsStateOf};
@@ -23,6 +23,8 @@ pub enum Trial {
     Invalid,
     /// It is a modifier, and valid there.
     Modifies,
+    /// It is a pattern, whose inside wasn't tried.
+    Pattern,
     /// It is no modifier and valid there, and leads to this vertex.
     LeadsTo(Vertex),
 }
@@ -34,8 +36,8 @@ impl SemiState {
         requires vertex { vertex < length self.now.state.pieces }
         requires from_one { 0 < position }
         requires there { position ≤ length (positions_of game.now.rules) }
-        requires no_pattern { ¬ IsPatternAt game.now.rules position }
         ensures told { IsTrial game.now (record self.now.state { vertex = vertex }) position result }
+        ensures pattern { IsPatternAt game.now.rules position → result ≡ Trial.Pattern }
         ensures there { (v : ℕ) → result ≡ Trial.LeadsTo v → v < length self.now.state.pieces }
     {
         self.tell(game, game.board(), game.action(position), vertex)
@@ -48,9 +50,9 @@ impl SemiState {
         requires fits { IsStateOf game.now self.now.state }
         requires vertex { vertex < length self.now.state.pieces }
         requires named { (a : AbstractAction) → Shows a action.now → IsActionOf game.now a }
-        requires no_pattern { shows_pattern action.now ≡ false }
-        ensures { (a : AbstractAction) → Shows a action.now
+        ensures told { shows_pattern action.now ≡ false → (a : AbstractAction) → Shows a action.now
             → Tells game.now a (record self.now.state { vertex = vertex }) result }
+        ensures pattern { shows_pattern action.now ≡ true → result ≡ Trial.Pattern }
     {
         match action {
             Action::Shift { direction } => tell_shift(board.step(vertex, *direction)),
@@ -63,7 +65,8 @@ impl SemiState {
             Action::Assign { variable, value } => self.tell_assign(value, game.bound(*variable)),
             Action::Off { .. } => Trial::Modifies,
             Action::Switch { .. } => Trial::Modifies,
-            Action::Positive | Action::Negative => unreachable!(),
+            Action::Positive => Trial::Pattern,
+            Action::Negative => Trial::Pattern,
         }
     }
 
@@ -72,7 +75,7 @@ impl SemiState {
         requires { vertex < length self.now.state.pieces }
         ensures { (game : AbstractGame) → Tells game (on pieces.now) (record self.now.state { vertex = vertex }) result }
     {
-        if pieces.contains(&self.piece(vertex)) {
+        if is_among(pieces, self.piece(vertex)) {
             Trial::LeadsTo(vertex)
         } else {
             Trial::Invalid
@@ -111,6 +114,18 @@ impl SemiState {
             None => Trial::Invalid,
         }
     }
+}
+
+/// Whether a piece is one of these. They are few, and a call to look for it would cost more than the look.
+fn is_among(pieces: &[Piece], piece: Piece) -> bool
+    ensures { IsTrue result ↔ Contains pieces.now piece }
+{
+    for listed in pieces {
+        if *listed == piece {
+            return true;
+        }
+    }
+    false
 }
 
 /// What a shift would do that leads to this vertex, or nowhere.

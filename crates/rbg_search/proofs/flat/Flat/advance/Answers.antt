@@ -1,4 +1,4 @@
-use Rattle.std.proofs.Common.{rules, inl, inr, ◌≡◌, ℕ, List, [], ◌∷◌, ◌++◌, take, sym, ◌∙◌, subst, arith}
+use Rattle.std.proofs.Common.{rules, inl, inr, ◌≡◌, ℕ, List, [], ◌∷◌, ◌++◌, take, sym, subst, arith}
 use Rattle.std.specs.Prelude.{Contains}
 use Rattle.std.proofs.lemmas.List.Elements.{Contains-append_left, Contains-push_cases}
 use Rattle.std.proofs.lemmas.List.{take_all}
@@ -19,20 +19,20 @@ pub loop-self-preserved : goal.loop-self-preserved
 loop-self-preserved g c =
     let v = c.pair-vertex.result.0 in
     let q = c.pair-vertex.result.1 in
-    let outcome : IsOutcome c.args.rules.now c.args.state.now.state v q c.tried-outcome.result =
-    subst (λ (x : AbstractGame). IsOutcome x c.args.state.now.state v q c.tried-outcome.result) c.game-in-loop-self.ensures.game c.tried-outcome.ensures.outcome in
+    let outcome : IsOutcome c.args.rules.now c.args.state.now.state v q c.in-Some.outcome =
+    subst (λ (x : AbstractGame). IsOutcome x c.args.state.now.state v q c.in-Some.outcome) c.game.ensures.game c.in-Some.ensures.outcome in
     record {
-      marks = c.take.ensures.marks;
-      part = λ f part. c.in_ok-take.ensures.part c.args.state.now.state f v q c.pair-vertex.ensures.pair outcome (c.loop-self.invariant.part f part);
-      within = c.in_ok-take.ensures.within;
-      further = omega (arith, c.in_ok-take.ensures.taken, c.loop-self.invariant.further);
+      marks = c.take_pair.ensures.marks;
+      part = λ f part. c.in_ok-take_pair.ensures.part c.args.state.now.state f outcome (c.loop-self.invariant.part f part);
+      within = c.in_ok-take_pair.ensures.within;
+      further = omega (arith, c.in_ok-take_pair.ensures.taken, c.loop-self.invariant.further);
       still_done = λ x h.
-          let one_more = c.in_ok-take.ensures.done v q c.pair-vertex.ensures.pair in
+          let one_more = c.in_ok-take_pair.ensures.done in
           subst (λ (ds : List (ℕ × ℕ)). Contains ds x) (sym one_more) (Contains-append_left (take c.loop-self.self.taken c.loop-self.self.queue.pairs) ((v, q) ∷ []) x (c.loop-self.invariant.still_done x h));
       quiet = λ w p there is.
-          let one_more = c.in_ok-take.ensures.done v q c.pair-vertex.ensures.pair in
+          let one_more = c.in_ok-take_pair.ensures.done in
           let there' : Contains (take c.loop-self.self.taken c.loop-self.self.queue.pairs ++ (v, q) ∷ []) (w, p) = subst (λ (ds : List (ℕ × ℕ)). Contains ds (w, p)) one_more there in
-          let other : ¬ IsPatternAt c.args.rules.now.rules q = search rules in
+          let other : ¬ IsPatternAt c.args.rules.now.rules q = subst (λ (x : AbstractGame). ¬ IsPatternAt x.rules q) c.game.ensures.game c.in-Some.ensures.plain in
           c.loop-self.invariant.quiet w p (quiet_before c.args.rules.now.rules (take c.loop-self.self.taken c.loop-self.self.queue.pairs) v q other w p there' is) is;
     }
 

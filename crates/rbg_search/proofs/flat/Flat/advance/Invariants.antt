@@ -1,5 +1,5 @@
 -- Each pair so far is done, and the semi-state is given back.
-use Rattle.std.proofs.Common.{◌≡◌, ℕ, ◌≤◌, ◌-◌, ◌^◌, length, take}
+use Rattle.std.proofs.Common.{ℕ, ◌≤◌, ◌-◌, ◌^◌, length, take}
 use Rattle.std.specs.Prelude.{Contains}
 use Rattle.rbg_rules.specs.Words.{Start}
 use Rattle.rbg_search.specs.internal.Part.{IsPart, HasMarksOf}
