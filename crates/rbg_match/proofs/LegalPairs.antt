@@ -13,7 +13,6 @@ use Rattle.rbg_rules.proofs.PositionLemmas.{Among, has_position}
 use Rattle.rbg_rules.proofs.StateLemmas.{state_law}
 use Rattle.rbg_pairs.specs.Move.{IsMoveLength}
 use Rattle.rbg_wire.specs.Messages.{ArePairs, IsShortPair}
-use Rattle.rbg_match.specs.Limits.{most_pairs}
 
 -- a number of a range is below its end
 among_below : (first many x : ℕ) → Among x (range_with_len first many) → x < first + many
@@ -42,8 +41,8 @@ pairs_short game lawful (modify {p = p} {s = s} {middle = middle} {ps = ps} appl
     All-cons IsShortPair (s.vertex, p) ps (short_pair game s p state lawful.limits.vertices (omega (arith, within, few))) (pairs_short game lawful rest ((state_law game lawful).1 p s middle state applied))
 pairs_short game lawful (pass {p = p} {s = s} {middle = middle} applied is rest) state = pairs_short game lawful rest ((state_law game lawful).1 p s middle state applied)
 
--- a move that was found has a spelling, and is no longer than a move may be
-pub found_are_pairs : {E : Type 0} (game : AbstractGame) → IsGame game → (place : AbstractPlace) → IsPlaceOf game place → (result : Result (Option (List (ℕ × ℕ))) E) → IfOk result (λ found. IfSome found (IsLegal game place)) → IfOk result (λ found. IfSome found (λ (pairs : List (ℕ × ℕ)). IsMoveLength (length pairs))) → IfOk result (λ found. IfSome found (λ (pairs : List (ℕ × ℕ)). ArePairs pairs × (length pairs ≤ most_pairs)))
-found_are_pairs game lawful place fits (Ok (Some pairs)) legal many = (record { some = many.0; short = pairs_short game lawful legal.1.runs fits.state }, many.1)
-found_are_pairs game lawful place fits (Ok None) legal many = tt
-found_are_pairs game lawful place fits (Err error) legal many = tt
+-- a move that was found has a spelling
+pub found_are_pairs : {E T : Type 0} (items : T → List (ℕ × ℕ)) (game : AbstractGame) → IsGame game → (place : AbstractPlace) → IsPlaceOf game place → (result : Result (Option T) E) → IfOk result (λ found. IfSome found (λ pairs. IsLegal game place (items pairs))) → IfOk result (λ found. IfSome found (λ pairs. IsMoveLength (length (items pairs)))) → IfOk result (λ found. IfSome found (λ pairs. ArePairs (items pairs)))
+found_are_pairs items game lawful place fits (Ok (Some pairs)) legal many = record { some = many.0; short = pairs_short game lawful legal.1.runs fits.state }
+found_are_pairs items game lawful place fits (Ok None) legal many = tt
+found_are_pairs items game lawful place fits (Err error) legal many = tt

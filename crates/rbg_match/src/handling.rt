@@ -66,7 +66,10 @@ fn judge(
         Judges context.entry.game.now context.entry.config (play_of play.old) context.entry.moment pairs
         (play_of play.new) said) }
 {
-    match context.game.try_move(&play.place, &pairs) {
+    match context
+        .game
+        .try_move(&play.place, &pairs, &mut play.workspace)
+    {
         Ok(None) => {
             let seat = play.mover() as usize;
             refuse(context, play, seat, Reason::NotLegal, outbox)

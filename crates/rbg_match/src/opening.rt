@@ -13,7 +13,7 @@ ghost use Rattle.rbg_match.specs.Transcript.{greeting, greetings};
 use crate::play::Play;
 use crate::{Config, Outbox};
 use rbg_base::Memory;
-use rbg_moves::Place;
+use rbg_moves::{Place, Workspace};
 use rbg_rules::Game;
 use rbg_wire::{Inbox, Message};
 use std::alloc::Global;
@@ -80,6 +80,7 @@ pub(crate) fn start(alloc: Global, game: &Game, moment: u64) -> Result<Play, Mem
         refusals: vec![in alloc; 0; game.players()]?,
         made: Vec::new(alloc),
         outcome: None,
+        workspace: Workspace::new(alloc),
     })
 }
 

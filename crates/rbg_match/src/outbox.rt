@@ -5,6 +5,7 @@ ghost use Rattle.std.specs.Prelude.{
   ◌-◌,
   ◌<◌,
   ◌≤◌,
+  ◌++◌,
   List,
   [],
   length,
@@ -13,16 +14,20 @@ ghost use Rattle.std.specs.Prelude.{
   slice_index,
   slice_index_or,
   IfOk,
+  OnOk,
+  OnErr,
 };
 ghost use Rattle.std.specs.Global.{Vec};
-ghost use Rattle.rbg_wire.specs.Messages.{message_of, HasSpelling};
+ghost use Rattle.rbg_wire.specs.Messages.{AbstractMessage, ArePairs, HasSpelling, message_of, move_message, spelling};
 ghost use Rattle.rbg_match.specs.Deliveries.{AreMarks, Delivery, delivered, to_seat, to_each, to_others};
 ghost use Rattle.rbg_match.specs.Limits.{most_seats};
 ghost use Rattle.rbg_match.specs.internal.Saying.{Says};
 
-use rbg_wire::{Message, write_message};
+use rbg_pairs::Pair;
+use rbg_wire::{Message, write_message, write_move};
 use std::alloc::{AllocError, Global};
 use std::marker::Model;
+use std::mem::replace;
 
 /// The most seats of a match.
 pub const MAX_SEATS: usize = 8;
@@ -32,6 +37,8 @@ pub const MAX_SEATS: usize = 8;
 #[derive(Debug, Drop)]
 pub struct Outbox {
     queues: Vec<Vec<u8>>,
+    /// The bytes of a message that goes to several seats. Contracts don't see them.
+    told: Vec<u8>,
 }
 
 impl Model for Outbox {
@@ -56,7 +63,10 @@ impl Outbox {
         for _ in 0..seats {
             queues.push(Vec::new(alloc))?;
         }
-        Ok(Outbox { queues })
+        Ok(Outbox {
+            queues,
+            told: Vec::new(alloc),
+        })
     }
 
     /// An outbox with no seat.
@@ -65,6 +75,7 @@ impl Outbox {
     {
         Outbox {
             queues: Vec::new(alloc),
+            told: Vec::new(alloc),
         }
     }
 
@@ -105,6 +116,32 @@ impl Outbox {
         Ok(())
     }
 
+    /// Queues the message of a move for each seat. It is spelt once.
+    pub(crate) fn tell_move(&mut self, pairs: &[Pair]) -> Result<(), AllocError>
+        requires { ArePairs pairs.now }
+        ensures { Says self.old self.new result (λ _ said. said ≡ to_each (length self.old) (move_message pairs.now)) }
+    {
+        let alloc = *self.told.allocator();
+        let mut told = replace(&mut self.told, Vec::new(alloc));
+        told.clear();
+        write_move(pairs, &mut told)?;
+        for index in 0..self.seats() {
+            self.queue(index + 1, &told)?;
+        }
+        self.told = told;
+        Ok(())
+    }
+
+    /// Queues the bytes of a message for a seat.
+    fn queue(&mut self, seat: usize, told: &[u8]) -> Result<(), AllocError>
+        requires is_seat { 1 ≤ seat }
+        requires is_there { seat ≤ length self.old }
+        ensures { (message : AbstractMessage) → told.now ≡ spelling message →
+            Says self.old self.new result (λ _ said. said ≡ to_seat seat message) }
+    {
+        append(told, &mut self.queues[seat - 1])
+    }
+
     /// Queues a message for each seat but one.
     pub(crate) fn tell_others(
         &mut self,
@@ -137,6 +174,14 @@ impl Outbox {
     {
         cut(&mut self.queues, marks);
     }
+}
+
+/// Appends bytes to a queue. On an error none of them is.
+fn append(bytes: &[u8], queue: &mut Vec<u8>) -> Result<(), AllocError>
+    ensures ok { OnOk result (queue.new.items ≡ queue.old.items ++ bytes.now) }
+    ensures err { OnErr result (queue.new.items ≡ queue.old.items) }
+{
+    queue.extend_from_slice(bytes)
 }
 
 /// The length of each queue.

@@ -1,7 +1,7 @@
 //! The state of play, apart from streams and the clock.
 
 use crate::Made;
-use rbg_moves::Place;
+use rbg_moves::{Place, Workspace};
 use rbg_wire::Outcome;
 
 /// The state of play. Contracts see it by `play_of`.
@@ -16,6 +16,8 @@ pub(crate) struct Play {
     pub(crate) made: Vec<Made>,
     /// How the match ended, once it has.
     pub(crate) outcome: Option<Outcome>,
+    /// What the questions of play leave to later ones. Contracts don't see it.
+    pub(crate) workspace: Workspace,
 }
 
 impl Play {

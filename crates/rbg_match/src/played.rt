@@ -1,16 +1,20 @@
 //! The game of a match, and the questions that play asks of its rules.
 ghost use Rattle.std.specs.Prelude.{◌≡◌, ◌<◌, ◌≤◌, ◌⊎◌, length, Err, IfNone, IfOk, IfSome};
 ghost use Rattle.rbg_moves.specs.Listing.{IsListed};
+ghost use Rattle.rbg_pairs.specs.Move.{IsMoveLength};
 ghost use Rattle.rbg_rules.specs.Heavy.{IsHeavyToFind, IsHeavyToTry, IsTooHard};
 ghost use Rattle.rbg_rules.specs.Moves.{AbstractPlace, Finished, IsLegal, Legal};
 ghost use Rattle.rbg_rules.specs.Places.{IsPlaceOf};
 ghost use Rattle.rbg_rules.specs.Questions.{list_moves as listing_moves};
 ghost use Rattle.rbg_wire.specs.Messages.{ArePairs};
-ghost use Rattle.rbg_match.specs.Limits.{most_pairs};
 
 use rbg_auto::{Compact, Steps, compact};
 use rbg_base::Memory;
-use rbg_moves::{Listed, Move, Over, Place, find_move, list_moves, make_move, try_move};
+use rbg_moves::{
+    Listed, Move, Over, Place, Workspace, find_pairs_with, list_moves, make_move_with,
+    try_move_with,
+};
+use rbg_pairs::Pair;
 use rbg_rules::Game;
 use std::alloc::Global;
 use std::marker::Model;
@@ -61,20 +65,29 @@ impl PlayedGame {
         &self.game
     }
 
-    /// A legal move at a place, or None if play is finished.
-    pub(crate) fn find_move(&self, place: &Place) -> Result<Option<Move>, Over>
+    /// The pairs of a legal move at a place, or None if play is finished. The workspace takes them back.
+    pub(crate) fn find_pairs(
+        &self,
+        place: &Place,
+        workspace: &mut Workspace,
+    ) -> Result<Option<Vec<Pair>>, Over>
         requires place { IsPlaceOf self.now place.now }
-        ensures found { IfOk result (λ found. IfSome found (IsLegal self.now place.now)) }
-        ensures spelled { IfOk result (λ found.
-            IfSome found (λ pairs. ArePairs pairs × (length pairs ≤ most_pairs))) }
+        ensures found { IfOk result (λ found. IfSome found (λ pairs. IsLegal self.now place.now pairs.items)) }
+        ensures spelled { IfOk result (λ found. IfSome found (λ pairs. ArePairs pairs.items)) }
+        ensures length { IfOk result (λ found. IfSome found (λ pairs. IsMoveLength (length pairs.items))) }
         ensures finished { IfOk result (λ found. IfNone found (Finished self.now place.now)) }
         ensures heavy { (result ≡ Err Over.Deep) ⊎ (result ≡ Err Over.Wide) → IsHeavyToFind self.now place.now }
     {
-        find_move(self.alloc, &self.game, &self.automaton, place)
+        find_pairs_with(self.alloc, &self.game, &self.automaton, place, workspace)
     }
 
     /// The place after the move of these pairs, or None if the move is not legal.
-    pub(crate) fn try_move(&self, place: &Place, pairs: &Move) -> Result<Option<Place>, Over>
+    pub(crate) fn try_move(
+        &self,
+        place: &Place,
+        pairs: &Move,
+        workspace: &mut Workspace,
+    ) -> Result<Option<Place>, Over>
         requires place { IsPlaceOf self.now place.now }
         ensures legal { IfOk result (λ after. IfSome after (Legal self.now place.now pairs.now)) }
         ensures in_game { IfOk result (λ after. IfSome after (IsPlaceOf self.now)) }
@@ -83,7 +96,14 @@ impl PlayedGame {
         ensures heavy { (result ≡ Err Over.Deep) ⊎ (result ≡ Err Over.Wide) →
             IsHeavyToTry self.now place.now pairs.now }
     {
-        try_move(self.alloc, &self.game, &self.automaton, place, pairs)
+        try_move_with(
+            self.alloc,
+            &self.game,
+            &self.automaton,
+            place,
+            pairs,
+            workspace,
+        )
     }
 
     /// The legal moves at a place, or `max` of them where there are more.
@@ -98,13 +118,18 @@ impl PlayedGame {
     }
 
     /// The place after a legal move.
-    pub(crate) fn make_move(&self, place: &Place, pairs: &Move) -> Result<Place, Memory>
+    pub(crate) fn make_move(
+        &self,
+        place: &Place,
+        pairs: &[Pair],
+        workspace: &mut Workspace,
+    ) -> Result<Place, Memory>
         requires place { IsPlaceOf self.now place.now }
         requires legal { IsLegal self.now place.now pairs.now }
         ensures to { IfOk result (Legal self.now place.now pairs.now) }
         ensures in_game { IfOk result (IsPlaceOf self.now) }
     {
-        make_move(&self.game, place, pairs)
+        make_move_with(&self.game, place, pairs, workspace)
     }
 }
 

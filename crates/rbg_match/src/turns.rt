@@ -9,6 +9,7 @@ ghost use Rattle.rbg_rules.specs.Places.{IsPlaceOf};
 ghost use Rattle.rbg_match.specs.internal.Playable.{IsPlayOf};
 ghost use Rattle.rbg_match.specs.PlayingOn.{PlaysOn, seats_of};
 ghost use Rattle.rbg_match.specs.internal.OneStep.{PlaysOnOnce};
+ghost use Rattle.rbg_pairs.specs.Move.{IsMoveLength};
 
 use crate::context::Context;
 use crate::play::Play;
@@ -16,8 +17,10 @@ use crate::played::above_limits;
 use crate::{Made, Outbox};
 use rbg_base::Memory;
 use rbg_moves::{Move, Place};
+use rbg_pairs::Pair;
 use rbg_rules::Game;
 use rbg_wire::{Message, Outcome, Scores};
+use std::mem::replace;
 
 /// Ends the match and tells every seat how it ended.
 pub(crate) fn end(play: &mut Play, outcome: Outcome, outbox: &mut Outbox) -> Result<(), Memory>
@@ -63,15 +66,24 @@ pub(crate) fn make(
     ensures says { Says outbox.old outbox.new result (λ _ said.
         said ≡ to_each (length outbox.old) (move_message pairs)) }
 {
-    let message = Message::Moved {
-        pairs: pairs.clone()?,
-    };
-    outbox.tell_each(&message)?;
+    outbox.tell_move(pairs.as_slice())?;
     let player = play.place.state.player();
     let at = context.moment;
     play.made.push(Made { player, at, pairs })?;
-    play.place = to;
+    let left = replace(&mut play.place, to);
+    play.workspace.keep(left);
     Ok(())
+}
+
+/// The move of these pairs.
+fn move_of(pairs: &[Pair]) -> Move
+    requires { IsMoveLength (length pairs.now) }
+    ensures { result ≡ pairs.now }
+{
+    match Move::try_from(pairs) {
+        Ok(whole) => whole,
+        Err(_) => unreachable!(),
+    }
 }
 
 /// The players' scores at a place.
@@ -118,7 +130,7 @@ fn play_on_once(
         end(play, Outcome::Heavy, outbox)?;
         return Ok(Progress::Settled);
     }
-    match context.game.find_move(&play.place) {
+    match context.game.find_pairs(&play.place, &mut play.workspace) {
         Ok(None) => {
             let scores = scores(context.game.as_game(), &play.place);
             end(play, Outcome::Finished { scores }, outbox)?;
@@ -127,10 +139,14 @@ fn play_on_once(
         Ok(Some(pairs)) => {
             if mover != 0 {
                 play.turn_began = context.moment;
+                play.workspace.keep_pairs(pairs);
                 return Ok(Progress::Settled);
             }
-            let to = context.game.make_move(&play.place, &pairs)?;
-            make(context, play, pairs, to, outbox)?;
+            let to = context
+                .game
+                .make_move(&play.place, &pairs, &mut play.workspace)?;
+            make(context, play, move_of(&pairs), to, outbox)?;
+            play.workspace.keep_pairs(pairs);
             Ok(Progress::KeeperMoved)
         }
         Err(over) => {

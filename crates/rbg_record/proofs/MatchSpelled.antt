@@ -46,7 +46,7 @@ some_pairs game lawful from to (pair ∷ pairs) legal = omega arith
 
 legal_pairs : (game : AbstractGame) → IsGame game → (from to : AbstractPlace) (pairs : List (ℕ × ℕ)) → IsPlaceOf game from → Legal game from pairs to → length pairs ≤ 200 → ArePairs pairs
 legal_pairs game lawful from to pairs fits legal few =
-    (found_are_pairs {E = ℕ} game lawful from fits (Ok (Some pairs)) (to, legal) (some_pairs game lawful from to pairs legal, few)).0
+    found_are_pairs {E = ℕ} {T = List (ℕ × ℕ)} (λ xs. xs) game lawful from fits (Ok (Some pairs)) (to, legal) (some_pairs game lawful from to pairs legal, few)
 
 -- a move that was made has a spelling
 pub IsSpelledMove : Made → Type 0

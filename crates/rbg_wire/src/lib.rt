@@ -21,7 +21,7 @@ pub use error::WireError;
 pub use inbox::{Inbox, Took};
 pub use message::{Message, Reason};
 pub use message_reader::read_message;
-pub use message_writer::{write_message, write_number, write_outcome, write_pairs};
+pub use message_writer::{write_message, write_move, write_number, write_outcome, write_pairs};
 pub use move_reader::{read_move, read_pairs};
 pub use number_reader::read_number;
 pub use outcome::Outcome;

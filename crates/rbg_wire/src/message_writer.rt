@@ -3,6 +3,8 @@ ghost use Rattle.std.specs.Prelude.{◌≡◌, ℕ, ◌++◌, OnOk, OnErr, codes
 ghost use Rattle.std.specs.List.{flat_map};
 ghost use Rattle.rbg_wire.specs.Messages.{
   message_of,
+  move_message,
+  ArePairs,
   HasSpelling,
   spelling,
   message_text,
@@ -25,6 +27,17 @@ pub fn write_message(message: &Message<'_>, out: &mut Vec<u8>) -> Result<(), Mem
 {
     let len = out.len();
     let written = put_message(message, out);
+    all_or_nothing(written, len, out)
+}
+
+/// Appends the message of the move of these pairs, with its zero byte. On an error the bytes are unchanged.
+pub fn write_move(pairs: &[Pair], out: &mut Vec<u8>) -> Result<(), Memory>
+    requires { ArePairs pairs.now }
+    ensures ok { OnOk result (out.new.items ≡ out.old.items ++ spelling (move_message pairs.now)) }
+    ensures err { OnErr result (out.new.items ≡ out.old.items) }
+{
+    let len = out.len();
+    let written = put_move(pairs, out);
     all_or_nothing(written, len, out)
 }
 
@@ -79,6 +92,23 @@ fn put_message(message: &Message<'_>, out: &mut Vec<u8>) -> Result<(), Memory>
     Ok(())
 }
 
+#[tactic(auto, unfolding(crate::specs::Messages::spelling))]
+fn put_move(pairs: &[Pair], out: &mut Vec<u8>) -> Result<(), Memory>
+    ensures { Appends out.old.items out.new.items (spelling (move_message pairs.now)) result }
+{
+    put_move_text(pairs, out)?;
+    out.push(0)?;
+    Ok(())
+}
+
+#[tactic(auto, unfolding(crate::specs::Messages::message_text))]
+fn put_move_text(pairs: &[Pair], out: &mut Vec<u8>) -> Result<(), Memory>
+    ensures { Appends out.old.items out.new.items (message_text (move_message pairs.now)) result }
+{
+    out.push(b'M')?;
+    put_pairs(pairs, out)
+}
+
 #[tactic(auto, unfolding(crate::specs::Messages::message_text))]
 fn put_text(message: &Message<'_>, out: &mut Vec<u8>) -> Result<(), Memory>
     ensures { Appends out.old.items out.new.items (message_text (message_of message.now)) result }
@@ -93,10 +123,7 @@ fn put_text(message: &Message<'_>, out: &mut Vec<u8>) -> Result<(), Memory>
             put_number(b"L", *turn_ms, out)?;
             put_number(b" ", *refusals, out)
         }
-        Message::Moved { pairs } => {
-            out.push(b'M')?;
-            put_pairs(pairs.as_slice(), out)
-        }
+        Message::Moved { pairs } => put_move_text(pairs.as_slice(), out),
         Message::Refused { reason } => put_number(b"R", reason.number(), out),
         Message::Ended { outcome } => put_outcome(outcome, out),
         Message::Join { table } => put_number(b"H", *table, out),
