@@ -1,5 +1,6 @@
 //! A refused description, explained.
 
+use crate::calls::{called_lines, push_calls};
 use crate::excerpt::Excerpt;
 use crate::line::Line;
 use crate::message::{Found, Message};
@@ -77,7 +78,8 @@ fn push_place(
     excerpt.write(alloc, output)
 }
 
-/// The macro in whose body the place is, and where the macro is defined that the refusal is about.
+/// The macro in whose body the place is and the lines that call it, and where the macro is defined that the refusal is
+/// about.
 fn push_notes(
     alloc: Global,
     output: &mut Vec<u8>,
@@ -85,10 +87,12 @@ fn push_notes(
     tokens: &[Token<'_>],
     message: Message<'_>,
 ) -> Result<(), AllocError> {
-    if let Some(name) = enclosing_macro(&message) {
-        let name = Found(Some(name));
+    if let Some(head) = enclosing_macro(&message) {
+        let name = Found(Some(head));
         let line = format!(in alloc; "in the body of the macro {name}\n")?;
         output.extend_from_slice(line.as_bytes())?;
+        let lines = called_lines(alloc, text, tokens, head.text)?;
+        push_calls(alloc, output, lines.as_slice())?;
     }
     if let Some(head) = defined_macro(&message, tokens) {
         let number = Line::of(text, head.at.min(text.len())).number;

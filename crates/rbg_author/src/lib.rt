@@ -2,6 +2,7 @@
 //! has, how many sequences of moves, and how the board looks after each move of a match.
 #![tactic(auto)]
 
+mod calls;
 mod excerpt;
 mod explanation;
 mod line;

@@ -33,7 +33,8 @@ impl<'a> Line<'a> {
     }
 }
 
-fn count_line_feeds(bytes: &[u8]) -> usize
+/// How many line feeds there are.
+pub fn count_line_feeds(bytes: &[u8]) -> usize
     ensures count { result ≡ line_feeds bytes.now }
     ensures within { result ≤ length bytes.now }
 {

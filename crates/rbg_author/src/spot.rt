@@ -5,11 +5,12 @@ use rbg_macro::{Symbol, Token, TokenKind};
 /// The names of the sections.
 const SECTIONS: [&str; 5] = ["players", "pieces", "variables", "board", "rules"];
 
-/// A token, and the tokens before it.
+/// A token of a text, and the text's tokens.
 #[derive(Clone, Copy, Debug)]
 pub struct Spot<'a> {
     pub token: Token<'a>,
     before: &'a [Token<'a>],
+    tokens: &'a [Token<'a>],
 }
 
 /// What a name must be where it stands.
@@ -21,7 +22,7 @@ pub enum Needed {
     Variable,
     /// A variable or a piece, in arithmetic.
     Value,
-    /// The body of a macro doesn't show what it is used for.
+    /// The body of a macro and an argument of a call don't show what they are used for.
     Anything,
 }
 
@@ -33,6 +34,7 @@ impl<'a> Spot<'a> {
                 return Some(Spot {
                     token: *token,
                     before: &tokens[..index],
+                    tokens,
                 });
             }
         }
@@ -69,12 +71,12 @@ impl<'a> Spot<'a> {
         self.token.is(Symbol::Hash) && is_whole
     }
 
-    /// What a name must be here, as far as the tokens before it in the same definition show.
+    /// What a name must be here, as far as the text shows.
     pub fn needed(&self) -> Needed {
-        let Some(inside) = innermost(self.definition()) else {
-            return self.needed_in_rules();
-        };
-        match inside {
+        if self.is_in_board() {
+            return Needed::Piece;
+        }
+        match self.innermost() {
             [bracket, mark, rest @ ..] if mark.is(Symbol::Dollar) => {
                 let is_first = match rest.last() {
                     Some(last) => last.is(Symbol::Comma),
@@ -89,11 +91,13 @@ impl<'a> Spot<'a> {
             [_, mark, ..] if mark.is(Symbol::Question) || mark.is(Symbol::Exclamation) => {
                 self.needed_in_rules()
             }
-            _ => Needed::Piece,
+            [bracket, ..] if !bracket.is(Symbol::OpenParenthesis) => Needed::Piece,
+            _ => self.needed_in_rules(),
         }
     }
 
-    /// What a name must be outside of brackets. One that follows a name or a closed bracket is an item of rules.
+    /// What a name must be outside of brackets, or in an argument of a call. One that follows a name or a closed
+    /// bracket is an item of rules.
     fn needed_in_rules(&self) -> Needed {
         match self.last().map(|last| last.kind) {
             Some(TokenKind::Symbol(Symbol::Arrow)) => Needed::Player,
@@ -106,30 +110,76 @@ impl<'a> Spot<'a> {
                     | Symbol::CloseBrace,
                 ),
             ) => Needed::Direction,
-            _ if self.macro_name().is_some() => Needed::Anything,
+            _ if self.macro_name().is_some() || self.is_in_argument() => Needed::Anything,
             _ => Needed::Direction,
+        }
+    }
+
+    /// Whether the token stands in the section of the board, which names pieces alone.
+    fn is_in_board(&self) -> bool {
+        match self.definition() {
+            [_, name, ..] => name.text == b"board".as_slice(),
+            _ => false,
+        }
+    }
+
+    /// Whether the token stands in an argument of a call, and there in no bracket but parentheses.
+    fn is_in_argument(&self) -> bool {
+        match self.innermost() {
+            [bracket, ..] => bracket.is(Symbol::OpenParenthesis),
+            [] => false,
+        }
+    }
+
+    /// The tokens before this one from the last `[`, `{` or `(` of a call that is not closed.
+    fn innermost(&self) -> &'a [Token<'a>] {
+        let tokens = self.definition();
+        let mut closed = 0usize;
+        for (index, token) in tokens.iter().enumerate().rev() {
+            if is_closing(token) {
+                closed = closed.saturating_add(1);
+            } else if is_opening(token) {
+                if closed > 0 {
+                    closed -= 1;
+                } else if !token.is(Symbol::OpenParenthesis) || self.follows_macro(tokens, index) {
+                    return &tokens[index..];
+                }
+            }
+        }
+        &[]
+    }
+
+    /// Whether the token before that at an index is the name of a macro with parameters.
+    fn follows_macro(&self, tokens: &[Token<'a>], index: usize) -> bool {
+        match tokens.get(index.saturating_sub(1)) {
+            Some(name) => has_parameters(self.tokens, name.text),
+            None => false,
         }
     }
 }
 
-/// The tokens from the last `[` or `{` that is not closed.
-fn innermost<'a>(tokens: &'a [Token<'a>]) -> Option<&'a [Token<'a>]> {
-    let mut closed = 0usize;
-    for (index, token) in tokens.iter().enumerate().rev() {
-        match token.kind {
-            TokenKind::Symbol(Symbol::CloseBracket | Symbol::CloseBrace) => {
-                closed = closed.saturating_add(1);
-            }
-            TokenKind::Symbol(Symbol::OpenBracket | Symbol::OpenBrace) => {
-                if closed == 0 {
-                    return Some(&tokens[index..]);
-                }
-                closed -= 1;
-            }
-            _ => {}
+fn is_opening(token: &Token<'_>) -> bool {
+    matches!(
+        token.kind,
+        TokenKind::Symbol(Symbol::OpenParenthesis | Symbol::OpenBracket | Symbol::OpenBrace)
+    )
+}
+
+fn is_closing(token: &Token<'_>) -> bool {
+    matches!(
+        token.kind,
+        TokenKind::Symbol(Symbol::CloseParenthesis | Symbol::CloseBracket | Symbol::CloseBrace)
+    )
+}
+
+/// Whether a macro with parameters has this name.
+fn has_parameters(tokens: &[Token<'_>], name: &[u8]) -> bool {
+    tokens.windows(3).any(|head| match head {
+        [hash, found, bracket] => {
+            hash.is(Symbol::Hash) && found.text == name && bracket.is(Symbol::OpenParenthesis)
         }
-    }
-    None
+        _ => false,
+    })
 }
 
 /// Whether a name is that of a section.

@@ -1,0 +1,66 @@
+//! The lines of a text on which a macro is called.
+
+use crate::line::count_line_feeds;
+use rbg_macro::{Symbol, Token};
+use std::alloc::{AllocError, Global};
+
+/// The numbers of the lines on which a macro is called, each once. A call whose name is joined isn't found.
+pub fn called_lines(
+    alloc: Global,
+    text: &[u8],
+    tokens: &[Token<'_>],
+    name: &[u8],
+) -> Result<Vec<usize>, AllocError> {
+    let mut lines = Vec::new(alloc);
+    let mut number = 1usize;
+    let mut start = 0usize;
+    for definition in tokens.split(|token| token.is(Symbol::Hash)) {
+        for call in calls(alloc, definition, name)? {
+            let between = text.get(start..call).unwrap_or(&[]);
+            number = number.saturating_add(count_line_feeds(between));
+            start = call;
+            if lines.last() != Some(&number) {
+                lines.push(number)?;
+            }
+        }
+    }
+    Ok(lines)
+}
+
+/// The offsets at which the body of a definition calls a macro. A parameter of the macro's name hides it.
+fn calls(alloc: Global, definition: &[Token<'_>], name: &[u8]) -> Result<Vec<usize>, AllocError> {
+    let mut found = Vec::new(alloc);
+    let Some(equals) = definition.iter().position(|token| token.is(Symbol::Equals)) else {
+        return Ok(found);
+    };
+    let (head, body) = definition.split_at(equals);
+    if head.iter().skip(1).any(|token| token.text == name) {
+        return Ok(found);
+    }
+    for (index, token) in body.iter().enumerate() {
+        if token.text == name && !is_joined(body, index) {
+            found.push(token.at)?;
+        }
+    }
+    Ok(found)
+}
+
+/// Whether a `~` stands beside a token.
+fn is_joined(tokens: &[Token<'_>], index: usize) -> bool {
+    let is_tilde = |token: Option<&Token<'_>>| token.is_some_and(|token| token.is(Symbol::Tilde));
+    is_tilde(tokens.get(index.saturating_add(1))) || is_tilde(tokens.get(index.saturating_sub(1)))
+}
+
+/// Adds the line that lists the lines of calls, if there are any.
+pub fn push_calls(alloc: Global, output: &mut Vec<u8>, lines: &[usize]) -> Result<(), AllocError> {
+    let line = match lines {
+        [] => return Ok(()),
+        [line] => format!(in alloc; "called on line {line}\n")?,
+        [first, second] => format!(in alloc; "called on lines {first} and {second}\n")?,
+        [first, second, rest @ ..] => {
+            let count = rest.len();
+            format!(in alloc; "called on lines {first}, {second} and {count} more\n")?
+        }
+    };
+    output.extend_from_slice(line.as_bytes())
+}
