@@ -16,16 +16,16 @@ SECONDS := 600
 .PHONY: help run demo games clients try build test check fmt clean
 
 help:
-	@echo 'make run    referees the stored match (crates/rbg_manager/stdin), with no proof'
-	@echo 'make demo   referees a match between two players over connections, and prints its record, with no proof'
-	@echo 'make games  checks each of the games that come with it, counts its first moves and follows a match, with no proof'
+	@echo 'make run      referees the stored match (crates/rbg_manager/stdin), with no proof'
+	@echo 'make demo     referees a match between two players over connections, and prints its record, with no proof'
+	@echo 'make games    checks each of the games that come with it, counts its first moves and referees a match, with no proof'
 	@echo 'make clients  lets two example clients play a match over ./rbg serve, and checks its record (after make build)'
-	@echo 'make try    runs the stored runs and the tests, with no proof; make -j4 try runs four at once'
-	@echo 'make build  proves the programs and what they stand on, and leaves them as ./rbg and ./rbg_author'
-	@echo 'make test   the gate: every proof from nothing, the must-fail edits, each test, each program'
-	@echo 'make check  proves what changed since the last check, lowest crates first'
-	@echo 'make fmt    lays out the sources and the proofs'
-	@echo 'make clean  removes what was built'
+	@echo 'make try      runs the stored runs and the tests, with no proof; make -j4 try runs four at once'
+	@echo 'make build    proves the programs and what they stand on, and leaves them as ./rbg and ./rbg_author'
+	@echo 'make test     the gate: every proof from nothing, the must-fail edits, each test, each program'
+	@echo 'make check    proves what changed since the last check, lowest crates first'
+	@echo 'make fmt      lays out the sources and the proofs'
+	@echo 'make clean    removes what was built'
 
 run:
 	@cd $(PROGRAM) && $(RT) try < stdin
@@ -34,13 +34,15 @@ demo:
 	@cd $(PROGRAM) && $(RT) try --seconds $(SECONDS) -- demo $(abspath $(GAME))
 
 games:
-	@cd crates/rbg_games && sed 's/ [0-9]*$$/ 1/' stdin | $(RT) try --seconds $(SECONDS) $(foreach file,$(wildcard crates/rbg_games/data/*.rbg crates/rbg_games/data/*.board crates/rbg_games/data/*.moves),--data $(notdir $(file))=data/$(notdir $(file)))
+	@cd crates/rbg_games && sed 's/ [0-9]*$$/ 1/' stdin | $(RT) try --seconds $(SECONDS) $(foreach file,$(notdir $(filter-out %.md,$(wildcard crates/rbg_games/data/*))),--data $(file)=data/$(file))
 
 clients:
+	@test -x ./rbg || { echo 'make clients needs ./rbg: run make build first'; exit 1; }
 	@record=$$(mktemp) && \
 	{ ./rbg serve $(GAME) --port $(PORT) > $$record & served=$$!; sleep 1; \
-	  python3 clients/rbg_player.py $(PORT) & sleep 1; \
-	  python3 clients/rbg_player.py $(PORT) --random 1 && wait $$served; } && \
+	  python3 clients/rbg_player.py $(PORT) & first=$$!; sleep 1; \
+	  python3 clients/rbg_player.py $(PORT) --random 1 && wait $$first && wait $$served || \
+	  { kill $$first $$served 2> /dev/null; false; }; } && \
 	cat $$record && ./rbg replay $(GAME) $$record; status=$$?; rm -f $$record; exit $$status
 
 try: $(STORED:%=try-run-%) $(TESTED:%=try-test-%)

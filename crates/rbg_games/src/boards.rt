@@ -10,6 +10,7 @@ pub struct GameFiles<'a> {
 }
 
 impl<'a> GameFiles<'a> {
+    /// The files that this runtime can open.
     pub fn new(rt: &'a HostRuntime) -> GameFiles<'a> {
         GameFiles {
             files: SystemFiles::new(rt),

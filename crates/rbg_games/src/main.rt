@@ -1,9 +1,9 @@
-//! Checks the games that come with the program, counts their moves and follows a whole match of each.
+//! Checks the games that come with the program, counts their moves, follows a whole match of each and referees it.
 //!
 //! Standard input has two words a line: the file of a game, and a depth or the file of a match. For a depth the file's
 //! name is printed, then what `rbg check` prints of it, and then what `rbg_author perft` prints up to that depth. For a
-//! match its name is printed, and then what `rbg_author show --last` prints of its moves. A game's file may also be
-//! that of another board for it (`GameFiles`).
+//! match the name of its file is printed, and then what `rbg_author show --last` prints of a list of moves, or what
+//! `rbg referee` prints of a script. A game's file may also be that of another board for it (`GameFiles`).
 #![tactic(auto)]
 
 mod boards;
@@ -24,59 +24,67 @@ fn words_of(alloc: Global, texts: &[&str]) -> Result<Vec<String>, AllocError> {
     Ok(words)
 }
 
-/// Runs `rbg check` on the file, and says whether it describes a game.
-fn check_game(rt: &HostRuntime, name: &str, output: &mut Vec<u8>) -> Result<bool, AllocError> {
-    let words = words_of(rt.alloc(), &["check", name])?;
+/// Runs `rbg` with these words and this input, and says whether all went well.
+fn run_rbg(
+    rt: &HostRuntime,
+    texts: &[&str],
+    input: &[u8],
+    output: &mut Vec<u8>,
+) -> Result<bool, AllocError> {
+    let words = words_of(rt.alloc(), texts)?;
     let mut files = GameFiles::new(rt);
+    let mut network = SystemNetwork::new(rt);
+    let mut input = input;
     let status = rbg_program::run(
         rt.alloc(),
         words.as_slice(),
         &mut files,
-        &mut SystemNetwork::new(rt),
-        &mut [].as_slice(),
+        &mut network,
+        &mut input,
         output,
     );
     Ok(status == 0)
 }
 
-/// Runs `rbg_author perft` on the file, and says whether all was counted.
-fn count_moves(
+/// Runs `rbg_author` with these words and this input, and says whether all went well.
+fn run_author(
+    rt: &HostRuntime,
+    texts: &[&str],
+    input: &[u8],
+    output: &mut Vec<u8>,
+) -> Result<bool, AllocError> {
+    let words = words_of(rt.alloc(), texts)?;
+    let mut files = GameFiles::new(rt);
+    let mut input = input;
+    let status = rbg_author::run(rt.alloc(), words.as_slice(), &mut files, &mut input, output);
+    Ok(status == 0)
+}
+
+/// Checks the game, counts its moves up to the depth, and says whether all went well.
+fn check_and_count(
     rt: &HostRuntime,
     name: &str,
     depth: &str,
     output: &mut Vec<u8>,
 ) -> Result<bool, AllocError> {
-    let words = words_of(rt.alloc(), &["perft", name, depth])?;
-    let mut files = GameFiles::new(rt);
-    let mut input = [].as_slice();
-    let status = rbg_author::run(rt.alloc(), words.as_slice(), &mut files, &mut input, output);
-    Ok(status == 0)
+    let is_game = run_rbg(rt, &["check", name], &[], output)?;
+    Ok(is_game && run_author(rt, &["perft", name, depth], &[], output)?)
 }
 
-/// Runs `rbg_author show --last` on the file and the moves of a match, and says whether each of them is legal.
-fn show_match(
-    rt: &HostRuntime,
-    name: &str,
-    moves: &[u8],
-    output: &mut Vec<u8>,
-) -> Result<bool, AllocError> {
-    let words = words_of(rt.alloc(), &["show", "--last", name])?;
-    let mut files = SystemFiles::new(rt);
-    let mut input = moves;
-    let status = rbg_author::run(rt.alloc(), words.as_slice(), &mut files, &mut input, output);
-    Ok(status == 0)
-}
-
-/// Follows the match that a file lists, and says whether all went well.
+/// Follows the match that a file has, and says whether all went well.
 fn follow_match(
     rt: &HostRuntime,
     name: &str,
     file: &str,
     output: &mut Vec<u8>,
 ) -> Result<bool, AllocError> {
-    match SystemFiles::new(rt).read_file(rt.alloc(), file, MAX_INPUT)? {
-        Input::Whole(moves) => show_match(rt, name, moves.as_slice(), output),
-        Input::TooLong | Input::Device => Ok(false),
+    let Input::Whole(lines) = SystemFiles::new(rt).read_file(rt.alloc(), file, MAX_INPUT)? else {
+        return Ok(false);
+    };
+    if file.ends_with(".script") {
+        run_rbg(rt, &["referee", name], lines.as_slice(), output)
+    } else {
+        run_author(rt, &["show", "--last", name], lines.as_slice(), output)
     }
 }
 
@@ -88,14 +96,14 @@ fn do_line(rt: &HostRuntime, line: &[u8], output: &mut Vec<u8>) -> Result<bool, 
     let Some((name, task)) = line.split_once(' ') else {
         return Ok(false);
     };
-    let is_match = task.ends_with(".moves");
+    let is_match = task.ends_with(".moves") || task.ends_with(".script");
     let printed = if is_match { task } else { name };
     output.extend_from_slice(printed.as_bytes())?;
     output.push(b'\n')?;
     if is_match {
         follow_match(rt, name, task, output)
     } else {
-        Ok(check_game(rt, name, output)? && count_moves(rt, name, task, output)?)
+        check_and_count(rt, name, task, output)
     }
 }
 
