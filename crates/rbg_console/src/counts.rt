@@ -5,7 +5,7 @@ ghost use Rattle.rbg_console.specs.Counts.{counts, counts_of};
 use rbg_game::Game;
 use std::alloc::{AllocError, Global};
 
-/// `players 2 pieces 3 variables 2 directions 4 vertices 2 positions 10`, without a line feed.
+/// The counts of a game as `players 2 pieces 3 variables 2 directions 4 vertices 2 positions 10`, without a line feed.
 pub fn count_line(alloc: Global, game: &Game) -> Result<String, AllocError>
     ensures { IfOk result (λ line. string_bytes line ≡ counts_of game.now) }
 {

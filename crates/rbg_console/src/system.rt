@@ -14,6 +14,7 @@ pub struct SystemFiles<'a> {
 }
 
 impl<'a> SystemFiles<'a> {
+    /// The files that this runtime can open.
     pub fn new(rt: &'a HostRuntime) -> SystemFiles<'a> {
         SystemFiles { rt }
     }

@@ -5,7 +5,7 @@ ghost use Rattle.rbg_hall.specs.Answers.{FitsPoll, FitsPut, after_poll, after_pu
 
 use crate::{Polled, Put};
 
-/// A line to a player: it gives the player's bytes and takes those for the player. A call never waits.
+/// A line to a player: it gives the player's bytes and takes those for the player. A call waits a few milliseconds at most.
 pub trait Line {
     /// Whether this may be all that the line has told so far. The failures are those of `failure_count`. A line that
     /// keeps no record, as one over a socket, may have told anything: `λ _ _. Unit {0}`.

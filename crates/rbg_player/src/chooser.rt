@@ -1,4 +1,4 @@
-//! Who chooses among legal moves.
+//! How a player chooses among its legal moves.
 ghost use Rattle.std.specs.Prelude.{◌≡◌, ◌<◌};
 
 /// Chooses among legal moves.

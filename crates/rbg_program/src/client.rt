@@ -9,7 +9,7 @@ use std::io::{Read, Write};
 /// The most bytes that are read at once.
 const PIECE: usize = 4_096;
 
-/// A player that says the first move that it finds, at its end of a stream.
+/// A player that says the first of at most 64 legal moves, at its end of a stream.
 #[derive(Drop)]
 pub struct Client<S: Read + Write + Drop> {
     stream: S,
@@ -19,6 +19,7 @@ pub struct Client<S: Read + Write + Drop> {
 }
 
 impl<S: Read + Write + Drop> Client<S> {
+    /// A player that has heard nothing yet.
     pub fn new(alloc: Global, stream: S) -> Client<S> {
         Client {
             stream,

@@ -12,7 +12,7 @@ use std::alloc::AllocError;
 use std::io::{self, Write};
 use thiserror::Error;
 
-/// Why the program does no task. Its text is the printed line.
+/// Why the program doesn't do its task. Its text is the printed line.
 #[derive(Debug, Drop, Error)]
 pub enum Fault {
     /// The description is refused.

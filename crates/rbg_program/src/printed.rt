@@ -35,7 +35,7 @@ fn push_message(alloc: Global, lines: &mut Vec<u8>, message: &[u8]) -> Result<()
     }
 }
 
-/// `E0 <scores>` and its kin: the message that tells how a match ended, with a line feed.
+/// The message that tells how a match ended, `E0 <scores>` to `E4`, with a line feed.
 pub fn outcome_line(alloc: Global, outcome: &Outcome) -> Result<Vec<u8>, AllocError> {
     let mut line = String::new(alloc);
     match outcome {

@@ -14,6 +14,7 @@ pub struct StreamLine<S: Read + Write + Drop> {
 }
 
 impl<S: Read + Write + Drop> StreamLine<S> {
+    /// A line over this stream, which hasn't failed.
     pub fn new(stream: S) -> StreamLine<S> {
         StreamLine {
             stream,
@@ -74,6 +75,7 @@ pub struct PlayedLine<S: Read + Write + Drop> {
 }
 
 impl<S: Read + Write + Drop> PlayedLine<S> {
+    /// The line, whose player is this client.
     pub fn new(line: StreamLine<S>, client: Client<S>) -> PlayedLine<S> {
         PlayedLine {
             line,

@@ -16,6 +16,7 @@ pub struct SystemNetwork<'a> {
 }
 
 impl<'a> SystemNetwork<'a> {
+    /// The connections that this runtime can make.
     pub fn new(rt: &'a HostRuntime) -> SystemNetwork<'a> {
         SystemNetwork { rt }
     }

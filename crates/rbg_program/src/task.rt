@@ -6,7 +6,7 @@ use rbg_console::{WordsError, match_words};
 use rbg_match::Config;
 use std::alloc::Global;
 
-/// What holds where the words name no other number.
+/// The defaults of the options.
 const USUAL_TURN: u64 = 60_000;
 
 const USUAL_REFUSALS: u32 = 3;
