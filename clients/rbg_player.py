@@ -1,9 +1,9 @@
 #!/usr/bin/env python3
 """A player for `rbg serve`, as an example for authors of playing programs.
 
-It speaks the protocol of docs/PROTOCOL.md. By itself it plays tic-tac-toe (crates/rbg_games/data/tictactoe.rbg): the
-first empty square, or one by chance. With --record it plays any game: it says the moves that a record has for it, as
-long as the match goes as the record says.
+It speaks the protocol of docs/PROTOCOL.md. By itself it plays only tic-tac-toe (crates/rbg_games/data/tictactoe.rbg):
+the first empty square, or one by chance. With --record it plays any game: it says the moves that a record has for it,
+as long as the match goes as the record says. If a move is refused, it says so and stops.
 """
 
 import argparse
@@ -47,7 +47,7 @@ class Match:
         self.end = None
 
     def hear(self, message):
-        """Keeps what a message says. True where play has gone on."""
+        """Keeps what a message says. True if a move was made, so that it may be this player's turn."""
         letter, text = message[:1], message[1:]
         if letter == b"W":
             number, name = text.decode().split(" ")
@@ -56,7 +56,6 @@ class Match:
             self.text = text
         elif letter == b"L":
             self.turn_ms, self.refusals = map(int, text.split())
-            return True
         elif letter == b"M":
             self.moves.append(text.decode())
             return True
@@ -113,9 +112,9 @@ class Recorded:
 
 
 def play(stream, chooser):
-    """Plays a match to its end, and gives what was heard of it."""
+    """Plays a match to its end, or until a move is refused, and gives what was heard of it."""
     match = Match()
-    while match.end is None:
+    while match.end is None and not match.refused:
         message = stream.hear()
         if message is None:
             break
@@ -138,7 +137,10 @@ def main():
         with open(words.record, encoding="ascii") as file:
             chooser = Recorded(file.read().splitlines())
     match = play(Stream(words.port), chooser)
-    print("%s: %s" % (match.name, match.end or "the stream has ended"))
+    if match.refused:
+        print("%s: refused for reason %d" % (match.name, match.refused[0]))
+    else:
+        print("%s: %s" % (match.name, match.end or "the stream has ended"))
     return 0 if match.end else 3
 
 
