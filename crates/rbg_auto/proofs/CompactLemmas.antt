@@ -1,5 +1,5 @@
 -- The table of a game's rules has their steps.
-use Rattle.std.proofs.Common.{◌≡◌, ℕ, zero, suc, ◌+◌, ◌<◌, List, [], length, get_or, refl, ap, ◌∙◌, subst, inl, inr, arith}
+use Rattle.std.proofs.Common.{◌≡◌, ℕ, zero, suc, ◌+◌, ◌<◌, ◌⊎◌, List, [], length, get_or, refl, sym, ap, ◌∙◌, subst, inl, inr, Bool, arith}
 use Rattle.std.specs.Prelude.{replicate}
 use Rattle.std.specs.List.{range_with_len}
 use Rattle.rbg_rules.specs.declared.rule.Action.{Action}
@@ -11,11 +11,15 @@ use Rattle.rbg_rules.specs.Translation.{expression_of}
 use Rattle.rbg_rules.proofs.PositionLemmas.{Among}
 use Rattle.rbg_auto.specs.declared.span.Node.{Node}
 use Rattle.rbg_auto.specs.declared.span.Opening.{Opening}
+use Rattle.rbg_auto.specs.declared.arrays.Compact.{Compact}
 use Rattle.rbg_auto.specs.declared.table.Table.{Table}
-use Rattle.rbg_auto.specs.Steps.{AreStepsOf}
-use Rattle.rbg_auto.specs.internal.Laying.{nothing, IsLawful, first_at, empty_at, IsWhole}
-use Rattle.rbg_auto.specs.internal.Tables.{listed, laid_of, laid_at, no_node}
-use Rattle.rbg_auto.specs.internal.Walks.{laid_in, LaysLevel}
+use Rattle.rbg_auto.specs.declared.steps.Glance.{Glance}
+use Rattle.rbg_auto.specs.declared.steps.Glance.TheVariants.{Unknown}
+use Rattle.rbg_auto.specs.Steps.{AreStepsOf, IsGlance}
+use Rattle.rbg_auto.specs.internal.Laying.{Laid, nothing, IsLawful, first_at, empty_at, IsWhole}
+use Rattle.rbg_auto.specs.internal.Tables.{listed, laid_of, laid_at, told_at, no_node}
+use Rattle.rbg_auto.specs.internal.Compacts.{IsCompactOf}
+use Rattle.rbg_auto.specs.internal.Walks.{laid_in, told_in, LaysLevel, Tells}
 use Rattle.rbg_auto.proofs.WholeLemmas.{numbered_ascends, whole_steps}
 
 get_or-replicate : (n q : ℕ) → get_or (replicate n no_node) q no_node ≡ no_node
@@ -55,3 +59,30 @@ compact_steps actions tree positions numbered none count old new opening nodes e
       others = λ q h. laid.others q h ∙ blank_at old.entries.items old.nodes.items (positions + 1) q nodes entries;
     } in
     whole_steps x numbered none (listed new.entries.items opening.first) opening.may_be_empty (laid_in new) whole
+
+-- The walk tells of no action.
+pub untold : (rules : Expression) (tree : Rule) (old new : Table) (opening : Opening) (n : ℕ) → old.nodes.items ≡ replicate n no_node → LaysLevel old new tree opening → (p : ℕ) → IsGlance rules p (told_in new p)
+untold rules tree old new opening n nodes lays p =
+    let blank : told_in old p ≡ Unknown = ap (λ (ns : List Node). told_at ns p) nodes ∙ ap (λ (node : Node). node.glance) (get_or-replicate n p) in
+    subst (IsGlance rules p) (sym (lays.extends.untold p blank)) tt
+
+-- The lists and what is laid are the steps of the rules.
+abbrev StepsBy : Expression → List ℕ → Bool → (ℕ → Laid) → Type 0
+StepsBy rules first may at = AreStepsOf rules (first_at first at) (λ i. (at i).next) (λ i. (at i).may_end) (empty_at may at)
+
+-- To tell what is right keeps the steps.
+pub tells_right : (old new : Compact) (rules : Expression) (p : ℕ) (glance : Glance) → new.rules ≡ old.rules → Tells old.table new.table p glance → IsGlance rules p glance → IsCompactOf old rules → IsCompactOf new rules
+tells_right old new rules p glance opening tells right is = record {
+  steps =
+      subst (λ (o : Opening). StepsBy rules (listed new.table.entries.items o.first) o.may_be_empty (laid_in new.table)) (sym opening)
+      (subst (λ (entries : List ℕ). StepsBy rules (listed entries old.rules.first) old.rules.may_be_empty (laid_in new.table)) (sym tells.entries)
+      (subst (StepsBy rules (listed old.table.entries.items old.rules.first) old.rules.may_be_empty) (sym same) is.steps));
+  told = λ q. told q (tells.told q);
+}
+  where
+    same : laid_in new.table ≡ laid_in old.table
+    same = λ i q. tells.laid q i
+
+    told : (q : ℕ) → (told_in new.table q ≡ told_in old.table q) ⊎ ((q ≡ p) × (told_in new.table q ≡ glance)) → IsGlance rules q (told_in new.table q)
+    told q (inl e) = subst (IsGlance rules q) (sym e) (is.told q)
+    told q (inr (here, e)) = subst (IsGlance rules q) (sym e) (subst (λ (n : ℕ). IsGlance rules n glance) (sym here) right)

@@ -10,6 +10,7 @@ use Rattle.rbg_rules.specs.Translation.{expression_of}
 use Rattle.rbg_auto.specs.declared.span.Span.{Span}
 use Rattle.rbg_auto.specs.declared.span.Opening.{Opening}
 use Rattle.rbg_auto.specs.declared.span.Node.{Node}
+use Rattle.rbg_auto.specs.declared.steps.Glance.TheVariants.{Unknown}
 use Rattle.rbg_auto.specs.declared.table.Table.{Table}
 use Rattle.rbg_auto.specs.internal.Firsts.{firsts}
 use Rattle.rbg_auto.specs.internal.Laying.{IsLawful, Lays}
@@ -53,20 +54,20 @@ pub kept_some : (entries : List ℕ) (kept : Option Span) (s : Span) (k : List �
 kept_some entries kept s k is keeps = record { keeps = λ t e. let same : s ≡ t = cc (is, e) in subst (λ (u : Span). Keeps entries u k) same keeps }
 
 pub Extends-refl : (t : Table) → Extends t t
-Extends-refl t = record { entries = Grows-refl t.entries.items; size = refl }
+Extends-refl t = record { entries = Grows-refl t.entries.items; size = refl; untold = λ q none. none }
 
 pub Extends-trans : (a b c : Table) → Extends a b → Extends b c → Extends a c
-Extends-trans a b c one other = record { entries = Grows-trans a.entries.items b.entries.items c.entries.items one.entries other.entries; size = other.size ∙ one.size }
+Extends-trans a b c one other = record { entries = Grows-trans a.entries.items b.entries.items c.entries.items one.entries other.entries; size = other.size ∙ one.size; untold = λ q none. other.untold q (one.untold q none) }
 
 pub AddsList-refl : (t : Table) → AddsList t t
 AddsList-refl t = record { extends = Extends-refl t; same = λ q. refl }
 
 -- A node without an inside, and one with the inside of a pattern.
 abbrev pub plain_node : Span → Bool → Node
-plain_node s end = record { next = s; may_end = end; inside = record { first = no_span; may_be_empty = false } }
+plain_node s end = record { next = s; may_end = end; glance = Unknown; inside = record { first = no_span; may_be_empty = false } }
 
 abbrev pub pattern_node : Span → Bool → Opening → Node
-pattern_node s end opening = record { next = s; may_end = end; inside = opening }
+pattern_node s end opening = record { next = s; may_end = end; glance = Unknown; inside = opening }
 
 module _ (p : ℕ) (old middle new : Table) (s : Span) (k : List ℕ) (end : Bool) where
   pub lays_act : AddsList old middle → Keeps middle.entries.items s k → SetsNode middle new p (plain_node s end) → LaysTree old new (Act p) k end

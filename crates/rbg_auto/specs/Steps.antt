@@ -1,11 +1,13 @@
 -- Which positions come next in the words of the rules.
-use Rattle.std.specs.Prelude.{ℕ, List, [], ◌∷◌, Bool, IsTrue, Contains, ◌↔◌}
+use Rattle.std.specs.Prelude.{ℕ, ◌⊎◌, List, [], ◌∷◌, Bool, IsTrue, Contains, ◌↔◌}
 use Rattle.std.specs.List.Sorted.{IsStrictlyIncreasing}
-use Rattle.rbg_rules.specs.Expression.{Expression}
-use Rattle.rbg_rules.specs.Positions.{Level, outermost, inside}
+use Rattle.rbg_rules.specs.Expression.{Expression, shift, on, off, switch}
+use Rattle.rbg_rules.specs.Positions.{HasAction, Level, outermost, inside}
 use Rattle.rbg_rules.specs.Words.{Start, beginning, after, Follows, Ends}
 use Rattle.rbg_auto.specs.declared.steps.Expr.{Expr}
 use Rattle.rbg_auto.specs.declared.steps.Expr.TheVariants.{Rules, Inside}
+use Rattle.rbg_auto.specs.declared.steps.Glance.{Glance}
+use Rattle.rbg_auto.specs.declared.steps.Glance.TheVariants.{Unknown, Shift, On, Modifies}
 
 -- The level of an expression that is asked for.
 abbrev pub level_of : Expr → Level
@@ -32,3 +34,10 @@ pub record AreStepsOf (rules : Expression) (first : Level → List ℕ) (next : 
   pub next_of : (i : ℕ) → AreNext rules i (next i)
   pub ends : (i : ℕ) → IsTrue (may_end i) ↔ Ends rules (after i) []
   pub empty : (level : Level) → IsTrue (may_be_empty level) ↔ Ends rules (beginning level) []
+
+-- What is told of the action at position p is right.
+abbrev pub IsGlance : Expression → ℕ → Glance → Type 0
+IsGlance rules p Unknown = Unit {0}
+IsGlance rules p (Shift d) = HasAction rules p (shift d)
+IsGlance rules p (On x) = HasAction rules p (on (x ∷ []))
+IsGlance rules p Modifies = ((x : ℕ) × HasAction rules p (off x)) ⊎ ((n : ℕ) × HasAction rules p (switch n))

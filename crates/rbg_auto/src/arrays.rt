@@ -3,12 +3,13 @@ ghost use Rattle.std.specs.Prelude.{◌≡◌, length};
 ghost use Rattle.rbg_auto.specs.internal.Tables.{IsSpan};
 
 use crate::span::Opening;
-use crate::steps::{Expr, Steps};
+use crate::steps::{Expr, Glance, Steps};
 use crate::table::Table;
 use rbg_base::Position;
 
 /// The steps of a game's rules, with all lists in one array. Equal lists are in it once, and positions behind which the
-/// rules go on in the same way share one from the start.
+/// rules go on in the same way share one from the start. What is told at once of an action stands beside where its list
+/// is, so that a search looks at one record for each position.
 #[derive(Debug, Drop)]
 pub struct Compact {
     pub(crate) table: Table,
@@ -43,6 +44,10 @@ impl Steps for Compact {
 
     fn may_end(&self, position: Position) -> bool {
         self.table.node(position).may_end
+    }
+
+    fn glance(&self, position: Position) -> Glance {
+        self.table.node(position).glance
     }
 
     fn may_be_empty(&self, expr: Expr) -> bool {

@@ -141,7 +141,8 @@ pub fn compile_tree(alloc: Global, tree: &Rule, positions: usize) -> Result<Auto
     })
 }
 
-/// The plain automaton of the game: slower to make than `compact`'s and of more memory, and the same to ask.
+/// The plain automaton of the game: slower to make than `compact`'s and of more memory, and the same to ask, except
+/// that it tells of no action.
 pub fn compile(alloc: Global, game: &Game) -> Result<Automaton, Memory>
     ensures { IfOk result (λ automaton. ⟦<Automaton as Steps>⟧.of_rules automaton game.now.rules) }
 {

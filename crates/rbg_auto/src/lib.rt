@@ -19,4 +19,4 @@ pub use arrays::Compact;
 pub use compiling::{compile, compile_tree};
 pub use packing::{compact, compact_tree};
 pub use plain::Automaton;
-pub use steps::{Expr, Steps};
+pub use steps::{Expr, Glance, Steps};

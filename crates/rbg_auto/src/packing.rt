@@ -1,19 +1,22 @@
 //! The automaton of a game, made in one walk over its rules.
-ghost use Rattle.std.specs.Prelude.{◌≡◌, ◌<◌, ◌^◌, List, length, IfOk};
+ghost use Rattle.std.specs.Prelude.{◌≡◌, ℕ, ◌<◌, ◌^◌, List, length, IfOk};
 ghost use Rattle.rbg_rules.specs.declared.rule.Action.{Action};
+ghost use Rattle.rbg_rules.specs.Expression.{Expression, on};
 ghost use Rattle.rbg_rules.specs.Games.{HasNoEmptySum};
-ghost use Rattle.rbg_rules.specs.Positions.{positions_of, IsNumbered};
+ghost use Rattle.rbg_rules.specs.Positions.{HasAction, positions_of, IsNumbered};
+ghost use Rattle.rbg_rules.specs.Table.{Stands};
 ghost use Rattle.rbg_rules.specs.Translation.{expression_of};
+ghost use Rattle.rbg_auto.specs.Steps.{IsGlance};
 
 use crate::arrays::Compact;
-use crate::steps::Steps;
+use crate::steps::{Glance, Steps};
 use crate::walk::Walk;
-use rbg_base::Memory;
-use rbg_rules::{Game, Rule};
+use rbg_base::{Memory, Piece, Position};
+use rbg_rules::{Action, Game, Rule};
 use std::alloc::Global;
 
 /// The automaton of a tree with that many positions, whatever actions stand at them, where the positions are numbered
-/// and no sum is empty.
+/// and no sum is empty. It tells of no action.
 pub fn compact_tree(alloc: Global, tree: &Rule, positions: usize) -> Result<Compact, Memory>
     requires { positions < 2 ^ 32 }
     ensures { IfOk result (λ automaton.
@@ -31,9 +34,47 @@ pub fn compact_tree(alloc: Global, tree: &Rule, positions: usize) -> Result<Comp
     })
 }
 
-/// The automaton of the game.
+/// What is told of an on: the piece, where there is one alone.
+fn glance_of_on(pieces: &[Piece]) -> Glance
+    ensures { (rules : Expression) (p : ℕ) → HasAction rules p (on pieces.now) → IsGlance rules p result }
+{
+    match pieces {
+        [piece] => Glance::On(*piece),
+        _ => Glance::Unknown,
+    }
+}
+
+/// What is told of an action.
+fn glance_of(action: &Action) -> Glance
+    ensures { (rules : Expression) (p : ℕ) → Stands rules p action.now → IsGlance rules p result }
+{
+    match action {
+        Action::Shift { direction } => Glance::Shift(*direction),
+        Action::On { pieces } => glance_of_on(pieces.as_slice()),
+        Action::Off { .. } => Glance::Modifies,
+        Action::Switch { .. } => Glance::Modifies,
+        Action::Assign { .. } | Action::Compare { .. } | Action::Positive | Action::Negative =>
+            Glance::Unknown,
+    }
+}
+
+/// Tells of the action at each position of the game.
+fn tell_all(automaton: &mut Compact, game: &Game)
+    requires { ⟦<Compact as Steps>⟧.of_rules automaton.old game.now.rules }
+    ensures { ⟦<Compact as Steps>⟧.of_rules automaton.new game.now.rules }
+{
+    for index in 0..game.positions() {
+        let position = index as Position + 1;
+        let glance = glance_of(game.action(position));
+        automaton.table.tell(position, glance);
+    }
+}
+
+/// The automaton of the game. It tells at a glance of shifts, ons of one piece, offs and switches.
 pub fn compact(alloc: Global, game: &Game) -> Result<Compact, Memory>
     ensures { IfOk result (λ automaton. ⟦<Compact as Steps>⟧.of_rules automaton game.now.rules) }
 {
-    compact_tree(alloc, &game.rules().tree, game.positions())
+    let mut automaton = compact_tree(alloc, &game.rules().tree, game.positions())?;
+    tell_all(&mut automaton, game);
+    Ok(automaton)
 }

@@ -1,6 +1,6 @@
 //! The automaton of a game in its plain form: lists of its own for each position.
 
-use crate::steps::{Expr, Steps};
+use crate::steps::{Expr, Glance, Steps};
 use rbg_base::Position;
 
 /// What comes after a position, and how the words of its inside begin.
@@ -12,7 +12,8 @@ pub(crate) struct Place {
     pub(crate) may_be_empty: bool,
 }
 
-/// The steps of a game's rules, with lists of its own for each position. `Compact` answers the same in less memory.
+/// The steps of a game's rules, with lists of its own for each position. `Compact` answers the same in less memory, and
+/// also tells of actions at a glance. This form tells of none.
 #[derive(Debug, Drop)]
 pub struct Automaton {
     /// By position. Nothing is laid at position 0.
@@ -48,6 +49,10 @@ impl Steps for Automaton {
             Some(place) => place.may_end,
             None => false,
         }
+    }
+
+    fn glance(&self, _: Position) -> Glance {
+        Glance::Unknown
     }
 
     fn may_be_empty(&self, expr: Expr) -> bool {

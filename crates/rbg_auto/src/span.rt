@@ -1,5 +1,7 @@
 //! The lists of one array, and what they are for.
 
+use crate::steps::Glance;
+
 /// A list of the array: where it starts and where it ends.
 #[derive(Debug, Clone, Copy, Drop)]
 pub(crate) struct Span {
@@ -14,11 +16,12 @@ pub(crate) struct Opening {
     pub(crate) may_be_empty: bool,
 }
 
-/// What comes after a position, and how the words of its inside begin.
+/// What comes after a position, what is told at once of its action, and how the words of its inside begin.
 #[derive(Debug, Clone, Copy, Drop)]
 pub(crate) struct Node {
     pub(crate) next: Span,
     pub(crate) may_end: bool,
+    pub(crate) glance: Glance,
     pub(crate) inside: Opening,
 }
 
@@ -39,6 +42,7 @@ impl Node {
     pub(crate) const NONE: Node = Node {
         next: Span::EMPTY,
         may_end: false,
+        glance: Glance::Unknown,
         inside: Opening::NONE,
     };
 }

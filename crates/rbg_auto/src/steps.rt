@@ -2,9 +2,9 @@
 ghost use Rattle.std.specs.Prelude.{[], IsTrue, ◌↔◌};
 ghost use Rattle.rbg_rules.specs.Expression.{Expression};
 ghost use Rattle.rbg_rules.specs.Words.{beginning, after, Ends};
-ghost use Rattle.rbg_auto.specs.Steps.{level_of, AreFirst, AreNext};
+ghost use Rattle.rbg_auto.specs.Steps.{level_of, AreFirst, AreNext, IsGlance};
 
-use rbg_base::Position;
+use rbg_base::{Direction, Piece, Position};
 
 /// An expression whose words are asked for: the rules, or the inside of the pattern at a position.
 #[derive(Debug, Clone, Copy, PartialEq, Eq, Drop)]
@@ -13,10 +13,23 @@ pub enum Expr {
     Inside(Position),
 }
 
+/// What an automaton tells at once of the action at a position, so that the game need not be asked.
+#[derive(Debug, Clone, Copy, PartialEq, Eq, Drop)]
+pub enum Glance {
+    /// Nothing is told.
+    Unknown,
+    /// It is a shift in this direction.
+    Shift(Direction),
+    /// It is an on of this piece alone.
+    On(Piece),
+    /// It is an off or a switch: a modifier that is valid everywhere.
+    Modifies,
+}
+
 /// The steps of the rules: where words begin, what comes directly after a position in them, and where they end.
 ///
-/// Every position may be asked for: one that doesn't stand in the rules has nothing after it. The inside of a position
-/// without a pattern has no words. An answer takes no memory.
+/// Every position may be asked for: one that doesn't stand in the rules has nothing after it, and nothing is told of
+/// it. The inside of a position without a pattern has no words. An answer takes no memory.
 pub trait Steps {
     /// These are the steps of the rules.
     ghost of_rules: { Self → Expression → Type 0 };
@@ -32,6 +45,10 @@ pub trait Steps {
     /// Whether a word of the expression to which the position belongs ends there.
     fn may_end(&self, position: Position) -> bool
         ensures { (rules : Expression) → of_rules self.now rules → IsTrue result ↔ Ends rules (after position) [] };
+
+    /// What is told at once of the action at the position. It may be nothing, whatever the action is.
+    fn glance(&self, position: Position) -> Glance
+        ensures { (rules : Expression) → of_rules self.now rules → IsGlance rules position result };
 
     /// Whether the empty list is a word of the expression.
     fn may_be_empty(&self, expr: Expr) -> bool

@@ -1,8 +1,10 @@
 //! All lists of an automaton in one array, by position.
 ghost use Rattle.std.specs.Prelude.{◌≡◌, All, length, IfOk, IsTrue, slice_index_or};
+ghost use Rattle.rbg_auto.specs.declared.steps.Glance.TheVariants.{Unknown};
 ghost use Rattle.rbg_auto.specs.internal.Tables.{AreWithin};
 
 use crate::span::{Node, Span};
+use crate::steps::Glance;
 use rbg_base::{Memory, Position};
 use std::alloc::Global;
 
@@ -17,7 +19,7 @@ pub(crate) struct Table {
 impl Table {
     ghost use Rattle.std.specs.Prelude.{[], replicate};
     ghost use Rattle.rbg_auto.specs.internal.Tables.{Keeps, IsSpan, AreWithin, listed, laid_at, no_node};
-    ghost use Rattle.rbg_auto.specs.internal.Walks.{AddsList, SetsNode};
+    ghost use Rattle.rbg_auto.specs.internal.Walks.{AddsList, SetsNode, Tells};
 
     /// A table of that many nodes, with nothing laid.
     pub(crate) fn new(alloc: Global, nodes: usize) -> Result<Table, Memory>
@@ -63,12 +65,23 @@ impl Table {
 
     /// Lays a node at a position, if the table has it.
     pub(crate) fn set(&mut self, position: Position, node: Node)
-        requires { AreWithin (length self.old.entries.items) node }
+        requires within { AreWithin (length self.old.entries.items) node }
+        requires untold { node.glance ≡ Unknown }
         ensures { SetsNode self.old self.new position node }
     {
         let index = position as usize;
         if index < self.nodes.len() {
             self.nodes[index] = node;
+        }
+    }
+
+    /// Tells of the action at a position, if the table has it.
+    pub(crate) fn tell(&mut self, position: Position, glance: Glance)
+        ensures { Tells self.old self.new position glance }
+    {
+        let index = position as usize;
+        if index < self.nodes.len() {
+            self.nodes[index].glance = glance;
         }
     }
 

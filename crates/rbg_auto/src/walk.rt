@@ -7,6 +7,7 @@ ghost use Rattle.rbg_auto.specs.internal.Walks.{AddsList, LaysTree, LaysSequence
 use crate::rest::{Rest, again, before};
 use crate::shelf::{Shelf, hash_of};
 use crate::span::{Node, Opening, Span};
+use crate::steps::Glance;
 use crate::table::Table;
 use crate::tree::push_first;
 use rbg_base::{Memory, Position};
@@ -80,6 +81,7 @@ impl Walk {
                 let node = Node {
                     next,
                     may_end: rest.may_end,
+                    glance: Glance::Unknown,
                     inside: Opening::NONE,
                 };
                 self.table.set(*position, node);
@@ -91,6 +93,7 @@ impl Walk {
                 let node = Node {
                     next,
                     may_end: rest.may_end,
+                    glance: Glance::Unknown,
                     inside,
                 };
                 self.table.set(*position, node);

@@ -1,12 +1,13 @@
 -- The steps that an array of lists has.
+use Rattle.std.specs.Prelude.{ℕ}
 use Rattle.rbg_rules.specs.Expression.{Expression}
 use Rattle.rbg_auto.specs.declared.arrays.Compact.{Compact}
-use Rattle.rbg_auto.specs.Steps.{AreStepsOf}
+use Rattle.rbg_auto.specs.Steps.{AreStepsOf, IsGlance}
 use Rattle.rbg_auto.specs.internal.Laying.{first_at, empty_at}
 use Rattle.rbg_auto.specs.internal.Tables.{listed}
-use Rattle.rbg_auto.specs.internal.Walks.{laid_in}
+use Rattle.rbg_auto.specs.internal.Walks.{laid_in, told_in}
 
--- The lists of the automaton are the steps of the rules.
+-- The lists of the automaton are the steps of the rules, and what it tells of actions is right.
 pub record IsCompactOf (c : Compact) (rules : Expression) : Type 0 where
   pub steps :
       AreStepsOf rules
@@ -14,3 +15,4 @@ pub record IsCompactOf (c : Compact) (rules : Expression) : Type 0 where
       (λ i. (laid_in c.table i).next)
       (λ i. (laid_in c.table i).may_end)
       (empty_at c.rules.may_be_empty (laid_in c.table))
+  pub told : (p : ℕ) → IsGlance rules p (told_in c.table p)

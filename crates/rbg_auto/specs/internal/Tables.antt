@@ -2,6 +2,8 @@
 use Rattle.std.specs.Prelude.{◌≡◌, ℕ, ◌≤◌, List, ◌++◌, length, slice_range, slice_index_or, false, Option, Some}
 use Rattle.rbg_auto.specs.declared.span.Span.{Span}
 use Rattle.rbg_auto.specs.declared.span.Node.{Node}
+use Rattle.rbg_auto.specs.declared.steps.Glance.{Glance}
+use Rattle.rbg_auto.specs.declared.steps.Glance.TheVariants.{Unknown}
 use Rattle.rbg_auto.specs.internal.Laying.{Laid}
 
 -- The span is one of an array of that many entries.
@@ -36,7 +38,7 @@ no_span = record { start = 0; end = 0 }
 
 -- The node of a position that doesn't stand in the rules.
 abbrev pub no_node : Node
-no_node = record { next = no_span; may_end = false; inside = record { first = no_span; may_be_empty = false } }
+no_node = record { next = no_span; may_end = false; glance = Unknown; inside = record { first = no_span; may_be_empty = false } }
 
 abbrev pub laid_of : List ℕ → Node → Laid
 laid_of entries node = record {
@@ -48,3 +50,7 @@ laid_of entries node = record {
 
 abbrev pub laid_at : List ℕ → List Node → ℕ → Laid
 laid_at entries nodes p = laid_of entries (slice_index_or nodes p no_node)
+
+-- What is told of the action at each position.
+abbrev pub told_at : List Node → ℕ → Glance
+told_at nodes p = (slice_index_or nodes p no_node).glance

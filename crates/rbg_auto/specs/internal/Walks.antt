@@ -1,25 +1,32 @@
 -- What the walk over a tree of the program does to the table.
-use Rattle.std.specs.Prelude.{◌≡◌, ℕ, ◌<◌, List, [], length, Bool, true}
+use Rattle.std.specs.Prelude.{◌≡◌, ℕ, ◌<◌, ◌⊎◌, List, [], length, Bool, true}
 use Rattle.rbg_rules.specs.declared.rule.Action.{Action}
 use Rattle.rbg_rules.specs.declared.rule.Rule.{Rule}
 use Rattle.rbg_rules.specs.Translation.{expression_of}
 use Rattle.rbg_rules.specs.Games.{HasNoEmptySum}
 use Rattle.rbg_auto.specs.declared.span.Node.{Node}
 use Rattle.rbg_auto.specs.declared.span.Opening.{Opening}
+use Rattle.rbg_auto.specs.declared.steps.Glance.{Glance}
+use Rattle.rbg_auto.specs.declared.steps.Glance.TheVariants.{Unknown}
 use Rattle.rbg_auto.specs.declared.table.Table.{Table}
 use Rattle.rbg_auto.specs.internal.Firsts.{may_be_empty, firsts}
 use Rattle.rbg_auto.specs.internal.Laying.{Laid}
 use Rattle.rbg_auto.specs.internal.Trees.{LaysAll, of_tree, in_sequence, in_sum}
-use Rattle.rbg_auto.specs.internal.Tables.{IsSpan, Keeps, Grows, laid_at, laid_of}
+use Rattle.rbg_auto.specs.internal.Tables.{IsSpan, Keeps, Grows, laid_at, laid_of, told_at}
 
 -- What the table has at each position.
 abbrev pub laid_in : Table → ℕ → Laid
 laid_in t = laid_at t.entries.items t.nodes.items
 
--- The table has the same positions, and its lists are where they were.
+-- What the table tells of the action at each position.
+abbrev pub told_in : Table → ℕ → Glance
+told_in t = told_at t.nodes.items
+
+-- The table has the same positions, its lists are where they were, and of actions of which nothing was told, nothing is.
 pub record Extends (old new : Table) : Type 0 where
   pub entries : Grows old.entries.items new.entries.items
   pub size : length new.nodes.items ≡ length old.nodes.items
+  pub untold : (q : ℕ) → told_in old q ≡ Unknown → told_in new q ≡ Unknown
 
 -- A list was added, and nothing was laid.
 pub record AddsList (old new : Table) : Type 0 where
@@ -31,6 +38,12 @@ pub record SetsNode (old new : Table) (p : ℕ) (node : Node) : Type 0 where
   pub extends : Extends old new
   pub there : p < length old.nodes.items → laid_in new p ≡ laid_of old.entries.items node
   pub others : (q : ℕ) → ¬ (q ≡ p) → laid_in new q ≡ laid_in old q
+
+-- The action at the position was told of, if the table has it, and nothing else was changed.
+pub record Tells (old new : Table) (p : ℕ) (glance : Glance) : Type 0 where
+  pub entries : new.entries.items ≡ old.entries.items
+  pub laid : (q : ℕ) → laid_in new q ≡ laid_in old q
+  pub told : (q : ℕ) → (told_in new q ≡ told_in old q) ⊎ ((q ≡ p) × (told_in new q ≡ glance))
 
 -- The tree is laid, or trees in a sequence or in a sum.
 pub record LaysTree (old new : Table) (tree : Rule) (k : List ℕ) (end : Bool) : Type 0 where
