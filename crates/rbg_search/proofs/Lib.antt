@@ -4,6 +4,7 @@ pub mod Meetings
 pub mod Starts
 pub mod Parts
 pub mod Modifiers
+pub mod Glances
 pub mod Nesting
 pub mod Behinds
 pub mod Asking
@@ -20,3 +21,5 @@ pub mod Kept
 pub mod Forcing
 pub mod ForcingSteps
 pub mod Fewness
+pub mod Straights
+pub mod Walking

@@ -134,11 +134,18 @@ sorted_differ xs ys moves sorted different = λ i j d less under.
     (sorted_far (λ x y. is_lt (pair_cmp x y)) (ranks_by pair_total (λ x. x)) ys sorted i j d (omega (arith, less)) under)
     (still_differ xs ys moves different i j d less under)
 
+-- What is on the board and in the rules may be put in another order.
+abbrev IsWithin : AbstractGame → ℕ × ℕ → Type 0
+IsWithin game q = (q.0 < length game.board.first) × IsPositionOf game.rules q.1
+
+pub within_permuted : (game : AbstractGame) (xs ys : List (ℕ × ℕ)) → IsPermutation xs ys → All (λ q. (q.0 < length game.board.first) × IsPositionOf game.rules q.1) xs → All (λ q. (q.0 < length game.board.first) × IsPositionOf game.rules q.1) ys
+within_permuted game xs ys moves within =
+    All-weaker (Contains ys) (IsWithin game)
+    (λ q h. All-contains (IsWithin game) xs q within (Contains-permutation ys xs q (IsPermutation-sym xs ys moves) h)) ys (All-contains_itself ys)
+
 -- What is ready to be applied is on the board and in the rules.
-pub ready_within : (game : AbstractGame) (s : AbstractState) → IsStateOf game s → (limit : ℕ) (xs ys : List (ℕ × ℕ)) → IsPermutation xs ys → All (IsReady game s limit) xs → All (λ q. (q.0 < length game.board.first) × IsPositionOf game.rules q.1) ys
-ready_within game s fits limit xs ys moves ready =
-    All-weaker (Contains ys) (λ q. (q.0 < length game.board.first) × IsPositionOf game.rules q.1)
-    (λ q h. one q (All-contains (IsReady game s limit) xs q ready (Contains-permutation ys xs q (IsPermutation-sym xs ys moves) h))) ys (All-contains_itself ys)
+pub positions_within : (game : AbstractGame) (s : AbstractState) → IsStateOf game s → (limit : ℕ) (xs : List (ℕ × ℕ)) → All (IsReady game s limit) xs → All (λ q. (q.0 < length game.board.first) × IsPositionOf game.rules q.1) xs
+positions_within game s fits limit xs ready = All-weaker (IsReady game s limit) (IsWithin game) one xs ready
   where
-    one : (q : ℕ × ℕ) → IsReady game s limit q → (q.0 < length game.board.first) × IsPositionOf game.rules q.1
+    one : (q : ℕ × ℕ) → IsReady game s limit q → IsWithin game q
     one q is = (omega (arith, is.vertex, fits.vertices), is.position)

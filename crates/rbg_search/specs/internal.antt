@@ -9,3 +9,4 @@ pub mod Asked
 pub mod Begun
 pub mod Taking
 pub mod Spent
+pub mod Straight

@@ -1,8 +1,9 @@
 //! One flat part: the pairs that are reached without a modifier, the modifiers found among them, and whether a word may
 //! end.
 ghost use Rattle.std.specs.Prelude.{◌≡◌, ℕ, ◌<◌, ◌≤◌, ◌+◌, ◌-◌, ◌^◌, ◌↔◌, [], ◌∷◌, ◌++◌, length, take, slice_get, Contains, Some, IfOk, IfSome, IfNone, OnOk, IsTrue};
-ghost use Rattle.rbg_rules.specs.State.{AbstractState, IsStateOf};
-ghost use Rattle.rbg_rules.specs.Positions.{IsPatternAt};
+ghost use Rattle.rbg_rules.specs.Expression.{shift, on};
+ghost use Rattle.rbg_rules.specs.State.{AbstractGame, AbstractState, IsStateOf};
+ghost use Rattle.rbg_rules.specs.Positions.{IsNumbered, HasAction, IsPatternAt};
 ghost use Rattle.rbg_rules.specs.Words.{Start};
 ghost use Rattle.rbg_rules.specs.Games.{IsGame};
 ghost use Rattle.rbg_search.specs.Flat.{IsFlatPart};
@@ -13,8 +14,8 @@ use crate::game_steps::GameSteps;
 use crate::origin::Origin;
 use crate::outcome::Outcome;
 use crate::queue::Queue;
-use rbg_auto::Steps;
-use rbg_base::{Memory, Position, Vertex};
+use rbg_auto::{Glance, Steps};
+use rbg_base::{Direction, Memory, Piece, Position, Vertex};
 use rbg_rules::Game;
 use rbg_state::{SemiState, Trial};
 use std::alloc::Global;
@@ -109,50 +110,54 @@ impl Flat {
         ensures within { OnOk result (self.new.taken ≤ length self.new.queue.pairs) }
     {
         let (vertex, position) = self.queue.pair(self.taken);
-        self.take_pair(rules, vertex, position, outcome)?;
+        self.taken = self.take_pair(rules, self.taken, vertex, position, outcome)?;
         Ok(())
     }
 
-    /// Takes the next pair, which is this one, and of which this became.
+    /// Takes the next pair after `taken` others, which is this one, and of which this became. Returns how many were
+    /// taken then.
     #[inline(always)]
     fn take_pair<S: Steps>(
         &mut self,
         rules: &GameSteps<'_, S>,
+        taken: usize,
         vertex: Vertex,
         position: Position,
         outcome: Outcome,
-    ) -> Result<(), Memory>
+    ) -> Result<usize, Memory>
         requires marks { HasMarksOf rules.now self.old.queue }
-        requires next { slice_get self.old.queue.pairs self.old.taken ≡ Some (vertex, position) }
-        requires once { ¬ Contains (take self.old.taken self.old.queue.pairs) (vertex, position) }
-        requires left { self.old.taken < length self.old.queue.pairs }
-        requires small { self.old.taken + 1 < 2 ^ 64 }
+        requires next { slice_get self.old.queue.pairs taken ≡ Some (vertex, position) }
+        requires once { ¬ Contains (take taken self.old.queue.pairs) (vertex, position) }
+        requires small { taken + 1 < 2 ^ 64 }
         requires there { (u : ℕ) → outcome ≡ Outcome.LeadsTo u → u < length rules.now.board.first }
         ensures marks { HasMarksOf rules.now self.new.queue }
-        ensures part { OnOk result ((s : AbstractState) (f : Start)
+        ensures part { IfOk result (λ more. (s : AbstractState) (f : Start)
             → IsOutcome rules.now s vertex position outcome
-            → IsPart rules.now s f self.old.queue.pairs (take self.old.taken self.old.queue.pairs)
+            → IsPart rules.now s f self.old.queue.pairs (take taken self.old.queue.pairs)
             self.old.found.items self.old.ends
-            → IsPart rules.now s f self.new.queue.pairs (take self.new.taken self.new.queue.pairs)
+            → IsPart rules.now s f self.new.queue.pairs (take more self.new.queue.pairs)
             self.new.found.items self.new.ends) }
-        ensures taken { OnOk result (self.new.taken ≡ self.old.taken + 1) }
-        ensures done { OnOk result (take self.new.taken self.new.queue.pairs
-            ≡ take self.old.taken self.old.queue.pairs ++ (vertex, position) ∷ []) }
-        ensures within { OnOk result (self.new.taken ≤ length self.new.queue.pairs) }
+        ensures taken { IfOk result (λ more. more ≡ taken + 1) }
+        ensures done { IfOk result (λ more. take more self.new.queue.pairs
+            ≡ take taken self.old.queue.pairs ++ (vertex, position) ∷ []) }
+        ensures within { IfOk result (λ more. more ≤ length self.new.queue.pairs) }
     {
-        self.taken += 1;
+        let more = taken + 1;
         match outcome {
-            Outcome::Invalid => {}
-            Outcome::Modifies => self.found.push((vertex, position))?,
+            Outcome::Invalid => Ok(more),
+            Outcome::Modifies => {
+                self.found.push((vertex, position))?;
+                Ok(more)
+            }
             Outcome::LeadsTo(to) => {
                 let here = Origin::After(position);
                 let ends = rules.may_end(here);
                 let following = rules.following(here);
                 self.ends |= ends;
                 self.queue.meet_all(to, following)?;
+                Ok(more)
             }
         }
-        Ok(())
     }
 
     /// Takes pairs up to the next one at a pattern, and returns that; none where each pair was taken.
@@ -191,19 +196,180 @@ impl Flat {
             self.old.found.items self.old.ends
             → IsFlatPart rules.now state.now.state f self.new.found.items self.new.ends)) }
     {
-        while self.taken < self.queue.len() {
-            let (vertex, position) = self.queue.pair(self.taken);
-            let Some(outcome) = tried(rules.game(), state, vertex, position) else {
+        let local = rules.copy();
+        self.advance_by(&local, state)
+    }
+
+    /// Tries the next pair after `taken` others, which is this one, and takes it. Returns how many were taken then; none
+    /// where it is a pattern, which isn't taken.
+    ///
+    /// Each kind of action is taken in its own arm, so that its outcome is known there.
+    #[inline(always)]
+    fn take_tried<S: Steps>(
+        &mut self,
+        rules: &GameSteps<'_, S>,
+        state: &SemiState,
+        taken: usize,
+        vertex: Vertex,
+        position: Position,
+    ) -> Result<Option<usize>, Memory>
+        requires lawful { IsGame rules.now }
+        requires fits { IsStateOf rules.now state.now.state }
+        requires marks { HasMarksOf rules.now self.old.queue }
+        requires next { slice_get self.old.queue.pairs taken ≡ Some (vertex, position) }
+        requires once { ¬ Contains (take taken self.old.queue.pairs) (vertex, position) }
+        requires small { taken + 1 < 2 ^ 64 }
+        requires vertex { vertex < length rules.now.board.first }
+        requires position { IsPositionOf rules.now.rules position }
+        ensures marks { HasMarksOf rules.now self.new.queue }
+        ensures part { IfOk result (λ next. IfSome next (λ more. (f : Start)
+            → IsPart rules.now state.now.state f self.old.queue.pairs (take taken self.old.queue.pairs)
+            self.old.found.items self.old.ends
+            → IsPart rules.now state.now.state f self.new.queue.pairs (take more self.new.queue.pairs)
+            self.new.found.items self.new.ends)) }
+        ensures taken { IfOk result (λ next. IfSome next (λ more. more ≡ taken + 1)) }
+        ensures done { IfOk result (λ next. IfSome next (λ more. take more self.new.queue.pairs
+            ≡ take taken self.old.queue.pairs ++ (vertex, position) ∷ [])) }
+        ensures within { IfOk result (λ next. IfSome next (λ more. more ≤ length self.new.queue.pairs)) }
+        ensures plain { IfOk result (λ next. IfSome next (λ _. ¬ IsPatternAt rules.now.rules position)) }
+        ensures pattern { IfOk result (λ next. IfNone next (IsPatternAt rules.now.rules position)) }
+        ensures kept { IfOk result (λ next. IfNone next (self.new ≡ self.old)) }
+    {
+        match rules.glance(position) {
+            Glance::Shift(direction) => {
+                let outcome = shifted(rules.game(), vertex, direction);
+                let more = self.take_pair(rules, taken, vertex, position, outcome)?;
+                Ok(Some(more))
+            }
+            Glance::On(piece) => {
+                let outcome = stood_on(state, vertex, piece);
+                let more = self.take_pair(rules, taken, vertex, position, outcome)?;
+                Ok(Some(more))
+            }
+            Glance::Modifies => {
+                let more = self.take_pair(rules, taken, vertex, position, Outcome::Modifies)?;
+                Ok(Some(more))
+            }
+            Glance::Unknown => {
+                let Some(outcome) = tried_at(rules.game(), state, vertex, position) else {
+                    return Ok(None);
+                };
+                let more = self.take_pair(rules, taken, vertex, position, outcome)?;
+                Ok(Some(more))
+            }
+        }
+    }
+
+    /// The same as `advance`, where the game and its steps are a local of the caller.
+    #[inline(always)]
+    fn advance_by<S: Steps>(
+        &mut self,
+        rules: &GameSteps<'_, S>,
+        state: &SemiState,
+    ) -> Result<Option<(Vertex, Position)>, Memory>
+        requires lawful { IsGame rules.now }
+        requires marks { HasMarksOf rules.now self.old.queue }
+        requires fits { IsStateOf rules.now state.now.state }
+        requires within { self.old.taken ≤ length self.old.queue.pairs }
+        ensures marks { HasMarksOf rules.now self.new.queue }
+        ensures part { OnOk result ((f : Start)
+            → IsPart rules.now state.now.state f self.old.queue.pairs (take self.old.taken self.old.queue.pairs)
+            self.old.found.items self.old.ends
+            → IsPart rules.now state.now.state f self.new.queue.pairs (take self.new.taken self.new.queue.pairs)
+            self.new.found.items self.new.ends) }
+        ensures within { OnOk result (self.new.taken ≤ length self.new.queue.pairs) }
+        ensures further { OnOk result (self.old.taken ≤ self.new.taken) }
+        ensures still_done { OnOk result ((x : ℕ × ℕ)
+            → Contains (take self.old.taken self.old.queue.pairs) x
+            → Contains (take self.new.taken self.new.queue.pairs) x) }
+        ensures quiet { OnOk result ((v p : ℕ)
+            → Contains (take self.new.taken self.new.queue.pairs) (v, p) → IsPatternAt rules.now.rules p
+            → Contains (take self.old.taken self.old.queue.pairs) (v, p)) }
+        ensures asked { IfOk result (λ next. IfSome next (λ pair.
+            (slice_get self.new.queue.pairs self.new.taken ≡ Some pair)
+            × (pair.0 < length rules.now.board.first)
+            × IsPatternAt rules.now.rules pair.1)) }
+        ensures fresh { IfOk result (λ next. IfSome next (λ pair.
+            ¬ Contains (take self.new.taken self.new.queue.pairs) pair)) }
+        ensures done { IfOk result (λ next. IfNone next (self.new.taken ≡ length self.new.queue.pairs)) }
+        ensures whole { IfOk result (λ next. IfNone next ((f : Start)
+            → IsPart rules.now state.now.state f self.old.queue.pairs (take self.old.taken self.old.queue.pairs)
+            self.old.found.items self.old.ends
+            → IsFlatPart rules.now state.now.state f self.new.found.items self.new.ends)) }
+    {
+        let mut taken = self.taken;
+        while taken < self.queue.len() {
+            let (vertex, position) = self.queue.pair(taken);
+            let next = self.take_tried(rules, state, taken, vertex, position)?;
+            let Some(more) = next else {
+                self.taken = taken;
                 return Ok(Some((vertex, position)));
             };
-            self.take_pair(rules, vertex, position, outcome)?;
+            taken = more;
         }
+        self.taken = taken;
         Ok(None)
     }
 }
 
 /// What becomes of an action where it is tried at a vertex; none where it is a pattern. Nothing changes.
-fn tried(game: &Game, state: &SemiState, vertex: Vertex, position: Position) -> Option<Outcome>
+#[inline(always)]
+pub(crate) fn tried<S: Steps>(
+    rules: &GameSteps<'_, S>,
+    state: &SemiState,
+    vertex: Vertex,
+    position: Position,
+) -> Option<Outcome>
+    requires lawful { IsGame rules.now }
+    requires fits { IsStateOf rules.now state.now.state }
+    requires there { vertex < length rules.now.board.first }
+    requires position { IsPositionOf rules.now.rules position }
+    ensures outcome { IfSome result (λ outcome. IsOutcome rules.now state.now.state vertex position outcome) }
+    ensures there { IfSome result (λ outcome. (u : ℕ) → outcome ≡ Outcome.LeadsTo u
+        → u < length rules.now.board.first) }
+    ensures plain { IfSome result (λ _. ¬ IsPatternAt rules.now.rules position) }
+    ensures pattern { IfNone result (IsPatternAt rules.now.rules position) }
+{
+    match rules.glance(position) {
+        Glance::Shift(direction) => Some(shifted(rules.game(), vertex, direction)),
+        Glance::On(piece) => Some(stood_on(state, vertex, piece)),
+        Glance::Modifies => Some(Outcome::Modifies),
+        Glance::Unknown => tried_at(rules.game(), state, vertex, position),
+    }
+}
+
+/// What becomes of a shift that is tried at a vertex.
+#[inline(always)]
+fn shifted(game: &Game, vertex: Vertex, direction: Direction) -> Outcome
+    requires { vertex < length game.now.board.first }
+    ensures outcome { (s : AbstractState) (q : ℕ) → IsNumbered game.now.rules
+        → HasAction game.now.rules q (shift direction) → IsOutcome game.now s vertex q result }
+    ensures there { (u : ℕ) → result ≡ Outcome.LeadsTo u → u < length game.now.board.first }
+{
+    match game.board().step(vertex, direction) {
+        Some(to) => Outcome::LeadsTo(to),
+        None => Outcome::Invalid,
+    }
+}
+
+/// What becomes of an on of one piece that is tried at a vertex.
+#[inline(always)]
+fn stood_on(state: &SemiState, vertex: Vertex, piece: Piece) -> Outcome
+    requires { vertex < length state.now.state.pieces }
+    ensures outcome { (game : AbstractGame) (q : ℕ) → IsNumbered game.rules
+        → HasAction game.rules q (on (piece ∷ [])) → IsOutcome game state.now.state vertex q result }
+    ensures there { (u : ℕ) → result ≡ Outcome.LeadsTo u → u ≡ vertex }
+{
+    if state.piece(vertex) == piece {
+        Outcome::LeadsTo(vertex)
+    } else {
+        Outcome::Invalid
+    }
+}
+
+/// What becomes of an action that the game is asked for.
+#[inline(always)]
+fn tried_at(game: &Game, state: &SemiState, vertex: Vertex, position: Position) -> Option<Outcome>
     requires lawful { IsGame game.now }
     requires fits { IsStateOf game.now state.now.state }
     requires there { vertex < length game.now.board.first }

@@ -3,11 +3,11 @@ ghost use Rattle.std.specs.Prelude.{◌≡◌, ◌≤◌, [], All, IsTrue, ◌�
 ghost use Rattle.rbg_rules.specs.Games.{IsGame};
 ghost use Rattle.rbg_rules.specs.Words.{Start, Ends};
 ghost use Rattle.rbg_search.specs.internal.Nesting.{NestsFrom};
-ghost use Rattle.rbg_auto.specs.Steps.{AreAllThatFollow};
+ghost use Rattle.rbg_auto.specs.Steps.{AreAllThatFollow, IsGlance};
 ghost use Rattle.rbg_search.specs.Start.{start_of, IsPositionOf};
 
 use crate::origin::Origin;
-use rbg_auto::Steps;
+use rbg_auto::{Glance, Steps};
 use rbg_base::Position;
 use rbg_rules::Game;
 use rbg_rules::limits::MAX_NESTED_PATTERNS;
@@ -46,6 +46,18 @@ impl<'a, S: Steps> GameSteps<'a, S> {
         GameSteps { game, steps }
     }
 
+    /// The same game and steps. A copy that is a local of a loop need not be read again after each store.
+    #[inline(always)]
+    pub(crate) fn copy(&self) -> GameSteps<'a, S>
+        ensures same { result ≡ self.now }
+        ensures lawful { IsGame self.now }
+    {
+        GameSteps {
+            game: self.game,
+            steps: self.steps,
+        }
+    }
+
     pub(crate) fn game(&self) -> &'a Game
         ensures game { result.now ≡ self.now }
         ensures lawful { IsGame self.now }
@@ -73,6 +85,13 @@ impl<'a, S: Steps> GameSteps<'a, S> {
             Origin::Begin(expr) => self.steps.first(expr),
             Origin::After(position) => self.steps.next(position),
         }
+    }
+
+    /// What is told at once of the action at a position.
+    pub(crate) fn glance(&self, position: Position) -> Glance
+        ensures { IsGlance self.now.rules position result }
+    {
+        self.steps.glance(position)
     }
 
     /// Whether a word may end where one stands.

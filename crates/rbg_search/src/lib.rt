@@ -1,6 +1,7 @@
 //! What is reached from a semi-state of a game along its rules, and whether patterns hold there.
 #![tactic(auto)]
 
+mod answer;
 mod flat;
 mod game_steps;
 mod origin;
@@ -8,6 +9,7 @@ mod outcome;
 mod over;
 mod queue;
 mod search;
+mod walk;
 
 pub use origin::Origin;
 pub use over::Over;

@@ -1,6 +1,6 @@
 //! The pairs of a vertex and a position that a flat part meets, each once, in the order in which they are met.
-ghost use Rattle.std.specs.Prelude.{◌≡◌, ℕ, ◌<◌, ◌≤◌, ◌+◌, ◌-◌, ◌*◌, ◌/◌, ◌%◌, ◌^◌, [], length, slice_get, Some, take, All, Contains, true, false, OnOk, OnErr, IfOk, IsTrue};
-ghost use Rattle.rbg_search.specs.internal.Meeting.{HasMark, Adds, MeetsAll, is_marked, mark_at};
+ghost use Rattle.std.specs.Prelude.{◌≡◌, ℕ, ◌<◌, ◌≤◌, ◌+◌, ◌-◌, ◌*◌, ◌/◌, ◌%◌, ◌^◌, [], length, slice_get, Some, take, replicate, ◌++◌, All, Contains, true, false, OnOk, OnErr, IfOk, IsTrue};
+ghost use Rattle.rbg_search.specs.internal.Meeting.{HasMark, MeetsAll, AreMarked, is_marked, mark_at};
 
 use rbg_base::{Memory, Position, Vertex};
 use std::alloc::Global;
@@ -12,23 +12,28 @@ pub(crate) struct Queue {
     vertices: usize,
     /// How many marks there are: one for each vertex, for each position.
     marks: usize,
-    /// How many words hold the marks of a position: one for each 64 vertices.
-    columns: usize,
-    /// The marks as rows of bits, one row for each position: whether each pair was met.
+    /// How many words hold the marks of 64 vertices: one for each position.
+    rows: usize,
+    /// Whether each pair was met, a bit for each: the first 64 vertices at each position, then the next 64.
     words: Vec<u64>,
-    pairs: Vec<(Vertex, Position)>,
+    /// The pairs, and behind them room for more.
+    room: Vec<(Vertex, Position)>,
+    /// How many pairs were met.
+    met: usize,
 }
 
 impl Model for Queue {
+    ghost use Rattle.std.specs.Prelude.{◌≤◌, length, take};
     ghost use Rattle.rbg_search.specs.internal.Meeting.{Met};
 
     ghost Value = { Met };
 
-    ghost view = { λ q. record { vertices = q.vertices; marks = q.marks; pairs = q.pairs.items } };
+    ghost view = { λ q. record { vertices = q.vertices; marks = q.marks; pairs = take q.met q.room.items } };
 
     ghost use Rattle.rbg_search.specs.internal.Meeting.{AreMarked};
 
-    ghost invariant = { λ q. AreMarked q.vertices q.marks q.columns q.words.items q.pairs.items };
+    ghost invariant = { λ q. (q.met ≤ length q.room.items)
+        × AreMarked q.vertices q.marks q.rows q.words.items (take q.met q.room.items) };
 }
 
 impl Queue {
@@ -39,13 +44,14 @@ impl Queue {
         ensures marks { IfOk result (λ queue. queue.marks ≡ (last + 1) * vertices) }
         ensures pairs { IfOk result (λ queue. queue.pairs ≡ []) }
     {
-        let columns = (vertices + 63) / 64;
+        let rows = last as usize + 1;
         Ok(Queue {
             vertices,
-            marks: (last as usize + 1) * vertices,
-            columns,
-            words: vec![in alloc; 0; (last as usize + 1) * columns]?,
-            pairs: Vec::new(alloc),
+            marks: rows * vertices,
+            rows,
+            words: vec![in alloc; 0; rows * ((vertices + 63) / 64)]?,
+            room: Vec::new(alloc),
+            met: 0,
         })
     }
 
@@ -63,7 +69,7 @@ impl Queue {
         ensures count { result ≡ length self.now.pairs }
         ensures few { result ≤ self.now.marks - self.now.vertices }
     {
-        self.pairs.len()
+        self.met
     }
 
     /// The pair that was met after `index` others.
@@ -74,34 +80,30 @@ impl Queue {
         ensures once { ¬ Contains (take index self.now.pairs) result }
         ensures small { index + 1 < 2 ^ 64 }
     {
-        self.pairs[index]
-    }
-
-    /// Meets a pair. One that was met before is not added.
-    pub(crate) fn meet(&mut self, vertex: Vertex, position: Position) -> Result<(), Memory>
-        requires { HasMark self.old.vertices self.old.marks (vertex, position) }
-        ensures kept { (self.new.vertices ≡ self.old.vertices) × (self.new.marks ≡ self.old.marks) }
-        ensures added { OnOk result (Adds self.old.pairs self.new.pairs (vertex, position)) }
-        ensures refused { OnErr result (self.new ≡ self.old) }
-    {
-        let word = position as usize * self.columns + vertex as usize / 64;
-        let bit = vertex % 64;
-        if !is_marked(&self.words, word, bit) {
-            self.pairs.push((vertex, position))?;
-            self.words[word] |= 1 << bit;
-        }
-        Ok(())
+        self.room[index]
     }
 
     /// Meets the pairs of a vertex and each of these positions.
+    #[inline(always)]
     pub(crate) fn meet_all(&mut self, vertex: Vertex, positions: &[Position]) -> Result<(), Memory>
         requires { All (λ p. HasMark self.old.vertices self.old.marks (vertex, p)) positions.now }
         ensures kept { (self.new.vertices ≡ self.old.vertices) × (self.new.marks ≡ self.old.marks) }
         ensures met { OnOk result (MeetsAll self.old.pairs self.new.pairs vertex positions.now) }
     {
-        for position in positions {
-            self.meet(vertex, *position)?;
+        if positions.len() >= LONG_LIST && are_marked(&self.words, self.rows, vertex, positions) {
+            return Ok(());
         }
+        if self.room.len() - self.met < positions.len() {
+            widen(&mut self.room, positions.len())?;
+        }
+        self.met = meet_each(
+            &mut self.words,
+            &mut self.room,
+            self.met,
+            self.rows,
+            vertex,
+            positions,
+        );
         Ok(())
     }
 
@@ -109,9 +111,82 @@ impl Queue {
     pub(crate) fn clear(&mut self)
         ensures { self.new ≡ record self.old { pairs = [] } }
     {
-        unmark(&mut self.words, &self.pairs, self.columns);
-        self.pairs.clear();
+        unmark(&mut self.words, &self.room[..self.met], self.rows);
+        self.met = 0;
     }
+}
+
+/// Makes room for so many pairs more, and for twice as many as before.
+#[cold]
+#[inline(never)]
+fn widen(room: &mut Vec<(Vertex, Position)>, more: usize) -> Result<(), Memory>
+    ensures items { OnOk result ((n : ℕ) × (room.new.items ≡ room.old.items ++ replicate n (0, 0))) }
+    ensures wide { OnOk result (length room.old.items + more ≤ length room.new.items) }
+    ensures refused { OnErr result (room.new.items ≡ room.old.items) }
+{
+    let len = room.len();
+    let Some(wide) = len.checked_add(more.max(len)) else {
+        return Err(Memory);
+    };
+    room.resize(wide, (0, 0))?;
+    Ok(())
+}
+
+/// Meets the pairs of a vertex and each of these positions: those that weren't met stand in the room behind the pairs
+/// that were. Returns how many were met then.
+#[inline(always)]
+fn meet_each(
+    words: &mut [u64],
+    room: &mut [(Vertex, Position)],
+    met: usize,
+    rows: usize,
+    vertex: Vertex,
+    positions: &[Position],
+) -> usize
+    requires small { length words.old < 2 ^ 64 }
+    requires there { All (λ p. vertex / 64 * rows + p < length words.old) positions.now }
+    requires wide { met + length positions.now ≤ length room.old }
+    ensures words { length words.new ≡ length words.old }
+    ensures room { length room.new ≡ length room.old }
+    ensures within { result ≤ length room.old }
+    ensures met { (n size : ℕ) → AreMarked n size rows words.old (take met room.old)
+        → All (λ p. HasMark n size (vertex, p)) positions.now
+        → AreMarked n size rows words.new (take result room.new)
+        × MeetsAll (take met room.old) (take result room.new) vertex positions.now }
+{
+    let column = vertex as usize / 64;
+    let bit = vertex % 64;
+    let mut count = met;
+    for listed in positions {
+        let position = *listed;
+        let word = column * rows + position as usize;
+        if !is_marked(words, word, bit) {
+            words[word] |= 1 << bit;
+            room[count] = (vertex, position);
+            count += 1;
+        }
+    }
+    count
+}
+
+/// A list of so many positions may well have been met at a vertex before: a look at its marks alone costs less than to
+/// meet each.
+const LONG_LIST: usize = 8;
+
+/// Whether the marks of a vertex are set for all these positions.
+#[inline(never)]
+fn are_marked(words: &[u64], rows: usize, vertex: Vertex, positions: &[Position]) -> bool
+    requires small { length words.now < 2 ^ 64 }
+    requires there { All (λ p. vertex / 64 * rows + p < length words.now) positions.now }
+    ensures { IsTrue result → All (λ p. is_marked words.now (mark_at rows (vertex, p)) ≡ true) positions.now }
+{
+    let column = vertex as usize / 64;
+    let bit = vertex % 64;
+    let mut all = u64::MAX;
+    for position in positions {
+        all &= words[column * rows + *position as usize];
+    }
+    all >> bit & 1 == 1
 }
 
 /// Whether the mark is set that is this bit of this word.
@@ -123,20 +198,47 @@ fn is_marked(words: &[u64], word: usize, bit: u32) -> bool
     words[word] >> bit & 1 == 1
 }
 
+/// Up to so many words, a fill with zeros costs less than a store for each pair.
+const FEW_WORDS: usize = 256;
+/// So many words are filled in the time of a store for one pair.
+const WORDS_FOR_A_PAIR: usize = 16;
+
+/// Whether all words are to be filled with zeros, rather than those of the pairs alone.
+fn is_filled(words: usize, pairs: usize) -> bool {
+    words / WORDS_FOR_A_PAIR <= pairs && (words <= FEW_WORDS || words <= pairs)
+}
+
 /// Takes the marks of the pairs away, and maybe others.
-fn unmark(words: &mut [u64], pairs: &[(Vertex, Position)], columns: usize)
-    requires small { All (λ q. q.1 * columns + q.0 / 64 < 2 ^ 64) pairs.now }
-    requires there { All (λ q. q.1 * columns + q.0 / 64 < length words.old) pairs.now }
+fn unmark(words: &mut [u64], pairs: &[(Vertex, Position)], rows: usize)
+    requires small { All (λ q. q.0 / 64 * rows + q.1 < 2 ^ 64) pairs.now }
+    requires there { All (λ q. q.0 / 64 * rows + q.1 < length words.old) pairs.now }
     ensures size { length words.new ≡ length words.old }
-    ensures gone { All (λ q. is_marked words.new (mark_at columns q) ≡ false) pairs.now }
+    ensures gone { All (λ q. is_marked words.new (mark_at rows q) ≡ false) pairs.now }
     ensures none_set { (k : ℕ) → is_marked words.new k ≡ true → is_marked words.old k ≡ true }
 {
-    if words.len() <= pairs.len() {
+    if is_filled(words.len(), pairs.len()) {
         words.fill(0);
         return;
     }
+    if words.len() <= rows {
+        unmark_narrow(words, pairs);
+        return;
+    }
     for (vertex, position) in pairs {
-        let word = *position as usize * columns + *vertex as usize / 64;
+        let word = *vertex as usize / 64 * rows + *position as usize;
         words[word] = 0;
+    }
+}
+
+/// Takes the marks of the pairs away where there are at most 64 vertices.
+fn unmark_narrow(words: &mut [u64], pairs: &[(Vertex, Position)])
+    requires there { All (λ q. q.1 < length words.old) pairs.now }
+    requires narrow { All (λ q. q.0 < 64) pairs.now }
+    ensures size { length words.new ≡ length words.old }
+    ensures gone { All (λ q. is_marked words.new (q.1 * 64 + q.0) ≡ false) pairs.now }
+    ensures none_set { (k : ℕ) → is_marked words.new k ≡ true → is_marked words.old k ≡ true }
+{
+    for (_, position) in pairs {
+        words[*position as usize] = 0;
     }
 }

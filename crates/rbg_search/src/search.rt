@@ -1,8 +1,8 @@
 //! A search in a game: what is reached without a modifier, and whether patterns hold, on one budget.
 ghost use Rattle.std.specs.List.Sorted.{IsPermutation};
 ghost use Rattle.std.specs.Prelude.{◌≡◌, ◌≢◌, ℕ, ◌+◌, ◌-◌, ◌*◌, ◌^◌, ◌<◌, ◌≤◌, ◌↔◌, suc, length, slice_get, Some, All, AllPairs, IfOk, OnOk, IfSome, IfNone, IsTrue, [], ◌∷◌, ◌++◌, take, Contains, OnErr, IfErr, Err, Bool};
-ghost use Rattle.rbg_rules.specs.State.{AbstractGame, AbstractState, IsStateOf};
-ghost use Rattle.rbg_rules.specs.Positions.{positions_of, IsNumbered, IsModifierAt, IsPatternAt, inside};
+ghost use Rattle.rbg_rules.specs.State.{AbstractState, IsStateOf};
+ghost use Rattle.rbg_rules.specs.Positions.{positions_of, IsModifierAt, IsPatternAt, inside};
 ghost use Rattle.rbg_rules.specs.Words.{Start, beginning, after};
 ghost use Rattle.rbg_rules.specs.Actions.{Applies};
 ghost use Rattle.rbg_rules.specs.Questions.{SomeWordRuns, reach, pattern, IsDeep};
@@ -19,17 +19,18 @@ ghost use Rattle.rbg_search.specs.internal.Begun.{IsBegun};
 ghost use Rattle.rbg_search.specs.internal.Behind.{IsReady, RunsBehindPair, SomeRunsBehind};
 ghost use Rattle.rbg_search.specs.internal.Closure.{at_vertex, Reached as Meets};
 ghost use Rattle.rbg_search.specs.internal.Nesting.{NestsFrom};
-ghost use Rattle.rbg_search.specs.internal.Part.{IsOutcome, HasMarksOf};
-ghost use Rattle.rbg_search.specs.internal.Shown.{shows_negative};
+ghost use Rattle.rbg_search.specs.internal.Part.{HasMarksOf};
+ghost use Rattle.rbg_search.specs.internal.Straight.{IsWalked};
 
+use crate::answer::{is_valid, outcome_of};
 use crate::flat::Flat;
 use crate::game_steps::GameSteps;
 use crate::origin::Origin;
-use crate::outcome::Outcome;
 use crate::over::Over;
+use crate::walk::{Walk, walk_inside};
 use rbg_auto::{Expr, Steps};
 use rbg_base::{Memory, Position, Vertex};
-use rbg_rules::{Action, Game};
+use rbg_rules::Game;
 use rbg_state::SemiState;
 use std::alloc::Global;
 use std::marker::Model;
@@ -57,7 +58,7 @@ pub struct Reached {
 #[derive(Debug, Drop)]
 pub struct Workspace {
     /// Flat parts that are not in use.
-    flats: Vec<Flat>,
+    flats: Vec<Box<Flat>>,
     /// Lists of modifiers that are not in use.
     lists: Vec<Vec<(Vertex, Position)>>,
     openings: u64,
@@ -80,7 +81,7 @@ impl Workspace {
         self.openings
     }
 
-    /// How many pairs the searches took.
+    /// How many pairs the searches tried.
     pub fn pairs(&self) -> u64 {
         self.pairs
     }
@@ -93,11 +94,11 @@ pub struct Search<'a, S: Steps> {
     rules: GameSteps<'a, S>,
     budget: Budget,
     opened: u32,
-    /// How many flat parts were found whole, and how many pairs they took.
+    /// How many flat parts were found whole, and how many pairs they tried.
     finished: u32,
     taken: u64,
     /// Flat parts that are not in use.
-    flats: Vec<Flat>,
+    flats: Vec<Box<Flat>>,
     /// Lists of modifiers that are not in use.
     lists: Vec<Vec<(Vertex, Position)>>,
 }
@@ -121,7 +122,7 @@ impl<'a, S: Steps> Model for Search<'a, S> {
     ghost use Rattle.rbg_search.specs.internal.Spent.{IsSpent};
 
     ghost invariant = { λ s.
-        All (λ flat. HasMarksOf s.rules flat.queue) s.flats.items × (s.opened ≤ s.budget.openings)
+        All (λ flat. HasMarksOf s.rules flat.value.queue) s.flats.items × (s.opened ≤ s.budget.openings)
         × IsSpent s.rules s.opened s.finished s.taken };
 }
 
@@ -192,8 +193,8 @@ impl<'a, S: Steps> Search<'a, S> {
         self.opened
     }
 
-    /// How many pairs of a position and a vertex were taken from the queues of the flat parts that were found whole,
-    /// those of patterns among them. Modifiers count too.
+    /// How many pairs of a position and a vertex were tried in the flat parts that were found whole, those of patterns
+    /// among them. Modifiers count too.
     pub fn taken(&self) -> u64
         ensures { result ≤ self.now.opened * (length (positions_of self.now.game.rules)
             * length self.now.game.board.first) }
@@ -231,10 +232,46 @@ impl<'a, S: Steps> Search<'a, S> {
         ensures not_deep { OnOk result ((cut : Bool)
             → IsNotForcedDeep self.old.game cut reach state.old.state (start_of origin) self.old.modifiers) }
     {
-        let nested = self.rules.nesting();
-        let mut reached = self.flat_part(state, origin, nested)?;
+        let mut reached = self.reach_unordered(state, origin)?;
         sort(&mut reached.pairs);
         Ok(reached)
+    }
+
+    /// As `reach`, with the pairs in no order.
+    pub fn reach_unordered(
+        &mut self,
+        state: &mut SemiState,
+        origin: Origin,
+    ) -> Result<Reached, Over>
+        requires fits { IsStateOf self.old.game state.old.state }
+        requires stands { IsStart self.old.game.rules (start_of origin) }
+        ensures kept { self.new ≡ record self.old { opened = self.new.opened } }
+        ensures given_back { state.new ≡ record state.old { room = state.new.room } }
+        ensures room { state.old.room ≤ state.new.room }
+        ensures enough { OnOk result (2 ≤ state.new.room) }
+        ensures reached { IfOk result (λ reached.
+            IsFlatPart self.old.game state.old.state (start_of origin) reached.pairs.items reached.ends) }
+        ensures within { IfOk result (λ reached. All (λ pair.
+            (pair.0 < length self.old.game.board.first) × IsPositionOf self.old.game.rules pair.1)
+            reached.pairs.items) }
+        ensures counted { CountsOpenings self.old.game reach state.old.state (start_of origin)
+            self.old.opened self.new.opened }
+        ensures deep { result ≡ Err Over.Deep
+            → IsDeep self.old.game reach state.old.state (start_of origin) self.old.modifiers }
+        ensures wide { result ≡ Err Over.Wide
+            → IsOverBudget self.old.game reach state.old.state (start_of origin) self.old.opened self.old.openings }
+        ensures forced { OnOk result ((cut : Bool) (left : ℕ)
+            → CountsForced self.old.game cut reach state.old.state (start_of origin)
+            self.old.opened self.new.opened left self.old.modifiers) }
+        ensures all_forced { OnOk result ((cut : Bool)
+            → CountsAllForced self.old.game cut reach state.old.state (start_of origin)
+            self.old.opened self.new.opened) }
+        ensures not_deep { OnOk result ((cut : Bool)
+            → IsNotForcedDeep self.old.game cut reach state.old.state (start_of origin) self.old.modifiers) }
+    {
+        let nested = self.rules.nesting();
+        let found = self.flat_part(state, origin, nested)?;
+        Ok(found)
     }
 
     /// Whether the pattern at a position is valid in the semi-state, which is given back.
@@ -294,34 +331,34 @@ impl<'a, S: Steps> Search<'a, S> {
     }
 
     /// A flat part that is not in use.
-    fn unused_flat(&mut self) -> Result<Flat, Over>
+    fn unused_flat(&mut self) -> Result<Box<Flat>, Over>
         ensures kept { self.new ≡ self.old }
-        ensures marks { IfOk result (λ flat. HasMarksOf self.old.game flat.queue) }
+        ensures marks { IfOk result (λ flat. HasMarksOf self.old.game flat.value.queue) }
         ensures memory { IfErr result (λ over. over ≡ Over.Memory) }
     {
         match self.flats.pop() {
             Some(flat) => Ok(flat),
-            None => Ok(Flat::new(self.alloc, self.rules.game())?),
+            None => Ok(Box::new(self.alloc, Flat::new(self.alloc, self.rules.game())?)?),
         }
     }
 
     /// Counts the pairs of a flat part that is found whole. Each of these was opened.
-    fn count_pairs(&mut self, flat: &Flat)
-        requires { HasMarksOf self.old.game flat.now.queue }
+    fn count_pairs(&mut self, pairs: usize)
+        requires { pairs ≤ length (positions_of self.old.game.rules) * length self.old.game.board.first }
         ensures kept { self.new ≡ self.old }
     {
         if self.finished < self.opened {
             self.finished += 1;
-            self.taken = self.taken.saturating_add(flat.pairs() as u64);
+            self.taken = self.taken.saturating_add(pairs as u64);
         }
     }
 
     /// Hands out what a flat part found, and keeps the rest for further use.
-    fn finish(&mut self, flat: Flat) -> Result<Reached, Over>
-        requires { HasMarksOf self.old.game flat.queue }
+    fn finish(&mut self, flat: Box<Flat>) -> Result<Reached, Over>
+        requires { HasMarksOf self.old.game flat.value.queue }
         ensures kept { self.new ≡ self.old }
-        ensures pairs { IfOk result (λ reached. reached.pairs.items ≡ flat.found.items) }
-        ensures ends { IfOk result (λ reached. reached.ends ≡ flat.ends) }
+        ensures pairs { IfOk result (λ reached. reached.pairs.items ≡ flat.value.found.items) }
+        ensures ends { IfOk result (λ reached. reached.ends ≡ flat.value.ends) }
         ensures memory { IfErr result (λ over. over ≡ Over.Memory) }
     {
         let mut flat = flat;
@@ -331,7 +368,7 @@ impl<'a, S: Steps> Search<'a, S> {
         };
         let pairs = replace(&mut flat.found, list);
         let ends = flat.ends;
-        self.count_pairs(&flat);
+        self.count_pairs(flat.pairs());
         self.flats.push(flat)?;
         Ok(Reached { pairs, ends })
     }
@@ -355,12 +392,12 @@ impl<'a, S: Steps> Search<'a, S> {
     }
 
     /// A flat part that is begun at a vertex.
-    fn begun(&mut self, origin: Origin, vertex: Vertex) -> Result<Flat, Over>
+    fn begun(&mut self, origin: Origin, vertex: Vertex) -> Result<Box<Flat>, Over>
         requires there { vertex < length self.old.game.board.first }
         ensures kept { self.new ≡ self.old }
         ensures begun { IfOk result (λ flat. (s : AbstractState) → s.vertex ≡ vertex
-            → IsBegun self.old.game s (start_of origin) flat) }
-        ensures none_taken { IfOk result (λ flat. flat.taken ≡ 0) }
+            → IsBegun self.old.game s (start_of origin) flat.value) }
+        ensures none_taken { IfOk result (λ flat. flat.value.taken ≡ 0) }
         ensures lawful { IfOk result (λ _. IsGame self.old.game) }
         ensures memory { IfErr result (λ over. over ≡ Over.Memory) }
     {
@@ -372,37 +409,37 @@ impl<'a, S: Steps> Search<'a, S> {
     /// Takes pairs up to the next one at a pattern, and returns that; none where each pair was taken.
     fn advance(
         &self,
-        flat: &mut Flat,
+        flat: &mut Box<Flat>,
         state: &mut SemiState,
     ) -> Result<Option<(Vertex, Position)>, Memory>
         requires fits { IsStateOf self.now.game state.old.state }
         requires room { 2 ≤ state.old.room }
-        requires marks { HasMarksOf self.now.game flat.old.queue }
-        requires within { flat.old.taken ≤ length flat.old.queue.pairs }
+        requires marks { HasMarksOf self.now.game flat.old.value.queue }
+        requires within { flat.old.value.taken ≤ length flat.old.value.queue.pairs }
         ensures given_back { state.new ≡ state.old }
-        ensures begun { OnOk result ((f : Start) → IsBegun self.now.game state.old.state f flat.old
-            → IsBegun self.now.game state.old.state f flat.new) }
-        ensures further { OnOk result (flat.old.taken ≤ flat.new.taken) }
+        ensures begun { OnOk result ((f : Start) → IsBegun self.now.game state.old.state f flat.old.value
+            → IsBegun self.now.game state.old.state f flat.new.value) }
+        ensures further { OnOk result (flat.old.value.taken ≤ flat.new.value.taken) }
         ensures asked { IfOk result (λ next. IfSome next (λ pair.
-            (slice_get flat.new.queue.pairs flat.new.taken ≡ Some pair)
+            (slice_get flat.new.value.queue.pairs flat.new.value.taken ≡ Some pair)
             × (pair.0 < length self.now.game.board.first)
             × IsPatternAt self.now.game.rules pair.1)) }
         ensures whole { IfOk result (λ next. IfNone next ((f : Start)
-            → IsBegun self.now.game state.old.state f flat.old
-            → IsFlatPart self.now.game state.old.state f flat.new.found.items flat.new.ends)) }
-        ensures marks { HasMarksOf self.now.game flat.new.queue }
+            → IsBegun self.now.game state.old.state f flat.old.value
+            → IsFlatPart self.now.game state.old.state f flat.new.value.found.items flat.new.value.ends)) }
+        ensures marks { HasMarksOf self.now.game flat.new.value.queue }
         ensures still_done { OnOk result ((x : ℕ × ℕ)
-            → Contains (take flat.old.taken flat.old.queue.pairs) x
-            → Contains (take flat.new.taken flat.new.queue.pairs) x) }
+            → Contains (take flat.old.value.taken flat.old.value.queue.pairs) x
+            → Contains (take flat.new.value.taken flat.new.value.queue.pairs) x) }
         ensures quiet { OnOk result ((v p : ℕ)
-            → Contains (take flat.new.taken flat.new.queue.pairs) (v, p) → IsPatternAt self.now.game.rules p
-            → Contains (take flat.old.taken flat.old.queue.pairs) (v, p)) }
+            → Contains (take flat.new.value.taken flat.new.value.queue.pairs) (v, p) → IsPatternAt self.now.game.rules p
+            → Contains (take flat.old.value.taken flat.old.value.queue.pairs) (v, p)) }
         ensures met { IfOk result (λ next. IfNone next ((f : Start)
-            → IsBegun self.now.game state.old.state f flat.old → (v p : ℕ)
+            → IsBegun self.now.game state.old.state f flat.old.value → (v p : ℕ)
             → Meets self.now.game state.old.state f v p
-            → Contains (take flat.new.taken flat.new.queue.pairs) (v, p))) }
+            → Contains (take flat.new.value.taken flat.new.value.queue.pairs) (v, p))) }
         ensures fresh { IfOk result (λ next. IfSome next (λ pair.
-            ¬ Contains (take flat.new.taken flat.new.queue.pairs) pair)) }
+            ¬ Contains (take flat.new.value.taken flat.new.value.queue.pairs) pair)) }
     {
         // The game is lawful.
         let _game = self.rules.game();
@@ -412,22 +449,22 @@ impl<'a, S: Steps> Search<'a, S> {
     /// Takes the pair at a pattern, which is valid there or isn't.
     fn take(
         &self,
-        flat: &mut Flat,
+        flat: &mut Box<Flat>,
         vertex: Vertex,
         position: Position,
         valid: bool,
     ) -> Result<(), Memory>
-        requires marks { HasMarksOf self.now.game flat.old.queue }
-        requires here { slice_get flat.old.queue.pairs flat.old.taken ≡ Some (vertex, position) }
+        requires marks { HasMarksOf self.now.game flat.old.value.queue }
+        requires here { slice_get flat.old.value.queue.pairs flat.old.value.taken ≡ Some (vertex, position) }
         requires vertex { vertex < length self.now.game.board.first }
         requires there { IsPatternAt self.now.game.rules position }
         ensures begun { OnOk result ((s : AbstractState) (f : Start)
             → IsTrue valid ↔ Applies self.now.game position (at_vertex s vertex) (at_vertex s vertex)
-            → IsBegun self.now.game s f flat.old → IsBegun self.now.game s f flat.new) }
-        ensures taken { OnOk result (flat.new.taken ≡ flat.old.taken + 1) }
-        ensures small { OnOk result (flat.new.taken < 2 ^ 64) }
-        ensures done { OnOk result (take flat.new.taken flat.new.queue.pairs
-            ≡ take flat.old.taken flat.old.queue.pairs ++ (vertex, position) ∷ []) }
+            → IsBegun self.now.game s f flat.old.value → IsBegun self.now.game s f flat.new.value) }
+        ensures taken { OnOk result (flat.new.value.taken ≡ flat.old.value.taken + 1) }
+        ensures small { OnOk result (flat.new.value.taken < 2 ^ 64) }
+        ensures done { OnOk result (take flat.new.value.taken flat.new.value.queue.pairs
+            ≡ take flat.old.value.taken flat.old.value.queue.pairs ++ (vertex, position) ∷ []) }
     {
         let _game = self.rules.game();
         let _position = position;
@@ -460,6 +497,38 @@ impl<'a, S: Steps> Search<'a, S> {
             → IsTrue result ↔ Applies self.now.game position s s }
     {
         is_valid(self.rules.game(), position, runs)
+    }
+
+    /// Walks along the inside of a pattern at a vertex, where that is a straight line.
+    fn walk(&self, state: &SemiState, vertex: Vertex, position: Position) -> Option<Walk>
+        requires fits { IsStateOf self.now.game state.now.state }
+        requires vertex { vertex < length state.now.state.pieces }
+        ensures walked { IfSome result (λ walk. IsWalked self.now.game (at_vertex state.now.state vertex)
+            (beginning (inside position)) walk.ends) }
+        ensures few { IfSome result (λ walk. walk.pairs ≤ length (positions_of self.now.game.rules)) }
+    {
+        walk_inside(&self.rules, state, vertex, position)
+    }
+
+    /// Whether a pattern is valid by the walk along its inside, for which one more opening is taken up.
+    fn answer(&mut self, position: Position, walk: Walk) -> Result<bool, Over>
+        requires there { IsPatternAt self.old.game.rules position }
+        requires few { walk.pairs ≤ length (positions_of self.old.game.rules) }
+        ensures kept { self.new ≡ record self.old { opened = self.new.opened } }
+        ensures valid { IfOk result (λ valid. (s : AbstractState)
+            → IsWalked self.old.game s (beginning (inside position)) walk.ends
+            → IsTrue valid ↔ Applies self.old.game position s s) }
+        ensures counts { (s : AbstractState) → IsCounted self.old.game pattern s (beginning (inside position))
+            self.old.opened self.new.opened self.old.modifiers self.old.openings self.old.modifiers
+            (result ≡ Err Over.Deep) (result ≡ Err Over.Wide) }
+        ensures forced { OnOk result ((s : AbstractState) (cut : Bool)
+            → IsWalked self.old.game s (beginning (inside position)) walk.ends
+            → CountsForced self.old.game cut pattern s (beginning (inside position))
+            self.old.opened self.new.opened self.old.modifiers self.old.modifiers) }
+    {
+        self.open()?;
+        self.count_pairs(walk.pairs);
+        Ok(self.is_valid(position, walk.ends))
     }
 
     /// What is reached. Patterns nest at most `nested` deep there.
@@ -527,6 +596,9 @@ impl<'a, S: Steps> Search<'a, S> {
             (at_vertex state.old.state vertex) (beginning (inside position))
             self.old.opened self.new.opened self.old.modifiers self.old.modifiers) }
     {
+        if let Some(walk) = self.walk(state, vertex, position) {
+            return self.answer(position, walk);
+        }
         let modifiers = self.budget.modifiers;
         let mark = state.mark();
         state.stand_at(vertex);
@@ -647,8 +719,8 @@ impl<'a, S: Steps> Search<'a, S> {
 }
 
 /// The flat parts, if each has marks for the game; else none.
-fn fitting(alloc: Global, game: &Game, flats: Vec<Flat>) -> Vec<Flat>
-    ensures { All (λ flat. HasMarksOf game.now flat.queue) result.items }
+fn fitting(alloc: Global, game: &Game, flats: Vec<Box<Flat>>) -> Vec<Box<Flat>>
+    ensures { All (λ flat. HasMarksOf game.now flat.value.queue) result.items }
 {
     if are_for(game, &flats) {
         flats
@@ -658,8 +730,8 @@ fn fitting(alloc: Global, game: &Game, flats: Vec<Flat>) -> Vec<Flat>
 }
 
 /// Whether each flat part has marks for the game.
-fn are_for(game: &Game, flats: &[Flat]) -> bool
-    ensures { IsTrue result → All (λ flat. HasMarksOf game.now flat.queue) flats.now }
+fn are_for(game: &Game, flats: &[Box<Flat>]) -> bool
+    ensures { IsTrue result → All (λ flat. HasMarksOf game.now flat.value.queue) flats.now }
 {
     for flat in flats {
         if !flat.is_for(game) {
@@ -676,49 +748,4 @@ fn sort(pairs: &mut Vec<(Vertex, Position)>)
     ensures order { AllPairs IsBefore pairs.new.items }
 {
     pairs.sort_unstable();
-}
-
-/// What becomes of a pattern at a vertex where it is valid, or isn't.
-fn outcome_of(vertex: Vertex, valid: bool) -> Outcome
-    ensures outcome { (game : AbstractGame) (s : AbstractState) (p : ℕ)
-        → IsNumbered game.rules → IsPatternAt game.rules p
-        → IsTrue valid ↔ Applies game p (at_vertex s vertex) (at_vertex s vertex) → IsOutcome game s vertex p result }
-    ensures there { (u : ℕ) → result ≡ Outcome.LeadsTo u → u ≡ vertex }
-{
-    if valid {
-        Outcome::LeadsTo(vertex)
-    } else {
-        Outcome::Invalid
-    }
-}
-
-/// Whether a pattern is valid where some word of its inside runs, or none.
-fn is_valid(game: &Game, position: Position, runs: bool) -> bool
-    requires lawful { IsGame game.now }
-    requires there { IsPatternAt game.now.rules position }
-    requires position { IsPositionOf game.now.rules position }
-    ensures { (s : AbstractState) → IsTrue runs ↔ SomeWordRuns game.now s (beginning (inside position))
-        → IsTrue result ↔ Applies game.now position s s }
-{
-    if is_negative(game.action(position)) {
-        !runs
-    } else {
-        runs
-    }
-}
-
-/// Whether the action is a negative pattern.
-fn is_negative(action: &Action) -> bool
-    ensures { result ≡ shows_negative action.now }
-{
-    match action {
-        Action::Negative => true,
-        Action::Shift { .. }
-        | Action::On { .. }
-        | Action::Off { .. }
-        | Action::Assign { .. }
-        | Action::Compare { .. }
-        | Action::Switch { .. }
-        | Action::Positive => false,
-    }
 }

@@ -1,5 +1,5 @@
 -- Pairs of a vertex and a position that are met one after another, each once.
-use Rattle.std.specs.Prelude.{◌≡◌, ◌≢◌, ℕ, ◌+◌, ◌*◌, ◌<◌, ◌≤◌, ◌⊎◌, ◌↔◌, List, [], ◌∷◌, ◌++◌, length, All, AllPairs, Contains, Bool, true, ◌/◌, ◌%◌, ◌^◌, ◌==◌, slice_index}
+use Rattle.std.specs.Prelude.{◌≡◌, ◌≢◌, ℕ, ◌+◌, ◌*◌, ◌<◌, ◌⊎◌, ◌↔◌, List, [], ◌∷◌, ◌++◌, length, All, AllPairs, Contains, Bool, true, ◌/◌, ◌%◌, ◌^◌, ◌==◌, slice_index}
 use Rattle.std.specs.Int.{bit_at}
 
 -- The pairs that were met, in order, and how many vertices and marks there are.
@@ -35,17 +35,18 @@ pub record SetsMark (old new : List ℕ) (k : ℕ) : Type 0 where
   pub set : is_marked new k ≡ true
   pub others : (j : ℕ) → j ≢ k → is_marked new j ≡ is_marked old j
 
--- the bit of a pair, where each position has this many words
-abbrev pub mark_at : (columns : ℕ) → ℕ × ℕ → ℕ
-mark_at columns pair = (pair.1 * columns + pair.0 / 64) * 64 + pair.0 % 64
+-- the bit of a pair, where 64 vertices have this many words, one for each position
+abbrev pub mark_at : (rows : ℕ) → ℕ × ℕ → ℕ
+mark_at rows pair = (pair.0 / 64 * rows + pair.1) * 64 + pair.0 % 64
 
--- Each pair is there once, and is marked: no other one is. There are words for the marks, and for each vertex a column.
-pub record AreMarked (vertices marks columns : ℕ) (words : List ℕ) (pairs : List (ℕ × ℕ)) : Type 0 where
-  pub wide : vertices ≤ columns * 64
+-- Each pair is there once, and is marked: no other one is. There is a row for each position, and there are words for
+-- the marks.
+pub record AreMarked (vertices marks rows : ℕ) (words : List ℕ) (pairs : List (ℕ × ℕ)) : Type 0 where
+  pub size : marks ≡ rows * vertices
   pub small : length words < 2 ^ 64
-  pub room : (v p : ℕ) → HasMark vertices marks (v, p) → p * columns + v / 64 < length words
+  pub room : (v p : ℕ) → HasMark vertices marks (v, p) → v / 64 * rows + p < length words
   pub within : All (HasMark vertices marks) pairs
   pub marked :
-      (v p : ℕ) → v < vertices →
-      (is_marked words (mark_at columns (v, p)) ≡ true) ↔ Contains pairs (v, p)
+      (v p : ℕ) → HasMark vertices marks (v, p) →
+      (is_marked words (mark_at rows (v, p)) ≡ true) ↔ Contains pairs (v, p)
   pub different : AllPairs (λ a b. a ≢ b) pairs

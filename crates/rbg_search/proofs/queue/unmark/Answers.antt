@@ -1,9 +1,9 @@
-use Rattle.std.proofs.Common.{◌≡◌, ◌*◌, ◌+◌, ◌/◌, ◌<◌, ℕ, List, length, get_or, set, take, false, sym, ◌∙◌, subst, arith, rules, replicate}
+use Rattle.std.proofs.Common.{◌≡◌, ◌*◌, ◌+◌, ◌/◌, ◌<◌, ℕ, List, length, get_or, set, take, false, sym, ◌∙◌, subst, ap, arith, rules, replicate}
 use Rattle.std.specs.Prelude.{All}
 use Rattle.std.proofs.lemmas.List.{take_more, take_all, length-set}
 use Rattle.std.proofs.lemmas.List.Elements.{All-push, All-weaker}
 use Rattle.rbg_search.specs.internal.Meeting.{is_marked, mark_at}
-use Rattle.rbg_search.proofs.Meetings.{still_marked, still_unmarked, unmarked_here, all_gone, none_marked, word_of_mark}
+use Rattle.rbg_search.proofs.Meetings.{still_marked, still_unmarked, unmarked_here, all_gone, none_marked, word_of_mark, one_column, narrow_mark}
 use Rattle.rbg_search.proofs.queue.unmark.Goals as goal
 
 pub overflow_mul-word : goal.overflow_mul-word
@@ -15,9 +15,9 @@ overflow_add-word c = let small = c.requires.small c.loop-vertex.vertex-index (0
 pub loop-vertex-preserved : goal.loop-vertex-preserved
 loop-vertex-preserved c =
     let pairs : List (ℕ × ℕ) = c.args.pairs.now in
-    let n : ℕ = c.args.columns in
+    let n : ℕ = c.args.rows in
     let q : ℕ × ℕ = get_or pairs c.loop-vertex.vertex-index (0, 0) in
-    let word : ℕ = q.1 * n + q.0 / 64 in
+    let word : ℕ = q.0 / 64 * n + q.1 in
     let mark : ℕ = mark_at n q in
     let place : mark / 64 ≡ word = word_of_mark n q.0 q.1 in
     let words : List ℕ = c.loop-vertex.words in
@@ -38,16 +38,22 @@ loop-vertex-preserved c =
 
 pub returns-clause-gone : goal.returns-clause-gone
 returns-clause-gone c =
-    subst (λ (qs : List (ℕ × ℕ)). All (λ r. is_marked c.loop-vertex.words (mark_at c.args.columns r) ≡ false) qs)
+    subst (λ (qs : List (ℕ × ℕ)). All (λ r. is_marked c.loop-vertex.words (mark_at c.args.rows r) ≡ false) qs)
     (take_all c.loop-vertex.vertex-index c.args.pairs.now c.loop-vertex-test.false)
     c.loop-vertex.invariant.gone
 
-pub returns-then-words-pairs-clause-gone : goal.returns-then-words-pairs-clause-gone
-returns-then-words-pairs-clause-gone c =
+pub returns-then-is_filled-clause-gone : goal.returns-then-is_filled-clause-gone
+returns-then-is_filled-clause-gone c =
     let zeros : c.fill.new.self ≡ replicate (length c.args.words.now) 0 = c.fill.ensures.after (λ y same. search rules) in
-    all_gone c.args.columns (length c.args.words.now) c.fill.new.self c.args.pairs.now zeros
+    all_gone c.args.rows (length c.args.words.now) c.fill.new.self c.args.pairs.now zeros
 
-pub returns-then-words-pairs-clause-none_set : goal.returns-then-words-pairs-clause-none_set
-returns-then-words-pairs-clause-none_set c = λ k is.
+pub returns-then-is_filled-clause-none_set : goal.returns-then-is_filled-clause-none_set
+returns-then-is_filled-clause-none_set c = λ k is.
     let zeros : c.fill.new.self ≡ replicate (length c.args.words.now) 0 = c.fill.ensures.after (λ y same. search rules) in
     none_marked (length c.args.words.now) k c.fill.new.self _ zeros is
+
+pub returns-then-words-rows-clause-gone : goal.returns-then-words-rows-clause-gone
+returns-then-words-rows-clause-gone c = λ k d below.
+    let q : ℕ × ℕ = get_or c.args.pairs.now k d in
+    let narrow : q.0 < 64 = one_column c.args.rows q.0 q.1 (length c.args.words.now) c.if-words-rows.true (c.requires.there k d below) in
+    ap (is_marked c.unmark_narrow.new.words) (narrow_mark c.args.rows q.0 q.1 narrow) ∙ c.unmark_narrow.ensures.gone k d below

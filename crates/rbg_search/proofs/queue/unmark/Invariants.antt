@@ -7,6 +7,6 @@ use Rattle.rbg_search.proofs.queue.unmark.Given as goal
 abbrev pub invariant-loop-vertex : goal.invariant-loop-vertex
 invariant-loop-vertex l = record {
   size : length l.words ≡ length l.initial.words;
-  gone : All (λ q. is_marked l.words (mark_at l.columns q) ≡ false) (take l.vertex-index l.pairs);
+  gone : All (λ q. is_marked l.words (mark_at l.rows q) ≡ false) (take l.vertex-index l.pairs);
   none_set : (k : ℕ) → is_marked l.words k ≡ true → is_marked l.initial.words k ≡ true;
 }

@@ -5,4 +5,4 @@ use Rattle.rbg_search.specs.internal.Part.{HasMarksOf}
 use Rattle.rbg_search.proofs.search.are_for.Given as goal
 
 abbrev pub invariant-loop-flat : goal.invariant-loop-flat
-invariant-loop-flat l = All (λ flat. HasMarksOf l.game flat.queue) (take l.flat-index l.flats)
+invariant-loop-flat l = All (λ flat. HasMarksOf l.game flat.value.queue) (take l.flat-index l.flats)

@@ -84,15 +84,15 @@ flat_part-loop-flat-init g t c =
       room = c.enter.ensures.room;
       enough = c.in_ok-enter.ensures.enough;
       begun =
-          rules_before (λ x. IsBegun x c.args.state.now.state (start_of c.args.origin) c.in_ok-flat.flat) c.args.self.now c.enter.new.self c.enter.ensures.kept
+          rules_before (λ x. IsBegun x c.args.state.now.state (start_of c.args.origin) c.in_ok-flat.flat.value) c.args.self.now c.enter.new.self c.enter.ensures.kept
           (c.in_ok-flat.ensures.begun c.args.state.now.state here);
       lawful = rules_before IsGame c.args.self.now c.enter.new.self c.enter.ensures.kept c.in_ok-flat.ensures.lawful;
       counted =
-          asked_begin c.args.self.now.game c.enter.ensures.lawful c.args.state.now.state (start_of c.args.origin) c.requires.start (take c.in_ok-flat.flat.taken c.in_ok-flat.flat.queue.pairs) c.args.self.now.opened c.begun.new.self.opened
+          asked_begin c.args.self.now.game c.enter.ensures.lawful c.args.state.now.state (start_of c.args.origin) c.requires.start (take c.in_ok-flat.flat.value.taken c.in_ok-flat.flat.value.queue.pairs) c.args.self.now.opened c.begun.new.self.opened
           (ap (λ (x : Searching). x.opened) c.begun.ensures.kept ∙ c.in_ok-enter.ensures.opened);
       forced = λ cut.
           let first : c.begun.new.self.opened ≡ c.args.self.now.opened + 1 = ap (λ (x : Searching). x.opened) c.begun.ensures.kept ∙ c.in_ok-enter.ensures.opened in
-          subst (λ (n : ℕ). AsksForced c.args.self.now.game cut c.args.state.now.state (take n c.in_ok-flat.flat.queue.pairs) c.args.self.now.opened c.begun.new.self.opened c.args.self.now.modifiers) (sym c.in_ok-flat.ensures.none_taken)
+          subst (λ (n : ℕ). AsksForced c.args.self.now.game cut c.args.state.now.state (take n c.in_ok-flat.flat.value.queue.pairs) c.args.self.now.opened c.begun.new.self.opened c.args.self.now.modifiers) (sym c.in_ok-flat.ensures.none_taken)
           (asks_begin c.args.self.now.game c.enter.ensures.lawful.numbered cut c.args.state.now.state c.args.self.now.opened c.begun.new.self.opened c.args.self.now.modifiers first);
     }
 
@@ -105,7 +105,7 @@ flat_part-advance-requires-clause-room g t c = c.loop-flat.invariant.enough
 
 pub flat_part-advance-requires-clause-marks : goal.flat_part-advance-requires-clause-marks
 flat_part-advance-requires-clause-marks g t c =
-    onward_rules (λ x. HasMarksOf x c.loop-flat.flat.queue) c.args.self.now c.loop-flat.self c.loop-flat.invariant.kept c.loop-flat.invariant.begun.marks
+    onward_rules (λ x. HasMarksOf x c.loop-flat.flat.value.queue) c.args.self.now c.loop-flat.self c.loop-flat.invariant.kept c.loop-flat.invariant.begun.marks
 
 pub flat_part-advance-requires-clause-within : goal.flat_part-advance-requires-clause-within
 flat_part-advance-requires-clause-within g t c = c.loop-flat.invariant.begun.within
@@ -123,12 +123,12 @@ pub flat_part-ask-requires : goal.flat_part-ask-requires
 flat_part-ask-requires g t c κs within =
     let given : c.advance.new.state ≡ (record c.args.state.now { room = c.advance.new.state.room }) = room_twice c.args.state.now c.loop-flat.state c.advance.new.state c.loop-flat.invariant.given_back (back_same c.loop-flat.state c.advance.new.state c.advance.ensures.given_back) in
     let fits : IsStateOf c.loop-flat.self.game c.advance.new.state.state = onward IsStateOf c.args.self.now c.loop-flat.self c.args.state.now c.advance.new.state c.loop-flat.invariant.kept given c.requires.fits in
-    let asked : (slice_get c.advance.new.flat.queue.pairs c.advance.new.flat.taken ≡ Some (c.in-Some.vertex, c.in-Some.position)) × (c.in-Some.vertex < length c.loop-flat.self.game.board.first) × IsPatternAt c.loop-flat.self.game.rules c.in-Some.position = search rules in
+    let asked : (slice_get c.advance.new.flat.value.queue.pairs c.advance.new.flat.value.taken ≡ Some (c.in-Some.vertex, c.in-Some.position)) × (c.in-Some.vertex < length c.loop-flat.self.game.board.first) × IsPatternAt c.loop-flat.self.game.rules c.in-Some.position = search rules in
     let lawful : IsGame c.loop-flat.self.game = onward_rules IsGame c.args.self.now c.loop-flat.self c.loop-flat.invariant.kept c.loop-flat.invariant.lawful in
     let nests : NestsFrom c.loop-flat.self.game.rules c.args.nested (start_of c.args.origin) = onward_rules (λ x. NestsFrom x.rules c.args.nested (start_of c.args.origin)) c.args.self.now c.loop-flat.self c.loop-flat.invariant.kept c.requires.nested in
-    let begun : IsBegun c.loop-flat.self.game c.loop-flat.state.state (start_of c.args.origin) c.advance.new.flat = c.in_ok-vertex.ensures.begun (start_of c.args.origin)
-    (onward (λ x s. IsBegun x s (start_of c.args.origin) c.loop-flat.flat) c.args.self.now c.loop-flat.self c.args.state.now c.loop-flat.state c.loop-flat.invariant.kept c.loop-flat.invariant.given_back c.loop-flat.invariant.begun) in
-    let inner = asked_nests c.loop-flat.self.game lawful.numbered c.loop-flat.state.state (start_of c.args.origin) c.args.nested nests c.advance.new.flat.queue.pairs (take c.advance.new.flat.taken c.advance.new.flat.queue.pairs) c.advance.new.flat.found.items c.advance.new.flat.ends begun.part c.advance.new.flat.taken c.in-Some.vertex c.in-Some.position asked.0 asked.2 in
+    let begun : IsBegun c.loop-flat.self.game c.loop-flat.state.state (start_of c.args.origin) c.advance.new.flat.value = c.in_ok-vertex.ensures.begun (start_of c.args.origin)
+    (onward (λ x s. IsBegun x s (start_of c.args.origin) c.loop-flat.flat.value) c.args.self.now c.loop-flat.self c.args.state.now c.loop-flat.state c.loop-flat.invariant.kept c.loop-flat.invariant.given_back c.loop-flat.invariant.begun) in
+    let inner = asked_nests c.loop-flat.self.game lawful.numbered c.loop-flat.state.state (start_of c.args.origin) c.args.nested nests c.advance.new.flat.value.queue.pairs (take c.advance.new.flat.value.taken c.advance.new.flat.value.queue.pairs) c.advance.new.flat.value.found.items c.advance.new.flat.value.ends begun.part c.advance.new.flat.value.taken c.in-Some.vertex c.in-Some.position asked.0 asked.2 in
     let need = some_nested c.loop-flat.self.game.rules c.args.nested c.in-Some.position inner in
     let room : 1 ≤ c.advance.new.state.room = (let same : c.advance.new.state.room ≡ c.loop-flat.state.room = ap (λ (h : History). h.room) c.advance.ensures.given_back in omega (arith, same, c.loop-flat.invariant.enough)) in
     let size : length c.advance.new.state.state.pieces ≡ length c.loop-flat.self.game.board.first = fits.vertices in
@@ -150,16 +150,16 @@ flat_part-returns-in_err-valid-clause-room g t c =
     omega (arith, same, c.loop-flat.invariant.room, c.ask.ensures.room)
 
 pub flat_part-take-requires-clause-marks : goal.flat_part-take-requires-clause-marks
-flat_part-take-requires-clause-marks g t c = onward_rules (λ x. HasMarksOf x c.advance.new.flat.queue) c.loop-flat.self c.ask.new.self c.ask.ensures.kept c.advance.ensures.marks
+flat_part-take-requires-clause-marks g t c = onward_rules (λ x. HasMarksOf x c.advance.new.flat.value.queue) c.loop-flat.self c.ask.new.self c.ask.ensures.kept c.advance.ensures.marks
 
 pub flat_part-take-requires-clause-vertex : goal.flat_part-take-requires-clause-vertex
 flat_part-take-requires-clause-vertex g t c =
-    let asked : (slice_get c.advance.new.flat.queue.pairs c.advance.new.flat.taken ≡ Some (c.in-Some.vertex, c.in-Some.position)) × (c.in-Some.vertex < length c.loop-flat.self.game.board.first) × IsPatternAt c.loop-flat.self.game.rules c.in-Some.position = search rules in
+    let asked : (slice_get c.advance.new.flat.value.queue.pairs c.advance.new.flat.value.taken ≡ Some (c.in-Some.vertex, c.in-Some.position)) × (c.in-Some.vertex < length c.loop-flat.self.game.board.first) × IsPatternAt c.loop-flat.self.game.rules c.in-Some.position = search rules in
     onward_rules (λ x. c.in-Some.vertex < length x.board.first) c.loop-flat.self c.ask.new.self c.ask.ensures.kept asked.1
 
 pub flat_part-take-requires-clause-there : goal.flat_part-take-requires-clause-there
 flat_part-take-requires-clause-there g t c =
-    let asked : (slice_get c.advance.new.flat.queue.pairs c.advance.new.flat.taken ≡ Some (c.in-Some.vertex, c.in-Some.position)) × (c.in-Some.vertex < length c.loop-flat.self.game.board.first) × IsPatternAt c.loop-flat.self.game.rules c.in-Some.position = search rules in
+    let asked : (slice_get c.advance.new.flat.value.queue.pairs c.advance.new.flat.value.taken ≡ Some (c.in-Some.vertex, c.in-Some.position)) × (c.in-Some.vertex < length c.loop-flat.self.game.board.first) × IsPatternAt c.loop-flat.self.game.rules c.in-Some.position = search rules in
     onward_rules (λ x. IsPatternAt x.rules c.in-Some.position) c.loop-flat.self c.ask.new.self c.ask.ensures.kept asked.2
 
 pub flat_part-loop-flat-preserved : goal.flat_part-loop-flat-preserved
@@ -171,27 +171,27 @@ flat_part-loop-flat-preserved g t c =
     let kept : c.ask.new.self ≡ (record c.args.self.now { opened = c.ask.new.self.opened }) = kept_twice c.args.self.now c.loop-flat.self c.ask.new.self c.loop-flat.invariant.kept c.ask.ensures.kept in
     let there : AbstractState = at_vertex c.advance.new.state.state v in
     let decides : IsTrue c.in_ok-valid.valid ↔ Applies c.ask.new.self.game c.in-Some.position there there = onward_rules (λ x. IsTrue c.in_ok-valid.valid ↔ Applies x c.in-Some.position there there) c.loop-flat.self c.ask.new.self c.ask.ensures.kept c.in_ok-valid.ensures.valid in
-    let begun : IsBegun c.loop-flat.self.game c.loop-flat.state.state f c.advance.new.flat = c.in_ok-vertex.ensures.begun f
-    (onward (λ x s. IsBegun x s f c.loop-flat.flat) c.args.self.now c.loop-flat.self c.args.state.now c.loop-flat.state c.loop-flat.invariant.kept c.loop-flat.invariant.given_back c.loop-flat.invariant.begun) in
-    let asked : IsBegun c.ask.new.self.game c.advance.new.state.state f c.advance.new.flat =
-    onward (λ x s. IsBegun x s f c.advance.new.flat) c.loop-flat.self c.ask.new.self c.loop-flat.state c.advance.new.state c.ask.ensures.kept (back_same c.loop-flat.state c.advance.new.state c.advance.ensures.given_back) begun in
+    let begun : IsBegun c.loop-flat.self.game c.loop-flat.state.state f c.advance.new.flat.value = c.in_ok-vertex.ensures.begun f
+    (onward (λ x s. IsBegun x s f c.loop-flat.flat.value) c.args.self.now c.loop-flat.self c.args.state.now c.loop-flat.state c.loop-flat.invariant.kept c.loop-flat.invariant.given_back c.loop-flat.invariant.begun) in
+    let asked : IsBegun c.ask.new.self.game c.advance.new.state.state f c.advance.new.flat.value =
+    onward (λ x s. IsBegun x s f c.advance.new.flat.value) c.loop-flat.self c.ask.new.self c.loop-flat.state c.advance.new.state c.ask.ensures.kept (back_same c.loop-flat.state c.advance.new.state c.advance.ensures.given_back) begun in
     record {
       kept = kept;
       given_back = room_twice c.args.state.now c.advance.new.state c.ask.new.state given c.ask.ensures.given_back;
       room = omega (arith, same, c.loop-flat.invariant.room, c.ask.ensures.room);
       enough = omega (arith, same, c.loop-flat.invariant.enough, c.ask.ensures.room);
       begun =
-          before (λ x s. IsBegun x s f c.take.new.flat) c.args.self.now c.ask.new.self c.args.state.now c.advance.new.state kept given
+          before (λ x s. IsBegun x s f c.take.new.flat.value) c.args.self.now c.ask.new.self c.args.state.now c.advance.new.state kept given
           (c.in_ok-take.ensures.begun c.advance.new.state.state f decides asked);
       lawful = c.loop-flat.invariant.lawful;
       counted =
-          let pair : (slice_get c.advance.new.flat.queue.pairs c.advance.new.flat.taken ≡ Some (c.in-Some.vertex, c.in-Some.position)) × (c.in-Some.vertex < length c.loop-flat.self.game.board.first) × IsPatternAt c.loop-flat.self.game.rules c.in-Some.position = search rules in
-          let fresh : ¬ Contains (take c.advance.new.flat.taken c.advance.new.flat.queue.pairs) (c.in-Some.vertex, c.in-Some.position) = search rules in
+          let pair : (slice_get c.advance.new.flat.value.queue.pairs c.advance.new.flat.value.taken ≡ Some (c.in-Some.vertex, c.in-Some.position)) × (c.in-Some.vertex < length c.loop-flat.self.game.board.first) × IsPatternAt c.loop-flat.self.game.rules c.in-Some.position = search rules in
+          let fresh : ¬ Contains (take c.advance.new.flat.value.taken c.advance.new.flat.value.queue.pairs) (c.in-Some.vertex, c.in-Some.position) = search rules in
           subst (λ (ds : List (ℕ × ℕ)). CountsAsked c.args.self.now.game c.args.state.now.state f ds c.args.self.now.opened c.ask.new.self.opened) (sym c.in_ok-take.ensures.done)
-          (ask_step c.args.self.now c.loop-flat.self c.args.state.now c.loop-flat.state c.advance.new.state f c.loop-flat.flat c.advance.new.flat c.in-Some.vertex c.in-Some.position c.args.self.now.opened c.ask.new.self.opened _ _ c.loop-flat.invariant.kept c.loop-flat.invariant.given_back given c.loop-flat.invariant.lawful begun pair.0 pair.2 c.in_ok-vertex.ensures.still_done fresh c.loop-flat.invariant.counted c.ask.ensures.counts).counts;
+          (ask_step c.args.self.now c.loop-flat.self c.args.state.now c.loop-flat.state c.advance.new.state f c.loop-flat.flat.value c.advance.new.flat.value c.in-Some.vertex c.in-Some.position c.args.self.now.opened c.ask.new.self.opened _ _ c.loop-flat.invariant.kept c.loop-flat.invariant.given_back given c.loop-flat.invariant.lawful begun pair.0 pair.2 c.in_ok-vertex.ensures.still_done fresh c.loop-flat.invariant.counted c.ask.ensures.counts).counts;
       forced = λ cut.
           subst (λ (ds : List (ℕ × ℕ)). AsksForced c.args.self.now.game cut c.args.state.now.state ds c.args.self.now.opened c.ask.new.self.opened c.args.self.now.modifiers) (sym c.in_ok-take.ensures.done)
-          (ask_forced c.args.self.now c.loop-flat.self c.args.state.now c.advance.new.state (take c.loop-flat.flat.taken c.loop-flat.flat.queue.pairs) (take c.advance.new.flat.taken c.advance.new.flat.queue.pairs) c.in-Some.vertex c.in-Some.position c.args.self.now.opened c.ask.new.self.opened cut c.loop-flat.invariant.kept given c.loop-flat.invariant.lawful.numbered c.in_ok-vertex.ensures.quiet (c.loop-flat.invariant.forced cut) (c.in_ok-valid.ensures.forced cut));
+          (ask_forced c.args.self.now c.loop-flat.self c.args.state.now c.advance.new.state (take c.loop-flat.flat.value.taken c.loop-flat.flat.value.queue.pairs) (take c.advance.new.flat.value.taken c.advance.new.flat.value.queue.pairs) c.in-Some.vertex c.in-Some.position c.args.self.now.opened c.ask.new.self.opened cut c.loop-flat.invariant.kept given c.loop-flat.invariant.lawful.numbered c.in_ok-vertex.ensures.quiet (c.loop-flat.invariant.forced cut) (c.in_ok-valid.ensures.forced cut));
     }
 
 pub flat_part-returns-in_err-take-clause-kept : goal.flat_part-returns-in_err-take-clause-kept
@@ -245,22 +245,22 @@ flat_part-returns-clause-enough g t c =
 pub flat_part-returns-clause-reached : goal.flat_part-returns-clause-reached
 flat_part-returns-clause-reached g t c =
     let f : Start = start_of c.args.origin in
-    let whole : (e : Start) → IsBegun c.loop-flat.self.game c.loop-flat.state.state e c.loop-flat.flat → IsFlatPart c.loop-flat.self.game c.loop-flat.state.state e c.advance.new.flat.found.items c.advance.new.flat.ends = search rules in
-    let begun : IsBegun c.loop-flat.self.game c.loop-flat.state.state f c.loop-flat.flat = onward (λ x s. IsBegun x s f c.loop-flat.flat) c.args.self.now c.loop-flat.self c.args.state.now c.loop-flat.state c.loop-flat.invariant.kept c.loop-flat.invariant.given_back c.loop-flat.invariant.begun in
-    let part : IsFlatPart c.args.self.now.game c.args.state.now.state f c.advance.new.flat.found.items c.advance.new.flat.ends =
-    before (λ x s. IsFlatPart x s f c.advance.new.flat.found.items c.advance.new.flat.ends) c.args.self.now c.loop-flat.self c.args.state.now c.loop-flat.state c.loop-flat.invariant.kept c.loop-flat.invariant.given_back (whole f begun) in
+    let whole : (e : Start) → IsBegun c.loop-flat.self.game c.loop-flat.state.state e c.loop-flat.flat.value → IsFlatPart c.loop-flat.self.game c.loop-flat.state.state e c.advance.new.flat.value.found.items c.advance.new.flat.value.ends = search rules in
+    let begun : IsBegun c.loop-flat.self.game c.loop-flat.state.state f c.loop-flat.flat.value = onward (λ x s. IsBegun x s f c.loop-flat.flat.value) c.args.self.now c.loop-flat.self c.args.state.now c.loop-flat.state c.loop-flat.invariant.kept c.loop-flat.invariant.given_back c.loop-flat.invariant.begun in
+    let part : IsFlatPart c.args.self.now.game c.args.state.now.state f c.advance.new.flat.value.found.items c.advance.new.flat.value.ends =
+    before (λ x s. IsFlatPart x s f c.advance.new.flat.value.found.items c.advance.new.flat.value.ends) c.args.self.now c.loop-flat.self c.args.state.now c.loop-flat.state c.loop-flat.invariant.kept c.loop-flat.invariant.given_back (whole f begun) in
     subst (λ (ps : List (ℕ × ℕ)). IsFlatPart c.args.self.now.game c.args.state.now.state f ps c.in_ok-reached.reached.ends) (sym c.in_ok-reached.ensures.pairs)
-    (subst (λ (e : Bool). IsFlatPart c.args.self.now.game c.args.state.now.state f c.advance.new.flat.found.items e) (sym c.in_ok-reached.ensures.ends) part)
+    (subst (λ (e : Bool). IsFlatPart c.args.self.now.game c.args.state.now.state f c.advance.new.flat.value.found.items e) (sym c.in_ok-reached.ensures.ends) part)
 
 pub flat_part-returns-clause-ready : goal.flat_part-returns-clause-ready
 flat_part-returns-clause-ready g t c =
     let f : Start = start_of c.args.origin in
-    let whole : (e : Start) → IsBegun c.loop-flat.self.game c.loop-flat.state.state e c.loop-flat.flat → IsFlatPart c.loop-flat.self.game c.loop-flat.state.state e c.advance.new.flat.found.items c.advance.new.flat.ends = search rules in
-    let begun : IsBegun c.loop-flat.self.game c.loop-flat.state.state f c.loop-flat.flat = onward (λ x s. IsBegun x s f c.loop-flat.flat) c.args.self.now c.loop-flat.self c.args.state.now c.loop-flat.state c.loop-flat.invariant.kept c.loop-flat.invariant.given_back c.loop-flat.invariant.begun in
-    let part : IsFlatPart c.args.self.now.game c.args.state.now.state f c.advance.new.flat.found.items c.advance.new.flat.ends =
-    before (λ x s. IsFlatPart x s f c.advance.new.flat.found.items c.advance.new.flat.ends) c.args.self.now c.loop-flat.self c.args.state.now c.loop-flat.state c.loop-flat.invariant.kept c.loop-flat.invariant.given_back (whole f begun) in
+    let whole : (e : Start) → IsBegun c.loop-flat.self.game c.loop-flat.state.state e c.loop-flat.flat.value → IsFlatPart c.loop-flat.self.game c.loop-flat.state.state e c.advance.new.flat.value.found.items c.advance.new.flat.value.ends = search rules in
+    let begun : IsBegun c.loop-flat.self.game c.loop-flat.state.state f c.loop-flat.flat.value = onward (λ x s. IsBegun x s f c.loop-flat.flat.value) c.args.self.now c.loop-flat.self c.args.state.now c.loop-flat.state c.loop-flat.invariant.kept c.loop-flat.invariant.given_back c.loop-flat.invariant.begun in
+    let part : IsFlatPart c.args.self.now.game c.args.state.now.state f c.advance.new.flat.value.found.items c.advance.new.flat.value.ends =
+    before (λ x s. IsFlatPart x s f c.advance.new.flat.value.found.items c.advance.new.flat.value.ends) c.args.self.now c.loop-flat.self c.args.state.now c.loop-flat.state c.loop-flat.invariant.kept c.loop-flat.invariant.given_back (whole f begun) in
     subst (λ (ps : List (ℕ × ℕ)). All (IsReady c.args.self.now.game c.args.state.now.state c.args.nested) ps) (sym c.in_ok-reached.ensures.pairs)
-    (all_ready c.args.self.now.game c.loop-flat.invariant.lawful c.args.state.now.state c.requires.fits f c.args.nested c.requires.nested c.advance.new.flat.found.items c.advance.new.flat.ends part)
+    (all_ready c.args.self.now.game c.loop-flat.invariant.lawful c.args.state.now.state c.requires.fits f c.args.nested c.requires.nested c.advance.new.flat.value.found.items c.advance.new.flat.value.ends part)
 
 pub runs_behind-runs_behind_one-requires : goal.runs_behind-runs_behind_one-requires
 runs_behind-runs_behind_one-requires g t c κs within =
@@ -385,7 +385,7 @@ word_runs-returns-then-reached-clause-answer g t c =
 
 pub flat_part-loop-flat-smaller : goal.flat_part-loop-flat-smaller
 flat_part-loop-flat-smaller g t c =
-    further_on (2 ^ 64) c.loop-flat.flat.taken c.advance.new.flat.taken c.take.new.flat.taken c.in_ok-vertex.ensures.further c.in_ok-take.ensures.taken c.in_ok-take.ensures.small
+    further_on (2 ^ 64) c.loop-flat.flat.value.taken c.advance.new.flat.value.taken c.take.new.flat.value.taken c.in_ok-vertex.ensures.further c.in_ok-take.ensures.taken c.in_ok-take.ensures.small
 
 -- ---- what is counted
 
@@ -427,7 +427,7 @@ flat_part-returns-in_err-flat-clause-counts g t c =
 
 pub flat_part-returns-in_err-vertex-clause-counts : goal.flat_part-returns-in_err-vertex-clause-counts
 flat_part-returns-in_err-vertex-clause-counts g t c =
-    asked_only c.args.self.now.game c.args.state.now.state (start_of c.args.origin) (take c.loop-flat.flat.taken c.loop-flat.flat.queue.pairs) c.args.self.now.opened c.loop-flat.self.opened c.args.self.now.modifiers c.args.self.now.openings c.args.self.now.modifiers _ _ c.loop-flat.invariant.counted
+    asked_only c.args.self.now.game c.args.state.now.state (start_of c.args.origin) (take c.loop-flat.flat.value.taken c.loop-flat.flat.value.queue.pairs) c.args.self.now.opened c.loop-flat.self.opened c.args.self.now.modifiers c.args.self.now.openings c.args.self.now.modifiers _ _ c.loop-flat.invariant.counted
     (not_memory c.from_residual-in_err-vertex.result Memory Deep c.from_residual-in_err-vertex.ensures.1 refl memory_not_deep)
     (not_memory c.from_residual-in_err-vertex.result Memory Wide c.from_residual-in_err-vertex.ensures.1 refl memory_not_wide)
 
@@ -435,32 +435,32 @@ pub flat_part-returns-in_err-valid-clause-counts : goal.flat_part-returns-in_err
 flat_part-returns-in_err-valid-clause-counts g t c =
     let f : Start = start_of c.args.origin in
     let given : c.advance.new.state ≡ (record c.args.state.now { room = c.advance.new.state.room }) = room_twice c.args.state.now c.loop-flat.state c.advance.new.state c.loop-flat.invariant.given_back (back_same c.loop-flat.state c.advance.new.state c.advance.ensures.given_back) in
-    let asked : (slice_get c.advance.new.flat.queue.pairs c.advance.new.flat.taken ≡ Some (c.in-Some.vertex, c.in-Some.position)) × (c.in-Some.vertex < length c.loop-flat.self.game.board.first) × IsPatternAt c.loop-flat.self.game.rules c.in-Some.position = search rules in
-    let fresh : ¬ Contains (take c.advance.new.flat.taken c.advance.new.flat.queue.pairs) (c.in-Some.vertex, c.in-Some.position) = search rules in
-    let begun : IsBegun c.loop-flat.self.game c.loop-flat.state.state f c.advance.new.flat = c.in_ok-vertex.ensures.begun f
-    (onward (λ x s. IsBegun x s f c.loop-flat.flat) c.args.self.now c.loop-flat.self c.args.state.now c.loop-flat.state c.loop-flat.invariant.kept c.loop-flat.invariant.given_back c.loop-flat.invariant.begun) in
+    let asked : (slice_get c.advance.new.flat.value.queue.pairs c.advance.new.flat.value.taken ≡ Some (c.in-Some.vertex, c.in-Some.position)) × (c.in-Some.vertex < length c.loop-flat.self.game.board.first) × IsPatternAt c.loop-flat.self.game.rules c.in-Some.position = search rules in
+    let fresh : ¬ Contains (take c.advance.new.flat.value.taken c.advance.new.flat.value.queue.pairs) (c.in-Some.vertex, c.in-Some.position) = search rules in
+    let begun : IsBegun c.loop-flat.self.game c.loop-flat.state.state f c.advance.new.flat.value = c.in_ok-vertex.ensures.begun f
+    (onward (λ x s. IsBegun x s f c.loop-flat.flat.value) c.args.self.now c.loop-flat.self c.args.state.now c.loop-flat.state c.loop-flat.invariant.kept c.loop-flat.invariant.given_back c.loop-flat.invariant.begun) in
     counted_as c.args.self.now.game reach c.args.state.now.state f c.args.self.now.opened c.ask.new.self.opened c.args.self.now.modifiers c.args.self.now.openings c.args.self.now.modifiers _ _ _ _
     (given_up c.ask.result c.from_residual-in_err-valid.result c.in_err-valid.field-0.0 Deep c.in_err-valid.was c.from_residual-in_err-valid.ensures.1)
     (given_up c.ask.result c.from_residual-in_err-valid.result c.in_err-valid.field-0.0 Wide c.in_err-valid.was c.from_residual-in_err-valid.ensures.1)
-    (ask_step c.args.self.now c.loop-flat.self c.args.state.now c.loop-flat.state c.advance.new.state f c.loop-flat.flat c.advance.new.flat c.in-Some.vertex c.in-Some.position c.args.self.now.opened c.ask.new.self.opened _ _ c.loop-flat.invariant.kept c.loop-flat.invariant.given_back given c.loop-flat.invariant.lawful begun asked.0 asked.2 c.in_ok-vertex.ensures.still_done fresh c.loop-flat.invariant.counted c.ask.ensures.counts).gave_up
+    (ask_step c.args.self.now c.loop-flat.self c.args.state.now c.loop-flat.state c.advance.new.state f c.loop-flat.flat.value c.advance.new.flat.value c.in-Some.vertex c.in-Some.position c.args.self.now.opened c.ask.new.self.opened _ _ c.loop-flat.invariant.kept c.loop-flat.invariant.given_back given c.loop-flat.invariant.lawful begun asked.0 asked.2 c.in_ok-vertex.ensures.still_done fresh c.loop-flat.invariant.counted c.ask.ensures.counts).gave_up
 
 pub flat_part-returns-in_err-take-clause-counts : goal.flat_part-returns-in_err-take-clause-counts
 flat_part-returns-in_err-take-clause-counts g t c =
     let f : Start = start_of c.args.origin in
     let given : c.advance.new.state ≡ (record c.args.state.now { room = c.advance.new.state.room }) = room_twice c.args.state.now c.loop-flat.state c.advance.new.state c.loop-flat.invariant.given_back (back_same c.loop-flat.state c.advance.new.state c.advance.ensures.given_back) in
-    let asked : (slice_get c.advance.new.flat.queue.pairs c.advance.new.flat.taken ≡ Some (c.in-Some.vertex, c.in-Some.position)) × (c.in-Some.vertex < length c.loop-flat.self.game.board.first) × IsPatternAt c.loop-flat.self.game.rules c.in-Some.position = search rules in
-    let fresh : ¬ Contains (take c.advance.new.flat.taken c.advance.new.flat.queue.pairs) (c.in-Some.vertex, c.in-Some.position) = search rules in
-    let begun : IsBegun c.loop-flat.self.game c.loop-flat.state.state f c.advance.new.flat = c.in_ok-vertex.ensures.begun f
-    (onward (λ x s. IsBegun x s f c.loop-flat.flat) c.args.self.now c.loop-flat.self c.args.state.now c.loop-flat.state c.loop-flat.invariant.kept c.loop-flat.invariant.given_back c.loop-flat.invariant.begun) in
-    asked_only c.args.self.now.game c.args.state.now.state f (take c.advance.new.flat.taken c.advance.new.flat.queue.pairs ++ (c.in-Some.vertex, c.in-Some.position) ∷ []) c.args.self.now.opened c.ask.new.self.opened c.args.self.now.modifiers c.args.self.now.openings c.args.self.now.modifiers _ _
-    (ask_step c.args.self.now c.loop-flat.self c.args.state.now c.loop-flat.state c.advance.new.state f c.loop-flat.flat c.advance.new.flat c.in-Some.vertex c.in-Some.position c.args.self.now.opened c.ask.new.self.opened _ _ c.loop-flat.invariant.kept c.loop-flat.invariant.given_back given c.loop-flat.invariant.lawful begun asked.0 asked.2 c.in_ok-vertex.ensures.still_done fresh c.loop-flat.invariant.counted c.ask.ensures.counts).counts
+    let asked : (slice_get c.advance.new.flat.value.queue.pairs c.advance.new.flat.value.taken ≡ Some (c.in-Some.vertex, c.in-Some.position)) × (c.in-Some.vertex < length c.loop-flat.self.game.board.first) × IsPatternAt c.loop-flat.self.game.rules c.in-Some.position = search rules in
+    let fresh : ¬ Contains (take c.advance.new.flat.value.taken c.advance.new.flat.value.queue.pairs) (c.in-Some.vertex, c.in-Some.position) = search rules in
+    let begun : IsBegun c.loop-flat.self.game c.loop-flat.state.state f c.advance.new.flat.value = c.in_ok-vertex.ensures.begun f
+    (onward (λ x s. IsBegun x s f c.loop-flat.flat.value) c.args.self.now c.loop-flat.self c.args.state.now c.loop-flat.state c.loop-flat.invariant.kept c.loop-flat.invariant.given_back c.loop-flat.invariant.begun) in
+    asked_only c.args.self.now.game c.args.state.now.state f (take c.advance.new.flat.value.taken c.advance.new.flat.value.queue.pairs ++ (c.in-Some.vertex, c.in-Some.position) ∷ []) c.args.self.now.opened c.ask.new.self.opened c.args.self.now.modifiers c.args.self.now.openings c.args.self.now.modifiers _ _
+    (ask_step c.args.self.now c.loop-flat.self c.args.state.now c.loop-flat.state c.advance.new.state f c.loop-flat.flat.value c.advance.new.flat.value c.in-Some.vertex c.in-Some.position c.args.self.now.opened c.ask.new.self.opened _ _ c.loop-flat.invariant.kept c.loop-flat.invariant.given_back given c.loop-flat.invariant.lawful begun asked.0 asked.2 c.in_ok-vertex.ensures.still_done fresh c.loop-flat.invariant.counted c.ask.ensures.counts).counts
     (not_memory c.from_residual-in_err-take.result Memory Deep c.from_residual-in_err-take.ensures.1 refl memory_not_deep)
     (not_memory c.from_residual-in_err-take.result Memory Wide c.from_residual-in_err-take.ensures.1 refl memory_not_wide)
 
 pub flat_part-returns-in_err-reached-clause-counts : goal.flat_part-returns-in_err-reached-clause-counts
 flat_part-returns-in_err-reached-clause-counts g t c =
     let f : Start = start_of c.args.origin in
-    let done : List (ℕ × ℕ) = take c.loop-flat.flat.taken c.loop-flat.flat.queue.pairs in
+    let done : List (ℕ × ℕ) = take c.loop-flat.flat.value.taken c.loop-flat.flat.value.queue.pairs in
     asked_only c.args.self.now.game c.args.state.now.state f done c.args.self.now.opened c.finish.new.self.opened c.args.self.now.modifiers c.args.self.now.openings c.args.self.now.modifiers _ _
     (subst (λ (x : ℕ). CountsAsked c.args.self.now.game c.args.state.now.state f done c.args.self.now.opened x) (sym (ap (λ (x : Searching). x.opened) c.finish.ensures.kept)) c.loop-flat.invariant.counted)
     (not_memory c.from_residual-in_err-reached.result c.in_err-reached.field-0.0 Deep c.from_residual-in_err-reached.ensures.1 c.in_err-reached.ensures.memory memory_not_deep)
@@ -469,7 +469,7 @@ flat_part-returns-in_err-reached-clause-counts g t c =
 pub flat_part-returns-clause-counts : goal.flat_part-returns-clause-counts
 flat_part-returns-clause-counts g t c =
     let f : Start = start_of c.args.origin in
-    let done : List (ℕ × ℕ) = take c.loop-flat.flat.taken c.loop-flat.flat.queue.pairs in
+    let done : List (ℕ × ℕ) = take c.loop-flat.flat.value.taken c.loop-flat.flat.value.queue.pairs in
     asked_only c.args.self.now.game c.args.state.now.state f done c.args.self.now.opened c.finish.new.self.opened c.args.self.now.modifiers c.args.self.now.openings c.args.self.now.modifiers _ _
     (subst (λ (x : ℕ). CountsAsked c.args.self.now.game c.args.state.now.state f done c.args.self.now.opened x) (sym (ap (λ (x : Searching). x.opened) c.finish.ensures.kept)) c.loop-flat.invariant.counted)
     (ok_not_err c.in_ok-reached.reached Deep) (ok_not_err c.in_ok-reached.reached Wide)
@@ -585,10 +585,10 @@ pub flat_part-returns-clause-forced : goal.flat_part-returns-clause-forced
 flat_part-returns-clause-forced g t c = λ cut left.
     let f : Start = start_of c.args.origin in
     let here = c.loop-flat.self in
-    let done : List (ℕ × ℕ) = take c.loop-flat.flat.taken c.loop-flat.flat.queue.pairs in
-    let last : List (ℕ × ℕ) = take c.advance.new.flat.taken c.advance.new.flat.queue.pairs in
-    let met : (e : Start) → IsBegun here.game c.loop-flat.state.state e c.loop-flat.flat → (v p : ℕ) → Reached here.game c.loop-flat.state.state e v p → Contains last (v, p) = search rules in
-    let begun = onward (λ x u. IsBegun x u f c.loop-flat.flat) c.args.self.now here c.args.state.now c.loop-flat.state c.loop-flat.invariant.kept c.loop-flat.invariant.given_back c.loop-flat.invariant.begun in
+    let done : List (ℕ × ℕ) = take c.loop-flat.flat.value.taken c.loop-flat.flat.value.queue.pairs in
+    let last : List (ℕ × ℕ) = take c.advance.new.flat.value.taken c.advance.new.flat.value.queue.pairs in
+    let met : (e : Start) → IsBegun here.game c.loop-flat.state.state e c.loop-flat.flat.value → (v p : ℕ) → Reached here.game c.loop-flat.state.state e v p → Contains last (v, p) = search rules in
+    let begun = onward (λ x u. IsBegun x u f c.loop-flat.flat.value) c.args.self.now here c.args.state.now c.loop-flat.state c.loop-flat.invariant.kept c.loop-flat.invariant.given_back c.loop-flat.invariant.begun in
     subst (λ (n : ℕ). CountsForced c.args.self.now.game cut reach c.args.state.now.state f c.args.self.now.opened n left c.args.self.now.modifiers) (sym (ap (λ (x : Searching). x.opened) c.finish.ensures.kept))
     (flat_forced c.args.self.now here c.args.state.now c.loop-flat.state f done last c.args.self.now.opened left cut c.loop-flat.invariant.kept c.loop-flat.invariant.given_back c.loop-flat.invariant.lawful.numbered c.in_ok-vertex.ensures.quiet (met f begun) (c.loop-flat.invariant.forced cut))
 

@@ -36,16 +36,16 @@ invariant-flat_part-loop-flat g l = record {
   given_back : l.state ≡ record l.fn.state { room = l.state.room };
   room : l.fn.state.room ≤ l.state.room;
   enough : 2 ≤ l.state.room;
-  begun : IsBegun l.fn.self.game l.fn.state.state (start_of l.fn.origin) l.flat;
+  begun : IsBegun l.fn.self.game l.fn.state.state (start_of l.fn.origin) l.flat.value;
   lawful : IsGame l.fn.self.game;
-  counted : CountsAsked l.fn.self.game l.fn.state.state (start_of l.fn.origin) (take l.flat.taken l.flat.queue.pairs) l.fn.self.opened l.self.opened;
+  counted : CountsAsked l.fn.self.game l.fn.state.state (start_of l.fn.origin) (take l.flat.value.taken l.flat.value.queue.pairs) l.fn.self.opened l.self.opened;
   forced :
       (cut : Bool) →
-      AsksForced l.fn.self.game cut l.fn.state.state (take l.flat.taken l.flat.queue.pairs) l.fn.self.opened l.self.opened l.fn.self.modifiers;
+      AsksForced l.fn.self.game cut l.fn.state.state (take l.flat.value.taken l.flat.value.queue.pairs) l.fn.self.opened l.self.opened l.fn.self.modifiers;
 }
 
 abbrev pub decreases-flat_part-loop-flat : goal.decreases-flat_part-loop-flat
-decreases-flat_part-loop-flat g l = 2 ^ 64 - l.flat.taken
+decreases-flat_part-loop-flat g l = 2 ^ 64 - l.flat.value.taken
 
 abbrev pub invariant-runs_behind-loop-vertex : goal.invariant-runs_behind-loop-vertex
 invariant-runs_behind-loop-vertex g l = record {

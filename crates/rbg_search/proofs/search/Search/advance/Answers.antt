@@ -1,7 +1,9 @@
 use Rattle.std.proofs.Common.{◌≡◌, ℕ, List, take, sym, ap, subst, arith}
 use Rattle.std.specs.Prelude.{Contains, Option, Some, None, Result, Ok, Err, IfOk, OnOk, IfNone}
 use Rattle.std.proofs.lemmas.List.{take_all}
+use Rattle.rbg_rules.specs.Positions.{IsPatternAt}
 use Rattle.rbg_rules.specs.State.{AbstractGame, AbstractState}
+use Rattle.rbg_search.specs.declared.flat.Flat.{Flat}
 use Rattle.rbg_search.specs.Searching.{Searching}
 use Rattle.rbg_search.specs.internal.Closure.{Reached}
 use Rattle.rbg_search.specs.internal.Part.{IsPart}
@@ -19,16 +21,34 @@ returns-clause-met g c =
     let inner : AbstractGame = c.self.inside.rules in
     let same : inner ≡ game = ap (λ (x : Searching). x.game) c.self.view_is in
     let s : AbstractState = c.args.state.now.state in
-    let old = c.args.flat.now in
+    let opened : c.deref_mut.result.now ≡ c.args.flat.now.value = c.deref_mut.ensures.value in
+    let old = c.deref_mut.result.now in
     let new = c.advance.new.self in
     where_none c.advance.result _ _ _
     (λ whole part f begun v p met.
     let all : take new.taken new.queue.pairs ≡ new.queue.pairs = take_all new.taken new.queue.pairs (omega (arith, whole)) in
     let before : IsPart inner s f old.queue.pairs (take old.taken old.queue.pairs) old.found.items old.ends =
-    subst (λ (x : AbstractGame). IsPart x s f old.queue.pairs (take old.taken old.queue.pairs) old.found.items old.ends) (sym same) begun.part in
+    subst (λ (x : AbstractGame). IsPart x s f old.queue.pairs (take old.taken old.queue.pairs) old.found.items old.ends) (sym same)
+    (subst (λ (x : Flat). IsPart game s f x.queue.pairs (take x.taken x.queue.pairs) x.found.items x.ends) (sym opened) begun.part) in
     let now : IsPart inner s f new.queue.pairs (take new.taken new.queue.pairs) new.found.items new.ends = part f before in
     let here : IsPart inner s f new.queue.pairs new.queue.pairs new.found.items new.ends =
     subst (λ (ds : List (ℕ × ℕ)). IsPart inner s f new.queue.pairs ds new.found.items new.ends) all now in
     let reached : Reached inner s f v p = subst (λ (x : AbstractGame). Reached x s f v p) (sym same) met in
     subst (λ (ds : List (ℕ × ℕ)). Contains ds (v, p)) (sym all) (all_met inner s f c.game-game.ensures.lawful.numbered new.queue.pairs new.found.items new.ends here v p reached))
     c.advance.ensures.done c.advance.ensures.part
+
+on_ok : {X E : Type 0} (r : Result X E) (P Q : Type 0) → (P → Q) → OnOk r P → OnOk r Q
+on_ok (Ok x) P Q weaker is = weaker is
+on_ok (Err e) P Q weaker is = tt
+
+pub returns-clause-quiet : goal.returns-clause-quiet
+returns-clause-quiet g c =
+    let game : AbstractGame = c.args.self.now.game in
+    let inner : AbstractGame = c.self.inside.rules in
+    let same : inner ≡ game = ap (λ (x : Searching). x.game) c.self.view_is in
+    let opened : c.deref_mut.result.now ≡ c.args.flat.now.value = c.deref_mut.ensures.value in
+    on_ok c.advance.result _ _
+    (λ quiet v p there is.
+    subst (λ (x : Flat). Contains (take x.taken x.queue.pairs) (v, p)) opened
+    (quiet v p there (subst (λ (x : AbstractGame). IsPatternAt x.rules p) (sym same) is)))
+    c.advance.ensures.quiet

@@ -1,6 +1,6 @@
 use Rattle.std.proofs.Common.{◌≡◌, true, false, sym, ◌∙◌}
 use Rattle.rbg_search.proofs.Asking.{pattern_leads, pattern_fails}
-use Rattle.rbg_search.proofs.search.outcome_of.Goals as goal
+use Rattle.rbg_search.proofs.answer.outcome_of.Goals as goal
 
 true_not_false : true ≡ false → ⊥
 true_not_false e = cc

@@ -1,6 +1,6 @@
 use Rattle.std.proofs.Common.{sym, ◌∙◌}
 use Rattle.rbg_search.proofs.Answering.{negative_valid, positive_valid}
-use Rattle.rbg_search.proofs.search.is_valid.Goals as goal
+use Rattle.rbg_search.proofs.answer.is_valid.Goals as goal
 
 pub returns-then-is_negative : goal.returns-then-is_negative
 returns-then-is_negative c = λ s decides.

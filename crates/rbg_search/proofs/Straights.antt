@@ -1,0 +1,93 @@
+-- A walk along a straight line, step by step.
+use Rattle.std.proofs.Common.{◌≡◌, ℕ, suc, List, [], ◌∷◌, ◌++◌, length, ◌==◌, Bool, true, ◌||◌, refl, sym, subst, append-nil, arith}
+use Rattle.std.specs.Prelude.{All, Contains, Decides}
+use Rattle.std.proofs.lemmas.List.Elements.{All-nil, All-cons, All-head, All-push, All-contains, Contains-push}
+use Rattle.std.proofs.lemmas.Bool.Decides.{nat_tests}
+use Rattle.rbg_rules.specs.Positions.{IsNumbered, IsPatternAt}
+use Rattle.rbg_rules.specs.Words.{Start, after, Ends}
+use Rattle.rbg_rules.specs.State.{AbstractGame, AbstractState}
+use Rattle.rbg_auto.specs.Steps.{AreAllThatFollow}
+use Rattle.rbg_search.specs.internal.Meeting.{MeetsAll}
+use Rattle.rbg_search.specs.internal.Part.{IsOutcome, IsPart}
+use Rattle.rbg_search.specs.internal.Straight.{IsWalked, IsWalking}
+use Rattle.rbg_search.specs.declared.outcome.Outcome.{Outcome}
+use Rattle.rbg_search.specs.declared.outcome.Outcome.TheVariants.{Invalid, Modifies, LeadsTo}
+use Rattle.rbg_search.specs.internal.Closure.{at_vertex}
+use Rattle.rbg_search.proofs.Parts.{begin_part, invalid_part, leads_part, all_met, whole_part}
+
+-- One pair is met.
+meets_one : (xs : List (ℕ × ℕ)) (v p : ℕ) → MeetsAll xs (xs ++ (v, p) ∷ []) v (p ∷ [])
+meets_one xs v p = record {
+  more = (v, p) ∷ [];
+  grown = refl;
+  only = All-cons (λ (q : ℕ × ℕ). (q.0 ≡ v) × Contains (p ∷ []) q.1) (v, p) [] (refl, Contains-push [] p) (All-nil (λ (q : ℕ × ℕ). (q.0 ≡ v) × Contains (p ∷ []) q.1));
+  all = All-cons (λ (r : ℕ). Contains (xs ++ (v, p) ∷ []) (v, r)) p [] (Contains-push xs (v, p)) (All-nil (λ (r : ℕ). Contains (xs ++ (v, p) ∷ []) (v, r)));
+}
+
+-- The one element of a list.
+pub one_within : (P : ℕ → Type 0) (ps : List ℕ) (p : ℕ) → ps ≡ p ∷ [] → All P ps → P p
+one_within P ps p one all = All-head P p [] (subst (All P) one all)
+
+pub is_empty_list : (ps : List ℕ) → (length ps == 0) ≡ true → ps ≡ []
+is_empty_list [] e = refl
+is_empty_list (p ∷ ps) e = absurd (none (length ps) e)
+  where
+    none : (n : ℕ) → (suc n == 0) ≡ true → ⊥
+    none n e = grind (arith, nat_tests)
+
+-- What becomes of an action at a vertex is the same wherever the semi-state's own vertex is.
+pub outcome_there : (game : AbstractGame) (s : AbstractState) (u v p : ℕ) (o : Outcome) → IsOutcome game s v p o → IsOutcome game (at_vertex s u) v p o
+outcome_there game s u v p Invalid fails = fails
+outcome_there game s u v p Modifies valid = valid
+outcome_there game s u v p (LeadsTo w) (leads, only) = (
+  record { quiet = leads.quiet; applies = leads.applies },
+  (λ x other. only x (record { quiet = other.quiet; applies = other.applies })),
+)
+
+module _ (game : AbstractGame) (s : AbstractState) (f : Start) where
+  pub begin_walk : (ps : List ℕ) (p : ℕ) (ends : Bool) → ps ≡ p ∷ [] → AreAllThatFollow game.rules f ps → Decides ends (Ends game.rules f []) → IsWalking game s f s.vertex p ends
+  begin_walk ps p ends one follow decides = record {
+    done = [];
+    part = begin_part game s f ((s.vertex, p) ∷ []) (p ∷ []) ends (meets_one [] s.vertex p) (subst (λ (qs : List ℕ). AreAllThatFollow game.rules f qs) one follow) decides;
+    quiet = All-nil (λ q. ¬ IsPatternAt game.rules q.1);
+  }
+
+  module _ (v p : ℕ) (ends : Bool) (walking : IsWalking game s f v p ends) (plain : ¬ IsPatternAt game.rules p) where
+    quiet_on : All (λ q. ¬ IsPatternAt game.rules q.1) (walking.done ++ (v, p) ∷ [])
+    quiet_on = All-push (λ q. ¬ IsPatternAt game.rules q.1) walking.done (v, p) walking.quiet plain
+
+    -- Each pair is done.
+    walked : IsNumbered game.rules → (ends' : Bool) → IsPart game s f (walking.done ++ (v, p) ∷ []) (walking.done ++ (v, p) ∷ []) [] ends' → IsWalked game s f ends'
+    walked numbered ends' part = record {
+      part = whole_part game s f numbered (walking.done ++ (v, p) ∷ []) [] ends' part;
+      quiet = λ w q reached. All-contains (λ x. ¬ IsPatternAt game.rules x.1) (walking.done ++ (v, p) ∷ []) (w, q) quiet_on (all_met game s f numbered (walking.done ++ (v, p) ∷ []) [] ends' part w q reached);
+    }
+
+    -- The last action isn't valid.
+    pub walked_up_to : IsNumbered game.rules → IsOutcome game s v p Invalid → IsWalked game s f ends
+    walked_up_to numbered invalid = walked numbered ends (invalid_part game s f (walking.done ++ (v, p) ∷ []) walking.done [] ends v p walking.part invalid)
+
+    -- .. or nothing follows it.
+    pub walked_through : IsNumbered game.rules → (u : ℕ) (ps : List ℕ) (last : Bool) → IsOutcome game s v p (LeadsTo u) → ps ≡ [] → AreAllThatFollow game.rules (after p) ps → Decides last (Ends game.rules (after p) []) → IsWalked game s f (ends || last)
+    walked_through numbered u ps last leads none follow decides =
+        walked numbered (ends || last)
+        (leads_part game s f (walking.done ++ (v, p) ∷ []) (walking.done ++ (v, p) ∷ []) walking.done [] ends last v p u [] walking.part (Contains-push walking.done (v, p)) leads
+        (subst (λ (qs : List ℕ). AreAllThatFollow game.rules (after p) qs) none follow) nothing decides)
+      where
+        nothing : MeetsAll (walking.done ++ (v, p) ∷ []) (walking.done ++ (v, p) ∷ []) u []
+        nothing = record {
+          more = [];
+          grown = sym (append-nil (walking.done ++ (v, p) ∷ []));
+          only = All-nil (λ (q : ℕ × ℕ). (q.0 ≡ u) × Contains [] q.1);
+          all = All-nil (λ (r : ℕ). Contains (walking.done ++ (v, p) ∷ []) (u, r));
+        }
+
+    -- One more action follows.
+    pub walked_on : (u q : ℕ) (ps : List ℕ) (last : Bool) → IsOutcome game s v p (LeadsTo u) → ps ≡ q ∷ [] → AreAllThatFollow game.rules (after p) ps → Decides last (Ends game.rules (after p) []) → IsWalking game s f u q (ends || last)
+    walked_on u q ps last leads one follow decides = record {
+      done = walking.done ++ (v, p) ∷ [];
+      part =
+          leads_part game s f (walking.done ++ (v, p) ∷ []) ((walking.done ++ (v, p) ∷ []) ++ (u, q) ∷ []) walking.done [] ends last v p u (q ∷ []) walking.part (Contains-push walking.done (v, p)) leads
+          (subst (λ (qs : List ℕ). AreAllThatFollow game.rules (after p) qs) one follow) (meets_one (walking.done ++ (v, p) ∷ []) u q) decides;
+      quiet = quiet_on;
+    }

@@ -1,0 +1,47 @@
+use Rattle.std.proofs.Common.{◌≡◌, ◌+◌, sym, ap, ◌∙◌}
+use Rattle.std.specs.Prelude.{IsTrue, ◌↔◌}
+use Rattle.rbg_rules.specs.Positions.{inside}
+use Rattle.rbg_rules.specs.Words.{beginning}
+use Rattle.rbg_rules.specs.Actions.{Applies}
+use Rattle.rbg_rules.specs.Laws.{IsStart}
+use Rattle.rbg_rules.specs.Questions.{SomeWordRuns, pattern}
+use Rattle.rbg_search.specs.Searching.{Searching}
+use Rattle.rbg_search.specs.declared.over.Over.TheVariants.{Deep, Wide}
+use Rattle.rbg_search.proofs.Countings.{none_counted}
+use Rattle.rbg_search.proofs.Counted.{wide_not_deep, ok_not_err, counted_only, opened_one, refused_one}
+use Rattle.rbg_search.proofs.CountedSteps.{returned_is}
+use Rattle.rbg_search.proofs.Kept.{kept_same, kept_twice, onward_rules, rules_before}
+use Rattle.rbg_search.proofs.Patterns.{pattern_inside, inside_start}
+use Rattle.rbg_search.proofs.Walking.{pattern_pairs, walked_decides, walked_forced}
+use Rattle.rbg_search.proofs.search.Search.answer.Goals as goal
+
+pub returns-in_err-open-clause-counts : goal.returns-in_err-open-clause-counts
+returns-in_err-open-clause-counts g c = λ s.
+    let start : IsStart c.args.self.now.game.rules (beginning (inside c.args.position)) = inside_start c.args.self.now.game.rules (beginning (inside c.args.position)) (pattern_inside c.args.self.now.game.rules c.args.position c.requires.there) in
+    record {
+      counted = none_counted c.args.self.now.game pattern s (beginning (inside c.args.position)) c.args.self.now.opened c.open.new.self.opened c.in_err-open.ensures.unopened;
+      deep = λ d. absurd (wide_not_deep (sym c.in_err-open.ensures.wide ∙ returned_is c.from_residual.result c.in_err-open.field-0.0 Deep c.from_residual.ensures.1 d));
+      wide = λ _. refused_one c.args.self.now.game c.open.ensures.lawful pattern pattern_pairs s (beginning (inside c.args.position)) start c.args.self.now.opened c.args.self.now.openings c.in_err-open.ensures.full;
+    }
+
+pub returns-clause-valid : goal.returns-clause-valid
+returns-clause-valid g c = λ s walked.
+    let kept : c.count_pairs.new.self ≡ (record c.args.self.now { opened = c.count_pairs.new.self.opened }) =
+    kept_twice c.args.self.now c.open.new.self c.count_pairs.new.self c.open.ensures.kept (kept_same c.open.new.self c.count_pairs.new.self c.count_pairs.ensures.kept) in
+    let decides : IsTrue c.args.walk.ends ↔ SomeWordRuns c.args.self.now.game s (beginning (inside c.args.position)) =
+    walked_decides c.args.self.now.game c.open.ensures.lawful.numbered s (beginning (inside c.args.position)) c.args.walk.ends walked in
+    rules_before (λ x. IsTrue c.is_valid.result ↔ Applies x c.args.position s s) c.args.self.now c.count_pairs.new.self kept
+    (c.is_valid.ensures s (onward_rules (λ x. IsTrue c.args.walk.ends ↔ SomeWordRuns x s (beginning (inside c.args.position))) c.args.self.now c.count_pairs.new.self kept decides))
+
+pub returns-clause-counts : goal.returns-clause-counts
+returns-clause-counts g c = λ s.
+    let start : IsStart c.args.self.now.game.rules (beginning (inside c.args.position)) = inside_start c.args.self.now.game.rules (beginning (inside c.args.position)) (pattern_inside c.args.self.now.game.rules c.args.position c.requires.there) in
+    let opened : c.count_pairs.new.self.opened ≡ c.args.self.now.opened + 1 = ap (λ (x : Searching). x.opened) c.count_pairs.ensures.kept ∙ c.in_ok-open.ensures.opened in
+    counted_only c.args.self.now.game pattern s (beginning (inside c.args.position)) c.args.self.now.opened c.count_pairs.new.self.opened c.args.self.now.modifiers c.args.self.now.openings c.args.self.now.modifiers _ _
+    (opened_one c.args.self.now.game c.open.ensures.lawful pattern pattern_pairs s (beginning (inside c.args.position)) start c.args.self.now.opened c.count_pairs.new.self.opened opened)
+    (ok_not_err c.is_valid.result Deep) (ok_not_err c.is_valid.result Wide)
+
+pub returns-clause-forced : goal.returns-clause-forced
+returns-clause-forced g c = λ s cut walked.
+    let opened : c.count_pairs.new.self.opened ≡ c.args.self.now.opened + 1 = ap (λ (x : Searching). x.opened) c.count_pairs.ensures.kept ∙ c.in_ok-open.ensures.opened in
+    walked_forced c.args.self.now.game c.open.ensures.lawful.numbered s (beginning (inside c.args.position)) cut c.args.walk.ends c.args.self.now.opened c.count_pairs.new.self.opened c.args.self.now.modifiers c.args.self.now.modifiers walked opened

@@ -1,0 +1,59 @@
+use Rattle.std.proofs.Common.{ℕ, subst, arith, sym, ◌∙◌}
+use Rattle.rbg_rules.specs.Positions.{inside, IsPatternAt}
+use Rattle.rbg_rules.specs.Words.{beginning}
+use Rattle.rbg_rules.specs.State.{AbstractState}
+use Rattle.rbg_search.specs.Start.{IsPositionOf}
+use Rattle.rbg_search.specs.internal.Closure.{at_vertex}
+use Rattle.rbg_search.specs.internal.Part.{IsOutcome}
+use Rattle.rbg_search.proofs.Straights.{one_within, is_empty_list, outcome_there, begin_walk, walked_up_to, walked_through, walked_on}
+use Rattle.rbg_search.proofs.walk.walk_inside.Goals as goal
+
+pub loop-to-init : goal.loop-to-init
+loop-to-init g c =
+    let position : IsPositionOf c.args.rules.now.rules c.in_ok-position.position = one_within (IsPositionOf c.args.rules.now.rules) _ c.in_ok-position.position c.in_ok-position.ensures c.following.ensures.within in
+    record {
+      walking = begin_walk c.args.rules.now (at_vertex c.args.state.now.state c.args.vertex) (beginning (inside c.args.pattern)) c.following.result.now c.in_ok-position.position c.may_end-ends.result c.in_ok-position.ensures c.following.ensures.follow c.may_end-ends.ensures;
+      there = c.requires.there;
+      position = position;
+      few = position.from_one;
+    }
+
+pub returns-in-Invalid-clause-walked : goal.returns-in-Invalid-clause-walked
+returns-in-Invalid-clause-walked g c =
+    let s : AbstractState = at_vertex c.args.state.now.state c.args.vertex in
+    let outcome : IsOutcome c.args.rules.now s c.loop-to.vertex c.loop-to.position c.in_ok-tried.field-0 =
+    outcome_there c.args.rules.now c.args.state.now.state c.args.vertex c.loop-to.vertex c.loop-to.position c.in_ok-tried.field-0
+    c.in_ok-tried.ensures.outcome in
+    let plain : ¬ IsPatternAt c.args.rules.now.rules c.loop-to.position = c.in_ok-tried.ensures.plain in
+    walked_up_to c.args.rules.now s (beginning (inside c.args.pattern)) c.loop-to.vertex c.loop-to.position c.loop-to.ends c.loop-to.invariant.walking plain c.following.ensures.lawful.numbered
+    (subst (λ o. IsOutcome c.args.rules.now s c.loop-to.vertex c.loop-to.position o) c.in-Invalid.is outcome)
+
+pub returns-then-is_empty-clause-walked : goal.returns-then-is_empty-clause-walked
+returns-then-is_empty-clause-walked g c =
+    let s : AbstractState = at_vertex c.args.state.now.state c.args.vertex in
+    let outcome : IsOutcome c.args.rules.now s c.loop-to.vertex c.loop-to.position c.in_ok-tried.field-0 =
+    outcome_there c.args.rules.now c.args.state.now.state c.args.vertex c.loop-to.vertex c.loop-to.position c.in_ok-tried.field-0
+    c.in_ok-tried.ensures.outcome in
+    let plain : ¬ IsPatternAt c.args.rules.now.rules c.loop-to.position = c.in_ok-tried.ensures.plain in
+    walked_through c.args.rules.now s (beginning (inside c.args.pattern)) c.loop-to.vertex c.loop-to.position c.loop-to.ends c.loop-to.invariant.walking plain c.following.ensures.lawful.numbered c.in-LeadsTo.to c.following-following.result.now c.may_end-ends-in-LeadsTo.result
+    (subst (λ o. IsOutcome c.args.rules.now s c.loop-to.vertex c.loop-to.position o) c.in-LeadsTo.is outcome)
+    (is_empty_list c.following-following.result.now (sym c.is_empty.ensures ∙ c.if-is_empty.true)) c.following-following.ensures.follow c.may_end-ends-in-LeadsTo.ensures
+
+pub loop-to-preserved : goal.loop-to-preserved
+loop-to-preserved g c =
+    let s : AbstractState = at_vertex c.args.state.now.state c.args.vertex in
+    let outcome : IsOutcome c.args.rules.now s c.loop-to.vertex c.loop-to.position c.in_ok-tried.field-0 =
+    outcome_there c.args.rules.now c.args.state.now.state c.args.vertex c.loop-to.vertex c.loop-to.position c.in_ok-tried.field-0
+    c.in_ok-tried.ensures.outcome in
+    let plain : ¬ IsPatternAt c.args.rules.now.rules c.loop-to.position = c.in_ok-tried.ensures.plain in
+    let q : ℕ = c.in_ok-next-in-LeadsTo.next in
+    let position : IsPositionOf c.args.rules.now.rules q = one_within (IsPositionOf c.args.rules.now.rules) _ q c.in_ok-next-in-LeadsTo.ensures c.following-following.ensures.within in
+    record {
+      walking =
+          walked_on c.args.rules.now s (beginning (inside c.args.pattern)) c.loop-to.vertex c.loop-to.position c.loop-to.ends c.loop-to.invariant.walking plain c.in-LeadsTo.to q c.following-following.result.now c.may_end-ends-in-LeadsTo.result
+          (subst (λ o. IsOutcome c.args.rules.now s c.loop-to.vertex c.loop-to.position o) c.in-LeadsTo.is outcome)
+          c.in_ok-next-in-LeadsTo.ensures c.following-following.ensures.follow c.may_end-ends-in-LeadsTo.ensures;
+      there = c.in_ok-tried.ensures.there c.in-LeadsTo.to c.in-LeadsTo.is;
+      position = position;
+      few = omega (arith, c.loop-to.invariant.few, c.if-next-position.false);
+    }

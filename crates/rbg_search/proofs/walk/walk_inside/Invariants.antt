@@ -1,0 +1,19 @@
+-- One pair is left, and it stands behind all that were tried.
+use Rattle.std.proofs.Common.{◌<◌, ◌-◌, ◌^◌, length}
+use Rattle.rbg_rules.specs.Positions.{inside}
+use Rattle.rbg_rules.specs.Words.{beginning}
+use Rattle.rbg_search.specs.Start.{IsPositionOf}
+use Rattle.rbg_search.specs.internal.Closure.{at_vertex}
+use Rattle.rbg_search.specs.internal.Straight.{IsWalking}
+use Rattle.rbg_search.proofs.walk.walk_inside.Given as goal
+
+abbrev pub invariant-loop-to : goal.invariant-loop-to
+invariant-loop-to g l = record {
+  walking : IsWalking l.rules (at_vertex l.state.state l.fn.vertex) (beginning (inside l.pattern)) l.vertex l.position l.ends;
+  there : l.vertex < length l.rules.board.first;
+  position : IsPositionOf l.rules.rules l.position;
+  few : l.pairs < l.position;
+}
+
+abbrev pub decreases-loop-to : goal.decreases-loop-to
+decreases-loop-to g l = 2 ^ 32 - l.position

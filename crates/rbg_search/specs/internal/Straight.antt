@@ -1,0 +1,22 @@
+-- A straight line of actions that is walked along.
+use Rattle.std.specs.Prelude.{ℕ, List, [], ◌∷◌, ◌++◌, All, Bool}
+use Rattle.rbg_rules.specs.Positions.{IsPatternAt}
+use Rattle.rbg_rules.specs.Words.{Start}
+use Rattle.rbg_rules.specs.State.{AbstractGame, AbstractState}
+use Rattle.rbg_search.specs.Flat.{IsFlatPart}
+use Rattle.rbg_search.specs.internal.Closure.{Reached}
+use Rattle.rbg_search.specs.internal.Part.{IsPart}
+
+-- The flat part is whole: it has no modifier, no pattern may come in it, and `ends` tells whether a word may end.
+pub record IsWalked (game : AbstractGame) (s : AbstractState) (f : Start) (ends : Bool) : Type 0 where
+  pub part : IsFlatPart game s f [] ends
+  pub quiet : (v p : ℕ) → Reached game s f v p → ¬ IsPatternAt game.rules p
+
+-- The pairs so far were tried, none at a pattern or a valid modifier, and position p at vertex v is all that is left.
+pub record IsWalking
+    (game : AbstractGame) (s : AbstractState) (f : Start) (v p : ℕ) (ends : Bool)
+    : Type 0
+  where
+    pub done : List (ℕ × ℕ)
+    pub part : IsPart game s f (done ++ (v, p) ∷ []) done [] ends
+    pub quiet : All (λ q. ¬ IsPatternAt game.rules q.1) done

@@ -1,0 +1,77 @@
+//! A pattern whose inside is a straight line of actions: a walk along it, with no queue.
+ghost use Rattle.std.specs.Prelude.{◌≡◌, ◌<◌, ◌≤◌, [], ◌∷◌, length, IfSome, IsTrue, ◌↔◌};
+ghost use Rattle.rbg_rules.specs.State.{IsStateOf};
+ghost use Rattle.rbg_rules.specs.Positions.{positions_of, inside};
+ghost use Rattle.rbg_rules.specs.Words.{beginning};
+ghost use Rattle.rbg_search.specs.internal.Closure.{at_vertex};
+ghost use Rattle.rbg_search.specs.internal.Straight.{IsWalked};
+
+use crate::flat::tried;
+use crate::game_steps::GameSteps;
+use crate::origin::Origin;
+use crate::outcome::Outcome;
+use rbg_auto::{Expr, Steps};
+use rbg_base::{Position, Vertex};
+use rbg_state::SemiState;
+
+/// What a walk along a straight line found.
+#[derive(Debug, Drop)]
+pub(crate) struct Walk {
+    /// Whether a word ends on the way.
+    pub(crate) ends: bool,
+    /// How many pairs were tried.
+    pub(crate) pairs: usize,
+}
+
+/// Walks along the inside of a pattern, from a vertex up to the first action that isn't valid, or to the last one. None
+/// where there isn't exactly one first action, where more than one may come next, or where a pattern, a valid modifier
+/// or an action that stands no later comes next.
+pub(crate) fn walk_inside<S: Steps>(
+    rules: &GameSteps<'_, S>,
+    state: &SemiState,
+    vertex: Vertex,
+    pattern: Position,
+) -> Option<Walk>
+    requires fits { IsStateOf rules.now state.now.state }
+    requires there { vertex < length rules.now.board.first }
+    ensures walked { IfSome result (λ walk. IsWalked rules.now (at_vertex state.now.state vertex)
+        (beginning (inside pattern)) walk.ends) }
+    ensures few { IfSome result (λ walk. walk.pairs ≤ length (positions_of rules.now.rules)) }
+{
+    let begin = Origin::Begin(Expr::Inside(pattern));
+    let mut position = only(rules.following(begin))?;
+    let mut vertex = vertex;
+    let mut ends = rules.may_end(begin);
+    let mut pairs = 0;
+    loop {
+        pairs += 1;
+        match tried(rules, state, vertex, position)? {
+            Outcome::Invalid => return Some(Walk { ends, pairs }),
+            Outcome::Modifies => return None,
+            Outcome::LeadsTo(to) => {
+                let here = Origin::After(position);
+                ends |= rules.may_end(here);
+                let following = rules.following(here);
+                if following.is_empty() {
+                    return Some(Walk { ends, pairs });
+                }
+                let next = only(following)?;
+                if next <= position {
+                    return None;
+                }
+                position = next;
+                vertex = to;
+            }
+        }
+    }
+}
+
+/// The one position of a list that has one.
+fn only(positions: &[Position]) -> Option<Position>
+    ensures { IfSome result (λ p. positions.now ≡ p ∷ []) }
+{
+    match positions {
+        [position] => Some(*position),
+        _ => None,
+    }
+}
