@@ -88,6 +88,7 @@ impl Match {
     };
     ghost use Rattle.rbg_match.specs.Config.{IsWithinLimits};
     ghost use Rattle.rbg_match.specs.Inputs.{IsTickAlone, counted, moment_of};
+    ghost use Rattle.rbg_moves.specs.Limits.{FitsLimits};
     ghost use Rattle.rbg_moves.specs.Listing.{IsListed};
     ghost use Rattle.rbg_rules.specs.Games.{IsGame};
     ghost use Rattle.rbg_rules.specs.Heavy.{IsTooHard};
@@ -170,13 +171,15 @@ impl Match {
     }
 
     /// The legal moves at the place that play has reached, or `max` of them where there are more. `Deep` and `Wide` say
-    /// that the question is above the limits.
+    /// that the question is above the limits. An answer comes only where the forced openings are within them.
     pub fn list_moves(&self, max: usize) -> Result<Listed, Over>
         requires { 0 < max }
         ensures listed { IfOk result (λ listed.
             IsListed self.now.game self.now.play.place max listed.moves.items listed.cut) }
         ensures heavy { (result ≡ Err Over.Deep) ⊎ (result ≡ Err Over.Wide)
             → IsTooHard self.now.game listing_moves self.now.play.place }
+        ensures fits { IfOk result (λ listed.
+            FitsLimits self.now.game listed.cut listing_moves self.now.play.place) }
     {
         self.game.list_moves(&self.play.place, max)
     }

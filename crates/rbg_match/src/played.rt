@@ -1,5 +1,6 @@
 //! The game of a match, and the questions that play asks of its rules.
 ghost use Rattle.std.specs.Prelude.{◌≡◌, ◌<◌, ◌≤◌, ◌⊎◌, length, Err, IfNone, IfOk, IfSome};
+ghost use Rattle.rbg_moves.specs.Limits.{FitsLimits};
 ghost use Rattle.rbg_moves.specs.Listing.{IsListed};
 ghost use Rattle.rbg_pairs.specs.Move.{IsMoveLength};
 ghost use Rattle.rbg_rules.specs.Heavy.{IsHeavyToFind, IsHeavyToTry, IsTooHard};
@@ -113,6 +114,7 @@ impl PlayedGame {
         ensures listed { IfOk result (λ listed. IsListed self.now place.now max listed.moves.items listed.cut) }
         ensures heavy { (result ≡ Err Over.Deep) ⊎ (result ≡ Err Over.Wide)
             → IsTooHard self.now listing_moves place.now }
+        ensures fits { IfOk result (λ listed. FitsLimits self.now listed.cut listing_moves place.now) }
     {
         list_moves(self.alloc, &self.game, &self.automaton, place, max)
     }

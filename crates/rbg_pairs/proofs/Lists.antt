@@ -41,6 +41,13 @@ lists_grow xs more (span ∷ spans) all =
     let rest : map (λ (s : Span). slice_range (xs ++ more) s.start s.end) spans ≡ map (λ (s : Span). slice_range xs s.start s.end) spans = lists_grow xs more spans (λ i d under. all (suc i) d (omega (arith, under))) in
     ap (λ (l : List (ℕ × ℕ)). l ∷ map (λ (s : Span). slice_range (xs ++ more) s.start s.end) spans) first ∙ ap (λ (ls : List (List (ℕ × ℕ))). slice_range xs span.start span.end ∷ ls) rest
 
+-- the lists stay where the spans do and more stands behind them
+pub lists_kept : (xs ys more : List (ℕ × ℕ)) (spans spans' : List Span) → All (IsSpan (length xs)) spans → ys ≡ xs ++ more → spans' ≡ spans → lists_at ys spans' ≡ lists_at xs spans
+lists_kept xs ys more spans spans' all grown same =
+    ap (λ (zs : List (ℕ × ℕ)). lists_at zs spans') grown
+    ∙ ap (λ (ss : List Span). lists_at (xs ++ more) ss) same
+    ∙ lists_grow xs more spans all
+
 -- one more list at the end
 lists_more : (xs ys : List (ℕ × ℕ)) (spans : List Span) (s : Span) → All (IsSpan (length xs)) spans → s.start ≡ length xs → s.end ≡ length (xs ++ ys) → lists_at (xs ++ ys) (spans ++ s ∷ []) ≡ lists_at xs spans ++ ys ∷ []
 unfolding lists_at

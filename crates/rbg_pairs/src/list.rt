@@ -1,5 +1,5 @@
 //! Moves one after another, in two buffers.
-ghost use Rattle.std.specs.Prelude.{◌≡◌, ◌<◌, ◌^◌, [], ◌∷◌, ◌++◌, length, slice_get, slice_range, Some, IfOk};
+ghost use Rattle.std.specs.Prelude.{◌≡◌, ◌<◌, ◌^◌, [], ◌∷◌, ◌++◌, length, slice_get, slice_range, Some, MatchResult};
 ghost use Rattle.rbg_pairs.specs.List.{IsSpan};
 ghost use Rattle.rbg_pairs.specs.Move.{most_pairs, IsMoveLength};
 
@@ -46,10 +46,12 @@ impl MoveList {
         }
     }
 
-    /// Appends the move of these pairs and one more.
+    /// Appends the move of these pairs and one more. Where there is no memory for it, the list stays as it is.
     pub fn push(&mut self, front: &[Pair], last: Pair) -> Result<(), Memory>
         requires { length front.now < most_pairs }
-        ensures { IfOk result (λ _. self.new ≡ self.old ++ (front.now ++ last ∷ []) ∷ []) }
+        ensures { MatchResult result
+            (λ _. self.new ≡ self.old ++ (front.now ++ last ∷ []) ∷ [])
+            (λ _. self.new ≡ self.old) }
     {
         let start = self.pairs.len();
         self.pairs.extend_from_slice(front)?;

@@ -1,5 +1,7 @@
-use Rattle.std.proofs.Common.{length, [], ap, ◌∙◌, sym}
+use Rattle.std.proofs.Common.{rules, length, [], ap, ◌∙◌, sym, subst, refl}
 use Rattle.std.proofs.lemmas.List.{length-replicate}
+use Rattle.std.proofs.lemmas.List.Elements.{All-replicate}
+use Rattle.rbg_match.specs.internal.Inboxes.{IsReady, AreReady}
 use Rattle.rbg_match.specs.PlayingOn.{seats_of}
 use Rattle.rbg_match.specs.internal.PlayOf.{play_of}
 use Rattle.rbg_match.proofs.Sayings.{length-says}
@@ -22,3 +24,13 @@ returns c = λ now moment.
     let goes = rw c.in_ok-game.ensures at c.in_ok-play_on.ensures.says in
     rw c.in_ok-game.ensures
     (opens_so c.args.game c.args.text.now c.args.config now c.args.moment c.players-seats.result (play_of c.in_ok-play.play) (play_of c.play_on.new.play) c.in_ok-inboxes.inboxes.items c.in_ok-outbox.outbox c.greet.new.outbox c.play_on.new.outbox greeted.said goes.said c.requires.lawful moment c.players-seats.ensures.count c.in_ok-play.ensures.play goes.whole c.in_ok-inboxes.ensures c.in_ok-outbox.ensures greeted.behind greeted.whole goes.behind)
+
+pub invariant_of-opened : goal.invariant_of-opened
+invariant_of-opened c = record {
+  accepted = search rules;
+  lawful = c.requires.lawful;
+  in_game = c.play_on.ensures.play;
+  seats = ap length c.in_ok-inboxes.ensures ∙ length-replicate c.players-seats.result _ ∙ c.players-seats.ensures.count ∙ sym (ap seats_of c.in_ok-game.ensures);
+  counted = c.requires.counted;
+  ready = λ _. subst AreReady (sym c.in_ok-inboxes.ensures) (All-replicate IsReady c.players-seats.result _ (record { limit = refl; empty = refl }));
+}
