@@ -86,6 +86,11 @@ module _ (game : AbstractGame) (numbered : IsNumbered game.rules) where
     behind_it = takes_on game numbered false question s xs k (0, 0) later taken.middle b c left most under applies more_left taken.behind_it more;
   }
 
+  pub so_far_with : (question : Question) (s : AbstractState) (f : Start) (xs : List (ℕ × ℕ)) (k : ℕ) (q : ℕ × ℕ) (later : AbstractState) (a b c left most : ℕ) → get_or xs k (0, 0) ≡ q → k < length xs → Applies game q.1 (standing_at s q.0) later → 1 < left → TakenSoFar game question s f (take k xs) a b left most → CountsForced game false question later (after q.1) b c (left - 1) most → TakenSoFar game question s f (take (k + 1) xs) a c left most
+  so_far_with question s f xs k q later a b c left most is under applies more_left taken more =
+      so_far_more question s f xs k later a b c left most under (subst (λ (r : ℕ × ℕ). Applies game r.1 (standing_at s r.0) later) (sym is) applies) more_left taken
+      (subst (λ (r : ℕ × ℕ). CountsForced game false question later (after r.1) b c (left - 1) most) (sym is) more)
+
   pub so_far_skipped : (question : Question) (s : AbstractState) (f : Start) (xs : List (ℕ × ℕ)) (k : ℕ) (a b left most : ℕ) → k < length xs → IsSwitchAt game.rules (get_or xs k (0, 0)).1 → TakenSoFar game question s f (take k xs) a b left most → TakenSoFar game question s f (take (k + 1) xs) a b left most
   so_far_skipped question s f xs k a b left most under switches taken = record {
     middle = taken.middle;

@@ -1,8 +1,10 @@
 -- What a search for a move knows at one pair of a flat part.
-use Rattle.std.proofs.Common.{◌≡◌, ◌≢◌, ℕ, suc, ◌+◌, ◌<◌, List, [], ◌∷◌, length, get_or, take, Bool, sym, ap, ◌∙◌, subst}
-use Rattle.std.specs.Prelude.{All}
+use Rattle.std.proofs.Common.{◌≡◌, ◌≢◌, ℕ, suc, ◌+◌, ◌<◌, List, [], ◌∷◌, length, get_or, take, Bool, sym, ap, ◌∙◌, subst, arith}
+use Rattle.std.specs.Prelude.{All, Contains}
 use Rattle.std.proofs.lemmas.List.{get_or_default, take_more}
 use Rattle.std.proofs.lemmas.List.Elements.{All-contains, All-push, Contains-get_or}
+use Rattle.std.specs.List.Sorted.{IsPermutation}
+use Rattle.std.proofs.lemmas.List.Sorted.{All-permutation, length_permutation}
 use Rattle.rbg_rules.specs.Positions.{IsNumbered, IsSwitchAt}
 use Rattle.rbg_rules.specs.Words.{Start, after}
 use Rattle.rbg_rules.specs.State.{AbstractGame, AbstractState}
@@ -16,6 +18,7 @@ use Rattle.rbg_search.specs.Counting.{CountsOpenings, IsOverBudget}
 use Rattle.rbg_search.specs.Passing.{GoesOn, finding, CountsUpTo, IsTooDeep, from_here}
 use Rattle.rbg_search.specs.Searching.{Searching}
 use Rattle.rbg_search.proofs.CallerLemmas.{no_switch_found, counts_taken, over_taken, row_one, deep_more}
+use Rattle.rbg_search.proofs.Orders.{flat_permuted}
 use Rattle.rbg_rules.proofs.MoveLemmas.{Applies_one}
 use Rattle.rbg_moves.specs.internal.Stepping.{standing_at, place_behind, GoesOnByMove, GoesOnBehind}
 use Rattle.rbg_moves.proofs.Steps.{next_applies, legal_on}
@@ -43,23 +46,42 @@ part_of game s f f' xs items ends part same is =
     subst (λ (h : Start). IsFlatPart game s h xs ends) same (subst (λ (ys : List (ℕ × ℕ)). IsFlatPart game s f' ys ends) (sym is) part)
 
 -- One pair of a flat part without a switch.
-pub record AtPair (game : AbstractGame) (s : AbstractState) (f : Start) (xs : List (ℕ × ℕ)) (ends : Bool) (k : ℕ) : Type 0 where
+pub record AtPair (game : AbstractGame) (s : AbstractState) (f : Start) (xs : List (ℕ × ℕ)) (ends : Bool) (k : ℕ) (q : ℕ × ℕ) : Type 0 where
   pub lawful : IsGame game
   pub part : IsFlatPart game s f xs ends
   pub plain : All (λ (q : ℕ × ℕ). ¬ IsSwitchAt game.rules q.1) xs
   pub under : k < length xs
+  pub is : get_or xs k q ≡ q
 
-module _ (game : AbstractGame) (s : AbstractState) (f : Start) (xs : List (ℕ × ℕ)) (ends : Bool) (k : ℕ) (here : AtPair game s f xs ends k) where
-  pub pair_next : IsNext game s f (get_or xs k (0, 0)).0 (get_or xs k (0, 0)).1
-  pair_next = (here.part.next (get_or xs k (0, 0)).0 (get_or xs k (0, 0)).1).0 (Contains-get_or xs k (0, 0) here.under)
+-- Pairs of which one was brought to its place.
+pub at_turn :
+    (game : AbstractGame) (s : AbstractState) (f : Start) (old xs : List (ℕ × ℕ)) (ends : Bool) (k end : ℕ) (q : ℕ × ℕ) → IsGame game →
+    IsFlatPart game s f old ends →
+    All (λ (r : ℕ × ℕ). ¬ IsSwitchAt game.rules r.1) old →
+    length old ≡ end → k < end →
+    IsPermutation old xs → q ≡ get_or xs k q → AtPair game s f xs ends k q
+at_turn game s f old xs ends k end q lawful part plain size under moves is = record {
+  lawful = lawful;
+  part = flat_permuted game s f old xs ends moves part;
+  plain = All-permutation (λ (r : ℕ × ℕ). ¬ IsSwitchAt game.rules r.1) old xs moves plain;
+  under = let same = length_permutation old xs moves in omega (arith, size, under, same);
+  is = sym is;
+}
 
-  pub pair_plain : ¬ IsSwitchAt game.rules (get_or xs k (0, 0)).1
-  pair_plain = All-contains (λ (q : ℕ × ℕ). ¬ IsSwitchAt game.rules q.1) xs (get_or xs k (0, 0)) here.plain (Contains-get_or xs k (0, 0) here.under)
+module _ (game : AbstractGame) (s : AbstractState) (f : Start) (xs : List (ℕ × ℕ)) (ends : Bool) (k : ℕ) (q : ℕ × ℕ) (here : AtPair game s f xs ends k q) where
+  pair_there : Contains xs q
+  pair_there = subst (Contains xs) here.is (Contains-get_or xs k q here.under)
 
-  pub pair_applies : Applies game (get_or xs k (0, 0)).1 (standing_at s (get_or xs k (0, 0)).0) pair_next.later
-  pair_applies = next_applies game here.lawful.numbered s f (get_or xs k (0, 0)).0 (get_or xs k (0, 0)).1 pair_next
+  pub pair_next : IsNext game s f q.0 q.1
+  pair_next = (here.part.next q.0 q.1).0 pair_there
 
-  pair_on : GoesOn game find_move s f (get_or xs k (0, 0)).0 (get_or xs k (0, 0)).1 find_move pair_next.later
+  pub pair_plain : ¬ IsSwitchAt game.rules q.1
+  pair_plain = All-contains (λ (q : ℕ × ℕ). ¬ IsSwitchAt game.rules q.1) xs q here.plain pair_there
+
+  pub pair_applies : Applies game q.1 (standing_at s q.0) pair_next.later
+  pair_applies = next_applies game here.lawful.numbered s f q.0 q.1 pair_next
+
+  pair_on : GoesOn game find_move s f q.0 q.1 find_move pair_next.later
   pair_on = record {
     next = pair_next;
     applies = pair_applies;
@@ -67,8 +89,8 @@ module _ (game : AbstractGame) (s : AbstractState) (f : Start) (xs : List (ℕ �
     passes = finding (no_switch_found game here.lawful.numbered here.part here.plain);
   }
 
-  pair_same : get_or xs k ((get_or xs k (0, 0)).0, (get_or xs k (0, 0)).1) ≡ ((get_or xs k (0, 0)).0, (get_or xs k (0, 0)).1)
-  pair_same = get_or_default xs k ((get_or xs k (0, 0)).0, (get_or xs k (0, 0)).1) (0, 0) here.under
+  pub pair_is : get_or xs k (0, 0) ≡ q
+  pair_is = sym (get_or_default xs k q (0, 0) here.under) ∙ here.is
 
   find_other : find_move ≢ try_move []
   find_other e = cc
@@ -77,17 +99,17 @@ module _ (game : AbstractGame) (s : AbstractState) (f : Start) (xs : List (ℕ �
   pub pair_row : (most : ℕ) → IsTooDeep game find_move s f 1 most
   pair_row most = from_here (row_one game here.lawful.numbered here.lawful.no_empty_sum pair_on find_other)
 
-  pub pair_deep : (left most : ℕ) → IsTooDeep game find_move pair_next.later (after (get_or xs k (0, 0)).1) left most → IsTooDeep game find_move s f (suc left) most
+  pub pair_deep : (left most : ℕ) → IsTooDeep game find_move pair_next.later (after q.1) left most → IsTooDeep game find_move s f (suc left) most
   pair_deep left most deep = deep_more game here.lawful.numbered pair_on deep
 
-  pub pair_counts : (a b c : ℕ) → CountsUpTo game find_move s f (take k xs) a b → CountsOpenings game find_move pair_next.later (after (get_or xs k (0, 0)).1) b c → CountsUpTo game find_move s f (take (k + 1) xs) a c
-  pair_counts a b c counts more = counts_taken game here.lawful.numbered xs k counts here.part.different here.under pair_same pair_on more
+  pub pair_counts : (a b c : ℕ) → CountsUpTo game find_move s f (take k xs) a b → CountsOpenings game find_move pair_next.later (after q.1) b c → CountsUpTo game find_move s f (take (k + 1) xs) a c
+  pair_counts a b c counts more = counts_taken game here.lawful.numbered xs k counts here.part.different here.under here.is pair_on more
 
-  pub pair_over : (a b most : ℕ) → CountsUpTo game find_move s f (take k xs) a b → IsOverBudget game find_move pair_next.later (after (get_or xs k (0, 0)).1) b most → IsOverBudget game find_move s f a most
-  pair_over a b most counts over = over_taken game here.lawful.numbered xs k counts here.part.different here.under pair_same pair_on over
+  pub pair_over : (a b most : ℕ) → CountsUpTo game find_move s f (take k xs) a b → IsOverBudget game find_move pair_next.later (after q.1) b most → IsOverBudget game find_move s f a most
+  pair_over a b most counts over = over_taken game here.lawful.numbered xs k counts here.part.different here.under here.is pair_on over
 
-  pub pair_more : (P : ℕ × ℕ → Type 0) → All P (take k xs) → P (get_or xs k (0, 0)) → All P (take (k + 1) xs)
-  pair_more P all one = subst (All P) (sym (take_more xs k (0, 0) here.under)) (All-push P (take k xs) (get_or xs k (0, 0)) all one)
+  pub pair_more : (P : ℕ × ℕ → Type 0) → All P (take k xs) → P q → All P (take (k + 1) xs)
+  pair_more P all one = subst (All P) (sym (take_more xs k q here.under)) (All-push P (take k xs) (get_or xs k q) all (subst P (sym here.is) one))
 
 -- A move behind a modifier that comes next is a move.
 pub behind_found : (game : AbstractGame) → IsNumbered game.rules → (place : AbstractPlace) (v p : ℕ) (front whole : List (ℕ × ℕ)) → IsNext game place.state (stand_of place.last) v p → ¬ IsSwitchAt game.rules p → GoesOnBehind game place.state v p front whole → GoesOnByMove game place front whole

@@ -17,11 +17,11 @@ ghost use Rattle.rbg_search.specs.Forced.{CountsForced};
 ghost use Rattle.rbg_moves.specs.Limits.{IsDeepAt, IsWideAt, FitsLimits};
 ghost use Rattle.rbg_moves.specs.internal.Stepping.{standing_at, place_behind, IsValidAt, GoesOnByMove, GoesOnBehind};
 
-use crate::asking::{is_switch, joined, move_of, origin_after, search_in};
+use crate::asking::{joined, move_of, origin_after, search_in};
 use crate::place::Place;
 use crate::stepping::apply_at;
+use crate::turns::{least_switch, put_in_turn};
 use crate::workspace::Workspace;
-use arrayvec::ArrayVec;
 use rbg_auto::Steps;
 use rbg_base::{Position, Vertex};
 use rbg_pairs::{MAX_PAIRS, Move, Pair};
@@ -100,148 +100,128 @@ pub fn find_pairs_with<S: Steps>(
     ensures fits { OnOk result ((cut : Bool) → FitsLimits game.now cut find_move place.now) }
 {
     let _positions = game.positions();
-    let state = workspace.copy_of(&place.state)?;
-    let mut finding = Finding {
-        search: search_in(alloc, game, steps, &mut workspace.searches),
-        state,
-        front: ArrayVec::new(),
-        whole: workspace.take_pairs(),
-    };
-    let found = finding.find(place.after)?;
+    workspace.asked.copy_from(&place.state)?;
+    workspace.front.clear();
+    let mut search = search_in(alloc, game, steps, &mut workspace.searches);
+    let found = find(
+        &mut search,
+        &mut workspace.asked,
+        &mut workspace.front,
+        &mut workspace.buffer,
+        place.after,
+    )?;
     // What was taken up is within the budget.
-    let _opened = finding.search.opened();
-    finding.search.leave(&mut workspace.searches);
-    workspace.keep_state(finding.state);
-    workspace.keep_pairs(finding.whole);
+    let _opened = search.opened();
+    search.leave(&mut workspace.searches);
     Ok(found)
 }
 
-/// A move that is looked for.
-#[derive(Drop)]
-struct Finding<'a, S: Steps> {
-    search: Search<'a, S>,
-    state: SemiState,
-    /// The modifiers that were applied, each with its vertex.
-    front: ArrayVec<Pair, MAX_PAIRS>,
-    /// A buffer for the move that is found.
-    whole: Vec<Pair>,
-}
-
-impl<'a, S: Steps> Finding<'a, S> {
-    /// Some move that goes on from here, with the modifiers before it.
-    #[cycle(finding)]
-    fn find(&mut self, after: Option<Position>) -> Result<Option<Vec<Pair>>, Over>
-        requires place { IsPlaceOf self.old.search.game (record { state = self.old.state.state; last = after }) }
-        requires short { length self.old.front.items < most_pairs }
-        ensures search { self.new.search ≡ record self.old.search { opened = self.new.search.opened } }
-        ensures state { OnOk result (self.new.state ≡ record self.old.state { room = self.new.state.room }) }
-        ensures room { OnOk result (self.old.state.room ≤ self.new.state.room) }
-        ensures front { OnOk result (self.new.front.items ≡ self.old.front.items) }
-        ensures found { IfOk result (λ found. IfSome found (λ pairs. GoesOnByMove self.old.search.game
-            (record { state = self.old.state.state; last = after }) self.old.front.items pairs.items)) }
-        ensures length { IfOk result (λ found. IfSome found (λ pairs. IsMoveLength (length pairs.items))) }
-        ensures none { IfOk result (λ found. IfNone found (Finished self.old.search.game
-            (record { state = self.old.state.state; last = after }))) }
-        ensures counted { OnOk result (CountsOpenings self.old.search.game find_move self.old.state.state
-            (stand_of after) self.old.search.opened self.new.search.opened) }
-        ensures deep { result ≡ Err Over.Deep
-            → IsTooDeep self.old.search.game find_move self.old.state.state (stand_of after)
-            (most_pairs - length self.old.front.items) self.old.search.modifiers }
-        ensures wide { result ≡ Err Over.Wide
-            → IsOverBudget self.old.search.game find_move self.old.state.state (stand_of after)
-            self.old.search.opened self.old.search.openings }
-        ensures forced { OnOk result (CountsForced self.old.search.game false find_move self.old.state.state
-            (stand_of after) self.old.search.opened self.new.search.opened
-            (most_pairs - length self.old.front.items) self.old.search.modifiers) }
-    {
-        let game = self.search.game();
-        let reached = self.search.reach(&mut self.state, origin_after(after))?;
-        if let Some(last) = first_switch(game, &reached.pairs) {
-            let pairs = joined(&mut self.whole, self.front.as_slice(), last)?;
-            self.search.reuse(reached)?;
+/// Some move that goes on from here, with the modifiers before it.
+#[cycle(finding)]
+fn find<S: Steps>(
+    search: &mut Search<'_, S>,
+    state: &mut SemiState,
+    front: &mut Vec<Pair>,
+    whole: &mut Vec<Pair>,
+    after: Option<Position>,
+) -> Result<Option<Vec<Pair>>, Over>
+    requires place { IsPlaceOf search.old.game (record { state = state.old.state; last = after }) }
+    requires short { length front.old.items < most_pairs }
+    ensures search { search.new ≡ record search.old { opened = search.new.opened } }
+    ensures state { OnOk result (state.new ≡ record state.old { room = state.new.room }) }
+    ensures room { OnOk result (state.old.room ≤ state.new.room) }
+    ensures front { OnOk result (front.new.items ≡ front.old.items) }
+    ensures found { IfOk result (λ found. IfSome found (λ pairs. GoesOnByMove search.old.game
+        (record { state = state.old.state; last = after }) front.old.items pairs.items)) }
+    ensures length { IfOk result (λ found. IfSome found (λ pairs. IsMoveLength (length pairs.items))) }
+    ensures none { IfOk result (λ found. IfNone found (Finished search.old.game
+        (record { state = state.old.state; last = after }))) }
+    ensures counted { OnOk result (CountsOpenings search.old.game find_move state.old.state
+        (stand_of after) search.old.opened search.new.opened) }
+    ensures deep { result ≡ Err Over.Deep
+        → IsTooDeep search.old.game find_move state.old.state (stand_of after)
+        (most_pairs - length front.old.items) search.old.modifiers }
+    ensures wide { result ≡ Err Over.Wide
+        → IsOverBudget search.old.game find_move state.old.state (stand_of after)
+        search.old.opened search.old.openings }
+    ensures forced { OnOk result (CountsForced search.old.game false find_move state.old.state
+        (stand_of after) search.old.opened search.new.opened
+        (most_pairs - length front.old.items) search.old.modifiers) }
+{
+    let game = search.game();
+    let mut reached = search.reach_unordered(state, origin_after(after))?;
+    if let Some(last) = least_switch(game, &reached.pairs) {
+        let pairs = joined(whole, front, last)?;
+        search.reuse(reached)?;
+        return Ok(Some(pairs));
+    }
+    for index in 0..reached.pairs.len() {
+        put_in_turn(&mut reached.pairs, index);
+        let (vertex, position) = reached.pairs[index];
+        if front.len() + 1 == MAX_PAIRS {
+            return Err(Over::Deep);
+        }
+        let found = find_behind(search, state, front, whole, game, vertex, position)?;
+        if let Some(pairs) = found {
+            search.reuse(reached)?;
             return Ok(Some(pairs));
         }
-        for pair in &reached.pairs {
-            let (vertex, position) = *pair;
-            if self.front.len() + 1 == MAX_PAIRS {
-                return Err(Over::Deep);
-            }
-            let found = self.find_behind(game, vertex, position)?;
-            if let Some(pairs) = found {
-                self.search.reuse(reached)?;
-                return Ok(Some(pairs));
-            }
-        }
-        self.search.reuse(reached)?;
-        Ok(None)
     }
-
-    /// Some move behind a modifier that comes next, with the modifier and those before it. The modifier is taken back.
-    #[cycle(finding)]
-    fn find_behind(
-        &mut self,
-        game: &Game,
-        vertex: Vertex,
-        position: Position,
-    ) -> Result<Option<Vec<Pair>>, Over>
-        requires game { game.now ≡ self.old.search.game }
-        requires lawful { IsGame game.now }
-        requires fits { IsStateOf game.now self.old.state.state }
-        requires valid { IsValidAt game.now self.old.state.state vertex position }
-        requires room { 2 ≤ self.old.state.room }
-        requires short { length self.old.front.items + 1 < most_pairs }
-        ensures search { self.new.search ≡ record self.old.search { opened = self.new.search.opened } }
-        ensures state { OnOk result (self.new.state ≡ record self.old.state { room = self.new.state.room }) }
-        ensures room { OnOk result (self.old.state.room ≤ self.new.state.room) }
-        ensures front { OnOk result (self.new.front.items ≡ self.old.front.items) }
-        ensures found { IfOk result (λ found. IfSome found (λ pairs. GoesOnBehind game.now self.old.state.state
-            vertex position self.old.front.items pairs.items)) }
-        ensures length { IfOk result (λ found. IfSome found (λ pairs. IsMoveLength (length pairs.items))) }
-        ensures none { IfOk result (λ found. IfNone found ((later : AbstractState)
-            → Applies game.now position (standing_at self.old.state.state vertex) later
-            → Finished game.now (place_behind later position))) }
-        ensures counted { OnOk result ((later : AbstractState)
-            → Applies game.now position (standing_at self.old.state.state vertex) later
-            → CountsOpenings game.now find_move later (after position)
-            self.old.search.opened self.new.search.opened) }
-        ensures deep { result ≡ Err Over.Deep → (later : AbstractState)
-            → Applies game.now position (standing_at self.old.state.state vertex) later
-            → IsTooDeep game.now find_move later (after position)
-            (most_pairs - (length self.old.front.items + 1)) self.old.search.modifiers }
-        ensures wide { result ≡ Err Over.Wide → (later : AbstractState)
-            → Applies game.now position (standing_at self.old.state.state vertex) later
-            → IsOverBudget game.now find_move later (after position)
-            self.old.search.opened self.old.search.openings }
-        ensures forced { OnOk result ((later : AbstractState)
-            → Applies game.now position (standing_at self.old.state.state vertex) later
-            → CountsForced game.now false find_move later (after position)
-            self.old.search.opened self.new.search.opened
-            (most_pairs - (length self.old.front.items + 1)) self.old.search.modifiers) }
-    {
-        let mark = self.state.mark();
-        let pair = Pair { vertex, position };
-        apply_at(game, &mut self.state, pair);
-        self.front.push(pair);
-        let found = self.find(Some(position))?;
-        self.front.pop();
-        self.state.undo_to(mark);
-        Ok(found)
-    }
+    search.reuse(reached)?;
+    Ok(None)
 }
 
-/// The first of the pairs that is of a switch.
-fn first_switch(game: &Game, pairs: &[(Vertex, Position)]) -> Option<Pair>
+/// Some move behind a modifier that comes next, with the modifier and those before it. The modifier is taken back.
+#[cycle(finding)]
+fn find_behind<S: Steps>(
+    search: &mut Search<'_, S>,
+    state: &mut SemiState,
+    front: &mut Vec<Pair>,
+    whole: &mut Vec<Pair>,
+    game: &Game,
+    vertex: Vertex,
+    position: Position,
+) -> Result<Option<Vec<Pair>>, Over>
+    requires game { game.now ≡ search.old.game }
     requires lawful { IsGame game.now }
-    requires within { All (λ pair. IsPositionOf game.now.rules pair.1) pairs.now }
-    ensures there { IfSome result (Contains pairs.now) }
-    ensures switches { IfSome result (λ pair. IsSwitchAt game.now.rules pair.1) }
-    ensures none { IfNone result (All (λ pair. ¬ IsSwitchAt game.now.rules pair.1) pairs.now) }
+    requires fits { IsStateOf game.now state.old.state }
+    requires valid { IsValidAt game.now state.old.state vertex position }
+    requires room { 2 ≤ state.old.room }
+    requires short { length front.old.items + 1 < most_pairs }
+    ensures search { search.new ≡ record search.old { opened = search.new.opened } }
+    ensures state { OnOk result (state.new ≡ record state.old { room = state.new.room }) }
+    ensures room { OnOk result (state.old.room ≤ state.new.room) }
+    ensures front { OnOk result (front.new.items ≡ front.old.items) }
+    ensures found { IfOk result (λ found. IfSome found (λ pairs. GoesOnBehind game.now state.old.state
+        vertex position front.old.items pairs.items)) }
+    ensures length { IfOk result (λ found. IfSome found (λ pairs. IsMoveLength (length pairs.items))) }
+    ensures none { IfOk result (λ found. IfNone found ((later : AbstractState)
+        → Applies game.now position (standing_at state.old.state vertex) later
+        → Finished game.now (place_behind later position))) }
+    ensures counted { OnOk result ((later : AbstractState)
+        → Applies game.now position (standing_at state.old.state vertex) later
+        → CountsOpenings game.now find_move later (after position)
+        search.old.opened search.new.opened) }
+    ensures deep { result ≡ Err Over.Deep → (later : AbstractState)
+        → Applies game.now position (standing_at state.old.state vertex) later
+        → IsTooDeep game.now find_move later (after position)
+        (most_pairs - (length front.old.items + 1)) search.old.modifiers }
+    ensures wide { result ≡ Err Over.Wide → (later : AbstractState)
+        → Applies game.now position (standing_at state.old.state vertex) later
+        → IsOverBudget game.now find_move later (after position)
+        search.old.opened search.old.openings }
+    ensures forced { OnOk result ((later : AbstractState)
+        → Applies game.now position (standing_at state.old.state vertex) later
+        → CountsForced game.now false find_move later (after position)
+        search.old.opened search.new.opened
+        (most_pairs - (length front.old.items + 1)) search.old.modifiers) }
 {
-    for pair in pairs {
-        let (vertex, position) = *pair;
-        if is_switch(game, position) {
-            return Some(Pair { vertex, position });
-        }
-    }
-    None
+    let mark = state.mark();
+    let pair = Pair { vertex, position };
+    apply_at(game, state, pair);
+    front.push(pair)?;
+    let found = find(search, state, front, whole, Some(position))?;
+    front.pop();
+    state.undo_to(mark);
+    Ok(found)
 }

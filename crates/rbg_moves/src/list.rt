@@ -1,16 +1,18 @@
 //! The legal moves of a place.
-ghost use Rattle.std.specs.Prelude.{◌≡◌, ◌≢◌, ◌⊎◌, ◌+◌, ◌-◌, ◌<◌, ◌≤◌, [], ◌∷◌, ◌++◌, length, All, AllPairs, IfOk, OnOk, Err, Some};
+ghost use Rattle.std.specs.Prelude.{◌≡◌, ◌≢◌, ◌⊎◌, ℕ, ◌+◌, ◌-◌, ◌<◌, ◌≤◌, [], ◌∷◌, ◌++◌, length, All, AllPairs, IfOk, OnOk, Err, Some, Bool};
 ghost use Rattle.std.specs.List.Sorted.{IsPermutation};
 ghost use Rattle.rbg_pairs.specs.Move.{most_pairs};
 ghost use Rattle.rbg_rules.specs.State.{AbstractState, IsStateOf};
 ghost use Rattle.rbg_rules.specs.Words.{after};
 ghost use Rattle.rbg_rules.specs.Actions.{Applies};
 ghost use Rattle.rbg_rules.specs.Moves.{stand_of, IsLegal};
-ghost use Rattle.rbg_rules.specs.Questions.{list_moves as listing_moves};
+ghost use Rattle.rbg_rules.specs.Laws.{IsStart};
+ghost use Rattle.rbg_rules.specs.Questions.{reach, list_moves as listing_moves, IsDeep};
 ghost use Rattle.rbg_rules.specs.Games.{IsGame};
 ghost use Rattle.rbg_rules.specs.Places.{IsPlaceOf};
 ghost use Rattle.rbg_rules.specs.Heavy.{IsTooHard};
-ghost use Rattle.rbg_search.specs.Start.{IsPositionOf};
+ghost use Rattle.rbg_search.specs.Start.{start_of, IsPositionOf};
+ghost use Rattle.rbg_search.specs.Flat.{IsFlatPart};
 ghost use Rattle.rbg_search.specs.Counting.{CountsOpenings, IsOverBudget};
 ghost use Rattle.rbg_search.specs.Passing.{IsTooDeep};
 ghost use Rattle.rbg_search.specs.Forced.{CountsForced};
@@ -23,12 +25,11 @@ use crate::asking::{is_switch, move_of, origin_after, search_in};
 use crate::place::Place;
 use crate::stepping::apply_at;
 use crate::workspace::Workspace;
-use arrayvec::ArrayVec;
 use rbg_auto::Steps;
 use rbg_base::{Memory, Position, Vertex};
 use rbg_pairs::{MAX_PAIRS, Move, MoveList, Pair};
 use rbg_rules::Game;
-use rbg_search::{Over, Search};
+use rbg_search::{Origin, Over, Reached, Search};
 use rbg_state::SemiState;
 use std::alloc::Global;
 
@@ -92,7 +93,7 @@ pub fn list_moves_with<S: Steps>(
     ensures wide { result ≡ Err Over.Wide → IsWideAt game.now listing_moves place.now }
     ensures fits { IfOk result (λ listed. FitsLimits game.now listed.cut listing_moves place.now) }
 {
-    let gathered = gather_moves_with(alloc, game, steps, place, max, workspace)?;
+    let gathered = gather(alloc, game, steps, place, max, true, workspace)?;
     let mut moves = moves_of(alloc, &gathered.moves)?;
     let cut = gathered.cut;
     workspace.keep_moves(gathered.moves);
@@ -121,22 +122,51 @@ pub fn gather_moves_with<S: Steps>(
     ensures wide { result ≡ Err Over.Wide → IsWideAt game.now listing_moves place.now }
     ensures fits { IfOk result (λ gathered. FitsLimits game.now gathered.cut listing_moves place.now) }
 {
-    let state = workspace.copy_of(&place.state)?;
-    let mut listing = Listing {
-        search: search_in(alloc, game, steps, &mut workspace.searches),
-        state,
-        front: ArrayVec::new(),
-        found: Found {
-            moves: workspace.take_moves(),
-            max,
-        },
+    let found = gather(alloc, game, steps, place, max, false, workspace)?;
+    Ok(found)
+}
+
+/// The legal moves of a place. The actions that come next are taken in order, or as they are found.
+fn gather<S: Steps>(
+    alloc: Global,
+    game: &Game,
+    steps: &S,
+    place: &Place,
+    max: usize,
+    in_order: bool,
+    workspace: &mut Workspace,
+) -> Result<Gathered, Over>
+    requires steps { S.of_rules steps.now game.now.rules }
+    requires place { IsPlaceOf game.now place.now }
+    requires some { 0 < max }
+    ensures gathered { IfOk result (λ gathered.
+        IsGathered game.now place.now max gathered.moves gathered.cut) }
+    ensures heavy { (result ≡ Err Over.Deep) ⊎ (result ≡ Err Over.Wide)
+        → IsTooHard game.now listing_moves place.now }
+    ensures deep { result ≡ Err Over.Deep → IsDeepAt game.now listing_moves place.now }
+    ensures wide { result ≡ Err Over.Wide → IsWideAt game.now listing_moves place.now }
+    ensures fits { IfOk result (λ gathered. FitsLimits game.now gathered.cut listing_moves place.now) }
+{
+    let moves = workspace.take_moves();
+    let mut found = Found {
+        moves,
+        max,
+        in_order,
     };
-    let cut = listing.list(place.after)?;
+    workspace.asked.copy_from(&place.state)?;
+    workspace.front.clear();
+    let mut search = search_in(alloc, game, steps, &mut workspace.searches);
+    let cut = list(
+        &mut search,
+        &mut workspace.asked,
+        &mut workspace.front,
+        &mut found,
+        place.after,
+    )?;
     // What was taken up is within the budget.
-    let _opened = listing.search.opened();
-    listing.search.leave(&mut workspace.searches);
-    workspace.keep_state(listing.state);
-    let moves = listing.found.moves;
+    let _opened = search.opened();
+    search.leave(&mut workspace.searches);
+    let moves = found.moves;
     Ok(Gathered { moves, cut })
 }
 
@@ -166,6 +196,8 @@ struct Found {
     moves: MoveList,
     /// How many they may be.
     max: usize,
+    /// Whether the actions that come next are taken in order.
+    in_order: bool,
 }
 
 impl Found {
@@ -198,108 +230,140 @@ impl Found {
     }
 }
 
-/// Moves that are being listed.
-#[derive(Drop)]
-struct Listing<'a, S: Steps> {
-    search: Search<'a, S>,
-    state: SemiState,
-    /// The modifiers that were applied, each with its vertex.
-    front: ArrayVec<Pair, MAX_PAIRS>,
-    found: Found,
+/// What is reached without a modifier. Its pairs stand in order where that is wanted.
+fn reach_next<S: Steps>(
+    search: &mut Search<'_, S>,
+    state: &mut SemiState,
+    origin: Origin,
+    in_order: bool,
+) -> Result<Reached, Over>
+    requires fits { IsStateOf search.old.game state.old.state }
+    requires stands { IsStart search.old.game.rules (start_of origin) }
+    ensures kept { search.new ≡ record search.old { opened = search.new.opened } }
+    ensures given_back { state.new ≡ record state.old { room = state.new.room } }
+    ensures room { state.old.room ≤ state.new.room }
+    ensures enough { OnOk result (2 ≤ state.new.room) }
+    ensures reached { IfOk result (λ reached.
+        IsFlatPart search.old.game state.old.state (start_of origin) reached.pairs.items reached.ends) }
+    ensures within { IfOk result (λ reached. All (λ pair.
+        (pair.0 < length search.old.game.board.first) × IsPositionOf search.old.game.rules pair.1)
+        reached.pairs.items) }
+    ensures counted { CountsOpenings search.old.game reach state.old.state (start_of origin)
+        search.old.opened search.new.opened }
+    ensures deep { result ≡ Err Over.Deep
+        → IsDeep search.old.game reach state.old.state (start_of origin) search.old.modifiers }
+    ensures wide { result ≡ Err Over.Wide
+        → IsOverBudget search.old.game reach state.old.state (start_of origin) search.old.opened search.old.openings }
+    ensures forced { OnOk result ((cut : Bool) (left : ℕ)
+        → CountsForced search.old.game cut reach state.old.state (start_of origin)
+        search.old.opened search.new.opened left search.old.modifiers) }
+{
+    if in_order {
+        search.reach(state, origin)
+    } else {
+        search.reach_unordered(state, origin)
+    }
 }
 
-impl<'a, S: Steps> Listing<'a, S> {
-    /// Lists the moves that go on from here. Tells whether there is one more than the list may have.
-    #[cycle(listing)]
-    fn list(&mut self, after: Option<Position>) -> Result<bool, Over>
-        requires place { IsPlaceOf self.old.search.game (record { state = self.old.state.state; last = after }) }
-        requires short { length self.old.front.items < most_pairs }
-        requires few { length self.old.found.moves ≤ self.old.found.max }
-        ensures lawful { IsGame self.old.search.game }
-        ensures search { self.new.search ≡ record self.old.search { opened = self.new.search.opened } }
-        ensures state { OnOk result (self.new.state ≡ record self.old.state { room = self.new.state.room }) }
-        ensures room { OnOk result (self.old.state.room ≤ self.new.state.room) }
-        ensures front { OnOk result (self.new.front.items ≡ self.old.front.items) }
-        ensures max { self.new.found.max ≡ self.old.found.max }
-        ensures gathered { IfOk result (λ cut.
-            Gathers (IsLegal self.old.search.game (record { state = self.old.state.state; last = after }))
-            self.old.front.items self.old.found.max self.old.found.moves self.new.found.moves cut) }
-        ensures counted { OnOk result (CountsOpenings self.old.search.game listing_moves self.old.state.state
-            (stand_of after) self.old.search.opened self.new.search.opened) }
-        ensures deep { result ≡ Err Over.Deep
-            → IsTooDeep self.old.search.game listing_moves self.old.state.state (stand_of after)
-            (most_pairs - length self.old.front.items) self.old.search.modifiers }
-        ensures wide { result ≡ Err Over.Wide
-            → IsOverBudget self.old.search.game listing_moves self.old.state.state (stand_of after)
-            self.old.search.opened self.old.search.openings }
-        ensures forced { IfOk result (λ cut. CountsForced self.old.search.game cut listing_moves
-            self.old.state.state (stand_of after) self.old.search.opened self.new.search.opened
-            (most_pairs - length self.old.front.items) self.old.search.modifiers) }
-    {
-        let game = self.search.game();
-        let reached = self.search.reach(&mut self.state, origin_after(after))?;
-        if self
-            .found
-            .add_switches(game, &reached.pairs, self.front.as_slice())?
-        {
-            return Ok(true);
-        }
-        for pair in &reached.pairs {
-            let (vertex, position) = *pair;
-            if !is_switch(game, position) {
-                if self.front.len() + 1 == MAX_PAIRS {
-                    return Err(Over::Deep);
-                }
-                if self.list_behind(Pair { vertex, position })? {
-                    return Ok(true);
-                }
+/// Lists the moves that go on from here. Tells whether there is one more than the list may have.
+#[cycle(listing)]
+fn list<S: Steps>(
+    search: &mut Search<'_, S>,
+    state: &mut SemiState,
+    front: &mut Vec<Pair>,
+    found: &mut Found,
+    after: Option<Position>,
+) -> Result<bool, Over>
+    requires place { IsPlaceOf search.old.game (record { state = state.old.state; last = after }) }
+    requires short { length front.old.items < most_pairs }
+    requires few { length found.old.moves ≤ found.old.max }
+    ensures lawful { IsGame search.old.game }
+    ensures search { search.new ≡ record search.old { opened = search.new.opened } }
+    ensures state { OnOk result (state.new ≡ record state.old { room = state.new.room }) }
+    ensures room { OnOk result (state.old.room ≤ state.new.room) }
+    ensures front { OnOk result (front.new.items ≡ front.old.items) }
+    ensures max { found.new.max ≡ found.old.max }
+    ensures gathered { IfOk result (λ cut.
+        Gathers (IsLegal search.old.game (record { state = state.old.state; last = after }))
+        front.old.items found.old.max found.old.moves found.new.moves cut) }
+    ensures counted { OnOk result (CountsOpenings search.old.game listing_moves state.old.state
+        (stand_of after) search.old.opened search.new.opened) }
+    ensures deep { result ≡ Err Over.Deep
+        → IsTooDeep search.old.game listing_moves state.old.state (stand_of after)
+        (most_pairs - length front.old.items) search.old.modifiers }
+    ensures wide { result ≡ Err Over.Wide
+        → IsOverBudget search.old.game listing_moves state.old.state (stand_of after)
+        search.old.opened search.old.openings }
+    ensures forced { IfOk result (λ cut. CountsForced search.old.game cut listing_moves
+        state.old.state (stand_of after) search.old.opened search.new.opened
+        (most_pairs - length front.old.items) search.old.modifiers) }
+{
+    let game = search.game();
+    let reached = reach_next(search, state, origin_after(after), found.in_order)?;
+    if found.add_switches(game, &reached.pairs, front)? {
+        return Ok(true);
+    }
+    for pair in &reached.pairs {
+        let (vertex, position) = *pair;
+        if !is_switch(game, position) {
+            if front.len() + 1 == MAX_PAIRS {
+                return Err(Over::Deep);
+            }
+            if list_behind(search, state, front, found, Pair { vertex, position })? {
+                return Ok(true);
             }
         }
-        self.search.reuse(reached)?;
-        Ok(false)
     }
+    search.reuse(reached)?;
+    Ok(false)
+}
 
-    /// Lists the moves behind a modifier that comes next, and takes the modifier back.
-    #[cycle(listing)]
-    fn list_behind(&mut self, pair: Pair) -> Result<bool, Over>
-        requires fits { IsStateOf self.old.search.game self.old.state.state }
-        requires valid { IsValidAt self.old.search.game self.old.state.state pair.0 pair.1 }
-        requires room { 2 ≤ self.old.state.room }
-        requires short { length self.old.front.items + 1 < most_pairs }
-        requires few { length self.old.found.moves ≤ self.old.found.max }
-        ensures search { self.new.search ≡ record self.old.search { opened = self.new.search.opened } }
-        ensures state { OnOk result (self.new.state ≡ record self.old.state { room = self.new.state.room }) }
-        ensures room { OnOk result (self.old.state.room ≤ self.new.state.room) }
-        ensures front { OnOk result (self.new.front.items ≡ self.old.front.items) }
-        ensures max { self.new.found.max ≡ self.old.found.max }
-        ensures gathered { IfOk result (λ cut. GathersBehind self.old.search.game self.old.state.state pair
-            self.old.front.items self.old.found.max self.old.found.moves self.new.found.moves cut) }
-        ensures few { OnOk result (length self.new.found.moves ≤ self.old.found.max) }
-        ensures counted { OnOk result ((later : AbstractState)
-            → Applies self.old.search.game pair.1 (standing_at self.old.state.state pair.0) later
-            → CountsOpenings self.old.search.game listing_moves later (after pair.1)
-            self.old.search.opened self.new.search.opened) }
-        ensures deep { result ≡ Err Over.Deep → (later : AbstractState)
-            → Applies self.old.search.game pair.1 (standing_at self.old.state.state pair.0) later
-            → IsTooDeep self.old.search.game listing_moves later (after pair.1)
-            (most_pairs - (length self.old.front.items + 1)) self.old.search.modifiers }
-        ensures wide { result ≡ Err Over.Wide → (later : AbstractState)
-            → Applies self.old.search.game pair.1 (standing_at self.old.state.state pair.0) later
-            → IsOverBudget self.old.search.game listing_moves later (after pair.1)
-            self.old.search.opened self.old.search.openings }
-        ensures forced { IfOk result (λ cut. (later : AbstractState)
-            → Applies self.old.search.game pair.1 (standing_at self.old.state.state pair.0) later
-            → CountsForced self.old.search.game cut listing_moves later (after pair.1)
-            self.old.search.opened self.new.search.opened
-            (most_pairs - (length self.old.front.items + 1)) self.old.search.modifiers) }
-    {
-        let game = self.search.game();
-        let mark = self.state.mark();
-        apply_at(game, &mut self.state, pair);
-        self.front.push(pair);
-        let cut = self.list(Some(pair.position))?;
-        self.front.pop();
-        self.state.undo_to(mark);
-        Ok(cut)
-    }
+/// Lists the moves behind a modifier that comes next, and takes the modifier back.
+#[cycle(listing)]
+fn list_behind<S: Steps>(
+    search: &mut Search<'_, S>,
+    state: &mut SemiState,
+    front: &mut Vec<Pair>,
+    found: &mut Found,
+    pair: Pair,
+) -> Result<bool, Over>
+    requires fits { IsStateOf search.old.game state.old.state }
+    requires valid { IsValidAt search.old.game state.old.state pair.0 pair.1 }
+    requires room { 2 ≤ state.old.room }
+    requires short { length front.old.items + 1 < most_pairs }
+    requires few { length found.old.moves ≤ found.old.max }
+    ensures search { search.new ≡ record search.old { opened = search.new.opened } }
+    ensures state { OnOk result (state.new ≡ record state.old { room = state.new.room }) }
+    ensures room { OnOk result (state.old.room ≤ state.new.room) }
+    ensures front { OnOk result (front.new.items ≡ front.old.items) }
+    ensures max { found.new.max ≡ found.old.max }
+    ensures gathered { IfOk result (λ cut. GathersBehind search.old.game state.old.state pair
+        front.old.items found.old.max found.old.moves found.new.moves cut) }
+    ensures few { OnOk result (length found.new.moves ≤ found.old.max) }
+    ensures counted { OnOk result ((later : AbstractState)
+        → Applies search.old.game pair.1 (standing_at state.old.state pair.0) later
+        → CountsOpenings search.old.game listing_moves later (after pair.1)
+        search.old.opened search.new.opened) }
+    ensures deep { result ≡ Err Over.Deep → (later : AbstractState)
+        → Applies search.old.game pair.1 (standing_at state.old.state pair.0) later
+        → IsTooDeep search.old.game listing_moves later (after pair.1)
+        (most_pairs - (length front.old.items + 1)) search.old.modifiers }
+    ensures wide { result ≡ Err Over.Wide → (later : AbstractState)
+        → Applies search.old.game pair.1 (standing_at state.old.state pair.0) later
+        → IsOverBudget search.old.game listing_moves later (after pair.1)
+        search.old.opened search.old.openings }
+    ensures forced { IfOk result (λ cut. (later : AbstractState)
+        → Applies search.old.game pair.1 (standing_at state.old.state pair.0) later
+        → CountsForced search.old.game cut listing_moves later (after pair.1)
+        search.old.opened search.new.opened
+        (most_pairs - (length front.old.items + 1)) search.old.modifiers) }
+{
+    let game = search.game();
+    let mark = state.mark();
+    apply_at(game, state, pair);
+    front.push(pair)?;
+    let cut = list(search, state, front, found, Some(pair.position))?;
+    front.pop();
+    state.undo_to(mark);
+    Ok(cut)
 }

@@ -64,7 +64,7 @@ pub(crate) fn take<S: Steps>(
         search.old.opened search.new.opened left search.old.modifiers) }
 {
     let game = search.game();
-    let reached = search.reach(state, origin_after(after))?;
+    let reached = search.reach_unordered(state, origin_after(after))?;
     let comes_next = has_pair(&reached.pairs, pair);
     search.reuse(reached)?;
     if comes_next {

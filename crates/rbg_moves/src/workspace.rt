@@ -7,16 +7,19 @@ use rbg_pairs::{MoveList, Pair};
 use rbg_search::Workspace as SearchWorkspace;
 use rbg_state::SemiState;
 use std::alloc::Global;
-use std::mem::replace;
 
 /// What questions leave to later ones: their buffers, and what they took up in all.
 #[derive(Debug, Drop)]
 pub struct Workspace {
     pub(crate) searches: SearchWorkspace,
+    /// The semi-state on which a question is asked.
+    pub(crate) asked: SemiState,
+    /// The modifiers that a question has applied, each with its vertex.
+    pub(crate) front: Vec<Pair>,
     /// Semi-states that are not in use.
     states: Vec<SemiState>,
     /// A list of pairs that is not in use.
-    buffer: Vec<Pair>,
+    pub(crate) buffer: Vec<Pair>,
     /// Lists of moves that are not in use.
     lists: Vec<MoveList>,
 }
@@ -26,6 +29,8 @@ impl Workspace {
     pub fn new(alloc: Global) -> Workspace {
         Workspace {
             searches: SearchWorkspace::new(alloc),
+            asked: SemiState::empty(alloc),
+            front: Vec::new(alloc),
             states: Vec::new(alloc),
             buffer: Vec::new(alloc),
             lists: Vec::new(alloc),
@@ -37,14 +42,25 @@ impl Workspace {
         self.searches.openings()
     }
 
-    /// How many pairs of a position and a vertex the questions took.
+    /// How many pairs of a position and a vertex the questions tried.
     pub fn pairs(&self) -> u64 {
         self.searches.pairs()
     }
 
     /// Keeps the buffers of a place that is no longer needed.
     pub fn keep(&mut self, place: Place) {
-        self.keep_state(place.state);
+        // where there is no memory, it is let go
+        let _kept = self.states.push(place.state);
+    }
+
+    /// Some place, whose buffers are of use for another one: one that was kept, where there is one. It may be a place of
+    /// no game.
+    pub fn spare(&mut self) -> Place {
+        let state = match self.states.pop() {
+            Some(state) => state,
+            None => SemiState::empty(*self.states.allocator()),
+        };
+        Place { state, after: None }
     }
 
     /// Keeps a list of pairs that is no longer needed.
@@ -58,31 +74,16 @@ impl Workspace {
         let _kept = self.lists.push(moves);
     }
 
-    /// Keeps a semi-state that is no longer needed.
-    pub(crate) fn keep_state(&mut self, state: SemiState) {
-        // where there is no memory, it is let go
-        let _kept = self.states.push(state);
-    }
-
     /// A copy of a semi-state, with no change to take back.
     pub(crate) fn copy_of(&mut self, state: &SemiState) -> Result<SemiState, Memory>
         ensures state { IfOk result (λ copy. copy.state ≡ state.now.state) }
         ensures past { IfOk result (λ copy. copy.past ≡ []) }
     {
-        match self.states.pop() {
-            Some(buffers) => state.copy_into(buffers),
-            None => state.try_clone(),
-        }
-    }
-
-    /// A list of no pairs.
-    pub(crate) fn take_pairs(&mut self) -> Vec<Pair>
-        ensures { result.items ≡ [] }
-    {
-        let alloc = *self.buffer.allocator();
-        let mut pairs = replace(&mut self.buffer, Vec::new(alloc));
-        pairs.clear();
-        pairs
+        let Some(mut copy) = self.states.pop() else {
+            return state.try_clone();
+        };
+        copy.copy_from(state)?;
+        Ok(copy)
     }
 
     /// A list of no moves.

@@ -7,7 +7,7 @@ ghost use Rattle.rbg_perft.specs.Counting.{AreCounted, AreCountedBehind, AreLega
 use crate::error::CountError;
 use crate::settling::settle;
 use rbg_auto::Steps;
-use rbg_moves::{MoveList, Place, Workspace, find_pairs_with, gather_moves_with, make_move_with};
+use rbg_moves::{MoveList, Place, Workspace, find_pairs_with, gather_moves_with, make_move_into};
 use rbg_rules::Game;
 use std::alloc::Global;
 
@@ -53,7 +53,6 @@ impl Counts {
 
 /// Counts the sequences of so many moves of the players from a place. The keeper's moves between them are not counted.
 /// Where the keeper has several, it makes the one that `find_move` finds. The workspace counts what is searched.
-#[cycle(counting)]
 pub fn count_sequences<S: Steps>(
     alloc: Global,
     game: &Game,
@@ -67,16 +66,35 @@ pub fn count_sequences<S: Steps>(
     ensures counted { IfOk result (λ counts.
         AreCounted game.now moves place counts.sequences counts.ended) }
 {
-    let place = settle(alloc, game, steps, place, workspace)?;
+    let mut place = place;
+    let counts = count_from(alloc, game, steps, &mut place, moves, workspace)?;
+    workspace.keep(place);
+    Ok(counts)
+}
+
+/// Counts the sequences of so many moves of the players from a place, which is led on by the keeper's moves.
+#[cycle(counting)]
+fn count_from<S: Steps>(
+    alloc: Global,
+    game: &Game,
+    steps: &S,
+    place: &mut Place,
+    moves: u8,
+    workspace: &mut Workspace,
+) -> Result<Counts, CountError>
+    requires steps { S.of_rules steps.now game.now.rules }
+    requires place { IsPlaceOf game.now place.old }
+    ensures counted { IfOk result (λ counts.
+        AreCounted game.now moves place.old counts.sequences counts.ended) }
+{
+    settle(alloc, game, steps, place, workspace)?;
     if moves == 0 {
-        let here = count_here(alloc, game, steps, &place, workspace)?;
-        workspace.keep(place);
+        let here = count_here(alloc, game, steps, place, workspace)?;
         return Ok(here);
     }
-    let listed = list_all(alloc, game, steps, &place, workspace)?;
-    let counts = count_behind(alloc, game, steps, &place, &listed, moves - 1, workspace)?;
+    let listed = list_all(alloc, game, steps, place, workspace)?;
+    let counts = count_behind(alloc, game, steps, place, &listed, moves - 1, workspace)?;
     workspace.keep_moves(listed);
-    workspace.keep(place);
     Ok(counts)
 }
 
@@ -98,12 +116,14 @@ fn count_behind<S: Steps>(
         Sums (AreCountedBehind game.now further place.now) firsts.now counts.sequences counts.ended) }
 {
     let mut counts = NONE;
+    let mut to = workspace.spare();
     for index in 0..firsts.len() {
         let pairs = firsts.get(index);
-        let to = make_move_with(game, place, pairs, workspace)?;
-        let behind = count_sequences(alloc, game, steps, to, further, workspace)?;
+        make_move_into(game, place, pairs, &mut to)?;
+        let behind = count_from(alloc, game, steps, &mut to, further, workspace)?;
         counts = counts.join(behind).ok_or(CountError::TooMany)?;
     }
+    workspace.keep(to);
     Ok(counts)
 }
 

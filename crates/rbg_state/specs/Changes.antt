@@ -1,7 +1,6 @@
 -- Changes of one part of a semi-state, and the states that a list of changes leads back to.
 use Rattle.std.specs.Prelude.{ℕ, ◌<◌, List, [], ◌∷◌, slice_set}
 use Rattle.rbg_rules.specs.State.{AbstractState}
-use Rattle.rbg_rules.specs.Limits.{most_pieces}
 use Rattle.rbg_state.specs.History.{History}
 use Rattle.rbg_state.specs.declared.change.Change.{Change}
 use Rattle.rbg_state.specs.declared.change.Change.TheVariants.{Player, Vertex, Piece, Value}
@@ -13,11 +12,11 @@ set (Vertex v) s = record s { vertex = v }
 set (Piece v x) s = record s { pieces = slice_set s.pieces v x }
 set (Value i n) s = record s { values = slice_set s.values i n }
 
--- The change speaks of a vertex, a piece and a variable that there is.
+-- The change speaks of a vertex and a variable that there is.
 abbrev pub IsChangeWithin : (vertices variables : ℕ) → Change → Type 0
 IsChangeWithin vertices variables (Player p) = Unit {0}
 IsChangeWithin vertices variables (Vertex v) = Unit {0}
-IsChangeWithin vertices variables (Piece v x) = (v < vertices) × (x < most_pieces)
+IsChangeWithin vertices variables (Piece v x) = v < vertices
 IsChangeWithin vertices variables (Value i n) = i < variables
 
 -- the state after all of the changes, the last one first

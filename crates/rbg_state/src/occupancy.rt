@@ -1,10 +1,8 @@
 //! The piece on each vertex of a board, with a running count for each piece.
-ghost use Rattle.std.specs.Prelude.{◌≡◌, ◌+◌, ◌<◌, ◌^◌, ◌==◌, ◌++◌, [], ◌∷◌, Some, All, length, count_by, slice_get, slice_set, IfOk};
-ghost use Rattle.rbg_rules.specs.Limits.{most_pieces};
+ghost use Rattle.std.specs.Prelude.{◌≡◌, ◌+◌, ◌-◌, ◌<◌, ◌^◌, ◌==◌, ◌++◌, [], ◌∷◌, Some, length, count_by, slice_get, slice_index, slice_set, IfOk, OnErr};
 
 use rbg_base::{Memory, Piece, Vertex};
 use rbg_board::Board;
-use rbg_rules::limits::MAX_PIECES;
 use std::alloc::Global;
 use std::marker::Model;
 use std::mem::replace;
@@ -13,7 +11,7 @@ use std::mem::replace;
 #[derive(Debug, Drop)]
 pub(crate) struct Occupancy {
     pieces: Vec<Piece>,
-    /// How many vertices hold each piece that a game may have.
+    /// How many vertices hold each piece of the game.
     counts: Vec<u16>,
 }
 
@@ -30,14 +28,13 @@ impl Model for Occupancy {
 }
 
 impl Occupancy {
-    /// The pieces that stand on a board when play begins.
-    pub(crate) fn start(alloc: Global, board: &Board) -> Result<Occupancy, Memory>
-        requires { All (λ x. x < most_pieces) board.now.first }
+    /// The pieces that stand on a board when play begins, with a count for each of the first `kinds` pieces.
+    pub(crate) fn start(alloc: Global, board: &Board, kinds: usize) -> Result<Occupancy, Memory>
         ensures { IfOk result (λ occupancy. occupancy ≡ board.now.first) }
     {
         let mut occupancy = Occupancy {
             pieces: Vec::with_capacity(alloc, board.len())?,
-            counts: vec![in alloc; 0; MAX_PIECES]?,
+            counts: vec![in alloc; 0; kinds]?,
         };
         for vertex in 0..board.len() {
             occupancy.push(board.piece_at_start(vertex as Vertex))?;
@@ -45,14 +42,21 @@ impl Occupancy {
         Ok(occupancy)
     }
 
+    /// No pieces.
+    pub(crate) fn empty(alloc: Global) -> Occupancy {
+        Occupancy {
+            pieces: Vec::new(alloc),
+            counts: Vec::new(alloc),
+        }
+    }
+
     /// Adds a vertex that holds a piece.
     fn push(&mut self, piece: Piece) -> Result<(), Memory>
-        requires piece { piece < most_pieces }
-        requires few { length self.old + 1 < 2 ^ 16 }
+        requires { length self.old + 1 < 2 ^ 16 }
         ensures { IfOk result (λ _. self.new ≡ self.old ++ piece ∷ []) }
     {
         self.pieces.push(piece)?;
-        self.counts[piece as usize] += 1;
+        add_one(&mut self.counts, piece);
         Ok(())
     }
 
@@ -65,14 +69,14 @@ impl Occupancy {
         })
     }
 
-    /// A copy, in the buffers of another one.
-    pub(crate) fn copy_into(&self, buffers: Occupancy) -> Result<Occupancy, Memory>
-        ensures { IfOk result (λ copy. copy ≡ self.now) }
+    /// Becomes a copy of another one. Memory is taken only where there is no room for it.
+    pub(crate) fn copy_from(&mut self, other: &Occupancy) -> Result<(), Memory>
+        ensures { IfOk result (λ _. self.new ≡ other.now) }
     {
-        Ok(Occupancy {
-            pieces: refilled(buffers.pieces, &self.pieces)?,
-            counts: refilled(buffers.counts, &self.counts)?,
-        })
+        // With no counts they are right, also where memory is refused below.
+        self.counts.clear();
+        refill(&mut self.pieces, &other.pieces)?;
+        refill(&mut self.counts, &other.counts)
     }
 
     /// The piece on each vertex.
@@ -88,31 +92,57 @@ impl Occupancy {
     {
         match self.counts.get(piece as usize) {
             Some(count) => usize::from(*count),
-            None => 0,
+            None => counted(&self.pieces, piece),
         }
     }
 
     /// Puts a piece on a vertex, and returns the piece that stood there.
     pub(crate) fn put(&mut self, vertex: Vertex, piece: Piece) -> Piece
         requires vertex { vertex < length self.old }
-        requires piece { piece < most_pieces }
         ensures put { self.new ≡ slice_set self.old vertex piece }
         ensures replaced { slice_get self.old vertex ≡ Some result }
-        ensures within { result < most_pieces }
     {
         let replaced = replace(&mut self.pieces[vertex as usize], piece);
-        self.counts[replaced as usize] -= 1;
-        self.counts[piece as usize] += 1;
+        take_one(&mut self.counts, replaced);
+        add_one(&mut self.counts, piece);
         replaced
     }
 }
 
-/// A buffer that holds these items and no others. Memory is taken only where it has no room for them.
-pub(crate) fn refilled<T: Copy + Drop>(buffer: Vec<T>, items: &[T]) -> Result<Vec<T>, Memory>
-    ensures { IfOk result (λ filled. filled.items ≡ items.now) }
+/// How many of the pieces are this one.
+fn counted(pieces: &[Piece], piece: Piece) -> usize
+    ensures { result ≡ count_by (λ x. x == piece) pieces.now }
 {
-    let mut buffer = buffer;
+    pieces.iter().filter(|other| **other == piece).count()
+}
+
+/// Counts one more of a piece that has a count.
+fn add_one(counts: &mut Vec<u16>, piece: Piece)
+    requires { slice_index counts.old.items piece + 1 < 2 ^ 16 }
+    ensures { counts.new.items ≡ slice_set counts.old.items piece (slice_index counts.old.items piece + 1) }
+{
+    let index = piece as usize;
+    if index < counts.len() {
+        counts[index] += 1;
+    }
+}
+
+/// Counts one less of a piece that has a count.
+fn take_one(counts: &mut Vec<u16>, piece: Piece)
+    requires { piece < length counts.old.items → 0 < slice_index counts.old.items piece }
+    ensures { counts.new.items ≡ slice_set counts.old.items piece (slice_index counts.old.items piece - 1) }
+{
+    let index = piece as usize;
+    if index < counts.len() {
+        counts[index] -= 1;
+    }
+}
+
+/// Makes these the items of a buffer. Memory is taken only where it has no room for them.
+pub(crate) fn refill<T: Copy + Drop>(buffer: &mut Vec<T>, items: &[T]) -> Result<(), Memory>
+    ensures done { IfOk result (λ _. buffer.new.items ≡ items.now) }
+    ensures refused { OnErr result (buffer.new.items ≡ []) }
+{
     buffer.clear();
-    buffer.extend_from_slice(items)?;
-    Ok(buffer)
+    buffer.extend_from_slice(items)
 }

@@ -4,7 +4,7 @@ ghost use Rattle.rbg_rules.specs.State.{start_of, IsStateOf};
 ghost use Rattle.rbg_state.specs.Changes.{set, IsChangeWithin};
 
 use crate::change::Change;
-use crate::occupancy::{Occupancy, refilled};
+use crate::occupancy::{Occupancy, refill};
 use rbg_base::{Memory, Piece, Player, Variable, Vertex};
 use rbg_rules::Game;
 use std::alloc::Global;
@@ -35,12 +35,23 @@ impl Parts {
         ensures start { IfOk result (λ start. start ≡ start_of game.now) }
         ensures fits { IfOk result (IsStateOf game.now) }
     {
+        let keeper = 0;
         Ok(Parts {
-            player: 0,
+            player: keeper,
             vertex: 0,
-            occupancy: Occupancy::start(alloc, game.board())?,
+            occupancy: Occupancy::start(alloc, game.board(), game.pieces())?,
             values: vec![in alloc; 0; game.variables()]?,
         })
+    }
+
+    /// The parts where there is no board.
+    pub(crate) fn empty(alloc: Global) -> Parts {
+        Parts {
+            player: 0,
+            vertex: 0,
+            occupancy: Occupancy::empty(alloc),
+            values: Vec::new(alloc),
+        }
     }
 
     pub(crate) fn try_clone(&self) -> Result<Parts, Memory>
@@ -54,17 +65,15 @@ impl Parts {
         })
     }
 
-    /// A copy, in the buffers of others.
-    pub(crate) fn copy_into(&self, buffers: Parts) -> Result<Parts, Memory>
-        ensures { IfOk result (λ copy. copy ≡ self.now) }
+    /// Become a copy of others. Memory is taken only where there is no room for it.
+    pub(crate) fn copy_from(&mut self, other: &Parts) -> Result<(), Memory>
+        ensures { IfOk result (λ _. self.new ≡ other.now) }
     {
-        let player = self.player;
-        Ok(Parts {
-            player,
-            vertex: self.vertex,
-            occupancy: self.occupancy.copy_into(buffers.occupancy)?,
-            values: refilled(buffers.values, &self.values)?,
-        })
+        self.occupancy.copy_from(&other.occupancy)?;
+        refill(&mut self.values, &other.values)?;
+        self.player = other.player;
+        self.vertex = other.vertex;
+        Ok(())
     }
 
     pub(crate) fn player(&self) -> Player

@@ -53,6 +53,16 @@ impl SemiState {
         })
     }
 
+    /// A semi-state of no board. It takes no memory, and is there to become a copy of another one.
+    pub fn empty(alloc: Global) -> SemiState
+        ensures { result.past ≡ [] }
+    {
+        SemiState {
+            parts: Parts::empty(alloc),
+            changes: Vec::new(alloc),
+        }
+    }
+
     /// A copy, which shares no memory with its source. It has no change to take back.
     pub fn try_clone(&self) -> Result<SemiState, Memory>
         ensures state { IfOk result (λ copy. copy.state ≡ self.now.state) }
@@ -64,16 +74,14 @@ impl SemiState {
         })
     }
 
-    /// A copy, in the buffers of another semi-state. It has no change to take back. Memory is taken only where the buffers
-    /// have no room for it. Where there is none, the buffers are lost.
-    pub fn copy_into(&self, buffers: SemiState) -> Result<SemiState, Memory>
-        ensures state { IfOk result (λ copy. copy.state ≡ self.now.state) }
-        ensures past { IfOk result (λ copy. copy.past ≡ []) }
+    /// Becomes a copy of another semi-state, with no change to take back. Memory is taken only where there is no room for
+    /// it. Where it is refused, what is left is no use.
+    pub fn copy_from(&mut self, other: &SemiState) -> Result<(), Memory>
+        ensures state { IfOk result (λ _. self.new.state ≡ other.now.state) }
+        ensures past { self.new.past ≡ [] }
     {
-        let mut changes = buffers.changes;
-        changes.clear();
-        let parts = self.parts.copy_into(buffers.parts)?;
-        Ok(SemiState { parts, changes })
+        self.changes.clear();
+        self.parts.copy_from(&other.parts)
     }
 
     /// The current player, from 1; 0 is the keeper.

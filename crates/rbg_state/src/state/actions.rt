@@ -6,7 +6,6 @@ ghost use Rattle.rbg_rules.specs.Positions.{positions_of, IsPatternAt};
 ghost use Rattle.rbg_rules.specs.Actions.{Applies};
 ghost use Rattle.rbg_rules.specs.Values.{value_of, Relates};
 ghost use Rattle.rbg_rules.specs.Games.{IsGame, IsActionOf};
-ghost use Rattle.rbg_rules.specs.Limits.{most_pieces};
 ghost use Rattle.rbg_rules.specs.Translation.{arithmetic_of, shows_pattern};
 ghost use Rattle.rbg_rules.specs.Table.{Shows};
 ghost use Rattle.rbg_state.specs.History.{capacity_of, IsAfter};
@@ -106,7 +105,6 @@ impl SemiState {
     /// Puts a piece on the current vertex.
     fn off(&mut self, piece: Piece) -> Applied
         requires vertex { self.old.state.vertex < length self.old.state.pieces }
-        requires piece { piece < most_pieces }
         requires room { 0 < self.old.room }
         ensures { (game : AbstractGame) → Answers game (off piece) self.old self.new result }
     {

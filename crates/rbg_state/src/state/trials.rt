@@ -31,6 +31,7 @@ pub enum Trial {
 
 impl SemiState {
     /// What the action at a position of the game would do if the vertex were the current one. Nothing changes.
+    #[inline(always)]
     pub fn try_at(&self, game: &Game, vertex: Vertex, position: Position) -> Trial
         requires fits { IsStateOf game.now self.now.state }
         requires vertex { vertex < length self.now.state.pieces }
@@ -44,6 +45,7 @@ impl SemiState {
     }
 
     /// What an action would do at a vertex.
+    #[inline(always)]
     fn tell(&self, game: &Game, board: &Board, action: &Action, vertex: Vertex) -> Trial
         requires lawful { IsGame game.now }
         requires board { board.now ≡ game.now.board }
@@ -71,6 +73,7 @@ impl SemiState {
     }
 
     /// What an on of these pieces would do at a vertex.
+    #[inline(always)]
     fn tell_on(&self, pieces: &[Piece], vertex: Vertex) -> Trial
         requires { vertex < length self.now.state.pieces }
         ensures { (game : AbstractGame) → Tells game (on pieces.now) (record self.now.state { vertex = vertex }) result }
@@ -117,6 +120,7 @@ impl SemiState {
 }
 
 /// Whether a piece is one of these. They are few, and a call to look for it would cost more than the look.
+#[inline(always)]
 fn is_among(pieces: &[Piece], piece: Piece) -> bool
     ensures { IsTrue result ↔ Contains pieces.now piece }
 {

@@ -28,9 +28,9 @@ found_legal items game asked place here front (Some whole) same_game same_place 
 
 pub returns-clause-found : goal.returns-clause-found
 returns-clause-found x c =
-    let here : AbstractPlace = record { state = c.in_ok-state.state.state; last = c.place.inside.after } in
-    let same_place : here ≡ c.args.place.now = ap (λ (s : AbstractState). let y : AbstractPlace = record { state = s; last = c.place.inside.after } in y) c.in_ok-state.ensures.state ∙ c.place.view_is in
-    found_legal (λ pairs. pairs.items) c.args.game.now c.search_in.result.game c.args.place.now here c.new.result.items c.in_ok-found.found c.search_in.ensures.game same_place c.new.ensures c.in_ok-found.ensures.found
+    let here : AbstractPlace = record { state = c.copy_from.new.self.state; last = c.place.inside.after } in
+    let same_place : here ≡ c.args.place.now = ap (λ (s : AbstractState). let y : AbstractPlace = record { state = s; last = c.place.inside.after } in y) c.in_ok-copy_from.ensures.state ∙ c.place.view_is in
+    found_legal (λ pairs. pairs.items) c.args.game.now c.search_in-search.result.game c.args.place.now here c.clear.new.self.items c.in_ok-found.found c.search_in-search.ensures.game same_place c.clear.ensures.items c.in_ok-found.ensures.found
 
 deep_of : (g : AbstractGame) → IsNumbered g.rules → (s : AbstractState) (f : Start) (items : List (ℕ × ℕ)) (most : ℕ) → items ≡ [] → most ≡ most_modifiers → IsTooDeep g find_move s f (most_pairs - length items) most → IsDeep g find_move s f most
 deep_of g numbered s f items most none limit deep =
@@ -39,24 +39,24 @@ deep_of g numbered s f items most none limit deep =
 
 pub returns-in_err-found-clause-deep : goal.returns-in_err-found-clause-deep
 returns-in_err-found-clause-deep x c e =
-    let asked = c.search_in.result in
-    let s = c.in_ok-state.state.state in
+    let asked = c.search_in-search.result in
+    let s = c.copy_from.new.self.state in
     let f = stand_of c.place.inside.after in
-    let state : s ≡ c.args.place.now.state = c.in_ok-state.ensures.state ∙ ap (λ (y : AbstractPlace). y.state) c.place.view_is in
+    let state : s ≡ c.args.place.now.state = c.in_ok-copy_from.ensures.state ∙ ap (λ (y : AbstractPlace). y.state) c.place.view_is in
     let start : f ≡ stand_of c.args.place.now.last = ap (λ (y : AbstractPlace). stand_of y.last) c.place.view_is in
-    let numbered : IsNumbered asked.game.rules = subst (λ (y : AbstractGame). IsNumbered y.rules) (sym c.search_in.ensures.game) c.positions-positions.ensures.lawful.numbered in
-    deep_from c.args.game.now find_move c.args.place.now asked.game s f asked.modifiers c.search_in.ensures.game state start c.search_in.ensures.modifiers
-    (deep_of asked.game numbered s f c.new.result.items asked.modifiers c.new.ensures c.search_in.ensures.modifiers (c.find.ensures.deep (search rules)))
+    let numbered : IsNumbered asked.game.rules = subst (λ (y : AbstractGame). IsNumbered y.rules) (sym c.search_in-search.ensures.game) c.positions-positions.ensures.lawful.numbered in
+    deep_from c.args.game.now find_move c.args.place.now asked.game s f asked.modifiers c.search_in-search.ensures.game state start c.search_in-search.ensures.modifiers
+    (deep_of asked.game numbered s f c.clear.new.self.items asked.modifiers c.clear.ensures.items c.search_in-search.ensures.modifiers (c.find.ensures.deep (search rules)))
 
 pub returns-in_err-found-clause-wide : goal.returns-in_err-found-clause-wide
 returns-in_err-found-clause-wide x c e =
-    let asked = c.search_in.result in
-    let s = c.in_ok-state.state.state in
+    let asked = c.search_in-search.result in
+    let s = c.copy_from.new.self.state in
     let f = stand_of c.place.inside.after in
-    let state : s ≡ c.args.place.now.state = c.in_ok-state.ensures.state ∙ ap (λ (y : AbstractPlace). y.state) c.place.view_is in
+    let state : s ≡ c.args.place.now.state = c.in_ok-copy_from.ensures.state ∙ ap (λ (y : AbstractPlace). y.state) c.place.view_is in
     let start : f ≡ stand_of c.args.place.now.last = ap (λ (y : AbstractPlace). stand_of y.last) c.place.view_is in
     wide_from c.args.game.now c.positions-positions.ensures.lawful.numbered find_move c.args.place.now asked.game s f asked.opened asked.openings
-    c.search_in.ensures.game state start c.search_in.ensures.opened c.search_in.ensures.openings (c.find.ensures.wide (search rules))
+    c.search_in-search.ensures.game state start c.search_in-search.ensures.opened c.search_in-search.ensures.openings (c.find.ensures.wide (search rules))
 
 pub returns-in_err-found-clause-heavy : goal.returns-in_err-found-clause-heavy
 returns-in_err-found-clause-heavy x c h = elim h [
@@ -67,15 +67,15 @@ returns-in_err-found-clause-heavy x c h = elim h [
 pub returns-clause-fits : goal.returns-clause-fits
 returns-clause-fits x c = λ cut.
     let game = c.args.game.now in
-    let asked = c.search_in.result in
-    let s = c.in_ok-state.state.state in
+    let asked = c.search_in-search.result in
+    let s = c.copy_from.new.self.state in
     let f = stand_of c.place.inside.after in
-    let new = c.find.new.self.search in
-    let left = most_pairs - length c.new.result.items in
-    let state : s ≡ c.args.place.now.state = c.in_ok-state.ensures.state ∙ ap (λ (y : AbstractPlace). y.state) c.place.view_is in
+    let new = c.find.new.search in
+    let left = most_pairs - length c.clear.new.self.items in
+    let state : s ≡ c.args.place.now.state = c.in_ok-copy_from.ensures.state ∙ ap (λ (y : AbstractPlace). y.state) c.place.view_is in
     let start : f ≡ stand_of c.args.place.now.last = ap (λ (y : AbstractPlace). stand_of y.last) c.place.view_is in
-    let budget : new.openings ≡ most_openings = ap (λ (y : Searching). y.openings) c.find.ensures.search ∙ c.search_in.ensures.openings in
-    let none : length c.new.result.items ≡ 0 = ap (λ (ps : List (ℕ × ℕ)). length ps) c.new.ensures in
+    let budget : new.openings ≡ most_openings = ap (λ (y : Searching). y.openings) c.find.ensures.search ∙ c.search_in-search.ensures.openings in
+    let none : length c.clear.new.self.items ≡ 0 = ap (λ (ps : List (ℕ × ℕ)). length ps) c.clear.ensures.items in
     fits_at game asked.game c.args.place.now s f cut find_move asked.opened new.opened left asked.modifiers new.openings
-    c.search_in.ensures.game state start c.search_in.ensures.opened c.opened-opened.ensures.within budget (omega (arith, none)) c.search_in.ensures.modifiers
+    c.search_in-search.ensures.game state start c.search_in-search.ensures.opened c.opened-opened.ensures.within budget (omega (arith, none)) c.search_in-search.ensures.modifiers
     (counts_uncut asked.game cut find_move s f asked.opened new.opened left asked.modifiers c.in_ok-found.ensures.forced)

@@ -65,7 +65,7 @@ returns-clause-to c =
     let all = c.args.pairs.now in
     let k = c.loop-pair.pair-index in
     let s = c.loop-pair.state.state in
-    let from : AbstractPlace = record { state = c.args.state.state; last = c.args.after } in
+    let from : AbstractPlace = record { state = c.args.state.now.state; last = c.args.after } in
     let place : AbstractPlace = record { state = s; last = c.loop-pair.after } in
     let to = c.requires.legal.0 in
     let made = subst (λ (ps : List (ℕ × ℕ)). IsMadeFrom game place ps to) (drop_all k all c.loop-pair-test.false) (c.loop-pair.invariant.goes_on to c.requires.legal.1) in

@@ -17,7 +17,8 @@ make_all-requires-clause-legal c =
 
 pub returns-clause-to : goal.returns-clause-to
 returns-clause-to c =
+    let to : AbstractPlace = record { state = c.make_all.new.state.state; last = c.in_ok-after.after } in
     let there = from_copy c.args.place.now c.in_ok-state.state.state c.place.inside.state.state c.place.inside.after c.in_ok-state.ensures.state c.place.view_is in
     let from : AbstractPlace = record { state = c.in_ok-state.state.state; last = c.place.inside.after } in
-    subst (λ (x : AbstractPlace). Legal c.args.game.now x c.args.pairs.now c.in_ok-to.to) there
-    (subst (λ (ps : List (ℕ × ℕ)). Legal c.args.game.now from ps c.in_ok-to.to) c.as_slice.ensures.pairs c.in_ok-to.ensures.to)
+    subst (λ (x : AbstractPlace). Legal c.args.game.now x c.args.pairs.now to) there
+    (subst (λ (ps : List (ℕ × ℕ)). Legal c.args.game.now from ps to) c.as_slice.ensures.pairs c.in_ok-after.ensures.to)

@@ -16,5 +16,6 @@ make_all-requires-clause-legal c =
 
 pub returns-clause-to : goal.returns-clause-to
 returns-clause-to c =
+    let to : AbstractPlace = record { state = c.make_all.new.state.state; last = c.in_ok-after.after } in
     let there = from_copy c.args.place.now c.in_ok-state.state.state c.place.inside.state.state c.place.inside.after c.in_ok-state.ensures.state c.place.view_is in
-    subst (λ (x : AbstractPlace). Legal c.args.game.now x c.args.pairs.now c.in_ok-to.to) there c.in_ok-to.ensures.to
+    subst (λ (x : AbstractPlace). Legal c.args.game.now x c.args.pairs.now to) there c.in_ok-after.ensures.to

@@ -23,8 +23,8 @@ applied_as game game' s s' t v p same here applied =
 true_not_false : true ≡ false → ⊥
 true_not_false e = cc
 
-pub reach-requires-clause-stands : goal.reach-requires-clause-stands
-reach-requires-clause-stands g c =
+pub reach_unordered-requires-clause-stands : goal.reach_unordered-requires-clause-stands
+reach_unordered-requires-clause-stands g c =
     let game = c.args.search.now.game in
     subst (IsStart game.rules) (sym c.origin_after.ensures) (place_start game c.game-game.ensures.lawful.numbered (record { state = c.args.state.now.state; last = c.args.after }) c.requires.place)
 
@@ -40,8 +40,8 @@ apply_at-requires-clause-valid g c =
     let next : IsNext game s f q.0 q.1 = next_from game s f _ c.deref.result.now items c.in_ok-reached.reached.ends q c.in_ok-reached.ensures.reached c.origin_after.ensures is has in
     let has' : Contains items q = subst (λ (qs : List (ℕ × ℕ)). Contains qs q) is has in
     let within = All-contains (λ (r : ℕ × ℕ). (r.0 < length game.board.first) × IsPositionOf game.rules r.1) items q c.in_ok-reached.ensures.within has' in
-    let here : c.reach.new.state.state ≡ s = ap (λ (h : History). h.state) c.in_ok-reached.ensures.given_back in
-    valid_as game c.game-game.result.now s c.reach.new.state.state q.0 q.1 c.game-game.ensures.game here (valid_next game c.game-game.ensures.lawful.numbered s f q.0 q.1 within.0 next)
+    let here : c.reach_unordered.new.state.state ≡ s = ap (λ (h : History). h.state) c.in_ok-reached.ensures.given_back in
+    valid_as game c.game-game.result.now s c.reach_unordered.new.state.state q.0 q.1 c.game-game.ensures.game here (valid_next game c.game-game.ensures.lawful.numbered s f q.0 q.1 within.0 next)
 
 pub returns-then-comes_next-clause-taken : goal.returns-then-comes_next-clause-taken
 returns-then-comes_next-clause-taken g c _ =
@@ -53,8 +53,8 @@ returns-then-comes_next-clause-taken g c _ =
     let is : c.deref.result.now ≡ items = c.deref.ensures.value in
     let has = c.has_pair-comes_next.ensures.0 c.if-comes_next.true in
     let next : IsNext game s f q.0 q.1 = next_from game s f _ c.deref.result.now items c.in_ok-reached.reached.ends q c.in_ok-reached.ensures.reached c.origin_after.ensures is has in
-    let here : c.reach.new.state.state ≡ s = ap (λ (h : History). h.state) c.in_ok-reached.ensures.given_back in
-    record { next = next; applies = applied_as game c.game-game.result.now s c.reach.new.state.state c.apply_at.new.state.state q.0 q.1 c.game-game.ensures.game here c.apply_at.ensures.applied }
+    let here : c.reach_unordered.new.state.state ≡ s = ap (λ (h : History). h.state) c.in_ok-reached.ensures.given_back in
+    record { next = next; applies = applied_as game c.game-game.result.now s c.reach_unordered.new.state.state c.apply_at.new.state.state q.0 q.1 c.game-game.ensures.game here c.apply_at.ensures.applied }
 
 pub returns-then-comes_next-clause-in_game : goal.returns-then-comes_next-clause-in_game
 returns-then-comes_next-clause-in_game g c _ =

@@ -11,14 +11,14 @@ use Rattle.rbg_perft.proofs.counting.+counting.Goals as goal
 pub count_behind-loop-index-init : goal.count_behind-loop-index-init
 count_behind-loop-index-init g t c = none
 
-pub count_behind-make_move_with-requires-clause-legal :
-    goal.count_behind-make_move_with-requires-clause-legal
-count_behind-make_move_with-requires-clause-legal g t c =
+pub count_behind-make_move_into-requires-clause-legal :
+    goal.count_behind-make_move_into-requires-clause-legal
+count_behind-make_move_into-requires-clause-legal g t c =
     all_at (IsLegal c.args.game.now c.args.place.now) c.args.firsts.now c.loop-index.index c.get-pairs.result.now c.requires.legal c.get-pairs.ensures.pairs
 
-pub count_behind-count_sequences-requires : goal.count_behind-count_sequences-requires
-count_behind-count_sequences-requires g t c κs within =
-    (search rules, (within, (c.requires.steps, c.in_ok-to.ensures.in_game)))
+pub count_behind-count_from-requires : goal.count_behind-count_from-requires
+count_behind-count_from-requires g t c κs within =
+    (search rules, (within, (c.requires.steps, c.in_ok-make_move_into.ensures.in_game)))
 
 pub count_behind-loop-index-preserved : goal.count_behind-loop-index-preserved
 count_behind-loop-index-preserved g t c =
@@ -30,7 +30,7 @@ count_behind-loop-index-preserved g t c =
     let ended : c.in_ok-counts.counts.ended ≡ c.loop-index.counts.ended + c.in_ok-behind.behind.ended = subst (λ o. IfSome o (λ s. s.ended ≡ c.loop-index.counts.ended + c.in_ok-behind.behind.ended)) sum c.join.ensures.ended in
     sums_more (AreCountedBehind c.args.game.now c.args.further c.args.place.now) firsts k pairs c.loop-index.counts.sequences c.loop-index.counts.ended c.in_ok-behind.behind.sequences c.in_ok-behind.behind.ended c.in_ok-counts.counts.sequences c.in_ok-counts.counts.ended
     (slice_get_within firsts k pairs c.get-pairs.ensures.pairs) (sym (get_or_from_slice_get firsts k pairs pairs c.get-pairs.ensures.pairs)) c.loop-index.invariant
-    (c.in_ok-to.to, c.in_ok-to.ensures.to, c.in_ok-behind.ensures.counted)
+    (c.make_move_into.new.to, c.in_ok-make_move_into.ensures.to, c.in_ok-behind.ensures.counted)
     sequences ended
 
 pub count_behind-returns : goal.count_behind-returns
@@ -38,22 +38,22 @@ count_behind-returns g t c =
     let all : length c.args.firsts.now ≤ c.loop-index.index = omega (arith, c.loop-index-test.false, c.len-index-end.ensures.count) in
     record { counted = sums_end (AreCountedBehind c.args.game.now c.args.further c.args.place.now) c.args.firsts.now c.loop-index.index c.loop-index.counts.sequences c.loop-index.counts.ended all c.loop-index.invariant }
 
-pub count_sequences-count_behind-requires : goal.count_sequences-count_behind-requires
-count_sequences-count_behind-requires g t c κs within =
+pub count_from-count_behind-requires : goal.count_from-count_behind-requires
+count_from-count_behind-requires g t c κs within =
     let some : 0 < c.args.moves = omega (arith, c.if-moves-eq0.false) in
-    (search rules, (within, (c.requires.steps, (c.in_ok-place.ensures.place, c.in_ok-listed.ensures.all.legal))))
+    (search rules, (within, (c.requires.steps, (c.in_ok-settle.ensures.place, c.in_ok-listed.ensures.all.legal))))
 
-pub count_sequences-returns : goal.count_sequences-returns
-count_sequences-returns g t c =
+pub count_from-returns : goal.count_from-returns
+count_from-returns g t c =
     let some : 0 < c.args.moves = omega (arith, c.if-moves-eq0.false) in
     record {
-      counted = counted_from c.args.game.now c.args.moves c.args.place c.in_ok-place.place c.in_ok-listed.listed c.in_ok-counts.counts.sequences c.in_ok-counts.counts.ended some c.in_ok-place.ensures.settles c.in_ok-listed.ensures.all c.in_ok-counts.ensures.counted;
+      counted = counted_from c.args.game.now c.args.moves c.args.place.now c.settle.new.place c.in_ok-listed.listed c.in_ok-counts.counts.sequences c.in_ok-counts.counts.ended some c.in_ok-settle.ensures.settles c.in_ok-listed.ensures.all c.in_ok-counts.ensures.counted;
     }
 
-pub count_sequences-returns-then-moves-eq0 : goal.count_sequences-returns-then-moves-eq0
-count_sequences-returns-then-moves-eq0 g t c =
+pub count_from-returns-then-moves-eq0 : goal.count_from-returns-then-moves-eq0
+count_from-returns-then-moves-eq0 g t c =
     let counts = c.in_ok-here.here in
     record {
-      counted = subst (λ (k : ℕ). AreCounted c.args.game.now k c.args.place counts.sequences counts.ended) (sym c.if-moves-eq0.true)
-          (c.in_ok-place.place, c.in_ok-place.ensures.settles, c.in_ok-here.ensures.one, c.in_ok-here.ensures.ended);
+      counted = subst (λ (k : ℕ). AreCounted c.args.game.now k c.args.place.now counts.sequences counts.ended) (sym c.if-moves-eq0.true)
+          (c.settle.new.place, c.in_ok-settle.ensures.settles, c.in_ok-here.ensures.one, c.in_ok-here.ensures.ended);
     }

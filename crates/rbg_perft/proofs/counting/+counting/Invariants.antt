@@ -6,8 +6,8 @@ use Rattle.rbg_perft.proofs.counting.+counting.Given as goal
 abbrev pub decreases-count_behind : goal.decreases-count_behind
 decreases-count_behind g l = 2 * l.further + 1
 
-abbrev pub decreases-count_sequences : goal.decreases-count_sequences
-decreases-count_sequences g l = 2 * l.moves
+abbrev pub decreases-count_from : goal.decreases-count_from
+decreases-count_from g l = 2 * l.moves
 
 abbrev pub invariant-count_behind-loop-index : goal.invariant-count_behind-loop-index
 invariant-count_behind-loop-index g l =

@@ -22,8 +22,8 @@ returns-then-player-ne0-clause-place g c = c.loop.invariant.0
 pub find_pairs_with-requires-clause-place : goal.find_pairs_with-requires-clause-place
 find_pairs_with-requires-clause-place g c = c.loop.invariant.0
 
-pub moved-requires-clause-place : goal.moved-requires-clause-place
-moved-requires-clause-place g c = c.loop.invariant.0
+pub make-requires-clause-place : goal.make-requires-clause-place
+make-requires-clause-place g c = c.loop.invariant.0
 
 pub returns-in-None-clause-settles : goal.returns-in-None-clause-settles
 returns-in-None-clause-settles g c = record { moves = c.loop.invariant.1; rests = inr (subst (λ o. IfNone o (Finished c.args.game.now c.loop.place)) c.in-None.is c.in_ok-pairs.ensures.finished) }
@@ -33,8 +33,8 @@ returns-in-None-clause-place g c = c.loop.invariant.0
 
 pub loop-preserved : goal.loop-preserved
 loop-preserved g c = (
-  c.in_ok-place-in-Some.ensures.in_game,
+  c.in_ok-make-in-Some.ensures.in_game,
   more c.loop.invariant.1
       (sym (ap (λ p. p.state.player) c.place.view_is) ∙ sym c.player.ensures ∙ c.if-player-ne0.false)
-      c.in_ok-place-in-Some.ensures.to,
+      c.in_ok-make-in-Some.ensures.to,
 )

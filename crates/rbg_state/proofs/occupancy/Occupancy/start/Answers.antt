@@ -1,8 +1,6 @@
-use Rattle.std.proofs.Common.{◌≡◌, ℕ, ◌<◌, length, replicate, refl, subst, arith, rules}
+use Rattle.std.proofs.Common.{◌≡◌, ◌<◌, length, replicate, arith, rules}
 use Rattle.std.proofs.lemmas.List.{take_more}
 use Rattle.std.proofs.lemmas.Option.{get_or_from_slice_get}
-use Rattle.std.proofs.lemmas.List.Elements.{All-get_or}
-use Rattle.rbg_rules.specs.Limits.{most_pieces}
 use Rattle.rbg_state.proofs.Tallies.{no_vertex}
 use Rattle.rbg_state.proofs.occupancy.Occupancy.start.Goals as goal
 
@@ -20,12 +18,5 @@ loop-vertex-preserved c =
 pub invariant_of-occupancy : goal.invariant_of-occupancy
 invariant_of-occupancy c =
     let counts = c.in_ok-vec.field-0.items in
-    let zeros : counts ≡ replicate 1000 0 = c.in_ok-vec.ensures.items_if_clones_equal (λ y same. search rules) in
-    no_vertex c.in_ok-with_capacity.field-0.items counts 1000 refl c.in_ok-with_capacity.ensures.items zeros
-
-pub push-requires-clause-piece : goal.push-requires-clause-piece
-push-requires-clause-piece c =
-    let first = c.args.board.now.first in
-    let is_vertex : c.loop-vertex.vertex < length first = omega arith in
-    let read = get_or_from_slice_get first c.loop-vertex.vertex c.piece_at_start.result 0 c.piece_at_start.ensures in
-    subst (λ (n : ℕ). n < most_pieces) read (All-get_or (λ (x : ℕ). x < most_pieces) first c.loop-vertex.vertex 0 is_vertex c.requires)
+    let zeros : counts ≡ replicate c.args.kinds 0 = c.in_ok-vec.ensures.items_if_clones_equal (λ y same. search rules) in
+    no_vertex c.in_ok-with_capacity.field-0.items counts c.args.kinds c.in_ok-with_capacity.ensures.items zeros

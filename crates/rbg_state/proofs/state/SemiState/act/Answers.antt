@@ -1,6 +1,6 @@
-use Rattle.std.proofs.Common.{sym, ◌∙◌, refl, arith}
+use Rattle.std.proofs.Common.{sym, ◌∙◌, refl}
 use Rattle.std.proofs.lemmas.Option.{get_or_from_slice_get}
-use Rattle.rbg_rules.specs.Expression.{off, assignment, comparison}
+use Rattle.rbg_rules.specs.Expression.{assignment, comparison}
 use Rattle.rbg_rules.specs.Translation.{arithmetic_of}
 use Rattle.rbg_state.proofs.Reading.{reads_variables}
 use Rattle.rbg_state.proofs.state.SemiState.act.Goals as goal
@@ -45,9 +45,3 @@ pub compare-requires-clause-right : goal.compare-requires-clause-right
 compare-requires-clause-right c =
     let named = c.requires.named (comparison (arithmetic_of c.in-Compare.left) c.in-Compare.relation (arithmetic_of c.in-Compare.right)) (rw c.in-Compare.is refl) in
     rw (c.requires.fits.variables ∙ c.requires.lawful.bounds) (reads_variables c.args.game.now (arithmetic_of c.in-Compare.right) named.1)
-
-pub off-requires-clause-piece : goal.off-requires-clause-piece
-off-requires-clause-piece c =
-    let named = c.requires.named (off c.in-Off.piece) (rw c.in-Off.is refl) in
-    let most = c.requires.lawful.limits.pieces in
-    omega (arith, named, most)

@@ -12,7 +12,7 @@ use Rattle.rbg_search.specs.Searching.{Searching}
 use Rattle.rbg_moves.proofs.Forcing.{fits_at}
 use Rattle.rbg_rules.specs.Moves.{AbstractPlace, stand_of}
 use Rattle.rbg_moves.proofs.Outcome.{gathered, gathered_at}
-use Rattle.rbg_moves.proofs.list.gather_moves_with.Goals as goal
+use Rattle.rbg_moves.proofs.list.gather.Goals as goal
 
 deep_of : (g : AbstractGame) → IsNumbered g.rules → (s : AbstractState) (f : Start) (items : List (ℕ × ℕ)) (most : ℕ) → items ≡ [] → most ≡ most_modifiers → IsTooDeep g list_moves s f (200 - length items) most → IsDeep g list_moves s f most
 deep_of g numbered s f items most none limit deep =
@@ -21,24 +21,24 @@ deep_of g numbered s f items most none limit deep =
 
 pub returns-in_err-cut-clause-deep : goal.returns-in_err-cut-clause-deep
 returns-in_err-cut-clause-deep g c e =
-    let asked = c.search_in.result in
-    let s = c.in_ok-state.state.state in
+    let asked = c.search_in-search.result in
+    let s = c.copy_from.new.self.state in
     let f = stand_of c.place.inside.after in
-    let state : s ≡ c.args.place.now.state = c.in_ok-state.ensures.state ∙ ap (λ (y : AbstractPlace). y.state) c.place.view_is in
+    let state : s ≡ c.args.place.now.state = c.in_ok-copy_from.ensures.state ∙ ap (λ (y : AbstractPlace). y.state) c.place.view_is in
     let start : f ≡ stand_of c.args.place.now.last = ap (λ (y : AbstractPlace). stand_of y.last) c.place.view_is in
-    deep_from c.args.game.now list_moves c.args.place.now asked.game s f asked.modifiers c.search_in.ensures.game state start c.search_in.ensures.modifiers
-    (deep_of asked.game c.list.ensures.lawful.numbered s f c.new.result.items asked.modifiers c.new.ensures c.search_in.ensures.modifiers (c.list.ensures.deep (search rules)))
+    deep_from c.args.game.now list_moves c.args.place.now asked.game s f asked.modifiers c.search_in-search.ensures.game state start c.search_in-search.ensures.modifiers
+    (deep_of asked.game c.list.ensures.lawful.numbered s f c.clear.new.self.items asked.modifiers c.clear.ensures.items c.search_in-search.ensures.modifiers (c.list.ensures.deep (search rules)))
 
 pub returns-in_err-cut-clause-wide : goal.returns-in_err-cut-clause-wide
 returns-in_err-cut-clause-wide g c e =
-    let asked = c.search_in.result in
-    let s = c.in_ok-state.state.state in
+    let asked = c.search_in-search.result in
+    let s = c.copy_from.new.self.state in
     let f = stand_of c.place.inside.after in
-    let state : s ≡ c.args.place.now.state = c.in_ok-state.ensures.state ∙ ap (λ (y : AbstractPlace). y.state) c.place.view_is in
+    let state : s ≡ c.args.place.now.state = c.in_ok-copy_from.ensures.state ∙ ap (λ (y : AbstractPlace). y.state) c.place.view_is in
     let start : f ≡ stand_of c.args.place.now.last = ap (λ (y : AbstractPlace). stand_of y.last) c.place.view_is in
-    let numbered : IsNumbered c.args.game.now.rules = subst (λ (y : AbstractGame). IsNumbered y.rules) c.search_in.ensures.game c.list.ensures.lawful.numbered in
+    let numbered : IsNumbered c.args.game.now.rules = subst (λ (y : AbstractGame). IsNumbered y.rules) c.search_in-search.ensures.game c.list.ensures.lawful.numbered in
     wide_from c.args.game.now numbered list_moves c.args.place.now asked.game s f asked.opened asked.openings
-    c.search_in.ensures.game state start c.search_in.ensures.opened c.search_in.ensures.openings (c.list.ensures.wide (search rules))
+    c.search_in-search.ensures.game state start c.search_in-search.ensures.opened c.search_in-search.ensures.openings (c.list.ensures.wide (search rules))
 
 pub returns-in_err-cut-clause-heavy : goal.returns-in_err-cut-clause-heavy
 returns-in_err-cut-clause-heavy g c h = elim h [
@@ -50,22 +50,22 @@ pub returns-clause-gathered : goal.returns-clause-gathered
 returns-clause-gathered g c =
     let game = c.args.game.now in
     let place = c.args.place.now in
-    let here : AbstractPlace = record { state = c.in_ok-state.state.state; last = c.place.inside.after } in
-    let same_place : here ≡ place = ap (λ (s : AbstractState). let x : AbstractPlace = record { state = s; last = c.place.inside.after } in x) c.in_ok-state.ensures.state ∙ c.place.view_is in
-    gathered game place c.args.max c.list.new.self.found.moves c.in_ok-cut.cut
-    (gathered_at game c.search_in.result.game place here c.new.result.items c.args.max c.take_moves.result c.list.new.self.found.moves c.in_ok-cut.cut c.search_in.ensures.game same_place c.new.ensures c.take_moves.ensures c.in_ok-cut.ensures.gathered)
+    let here : AbstractPlace = record { state = c.copy_from.new.self.state; last = c.place.inside.after } in
+    let same_place : here ≡ place = ap (λ (s : AbstractState). let x : AbstractPlace = record { state = s; last = c.place.inside.after } in x) c.in_ok-copy_from.ensures.state ∙ c.place.view_is in
+    gathered game place c.args.max c.list.new.found.moves c.in_ok-cut.cut
+    (gathered_at game c.search_in-search.result.game place here c.clear.new.self.items c.args.max c.take_moves-moves.result c.list.new.found.moves c.in_ok-cut.cut c.search_in-search.ensures.game same_place c.clear.ensures.items c.take_moves-moves.ensures c.in_ok-cut.ensures.gathered)
 
 pub returns-clause-fits : goal.returns-clause-fits
 returns-clause-fits g c =
     let game = c.args.game.now in
-    let asked = c.search_in.result in
-    let s = c.in_ok-state.state.state in
+    let asked = c.search_in-search.result in
+    let s = c.copy_from.new.self.state in
     let f = stand_of c.place.inside.after in
-    let new = c.list.new.self.search in
-    let left = 200 - length c.new.result.items in
-    let state : s ≡ c.args.place.now.state = c.in_ok-state.ensures.state ∙ ap (λ (y : AbstractPlace). y.state) c.place.view_is in
+    let new = c.list.new.search in
+    let left = 200 - length c.clear.new.self.items in
+    let state : s ≡ c.args.place.now.state = c.in_ok-copy_from.ensures.state ∙ ap (λ (y : AbstractPlace). y.state) c.place.view_is in
     let start : f ≡ stand_of c.args.place.now.last = ap (λ (y : AbstractPlace). stand_of y.last) c.place.view_is in
-    let budget : new.openings ≡ most_openings = ap (λ (y : Searching). y.openings) c.list.ensures.search ∙ c.search_in.ensures.openings in
-    let none : length c.new.result.items ≡ 0 = ap (λ (ps : List (ℕ × ℕ)). length ps) c.new.ensures in
+    let budget : new.openings ≡ most_openings = ap (λ (y : Searching). y.openings) c.list.ensures.search ∙ c.search_in-search.ensures.openings in
+    let none : length c.clear.new.self.items ≡ 0 = ap (λ (ps : List (ℕ × ℕ)). length ps) c.clear.ensures.items in
     fits_at game asked.game c.args.place.now s f c.in_ok-cut.cut list_moves asked.opened new.opened left asked.modifiers new.openings
-    c.search_in.ensures.game state start c.search_in.ensures.opened c.opened-opened.ensures.within budget (omega (arith, none)) c.search_in.ensures.modifiers c.in_ok-cut.ensures.forced
+    c.search_in-search.ensures.game state start c.search_in-search.ensures.opened c.opened-opened.ensures.within budget (omega (arith, none)) c.search_in-search.ensures.modifiers c.in_ok-cut.ensures.forced

@@ -26,88 +26,88 @@ use Rattle.rbg_rules.specs.Actions.{Applies}
 use Rattle.rbg_rules.specs.Questions.{reach}
 use Rattle.rbg_search.specs.Flat.{IsNext}
 use Rattle.rbg_search.specs.Forced.{CountsForced}
-use Rattle.std.proofs.lemmas.List.{take_all}
+use Rattle.std.proofs.lemmas.List.{take_all, length_push}
 use Rattle.rbg_moves.specs.internal.Stepping.{standing_at}
 use Rattle.rbg_moves.proofs.Steps.{next_applies}
 use Rattle.rbg_moves.proofs.Seeking.{applied_back}
 use Rattle.rbg_moves.proofs.Forcing.{TakenSoFar, behind_forced, so_far_begin, so_far_more, so_far_skipped, cut_forced, cut_so_far, listed_forced}
-use Rattle.rbg_moves.proofs.list.Listing.+listing.Goals as goal
-use Rattle.rbg_moves.proofs.list.Listing.+listing.Goals.{list-then-not-is_switch+else-len-eq-MAX_PAIRS+in_ok-list_behind+else-branch-2, list-else-not-is_switch}
+use Rattle.rbg_moves.proofs.list.+listing.Goals as goal
+use Rattle.rbg_moves.proofs.list.+listing.Goals.{list-then-not-is_switch+else-len-eq-MAX_PAIRS+in_ok-list_behind+else-branch-2, list-else-not-is_switch}
 
-pub list-reach-requires-clause-stands : goal.list-reach-requires-clause-stands
-list-reach-requires-clause-stands g t c =
-    let game = c.args.self.now.search.game in
-    let place : AbstractPlace = record { state = c.args.self.now.state.state; last = c.args.after } in
+pub list-reach_next-requires-clause-stands : goal.list-reach_next-requires-clause-stands
+list-reach_next-requires-clause-stands g t c =
+    let game = c.args.search.now.game in
+    let place : AbstractPlace = record { state = c.args.state.now.state; last = c.args.after } in
     subst (λ (f : Start). IsStart game.rules f) (sym c.origin_after.ensures) (place_start game c.game-game.ensures.lawful.numbered place c.requires.place)
 
 pub list-returns-in_err-reached-clause-deep : goal.list-returns-in_err-reached-clause-deep
 list-returns-in_err-reached-clause-deep g t c =
-    let game = c.args.self.now.search.game in
+    let game = c.args.search.now.game in
     let p = err_from_is_err_and c.from_residual.result c.from_residual.ensures.1 in
     rw (p.1, p.2)
-    (λ e. reach_deep game c.game-game.ensures.lawful.numbered c.args.self.now.state.state (start_of c.origin_after.result) (stand_of c.args.after) (200 - length c.args.self.now.front.items) c.args.self.now.search.modifiers c.origin_after.ensures (c.in_err-reached.ensures.deep (ap (λ (over : Over). Err over) (err_same c.in_err-reached.field-0.0 Deep e))))
+    (λ e. reach_deep game c.game-game.ensures.lawful.numbered c.args.state.now.state (start_of c.origin_after.result) (stand_of c.args.after) (200 - length c.args.front.now.items) c.args.search.now.modifiers c.origin_after.ensures (c.in_err-reached.ensures.deep (ap (λ (over : Over). Err over) (err_same c.in_err-reached.field-0.0 Deep e))))
 
 pub list-returns-in_err-reached-clause-wide : goal.list-returns-in_err-reached-clause-wide
 list-returns-in_err-reached-clause-wide g t c =
-    let game = c.args.self.now.search.game in
+    let game = c.args.search.now.game in
     let p = err_from_is_err_and c.from_residual.result c.from_residual.ensures.1 in
     rw (p.1, p.2)
-    (λ e. reach_wide game c.game-game.ensures.lawful.numbered c.args.self.now.state.state (start_of c.origin_after.result) (stand_of c.args.after) c.args.self.now.search.opened c.args.self.now.search.openings c.origin_after.ensures (c.in_err-reached.ensures.wide (ap (λ (over : Over). Err over) (err_same c.in_err-reached.field-0.0 Wide e))))
+    (λ e. reach_wide game c.game-game.ensures.lawful.numbered c.args.state.now.state (start_of c.origin_after.result) (stand_of c.args.after) c.args.search.now.opened c.args.search.now.openings c.origin_after.ensures (c.in_err-reached.ensures.wide (ap (λ (over : Over). Err over) (err_same c.in_err-reached.field-0.0 Wide e))))
 
 pub list-returns-then-branch-clause-gathered : goal.list-returns-then-branch-clause-gathered
 list-returns-then-branch-clause-gathered g t c =
-    let game = c.args.self.now.search.game in
-    let place : AbstractPlace = record { state = c.args.self.now.state.state; last = c.args.after } in
+    let game = c.args.search.now.game in
+    let place : AbstractPlace = record { state = c.args.state.now.state; last = c.args.after } in
     let pairs : List (ℕ × ℕ) = c.in_ok-reached.reached.pairs.items in
     let ends = c.in_ok-reached.reached.ends in
-    let front : List (ℕ × ℕ) = c.args.self.now.front.items in
-    let max = c.args.self.now.found.max in
-    let old : List (List (ℕ × ℕ)) = c.args.self.now.found.moves in
+    let front : List (ℕ × ℕ) = c.args.front.now.items in
+    let max = c.args.found.now.max in
+    let old : List (List (ℕ × ℕ)) = c.args.found.now.moves in
     let new : List (List (ℕ × ℕ)) = c.add_switches.new.self.moves in
     let part = part_as game place.state (start_of c.origin_after.result) (stand_of place.last) pairs pairs ends c.origin_after.ensures refl c.in_ok-reached.ensures.reached in
     switches_cut game place pairs ends part front max old new
-    (switches_as c.game-game.result.now game c.deref.result.now pairs c.as_slice.result.now front max old new c.in_ok-add_switches.field-0 true c.game-game.ensures.game c.deref.ensures.value c.as_slice.ensures.value c.if-branch.true c.in_ok-add_switches.ensures.lists)
+    (switches_as c.game-game.result.now game c.deref.result.now pairs c.deref-2.result.now front max old new c.in_ok-add_switches.field-0 true c.game-game.ensures.game c.deref.ensures.value c.deref-2.ensures.value c.if-branch.true c.in_ok-add_switches.ensures.lists)
 
 pub list-returns-then-branch-clause-counted : goal.list-returns-then-branch-clause-counted
 list-returns-then-branch-clause-counted g t c =
-    let game = c.args.self.now.search.game in
-    reach_counted game c.game-game.ensures.lawful.numbered c.args.self.now.state.state (start_of c.origin_after.result) (stand_of c.args.after) c.args.self.now.search.opened c.reach.new.self.opened c.origin_after.ensures c.reach.ensures.counted
+    let game = c.args.search.now.game in
+    reach_counted game c.game-game.ensures.lawful.numbered c.args.state.now.state (start_of c.origin_after.result) (stand_of c.args.after) c.args.search.now.opened c.reach_next.new.search.opened c.origin_after.ensures c.reach_next.ensures.counted
 
 pub list-loop-pair-init : goal.list-loop-pair-init
 list-loop-pair-init g t c =
-    let game = c.args.self.now.search.game in
+    let game = c.args.search.now.game in
     let numbered = c.game-game.ensures.lawful.numbered in
-    let place : AbstractPlace = record { state = c.args.self.now.state.state; last = c.args.after } in
+    let place : AbstractPlace = record { state = c.args.state.now.state; last = c.args.after } in
     let pairs : List (ℕ × ℕ) = c.in_ok-reached.reached.pairs.items in
     let ends = c.in_ok-reached.reached.ends in
-    let front : List (ℕ × ℕ) = c.args.self.now.front.items in
-    let max = c.args.self.now.found.max in
-    let old : List (List (ℕ × ℕ)) = c.args.self.now.found.moves in
+    let front : List (ℕ × ℕ) = c.args.front.now.items in
+    let max = c.args.found.now.max in
+    let old : List (List (ℕ × ℕ)) = c.args.found.now.moves in
     let new : List (List (ℕ × ℕ)) = c.add_switches.new.self.moves in
     let part = part_as game place.state (start_of c.origin_after.result) (stand_of place.last) pairs pairs ends c.origin_after.ensures refl c.in_ok-reached.ensures.reached in
     let gathered = others_begin game numbered place pairs ends part front max old new
-    (switches_as c.game-game.result.now game c.deref.result.now pairs c.as_slice.result.now front max old new c.in_ok-add_switches.field-0 false c.game-game.ensures.game c.deref.ensures.value c.as_slice.ensures.value c.if-branch.false c.in_ok-add_switches.ensures.lists) in
+    (switches_as c.game-game.result.now game c.deref.result.now pairs c.deref-2.result.now front max old new c.in_ok-add_switches.field-0 false c.game-game.ensures.game c.deref.ensures.value c.deref-2.ensures.value c.if-branch.false c.in_ok-add_switches.ensures.lists) in
     record {
-      search = c.reach.ensures.kept;
-      state = c.reach.ensures.given_back;
-      room = c.reach.ensures.room;
+      search = c.reach_next.ensures.kept;
+      state = c.reach_next.ensures.given_back;
+      room = c.reach_next.ensures.room;
       enough = c.in_ok-reached.ensures.enough;
       front = refl;
       max = c.add_switches.ensures.max;
       few = subst (λ (n : ℕ). length new ≤ n) (sym c.add_switches.ensures.max) gathered.few;
       gathered = gathered;
-      counted = reach_counts game numbered place.state (start_of c.origin_after.result) (stand_of place.last) c.args.self.now.search.opened c.reach.new.self.opened c.origin_after.ensures c.reach.ensures.counted;
+      counted = reach_counts game numbered place.state (start_of c.origin_after.result) (stand_of place.last) c.args.search.now.opened c.reach_next.new.search.opened c.origin_after.ensures c.reach_next.ensures.counted;
       forced =
-          let left = 200 - length c.args.self.now.front.items in
-          so_far_begin game numbered list_moves place.state (stand_of place.last) c.args.self.now.search.opened c.reach.new.self.opened left c.args.self.now.search.modifiers
-          (subst (λ (h : Start). CountsForced game false reach place.state h c.args.self.now.search.opened c.reach.new.self.opened left c.args.self.now.search.modifiers) c.origin_after.ensures (c.in_ok-reached.ensures.forced false left));
+          let left = 200 - length c.args.front.now.items in
+          so_far_begin game numbered list_moves place.state (stand_of place.last) c.args.search.now.opened c.reach_next.new.search.opened left c.args.search.now.modifiers
+          (subst (λ (h : Start). CountsForced game false reach place.state h c.args.search.now.opened c.reach_next.new.search.opened left c.args.search.now.modifiers) c.origin_after.ensures (c.in_ok-reached.ensures.forced false left));
     }
 
 pub list-returns-then-len-eq-MAX_PAIRS-clause-deep :
     goal.list-returns-then-len-eq-MAX_PAIRS-clause-deep
 list-returns-then-len-eq-MAX_PAIRS-clause-deep g t c =
-    let game = c.args.self.now.search.game in
-    let place : AbstractPlace = record { state = c.args.self.now.state.state; last = c.args.after } in
+    let game = c.args.search.now.game in
+    let place : AbstractPlace = record { state = c.args.state.now.state; last = c.args.after } in
     let xs : List (ℕ × ℕ) = c.deref-pair-items.result.now in
     let k = c.loop-pair.pair-index in
     let q : ℕ × ℕ = get_or xs k (0, 0) in
@@ -115,15 +115,15 @@ list-returns-then-len-eq-MAX_PAIRS-clause-deep g t c =
     let ends = c.in_ok-reached.reached.ends in
     let part = part_as game place.state (start_of c.origin_after.result) (stand_of place.last) c.in_ok-reached.reached.pairs.items xs ends c.origin_after.ensures c.deref-pair-items.ensures.value c.in_ok-reached.ensures.reached in
     let plain = plain_told game c.game-game.result.now q.1 c.is_switch.result c.game-game.ensures.game c.is_switch.ensures c.if-not-is_switch.true in
-    let size : length c.loop-pair.self.front.items ≡ length c.args.self.now.front.items = ap (λ (ys : List (ℕ × ℕ)). length ys) c.loop-pair.invariant.front in
-    let one : 200 - length c.args.self.now.front.items ≡ 1 = omega (arith, size, c.len.ensures.value, c.if-len-eq-MAX_PAIRS.true) in
-    λ _. one_too_many game c.game-game.ensures.lawful.numbered c.game-game.ensures.lawful.no_empty_sum place xs ends part k q under (get_or_default xs k q (0, 0) under) plain (200 - length c.args.self.now.front.items) c.args.self.now.search.modifiers one
+    let size : length c.loop-pair.front.items ≡ length c.args.front.now.items = ap (λ (ys : List (ℕ × ℕ)). length ys) c.loop-pair.invariant.front in
+    let one : 200 - length c.args.front.now.items ≡ 1 = omega (arith, size, c.len.ensures, c.loop-pair.front.ok.0, c.if-len-eq-MAX_PAIRS.true) in
+    λ _. one_too_many game c.game-game.ensures.lawful.numbered c.game-game.ensures.lawful.no_empty_sum place xs ends part k q under (get_or_default xs k q (0, 0) under) plain (200 - length c.args.front.now.items) c.args.search.now.modifiers one
 
 pub list-list_behind-requires : goal.list-list_behind-requires
 list-list_behind-requires g t c κs within =
-    let game = c.args.self.now.search.game in
-    let now = c.loop-pair.self in
-    let place : AbstractPlace = record { state = c.args.self.now.state.state; last = c.args.after } in
+    let game = c.args.search.now.game in
+    let now = c.loop-pair in
+    let place : AbstractPlace = record { state = c.args.state.now.state; last = c.args.after } in
     let xs : List (ℕ × ℕ) = c.deref-pair-items.result.now in
     let k = c.loop-pair.pair-index in
     let q : ℕ × ℕ = get_or xs k (0, 0) in
@@ -137,16 +137,16 @@ list-list_behind-requires g t c κs within =
     subst (λ (g : AbstractGame). IsStateOf g now.state.state) (sym same)
     (subst (λ (s : AbstractState). IsStateOf game s) (sym same_state) c.requires.place.state) in
     let valid = further_valid game now.search.game c.game-game.ensures.lawful.numbered place now.state.state xs ends part k q under (get_or_default xs k q (0, 0) under) (all k (0, 0) under).0 same same_state in
-    let size : length now.front.items ≡ length c.args.self.now.front.items = ap (λ (ys : List (ℕ × ℕ)). length ys) c.loop-pair.invariant.front in
+    let size : length now.front.items ≡ length c.args.front.now.items = ap (λ (ys : List (ℕ × ℕ)). length ys) c.loop-pair.invariant.front in
     let old_short = c.requires.short in
-    let short : length now.front.items + 1 < 200 = omega (arith, size, old_short, c.len.ensures.value, c.if-len-eq-MAX_PAIRS.false) in
+    let short : length now.front.items + 1 < 200 = omega (arith, size, old_short, c.len.ensures, c.loop-pair.front.ok.0, c.if-len-eq-MAX_PAIRS.false) in
     (omega (arith, size, old_short, c.decreases), (within, (fits, (valid, (c.loop-pair.invariant.enough, (short, c.loop-pair.invariant.few))))))
 
 pub list-returns-in_err-list_behind-clause-deep : goal.list-returns-in_err-list_behind-clause-deep
 list-returns-in_err-list_behind-clause-deep g t c =
-    let game = c.args.self.now.search.game in
-    let now = c.loop-pair.self in
-    let place : AbstractPlace = record { state = c.args.self.now.state.state; last = c.args.after } in
+    let game = c.args.search.now.game in
+    let now = c.loop-pair in
+    let place : AbstractPlace = record { state = c.args.state.now.state; last = c.args.after } in
     let xs : List (ℕ × ℕ) = c.deref-pair-items.result.now in
     let k = c.loop-pair.pair-index in
     let q : ℕ × ℕ = get_or xs k (0, 0) in
@@ -157,19 +157,19 @@ list-returns-in_err-list_behind-clause-deep g t c =
     let same = ap (λ (x : Searching). x.game) c.loop-pair.invariant.search in
     let same_state = ap (λ (h : History). h.state) c.loop-pair.invariant.state in
     let same_most = ap (λ (x : Searching). x.modifiers) c.loop-pair.invariant.search in
-    let size : length now.front.items ≡ length c.args.self.now.front.items = ap (λ (ys : List (ℕ × ℕ)). length ys) c.loop-pair.invariant.front in
+    let size : length now.front.items ≡ length c.args.front.now.items = ap (λ (ys : List (ℕ × ℕ)). length ys) c.loop-pair.invariant.front in
     let old_short = c.requires.short in
-    let one_more : suc (200 - (length now.front.items + 1)) ≡ 200 - length c.args.self.now.front.items = omega (arith, size, old_short) in
+    let one_more : suc (200 - (length now.front.items + 1)) ≡ 200 - length c.args.front.now.items = omega (arith, size, old_short) in
     let p = err_from_is_err_and c.from_residual-in_err-list_behind.result c.from_residual-in_err-list_behind.ensures.1 in
     rw (p.1, p.2)
     (λ e. further_deep game now.search.game c.game-game.ensures.lawful.numbered place now.state.state xs ends part k q under (get_or_default xs k q (0, 0) under) plain same same_state
-    (200 - length c.args.self.now.front.items) (200 - (length now.front.items + 1)) c.args.self.now.search.modifiers now.search.modifiers one_more same_most (c.in_err-list_behind.ensures.deep e))
+    (200 - length c.args.front.now.items) (200 - (length now.front.items + 1)) c.args.search.now.modifiers now.search.modifiers one_more same_most (c.in_err-list_behind.ensures.deep e))
 
 pub list-returns-in_err-list_behind-clause-wide : goal.list-returns-in_err-list_behind-clause-wide
 list-returns-in_err-list_behind-clause-wide g t c =
-    let game = c.args.self.now.search.game in
-    let now = c.loop-pair.self in
-    let place : AbstractPlace = record { state = c.args.self.now.state.state; last = c.args.after } in
+    let game = c.args.search.now.game in
+    let now = c.loop-pair in
+    let place : AbstractPlace = record { state = c.args.state.now.state; last = c.args.after } in
     let xs : List (ℕ × ℕ) = c.deref-pair-items.result.now in
     let k = c.loop-pair.pair-index in
     let q : ℕ × ℕ = get_or xs k (0, 0) in
@@ -183,13 +183,13 @@ list-returns-in_err-list_behind-clause-wide g t c =
     let p = err_from_is_err_and c.from_residual-in_err-list_behind.result c.from_residual-in_err-list_behind.ensures.1 in
     rw (p.1, p.2)
     (λ e. further_wide game now.search.game c.game-game.ensures.lawful.numbered place now.state.state xs ends part k q under (get_or_default xs k q (0, 0) under) plain same same_state
-    c.args.self.now.search.opened now.search.opened c.args.self.now.search.openings now.search.openings same_most c.loop-pair.invariant.counted (c.in_err-list_behind.ensures.wide e))
+    c.args.search.now.opened now.search.opened c.args.search.now.openings now.search.openings same_most c.loop-pair.invariant.counted (c.in_err-list_behind.ensures.wide e))
 
 pub list-returns-then-branch-2-clause-gathered : goal.list-returns-then-branch-2-clause-gathered
 list-returns-then-branch-2-clause-gathered g t c =
-    let game = c.args.self.now.search.game in
-    let now = c.loop-pair.self in
-    let place : AbstractPlace = record { state = c.args.self.now.state.state; last = c.args.after } in
+    let game = c.args.search.now.game in
+    let now = c.loop-pair in
+    let place : AbstractPlace = record { state = c.args.state.now.state; last = c.args.after } in
     let xs : List (ℕ × ℕ) = c.deref-pair-items.result.now in
     let k = c.loop-pair.pair-index in
     let q : ℕ × ℕ = get_or xs k (0, 0) in
@@ -199,19 +199,19 @@ list-returns-then-branch-2-clause-gathered g t c =
     let plain = plain_told game c.game-game.result.now q.1 c.is_switch.result c.game-game.ensures.game c.is_switch.ensures c.if-not-is_switch.true in
     let same = ap (λ (x : Searching). x.game) c.loop-pair.invariant.search in
     let same_state = ap (λ (h : History). h.state) c.loop-pair.invariant.state in
-    let front : List (ℕ × ℕ) = c.args.self.now.front.items in
-    let max = c.args.self.now.found.max in
-    let old : List (List (ℕ × ℕ)) = c.args.self.now.found.moves in
-    let new : List (List (ℕ × ℕ)) = c.list_behind.new.self.found.moves in
+    let front : List (ℕ × ℕ) = c.args.front.now.items in
+    let max = c.args.found.now.max in
+    let old : List (List (ℕ × ℕ)) = c.args.found.now.moves in
+    let new : List (List (ℕ × ℕ)) = c.list_behind.new.found.moves in
     let behind = subst (λ (b : Bool). GathersBehind now.search.game now.state.state q now.front.items now.found.max now.found.moves new b) c.if-branch-2.true c.in_ok-list_behind.ensures.gathered in
     others_cut game place (take (k + 1) xs) front max old new
     (further_gathered game now.search.game c.game-game.ensures.lawful.numbered place now.state.state xs ends part front now.front.items max now.found.max old now.found.moves new true k q under (get_or_default xs k q (0, 0) under) plain same same_state c.loop-pair.invariant.front c.loop-pair.invariant.max c.loop-pair.invariant.gathered behind)
 
 pub list-returns-then-branch-2-clause-counted : goal.list-returns-then-branch-2-clause-counted
 list-returns-then-branch-2-clause-counted g t c =
-    let game = c.args.self.now.search.game in
-    let now = c.loop-pair.self in
-    let place : AbstractPlace = record { state = c.args.self.now.state.state; last = c.args.after } in
+    let game = c.args.search.now.game in
+    let now = c.loop-pair in
+    let place : AbstractPlace = record { state = c.args.state.now.state; last = c.args.after } in
     let xs : List (ℕ × ℕ) = c.deref-pair-items.result.now in
     let k = c.loop-pair.pair-index in
     let q : ℕ × ℕ = get_or xs k (0, 0) in
@@ -223,14 +223,14 @@ list-returns-then-branch-2-clause-counted g t c =
     let same_state = ap (λ (h : History). h.state) c.loop-pair.invariant.state in
     counts_end game c.game-game.ensures.lawful.numbered
     (further_counted game now.search.game c.game-game.ensures.lawful.numbered place now.state.state xs ends part k q under (get_or_default xs k q (0, 0) under) plain same same_state
-    c.args.self.now.search.opened now.search.opened c.list_behind.new.self.search.opened c.loop-pair.invariant.counted c.in_ok-list_behind.ensures.counted)
+    c.args.search.now.opened now.search.opened c.list_behind.new.search.opened c.loop-pair.invariant.counted c.in_ok-list_behind.ensures.counted)
 
 pub list-loop-pair-preserved : goal.list-loop-pair-preserved
 list-loop-pair-preserved g t c =
-    let game = c.args.self.now.search.game in
-    let now = c.loop-pair.self in
+    let game = c.args.search.now.game in
+    let now = c.loop-pair in
     let inv = c.loop-pair.invariant in
-    let place : AbstractPlace = record { state = c.args.self.now.state.state; last = c.args.after } in
+    let place : AbstractPlace = record { state = c.args.state.now.state; last = c.args.after } in
     let xs : List (ℕ × ℕ) = c.deref-pair-items.result.now in
     let k = c.loop-pair.pair-index in
     let q : ℕ × ℕ = get_or xs k (0, 0) in
@@ -239,17 +239,17 @@ list-loop-pair-preserved g t c =
     let part = part_as game place.state (start_of c.origin_after.result) (stand_of place.last) c.in_ok-reached.reached.pairs.items xs ends c.origin_after.ensures c.deref-pair-items.ensures.value c.in_ok-reached.ensures.reached in
     let same = ap (λ (x : Searching). x.game) inv.search in
     let same_state = ap (λ (h : History). h.state) inv.state in
-    let front : List (ℕ × ℕ) = c.args.self.now.front.items in
-    let max = c.args.self.now.found.max in
-    let old : List (List (ℕ × ℕ)) = c.args.self.now.found.moves in
+    let front : List (ℕ × ℕ) = c.args.front.now.items in
+    let max = c.args.found.now.max in
+    let old : List (List (ℕ × ℕ)) = c.args.found.now.moves in
     elim c.if-not-is_switch.branch [
       | list-then-not-is_switch+else-len-eq-MAX_PAIRS+in_ok-list_behind+else-branch-2 w ↦
-          let then = w.list_behind.new.self in
+          let then = w.list_behind.new in
           let done = w.in_ok-list_behind.ensures in
           let new : List (List (ℕ × ℕ)) = then.found.moves in
           let plain = plain_told game c.game-game.result.now q.1 c.is_switch.result c.game-game.ensures.game c.is_switch.ensures w.if-not-is_switch.true in
           let behind = subst (λ (b : Bool). GathersBehind now.search.game now.state.state q now.front.items now.found.max now.found.moves new b) w.if-branch-2.false done.gathered in
-          rw w.self-is (record {
+          rw (w.search-is, w.state-is, w.front-is, w.found-is) (record {
             search = done.search ∙ ap (λ (x : Searching). let y : Searching = record x { opened = then.search.opened } in y) inv.search;
             state = done.state ∙ ap (λ (x : History). let y : History = record x { room = then.state.room } in y) inv.state;
             room = let first = inv.room in let second = done.room in omega (arith, first, second);
@@ -258,23 +258,23 @@ list-loop-pair-preserved g t c =
             max = done.max ∙ inv.max;
             few = subst (λ (n : ℕ). length new ≤ n) (sym done.max) done.few;
             gathered = further_gathered game now.search.game c.game-game.ensures.lawful.numbered place now.state.state xs ends part front now.front.items max now.found.max old now.found.moves new false k q under (get_or_default xs k q (0, 0) under) plain same same_state inv.front inv.max inv.gathered behind;
-            counted = further_counted game now.search.game c.game-game.ensures.lawful.numbered place now.state.state xs ends part k q under (get_or_default xs k q (0, 0) under) plain same same_state c.args.self.now.search.opened now.search.opened then.search.opened inv.counted done.counted;
+            counted = further_counted game now.search.game c.game-game.ensures.lawful.numbered place now.state.state xs ends part k q under (get_or_default xs k q (0, 0) under) plain same same_state c.args.search.now.opened now.search.opened then.search.opened inv.counted done.counted;
             forced =
                 let next : IsNext game place.state (stand_of place.last) q.0 q.1 = (part.next q.0 q.1).0 (k, under, get_or_default xs k q (0, 0) under) in
                 let applied = next_applies game c.game-game.ensures.lawful.numbered place.state (stand_of place.last) q.0 q.1 next in
-                let most = c.args.self.now.search.modifiers in
+                let most = c.args.search.now.modifiers in
                 let same_most : now.search.modifiers ≡ most = ap (λ (x : Searching). x.modifiers) inv.search in
-                let size : length now.front.items ≡ length c.args.self.now.front.items = ap (λ (ys : List (ℕ × ℕ)). length ys) inv.front in
+                let size : length now.front.items ≡ length c.args.front.now.items = ap (λ (ys : List (ℕ × ℕ)). length ys) inv.front in
                 let old_short = c.requires.short in
-                let more_left : 1 < 200 - length c.args.self.now.front.items = omega (arith, size, old_short, w.len.ensures.value, w.if-len-eq-MAX_PAIRS.false) in
-                let fewer : 200 - (length now.front.items + 1) ≡ (200 - length c.args.self.now.front.items) - 1 = omega (arith, size) in
+                let more_left : 1 < 200 - length c.args.front.now.items = omega (arith, size, old_short, w.len.ensures, c.loop-pair.front.ok.0, w.if-len-eq-MAX_PAIRS.false) in
+                let fewer : 200 - (length now.front.items + 1) ≡ (200 - length c.args.front.now.items) - 1 = omega (arith, size) in
                 let forced = subst (λ (b : Bool). (t : AbstractState) → Applies now.search.game q.1 (standing_at now.state.state q.0) t → CountsForced now.search.game b list_moves t (after q.1) now.search.opened then.search.opened (200 - (length now.front.items + 1)) now.search.modifiers) w.if-branch-2.false done.forced in
-                so_far_more game c.game-game.ensures.lawful.numbered list_moves place.state (stand_of place.last) xs k next.later c.args.self.now.search.opened now.search.opened then.search.opened (200 - length c.args.self.now.front.items) most under applied more_left inv.forced
+                so_far_more game c.game-game.ensures.lawful.numbered list_moves place.state (stand_of place.last) xs k next.later c.args.search.now.opened now.search.opened then.search.opened (200 - length c.args.front.now.items) most under applied more_left inv.forced
                 (behind_forced game now.search.game place.state now.state.state next.later q.0 q.1 false list_moves now.search.opened then.search.opened _ _ _ _ same same_state fewer same_most applied forced);
           })
       | list-else-not-is_switch w ↦
           let switches = switch_told game c.game-game.result.now q.1 c.is_switch.result c.game-game.ensures.game c.is_switch.ensures w.if-not-is_switch.false in
-          rw w.self-is (record {
+          rw (w.search-is, w.state-is, w.front-is, w.found-is) (record {
             search = inv.search;
             state = inv.state;
             room = inv.room;
@@ -284,22 +284,22 @@ list-loop-pair-preserved g t c =
             few = inv.few;
             gathered = others_skip game place xs front max old now.found.moves k q under (get_or_default xs k q (0, 0) under) switches inv.gathered;
             counted = counts_skipped game c.game-game.ensures.lawful.numbered xs k inv.counted under;
-            forced = so_far_skipped game c.game-game.ensures.lawful.numbered list_moves place.state (stand_of place.last) xs k c.args.self.now.search.opened now.search.opened _ _ under switches inv.forced;
+            forced = so_far_skipped game c.game-game.ensures.lawful.numbered list_moves place.state (stand_of place.last) xs k c.args.search.now.opened now.search.opened _ _ under switches inv.forced;
           })
     ]
 
 pub list-returns-clause-gathered : goal.list-returns-clause-gathered
 list-returns-clause-gathered g t c =
-    let game = c.args.self.now.search.game in
-    let now = c.loop-pair.self in
-    let place : AbstractPlace = record { state = c.args.self.now.state.state; last = c.args.after } in
+    let game = c.args.search.now.game in
+    let now = c.loop-pair in
+    let place : AbstractPlace = record { state = c.args.state.now.state; last = c.args.after } in
     let xs : List (ℕ × ℕ) = c.deref-pair-items.result.now in
     let k = c.loop-pair.pair-index in
     let ends = c.in_ok-reached.reached.ends in
     let part = part_as game place.state (start_of c.origin_after.result) (stand_of place.last) c.in_ok-reached.reached.pairs.items xs ends c.origin_after.ensures c.deref-pair-items.ensures.value c.in_ok-reached.ensures.reached in
-    let front : List (ℕ × ℕ) = c.args.self.now.front.items in
-    let max = c.args.self.now.found.max in
-    let old : List (List (ℕ × ℕ)) = c.args.self.now.found.moves in
+    let front : List (ℕ × ℕ) = c.args.front.now.items in
+    let max = c.args.found.now.max in
+    let old : List (List (ℕ × ℕ)) = c.args.found.now.moves in
     let past = c.loop-pair-test.false in
     let up = c.loop-pair.auto.pair-index-end in
     let all : k ≡ length xs = omega (arith, past, up) in
@@ -308,82 +308,84 @@ list-returns-clause-gathered g t c =
 
 pub list_behind-list-requires : goal.list_behind-list-requires
 list_behind-list-requires g t c κs within =
-    let game = c.args.self.now.search.game in
+    let pushed : length c.push.new.self.items ≡ length c.args.front.now.items + 1 = ap (λ (ys : List (ℕ × ℕ)). length ys) c.in_ok-push.ensures.items ∙ length_push c.args.front.now.items c.args.pair in
+    let game = c.args.search.now.game in
     let position : IsPositionOf game.rules c.pair.inside.position =
     subst (λ (q : ℕ × ℕ). IsPositionOf game.rules q.1) (sym c.pair.view_is)
     (modifier_position game c.game-game.ensures.lawful.numbered c.args.pair.1 c.requires.valid.modifies) in
     let fits : IsStateOf game c.apply_at.new.state.state = subst (λ (x : AbstractGame). IsStateOf x c.apply_at.new.state.state) c.game-game.ensures.game c.apply_at.ensures.fits in
     let old_short = c.requires.short in
-    let short : length c.push.new.self.items < 200 = omega (arith, old_short, c.push.ensures.len) in
-    (omega (arith, old_short, c.push.ensures.len, c.decreases), (within, (record { state = fits; last = (position.from_one, position.there) }, (short, c.requires.few))))
+    let short : length c.push.new.self.items < 200 = omega (arith, old_short, pushed) in
+    (omega (arith, old_short, pushed, c.decreases), (within, (record { state = fits; last = (position.from_one, position.there) }, (short, c.requires.few))))
 
 pub list_behind-returns-in_err-cut-clause-deep : goal.list_behind-returns-in_err-cut-clause-deep
 list_behind-returns-in_err-cut-clause-deep g t c =
-    let game = c.args.self.now.search.game in
+    let pushed : length c.push.new.self.items ≡ length c.args.front.now.items + 1 = ap (λ (ys : List (ℕ × ℕ)). length ys) c.in_ok-push.ensures.items ∙ length_push c.args.front.now.items c.args.pair in
+    let game = c.args.search.now.game in
     let q : ℕ × ℕ = c.args.pair in
-    let most = c.args.self.now.search.modifiers in
-    let size : 200 - length c.push.new.self.items ≡ 200 - (length c.args.self.now.front.items + 1) = ap (λ (n : ℕ). 200 - n) c.push.ensures.len in
-    let p = err_from_is_err_and c.from_residual.result c.from_residual.ensures.1 in
+    let most = c.args.search.now.modifiers in
+    let size : 200 - length c.push.new.self.items ≡ 200 - (length c.args.front.now.items + 1) = ap (λ (n : ℕ). 200 - n) pushed in
+    let p = err_from_is_err_and c.from_residual-in_err-cut.result c.from_residual-in_err-cut.ensures.1 in
     rw (p.1, p.2)
     (λ e later applied.
     subst (λ (n : ℕ). IsTooDeep game list_moves later (after q.1) n most) size
-    (made (λ s n. IsTooDeep game list_moves s (after n) (200 - length c.push.new.self.items) most) game c.game-game.result.now c.game-game.ensures.lawful.numbered c.args.self.now.state.state c.apply_at.new.state.state later q c.pair.inside.position c.game-game.ensures.game (ap (λ (x : ℕ × ℕ). x.1) c.pair.view_is) c.apply_at.ensures.applied applied
+    (made (λ s n. IsTooDeep game list_moves s (after n) (200 - length c.push.new.self.items) most) game c.game-game.result.now c.game-game.ensures.lawful.numbered c.args.state.now.state c.apply_at.new.state.state later q c.pair.inside.position c.game-game.ensures.game (ap (λ (x : ℕ × ℕ). x.1) c.pair.view_is) c.apply_at.ensures.applied applied
     (c.in_err-cut.ensures.deep e)))
 
 pub list_behind-returns-in_err-cut-clause-wide : goal.list_behind-returns-in_err-cut-clause-wide
 list_behind-returns-in_err-cut-clause-wide g t c =
-    let game = c.args.self.now.search.game in
+    let game = c.args.search.now.game in
     let q : ℕ × ℕ = c.args.pair in
-    let p = err_from_is_err_and c.from_residual.result c.from_residual.ensures.1 in
+    let p = err_from_is_err_and c.from_residual-in_err-cut.result c.from_residual-in_err-cut.ensures.1 in
     rw (p.1, p.2)
     (λ e later applied.
-    made (λ s n. IsOverBudget game list_moves s (after n) c.args.self.now.search.opened c.args.self.now.search.openings) game c.game-game.result.now c.game-game.ensures.lawful.numbered c.args.self.now.state.state c.apply_at.new.state.state later q c.pair.inside.position c.game-game.ensures.game (ap (λ (x : ℕ × ℕ). x.1) c.pair.view_is) c.apply_at.ensures.applied applied
+    made (λ s n. IsOverBudget game list_moves s (after n) c.args.search.now.opened c.args.search.now.openings) game c.game-game.result.now c.game-game.ensures.lawful.numbered c.args.state.now.state c.apply_at.new.state.state later q c.pair.inside.position c.game-game.ensures.game (ap (λ (x : ℕ × ℕ). x.1) c.pair.view_is) c.apply_at.ensures.applied applied
     (c.in_err-cut.ensures.wide e))
 
 pub list_behind-returns-clause-gathered : goal.list_behind-returns-clause-gathered
 list_behind-returns-clause-gathered g t c =
-    let game = c.args.self.now.search.game in
+    let game = c.args.search.now.game in
     let q : ℕ × ℕ = c.args.pair in
-    let front : List (ℕ × ℕ) = c.args.self.now.front.items in
-    let max = c.args.self.now.found.max in
-    let old : List (List (ℕ × ℕ)) = c.args.self.now.found.moves in
-    let new : List (List (ℕ × ℕ)) = c.list.new.self.found.moves in
+    let front : List (ℕ × ℕ) = c.args.front.now.items in
+    let max = c.args.found.now.max in
+    let old : List (List (ℕ × ℕ)) = c.args.found.now.moves in
+    let new : List (List (ℕ × ℕ)) = c.list.new.found.moves in
     let cut = c.in_ok-cut.cut in
     let here = c.apply_at.new.state.state in
-    let gathered = subst (λ (ys : List (ℕ × ℕ)). Gathers (IsLegal game (place_behind here c.pair.inside.position)) ys max old new cut) c.push.ensures.items c.in_ok-cut.ensures.gathered in
+    let gathered = subst (λ (ys : List (ℕ × ℕ)). Gathers (IsLegal game (place_behind here c.pair.inside.position)) ys max old new cut) c.in_ok-push.ensures.items c.in_ok-cut.ensures.gathered in
     record {
       gathers = λ later applied.
           gathers_behind (IsLegal game (place_behind later q.1)) front q max old new cut
-          (made (λ s n. Gathers (IsLegal game (place_behind s n)) (front ++ q ∷ []) max old new cut) game c.game-game.result.now c.game-game.ensures.lawful.numbered c.args.self.now.state.state here later q c.pair.inside.position c.game-game.ensures.game (ap (λ (x : ℕ × ℕ). x.1) c.pair.view_is) c.apply_at.ensures.applied applied gathered);
+          (made (λ s n. Gathers (IsLegal game (place_behind s n)) (front ++ q ∷ []) max old new cut) game c.game-game.result.now c.game-game.ensures.lawful.numbered c.args.state.now.state here later q c.pair.inside.position c.game-game.ensures.game (ap (λ (x : ℕ × ℕ). x.1) c.pair.view_is) c.apply_at.ensures.applied applied gathered);
     }
 
 pub list_behind-returns-clause-counted : goal.list_behind-returns-clause-counted
 list_behind-returns-clause-counted g t c =
-    let game = c.args.self.now.search.game in
+    let game = c.args.search.now.game in
     let q : ℕ × ℕ = c.args.pair in
     λ later applied.
-    made (λ s n. CountsOpenings game list_moves s (after n) c.args.self.now.search.opened c.list.new.self.search.opened) game c.game-game.result.now c.game-game.ensures.lawful.numbered c.args.self.now.state.state c.apply_at.new.state.state later q c.pair.inside.position c.game-game.ensures.game (ap (λ (x : ℕ × ℕ). x.1) c.pair.view_is) c.apply_at.ensures.applied applied
+    made (λ s n. CountsOpenings game list_moves s (after n) c.args.search.now.opened c.list.new.search.opened) game c.game-game.result.now c.game-game.ensures.lawful.numbered c.args.state.now.state c.apply_at.new.state.state later q c.pair.inside.position c.game-game.ensures.game (ap (λ (x : ℕ × ℕ). x.1) c.pair.view_is) c.apply_at.ensures.applied applied
     c.in_ok-cut.ensures.counted
 
 -- ---- what is forced
 
 pub list-returns-then-branch-clause-forced : goal.list-returns-then-branch-clause-forced
 list-returns-then-branch-clause-forced g t c =
-    let game = c.args.self.now.search.game in
-    let s = c.args.self.now.state.state in
+    let game = c.args.search.now.game in
+    let s = c.args.state.now.state in
     let f = stand_of c.args.after in
-    let a = c.args.self.now.search.opened in
-    let b = c.reach.new.self.opened in
-    let left = 200 - length c.args.self.now.front.items in
-    let most = c.args.self.now.search.modifiers in
+    let a = c.args.search.now.opened in
+    let b = c.reach_next.new.search.opened in
+    let left = 200 - length c.args.front.now.items in
+    let most = c.args.search.now.modifiers in
     cut_forced game c.game-game.ensures.lawful.numbered s f a b b left most (omega arith)
     (subst (λ (h : Start). CountsForced game false reach s h a b left most) c.origin_after.ensures (c.in_ok-reached.ensures.forced false left))
 
 pub list-returns-then-branch-2-clause-forced : goal.list-returns-then-branch-2-clause-forced
 list-returns-then-branch-2-clause-forced g t c =
-    let game = c.args.self.now.search.game in
-    let now = c.loop-pair.self in
-    let place : AbstractPlace = record { state = c.args.self.now.state.state; last = c.args.after } in
+    let game = c.args.search.now.game in
+    let now = c.loop-pair in
+    let place : AbstractPlace = record { state = c.args.state.now.state; last = c.args.after } in
     let xs : List (ℕ × ℕ) = c.deref-pair-items.result.now in
     let k = c.loop-pair.pair-index in
     let q : ℕ × ℕ = get_or xs k (0, 0) in
@@ -395,17 +397,17 @@ list-returns-then-branch-2-clause-forced g t c =
     let next : IsNext game place.state (stand_of place.last) q.0 q.1 = (part.next q.0 q.1).0 (k, under, get_or_default xs k q (0, 0) under) in
     let applied = applied_back game now.search.game place.state now.state.state next.later q.0 q.1 same same_state (next_applies game c.game-game.ensures.lawful.numbered place.state (stand_of place.last) q.0 q.1 next) in
     let more = c.in_ok-list_behind.ensures.forced next.later applied in
-    cut_so_far game c.game-game.ensures.lawful.numbered place.state (stand_of place.last) (take k xs) c.args.self.now.search.opened now.search.opened c.list_behind.new.self.search.opened (200 - length c.args.self.now.front.items) c.args.self.now.search.modifiers c.loop-pair.invariant.forced (omega (arith, more.fits))
+    cut_so_far game c.game-game.ensures.lawful.numbered place.state (stand_of place.last) (take k xs) c.args.search.now.opened now.search.opened c.list_behind.new.search.opened (200 - length c.args.front.now.items) c.args.search.now.modifiers c.loop-pair.invariant.forced (omega (arith, more.fits))
 
 pub list-returns-clause-forced : goal.list-returns-clause-forced
 list-returns-clause-forced g t c =
-    let game = c.args.self.now.search.game in
-    let now = c.loop-pair.self in
-    let s = c.args.self.now.state.state in
+    let game = c.args.search.now.game in
+    let now = c.loop-pair in
+    let s = c.args.state.now.state in
     let f = stand_of c.args.after in
-    let a = c.args.self.now.search.opened in
-    let left = 200 - length c.args.self.now.front.items in
-    let most = c.args.self.now.search.modifiers in
+    let a = c.args.search.now.opened in
+    let left = 200 - length c.args.front.now.items in
+    let most = c.args.search.now.modifiers in
     let xs : List (ℕ × ℕ) = c.deref-pair-items.result.now in
     let k = c.loop-pair.pair-index in
     let ends = c.in_ok-reached.reached.ends in
@@ -416,11 +418,12 @@ list-returns-clause-forced g t c =
 
 pub list_behind-returns-clause-forced : goal.list_behind-returns-clause-forced
 list_behind-returns-clause-forced g t c = λ later applied.
-    let game = c.args.self.now.search.game in
+    let pushed : length c.push.new.self.items ≡ length c.args.front.now.items + 1 = ap (λ (ys : List (ℕ × ℕ)). length ys) c.in_ok-push.ensures.items ∙ length_push c.args.front.now.items c.args.pair in
+    let game = c.args.search.now.game in
     let q : ℕ × ℕ = c.args.pair in
-    let most = c.args.self.now.search.modifiers in
+    let most = c.args.search.now.modifiers in
     let cut = c.in_ok-cut.cut in
-    let size : 200 - length c.push.new.self.items ≡ 200 - (length c.args.self.now.front.items + 1) = ap (λ (n : ℕ). 200 - n) c.push.ensures.len in
-    subst (λ (n : ℕ). CountsForced game cut list_moves later (after q.1) c.args.self.now.search.opened c.list.new.self.search.opened n most) size
-    (made (λ s n. CountsForced game cut list_moves s (after n) c.args.self.now.search.opened c.list.new.self.search.opened (200 - length c.push.new.self.items) most) game c.game-game.result.now c.game-game.ensures.lawful.numbered c.args.self.now.state.state c.apply_at.new.state.state later q c.pair.inside.position c.game-game.ensures.game (ap (λ (x : ℕ × ℕ). x.1) c.pair.view_is) c.apply_at.ensures.applied applied
+    let size : 200 - length c.push.new.self.items ≡ 200 - (length c.args.front.now.items + 1) = ap (λ (n : ℕ). 200 - n) pushed in
+    subst (λ (n : ℕ). CountsForced game cut list_moves later (after q.1) c.args.search.now.opened c.list.new.search.opened n most) size
+    (made (λ s n. CountsForced game cut list_moves s (after n) c.args.search.now.opened c.list.new.search.opened (200 - length c.push.new.self.items) most) game c.game-game.result.now c.game-game.ensures.lawful.numbered c.args.state.now.state c.apply_at.new.state.state later q c.pair.inside.position c.game-game.ensures.game (ap (λ (x : ℕ × ℕ). x.1) c.pair.view_is) c.apply_at.ensures.applied applied
     c.in_ok-cut.ensures.forced)

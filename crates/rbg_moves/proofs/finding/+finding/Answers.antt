@@ -1,0 +1,433 @@
+-- A move that goes on from where one stands.
+use Rattle.std.proofs.Common.{rules, ◌≡◌, ℕ, suc, ◌+◌, ◌-◌, ◌<◌, ◌≤◌, List, ◌∷◌, [], ◌++◌, length, false, refl, sym, ap, ◌∙◌, subst, arith}
+use Rattle.std.specs.Prelude.{All, Option, Some, None, IfSome, IfNone}
+use Rattle.std.proofs.lemmas.List.{take_all, length_push}
+use Rattle.rbg_pairs.specs.Move.{most_pairs, IsMoveLength}
+use Rattle.rbg_rules.specs.Positions.{IsSwitchAt}
+use Rattle.rbg_rules.specs.Words.{Start, after}
+use Rattle.rbg_rules.specs.State.{AbstractGame, AbstractState, IsStateOf}
+use Rattle.rbg_rules.specs.Actions.{Applies}
+use Rattle.rbg_rules.specs.Moves.{stand_of, Finished}
+use Rattle.rbg_rules.specs.Places.{IsPlaceOf}
+use Rattle.rbg_rules.specs.Questions.{reach, find_move, IsDeep}
+use Rattle.rbg_rules.specs.Laws.{IsStart}
+use Rattle.rbg_rules.specs.Games.{IsGame}
+use Rattle.rbg_state.specs.History.{History}
+use Rattle.rbg_search.specs.Counting.{CountsOpenings, IsOverBudget}
+use Rattle.std.proofs.lemmas.List.Sorted.{length_permutation}
+use Rattle.rbg_search.specs.Passing.{IsTooDeep, somewhere, CountsUpTo}
+use Rattle.rbg_search.specs.Searching.{Searching}
+use Rattle.rbg_search.specs.Start.{start_of}
+use Rattle.rbg_search.proofs.CallerLemmas.{find_begins, counts_begin, counts_reached, counts_end, over_begin, deep_begin}
+use Rattle.rbg_moves.specs.internal.Stepping.{standing_at, place_behind, IsValidAt, GoesOnBehind}
+use Rattle.rbg_moves.proofs.Steps.{place_start, place_after, next_applies, next_there, next_from, legal_end, none_found, valid_next}
+use Rattle.rbg_moves.proofs.Seeking.{kept_twice, room_twice, part_of, AtPair, at_turn, pair_is, pair_next, pair_plain, pair_applies, pair_row, pair_deep, pair_counts, pair_over, pair_more, behind_found, one_behind, applied_back, deep_as, over_as, counts_as, behind_as, plain_of, nothing_as}
+use Rattle.rbg_rules.specs.Moves.{AbstractPlace}
+use Rattle.rbg_search.specs.Forced.{CountsForced}
+use Rattle.rbg_moves.proofs.Forcing.{TakenSoFar, so_far_begin, so_far_with, found_forced, found_so_far, finished_forced, forced_as}
+use Rattle.rbg_moves.proofs.finding.+finding.Goals as goal
+
+pub find-reach_unordered-requires-clause-stands : goal.find-reach_unordered-requires-clause-stands
+find-reach_unordered-requires-clause-stands g t c =
+    let game = c.args.search.now.game in
+    let s = c.args.state.now.state in
+    let f = stand_of c.args.after in
+    let numbered = c.game-game.ensures.lawful.numbered in
+    subst (IsStart game.rules) (sym c.origin_after.ensures) (place_start game numbered (record { state = s; last = c.args.after }) c.requires.place)
+
+pub find-returns-in_err-reached-clause-deep : goal.find-returns-in_err-reached-clause-deep
+find-returns-in_err-reached-clause-deep g t c e =
+    let game = c.args.search.now.game in
+    let s = c.args.state.now.state in
+    let f = stand_of c.args.after in
+    let numbered = c.game-game.ensures.lawful.numbered in
+    let deep : IsDeep game reach s f c.args.search.now.modifiers = subst (λ (h : Start). IsDeep game reach s h c.args.search.now.modifiers) c.origin_after.ensures (c.reach_unordered.ensures.deep (search rules)) in
+    somewhere (deep_begin game numbered (find_begins game s f) deep)
+
+pub find-returns-in_err-reached-clause-wide : goal.find-returns-in_err-reached-clause-wide
+find-returns-in_err-reached-clause-wide g t c e =
+    let game = c.args.search.now.game in
+    let s = c.args.state.now.state in
+    let f = stand_of c.args.after in
+    let numbered = c.game-game.ensures.lawful.numbered in
+    let wide : IsOverBudget game reach s f c.args.search.now.opened c.args.search.now.openings = subst (λ (h : Start). IsOverBudget game reach s h c.args.search.now.opened c.args.search.now.openings) c.origin_after.ensures (c.reach_unordered.ensures.wide (search rules)) in
+    over_begin game numbered (find_begins game s f) wide
+
+pub find-returns-in-Some-clause-found : goal.find-returns-in-Some-clause-found
+find-returns-in-Some-clause-found g t c =
+    let game = c.args.search.now.game in
+    let s = c.args.state.now.state in
+    let f = stand_of c.args.after in
+    let numbered = c.game-game.ensures.lawful.numbered in
+    let items = c.in_ok-reached.reached.pairs.items in
+    let last = c.in-Some.last in
+    let next = next_from game s f (start_of c.origin_after.result) c.deref.result.now items c.in_ok-reached.reached.ends last c.in_ok-reached.ensures.reached c.origin_after.ensures c.deref.ensures.value c.in-Some.ensures.there in
+    let switches : IsSwitchAt game.rules last.1 = subst (λ (h : AbstractGame). IsSwitchAt h.rules last.1) c.game-game.ensures.game c.in-Some.ensures.switches in
+    record {
+      pairs = last ∷ [];
+      joined = c.in_ok-pairs.ensures ∙ ap (λ (qs : List (ℕ × ℕ)). qs ++ last ∷ []) c.deref-in-Some.ensures.value;
+      legal = (place_behind next.later last.1, legal_end game numbered (record { state = s; last = c.args.after }) last.0 last.1 next.later next switches (next_applies game numbered s f last.0 last.1 next));
+    }
+
+pub find-returns-in-Some-clause-counted : goal.find-returns-in-Some-clause-counted
+find-returns-in-Some-clause-counted g t c =
+    let game = c.args.search.now.game in
+    let s = c.args.state.now.state in
+    let f = stand_of c.args.after in
+    let numbered = c.game-game.ensures.lawful.numbered in
+    subst (λ (x : Searching). CountsOpenings game find_move s f c.args.search.now.opened x.opened) (sym c.reuse.ensures)
+    (counts_reached game numbered (find_begins game s f) (subst (λ (h : Start). CountsOpenings game reach s h c.args.search.now.opened c.reach_unordered.new.self.opened) c.origin_after.ensures c.reach_unordered.ensures.counted))
+
+pub find-loop-index-init : goal.find-loop-index-init
+find-loop-index-init g t c =
+    let game = c.args.search.now.game in
+    let s = c.args.state.now.state in
+    let f = stand_of c.args.after in
+    let numbered = c.game-game.ensures.lawful.numbered in
+    let items = c.in_ok-reached.reached.pairs.items in
+    let size : c.len-index-end.result ≡ length items = omega (arith, c.len-index-end.ensures, c.in_ok-reached.reached.pairs.ok.0) in
+    record {
+      part = part_of game s f (start_of c.origin_after.result) items items c.in_ok-reached.reached.ends c.in_ok-reached.ensures.reached c.origin_after.ensures refl;
+      plain = plain_of game c.game-game.result.now items c.deref.result.now items c.game-game.ensures.game c.deref.ensures.value refl c.in_default.ensures.none;
+      size = sym size;
+      search = c.reach_unordered.ensures.kept;
+      state = c.reach_unordered.ensures.given_back;
+      room = c.reach_unordered.ensures.room;
+      enough = c.in_ok-reached.ensures.enough;
+      front = refl;
+      nothing = λ k d below later applied. absurd (omega (arith, below));
+      counted = counts_begin game numbered (find_begins game s f) (subst (λ (h : Start). CountsOpenings game reach s h c.args.search.now.opened c.reach_unordered.new.self.opened) c.origin_after.ensures c.reach_unordered.ensures.counted);
+      forced =
+          let left = most_pairs - length c.args.front.now.items in
+          so_far_begin game numbered find_move s f c.args.search.now.opened c.reach_unordered.new.self.opened left c.args.search.now.modifiers
+          (subst (λ (h : Start). CountsForced game false reach s h c.args.search.now.opened c.reach_unordered.new.self.opened left c.args.search.now.modifiers) c.origin_after.ensures (c.in_ok-reached.ensures.forced false left));
+    }
+
+pub find-index-requires : goal.find-index-requires
+find-index-requires g t c =
+    let same = length_permutation c.loop-index.reached.pairs.items c.put_in_turn.new.pairs.items c.put_in_turn.ensures.permutation in
+    omega (arith, c.loop-index-test.true, c.loop-index.invariant.size, same, c.put_in_turn.new.pairs.ok.0)
+
+pub find-returns-then-len-eq-MAX_PAIRS-clause-deep : goal.find-returns-then-len-eq-MAX_PAIRS-clause-deep
+find-returns-then-len-eq-MAX_PAIRS-clause-deep g t c _ =
+    let game = c.args.search.now.game in
+    let s = c.args.state.now.state in
+    let f = stand_of c.args.after in
+    let numbered = c.game-game.ensures.lawful.numbered in
+    let xs : List (ℕ × ℕ) = c.put_in_turn.new.pairs.items in
+    let ends = c.loop-index.reached.ends in
+    let k = c.loop-index.index in
+    let q : ℕ × ℕ = c.index.result.now in
+    let here : AtPair game s f xs ends k q = at_turn game s f c.loop-index.reached.pairs.items xs ends k c.len-index-end.result q c.game-game.ensures.lawful c.loop-index.invariant.part c.loop-index.invariant.plain c.loop-index.invariant.size c.loop-index-test.true c.put_in_turn.ensures.permutation c.index.ensures in
+    let same : length c.loop-index.front.items ≡ length c.args.front.now.items = ap length c.loop-index.invariant.front in
+    let one : 1 ≡ most_pairs - length c.args.front.now.items = omega (arith, same, c.len.ensures, c.loop-index.front.ok.0, c.if-len-eq-MAX_PAIRS.true) in
+    subst (λ (n : ℕ). IsTooDeep game find_move s f n c.args.search.now.modifiers) one (pair_row game s f xs ends k q here c.args.search.now.modifiers)
+
+pub find-find_behind-requires : goal.find-find_behind-requires
+find-find_behind-requires g t c κs within =
+    let game = c.args.search.now.game in
+    let s = c.args.state.now.state in
+    let f = stand_of c.args.after in
+    let numbered = c.game-game.ensures.lawful.numbered in
+    let xs : List (ℕ × ℕ) = c.put_in_turn.new.pairs.items in
+    let ends = c.loop-index.reached.ends in
+    let k = c.loop-index.index in
+    let q : ℕ × ℕ = c.index.result.now in
+    let here : AtPair game s f xs ends k q = at_turn game s f c.loop-index.reached.pairs.items xs ends k c.len-index-end.result q c.game-game.ensures.lawful c.loop-index.invariant.part c.loop-index.invariant.plain c.loop-index.invariant.size c.loop-index-test.true c.put_in_turn.ensures.permutation c.index.ensures in
+    let v = q.0 in
+    let p = q.1 in
+    let next = pair_next game s f xs ends k q here in
+    let now = c.loop-index in
+    let there : now.state.state ≡ s = ap (λ (x : History). x.state) c.loop-index.invariant.state in
+    let applied = applied_back game c.game-game.result.now s now.state.state next.later v p c.game-game.ensures.game there (pair_applies game s f xs ends k q here) in
+    let same : c.game-game.result.now ≡ now.search.game = c.game-game.ensures.game ∙ sym (ap (λ (x : Searching). x.game) c.loop-index.invariant.search) in
+    let fits : IsStateOf c.game-game.result.now now.state.state = subst (λ (u : AbstractState). IsStateOf c.game-game.result.now u) (sym there) (subst (λ (h : AbstractGame). IsStateOf h s) (sym c.game-game.ensures.game) c.requires.place.state) in
+    let valid0 = valid_next game numbered s f v p (next_there game c.game-game.ensures.lawful s f v p c.requires.place.state next) next in
+    let valid : IsValidAt c.game-game.result.now now.state.state v p = subst (λ (u : AbstractState). IsValidAt c.game-game.result.now u v p) (sym there) (subst (λ (h : AbstractGame). IsValidAt h s v p) (sym c.game-game.ensures.game) valid0) in
+    let front : length now.front.items ≡ length c.args.front.now.items = ap length c.loop-index.invariant.front in
+    let short : length now.front.items + 1 < most_pairs = omega (arith, front, c.requires.short, c.len.ensures, c.loop-index.front.ok.0, c.if-len-eq-MAX_PAIRS.false) in
+    let lawful = subst IsGame (sym c.game-game.ensures.game) c.game-game.ensures.lawful in
+    (search rules, (within, (same, (lawful, (fits, (valid, (c.loop-index.invariant.enough, short)))))))
+
+pub find-returns-in_err-found-clause-deep : goal.find-returns-in_err-found-clause-deep
+find-returns-in_err-found-clause-deep g t c e =
+    let game = c.args.search.now.game in
+    let s = c.args.state.now.state in
+    let f = stand_of c.args.after in
+    let numbered = c.game-game.ensures.lawful.numbered in
+    let xs : List (ℕ × ℕ) = c.put_in_turn.new.pairs.items in
+    let ends = c.loop-index.reached.ends in
+    let k = c.loop-index.index in
+    let q : ℕ × ℕ = c.index.result.now in
+    let here : AtPair game s f xs ends k q = at_turn game s f c.loop-index.reached.pairs.items xs ends k c.len-index-end.result q c.game-game.ensures.lawful c.loop-index.invariant.part c.loop-index.invariant.plain c.loop-index.invariant.size c.loop-index-test.true c.put_in_turn.ensures.permutation c.index.ensures in
+    let v = q.0 in
+    let p = q.1 in
+    let next = pair_next game s f xs ends k q here in
+    let now = c.loop-index in
+    let there : now.state.state ≡ s = ap (λ (x : History). x.state) c.loop-index.invariant.state in
+    let applied = applied_back game c.game-game.result.now s now.state.state next.later v p c.game-game.ensures.game there (pair_applies game s f xs ends k q here) in
+    let n = length c.args.front.now.items in
+    let most = c.args.search.now.modifiers in
+    let fewer : most_pairs - (length now.front.items + 1) ≡ most_pairs - (n + 1) = ap (λ (qs : List (ℕ × ℕ)). most_pairs - (length qs + 1)) c.loop-index.invariant.front in
+    let limit : now.search.modifiers ≡ most = ap (λ (x : Searching). x.modifiers) c.loop-index.invariant.search in
+    let deep = deep_as game c.game-game.result.now next.later p (most_pairs - (n + 1)) _ most _ c.game-game.ensures.game fewer limit (c.find_behind.ensures.deep (search rules) next.later applied) in
+    let more : suc (most_pairs - (n + 1)) ≡ most_pairs - n = omega (arith, c.requires.short) in
+    subst (λ (m : ℕ). IsTooDeep game find_move s f m most) more (pair_deep game s f xs ends k q here (most_pairs - (n + 1)) most deep)
+
+pub find-returns-in_err-found-clause-wide : goal.find-returns-in_err-found-clause-wide
+find-returns-in_err-found-clause-wide g t c e =
+    let game = c.args.search.now.game in
+    let s = c.args.state.now.state in
+    let f = stand_of c.args.after in
+    let numbered = c.game-game.ensures.lawful.numbered in
+    let xs : List (ℕ × ℕ) = c.put_in_turn.new.pairs.items in
+    let ends = c.loop-index.reached.ends in
+    let k = c.loop-index.index in
+    let q : ℕ × ℕ = c.index.result.now in
+    let here : AtPair game s f xs ends k q = at_turn game s f c.loop-index.reached.pairs.items xs ends k c.len-index-end.result q c.game-game.ensures.lawful c.loop-index.invariant.part c.loop-index.invariant.plain c.loop-index.invariant.size c.loop-index-test.true c.put_in_turn.ensures.permutation c.index.ensures in
+    let v = q.0 in
+    let p = q.1 in
+    let next = pair_next game s f xs ends k q here in
+    let now = c.loop-index in
+    let there : now.state.state ≡ s = ap (λ (x : History). x.state) c.loop-index.invariant.state in
+    let applied = applied_back game c.game-game.result.now s now.state.state next.later v p c.game-game.ensures.game there (pair_applies game s f xs ends k q here) in
+    let limit : now.search.openings ≡ c.args.search.now.openings = ap (λ (x : Searching). x.openings) c.loop-index.invariant.search in
+    let wide = over_as game c.game-game.result.now next.later p now.search.opened c.args.search.now.openings _ c.game-game.ensures.game limit (c.find_behind.ensures.wide (search rules) next.later applied) in
+    pair_over game s f xs ends k q here c.args.search.now.opened now.search.opened c.args.search.now.openings (subst (λ (ds : List (ℕ × ℕ)). CountsUpTo game find_move s f ds c.args.search.now.opened c.loop-index.search.opened) (sym c.put_in_turn.ensures.before) c.loop-index.invariant.counted) wide
+
+pub find-returns-clause-none : goal.find-returns-clause-none
+find-returns-clause-none g t c =
+    let game = c.args.search.now.game in
+    let s = c.args.state.now.state in
+    let f = stand_of c.args.after in
+    let numbered = c.game-game.ensures.lawful.numbered in
+    let xs : List (ℕ × ℕ) = c.loop-index.reached.pairs.items in
+    let ends = c.loop-index.reached.ends in
+    let k = c.loop-index.index in
+    let all_taken : length xs ≤ k = omega (arith, c.loop-index-test.false, c.loop-index.invariant.size) in
+    let all = subst (All (λ (q : ℕ × ℕ). (later : AbstractState) → Applies game q.1 (standing_at s q.0) later → Finished game (place_behind later q.1))) (take_all k xs all_taken) c.loop-index.invariant.nothing in
+    none_found game numbered (record { state = s; last = c.args.after }) f xs ends c.loop-index.invariant.part refl c.loop-index.invariant.plain all
+
+pub find_behind-find-requires : goal.find_behind-find-requires
+find_behind-find-requires g t c κs within =
+    let pushed : length c.push.new.self.items ≡ length c.args.front.now.items + 1 = ap (λ (ys : List (ℕ × ℕ)). length ys) c.in_ok-push.ensures.items ∙ length_push c.args.front.now.items (c.args.vertex, c.args.position) in
+    let game = c.args.game.now in
+    let place0 : IsPlaceOf game (place_behind c.apply_at.new.state.state c.args.position) = place_after game c.requires.lawful.numbered c.apply_at.new.state.state c.args.position c.requires.valid.modifies c.apply_at.ensures.fits in
+    let place = subst (λ (h : AbstractGame). IsPlaceOf h (place_behind c.apply_at.new.state.state c.args.position)) c.requires.game place0 in
+    let short : length c.push.new.self.items < most_pairs = omega (arith, pushed, c.requires.short) in
+    (search rules, (within, (place, short)))
+
+pub find_behind-returns-in_err-found-clause-deep : goal.find_behind-returns-in_err-found-clause-deep
+find_behind-returns-in_err-found-clause-deep g t c e later applied =
+    let pushed : length c.push.new.self.items ≡ length c.args.front.now.items + 1 = ap (λ (ys : List (ℕ × ℕ)). length ys) c.in_ok-push.ensures.items ∙ length_push c.args.front.now.items (c.args.vertex, c.args.position) in
+    let game = c.args.game.now in
+    let most = c.args.search.now.modifiers in
+    let left = most_pairs - (length c.args.front.now.items + 1) in
+    let fewer : most_pairs - length c.push.new.self.items ≡ left = ap (λ (n : ℕ). most_pairs - n) pushed in
+    let deep = deep_as game c.args.search.now.game c.apply_at.new.state.state c.args.position left _ most most (sym c.requires.game) fewer refl (c.find.ensures.deep (search rules)) in
+    one_behind game c.requires.lawful.numbered c.args.position (standing_at c.args.state.now.state c.args.vertex) c.apply_at.new.state.state later (λ (u : AbstractState). IsTooDeep game find_move u (after c.args.position) left most) c.apply_at.ensures.applied applied deep
+
+pub find_behind-returns-in_err-found-clause-wide : goal.find_behind-returns-in_err-found-clause-wide
+find_behind-returns-in_err-found-clause-wide g t c e later applied =
+    let game = c.args.game.now in
+    let most = c.args.search.now.openings in
+    let wide = over_as game c.args.search.now.game c.apply_at.new.state.state c.args.position c.args.search.now.opened most most (sym c.requires.game) refl (c.find.ensures.wide (search rules)) in
+    one_behind game c.requires.lawful.numbered c.args.position (standing_at c.args.state.now.state c.args.vertex) c.apply_at.new.state.state later (λ (u : AbstractState). IsOverBudget game find_move u (after c.args.position) c.args.search.now.opened most) c.apply_at.ensures.applied applied wide
+
+none_then : {X : Type 0} (o : Option X) (P Q : Type 0) → (P → Q) → IfNone o P → IfNone o Q
+none_then None P Q f fact = f fact
+none_then (Some x) P Q f fact = fact
+
+pub find_behind-returns-clause-none : goal.find_behind-returns-clause-none
+find_behind-returns-clause-none g t c =
+    let game = c.args.game.now in
+    let p = c.args.position in
+    none_then c.in_ok-found.found (Finished c.args.search.now.game (place_behind c.apply_at.new.state.state p))
+    ((later : AbstractState) → Applies game p (standing_at c.args.state.now.state c.args.vertex) later → Finished game (place_behind later p))
+    (λ fact later applied. one_behind game c.requires.lawful.numbered p (standing_at c.args.state.now.state c.args.vertex) c.apply_at.new.state.state later (λ (u : AbstractState). Finished game (place_behind u p)) c.apply_at.ensures.applied applied
+    (subst (λ (h : AbstractGame). Finished h (place_behind c.apply_at.new.state.state p)) (sym c.requires.game) fact))
+    c.in_ok-found.ensures.none
+
+pub find_behind-returns-clause-counted : goal.find_behind-returns-clause-counted
+find_behind-returns-clause-counted g t c later applied =
+    let game = c.args.game.now in
+    let p = c.args.position in
+    one_behind game c.requires.lawful.numbered p (standing_at c.args.state.now.state c.args.vertex) c.apply_at.new.state.state later (λ (u : AbstractState). CountsOpenings game find_move u (after p) c.args.search.now.opened c.find.new.search.opened) c.apply_at.ensures.applied applied
+    (counts_as game c.args.search.now.game c.apply_at.new.state.state p c.args.search.now.opened c.find.new.search.opened (sym c.requires.game) c.in_ok-found.ensures.counted)
+
+none_at : {X : Type 0} (o : Option X) (P : Type 0) → o ≡ None → IfNone o P → P
+none_at None P e fact = fact
+none_at (Some x) P e fact = absurd cc
+
+some_at : {X : Type 0} (o : Option X) (x : X) (P : X → Type 0) → o ≡ Some x → IfSome o P → P x
+some_at None x P e fact = absurd cc
+some_at (Some y) x P e fact = let same : y ≡ x = cc in subst P same fact
+
+pub find-returns-in-Some-found-clause-found : goal.find-returns-in-Some-found-clause-found
+find-returns-in-Some-found-clause-found g t c =
+    let game = c.args.search.now.game in
+    let s = c.args.state.now.state in
+    let f = stand_of c.args.after in
+    let numbered = c.game-game.ensures.lawful.numbered in
+    let xs : List (ℕ × ℕ) = c.put_in_turn.new.pairs.items in
+    let ends = c.loop-index.reached.ends in
+    let k = c.loop-index.index in
+    let q : ℕ × ℕ = c.index.result.now in
+    let here : AtPair game s f xs ends k q = at_turn game s f c.loop-index.reached.pairs.items xs ends k c.len-index-end.result q c.game-game.ensures.lawful c.loop-index.invariant.part c.loop-index.invariant.plain c.loop-index.invariant.size c.loop-index-test.true c.put_in_turn.ensures.permutation c.index.ensures in
+    let v = q.0 in
+    let p = q.1 in
+    let next = pair_next game s f xs ends k q here in
+    let now = c.loop-index in
+    let there : now.state.state ≡ s = ap (λ (x : History). x.state) c.loop-index.invariant.state in
+    let applied = applied_back game c.game-game.result.now s now.state.state next.later v p c.game-game.ensures.game there (pair_applies game s f xs ends k q here) in
+    let behind = some_at c.in_ok-found.found c.in-Some-found.pairs (λ pairs. GoesOnBehind c.game-game.result.now now.state.state v p now.front.items pairs.items) c.in-Some-found.is c.in_ok-found.ensures.found in
+    behind_found game numbered (record { state = s; last = c.args.after }) v p c.args.front.now.items c.in-Some-found.pairs.items next (pair_plain game s f xs ends k q here)
+    (behind_as game c.game-game.result.now s now.state.state v p c.args.front.now.items now.front.items c.in-Some-found.pairs.items c.game-game.ensures.game there c.loop-index.invariant.front behind)
+
+pub find-returns-in-Some-found-clause-counted : goal.find-returns-in-Some-found-clause-counted
+find-returns-in-Some-found-clause-counted g t c =
+    let game = c.args.search.now.game in
+    let s = c.args.state.now.state in
+    let f = stand_of c.args.after in
+    let numbered = c.game-game.ensures.lawful.numbered in
+    let xs : List (ℕ × ℕ) = c.put_in_turn.new.pairs.items in
+    let ends = c.loop-index.reached.ends in
+    let k = c.loop-index.index in
+    let q : ℕ × ℕ = c.index.result.now in
+    let here : AtPair game s f xs ends k q = at_turn game s f c.loop-index.reached.pairs.items xs ends k c.len-index-end.result q c.game-game.ensures.lawful c.loop-index.invariant.part c.loop-index.invariant.plain c.loop-index.invariant.size c.loop-index-test.true c.put_in_turn.ensures.permutation c.index.ensures in
+    let v = q.0 in
+    let p = q.1 in
+    let next = pair_next game s f xs ends k q here in
+    let now = c.loop-index in
+    let there : now.state.state ≡ s = ap (λ (x : History). x.state) c.loop-index.invariant.state in
+    let applied = applied_back game c.game-game.result.now s now.state.state next.later v p c.game-game.ensures.game there (pair_applies game s f xs ends k q here) in
+    let counted = counts_as game c.game-game.result.now next.later p now.search.opened c.find_behind.new.search.opened c.game-game.ensures.game (c.in_ok-found.ensures.counted next.later applied) in
+    subst (λ (x : Searching). CountsOpenings game find_move s f c.args.search.now.opened x.opened) (sym c.reuse-in-Some-found.ensures)
+    (counts_end game numbered (pair_counts game s f xs ends k q here c.args.search.now.opened now.search.opened c.find_behind.new.search.opened (subst (λ (ds : List (ℕ × ℕ)). CountsUpTo game find_move s f ds c.args.search.now.opened c.loop-index.search.opened) (sym c.put_in_turn.ensures.before) c.loop-index.invariant.counted) counted))
+
+pub find-loop-index-preserved : goal.find-loop-index-preserved
+find-loop-index-preserved g t c =
+    let game = c.args.search.now.game in
+    let s = c.args.state.now.state in
+    let f = stand_of c.args.after in
+    let numbered = c.game-game.ensures.lawful.numbered in
+    let xs : List (ℕ × ℕ) = c.put_in_turn.new.pairs.items in
+    let ends = c.loop-index.reached.ends in
+    let k = c.loop-index.index in
+    let q : ℕ × ℕ = c.index.result.now in
+    let here : AtPair game s f xs ends k q = at_turn game s f c.loop-index.reached.pairs.items xs ends k c.len-index-end.result q c.game-game.ensures.lawful c.loop-index.invariant.part c.loop-index.invariant.plain c.loop-index.invariant.size c.loop-index-test.true c.put_in_turn.ensures.permutation c.index.ensures in
+    let v = q.0 in
+    let p = q.1 in
+    let next = pair_next game s f xs ends k q here in
+    let now = c.loop-index in
+    let there : now.state.state ≡ s = ap (λ (x : History). x.state) c.loop-index.invariant.state in
+    let applied = applied_back game c.game-game.result.now s now.state.state next.later v p c.game-game.ensures.game there (pair_applies game s f xs ends k q here) in
+    let nothing = none_at c.in_ok-found.found ((later : AbstractState) → Applies c.game-game.result.now p (standing_at now.state.state v) later → Finished c.game-game.result.now (place_behind later p)) c.in_default-found.is c.in_ok-found.ensures.none in
+    record {
+      part = here.part;
+      plain = here.plain;
+      size = length_permutation c.loop-index.reached.pairs.items xs c.put_in_turn.ensures.permutation ∙ c.loop-index.invariant.size;
+      search = kept_twice c.args.search.now now.search c.find_behind.new.search c.loop-index.invariant.search c.find_behind.ensures.search;
+      state = room_twice c.args.state.now now.state c.find_behind.new.state c.loop-index.invariant.state c.in_ok-found.ensures.state;
+      room = omega (arith, c.loop-index.invariant.room, c.in_ok-found.ensures.room);
+      enough = omega (arith, c.loop-index.invariant.enough, c.in_ok-found.ensures.room);
+      front = c.in_ok-found.ensures.front ∙ c.loop-index.invariant.front;
+      nothing = pair_more game s f xs ends k q here (λ (q : ℕ × ℕ). (later : AbstractState) → Applies game q.1 (standing_at s q.0) later → Finished game (place_behind later q.1)) (subst (All (λ (q : ℕ × ℕ). (later : AbstractState) → Applies game q.1 (standing_at s q.0) later → Finished game (place_behind later q.1))) (sym c.put_in_turn.ensures.before) c.loop-index.invariant.nothing) (nothing_as game c.game-game.result.now s now.state.state v p c.game-game.ensures.game there nothing);
+      counted = pair_counts game s f xs ends k q here c.args.search.now.opened now.search.opened c.find_behind.new.search.opened (subst (λ (ds : List (ℕ × ℕ)). CountsUpTo game find_move s f ds c.args.search.now.opened c.loop-index.search.opened) (sym c.put_in_turn.ensures.before) c.loop-index.invariant.counted) (counts_as game c.game-game.result.now next.later p now.search.opened c.find_behind.new.search.opened c.game-game.ensures.game (c.in_ok-found.ensures.counted next.later applied));
+      forced =
+          let n = length c.args.front.now.items in
+          let size : length now.front.items ≡ n = ap (λ (ys : List (ℕ × ℕ)). length ys) c.loop-index.invariant.front in
+          let limit : now.search.modifiers ≡ c.args.search.now.modifiers = ap (λ (x : Searching). x.modifiers) c.loop-index.invariant.search in
+          let more_left : 1 < most_pairs - n = omega (arith, size, c.requires.short, c.len.ensures, c.loop-index.front.ok.0, c.if-len-eq-MAX_PAIRS.false) in
+          let fewer : most_pairs - (length now.front.items + 1) ≡ (most_pairs - n) - 1 = omega (arith, size) in
+          so_far_with game numbered find_move s f xs k q next.later c.args.search.now.opened now.search.opened c.find_behind.new.search.opened (most_pairs - n) c.args.search.now.modifiers (pair_is game s f xs ends k q here) here.under (pair_applies game s f xs ends k q here) more_left (subst (λ (ds : List (ℕ × ℕ)). TakenSoFar game find_move s f ds c.args.search.now.opened c.loop-index.search.opened (most_pairs - length c.args.front.now.items) c.args.search.now.modifiers) (sym c.put_in_turn.ensures.before) c.loop-index.invariant.forced)
+          (forced_as game c.game-game.result.now false find_move next.later (after p) now.search.opened c.find_behind.new.search.opened _ _ _ _ c.game-game.ensures.game fewer limit (c.in_ok-found.ensures.forced next.later applied));
+    }
+
+-- ---- what is forced
+
+pub find-returns-in-Some-clause-forced : goal.find-returns-in-Some-clause-forced
+find-returns-in-Some-clause-forced g t c =
+    let game = c.args.search.now.game in
+    let s = c.args.state.now.state in
+    let f = stand_of c.args.after in
+    let numbered = c.game-game.ensures.lawful.numbered in
+    let items = c.in_ok-reached.reached.pairs.items in
+    let last = c.in-Some.last in
+    let left = most_pairs - length c.args.front.now.items in
+    let most = c.args.search.now.modifiers in
+    let place : AbstractPlace = record { state = s; last = c.args.after } in
+    let next = next_from game s f (start_of c.origin_after.result) c.deref.result.now items c.in_ok-reached.reached.ends last c.in_ok-reached.ensures.reached c.origin_after.ensures c.deref.ensures.value c.in-Some.ensures.there in
+    let switches : IsSwitchAt game.rules last.1 = subst (λ (h : AbstractGame). IsSwitchAt h.rules last.1) c.game-game.ensures.game c.in-Some.ensures.switches in
+    let legal = legal_end game numbered place last.0 last.1 next.later next switches (next_applies game numbered s f last.0 last.1 next) in
+    subst (λ (x : Searching). CountsForced game false find_move s f c.args.search.now.opened x.opened left most) (sym c.reuse.ensures)
+    (found_forced game numbered place (last ∷ []) c.args.search.now.opened c.reach_unordered.new.self.opened c.reach_unordered.new.self.opened left most (place_behind next.later last.1, legal) (omega arith)
+    (subst (λ (h : Start). CountsForced game false reach s h c.args.search.now.opened c.reach_unordered.new.self.opened left most) c.origin_after.ensures (c.in_ok-reached.ensures.forced false left)))
+
+pub find-returns-in-Some-found-clause-forced : goal.find-returns-in-Some-found-clause-forced
+find-returns-in-Some-found-clause-forced g t c =
+    let game = c.args.search.now.game in
+    let s = c.args.state.now.state in
+    let f = stand_of c.args.after in
+    let numbered = c.game-game.ensures.lawful.numbered in
+    let xs : List (ℕ × ℕ) = c.put_in_turn.new.pairs.items in
+    let ends = c.loop-index.reached.ends in
+    let k = c.loop-index.index in
+    let q : ℕ × ℕ = c.index.result.now in
+    let here : AtPair game s f xs ends k q = at_turn game s f c.loop-index.reached.pairs.items xs ends k c.len-index-end.result q c.game-game.ensures.lawful c.loop-index.invariant.part c.loop-index.invariant.plain c.loop-index.invariant.size c.loop-index-test.true c.put_in_turn.ensures.permutation c.index.ensures in
+    let v = q.0 in
+    let p = q.1 in
+    let next = pair_next game s f xs ends k q here in
+    let now = c.loop-index in
+    let there : now.state.state ≡ s = ap (λ (x : History). x.state) c.loop-index.invariant.state in
+    let applied = applied_back game c.game-game.result.now s now.state.state next.later v p c.game-game.ensures.game there (pair_applies game s f xs ends k q here) in
+    let behind = some_at c.in_ok-found.found c.in-Some-found.pairs (λ pairs. GoesOnBehind c.game-game.result.now now.state.state v p now.front.items pairs.items) c.in-Some-found.is c.in_ok-found.ensures.found in
+    let found = behind_found game numbered (record { state = s; last = c.args.after }) v p c.args.front.now.items c.in-Some-found.pairs.items next (pair_plain game s f xs ends k q here)
+    (behind_as game c.game-game.result.now s now.state.state v p c.args.front.now.items now.front.items c.in-Some-found.pairs.items c.game-game.ensures.game there c.loop-index.invariant.front behind) in
+    let more = c.in_ok-found.ensures.forced next.later applied in
+    subst (λ (x : Searching). CountsForced game false find_move s f c.args.search.now.opened x.opened (most_pairs - length c.args.front.now.items) c.args.search.now.modifiers) (sym c.reuse-in-Some-found.ensures)
+    (found_so_far game numbered (record { state = s; last = c.args.after }) found.pairs _ c.args.search.now.opened now.search.opened c.find_behind.new.search.opened (most_pairs - length c.args.front.now.items) c.args.search.now.modifiers found.legal (subst (λ (ds : List (ℕ × ℕ)). TakenSoFar game find_move s f ds c.args.search.now.opened c.loop-index.search.opened (most_pairs - length c.args.front.now.items) c.args.search.now.modifiers) (sym c.put_in_turn.ensures.before) c.loop-index.invariant.forced) (omega (arith, more.fits)))
+
+pub find-returns-clause-forced : goal.find-returns-clause-forced
+find-returns-clause-forced g t c =
+    let game = c.args.search.now.game in
+    let s = c.args.state.now.state in
+    let f = stand_of c.args.after in
+    let numbered = c.game-game.ensures.lawful.numbered in
+    let a = c.args.search.now.opened in
+    let left = most_pairs - length c.args.front.now.items in
+    let most = c.args.search.now.modifiers in
+    let place : AbstractPlace = record { state = s; last = c.args.after } in
+    let xs : List (ℕ × ℕ) = c.loop-index.reached.pairs.items in
+    let ends = c.loop-index.reached.ends in
+    let k = c.loop-index.index in
+    let all_taken : length xs ≤ k = omega (arith, c.loop-index-test.false, c.loop-index.invariant.size) in
+    let all = subst (All (λ (q : ℕ × ℕ). (later : AbstractState) → Applies game q.1 (standing_at s q.0) later → Finished game (place_behind later q.1))) (take_all k xs all_taken) c.loop-index.invariant.nothing in
+    let finished = none_found game numbered place f xs ends c.loop-index.invariant.part refl c.loop-index.invariant.plain all in
+    let taken = subst (λ (ds : List (ℕ × ℕ)). TakenSoFar game find_move s f ds a c.loop-index.search.opened left most) (take_all k xs all_taken) c.loop-index.invariant.forced in
+    let counts = finished_forced game numbered place xs ends a c.loop-index.search.opened left most finished c.loop-index.invariant.part taken in
+    subst (λ (x : Searching). CountsForced game false find_move s f a x.opened left most) (sym c.reuse-2.ensures) counts
+
+pub find_behind-returns-clause-forced : goal.find_behind-returns-clause-forced
+find_behind-returns-clause-forced g t c later applied =
+    let pushed : length c.push.new.self.items ≡ length c.args.front.now.items + 1 = ap (λ (ys : List (ℕ × ℕ)). length ys) c.in_ok-push.ensures.items ∙ length_push c.args.front.now.items (c.args.vertex, c.args.position) in
+    let game = c.args.game.now in
+    let p = c.args.position in
+    let most = c.args.search.now.modifiers in
+    let left = most_pairs - (length c.args.front.now.items + 1) in
+    let fewer : most_pairs - length c.push.new.self.items ≡ left = ap (λ (n : ℕ). most_pairs - n) pushed in
+    one_behind game c.requires.lawful.numbered p (standing_at c.args.state.now.state c.args.vertex) c.apply_at.new.state.state later (λ (u : AbstractState). CountsForced game false find_move u (after p) c.args.search.now.opened c.find.new.search.opened left most) c.apply_at.ensures.applied applied
+    (forced_as game c.args.search.now.game false find_move c.apply_at.new.state.state (after p) c.args.search.now.opened c.find.new.search.opened _ _ _ _ (sym c.requires.game) fewer refl c.in_ok-found.ensures.forced)
+
+-- ---- how long the move is
+
+pub find-returns-in-Some-clause-length : goal.find-returns-in-Some-clause-length
+find-returns-in-Some-clause-length g t c =
+    let front : List (ℕ × ℕ) = c.args.front.now.items in
+    let whole : c.in_ok-pairs.pairs.items ≡ front ++ c.in-Some.last ∷ [] = c.in_ok-pairs.ensures ∙ ap (λ (qs : List (ℕ × ℕ)). qs ++ c.in-Some.last ∷ []) c.deref-in-Some.ensures.value in
+    let size : length c.in_ok-pairs.pairs.items ≡ length front + 1 = ap (λ (qs : List (ℕ × ℕ)). length qs) whole ∙ length_push front c.in-Some.last in
+    (omega (arith, size), omega (arith, size, c.requires.short))
+
+pub find-returns-in-Some-found-clause-length : goal.find-returns-in-Some-found-clause-length
+find-returns-in-Some-found-clause-length g t c =
+    some_at c.in_ok-found.found c.in-Some-found.pairs (λ pairs. IsMoveLength (length pairs.items)) c.in-Some-found.is c.in_ok-found.ensures.length
