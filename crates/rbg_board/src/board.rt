@@ -66,7 +66,52 @@ impl Board {
         self.first[vertex as usize]
     }
 
+    /// The same board, lent as slices.
+    pub fn lend(&self) -> LentBoard<'_>
+        ensures { result ≡ self.now }
+    {
+        LentBoard {
+            first: &self.first,
+            width: self.width,
+            table: &self.table,
+        }
+    }
+
     /// The vertex to which a direction leads, or None if it leads nowhere.
+    pub fn step(&self, vertex: Vertex, direction: Direction) -> Option<Vertex>
+        requires { vertex < length self.now.first }
+        ensures next { result ≡ next self.now vertex direction }
+        ensures is_vertex { IfSome result (λ to. to < length self.now.first) }
+    {
+        self.lend().step(vertex, direction)
+    }
+}
+
+/// A board that is lent as slices. A loop that takes many steps keeps it as a local, so that what it needs stays at
+/// hand.
+#[derive(Debug, Drop)]
+pub struct LentBoard<'a> {
+    first: &'a [Piece],
+    width: usize,
+    table: &'a [Option<Vertex>],
+}
+
+impl<'a> Model for LentBoard<'a> {
+    ghost use Rattle.rbg_board.specs.Graph.{Graph};
+
+    ghost Value = { Graph };
+
+    ghost use Rattle.rbg_board.specs.Table.{graph_of_table, IsTable};
+    ghost use Rattle.std.specs.Prelude.{length};
+
+    ghost view = { λ b. graph_of_table b.first.now b.width b.table.now };
+
+    ghost invariant = { λ b. IsTable (length b.first.now) b.width b.table.now };
+}
+
+impl<'a> LentBoard<'a> {
+    /// The vertex to which a direction leads, or None if it leads nowhere.
+    #[inline(always)]
     pub fn step(&self, vertex: Vertex, direction: Direction) -> Option<Vertex>
         requires { vertex < length self.now.first }
         ensures next { result ≡ next self.now vertex direction }

@@ -13,7 +13,7 @@ pub mod laws;
 mod rectangles;
 mod rows;
 
-pub use board::{Board, MAX_VERTICES};
+pub use board::{Board, LentBoard, MAX_VERTICES};
 pub use error::BoardError;
 pub use graphs::{Cell, graph};
 pub use hexagons::hexagon;

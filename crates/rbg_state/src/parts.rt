@@ -95,6 +95,12 @@ impl Parts {
         self.occupancy.pieces()[vertex as usize]
     }
 
+    pub(crate) fn pieces(&self) -> &[Piece]
+        ensures { result.now ≡ self.now.pieces }
+    {
+        self.occupancy.pieces()
+    }
+
     pub(crate) fn count(&self, piece: Piece) -> usize
         ensures { result ≡ count_by (λ x. x == piece) self.now.pieces }
     {

@@ -106,6 +106,13 @@ impl SemiState {
         self.parts.piece(vertex)
     }
 
+    /// The piece on each vertex.
+    pub fn pieces(&self) -> &[Piece]
+        ensures { result.now ≡ self.now.state.pieces }
+    {
+        self.parts.pieces()
+    }
+
     /// What a variable holds.
     pub fn value(&self, variable: Variable) -> u32
         requires { variable < length self.now.state.values }
