@@ -1,5 +1,5 @@
 -- The table of a game's rules has their steps.
-use Rattle.std.proofs.Common.{◌≡◌, ℕ, zero, suc, ◌+◌, ◌<◌, ◌⊎◌, List, [], length, get_or, refl, sym, ap, ◌∙◌, subst, inl, inr, Bool, arith}
+use Rattle.std.proofs.Common.{◌≡◌, ℕ, zero, suc, ◌+◌, ◌<◌, ◌⊎◌, List, [], length, get_or, refl, sym, ap, ◌∙◌, subst, inl, inr, Bool, IsTrue, ◌↔◌, arith}
 use Rattle.std.specs.Prelude.{replicate}
 use Rattle.std.specs.List.{range_with_len}
 use Rattle.rbg_rules.specs.declared.rule.Action.{Action}
@@ -8,31 +8,44 @@ use Rattle.rbg_rules.specs.Expression.{Expression}
 use Rattle.rbg_rules.specs.Positions.{positions_of, IsNumbered}
 use Rattle.rbg_rules.specs.Games.{HasNoEmptySum}
 use Rattle.rbg_rules.specs.Translation.{expression_of}
+use Rattle.rbg_rules.specs.Words.{after, Ends}
 use Rattle.rbg_rules.proofs.PositionLemmas.{Among}
 use Rattle.rbg_auto.specs.declared.span.Node.{Node}
 use Rattle.rbg_auto.specs.declared.span.Opening.{Opening}
 use Rattle.rbg_auto.specs.declared.arrays.Compact.{Compact}
+use Rattle.rbg_auto.specs.declared.lent.Lent.{Lent}
 use Rattle.rbg_auto.specs.declared.table.Table.{Table}
 use Rattle.rbg_auto.specs.declared.steps.Glance.{Glance}
 use Rattle.rbg_auto.specs.declared.steps.Glance.TheVariants.{Unknown}
-use Rattle.rbg_auto.specs.Steps.{AreStepsOf, IsGlance}
+use Rattle.rbg_auto.specs.Steps.{AreStepsOf, AreNext, IsGlance}
+use Rattle.rbg_auto.specs.Lent.{IsLentOf}
 use Rattle.rbg_auto.specs.internal.Laying.{Laid, nothing, IsLawful, first_at, empty_at, IsWhole}
-use Rattle.rbg_auto.specs.internal.Tables.{listed, laid_of, laid_at, told_at, no_node}
+use Rattle.rbg_auto.specs.internal.Tables.{listed, laid_of, next_at, ends_at, told_at, no_node, no_inside, IsNextWithin}
 use Rattle.rbg_auto.specs.internal.Compacts.{IsCompactOf}
 use Rattle.rbg_auto.specs.internal.Walks.{laid_in, told_in, LaysLevel, Tells}
+use Rattle.rbg_auto.proofs.WalkLemmas.{next_within}
 use Rattle.rbg_auto.proofs.WholeLemmas.{numbered_ascends, whole_steps}
 
-get_or-replicate : (n q : ℕ) → get_or (replicate n no_node) q no_node ≡ no_node
-get_or-replicate zero q = refl
-get_or-replicate (suc n) zero = refl
-get_or-replicate (suc n) (suc q) = get_or-replicate n q
+get_or-replicate : {X : Type 0} (x : X) (n q : ℕ) → get_or (replicate n x) q x ≡ x
+get_or-replicate x zero q = refl
+get_or-replicate x (suc n) zero = refl
+get_or-replicate x (suc n) (suc q) = get_or-replicate x n q
 
 length-replicate : (n : ℕ) → length (replicate n no_node) ≡ n
 length-replicate zero = refl
 length-replicate (suc n) = ap suc (length-replicate n)
 
-blank_at : (entries : List ℕ) (nodes : List Node) (n q : ℕ) → nodes ≡ replicate n no_node → entries ≡ [] → laid_at entries nodes q ≡ nothing
-blank_at entries nodes n q is none = ap (λ (ns : List Node). laid_at entries ns q) is ∙ ap (λ (node : Node). laid_of entries node) (get_or-replicate n q) ∙ ap (λ (es : List ℕ). laid_of es no_node) none
+-- Nothing is laid in the table, which has that many nodes.
+pub record IsBlank (t : Table) (n : ℕ) : Type 0 where
+  pub nodes : t.nodes.items ≡ replicate n no_node
+  pub insides : t.insides.items ≡ replicate n no_inside
+  pub entries : t.entries.items ≡ []
+
+blank_at : (t : Table) (n q : ℕ) → IsBlank t n → laid_in t q ≡ nothing
+blank_at t n q blank =
+    let node : get_or t.nodes.items q no_node ≡ no_node = ap (λ (ns : List Node). get_or ns q no_node) blank.nodes ∙ get_or-replicate no_node n q in
+    let inside : get_or t.insides.items q no_inside ≡ no_inside = ap (λ (os : List Opening). get_or os q no_inside) blank.insides ∙ get_or-replicate no_inside n q in
+    ap (λ (m : Node). laid_of t.entries.items m (get_or t.insides.items q no_inside)) node ∙ ap (laid_of t.entries.items no_node) inside ∙ ap (λ (es : List ℕ). laid_of es no_node no_inside) blank.entries
 
 range_below : (first many q : ℕ) → Among q (range_with_len first many) → q < first + many
 range_below first zero q h = absurd h
@@ -42,10 +55,10 @@ range_below first (suc many) q (inr h) = let later : q < first + 1 + many = rang
 pub numbered_below : (x : Expression) → IsNumbered x → (q : ℕ) → Among q (positions_of x) → q < length (positions_of x) + 1
 numbered_below x numbered q h = let below : q < 1 + length (positions_of x) = range_below 1 (length (positions_of x)) q (subst (Among q) numbered.in_order h) in omega (arith, below)
 
-pub compact_steps : (actions : List Action) (tree : Rule) (positions : ℕ) → IsNumbered (expression_of actions tree) → HasNoEmptySum (expression_of actions tree) → positions ≡ length (positions_of (expression_of actions tree)) → (old new : Table) (opening : Opening) → old.nodes.items ≡ replicate (positions + 1) no_node → old.entries.items ≡ [] → LaysLevel old new tree opening → AreStepsOf (expression_of actions tree) (first_at (listed new.entries.items opening.first) (laid_in new)) (λ i. (laid_in new i).next) (λ i. (laid_in new i).may_end) (empty_at opening.may_be_empty (laid_in new))
-compact_steps actions tree positions numbered none count old new opening nodes entries lays =
+pub compact_steps : (actions : List Action) (tree : Rule) (positions : ℕ) → IsNumbered (expression_of actions tree) → HasNoEmptySum (expression_of actions tree) → positions ≡ length (positions_of (expression_of actions tree)) → (old new : Table) (opening : Opening) → IsBlank old (positions + 1) → LaysLevel old new tree opening → AreStepsOf (expression_of actions tree) (first_at (listed new.entries.items opening.first) (laid_in new)) (λ i. (laid_in new i).next) (λ i. (laid_in new i).may_end) (empty_at opening.may_be_empty (laid_in new))
+compact_steps actions tree positions numbered none count old new opening blank lays =
     let x = expression_of actions tree in
-    let size : length old.nodes.items ≡ positions + 1 = ap (λ (ns : List Node). length ns) nodes ∙ length-replicate (positions + 1) in
+    let size : length old.nodes.items ≡ positions + 1 = ap (λ (ns : List Node). length ns) blank.nodes ∙ length-replicate (positions + 1) in
     let lawful : IsLawful (length old.nodes.items) x = record {
       no_empty_sum = none;
       order = numbered_ascends x numbered;
@@ -56,15 +69,33 @@ compact_steps actions tree positions numbered none count old new opening nodes e
       begins = (lays.first actions none).list;
       empty = lays.empty actions none;
       laid = laid.laid;
-      others = λ q h. laid.others q h ∙ blank_at old.entries.items old.nodes.items (positions + 1) q nodes entries;
+      others = λ q h. laid.others q h ∙ blank_at old (positions + 1) q blank;
     } in
     whole_steps x numbered none (listed new.entries.items opening.first) opening.may_be_empty (laid_in new) whole
 
+-- There is a node for each position.
+pub has_each : (tree : Rule) (positions count : ℕ) → positions ≡ count → (old new : Table) (opening : Opening) → IsBlank old (positions + 1) → LaysLevel old new tree opening → count < length new.nodes.items
+has_each tree positions count same old new opening blank lays =
+    let size : length new.nodes.items ≡ positions + 1 = lays.extends.size ∙ ap (λ (ns : List Node). length ns) blank.nodes ∙ length-replicate (positions + 1) in
+    omega (arith, size, same)
+
+-- What the table of an automaton lends of its rules.
+pub lends : (c : Compact) (rules : Expression) → IsCompactOf c rules → (lent : Lent) → lent.nodes.now ≡ c.table.nodes.items → lent.entries.now ≡ c.table.entries.items → IsLentOf rules lent
+lends c rules is lent nodes entries = record {
+  has = λ p below. record {
+    there = subst (λ (ns : List Node). p < length ns) (sym nodes) (omega (arith, below, is.has));
+    within = subst (λ (ns : List Node). IsNextWithin (length lent.entries.now) (get_or ns p no_node)) (sym nodes) (subst (λ (es : List ℕ). IsNextWithin (length es) (get_or c.table.nodes.items p no_node)) (sym entries) (next_within c.table p));
+  };
+  next = λ p. subst (λ (ns : List Node). AreNext rules p (next_at lent.entries.now ns p)) (sym nodes) (subst (λ (es : List ℕ). AreNext rules p (next_at es c.table.nodes.items p)) (sym entries) (is.steps.next_of p));
+  ends = λ p. subst (λ (ns : List Node). IsTrue (ends_at ns p) ↔ Ends rules (after p) []) (sym nodes) (is.steps.ends p);
+  told = λ p. subst (λ (ns : List Node). IsGlance rules p (told_at ns p)) (sym nodes) (is.told p);
+}
+
 -- The walk tells of no action.
-pub untold : (rules : Expression) (tree : Rule) (old new : Table) (opening : Opening) (n : ℕ) → old.nodes.items ≡ replicate n no_node → LaysLevel old new tree opening → (p : ℕ) → IsGlance rules p (told_in new p)
-untold rules tree old new opening n nodes lays p =
-    let blank : told_in old p ≡ Unknown = ap (λ (ns : List Node). told_at ns p) nodes ∙ ap (λ (node : Node). node.glance) (get_or-replicate n p) in
-    subst (IsGlance rules p) (sym (lays.extends.untold p blank)) tt
+pub untold : (rules : Expression) (tree : Rule) (old new : Table) (opening : Opening) (n : ℕ) → IsBlank old n → LaysLevel old new tree opening → (p : ℕ) → IsGlance rules p (told_in new p)
+untold rules tree old new opening n blank lays p =
+    let none : told_in old p ≡ Unknown = ap (λ (ns : List Node). told_at ns p) blank.nodes ∙ ap (λ (node : Node). node.glance) (get_or-replicate no_node n p) in
+    subst (IsGlance rules p) (sym (lays.extends.untold p none)) tt
 
 -- The lists and what is laid are the steps of the rules.
 abbrev StepsBy : Expression → List ℕ → Bool → (ℕ → Laid) → Type 0
@@ -78,6 +109,7 @@ tells_right old new rules p glance opening tells right is = record {
       (subst (λ (entries : List ℕ). StepsBy rules (listed entries old.rules.first) old.rules.may_be_empty (laid_in new.table)) (sym tells.entries)
       (subst (StepsBy rules (listed old.table.entries.items old.rules.first) old.rules.may_be_empty) (sym same) is.steps));
   told = λ q. told q (tells.told q);
+  has = subst (λ (n : ℕ). length (positions_of rules) < n) (sym tells.size) is.has;
 }
   where
     same : laid_in new.table ≡ laid_in old.table

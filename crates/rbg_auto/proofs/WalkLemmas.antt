@@ -1,8 +1,9 @@
 -- What the steps of the walk make of the table.
-use Rattle.std.proofs.Common.{◌≡◌, ℕ, ◌+◌, ◌-◌, ◌<◌, ◌≤◌, List, [], ◌++◌, length, take, drop, get_or, refl, sym, ap, ◌∙◌, subst, Bool, true, false, arith, append_assoc, length-append, length-drop}
+use Rattle.std.proofs.Common.{◌≡◌, ℕ, ◌+◌, ◌-◌, ◌<◌, ◌≤◌, List, [], ◌++◌, length, take, drop, get_or, refl, sym, ap, ◌∙◌, subst, Bool, true, zero, suc, ◌∷◌, All, arith, append_assoc, length-append, length-drop}
 use Rattle.std.specs.Prelude.{Box, Vec, Option, Some, None, slice_range}
 use Rattle.std.specs.Global.{Global}
 use Rattle.std.proofs.lemmas.List.{append-nil, take-append-le, drop-append-le}
+use Rattle.std.proofs.lemmas.List.Elements.{All-head, All-tail}
 use Rattle.rbg_rules.specs.declared.rule.Action.{Action}
 use Rattle.rbg_rules.specs.declared.rule.Rule.{Rule}
 use Rattle.rbg_rules.specs.declared.rule.Rule.TheVariants.{Act, Pattern, Then, Or, Star}
@@ -15,7 +16,7 @@ use Rattle.rbg_auto.specs.declared.table.Table.{Table}
 use Rattle.rbg_auto.specs.internal.Firsts.{firsts}
 use Rattle.rbg_auto.specs.internal.Laying.{IsLawful, Lays}
 use Rattle.rbg_auto.specs.internal.Trees.{GivesFirsts, LaysAll, of_tree, IsBefore, IsAgain}
-use Rattle.rbg_auto.specs.internal.Tables.{IsSpan, AreWithin, listed, Keeps, IsKept, Grows, no_span}
+use Rattle.rbg_auto.specs.internal.Tables.{IsSpan, IsNextWithin, IsFirstWithin, listed, laid_of, Keeps, IsKept, Grows, no_span, no_node, no_inside, laid_at, told_at}
 use Rattle.rbg_auto.specs.internal.Walks.{laid_in, Extends, AddsList, SetsNode, LaysTree, LaysSequence, LaysSum, LaysLevel}
 use Rattle.rbg_auto.proofs.LayTreeLemmas.{plain_laid, pattern_laid, BeginsTree, act_laid, pattern_laid_whole, then_laid, or_laid, star_laid, SumLaid, sum_laid_none, sum_laid_more, sum_laid_all, SequenceOwed, sequence_owed_all, sequence_owed_fewer, sequence_owed_none, resized}
 
@@ -62,15 +63,56 @@ Extends-trans a b c one other = record { entries = Grows-trans a.entries.items b
 pub AddsList-refl : (t : Table) → AddsList t t
 AddsList-refl t = record { extends = Extends-refl t; same = λ q. refl }
 
--- A node without an inside, and one with the inside of a pattern.
-abbrev pub plain_node : Span → Bool → Node
-plain_node s end = record { next = s; may_end = end; glance = Unknown; inside = record { first = no_span; may_be_empty = false } }
+-- What holds of each member of a list, and of what stands in for members that it hasn't, holds at each index.
+all_or : {X : Type 0} (P : X → Type 0) (xs : List X) (i : ℕ) (d : X) → All P xs → P d → P (get_or xs i d)
+all_or P [] i d all one = one
+all_or P (x ∷ xs) zero d all one = All-head P x xs all
+all_or P (x ∷ xs) (suc i) d all one = all_or P xs i d (All-tail P x xs all) one
 
-abbrev pub pattern_node : Span → Bool → Opening → Node
-pattern_node s end opening = record { next = s; may_end = end; glance = Unknown; inside = opening }
+empty_span : (size : ℕ) → IsSpan size no_span
+empty_span size = record { starts = omega arith; ends = omega arith }
+
+-- Every node of a table has a list of its array, and so has every opening.
+pub next_within : (t : Table) (q : ℕ) → IsNextWithin (length t.entries.items) (get_or t.nodes.items q no_node)
+next_within t q = all_or (IsNextWithin (length t.entries.items)) t.nodes.items q no_node t.within (empty_span (length t.entries.items))
+
+first_within : (t : Table) (q : ℕ) → IsFirstWithin (length t.entries.items) (get_or t.insides.items q no_inside)
+first_within t q = all_or (IsFirstWithin (length t.entries.items)) t.insides.items q no_inside t.insides_within (empty_span (length t.entries.items))
+
+-- With more entries, all that was laid stays as it was.
+pub adds_list : (old new : Table) (more : List ℕ) → new.entries.items ≡ old.entries.items ++ more → new.nodes ≡ old.nodes → new.insides ≡ old.insides → AddsList old new
+adds_list old new more entries nodes insides = record {
+  extends = record {
+    entries = record { more = more; is = entries };
+    size = ap (λ (ns : Vec Node Global). length ns.items) nodes;
+    untold = λ q none. subst (λ (ns : Vec Node Global). told_at ns.items q ≡ Unknown) (sym nodes) none;
+  };
+  same = λ q. ap (λ (xs : List ℕ). laid_at xs new.nodes.items new.insides.items q) entries ∙ ap (λ (ns : Vec Node Global). laid_at (old.entries.items ++ more) ns.items new.insides.items q) nodes ∙ ap (λ (os : Vec Opening Global). laid_at (old.entries.items ++ more) old.nodes.items os.items q) insides ∙ stays q;
+}
+  where
+    node : ℕ → Node
+    node q = get_or old.nodes.items q no_node
+
+    inside : ℕ → Opening
+    inside q = get_or old.insides.items q no_inside
+
+    stays : (q : ℕ) → laid_of (old.entries.items ++ more) (node q) (inside q) ≡ laid_of old.entries.items (node q) (inside q)
+    stays q =
+        let next = next_within old q in
+        let first = first_within old q in
+        λ i. record {
+          next = listed-append old.entries.items more (node q).next.start (node q).next.end next.starts next.ends i;
+          may_end = (node q).may_end;
+          first = listed-append old.entries.items more (inside q).first.start (inside q).first.end first.starts first.ends i;
+          may_be_empty = (inside q).may_be_empty;
+        }
+
+-- The node at a position.
+abbrev pub node_of : Span → Bool → Node
+node_of s end = record { next = s; may_end = end; glance = Unknown }
 
 module _ (p : ℕ) (old middle new : Table) (s : Span) (k : List ℕ) (end : Bool) where
-  pub lays_act : AddsList old middle → Keeps middle.entries.items s k → SetsNode middle new p (plain_node s end) → LaysTree old new (Act p) k end
+  pub lays_act : AddsList old middle → Keeps middle.entries.items s k → SetsNode middle new p (node_of s end) no_inside → LaysTree old new (Act p) k end
   lays_act adds keeps sets = record {
     extends = Extends-trans old middle new adds.extends sets.extends;
     lays = act_laid (length old.nodes.items) p (laid_in old) (laid_in new) k end there (λ q other. sets.others q other ∙ adds.same q);
@@ -80,7 +122,7 @@ module _ (p : ℕ) (old middle new : Table) (s : Span) (k : List ℕ) (end : Boo
       there below = sets.there (subst (λ (n : ℕ). p < n) (sym adds.extends.size) below) ∙ ap (λ (xs : List ℕ). plain_laid xs end) keeps.list
 
 module _ (p : ℕ) (inside : Box Rule Global) (old level middle new : Table) (s : Span) (k : List ℕ) (end : Bool) (opening : Opening) where
-  pub lays_pattern : LaysLevel old level inside.value opening → AddsList level middle → Keeps middle.entries.items s k → SetsNode middle new p (pattern_node s end opening) → LaysTree old new (Pattern p inside) k end
+  pub lays_pattern : LaysLevel old level inside.value opening → AddsList level middle → Keeps middle.entries.items s k → SetsNode middle new p (node_of s end) opening → LaysTree old new (Pattern p inside) k end
   lays_pattern lays_level adds keeps sets = record {
     extends = Extends-trans old level new lays_level.extends (Extends-trans level middle new adds.extends sets.extends);
     lays = pattern_laid_whole (length old.nodes.items) p inside (laid_in old) (laid_in level) (laid_in new) k end (listed middle.entries.items opening.first) opening.may_be_empty lays_level.lays begins there (λ q other. sets.others q other ∙ adds.same q);
@@ -96,13 +138,6 @@ module _ (p : ℕ) (inside : Box Rule Global) (old level middle new : Table) (s 
       there below =
           let size : length middle.nodes.items ≡ length old.nodes.items = adds.extends.size ∙ lays_level.extends.size in
           sets.there (subst (λ (n : ℕ). p < n) (sym size) below) ∙ ap (λ (xs : List ℕ). pattern_laid xs end (listed middle.entries.items opening.first) opening.may_be_empty) keeps.list
-
--- The node of a pattern has lists of the array.
-pub pattern_within : (level middle : Table) (s : Span) (k : List ℕ) (end : Bool) (opening : Opening) → IsSpan (length level.entries.items) opening.first → AddsList level middle → Keeps middle.entries.items s k → AreWithin (length middle.entries.items) (pattern_node s end opening)
-pattern_within level middle s k end opening within adds keeps = record { next = keeps.within; first = IsSpan-grows level.entries.items middle.entries.items opening.first adds.extends.entries within }
-
-pub plain_within : (entries : List ℕ) (s : Span) (k : List ℕ) (end : Bool) → Keeps entries s k → AreWithin (length entries) (plain_node s end)
-plain_within entries s k end keeps = record { next = keeps.within; first = record { starts = omega arith; ends = omega arith } }
 
 -- Trees of parts.
 pub lays_then : (parts : Vec Rule Global) (old new : Table) (k : List ℕ) (end : Bool) → LaysSequence old new parts.items k end → LaysTree old new (Then parts) k end

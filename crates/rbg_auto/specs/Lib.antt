@@ -1,4 +1,5 @@
 -- The steps of the rules, by topic.
 pub mod Steps
 pub mod Laws
+pub mod Lent
 pub mod internal

@@ -2,12 +2,12 @@
 use Rattle.std.specs.Prelude.{ℕ, ◌⊎◌, List, [], ◌∷◌, Bool, IsTrue, Contains, ◌↔◌}
 use Rattle.std.specs.List.Sorted.{IsStrictlyIncreasing}
 use Rattle.rbg_rules.specs.Expression.{Expression, shift, on, off, switch}
-use Rattle.rbg_rules.specs.Positions.{HasAction, Level, outermost, inside}
+use Rattle.rbg_rules.specs.Positions.{HasAction, IsPatternAt, Level, outermost, inside}
 use Rattle.rbg_rules.specs.Words.{Start, beginning, after, Follows, Ends}
 use Rattle.rbg_auto.specs.declared.steps.Expr.{Expr}
 use Rattle.rbg_auto.specs.declared.steps.Expr.TheVariants.{Rules, Inside}
 use Rattle.rbg_auto.specs.declared.steps.Glance.{Glance}
-use Rattle.rbg_auto.specs.declared.steps.Glance.TheVariants.{Unknown, Shift, On, Modifies}
+use Rattle.rbg_auto.specs.declared.steps.Glance.TheVariants.{Unknown, Shift, On, OnEither, Modifies, Pattern}
 
 -- The level of an expression that is asked for.
 abbrev pub level_of : Expr → Level
@@ -40,4 +40,6 @@ abbrev pub IsGlance : Expression → ℕ → Glance → Type 0
 IsGlance rules p Unknown = Unit {0}
 IsGlance rules p (Shift d) = HasAction rules p (shift d)
 IsGlance rules p (On x) = HasAction rules p (on (x ∷ []))
+IsGlance rules p (OnEither x y) = HasAction rules p (on (x ∷ y ∷ []))
+IsGlance rules p Pattern = IsPatternAt rules p
 IsGlance rules p Modifies = ((x : ℕ) × HasAction rules p (off x)) ⊎ ((n : ℕ) × HasAction rules p (switch n))

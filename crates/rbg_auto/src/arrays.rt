@@ -2,6 +2,7 @@
 ghost use Rattle.std.specs.Prelude.{◌≡◌, length};
 ghost use Rattle.rbg_auto.specs.internal.Tables.{IsSpan};
 
+use crate::lent::Lent;
 use crate::span::Opening;
 use crate::steps::{Expr, Glance, Steps};
 use crate::table::Table;
@@ -34,7 +35,7 @@ impl Steps for Compact {
     fn first(&self, expr: Expr) -> &[Position] {
         match expr {
             Expr::Rules => self.table.list(self.rules.first),
-            Expr::Inside(position) => self.table.list(self.table.node(position).inside.first),
+            Expr::Inside(position) => self.table.list(self.table.inside(position).first),
         }
     }
 
@@ -50,10 +51,17 @@ impl Steps for Compact {
         self.table.node(position).glance
     }
 
+    fn lend(&self) -> Option<Lent<'_>> {
+        Some(Lent {
+            nodes: self.table.nodes.as_slice(),
+            entries: self.table.entries.as_slice(),
+        })
+    }
+
     fn may_be_empty(&self, expr: Expr) -> bool {
         match expr {
             Expr::Rules => self.rules.may_be_empty,
-            Expr::Inside(position) => self.table.node(position).inside.may_be_empty,
+            Expr::Inside(position) => self.table.inside(position).may_be_empty,
         }
     }
 }

@@ -4,6 +4,7 @@
 mod arrays;
 mod compiling;
 pub mod laws;
+mod lent;
 mod packing;
 mod plain;
 mod rest;
@@ -17,6 +18,7 @@ mod walk;
 
 pub use arrays::Compact;
 pub use compiling::{compile, compile_tree};
+pub use lent::Lent;
 pub use packing::{compact, compact_tree};
 pub use plain::Automaton;
 pub use steps::{Expr, Glance, Steps};

@@ -34,12 +34,13 @@ pub fn compact_tree(alloc: Global, tree: &Rule, positions: usize) -> Result<Comp
     })
 }
 
-/// What is told of an on: the piece, where there is one alone.
+/// What is told of an on: its pieces, where there are one or two.
 fn glance_of_on(pieces: &[Piece]) -> Glance
     ensures { (rules : Expression) (p : ℕ) → HasAction rules p (on pieces.now) → IsGlance rules p result }
 {
     match pieces {
         [piece] => Glance::On(*piece),
+        [one, other] => Glance::OnEither(*one, *other),
         _ => Glance::Unknown,
     }
 }
@@ -53,8 +54,8 @@ fn glance_of(action: &Action) -> Glance
         Action::On { pieces } => glance_of_on(pieces.as_slice()),
         Action::Off { .. } => Glance::Modifies,
         Action::Switch { .. } => Glance::Modifies,
-        Action::Assign { .. } | Action::Compare { .. } | Action::Positive | Action::Negative =>
-            Glance::Unknown,
+        Action::Positive | Action::Negative => Glance::Pattern,
+        Action::Assign { .. } | Action::Compare { .. } => Glance::Unknown,
     }
 }
 
@@ -70,7 +71,7 @@ fn tell_all(automaton: &mut Compact, game: &Game)
     }
 }
 
-/// The automaton of the game. It tells at a glance of shifts, ons of one piece, offs and switches.
+/// The automaton of the game. It tells at a glance of shifts, ons of one or two pieces, offs, switches and patterns.
 pub fn compact(alloc: Global, game: &Game) -> Result<Compact, Memory>
     ensures { IfOk result (λ automaton. ⟦<Compact as Steps>⟧.of_rules automaton game.now.rules) }
 {

@@ -1,5 +1,6 @@
 //! The automaton of a game in its plain form: lists of its own for each position.
 
+use crate::lent::Lent;
 use crate::steps::{Expr, Glance, Steps};
 use rbg_base::Position;
 
@@ -53,6 +54,10 @@ impl Steps for Automaton {
 
     fn glance(&self, _: Position) -> Glance {
         Glance::Unknown
+    }
+
+    fn lend(&self) -> Option<Lent<'_>> {
+        None
     }
 
     fn may_be_empty(&self, expr: Expr) -> bool {

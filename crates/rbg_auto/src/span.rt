@@ -16,13 +16,12 @@ pub(crate) struct Opening {
     pub(crate) may_be_empty: bool,
 }
 
-/// What comes after a position, what is told at once of its action, and how the words of its inside begin.
+/// What comes after a position, and what is told at once of its action. A search reads many of them, so a node is small.
 #[derive(Debug, Clone, Copy, Drop)]
 pub(crate) struct Node {
     pub(crate) next: Span,
     pub(crate) may_end: bool,
     pub(crate) glance: Glance,
-    pub(crate) inside: Opening,
 }
 
 impl Span {
@@ -43,6 +42,5 @@ impl Node {
         next: Span::EMPTY,
         may_end: false,
         glance: Glance::Unknown,
-        inside: Opening::NONE,
     };
 }

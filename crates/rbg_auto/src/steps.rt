@@ -1,9 +1,11 @@
 //! What every automaton of positions answers, and the law that ties its answers to the words of the rules.
-ghost use Rattle.std.specs.Prelude.{[], IsTrue, ◌↔◌};
+ghost use Rattle.std.specs.Prelude.{[], IsTrue, ◌↔◌, IfSome};
 ghost use Rattle.rbg_rules.specs.Expression.{Expression};
 ghost use Rattle.rbg_rules.specs.Words.{beginning, after, Ends};
+ghost use Rattle.rbg_auto.specs.Lent.{IsLentOf};
 ghost use Rattle.rbg_auto.specs.Steps.{level_of, AreFirst, AreNext, IsGlance};
 
+use crate::lent::Lent;
 use rbg_base::{Direction, Piece, Position};
 
 /// An expression whose words are asked for: the rules, or the inside of the pattern at a position.
@@ -13,7 +15,8 @@ pub enum Expr {
     Inside(Position),
 }
 
-/// What an automaton tells at once of the action at a position, so that the game need not be asked.
+/// What an automaton tells at once of the action at a position, so that the game need not be asked. What `compact` makes
+/// tells of every action but assignments, comparisons, and ons of no piece or of more than two.
 #[derive(Debug, Clone, Copy, PartialEq, Eq, Drop)]
 pub enum Glance {
     /// Nothing is told.
@@ -22,8 +25,12 @@ pub enum Glance {
     Shift(Direction),
     /// It is an on of this piece alone.
     On(Piece),
+    /// It is an on of these two pieces.
+    OnEither(Piece, Piece),
     /// It is an off or a switch: a modifier that is valid everywhere.
     Modifies,
+    /// It is a pattern, positive or negative.
+    Pattern,
 }
 
 /// The steps of the rules: where words begin, what comes directly after a position in them, and where they end.
@@ -49,6 +56,10 @@ pub trait Steps {
     /// What is told at once of the action at the position. It may be nothing, whatever the action is.
     fn glance(&self, position: Position) -> Glance
         ensures { (rules : Expression) → of_rules self.now rules → IsGlance rules position result };
+
+    /// The answers by position as slices, where they are kept so.
+    fn lend(&self) -> Option<Lent<'_>>
+        ensures { (rules : Expression) → of_rules self.now rules → IfSome result (IsLentOf rules) };
 
     /// Whether the empty list is a word of the expression.
     fn may_be_empty(&self, expr: Expr) -> bool

@@ -1,34 +1,40 @@
 //! All lists of an automaton in one array, by position.
 ghost use Rattle.std.specs.Prelude.{◌≡◌, All, length, IfOk, IsTrue, slice_index_or};
 ghost use Rattle.rbg_auto.specs.declared.steps.Glance.TheVariants.{Unknown};
-ghost use Rattle.rbg_auto.specs.internal.Tables.{AreWithin};
+ghost use Rattle.rbg_auto.specs.internal.Tables.{IsNextWithin, IsFirstWithin};
 
-use crate::span::{Node, Span};
+use crate::span::{Node, Opening, Span};
 use crate::steps::Glance;
 use rbg_base::{Memory, Position};
 use std::alloc::Global;
 
-/// The array, and what was laid at each position. Nothing is laid at position 0.
+/// The array, and what was laid at each position: a node, and in a list beside the nodes how the words of its inside
+/// begin. Nothing is laid at position 0.
 #[derive(Debug, Drop)]
 pub(crate) struct Table {
     pub(crate) entries: Vec<Position>,
     pub(crate) nodes: Vec<Node>,
-    ghost within: { All (AreWithin (length entries.items)) nodes.items },
+    pub(crate) insides: Vec<Opening>,
+    ghost within: { All (IsNextWithin (length entries.items)) nodes.items },
+    ghost insides_within: { All (IsFirstWithin (length entries.items)) insides.items },
+    ghost beside: { length insides.items ≡ length nodes.items },
 }
 
 impl Table {
     ghost use Rattle.std.specs.Prelude.{[], replicate};
-    ghost use Rattle.rbg_auto.specs.internal.Tables.{Keeps, IsSpan, AreWithin, listed, laid_at, no_node};
+    ghost use Rattle.rbg_auto.specs.internal.Tables.{Keeps, IsSpan, IsNextWithin, IsFirstWithin, listed, no_node, no_inside};
     ghost use Rattle.rbg_auto.specs.internal.Walks.{AddsList, SetsNode, Tells};
 
     /// A table of that many nodes, with nothing laid.
     pub(crate) fn new(alloc: Global, nodes: usize) -> Result<Table, Memory>
         ensures nodes { IfOk result (λ t. t.nodes.items ≡ replicate nodes no_node) }
+        ensures insides { IfOk result (λ t. t.insides.items ≡ replicate nodes no_inside) }
         ensures entries { IfOk result (λ t. t.entries.items ≡ []) }
     {
         Ok(Table {
             entries: Vec::new(alloc),
             nodes: vec![in alloc; Node::NONE; nodes]?,
+            insides: vec![in alloc; Opening::NONE; nodes]?,
         })
     }
 
@@ -53,7 +59,7 @@ impl Table {
     /// What was laid at a position.
     pub(crate) fn node(&self, position: Position) -> Node
         ensures node { result ≡ slice_index_or self.now.nodes.items position no_node }
-        ensures within { AreWithin (length self.now.entries.items) result }
+        ensures within { IsNextWithin (length self.now.entries.items) result }
     {
         let index = position as usize;
         if index < self.nodes.len() {
@@ -63,15 +69,30 @@ impl Table {
         }
     }
 
-    /// Lays a node at a position, if the table has it.
-    pub(crate) fn set(&mut self, position: Position, node: Node)
-        requires within { AreWithin (length self.old.entries.items) node }
+    /// How the words of the inside of a position begin.
+    pub(crate) fn inside(&self, position: Position) -> Opening
+        ensures inside { result ≡ slice_index_or self.now.insides.items position no_inside }
+        ensures within { IsFirstWithin (length self.now.entries.items) result }
+    {
+        let index = position as usize;
+        if index < self.insides.len() {
+            self.insides[index]
+        } else {
+            Opening::NONE
+        }
+    }
+
+    /// Lays a node and an opening at a position, if the table has it.
+    pub(crate) fn set(&mut self, position: Position, node: Node, inside: Opening)
+        requires within { IsNextWithin (length self.old.entries.items) node }
+        requires inside_within { IsFirstWithin (length self.old.entries.items) inside }
         requires untold { node.glance ≡ Unknown }
-        ensures { SetsNode self.old self.new position node }
+        ensures { SetsNode self.old self.new position node inside }
     {
         let index = position as usize;
         if index < self.nodes.len() {
             self.nodes[index] = node;
+            self.insides[index] = inside;
         }
     }
 

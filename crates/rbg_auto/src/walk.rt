@@ -1,6 +1,6 @@
 //! The walk over the rules that lays down what comes after each position.
 ghost use Rattle.std.specs.Prelude.{◌≡◌, ◌<◌, List, [], length, replicate, slice_index_or, IfOk};
-ghost use Rattle.rbg_auto.specs.internal.Tables.{Keeps, IsKept, no_node};
+ghost use Rattle.rbg_auto.specs.internal.Tables.{Keeps, IsKept, no_node, no_inside};
 ghost use Rattle.rbg_auto.specs.internal.Trees.{IsBefore};
 ghost use Rattle.rbg_auto.specs.internal.Walks.{AddsList, LaysTree, LaysSequence, LaysSum, LaysLevel, Extends};
 
@@ -29,6 +29,7 @@ impl Walk {
     /// With nothing laid, at that many positions with position 0.
     pub(crate) fn new(alloc: Global, positions: usize) -> Result<Walk, Memory>
         ensures nodes { IfOk result (λ walk. walk.table.nodes.items ≡ replicate positions no_node) }
+        ensures insides { IfOk result (λ walk. walk.table.insides.items ≡ replicate positions no_inside) }
         ensures entries { IfOk result (λ walk. walk.table.entries.items ≡ []) }
     {
         Ok(Walk {
@@ -82,9 +83,8 @@ impl Walk {
                     next,
                     may_end: rest.may_end,
                     glance: Glance::Unknown,
-                    inside: Opening::NONE,
                 };
-                self.table.set(*position, node);
+                self.table.set(*position, node, Opening::NONE);
                 Ok(())
             }
             Rule::Pattern { position, inside } => {
@@ -94,9 +94,8 @@ impl Walk {
                     next,
                     may_end: rest.may_end,
                     glance: Glance::Unknown,
-                    inside,
                 };
-                self.table.set(*position, node);
+                self.table.set(*position, node, inside);
                 Ok(())
             }
             Rule::Then(parts) => self.lay_sequence(parts.as_slice(), rest, kept),

@@ -60,6 +60,19 @@ on_another game numbered s v q x here other = acts_nowhere game numbered s v q (
     alone x y (zero, below, is) = sym is
     alone x y (suc k, below, is) = absurd (omega (arith, below))
 
+-- An on of two pieces, of which one stands there, and where another one does.
+pub either_leads : (game : AbstractGame) → IsNumbered game.rules → (s : AbstractState) (v q x y : ℕ) → HasAction game.rules q (on (x ∷ y ∷ [])) → (slice_index s.pieces v ≡ x) ⊎ (slice_index s.pieces v ≡ y) → IsOutcome game s v q (LeadsTo v)
+either_leads game numbered s v q x y here (inl is) = acts_leads game numbered s v q (on (x ∷ y ∷ [])) here v refl ((0, omega arith, sym is), refl)
+either_leads game numbered s v q x y here (inr is) = acts_leads game numbered s v q (on (x ∷ y ∷ [])) here v refl ((1, omega arith, sym is), refl)
+
+pub either_another : (game : AbstractGame) → IsNumbered game.rules → (s : AbstractState) (v q x y : ℕ) → HasAction game.rules q (on (x ∷ y ∷ [])) → (slice_index s.pieces v ≡ x → ⊥) → (slice_index s.pieces v ≡ y → ⊥) → IsOutcome game s v q Invalid
+either_another game numbered s v q x y here first second = acts_nowhere game numbered s v q (on (x ∷ y ∷ [])) here (λ t (among, same). neither (slice_index s.pieces v) first second among)
+  where
+    neither : (z : ℕ) → (z ≡ x → ⊥) → (z ≡ y → ⊥) → Contains (x ∷ y ∷ []) z → ⊥
+    neither z first second (zero, below, is) = first (sym is)
+    neither z first second (suc zero, below, is) = second (sym is)
+    neither z first second (suc (suc k), below, is) = absurd (omega (arith, below))
+
 -- An off and a switch are valid everywhere.
 pub always_modifies : (game : AbstractGame) → IsNumbered game.rules → (s : AbstractState) (v q : ℕ) → (((x : ℕ) × HasAction game.rules q (off x)) ⊎ ((n : ℕ) × HasAction game.rules q (switch n))) → IsOutcome game s v q Modifies
 always_modifies game numbered s v q (inl (x, here)) = acts_modifies game numbered s v q (off x) here _ refl refl

@@ -22,4 +22,5 @@ pub mod Forcing
 pub mod ForcingSteps
 pub mod Fewness
 pub mod Straights
+pub mod Tolds
 pub mod Walking

@@ -10,3 +10,4 @@ pub mod Begun
 pub mod Taking
 pub mod Spent
 pub mod Straight
+pub mod Told

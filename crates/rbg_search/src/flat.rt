@@ -78,11 +78,11 @@ impl Flat {
         Ok(())
     }
 
-    /// How many pairs were taken.
+    /// How many pairs were met: those that were taken, once none is left.
     pub(crate) fn pairs(&self) -> usize
         ensures few { result ≤ self.now.queue.marks - self.now.queue.vertices }
     {
-        self.taken.min(self.queue.len())
+        self.queue.len()
     }
 
     /// Takes the next pair, of which this became.
@@ -196,119 +196,55 @@ impl Flat {
             self.old.found.items self.old.ends
             → IsFlatPart rules.now state.now.state f self.new.found.items self.new.ends)) }
     {
-        let local = rules.copy();
-        self.advance_by(&local, state)
-    }
-
-    /// Tries the next pair after `taken` others, which is this one, and takes it. Returns how many were taken then; none
-    /// where it is a pattern, which isn't taken.
-    ///
-    /// Each kind of action is taken in its own arm, so that its outcome is known there.
-    #[inline(always)]
-    fn take_tried<S: Steps>(
-        &mut self,
-        rules: &GameSteps<'_, S>,
-        state: &SemiState,
-        taken: usize,
-        vertex: Vertex,
-        position: Position,
-    ) -> Result<Option<usize>, Memory>
-        requires lawful { IsGame rules.now }
-        requires fits { IsStateOf rules.now state.now.state }
-        requires marks { HasMarksOf rules.now self.old.queue }
-        requires next { slice_get self.old.queue.pairs taken ≡ Some (vertex, position) }
-        requires once { ¬ Contains (take taken self.old.queue.pairs) (vertex, position) }
-        requires small { taken + 1 < 2 ^ 64 }
-        requires vertex { vertex < length rules.now.board.first }
-        requires position { IsPositionOf rules.now.rules position }
-        ensures marks { HasMarksOf rules.now self.new.queue }
-        ensures part { IfOk result (λ next. IfSome next (λ more. (f : Start)
-            → IsPart rules.now state.now.state f self.old.queue.pairs (take taken self.old.queue.pairs)
-            self.old.found.items self.old.ends
-            → IsPart rules.now state.now.state f self.new.queue.pairs (take more self.new.queue.pairs)
-            self.new.found.items self.new.ends)) }
-        ensures taken { IfOk result (λ next. IfSome next (λ more. more ≡ taken + 1)) }
-        ensures done { IfOk result (λ next. IfSome next (λ more. take more self.new.queue.pairs
-            ≡ take taken self.old.queue.pairs ++ (vertex, position) ∷ [])) }
-        ensures within { IfOk result (λ next. IfSome next (λ more. more ≤ length self.new.queue.pairs)) }
-        ensures plain { IfOk result (λ next. IfSome next (λ _. ¬ IsPatternAt rules.now.rules position)) }
-        ensures pattern { IfOk result (λ next. IfNone next (IsPatternAt rules.now.rules position)) }
-        ensures kept { IfOk result (λ next. IfNone next (self.new ≡ self.old)) }
-    {
-        match rules.glance(position) {
-            Glance::Shift(direction) => {
-                let outcome = shifted(rules.game(), vertex, direction);
-                let more = self.take_pair(rules, taken, vertex, position, outcome)?;
-                Ok(Some(more))
+        loop {
+            self.take_told(rules, state);
+            let taken = self.taken;
+            if taken == self.queue.len() {
+                return Ok(None);
             }
-            Glance::On(piece) => {
-                let outcome = stood_on(state, vertex, piece);
-                let more = self.take_pair(rules, taken, vertex, position, outcome)?;
-                Ok(Some(more))
+            let (vertex, position) = self.queue.pair(taken);
+            if let Glance::Pattern = rules.glance(position) {
+                return Ok(Some((vertex, position)));
             }
-            Glance::Modifies => {
-                let more = self.take_pair(rules, taken, vertex, position, Outcome::Modifies)?;
-                Ok(Some(more))
-            }
-            Glance::Unknown => {
-                let Some(outcome) = tried_at(rules.game(), state, vertex, position) else {
-                    return Ok(None);
-                };
-                let more = self.take_pair(rules, taken, vertex, position, outcome)?;
-                Ok(Some(more))
-            }
+            let Some(outcome) = tried(rules, state, vertex, position) else {
+                return Ok(Some((vertex, position)));
+            };
+            self.taken = self.take_pair(rules, taken, vertex, position, outcome)?;
         }
     }
 
-    /// The same as `advance`, where the game and its steps are a local of the caller.
+    /// Takes pairs as long as their actions are told of and that takes no memory. None is taken where the automaton
+    /// doesn't lend its answers.
     #[inline(always)]
-    fn advance_by<S: Steps>(
-        &mut self,
-        rules: &GameSteps<'_, S>,
-        state: &SemiState,
-    ) -> Result<Option<(Vertex, Position)>, Memory>
+    fn take_told<S: Steps>(&mut self, rules: &GameSteps<'_, S>, state: &SemiState)
         requires lawful { IsGame rules.now }
         requires marks { HasMarksOf rules.now self.old.queue }
         requires fits { IsStateOf rules.now state.now.state }
         requires within { self.old.taken ≤ length self.old.queue.pairs }
         ensures marks { HasMarksOf rules.now self.new.queue }
-        ensures part { OnOk result ((f : Start)
+        ensures part { (f : Start)
             → IsPart rules.now state.now.state f self.old.queue.pairs (take self.old.taken self.old.queue.pairs)
             self.old.found.items self.old.ends
             → IsPart rules.now state.now.state f self.new.queue.pairs (take self.new.taken self.new.queue.pairs)
-            self.new.found.items self.new.ends) }
-        ensures within { OnOk result (self.new.taken ≤ length self.new.queue.pairs) }
-        ensures further { OnOk result (self.old.taken ≤ self.new.taken) }
-        ensures still_done { OnOk result ((x : ℕ × ℕ)
-            → Contains (take self.old.taken self.old.queue.pairs) x
-            → Contains (take self.new.taken self.new.queue.pairs) x) }
-        ensures quiet { OnOk result ((v p : ℕ)
-            → Contains (take self.new.taken self.new.queue.pairs) (v, p) → IsPatternAt rules.now.rules p
-            → Contains (take self.old.taken self.old.queue.pairs) (v, p)) }
-        ensures asked { IfOk result (λ next. IfSome next (λ pair.
-            (slice_get self.new.queue.pairs self.new.taken ≡ Some pair)
-            × (pair.0 < length rules.now.board.first)
-            × IsPatternAt rules.now.rules pair.1)) }
-        ensures fresh { IfOk result (λ next. IfSome next (λ pair.
-            ¬ Contains (take self.new.taken self.new.queue.pairs) pair)) }
-        ensures done { IfOk result (λ next. IfNone next (self.new.taken ≡ length self.new.queue.pairs)) }
-        ensures whole { IfOk result (λ next. IfNone next ((f : Start)
-            → IsPart rules.now state.now.state f self.old.queue.pairs (take self.old.taken self.old.queue.pairs)
-            self.old.found.items self.old.ends
-            → IsFlatPart rules.now state.now.state f self.new.found.items self.new.ends)) }
+            self.new.found.items self.new.ends }
+        ensures within { self.new.taken ≤ length self.new.queue.pairs }
+        ensures further { self.old.taken ≤ self.new.taken }
+        ensures still_done { (x : ℕ × ℕ) → Contains (take self.old.taken self.old.queue.pairs) x
+            → Contains (take self.new.taken self.new.queue.pairs) x }
+        ensures quiet { (v p : ℕ) → Contains (take self.new.taken self.new.queue.pairs) (v, p)
+            → IsPatternAt rules.now.rules p → Contains (take self.old.taken self.old.queue.pairs) (v, p) }
     {
-        let mut taken = self.taken;
-        while taken < self.queue.len() {
-            let (vertex, position) = self.queue.pair(taken);
-            let next = self.take_tried(rules, state, taken, vertex, position)?;
-            let Some(more) = next else {
-                self.taken = taken;
-                return Ok(Some((vertex, position)));
-            };
-            taken = more;
+        if let Some(tables) = rules.tables() {
+            let (taken, ends) = self.queue.take_told(
+                &tables,
+                state.pieces(),
+                &mut self.found,
+                self.taken,
+                self.ends,
+            );
+            self.taken = taken;
+            self.ends = ends;
         }
-        self.taken = taken;
-        Ok(None)
     }
 }
 
@@ -334,6 +270,8 @@ pub(crate) fn tried<S: Steps>(
         Glance::Shift(direction) => Some(shifted(rules.game(), vertex, direction)),
         Glance::On(piece) => Some(stood_on(state, vertex, piece)),
         Glance::Modifies => Some(Outcome::Modifies),
+        Glance::OnEither(piece, other) => Some(stood_on_either(state, vertex, piece, other)),
+        Glance::Pattern => None,
         Glance::Unknown => tried_at(rules.game(), state, vertex, position),
     }
 }
@@ -361,6 +299,22 @@ fn stood_on(state: &SemiState, vertex: Vertex, piece: Piece) -> Outcome
     ensures there { (u : ℕ) → result ≡ Outcome.LeadsTo u → u ≡ vertex }
 {
     if state.piece(vertex) == piece {
+        Outcome::LeadsTo(vertex)
+    } else {
+        Outcome::Invalid
+    }
+}
+
+/// What becomes of an on of two pieces that is tried at a vertex.
+#[inline(always)]
+fn stood_on_either(state: &SemiState, vertex: Vertex, piece: Piece, other: Piece) -> Outcome
+    requires { vertex < length state.now.state.pieces }
+    ensures outcome { (game : AbstractGame) (q : ℕ) → IsNumbered game.rules
+        → HasAction game.rules q (on (piece ∷ other ∷ [])) → IsOutcome game state.now.state vertex q result }
+    ensures there { (u : ℕ) → result ≡ Outcome.LeadsTo u → u ≡ vertex }
+{
+    let here = state.piece(vertex);
+    if here == piece || here == other {
         Outcome::LeadsTo(vertex)
     } else {
         Outcome::Invalid

@@ -1,5 +1,5 @@
 //! A game and the steps of its rules.
-ghost use Rattle.std.specs.Prelude.{◌≡◌, ◌≤◌, [], All, IsTrue, ◌↔◌};
+ghost use Rattle.std.specs.Prelude.{◌≡◌, ◌≤◌, [], All, IfSome, IsTrue, ◌↔◌};
 ghost use Rattle.rbg_rules.specs.Games.{IsGame};
 ghost use Rattle.rbg_rules.specs.Words.{Start, Ends};
 ghost use Rattle.rbg_search.specs.internal.Nesting.{NestsFrom};
@@ -7,6 +7,7 @@ ghost use Rattle.rbg_auto.specs.Steps.{AreAllThatFollow, IsGlance};
 ghost use Rattle.rbg_search.specs.Start.{start_of, IsPositionOf};
 
 use crate::origin::Origin;
+use crate::tables::Tables;
 use rbg_auto::{Glance, Steps};
 use rbg_base::Position;
 use rbg_rules::Game;
@@ -46,18 +47,6 @@ impl<'a, S: Steps> GameSteps<'a, S> {
         GameSteps { game, steps }
     }
 
-    /// The same game and steps. A copy that is a local of a loop need not be read again after each store.
-    #[inline(always)]
-    pub(crate) fn copy(&self) -> GameSteps<'a, S>
-        ensures same { result ≡ self.now }
-        ensures lawful { IsGame self.now }
-    {
-        GameSteps {
-            game: self.game,
-            steps: self.steps,
-        }
-    }
-
     pub(crate) fn game(&self) -> &'a Game
         ensures game { result.now ≡ self.now }
         ensures lawful { IsGame self.now }
@@ -92,6 +81,15 @@ impl<'a, S: Steps> GameSteps<'a, S> {
         ensures { IsGlance self.now.rules position result }
     {
         self.steps.glance(position)
+    }
+
+    /// The game and its automaton as slices, where the automaton lends its answers.
+    #[inline(always)]
+    pub(crate) fn tables(&self) -> Option<Tables<'a>>
+        ensures { IfSome result (λ tables. tables ≡ self.now) }
+    {
+        let lent = self.steps.lend()?;
+        Some(Tables::new(self.game, lent))
     }
 
     /// Whether a word may end where one stands.

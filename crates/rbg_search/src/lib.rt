@@ -4,11 +4,14 @@
 mod answer;
 mod flat;
 mod game_steps;
+mod marks;
 mod origin;
 mod outcome;
 mod over;
 mod queue;
 mod search;
+mod tables;
+mod told;
 mod walk;
 
 pub use origin::Origin;

@@ -1,8 +1,16 @@
 //! The pairs of a vertex and a position that a flat part meets, each once, in the order in which they are met.
 ghost use Rattle.std.specs.Prelude.{◌≡◌, ℕ, ◌<◌, ◌≤◌, ◌+◌, ◌-◌, ◌*◌, ◌/◌, ◌%◌, ◌^◌, [], length, slice_get, Some, take, replicate, ◌++◌, All, Contains, true, false, OnOk, OnErr, IfOk, IsTrue};
+ghost use Rattle.rbg_rules.specs.Games.{IsGame};
+ghost use Rattle.rbg_rules.specs.Positions.{IsPatternAt};
+ghost use Rattle.rbg_rules.specs.State.{AbstractState};
+ghost use Rattle.rbg_rules.specs.Words.{Start};
 ghost use Rattle.rbg_search.specs.internal.Meeting.{HasMark, MeetsAll, AreMarked, is_marked, mark_at};
+ghost use Rattle.rbg_search.specs.internal.Part.{IsPart, HasMarksOf};
 
-use rbg_base::{Memory, Position, Vertex};
+use crate::marks::{LONG_LIST, are_marked, meet_each, unmark};
+use crate::tables::Tables;
+use crate::told::{Progress, take_told};
+use rbg_base::{Memory, Piece, Position, Vertex};
 use std::alloc::Global;
 use std::marker::Model;
 
@@ -90,11 +98,11 @@ impl Queue {
         ensures kept { (self.new.vertices ≡ self.old.vertices) × (self.new.marks ≡ self.old.marks) }
         ensures met { OnOk result (MeetsAll self.old.pairs self.new.pairs vertex positions.now) }
     {
-        if positions.len() >= LONG_LIST && are_marked(&self.words, self.rows, vertex, positions) {
-            return Ok(());
-        }
         if self.room.len() - self.met < positions.len() {
             widen(&mut self.room, positions.len())?;
+        }
+        if positions.len() >= LONG_LIST && are_marked(&self.words, self.rows, vertex, positions) {
+            return Ok(());
         }
         self.met = meet_each(
             &mut self.words,
@@ -105,6 +113,50 @@ impl Queue {
             positions,
         );
         Ok(())
+    }
+
+    /// Takes pairs after `taken` others, up to the first that is a pattern, of whose action nothing is told, or for which
+    /// there is no room. Returns how many were taken then, and whether a word may end with no modifier more.
+    #[inline(always)]
+    pub(crate) fn take_told(
+        &mut self,
+        tables: &Tables<'_>,
+        pieces: &[Piece],
+        found: &mut Vec<(Vertex, Position)>,
+        taken: usize,
+        ends: bool,
+    ) -> (usize, bool)
+        requires lawful { IsGame tables.now }
+        requires pieces { length pieces.now ≡ length tables.now.board.first }
+        requires marks { HasMarksOf tables.now self.old }
+        requires taken { taken ≤ length self.old.pairs }
+        ensures marks { HasMarksOf tables.now self.new }
+        ensures taken { result.0 ≤ length self.new.pairs }
+        ensures further { taken ≤ result.0 }
+        ensures part { (s : AbstractState) (f : Start) → s.pieces ≡ pieces.now
+            → IsPart tables.now s f self.old.pairs (take taken self.old.pairs) found.old.items ends
+            → IsPart tables.now s f self.new.pairs (take result.0 self.new.pairs) found.new.items result.1 }
+        ensures still_done { (x : ℕ × ℕ) → Contains (take taken self.old.pairs) x
+            → Contains (take result.0 self.new.pairs) x }
+        ensures quiet { (v p : ℕ) → Contains (take result.0 self.new.pairs) (v, p)
+            → IsPatternAt tables.now.rules p → Contains (take taken self.old.pairs) (v, p) }
+    {
+        let begun = Progress {
+            met: self.met,
+            taken,
+            ends,
+        };
+        let progress = take_told(
+            tables,
+            pieces,
+            &mut self.words,
+            self.rows,
+            &mut self.room,
+            found,
+            begun,
+        );
+        self.met = progress.met;
+        (progress.taken, progress.ends)
     }
 
     /// Forgets the pairs, and keeps their room.
@@ -130,115 +182,4 @@ fn widen(room: &mut Vec<(Vertex, Position)>, more: usize) -> Result<(), Memory>
     };
     room.resize(wide, (0, 0))?;
     Ok(())
-}
-
-/// Meets the pairs of a vertex and each of these positions: those that weren't met stand in the room behind the pairs
-/// that were. Returns how many were met then.
-#[inline(always)]
-fn meet_each(
-    words: &mut [u64],
-    room: &mut [(Vertex, Position)],
-    met: usize,
-    rows: usize,
-    vertex: Vertex,
-    positions: &[Position],
-) -> usize
-    requires small { length words.old < 2 ^ 64 }
-    requires there { All (λ p. vertex / 64 * rows + p < length words.old) positions.now }
-    requires wide { met + length positions.now ≤ length room.old }
-    ensures words { length words.new ≡ length words.old }
-    ensures room { length room.new ≡ length room.old }
-    ensures within { result ≤ length room.old }
-    ensures met { (n size : ℕ) → AreMarked n size rows words.old (take met room.old)
-        → All (λ p. HasMark n size (vertex, p)) positions.now
-        → AreMarked n size rows words.new (take result room.new)
-        × MeetsAll (take met room.old) (take result room.new) vertex positions.now }
-{
-    let column = vertex as usize / 64;
-    let bit = vertex % 64;
-    let mut count = met;
-    for listed in positions {
-        let position = *listed;
-        let word = column * rows + position as usize;
-        if !is_marked(words, word, bit) {
-            words[word] |= 1 << bit;
-            room[count] = (vertex, position);
-            count += 1;
-        }
-    }
-    count
-}
-
-/// A list of so many positions may well have been met at a vertex before: a look at its marks alone costs less than to
-/// meet each.
-const LONG_LIST: usize = 8;
-
-/// Whether the marks of a vertex are set for all these positions.
-#[inline(never)]
-fn are_marked(words: &[u64], rows: usize, vertex: Vertex, positions: &[Position]) -> bool
-    requires small { length words.now < 2 ^ 64 }
-    requires there { All (λ p. vertex / 64 * rows + p < length words.now) positions.now }
-    ensures { IsTrue result → All (λ p. is_marked words.now (mark_at rows (vertex, p)) ≡ true) positions.now }
-{
-    let column = vertex as usize / 64;
-    let bit = vertex % 64;
-    let mut all = u64::MAX;
-    for position in positions {
-        all &= words[column * rows + *position as usize];
-    }
-    all >> bit & 1 == 1
-}
-
-/// Whether the mark is set that is this bit of this word.
-fn is_marked(words: &[u64], word: usize, bit: u32) -> bool
-    requires word { word < length words.now }
-    requires bit { bit < 64 }
-    ensures { (k : ℕ) → k / 64 ≡ word → k % 64 ≡ bit → result ≡ is_marked words.now k }
-{
-    words[word] >> bit & 1 == 1
-}
-
-/// Up to so many words, a fill with zeros costs less than a store for each pair.
-const FEW_WORDS: usize = 256;
-/// So many words are filled in the time of a store for one pair.
-const WORDS_FOR_A_PAIR: usize = 16;
-
-/// Whether all words are to be filled with zeros, rather than those of the pairs alone.
-fn is_filled(words: usize, pairs: usize) -> bool {
-    words / WORDS_FOR_A_PAIR <= pairs && (words <= FEW_WORDS || words <= pairs)
-}
-
-/// Takes the marks of the pairs away, and maybe others.
-fn unmark(words: &mut [u64], pairs: &[(Vertex, Position)], rows: usize)
-    requires small { All (λ q. q.0 / 64 * rows + q.1 < 2 ^ 64) pairs.now }
-    requires there { All (λ q. q.0 / 64 * rows + q.1 < length words.old) pairs.now }
-    ensures size { length words.new ≡ length words.old }
-    ensures gone { All (λ q. is_marked words.new (mark_at rows q) ≡ false) pairs.now }
-    ensures none_set { (k : ℕ) → is_marked words.new k ≡ true → is_marked words.old k ≡ true }
-{
-    if is_filled(words.len(), pairs.len()) {
-        words.fill(0);
-        return;
-    }
-    if words.len() <= rows {
-        unmark_narrow(words, pairs);
-        return;
-    }
-    for (vertex, position) in pairs {
-        let word = *vertex as usize / 64 * rows + *position as usize;
-        words[word] = 0;
-    }
-}
-
-/// Takes the marks of the pairs away where there are at most 64 vertices.
-fn unmark_narrow(words: &mut [u64], pairs: &[(Vertex, Position)])
-    requires there { All (λ q. q.1 < length words.old) pairs.now }
-    requires narrow { All (λ q. q.0 < 64) pairs.now }
-    ensures size { length words.new ≡ length words.old }
-    ensures gone { All (λ q. is_marked words.new (q.1 * 64 + q.0) ≡ false) pairs.now }
-    ensures none_set { (k : ℕ) → is_marked words.new k ≡ true → is_marked words.old k ≡ true }
-{
-    for (_, position) in pairs {
-        words[*position as usize] = 0;
-    }
 }

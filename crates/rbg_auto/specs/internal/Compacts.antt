@@ -1,13 +1,15 @@
 -- The steps that an array of lists has.
-use Rattle.std.specs.Prelude.{ℕ}
+use Rattle.std.specs.Prelude.{ℕ, ◌<◌, length}
 use Rattle.rbg_rules.specs.Expression.{Expression}
+use Rattle.rbg_rules.specs.Positions.{positions_of}
 use Rattle.rbg_auto.specs.declared.arrays.Compact.{Compact}
 use Rattle.rbg_auto.specs.Steps.{AreStepsOf, IsGlance}
 use Rattle.rbg_auto.specs.internal.Laying.{first_at, empty_at}
 use Rattle.rbg_auto.specs.internal.Tables.{listed}
 use Rattle.rbg_auto.specs.internal.Walks.{laid_in, told_in}
 
--- The lists of the automaton are the steps of the rules, and what it tells of actions is right.
+-- The lists of the automaton are the steps of the rules, what it tells of actions is right, and it has a node for each
+-- position.
 pub record IsCompactOf (c : Compact) (rules : Expression) : Type 0 where
   pub steps :
       AreStepsOf rules
@@ -16,3 +18,4 @@ pub record IsCompactOf (c : Compact) (rules : Expression) : Type 0 where
       (λ i. (laid_in c.table i).may_end)
       (empty_at c.rules.may_be_empty (laid_in c.table))
   pub told : (p : ℕ) → IsGlance rules p (told_in c.table p)
+  pub has : length (positions_of rules) < length c.table.nodes.items

@@ -1,6 +1,7 @@
 -- The lists of an array, and what is laid at each position of it.
-use Rattle.std.specs.Prelude.{◌≡◌, ℕ, ◌≤◌, List, ◌++◌, length, slice_range, slice_index_or, false, Option, Some}
+use Rattle.std.specs.Prelude.{◌≡◌, ℕ, ◌≤◌, List, ◌++◌, length, slice_range, slice_index_or, Bool, false, Option, Some}
 use Rattle.rbg_auto.specs.declared.span.Span.{Span}
+use Rattle.rbg_auto.specs.declared.span.Opening.{Opening}
 use Rattle.rbg_auto.specs.declared.span.Node.{Node}
 use Rattle.rbg_auto.specs.declared.steps.Glance.{Glance}
 use Rattle.rbg_auto.specs.declared.steps.Glance.TheVariants.{Unknown}
@@ -11,9 +12,12 @@ pub record IsSpan (size : ℕ) (s : Span) : Type 0 where
   pub starts : s.start ≤ s.end
   pub ends : s.end ≤ size
 
-pub record AreWithin (size : ℕ) (node : Node) : Type 0 where
-  pub next : IsSpan size node.next
-  pub first : IsSpan size node.inside.first
+-- The list of a node, and that of an opening, are of such an array.
+abbrev pub IsNextWithin : ℕ → Node → Type 0
+IsNextWithin size node = IsSpan size node.next
+
+abbrev pub IsFirstWithin : ℕ → Opening → Type 0
+IsFirstWithin size inside = IsSpan size inside.first
 
 -- The list of a span.
 abbrev pub listed : List ℕ → Span → List ℕ
@@ -36,20 +40,31 @@ pub record Grows (old new : List ℕ) : Type 0 where
 abbrev pub no_span : Span
 no_span = record { start = 0; end = 0 }
 
+-- The opening of a position without a pattern.
+abbrev pub no_inside : Opening
+no_inside = record { first = no_span; may_be_empty = false }
+
 -- The node of a position that doesn't stand in the rules.
 abbrev pub no_node : Node
-no_node = record { next = no_span; may_end = false; glance = Unknown; inside = record { first = no_span; may_be_empty = false } }
+no_node = record { next = no_span; may_end = false; glance = Unknown }
 
-abbrev pub laid_of : List ℕ → Node → Laid
-laid_of entries node = record {
+abbrev pub laid_of : List ℕ → Node → Opening → Laid
+laid_of entries node inside = record {
   next = listed entries node.next;
   may_end = node.may_end;
-  first = listed entries node.inside.first;
-  may_be_empty = node.inside.may_be_empty;
+  first = listed entries inside.first;
+  may_be_empty = inside.may_be_empty;
 }
 
-abbrev pub laid_at : List ℕ → List Node → ℕ → Laid
-laid_at entries nodes p = laid_of entries (slice_index_or nodes p no_node)
+abbrev pub laid_at : List ℕ → List Node → List Opening → ℕ → Laid
+laid_at entries nodes insides p = laid_of entries (slice_index_or nodes p no_node) (slice_index_or insides p no_inside)
+
+-- What comes after each position, and whether words end there.
+abbrev pub next_at : List ℕ → List Node → ℕ → List ℕ
+next_at entries nodes p = listed entries (slice_index_or nodes p no_node).next
+
+abbrev pub ends_at : List Node → ℕ → Bool
+ends_at nodes p = (slice_index_or nodes p no_node).may_end
 
 -- What is told of the action at each position.
 abbrev pub told_at : List Node → ℕ → Glance

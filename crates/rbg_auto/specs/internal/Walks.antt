@@ -16,7 +16,7 @@ use Rattle.rbg_auto.specs.internal.Tables.{IsSpan, Keeps, Grows, laid_at, laid_o
 
 -- What the table has at each position.
 abbrev pub laid_in : Table → ℕ → Laid
-laid_in t = laid_at t.entries.items t.nodes.items
+laid_in t = laid_at t.entries.items t.nodes.items t.insides.items
 
 -- What the table tells of the action at each position.
 abbrev pub told_in : Table → ℕ → Glance
@@ -33,14 +33,15 @@ pub record AddsList (old new : Table) : Type 0 where
   pub extends : Extends old new
   pub same : (q : ℕ) → laid_in new q ≡ laid_in old q
 
--- The node was laid at the position, if the table has it.
-pub record SetsNode (old new : Table) (p : ℕ) (node : Node) : Type 0 where
+-- The node and the opening were laid at the position, if the table has it.
+pub record SetsNode (old new : Table) (p : ℕ) (node : Node) (inside : Opening) : Type 0 where
   pub extends : Extends old new
-  pub there : p < length old.nodes.items → laid_in new p ≡ laid_of old.entries.items node
+  pub there : p < length old.nodes.items → laid_in new p ≡ laid_of old.entries.items node inside
   pub others : (q : ℕ) → ¬ (q ≡ p) → laid_in new q ≡ laid_in old q
 
 -- The action at the position was told of, if the table has it, and nothing else was changed.
 pub record Tells (old new : Table) (p : ℕ) (glance : Glance) : Type 0 where
+  pub size : length new.nodes.items ≡ length old.nodes.items
   pub entries : new.entries.items ≡ old.entries.items
   pub laid : (q : ℕ) → laid_in new q ≡ laid_in old q
   pub told : (q : ℕ) → (told_in new q ≡ told_in old q) ⊎ ((q ≡ p) × (told_in new q ≡ glance))

@@ -29,3 +29,6 @@ returns-in-Modifies-clause-plain g c = modifies_plain c.args.rules.now.rules c.r
 pub returns-in-Unknown-clause-outcome : goal.returns-in-Unknown-clause-outcome
 returns-in-Unknown-clause-outcome g c =
     subst (λ (x : AbstractGame). IfSome c.tried_at.result (λ outcome. IsOutcome x c.args.state.now.state c.args.vertex c.args.position outcome)) c.game-in-Unknown.ensures.game c.tried_at.ensures.outcome
+
+pub returns-in-OnEither-clause-plain : goal.returns-in-OnEither-clause-plain
+returns-in-OnEither-clause-plain g c = no_pattern c.args.rules.now.rules c.requires.lawful.numbered c.args.position (on (c.in-OnEither.piece ∷ c.in-OnEither.other ∷ [])) c.in-OnEither.ensures refl

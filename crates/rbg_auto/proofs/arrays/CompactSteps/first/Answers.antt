@@ -7,4 +7,4 @@ pub returns-in-Rules : goal.returns-in-Rules
 returns-in-Rules c = λ rules is. let h : IsCompactOf c.args.self.now rules = is in rw c.in-Rules.is (rw c.list.ensures (h.steps.first_of outermost))
 
 pub returns-in-Inside : goal.returns-in-Inside
-returns-in-Inside c = λ rules is. let h : IsCompactOf c.args.self.now rules = is in rw c.in-Inside.is (rw c.list-in-Inside.ensures (rw c.node.ensures.node (h.steps.first_of (inside c.in-Inside.position))))
+returns-in-Inside c = λ rules is. let h : IsCompactOf c.args.self.now rules = is in rw c.in-Inside.is (rw c.list-in-Inside.ensures (rw c.inside.ensures.inside (h.steps.first_of (inside c.in-Inside.position))))

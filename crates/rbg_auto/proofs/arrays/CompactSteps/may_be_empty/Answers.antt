@@ -7,4 +7,4 @@ pub returns-in-Rules : goal.returns-in-Rules
 returns-in-Rules c = λ rules is. let h : IsCompactOf c.args.self.now rules = is in rw c.in-Rules.is (h.steps.empty outermost)
 
 pub returns-in-Inside : goal.returns-in-Inside
-returns-in-Inside c = λ rules is. let h : IsCompactOf c.args.self.now rules = is in rw c.in-Inside.is (rw c.node.ensures.node (h.steps.empty (inside c.in-Inside.position)))
+returns-in-Inside c = λ rules is. let h : IsCompactOf c.args.self.now rules = is in rw c.in-Inside.is (rw c.inside.ensures.inside (h.steps.empty (inside c.in-Inside.position)))

@@ -52,10 +52,18 @@ returns-clause-met c =
 
 pub returns-then-are_marked-clause-met : goal.returns-then-are_marked-clause-met
 returns-then-are_marked-clause-met c =
-    let q : Inside = c.self.inside in
-    let has : All (λ p. HasMark q.vertices q.marks (c.args.vertex, p)) c.args.positions.now = rw (← c.self.view_is) at c.requires in
+    let q : Inside = c.if-len-self.self-inside in
+    let same : Same c.self.inside q = elim c.if-len-self.branch [
+      | then-len-self+in_ok-widen w ↦
+          let items = w.in_ok-widen.ensures.items.1 in
+          rw w.self-inside-is (record { vertices = refl; marks = refl; rows = refl; words = refl; pairs = rw items (take-append-le _ _ _ c.self.invariant.0) })
+      | else-len-self w ↦ rw w.self-inside-is (record { vertices = refl; marks = refl; rows = refl; words = refl; pairs = refl })
+    ] in
+    let are : AreMarked q.vertices q.marks q.rows q.words.items (take q.met q.room.items) = all_same c.self.inside q same c.self.invariant.1 in
+    let has : All (λ p. HasMark c.self.inside.vertices c.self.inside.marks (c.args.vertex, p)) c.args.positions.now = rw (← c.self.view_is) at c.requires in
+    let has_here : All (λ p. HasMark q.vertices q.marks (c.args.vertex, p)) c.args.positions.now = rw (same.vertices, same.marks) has in
     let marked : All (λ p. is_marked q.words.items (mark_at q.rows (c.args.vertex, p)) ≡ true) c.args.positions.now =
     subst (λ (ws : List ℕ). All (λ p. is_marked ws (mark_at q.rows (c.args.vertex, p)) ≡ true) c.args.positions.now) c.deref.ensures.value (c.if-are_marked.ensures refl) in
-    let pairs : take q.met q.room.items ≡ c.args.self.now.pairs = ap (λ (m : Met). m.pairs) c.self.view_is in
-    subst (λ (xs : List (ℕ × ℕ)). MeetsAll xs xs c.args.vertex c.args.positions.now) pairs
-    (met_all_before q.vertices q.marks q.rows q.words.items (take q.met q.room.items) c.args.vertex c.args.positions.now c.self.invariant.1 has marked)
+    let pairs : take q.met q.room.items ≡ c.args.self.now.pairs = same.pairs ∙ ap (λ (m : Met). m.pairs) c.self.view_is in
+    subst (λ (xs : List (ℕ × ℕ)). MeetsAll xs (take q.met q.room.items) c.args.vertex c.args.positions.now) pairs
+    (met_all_before q.vertices q.marks q.rows q.words.items (take q.met q.room.items) c.args.vertex c.args.positions.now are has_here marked)
