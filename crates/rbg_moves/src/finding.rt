@@ -26,7 +26,7 @@ use rbg_auto::Steps;
 use rbg_base::{Position, Vertex};
 use rbg_pairs::{MAX_PAIRS, Move, Pair};
 use rbg_rules::Game;
-use rbg_search::{Over, Search};
+use rbg_search::{Over, Search, Workspace as SearchWorkspace};
 use rbg_state::SemiState;
 use std::alloc::Global;
 
@@ -99,20 +99,87 @@ pub fn find_pairs_with<S: Steps>(
     ensures wide { result ≡ Err Over.Wide → IsWideAt game.now find_move place.now }
     ensures fits { OnOk result ((cut : Bool) → FitsLimits game.now cut find_move place.now) }
 {
-    let _positions = game.positions();
     workspace.asked.copy_from(&place.state)?;
-    workspace.front.clear();
-    let mut search = search_in(alloc, game, steps, &mut workspace.searches);
-    let found = find(
-        &mut search,
+    let found = find_from(
+        alloc,
+        game,
+        steps,
         &mut workspace.asked,
+        place.after,
+        &mut workspace.searches,
         &mut workspace.front,
         &mut workspace.buffer,
-        place.after,
     )?;
+    Ok(found)
+}
+
+/// As `find_pairs_with`, but asked on the place's own semi-state, which is given back. Where there is no answer, what is
+/// left there is no use.
+pub fn find_pairs_on<S: Steps>(
+    alloc: Global,
+    game: &Game,
+    steps: &S,
+    place: &mut Place,
+    workspace: &mut Workspace,
+) -> Result<Option<Vec<Pair>>, Over>
+    requires steps { S.of_rules steps.now game.now.rules }
+    requires place { IsPlaceOf game.now place.old }
+    ensures found { IfOk result (λ found. IfSome found (λ pairs. IsLegal game.now place.old pairs.items)) }
+    ensures length { IfOk result (λ found. IfSome found (λ pairs. IsMoveLength (length pairs.items))) }
+    ensures finished { IfOk result (λ found. IfNone found (Finished game.now place.old)) }
+    ensures kept { OnOk result (place.new ≡ place.old) }
+    ensures heavy { (result ≡ Err Over.Deep) ⊎ (result ≡ Err Over.Wide) → IsHeavyToFind game.now place.old }
+    ensures deep { result ≡ Err Over.Deep → IsDeepAt game.now find_move place.old }
+    ensures wide { result ≡ Err Over.Wide → IsWideAt game.now find_move place.old }
+    ensures fits { OnOk result ((cut : Bool) → FitsLimits game.now cut find_move place.old) }
+{
+    let after = place.after;
+    let found = find_from(
+        alloc,
+        game,
+        steps,
+        &mut place.state,
+        after,
+        &mut workspace.searches,
+        &mut workspace.front,
+        &mut workspace.buffer,
+    )?;
+    Ok(found)
+}
+
+/// Some move at this semi-state after this position, with the buffers of a workspace.
+fn find_from<S: Steps>(
+    alloc: Global,
+    game: &Game,
+    steps: &S,
+    state: &mut SemiState,
+    after: Option<Position>,
+    searches: &mut SearchWorkspace,
+    front: &mut Vec<Pair>,
+    whole: &mut Vec<Pair>,
+) -> Result<Option<Vec<Pair>>, Over>
+    requires steps { S.of_rules steps.now game.now.rules }
+    requires place { IsPlaceOf game.now (record { state = state.old.state; last = after }) }
+    ensures found { IfOk result (λ found. IfSome found (λ pairs.
+        IsLegal game.now (record { state = state.old.state; last = after }) pairs.items)) }
+    ensures length { IfOk result (λ found. IfSome found (λ pairs. IsMoveLength (length pairs.items))) }
+    ensures finished { IfOk result (λ found. IfNone found
+        (Finished game.now (record { state = state.old.state; last = after }))) }
+    ensures kept { OnOk result (state.new.state ≡ state.old.state) }
+    ensures deep { result ≡ Err Over.Deep
+        → IsDeepAt game.now find_move (record { state = state.old.state; last = after }) }
+    ensures wide { result ≡ Err Over.Wide
+        → IsWideAt game.now find_move (record { state = state.old.state; last = after }) }
+    ensures fits { OnOk result ((cut : Bool)
+        → FitsLimits game.now cut find_move (record { state = state.old.state; last = after })) }
+{
+    let _positions = game.positions();
+    front.clear();
+    let mut search = search_in(alloc, game, steps, searches);
+    let found = find(&mut search, state, front, whole, after)?;
     // What was taken up is within the budget.
     let _opened = search.opened();
-    search.leave(&mut workspace.searches);
+    search.leave(searches);
     Ok(found)
 }
 

@@ -11,7 +11,7 @@ mod trying;
 mod turns;
 mod workspace;
 
-pub use finding::{find_move, find_move_with, find_pairs_with};
+pub use finding::{find_move, find_move_with, find_pairs_on, find_pairs_with};
 pub use list::{Gathered, Listed, gather_moves_with, list_moves, list_moves_with};
 pub use making::{make_move, make_move_into, make_move_on, make_move_with};
 pub use place::Place;

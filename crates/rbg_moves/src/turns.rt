@@ -10,6 +10,9 @@ use rbg_base::{Position, Vertex};
 use rbg_pairs::Pair;
 use rbg_rules::Game;
 
+/// How many turns look for the least of the pairs that are left, before the rest is sorted.
+const FEW_TURNS: usize = 8;
+
 /// The first of the pairs, by vertex and then by position, that is of a switch.
 pub(crate) fn least_switch(game: &Game, pairs: &[(Vertex, Position)]) -> Option<Pair>
     requires lawful { IsGame game.now }
@@ -45,16 +48,18 @@ fn is_before(a: (Vertex, Position), b: (Vertex, Position)) -> bool {
     a.0 < b.0 || (a.0 == b.0 && a.1 < b.1)
 }
 
-/// Brings the pair whose turn it is to its place. The first one is found by a look at each. Only where there is a second
-/// turn, the others are sorted.
+/// Brings the pair whose turn it is to its place. Each of the first turns looks at the pairs that are left for the least of
+/// them. Only where there is a turn behind these, the rest is sorted, once.
 pub(crate) fn put_in_turn(pairs: &mut Vec<(Vertex, Position)>, turn: usize)
     ensures permutation { IsPermutation pairs.old.items pairs.new.items }
     ensures before { take turn pairs.new.items ≡ take turn pairs.old.items }
 {
-    match turn {
-        0 => bring_least(pairs),
-        1 => sort_rest(pairs),
-        _ => {}
+    if turn < pairs.len() {
+        if turn < FEW_TURNS {
+            bring_least(&mut pairs[turn..]);
+        } else if turn == FEW_TURNS {
+            pairs[turn..].sort_unstable();
+        }
     }
 }
 
@@ -62,19 +67,13 @@ pub(crate) fn put_in_turn(pairs: &mut Vec<(Vertex, Position)>, turn: usize)
 fn bring_least(pairs: &mut [(Vertex, Position)])
     ensures { IsPermutation pairs.old pairs.new }
 {
+    let mut least = 0;
     for index in 1..pairs.len() {
-        if is_before(pairs[index], pairs[0]) {
-            pairs.swap(0, index);
+        if is_before(pairs[index], pairs[least]) {
+            least = index;
         }
     }
-}
-
-/// Sorts the pairs behind the first one.
-fn sort_rest(pairs: &mut [(Vertex, Position)])
-    ensures permutation { IsPermutation pairs.old pairs.new }
-    ensures first { take 1 pairs.new ≡ take 1 pairs.old }
-{
-    if pairs.len() > 1 {
-        pairs[1..].sort_unstable();
+    if least > 0 {
+        pairs.swap(0, least);
     }
 }

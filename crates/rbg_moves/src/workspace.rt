@@ -12,7 +12,7 @@ use std::alloc::Global;
 #[derive(Debug, Drop)]
 pub struct Workspace {
     pub(crate) searches: SearchWorkspace,
-    /// The semi-state on which a question is asked.
+    /// The copy of a semi-state on which a question is asked.
     pub(crate) asked: SemiState,
     /// The modifiers that a question has applied, each with its vertex.
     pub(crate) front: Vec<Pair>,

@@ -7,7 +7,7 @@ ghost use Rattle.rbg_perft.specs.Counting.{AreCounted, AreCountedBehind, AreLega
 use crate::error::CountError;
 use crate::settling::settle;
 use rbg_auto::Steps;
-use rbg_moves::{MoveList, Place, Workspace, find_pairs_with, gather_moves_with, make_move_into};
+use rbg_moves::{MoveList, Place, Workspace, find_pairs_on, gather_moves_with, make_move_into};
 use rbg_rules::Game;
 use std::alloc::Global;
 
@@ -132,15 +132,15 @@ fn count_here<S: Steps>(
     alloc: Global,
     game: &Game,
     steps: &S,
-    place: &Place,
+    place: &mut Place,
     workspace: &mut Workspace,
 ) -> Result<Counts, CountError>
     requires steps { S.of_rules steps.now game.now.rules }
-    requires place { IsPlaceOf game.now place.now }
+    requires place { IsPlaceOf game.now place.old }
     ensures one { IfOk result (λ counts. counts.sequences ≡ 1) }
-    ensures ended { IfOk result (λ counts. TellsFinished game.now place.now counts.ended) }
+    ensures ended { IfOk result (λ counts. TellsFinished game.now place.old counts.ended) }
 {
-    match find_pairs_with(alloc, game, steps, place, workspace)? {
+    match find_pairs_on(alloc, game, steps, place, workspace)? {
         Some(pairs) => {
             workspace.keep_pairs(pairs);
             Ok(GOING)

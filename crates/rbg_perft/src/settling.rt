@@ -7,7 +7,7 @@ ghost use Rattle.rbg_perft.specs.Counting.{Settles};
 use crate::error::CountError;
 use rbg_auto::Steps;
 use rbg_base::Memory;
-use rbg_moves::{Pair, Place, Workspace, find_pairs_with, make_move_on};
+use rbg_moves::{Pair, Place, Workspace, find_pairs_on, make_move_on};
 use rbg_rules::Game;
 use std::alloc::Global;
 
@@ -31,7 +31,7 @@ pub(crate) fn settle<S: Steps>(
         if place.state.player() != 0 {
             return Ok(());
         }
-        match find_pairs_with(alloc, game, steps, place, workspace)? {
+        match find_pairs_on(alloc, game, steps, place, workspace)? {
             Some(pairs) => make(game, place, pairs, workspace)?,
             None => return Ok(()),
         }

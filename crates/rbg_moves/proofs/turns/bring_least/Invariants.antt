@@ -1,6 +1,6 @@
--- The pairs were only exchanged.
-use Rattle.std.specs.List.Sorted.{IsPermutation}
+-- The least pair seen so far is one of the pairs.
+use Rattle.std.proofs.Common.{◌≡◌, ◌⊎◌, ◌<◌, length}
 use Rattle.rbg_moves.proofs.turns.bring_least.Given as goal
 
 abbrev pub invariant-loop-index : goal.invariant-loop-index
-invariant-loop-index l = IsPermutation l.fn.pairs l.pairs
+invariant-loop-index l = (l.least ≡ 0) ⊎ (l.least < length l.pairs)
