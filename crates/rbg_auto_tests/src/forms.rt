@@ -1,6 +1,6 @@
 //! Both forms of the automaton give the same answers.
 use crate::generated::Generator;
-use rbg_auto::{Expr, Steps, compact, compact_tree, compile, compile_tree};
+use rbg_auto::{Expr, Glance, Steps, compact, compact_tree, compile, compile_tree};
 use rbg_base::Position;
 use rbg_game::load;
 use std::alloc::{AllocError, Global};
@@ -56,6 +56,10 @@ fn entries(rt: &impl Abort, alloc: Global, rules: &str) -> Result<usize, AllocEr
     let compact = compact(alloc, &game)?;
     let same = agree(&plain, &compact, game.positions() as Position);
     assert!(rt; same, "at {rules}");
+    assert!(rt;
+        compact.lend().is_some() && plain.lend().is_none(),
+        "lent at {rules}"
+    );
     Ok(compact.entries())
 }
 
@@ -74,6 +78,38 @@ fn both_forms_agree_on_games(rt: HostRuntime) -> Result<(), Fail> {
     ] {
         let found = entries(&rt, rt.alloc(), rules)?;
         assert_eq!(rt; found, want, "at {rules}");
+    }
+    Ok(())
+}
+
+#[test]
+fn common_actions_are_told_at_a_glance(rt: HostRuntime) -> Result<(), Fail> {
+    let text =
+        b"#players = white(100), black(100)\n#pieces = e, w, b\n#variables = n(3)\n#board = rectangle(up,down,left,right,[w,e])\n#rules = ->white {w} {w,e} {? right} right [w] {w,e,b} {$ n < 2} [$ n = n + 1] ->black";
+    let Ok(game) = load(rt.alloc(), text) else {
+        assert!(rt; false);
+        return Ok(());
+    };
+    let automaton = compact(rt.alloc(), &game)?;
+    for (index, told) in [
+        Glance::Unknown,
+        Glance::Modifies,
+        Glance::On(1),
+        Glance::OnEither(1, 0),
+        Glance::Pattern,
+        Glance::Shift(3),
+        Glance::Shift(3),
+        Glance::Modifies,
+        Glance::Unknown,
+        Glance::Unknown,
+        Glance::Unknown,
+        Glance::Modifies,
+        Glance::Unknown,
+    ]
+    .iter()
+    .enumerate()
+    {
+        assert_eq!(rt; automaton.glance(index as Position), *told, "at {index}");
     }
     Ok(())
 }
