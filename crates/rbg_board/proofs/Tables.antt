@@ -5,7 +5,7 @@ use Rattle.std.proofs.lemmas.Bool.{cases_lt}
 use Rattle.std.proofs.lemmas.List.{get_or_past, get_or_default, length-take-le}
 use Rattle.std.proofs.lemmas.List.FromFn.{get_or-map-range_with_len, length-map-range_with_len}
 use Rattle.std.proofs.lemmas.Nat.{row_fits, mul-add-lt, div_below, mod_below, div-add-mod'}
-use Rattle.rbg_board.specs.Graph.{next, IsClosed, HasWidth}
+use Rattle.rbg_board.specs.Graph.{Graph, next, IsClosed, HasWidth}
 use Rattle.rbg_board.specs.Table.{rows_of_table, graph_of_table, IsTable}
 
 module _ (first : List ℕ) (width : ℕ) (table : List (Option ℕ)) where
@@ -83,3 +83,9 @@ all_entries P vertices width table size each k e within =
     let place : k / width * width + k % width ≡ k = div-add-mod' k width in
     let entry : get_or table (k / width * width + k % width) None ≡ get_or table k e = ap (λ n. get_or table n None) place ∙ get_or_default table k None e within in
     subst P entry (each (k / width) (k % width) (div_below k width vertices wide inside) (mod_below k width wide))
+
+-- A graph with a vertex has one width.
+pub one_width : (g : Graph) (a b v : ℕ) → HasWidth a g → HasWidth b g → v < length g.first → a ≡ b
+one_width g a b v first second is_vertex =
+    let there : v < length g.ways = omega (arith, is_vertex, first.rows) in
+    sym (first.entries v [] there) ∙ second.entries v [] there

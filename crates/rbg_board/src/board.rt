@@ -110,6 +110,14 @@ impl<'a> Model for LentBoard<'a> {
 }
 
 impl<'a> LentBoard<'a> {
+    /// How many directions each vertex has an entry for: those below this number.
+    #[inline(always)]
+    pub fn width(&self) -> usize
+        ensures width { HasWidth result self.now }
+    {
+        self.width
+    }
+
     /// The vertex to which a direction leads, or None if it leads nowhere.
     #[inline(always)]
     pub fn step(&self, vertex: Vertex, direction: Direction) -> Option<Vertex>
@@ -117,11 +125,21 @@ impl<'a> LentBoard<'a> {
         ensures next { result ≡ next self.now vertex direction }
         ensures is_vertex { IfSome result (λ to. to < length self.now.first) }
     {
-        let direction = direction as usize;
-        if direction < self.width {
-            self.table[vertex as usize * self.width + direction]
+        if (direction as usize) < self.width {
+            self.step_within(vertex, direction)
         } else {
             None
         }
+    }
+
+    /// As `step`, where there is an entry for the direction.
+    #[inline(always)]
+    pub fn step_within(&self, vertex: Vertex, direction: Direction) -> Option<Vertex>
+        requires vertex { vertex < length self.now.first }
+        requires direction { (width : ℕ) → HasWidth width self.now → direction < width }
+        ensures next { result ≡ next self.now vertex direction }
+        ensures is_vertex { IfSome result (λ to. to < length self.now.first) }
+    {
+        self.table[vertex as usize * self.width + direction as usize]
     }
 }

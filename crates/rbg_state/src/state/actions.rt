@@ -129,6 +129,7 @@ impl SemiState {
     }
 
     /// The value of an expression, if there is one and a variable with this bound may hold it.
+    #[tactic(auto, using(rbg_rules::proofs::Bridge::translation, crate::proofs::Fits::by_conversion))]
     pub(super) fn assigned(&self, expression: &Arithmetic, bound: u32) -> Option<u32>
         requires { ReadsBelow (length self.now.state.values) (arithmetic_of expression.now) }
         ensures some { IfSome result (λ n. (value_of (arithmetic_of expression.now) self.now.state ≡ Some (pos n))
@@ -136,7 +137,11 @@ impl SemiState {
         ensures none { IfNone result ((n : ℕ) → value_of (arithmetic_of expression.now) self.now.state ≡ Some (pos n)
             → ¬ (n ≤ bound)) }
     {
-        let value = self.evaluate(expression)?;
+        // a number alone is what most assignments have
+        let value = match expression {
+            Arithmetic::Number(number) => i64::try_from(*number).ok()?,
+            _ => self.evaluate(expression)?,
+        };
         if value < 0 || value > i64::from(bound) {
             return None;
         }
