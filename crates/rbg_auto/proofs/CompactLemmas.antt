@@ -1,5 +1,5 @@
 -- The table of a game's rules has their steps.
-use Rattle.std.proofs.Common.{◌≡◌, ℕ, zero, suc, ◌+◌, ◌<◌, ◌⊎◌, List, [], length, get_or, refl, sym, ap, ◌∙◌, subst, inl, inr, Bool, IsTrue, ◌↔◌, arith}
+use Rattle.std.proofs.Common.{◌≡◌, ℕ, zero, suc, ◌+◌, ◌<◌, ◌⊎◌, List, [], length, get_or, refl, sym, ap, ◌∙◌, subst, inl, inr, Bool, arith}
 use Rattle.std.specs.Prelude.{replicate}
 use Rattle.std.specs.List.{range_with_len}
 use Rattle.rbg_rules.specs.declared.rule.Action.{Action}
@@ -8,22 +8,18 @@ use Rattle.rbg_rules.specs.Expression.{Expression}
 use Rattle.rbg_rules.specs.Positions.{positions_of, IsNumbered}
 use Rattle.rbg_rules.specs.Games.{HasNoEmptySum}
 use Rattle.rbg_rules.specs.Translation.{expression_of}
-use Rattle.rbg_rules.specs.Words.{after, Ends}
 use Rattle.rbg_rules.proofs.PositionLemmas.{Among}
 use Rattle.rbg_auto.specs.declared.span.Node.{Node}
 use Rattle.rbg_auto.specs.declared.span.Opening.{Opening}
 use Rattle.rbg_auto.specs.declared.arrays.Compact.{Compact}
-use Rattle.rbg_auto.specs.declared.lent.Lent.{Lent}
 use Rattle.rbg_auto.specs.declared.table.Table.{Table}
 use Rattle.rbg_auto.specs.declared.steps.Glance.{Glance}
 use Rattle.rbg_auto.specs.declared.steps.Glance.TheVariants.{Unknown}
-use Rattle.rbg_auto.specs.Steps.{AreStepsOf, AreNext, IsGlance}
-use Rattle.rbg_auto.specs.Lent.{IsLentOf}
+use Rattle.rbg_auto.specs.Steps.{AreStepsOf, IsGlance}
 use Rattle.rbg_auto.specs.internal.Laying.{Laid, nothing, IsLawful, first_at, empty_at, IsWhole}
-use Rattle.rbg_auto.specs.internal.Tables.{listed, laid_of, next_at, ends_at, told_at, no_node, no_inside, IsNextWithin}
-use Rattle.rbg_auto.specs.internal.Compacts.{IsCompactOf}
+use Rattle.rbg_auto.specs.internal.Tables.{listed, laid_of, told_at, no_node, no_inside}
+use Rattle.rbg_auto.specs.internal.Compacts.{IsCompactOf, MayBeLent}
 use Rattle.rbg_auto.specs.internal.Walks.{laid_in, told_in, LaysLevel, Tells}
-use Rattle.rbg_auto.proofs.WalkLemmas.{next_within}
 use Rattle.rbg_auto.proofs.WholeLemmas.{numbered_ascends, whole_steps}
 
 get_or-replicate : {X : Type 0} (x : X) (n q : ℕ) → get_or (replicate n x) q x ≡ x
@@ -79,18 +75,6 @@ has_each tree positions count same old new opening blank lays =
     let size : length new.nodes.items ≡ positions + 1 = lays.extends.size ∙ ap (λ (ns : List Node). length ns) blank.nodes ∙ length-replicate (positions + 1) in
     omega (arith, size, same)
 
--- What the table of an automaton lends of its rules.
-pub lends : (c : Compact) (rules : Expression) → IsCompactOf c rules → (lent : Lent) → lent.nodes.now ≡ c.table.nodes.items → lent.entries.now ≡ c.table.entries.items → IsLentOf rules lent
-lends c rules is lent nodes entries = record {
-  has = λ p below. record {
-    there = subst (λ (ns : List Node). p < length ns) (sym nodes) (omega (arith, below, is.has));
-    within = subst (λ (ns : List Node). IsNextWithin (length lent.entries.now) (get_or ns p no_node)) (sym nodes) (subst (λ (es : List ℕ). IsNextWithin (length es) (get_or c.table.nodes.items p no_node)) (sym entries) (next_within c.table p));
-  };
-  next = λ p. subst (λ (ns : List Node). AreNext rules p (next_at lent.entries.now ns p)) (sym nodes) (subst (λ (es : List ℕ). AreNext rules p (next_at es c.table.nodes.items p)) (sym entries) (is.steps.next_of p));
-  ends = λ p. subst (λ (ns : List Node). IsTrue (ends_at ns p) ↔ Ends rules (after p) []) (sym nodes) (is.steps.ends p);
-  told = λ p. subst (λ (ns : List Node). IsGlance rules p (told_at ns p)) (sym nodes) (is.told p);
-}
-
 -- The walk tells of no action.
 pub untold : (rules : Expression) (tree : Rule) (old new : Table) (opening : Opening) (n : ℕ) → IsBlank old n → LaysLevel old new tree opening → (p : ℕ) → IsGlance rules p (told_in new p)
 untold rules tree old new opening n blank lays p =
@@ -102,14 +86,15 @@ abbrev StepsBy : Expression → List ℕ → Bool → (ℕ → Laid) → Type 0
 StepsBy rules first may at = AreStepsOf rules (first_at first at) (λ i. (at i).next) (λ i. (at i).may_end) (empty_at may at)
 
 -- To tell what is right keeps the steps.
-pub tells_right : (old new : Compact) (rules : Expression) (p : ℕ) (glance : Glance) → new.rules ≡ old.rules → Tells old.table new.table p glance → IsGlance rules p glance → IsCompactOf old rules → IsCompactOf new rules
-tells_right old new rules p glance opening tells right is = record {
+pub tells_right : (old new : Compact) (rules : Expression) (p : ℕ) (glance : Glance) → new.rules ≡ old.rules → new.prepared ≡ old.prepared → Tells old.table new.table p glance → IsGlance rules p glance → IsCompactOf old rules → IsCompactOf new rules
+tells_right old new rules p glance opening prepared tells right is = record {
   steps =
       subst (λ (o : Opening). StepsBy rules (listed new.table.entries.items o.first) o.may_be_empty (laid_in new.table)) (sym opening)
       (subst (λ (entries : List ℕ). StepsBy rules (listed entries old.rules.first) old.rules.may_be_empty (laid_in new.table)) (sym tells.entries)
       (subst (StepsBy rules (listed old.table.entries.items old.rules.first) old.rules.may_be_empty) (sym same) is.steps));
   told = λ q. told q (tells.told q);
   has = subst (λ (n : ℕ). length (positions_of rules) < n) (sym tells.size) is.has;
+  lends = λ steps some. subst (λ (entries : List ℕ). MayBeLent rules steps.items entries) (sym tells.entries) (is.lends steps (sym prepared ∙ some));
 }
   where
     same : laid_in new.table ≡ laid_in old.table

@@ -10,5 +10,6 @@ pub mod TreeLemmas
 pub mod LayTreeLemmas
 pub mod WalkLemmas
 pub mod CompactLemmas
+pub mod PreparedLemmas
 pub mod UnionLemmas
 pub mod PlaceLemmas

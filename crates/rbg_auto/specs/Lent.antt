@@ -1,20 +1,34 @@
 -- What is lent of an automaton.
-use Rattle.std.specs.Prelude.{ℕ, ◌<◌, ◌≤◌, [], IsTrue, ◌↔◌, length, slice_index_or}
+use Rattle.std.specs.Prelude.{ℕ, ◌+◌, ◌<◌, ◌≤◌, ◌≢◌, List, [], length, slice_range, slice_index_or}
 use Rattle.rbg_rules.specs.Expression.{Expression}
 use Rattle.rbg_rules.specs.Positions.{positions_of}
 use Rattle.rbg_rules.specs.Words.{after, Ends}
 use Rattle.rbg_auto.specs.declared.lent.Lent.{Lent}
+use Rattle.rbg_auto.specs.declared.lent.Step.{Step}
+use Rattle.rbg_auto.specs.declared.steps.Glance.TheVariants.{Unknown}
 use Rattle.rbg_auto.specs.Steps.{AreNext, IsGlance}
-use Rattle.rbg_auto.specs.internal.Tables.{IsSpan, no_node, next_at, ends_at, told_at}
 
--- There is an answer for position p: a node, whose list is within the entries.
+-- A step with no list, which tells nothing.
+abbrev pub no_step : Step
+no_step = record { start = 0; len = 0; glance = Unknown }
+
+-- The step at each position.
+abbrev pub step_at : List Step → ℕ → Step
+step_at steps p = slice_index_or steps p no_step
+
+-- The list of a step.
+abbrev pub list_of : List ℕ → Step → List ℕ
+list_of entries step = slice_range entries step.start (step.start + step.len)
+
+-- There is an answer for position p: a step, whose list is within the entries.
 pub record HasAnswer (lent : Lent) (p : ℕ) : Type 0 where
-  pub there : p < length lent.nodes.now
-  pub within : IsSpan (length lent.entries.now) (slice_index_or lent.nodes.now p no_node).next
+  pub there : p < length lent.steps.now
+  pub within : (step_at lent.steps.now p).start + (step_at lent.steps.now p).len ≤ length lent.entries.now
 
--- What is lent has an answer for each position of the rules and for 0, and its answers are right.
+-- What is lent has an answer for each position of the rules and for 0, and its answers are right. Where something is
+-- told of an action, no word may end after it.
 pub record IsLentOf (rules : Expression) (lent : Lent) : Type 0 where
   pub has : (p : ℕ) → p ≤ length (positions_of rules) → HasAnswer lent p
-  pub next : (p : ℕ) → AreNext rules p (next_at lent.entries.now lent.nodes.now p)
-  pub ends : (p : ℕ) → IsTrue (ends_at lent.nodes.now p) ↔ Ends rules (after p) []
-  pub told : (p : ℕ) → IsGlance rules p (told_at lent.nodes.now p)
+  pub next : (p : ℕ) → AreNext rules p (list_of lent.entries.now (step_at lent.steps.now p))
+  pub told : (p : ℕ) → IsGlance rules p (step_at lent.steps.now p).glance
+  pub quiet : (p : ℕ) → (step_at lent.steps.now p).glance ≢ Unknown → ¬ Ends rules (after p) []

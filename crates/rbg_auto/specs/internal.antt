@@ -5,5 +5,6 @@ pub mod Laying
 pub mod Trees
 pub mod Tables
 pub mod Walks
+pub mod Prepared
 pub mod Compacts
 pub mod Places

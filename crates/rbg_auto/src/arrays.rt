@@ -2,19 +2,22 @@
 ghost use Rattle.std.specs.Prelude.{◌≡◌, length};
 ghost use Rattle.rbg_auto.specs.internal.Tables.{IsSpan};
 
-use crate::lent::Lent;
+use crate::lent::{Lent, Step};
 use crate::span::Opening;
 use crate::steps::{Expr, Glance, Steps};
 use crate::table::Table;
 use rbg_base::Position;
 
 /// The steps of a game's rules, with all lists in one array. Equal lists are in it once, and positions behind which the
-/// rules go on in the same way share one from the start. What is told at once of an action stands beside where its list
-/// is, so that a search looks at one record for each position.
+/// rules go on in the same way share one from the start. What `compact` makes has, beside what was laid at each
+/// position, a record of what a search reads of it: where its list is, and what is told at once of its action. These
+/// records are lent.
 #[derive(Debug, Drop)]
 pub struct Compact {
     pub(crate) table: Table,
     pub(crate) rules: Opening,
+    /// What is lent of each position, where it was prepared.
+    pub(crate) prepared: Option<Vec<Step>>,
     ghost begins: { IsSpan (length table.entries.items) rules.first },
 }
 
@@ -52,10 +55,13 @@ impl Steps for Compact {
     }
 
     fn lend(&self) -> Option<Lent<'_>> {
-        Some(Lent {
-            nodes: self.table.nodes.as_slice(),
-            entries: self.table.entries.as_slice(),
-        })
+        match &self.prepared {
+            Some(steps) => Some(Lent {
+                steps: steps.as_slice(),
+                entries: self.table.entries.as_slice(),
+            }),
+            None => None,
+        }
     }
 
     fn may_be_empty(&self, expr: Expr) -> bool {

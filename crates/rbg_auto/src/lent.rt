@@ -1,30 +1,45 @@
 //! The answers of an automaton by position, lent as slices.
-ghost use Rattle.std.specs.Prelude.{ℕ, [], IsTrue, ◌↔◌};
+ghost use Rattle.std.specs.Prelude.{[], ◌≢◌};
 ghost use Rattle.rbg_rules.specs.Expression.{Expression};
 ghost use Rattle.rbg_rules.specs.Words.{after, Ends};
+ghost use Rattle.rbg_auto.specs.declared.steps.Glance.TheVariants.{Unknown};
 ghost use Rattle.rbg_auto.specs.Steps.{AreNext, IsGlance};
 ghost use Rattle.rbg_auto.specs.Lent.{HasAnswer, IsLentOf};
 
-use crate::span::Node;
 use crate::steps::Glance;
 use rbg_base::Position;
+
+/// What comes after a position, and what is told at once of its action, as it is lent. A search reads many of them, so
+/// a step is small.
+#[derive(Debug, Clone, Copy, Drop)]
+pub(crate) struct Step {
+    /// Where the list of what may come next starts among the entries.
+    pub(crate) start: usize,
+    /// How many positions it has.
+    pub(crate) len: usize,
+    /// What is told of the action: nothing where words may end.
+    pub(crate) glance: Glance,
+}
 
 /// What an automaton answers of its positions, lent as slices. A loop that asks for many positions keeps it as a local,
 /// so that what it needs stays at hand.
 #[derive(Debug, Clone, Copy, Drop)]
 pub struct Lent<'a> {
-    pub(crate) nodes: &'a [Node],
+    pub(crate) steps: &'a [Step],
     pub(crate) entries: &'a [Position],
 }
 
 impl<'a> Lent<'a> {
-    /// What is told at once of the action at a position.
+    /// What is told at once of the action at a position. Nothing is told where words may end, so a search that is told
+    /// something need not ask for that.
     #[inline(always)]
     pub fn glance(&self, position: Position) -> Glance
         requires { HasAnswer self.now position }
-        ensures { (rules : Expression) → IsLentOf rules self.now → IsGlance rules position result }
+        ensures told { (rules : Expression) → IsLentOf rules self.now → IsGlance rules position result }
+        ensures quiet { (rules : Expression) → IsLentOf rules self.now →
+            result ≢ Unknown → ¬ Ends rules (after position) [] }
     {
-        self.nodes[position as usize].glance
+        self.steps[position as usize].glance
     }
 
     /// The positions that come directly after a position.
@@ -33,16 +48,7 @@ impl<'a> Lent<'a> {
         requires { HasAnswer self.now position }
         ensures { (rules : Expression) → IsLentOf rules self.now → AreNext rules position result.now }
     {
-        let span = self.nodes[position as usize].next;
-        &self.entries[span.start..span.end]
-    }
-
-    /// Whether a word ends at a position.
-    #[inline(always)]
-    pub fn may_end(&self, position: Position) -> bool
-        requires { HasAnswer self.now position }
-        ensures { (rules : Expression) → IsLentOf rules self.now → IsTrue result ↔ Ends rules (after position) [] }
-    {
-        self.nodes[position as usize].may_end
+        let step = self.steps[position as usize];
+        &self.entries[step.start..step.start + step.len]
     }
 }

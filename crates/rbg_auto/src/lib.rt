@@ -7,6 +7,7 @@ pub mod laws;
 mod lent;
 mod packing;
 mod plain;
+mod prepare;
 mod rest;
 mod shelf;
 mod span;

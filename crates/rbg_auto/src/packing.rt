@@ -9,6 +9,7 @@ ghost use Rattle.rbg_rules.specs.Translation.{expression_of};
 ghost use Rattle.rbg_auto.specs.Steps.{IsGlance};
 
 use crate::arrays::Compact;
+use crate::prepare::prepare;
 use crate::steps::{Glance, Steps};
 use crate::walk::Walk;
 use rbg_base::{Memory, Piece, Position};
@@ -16,7 +17,7 @@ use rbg_rules::{Action, Game, Rule};
 use std::alloc::Global;
 
 /// The automaton of a tree with that many positions, whatever actions stand at them, where the positions are numbered
-/// and no sum is empty. It tells of no action.
+/// and no sum is empty. It tells of no action, and lends nothing.
 pub fn compact_tree(alloc: Global, tree: &Rule, positions: usize) -> Result<Compact, Memory>
     requires { positions < 2 ^ 32 }
     ensures { IfOk result (λ automaton.
@@ -31,6 +32,7 @@ pub fn compact_tree(alloc: Global, tree: &Rule, positions: usize) -> Result<Comp
     Ok(Compact {
         table: walk.table,
         rules,
+        prepared: None,
     })
 }
 
@@ -71,11 +73,13 @@ fn tell_all(automaton: &mut Compact, game: &Game)
     }
 }
 
-/// The automaton of the game. It tells at a glance of shifts, ons of one or two pieces, offs, switches and patterns.
+/// The automaton of the game. It tells at a glance of shifts, ons of one or two pieces, offs, switches and patterns, and
+/// it lends its answers.
 pub fn compact(alloc: Global, game: &Game) -> Result<Compact, Memory>
     ensures { IfOk result (λ automaton. ⟦<Compact as Steps>⟧.of_rules automaton game.now.rules) }
 {
     let mut automaton = compact_tree(alloc, &game.rules().tree, game.positions())?;
     tell_all(&mut automaton, game);
+    automaton.prepared = Some(prepare(alloc, &automaton.table)?);
     Ok(automaton)
 }

@@ -16,7 +16,7 @@ pub(crate) struct Opening {
     pub(crate) may_be_empty: bool,
 }
 
-/// What comes after a position, and what is told at once of its action. A search reads many of them, so a node is small.
+/// What comes after a position, and what is told at once of its action.
 #[derive(Debug, Clone, Copy, Drop)]
 pub(crate) struct Node {
     pub(crate) next: Span,

@@ -16,7 +16,8 @@ pub enum Expr {
 }
 
 /// What an automaton tells at once of the action at a position, so that the game need not be asked. What `compact` makes
-/// tells of every action but assignments, comparisons, and ons of no piece or of more than two.
+/// tells of every action but assignments, comparisons, and ons of no piece or of more than two. What it lends tells of
+/// the same actions, but of none where words may end.
 #[derive(Debug, Clone, Copy, PartialEq, Eq, Drop)]
 pub enum Glance {
     /// Nothing is told.
@@ -57,7 +58,8 @@ pub trait Steps {
     fn glance(&self, position: Position) -> Glance
         ensures { (rules : Expression) → of_rules self.now rules → IsGlance rules position result };
 
-    /// The answers by position as slices, where they are kept so.
+    /// The answers by position as slices, where they were prepared so. What is lent tells nothing of an action where
+    /// words may end, whatever `glance` tells.
     fn lend(&self) -> Option<Lent<'_>>
         ensures { (rules : Expression) → of_rules self.now rules → IfSome result (IsLentOf rules) };
 

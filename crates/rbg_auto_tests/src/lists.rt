@@ -67,6 +67,7 @@ fn a_starred_sum_goes_on_and_ends(rt: HostRuntime) -> Result<(), Fail> {
     assert!(rt; automaton.first(Expr::Rules) == [1].as_slice());
     assert!(rt; automaton.may_end(4) && !automaton.may_end(3));
     assert!(rt; !automaton.may_be_empty(Expr::Rules));
+    assert!(rt; automaton.lend().is_none());
     Ok(())
 }
 

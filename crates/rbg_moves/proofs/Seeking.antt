@@ -45,6 +45,11 @@ pub part_of : (game : AbstractGame) (s : AbstractState) (f f' : Start) (xs items
 part_of game s f f' xs items ends part same is =
     subst (λ (h : Start). IsFlatPart game s h xs ends) same (subst (λ (ys : List (ℕ × ℕ)). IsFlatPart game s f' ys ends) (sym is) part)
 
+-- The pairs are those of a whole flat part.
+pub record IsWhole (game : AbstractGame) (s : AbstractState) (f : Start) (xs : List (ℕ × ℕ)) : Type 0 where
+  pub ends : Bool
+  pub part : IsFlatPart game s f xs ends
+
 -- One pair of a flat part without a switch.
 pub record AtPair (game : AbstractGame) (s : AbstractState) (f : Start) (xs : List (ℕ × ℕ)) (ends : Bool) (k : ℕ) (q : ℕ × ℕ) : Type 0 where
   pub lawful : IsGame game

@@ -1,5 +1,5 @@
 //! What the questions at a place have in common.
-ghost use Rattle.std.specs.Prelude.{◌≡◌, ◌<◌, ◌↔◌, [], ◌∷◌, ◌++◌, length, IfOk, IsTrue};
+ghost use Rattle.std.specs.Prelude.{◌≡◌, ◌<◌, ◌↔◌, [], ◌∷◌, ◌++◌, length, OnOk, IsTrue};
 ghost use Rattle.rbg_pairs.specs.Move.{IsMoveLength};
 ghost use Rattle.rbg_rules.specs.Games.{IsGame};
 ghost use Rattle.rbg_rules.specs.Limits.{most_openings, most_modifiers};
@@ -15,7 +15,6 @@ use rbg_rules::limits::{MAX_MODIFIERS, MAX_OPENINGS};
 use rbg_rules::{Action, Game};
 use rbg_search::{Budget, Origin, Search, Workspace};
 use std::alloc::Global;
-use std::mem::replace;
 
 /// A search that may take up as many openings as a question may have.
 pub(crate) fn search_in<'a, S: Steps>(
@@ -74,18 +73,12 @@ pub(crate) fn move_of(pairs: &[Pair]) -> Move
     }
 }
 
-/// These pairs and one more, in the buffer, which is left empty.
-pub(crate) fn joined(
-    buffer: &mut Vec<Pair>,
-    front: &[Pair],
-    last: Pair,
-) -> Result<Vec<Pair>, Memory>
-    ensures { IfOk result (λ pairs. pairs.items ≡ front.now ++ last ∷ []) }
+/// Puts these pairs and one more into the buffer, in place of what it held.
+pub(crate) fn join(buffer: &mut Vec<Pair>, front: &[Pair], last: Pair) -> Result<(), Memory>
+    ensures { OnOk result (buffer.new.items ≡ front.now ++ last ∷ []) }
 {
-    let alloc = *buffer.allocator();
-    let mut pairs = replace(buffer, Vec::new(alloc));
-    pairs.clear();
-    pairs.extend_from_slice(front)?;
-    pairs.push(last)?;
-    Ok(pairs)
+    buffer.clear();
+    buffer.extend_from_slice(front)?;
+    buffer.push(last)?;
+    Ok(())
 }

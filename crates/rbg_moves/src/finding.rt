@@ -1,5 +1,5 @@
 //! Some legal move, where there is one.
-ghost use Rattle.std.specs.Prelude.{◌≡◌, ◌⊎◌, ◌+◌, ◌-◌, ◌<◌, ◌≤◌, length, All, Contains, IfOk, IfSome, IfNone, OnOk, Err, Bool, false};
+ghost use Rattle.std.specs.Prelude.{◌≡◌, ◌⊎◌, ◌+◌, ◌-◌, ◌<◌, ◌≤◌, length, All, Contains, IfOk, IfSome, IfNone, IsTrue, not, OnOk, Err, Bool, false};
 ghost use Rattle.rbg_pairs.specs.Move.{most_pairs, IsMoveLength};
 ghost use Rattle.rbg_rules.specs.State.{AbstractState, IsStateOf};
 ghost use Rattle.rbg_rules.specs.Positions.{IsSwitchAt};
@@ -17,7 +17,7 @@ ghost use Rattle.rbg_search.specs.Forced.{CountsForced};
 ghost use Rattle.rbg_moves.specs.Limits.{IsDeepAt, IsWideAt, FitsLimits};
 ghost use Rattle.rbg_moves.specs.internal.Stepping.{standing_at, place_behind, IsValidAt, GoesOnByMove, GoesOnBehind};
 
-use crate::asking::{joined, move_of, origin_after, search_in};
+use crate::asking::{join, move_of, origin_after, search_in};
 use crate::place::Place;
 use crate::stepping::apply_at;
 use crate::turns::{least_switch, put_in_turn};
@@ -29,6 +29,7 @@ use rbg_rules::Game;
 use rbg_search::{Over, Search, Workspace as SearchWorkspace};
 use rbg_state::SemiState;
 use std::alloc::Global;
+use std::mem::replace;
 
 /// Some legal move; none where play is finished.
 ///
@@ -180,10 +181,14 @@ fn find_from<S: Steps>(
     // What was taken up is within the budget.
     let _opened = search.opened();
     search.leave(searches);
-    Ok(found)
+    if !found {
+        return Ok(None);
+    }
+    let pairs = replace(whole, Vec::new(alloc));
+    Ok(Some(pairs))
 }
 
-/// Some move that goes on from here, with the modifiers before it.
+/// Whether some move goes on from here. Then `whole` holds it, with the modifiers before it.
 #[cycle(finding)]
 fn find<S: Steps>(
     search: &mut Search<'_, S>,
@@ -191,18 +196,18 @@ fn find<S: Steps>(
     front: &mut Vec<Pair>,
     whole: &mut Vec<Pair>,
     after: Option<Position>,
-) -> Result<Option<Vec<Pair>>, Over>
+) -> Result<bool, Over>
     requires place { IsPlaceOf search.old.game (record { state = state.old.state; last = after }) }
     requires short { length front.old.items < most_pairs }
     ensures search { search.new ≡ record search.old { opened = search.new.opened } }
     ensures state { OnOk result (state.new ≡ record state.old { room = state.new.room }) }
     ensures room { OnOk result (state.old.room ≤ state.new.room) }
     ensures front { OnOk result (front.new.items ≡ front.old.items) }
-    ensures found { IfOk result (λ found. IfSome found (λ pairs. GoesOnByMove search.old.game
-        (record { state = state.old.state; last = after }) front.old.items pairs.items)) }
-    ensures length { IfOk result (λ found. IfSome found (λ pairs. IsMoveLength (length pairs.items))) }
-    ensures none { IfOk result (λ found. IfNone found (Finished search.old.game
-        (record { state = state.old.state; last = after }))) }
+    ensures found { IfOk result (λ found. IsTrue found → GoesOnByMove search.old.game
+        (record { state = state.old.state; last = after }) front.old.items whole.new.items) }
+    ensures length { IfOk result (λ found. IsTrue found → IsMoveLength (length whole.new.items)) }
+    ensures none { IfOk result (λ found. IsTrue (not found) → Finished search.old.game
+        (record { state = state.old.state; last = after })) }
     ensures counted { OnOk result (CountsOpenings search.old.game find_move state.old.state
         (stand_of after) search.old.opened search.new.opened) }
     ensures deep { result ≡ Err Over.Deep
@@ -216,29 +221,31 @@ fn find<S: Steps>(
         (most_pairs - length front.old.items) search.old.modifiers) }
 {
     let game = search.game();
-    let mut reached = search.reach_unordered(state, origin_after(after))?;
-    if let Some(last) = least_switch(game, &reached.pairs) {
-        let pairs = joined(whole, front, last)?;
-        search.reuse(reached)?;
-        return Ok(Some(pairs));
+    let mut pairs = search.take_list();
+    search.reach_into(state, origin_after(after), &mut pairs)?;
+    if let Some(last) = least_switch(game, &pairs) {
+        join(whole, front, last)?;
+        search.keep_list(pairs);
+        return Ok(true);
     }
-    for index in 0..reached.pairs.len() {
-        put_in_turn(&mut reached.pairs, index);
-        let (vertex, position) = reached.pairs[index];
+    for index in 0..pairs.len() {
+        put_in_turn(&mut pairs, index);
+        let (vertex, position) = pairs[index];
         if front.len() + 1 == MAX_PAIRS {
             return Err(Over::Deep);
         }
         let found = find_behind(search, state, front, whole, game, vertex, position)?;
-        if let Some(pairs) = found {
-            search.reuse(reached)?;
-            return Ok(Some(pairs));
+        if found {
+            search.keep_list(pairs);
+            return Ok(true);
         }
     }
-    search.reuse(reached)?;
-    Ok(None)
+    search.keep_list(pairs);
+    Ok(false)
 }
 
-/// Some move behind a modifier that comes next, with the modifier and those before it. The modifier is taken back.
+/// Whether there is some move behind a modifier that comes next. Then `whole` holds it, with the modifier and those
+/// before it. The modifier is taken back.
 #[cycle(finding)]
 fn find_behind<S: Steps>(
     search: &mut Search<'_, S>,
@@ -248,7 +255,7 @@ fn find_behind<S: Steps>(
     game: &Game,
     vertex: Vertex,
     position: Position,
-) -> Result<Option<Vec<Pair>>, Over>
+) -> Result<bool, Over>
     requires game { game.now ≡ search.old.game }
     requires lawful { IsGame game.now }
     requires fits { IsStateOf game.now state.old.state }
@@ -259,12 +266,12 @@ fn find_behind<S: Steps>(
     ensures state { OnOk result (state.new ≡ record state.old { room = state.new.room }) }
     ensures room { OnOk result (state.old.room ≤ state.new.room) }
     ensures front { OnOk result (front.new.items ≡ front.old.items) }
-    ensures found { IfOk result (λ found. IfSome found (λ pairs. GoesOnBehind game.now state.old.state
-        vertex position front.old.items pairs.items)) }
-    ensures length { IfOk result (λ found. IfSome found (λ pairs. IsMoveLength (length pairs.items))) }
-    ensures none { IfOk result (λ found. IfNone found ((later : AbstractState)
+    ensures found { IfOk result (λ found. IsTrue found → GoesOnBehind game.now state.old.state
+        vertex position front.old.items whole.new.items) }
+    ensures length { IfOk result (λ found. IsTrue found → IsMoveLength (length whole.new.items)) }
+    ensures none { IfOk result (λ found. IsTrue (not found) → (later : AbstractState)
         → Applies game.now position (standing_at state.old.state vertex) later
-        → Finished game.now (place_behind later position))) }
+        → Finished game.now (place_behind later position)) }
     ensures counted { OnOk result ((later : AbstractState)
         → Applies game.now position (standing_at state.old.state vertex) later
         → CountsOpenings game.now find_move later (after position)

@@ -29,7 +29,7 @@ use rbg_auto::Steps;
 use rbg_base::{Memory, Position, Vertex};
 use rbg_pairs::{MAX_PAIRS, Move, MoveList, Pair};
 use rbg_rules::Game;
-use rbg_search::{Origin, Over, Reached, Search};
+use rbg_search::{Origin, Over, Search};
 use rbg_state::SemiState;
 use std::alloc::Global;
 
@@ -230,24 +230,26 @@ impl Found {
     }
 }
 
-/// What is reached without a modifier. Its pairs stand in order where that is wanted.
+/// What is reached without a modifier, in a list that is lent, and whether a word may end with no modifier more. The
+/// pairs stand in order where that is wanted.
 fn reach_next<S: Steps>(
     search: &mut Search<'_, S>,
     state: &mut SemiState,
     origin: Origin,
     in_order: bool,
-) -> Result<Reached, Over>
+    pairs: &mut Vec<(Vertex, Position)>,
+) -> Result<bool, Over>
     requires fits { IsStateOf search.old.game state.old.state }
     requires stands { IsStart search.old.game.rules (start_of origin) }
     ensures kept { search.new ≡ record search.old { opened = search.new.opened } }
     ensures given_back { state.new ≡ record state.old { room = state.new.room } }
     ensures room { state.old.room ≤ state.new.room }
     ensures enough { OnOk result (2 ≤ state.new.room) }
-    ensures reached { IfOk result (λ reached.
-        IsFlatPart search.old.game state.old.state (start_of origin) reached.pairs.items reached.ends) }
-    ensures within { IfOk result (λ reached. All (λ pair.
+    ensures reached { IfOk result (λ ends.
+        IsFlatPart search.old.game state.old.state (start_of origin) pairs.new.items ends) }
+    ensures within { OnOk result (All (λ pair.
         (pair.0 < length search.old.game.board.first) × IsPositionOf search.old.game.rules pair.1)
-        reached.pairs.items) }
+        pairs.new.items) }
     ensures counted { CountsOpenings search.old.game reach state.old.state (start_of origin)
         search.old.opened search.new.opened }
     ensures deep { result ≡ Err Over.Deep
@@ -258,10 +260,17 @@ fn reach_next<S: Steps>(
         → CountsForced search.old.game cut reach state.old.state (start_of origin)
         search.old.opened search.new.opened left search.old.modifiers) }
 {
+    let ends = search.reach_into(state, origin, pairs)?;
+    put_in_order(pairs, in_order);
+    Ok(ends)
+}
+
+/// Sorts pairs where that is wanted.
+fn put_in_order(pairs: &mut Vec<(Vertex, Position)>, in_order: bool)
+    ensures { IsPermutation pairs.old.items pairs.new.items }
+{
     if in_order {
-        search.reach(state, origin)
-    } else {
-        search.reach_unordered(state, origin)
+        pairs.sort_unstable();
     }
 }
 
@@ -299,11 +308,18 @@ fn list<S: Steps>(
         (most_pairs - length front.old.items) search.old.modifiers) }
 {
     let game = search.game();
-    let reached = reach_next(search, state, origin_after(after), found.in_order)?;
-    if found.add_switches(game, &reached.pairs, front)? {
+    let mut pairs = search.take_list();
+    reach_next(
+        search,
+        state,
+        origin_after(after),
+        found.in_order,
+        &mut pairs,
+    )?;
+    if found.add_switches(game, &pairs, front)? {
         return Ok(true);
     }
-    for pair in &reached.pairs {
+    for pair in &pairs {
         let (vertex, position) = *pair;
         if !is_switch(game, position) {
             if front.len() + 1 == MAX_PAIRS {
@@ -314,7 +330,7 @@ fn list<S: Steps>(
             }
         }
     }
-    search.reuse(reached)?;
+    search.keep_list(pairs);
     Ok(false)
 }
 

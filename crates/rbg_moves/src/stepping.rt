@@ -64,9 +64,10 @@ pub(crate) fn take<S: Steps>(
         search.old.opened search.new.opened left search.old.modifiers) }
 {
     let game = search.game();
-    let reached = search.reach_unordered(state, origin_after(after))?;
-    let comes_next = has_pair(&reached.pairs, pair);
-    search.reuse(reached)?;
+    let mut pairs = search.take_list();
+    search.reach_into(state, origin_after(after), &mut pairs)?;
+    let comes_next = has_pair(&pairs, pair);
+    search.keep_list(pairs);
     if comes_next {
         apply_at(game, state, pair);
     }

@@ -1,5 +1,5 @@
 //! The order in which what comes next is tried.
-ghost use Rattle.std.specs.Prelude.{◌≡◌, ◌⊎◌, Some, take, All, Contains, IfSome, IfNone};
+ghost use Rattle.std.specs.Prelude.{◌≡◌, ◌⊎◌, ◌<◌, length, Some, take, All, Contains, IfSome, IfNone};
 ghost use Rattle.std.specs.List.Sorted.{IsPermutation};
 ghost use Rattle.rbg_rules.specs.Games.{IsGame};
 ghost use Rattle.rbg_rules.specs.Positions.{IsSwitchAt};
@@ -48,18 +48,30 @@ fn is_before(a: (Vertex, Position), b: (Vertex, Position)) -> bool {
     a.0 < b.0 || (a.0 == b.0 && a.1 < b.1)
 }
 
-/// Brings the pair whose turn it is to its place. Each of the first turns looks at the pairs that are left for the least of
-/// them. Only where there is a turn behind these, the rest is sorted, once.
+/// Brings the pair whose turn it is to its place, where more than one is left.
+#[inline(always)]
 pub(crate) fn put_in_turn(pairs: &mut Vec<(Vertex, Position)>, turn: usize)
+    requires { turn < length pairs.old.items }
     ensures permutation { IsPermutation pairs.old.items pairs.new.items }
     ensures before { take turn pairs.new.items ≡ take turn pairs.old.items }
 {
-    if turn < pairs.len() {
-        if turn < FEW_TURNS {
-            bring_least(&mut pairs[turn..]);
-        } else if turn == FEW_TURNS {
-            pairs[turn..].sort_unstable();
-        }
+    if turn + 1 < pairs.len() {
+        choose(pairs, turn);
+    }
+}
+
+/// Brings the pair whose turn it is to its place. Each of the first turns looks at the pairs that are left for the least of
+/// them. Only where there is a turn behind these, the rest is sorted, once.
+#[inline(never)]
+fn choose(pairs: &mut Vec<(Vertex, Position)>, turn: usize)
+    requires { turn < length pairs.old.items }
+    ensures permutation { IsPermutation pairs.old.items pairs.new.items }
+    ensures before { take turn pairs.new.items ≡ take turn pairs.old.items }
+{
+    if turn < FEW_TURNS {
+        bring_least(&mut pairs[turn..]);
+    } else if turn == FEW_TURNS {
+        pairs[turn..].sort_unstable();
     }
 }
 
@@ -69,7 +81,8 @@ fn bring_least(pairs: &mut [(Vertex, Position)])
 {
     let mut least = 0;
     for index in 1..pairs.len() {
-        if is_before(pairs[index], pairs[least]) {
+        // most stand at a later vertex
+        if pairs[index].0 <= pairs[least].0 && is_before(pairs[index], pairs[least]) {
             least = index;
         }
     }

@@ -1,7 +1,8 @@
 -- There are no more pairs than marks for them.
-use Rattle.std.proofs.Common.{◌≡◌, ◌≢◌, ℕ, ◌+◌, ◌-◌, ◌*◌, ◌<◌, ◌≤◌, List, map, length, get_or, suc, zero, true, ap, ◌∙◌, arith}
+use Rattle.std.proofs.Common.{◌≡◌, ◌≢◌, ℕ, ◌+◌, ◌-◌, ◌*◌, ◌^◌, ◌<◌, ◌≤◌, List, map, length, get_or, suc, zero, true, ap, ◌∙◌, arith}
 use Rattle.std.specs.Prelude.{Contains, nat_eq}
 use Rattle.std.specs.List.{list_any, IsDistinct}
+use Rattle.std.proofs.lemmas.Nat.{mul-le}
 use Rattle.std.proofs.lemmas.Bool.{eqb-true}
 use Rattle.std.proofs.lemmas.Bool.Decides.{Decides-eqb}
 use Rattle.std.proofs.lemmas.List.{get_or-map, length-map}
@@ -10,6 +11,7 @@ use Rattle.std.proofs.lemmas.Map.Steps.{length-le_from_distinct_below}
 use Rattle.std.proofs.lemmas.Map.Views.{Contains-from_any}
 use Rattle.rbg_rules.specs.State.{AbstractGame}
 use Rattle.rbg_rules.specs.Positions.{positions_of}
+use Rattle.rbg_rules.specs.Games.{IsWithinLimits}
 use Rattle.rbg_search.specs.internal.Meeting.{Met, HasMark, AreMarked}
 use Rattle.rbg_search.specs.internal.Part.{HasMarksOf}
 use Rattle.rbg_search.specs.internal.Spent.{IsSpent}
@@ -84,6 +86,17 @@ one_more_whole game opened finished taken more all spent some few sum =
     let product : ℕ = length (positions_of game.rules) * length game.board.first in
     let times : (finished + 1) * product ≡ finished * product + product = grind arith in
     record { among = omega (arith, some); few = omega (arith, times, spent.few, few, sum) }
+
+-- The sum of all pairs is a number of 64 bits.
+pub sum_fits : (game : AbstractGame) (opened finished taken more : ℕ) → IsWithinLimits game → IsSpent game opened finished taken → finished < opened → opened < 2 ^ 32 → more ≤ length (positions_of game.rules) * length game.board.first → taken + more < 2 ^ 64
+sum_fits game opened finished taken more limits spent some small few =
+    let product : ℕ = length (positions_of game.rules) * length game.board.first in
+    let vertices : length game.board.first ≤ 4096 = limits.vertices in
+    let positions : length (positions_of game.rules) ≤ 20000 = limits.positions in
+    let least : product ≤ 20000 * 4096 = mul-le (length (positions_of game.rules)) (length game.board.first) 20000 4096 positions vertices in
+    let all : finished * product ≤ finished * (20000 * 4096) = mul-le finished product finished (20000 * 4096) (omega arith) least in
+    let sum = spent.few in
+    omega (arith, sum, all, few, least, some, small)
 
 -- All pairs together are no more than the openings have.
 pub spent_within : (game : AbstractGame) (opened finished taken : ℕ) → IsSpent game opened finished taken → taken ≤ opened * (length (positions_of game.rules) * length game.board.first)

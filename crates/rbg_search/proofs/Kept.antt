@@ -10,6 +10,9 @@ kept_same h k same = same ∙ ap (λ (x : Searching). let y : Searching = record
 pub kept_twice : (h k l : Searching) → k ≡ record h { opened = k.opened } → l ≡ record k { opened = l.opened } → l ≡ record h { opened = l.opened }
 kept_twice h k l first second = second ∙ ap (λ (x : Searching). let y : Searching = record x { opened = l.opened } in y) first
 
+pub kept_since : (h k l : Searching) → k ≡ h → l ≡ record k { opened = l.opened } → l ≡ record h { opened = l.opened }
+kept_since h k l same kept = kept_twice h k l (kept_same h k same) kept
+
 pub same_game : (h k : Searching) → k ≡ record h { opened = k.opened } → k.game ≡ h.game
 same_game h k kept = ap (λ (x : Searching). x.game) kept
 

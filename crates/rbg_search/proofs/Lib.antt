@@ -8,6 +8,7 @@ pub mod Glances
 pub mod Nesting
 pub mod Behinds
 pub mod Asking
+pub mod Alone
 pub mod Answering
 pub mod Openings
 pub mod Counts

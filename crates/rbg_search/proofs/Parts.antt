@@ -1,5 +1,5 @@
 -- How a flat part is found, pair by pair.
-use Rattle.std.proofs.Common.{◌≡◌, ◌≢◌, ℕ, ◌+◌, ◌<◌, ◌⊎◌, List, [], ◌∷◌, ◌++◌, length, get_or, take, Bool, true, ◌||◌, refl, sym, ap, ◌∙◌, subst, inl, inr, arith}
+use Rattle.std.proofs.Common.{◌≡◌, ◌≢◌, ℕ, ◌+◌, ◌<◌, ◌⊎◌, List, [], ◌∷◌, ◌++◌, length, get_or, take, Bool, true, false, ◌||◌, refl, sym, ap, ◌∙◌, subst, inl, inr, arith}
 use Rattle.std.proofs.lemmas.List.{take_more, take-append-le}
 use Rattle.std.proofs.lemmas.Option.{slice_get_within, get_or_from_slice_get}
 use Rattle.std.specs.Prelude.{Some, slice_get, All, AllPairs, Contains, Decides}
@@ -156,6 +156,19 @@ module _ (game : AbstractGame) (s : AbstractState) (f : Start) where
 
       ends_here : Decides last (LeadsToEnd game s v q)
       ends_here = ((λ is. record { to = u; leads = leads; ends = decides.0 is }), (λ h. decides.1 h.ends))
+
+  -- The same where no word may end after the action.
+  pub quiet_lead_part : (xs ys done found : List (ℕ × ℕ)) (ends : Bool) (v q u : ℕ) (ps : List ℕ) → IsPart game s f xs done found ends → Contains xs (v, q) → IsOutcome game s v q (LeadsTo u) → AreAllThatFollow game.rules (after q) ps → MeetsAll xs ys u ps → ¬ Ends game.rules (after q) [] → IsPart game s f ys (done ++ (v, q) ∷ []) found ends
+  quiet_lead_part xs ys done found ends v q u ps part there outcome follow meets quiet =
+      subst (IsPart game s f ys (done ++ (v, q) ∷ []) found) (or-false ends)
+      (leads_part xs ys done found ends false v q u ps part there outcome follow meets ((λ is. absurd (false_not_true is)), (λ h. absurd (quiet h))))
+    where
+      false_not_true : false ≡ true → ⊥
+      false_not_true e = cc
+
+      or-false : (b : Bool) → (b || false) ≡ b
+      or-false true = refl
+      or-false false = refl
 
   -- When each pair is done, the part is whole.
   module _ (numbered : IsNumbered game.rules) (xs found : List (ℕ × ℕ)) (ends : Bool) (part : IsPart game s f xs xs found ends) where

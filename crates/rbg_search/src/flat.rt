@@ -213,8 +213,8 @@ impl Flat {
         }
     }
 
-    /// Takes pairs as long as their actions are told of and that takes no memory. None is taken where the automaton
-    /// doesn't lend its answers.
+    /// Takes pairs up to the first that is a pattern, of whose action nothing is told (as where words may end), or for
+    /// which there is no room. None is taken where there are no tables.
     #[inline(always)]
     fn take_told<S: Steps>(&mut self, rules: &GameSteps<'_, S>, state: &SemiState)
         requires lawful { IsGame rules.now }
@@ -235,15 +235,9 @@ impl Flat {
             → IsPatternAt rules.now.rules p → Contains (take self.old.taken self.old.queue.pairs) (v, p) }
     {
         if let Some(tables) = rules.tables() {
-            let (taken, ends) = self.queue.take_told(
-                &tables,
-                state.pieces(),
-                &mut self.found,
-                self.taken,
-                self.ends,
-            );
-            self.taken = taken;
-            self.ends = ends;
+            self.taken = self
+                .queue
+                .take_told(&tables, state.pieces(), &mut self.found, self.taken);
         }
     }
 }

@@ -83,13 +83,14 @@ impl<'a, S: Steps> GameSteps<'a, S> {
         self.steps.glance(position)
     }
 
-    /// The game and its automaton as slices, where the automaton lends its answers.
+    /// The game and its automaton as slices, where the automaton lends its answers and the board has an entry for each
+    /// direction.
     #[inline(always)]
     pub(crate) fn tables(&self) -> Option<Tables<'a>>
         ensures { IfSome result (λ tables. tables ≡ self.now) }
     {
         let lent = self.steps.lend()?;
-        Some(Tables::new(self.game, lent))
+        Tables::new(self.game, lent)
     }
 
     /// Whether a word may end where one stands.

@@ -2,9 +2,11 @@
 #![tactic(auto)]
 
 mod answer;
+mod fitting;
 mod flat;
 mod game_steps;
 mod marks;
+mod only;
 mod origin;
 mod outcome;
 mod over;

@@ -42,7 +42,7 @@ pub(crate) fn meet_each(
 }
 
 /// A list of so many positions may well have been met at a vertex before: a look at its marks alone costs less than to
-/// meet each.
+/// meet each. A shorter list is met with no look at its length, where that much room is left.
 pub(crate) const LONG_LIST: usize = 8;
 
 /// Whether the marks of a vertex are set for all these positions.
@@ -72,7 +72,7 @@ fn is_marked(words: &[u64], word: usize, bit: u32) -> bool
 
 /// Up to about so many words for each pair, all words are filled with zeros: that takes less time than to clear those of
 /// the pairs.
-const WORDS_FOR_A_PAIR: usize = 8;
+const WORDS_FOR_A_PAIR: usize = 6;
 
 /// So many words are filled at a time: the C library takes longer for a fill of a few kilobytes at once.
 const WORDS_AT_A_TIME: usize = 240;

@@ -1,5 +1,5 @@
 //! The pairs of a vertex and a position that a flat part meets, each once, in the order in which they are met.
-ghost use Rattle.std.specs.Prelude.{◌≡◌, ℕ, ◌<◌, ◌≤◌, ◌+◌, ◌-◌, ◌*◌, ◌/◌, ◌%◌, ◌^◌, [], length, slice_get, Some, take, replicate, ◌++◌, All, Contains, true, false, OnOk, OnErr, IfOk, IsTrue};
+ghost use Rattle.std.specs.Prelude.{◌≡◌, ℕ, ◌<◌, ◌≤◌, ◌+◌, ◌-◌, ◌*◌, ◌/◌, ◌%◌, ◌^◌, [], length, slice_get, Some, take, replicate, ◌++◌, All, Contains, Bool, true, false, OnOk, OnErr, IfOk, IsTrue};
 ghost use Rattle.rbg_rules.specs.Games.{IsGame};
 ghost use Rattle.rbg_rules.specs.Positions.{IsPatternAt};
 ghost use Rattle.rbg_rules.specs.State.{AbstractState};
@@ -98,9 +98,7 @@ impl Queue {
         ensures kept { (self.new.vertices ≡ self.old.vertices) × (self.new.marks ≡ self.old.marks) }
         ensures met { OnOk result (MeetsAll self.old.pairs self.new.pairs vertex positions.now) }
     {
-        if self.room.len() - self.met < positions.len() {
-            widen(&mut self.room, positions.len())?;
-        }
+        make_room(&mut self.room, self.met, positions.len())?;
         if positions.len() >= LONG_LIST && are_marked(&self.words, self.rows, vertex, positions) {
             return Ok(());
         }
@@ -116,7 +114,7 @@ impl Queue {
     }
 
     /// Takes pairs after `taken` others, up to the first that is a pattern, of whose action nothing is told, or for which
-    /// there is no room. Returns how many were taken then, and whether a word may end with no modifier more.
+    /// there is no room. Returns how many were taken then.
     #[inline(always)]
     pub(crate) fn take_told(
         &mut self,
@@ -124,27 +122,25 @@ impl Queue {
         pieces: &[Piece],
         found: &mut Vec<(Vertex, Position)>,
         taken: usize,
-        ends: bool,
-    ) -> (usize, bool)
+    ) -> usize
         requires lawful { IsGame tables.now }
         requires pieces { length pieces.now ≡ length tables.now.board.first }
         requires marks { HasMarksOf tables.now self.old }
         requires taken { taken ≤ length self.old.pairs }
         ensures marks { HasMarksOf tables.now self.new }
-        ensures taken { result.0 ≤ length self.new.pairs }
-        ensures further { taken ≤ result.0 }
-        ensures part { (s : AbstractState) (f : Start) → s.pieces ≡ pieces.now
+        ensures taken { result ≤ length self.new.pairs }
+        ensures further { taken ≤ result }
+        ensures part { (s : AbstractState) (f : Start) (ends : Bool) → s.pieces ≡ pieces.now
             → IsPart tables.now s f self.old.pairs (take taken self.old.pairs) found.old.items ends
-            → IsPart tables.now s f self.new.pairs (take result.0 self.new.pairs) found.new.items result.1 }
+            → IsPart tables.now s f self.new.pairs (take result self.new.pairs) found.new.items ends }
         ensures still_done { (x : ℕ × ℕ) → Contains (take taken self.old.pairs) x
-            → Contains (take result.0 self.new.pairs) x }
-        ensures quiet { (v p : ℕ) → Contains (take result.0 self.new.pairs) (v, p)
+            → Contains (take result self.new.pairs) x }
+        ensures quiet { (v p : ℕ) → Contains (take result self.new.pairs) (v, p)
             → IsPatternAt tables.now.rules p → Contains (take taken self.old.pairs) (v, p) }
     {
         let begun = Progress {
             met: self.met,
             taken,
-            ends,
         };
         let progress = take_told(
             tables,
@@ -156,7 +152,7 @@ impl Queue {
             begun,
         );
         self.met = progress.met;
-        (progress.taken, progress.ends)
+        progress.taken
     }
 
     /// Forgets the pairs, and keeps their room.
@@ -168,7 +164,23 @@ impl Queue {
     }
 }
 
-/// Makes room for so many pairs more, and for twice as many as before.
+/// Makes room for so many pairs more behind those that were met. Where hardly any would be left beside them, it makes
+/// more.
+#[inline(always)]
+fn make_room(room: &mut Vec<(Vertex, Position)>, met: usize, more: usize) -> Result<(), Memory>
+    requires met { met ≤ length room.old.items }
+    ensures kept { OnOk result (take met room.new.items ≡ take met room.old.items) }
+    ensures wide { OnOk result (met + more ≤ length room.new.items) }
+    ensures refused { OnErr result (room.new.items ≡ room.old.items) }
+{
+    let left = room.len() - met;
+    if left < LONG_LIST || left - LONG_LIST < more {
+        widen(room, more)?;
+    }
+    Ok(())
+}
+
+/// Makes room for so many pairs more, for some at least, and for twice as many as before.
 #[cold]
 #[inline(never)]
 fn widen(room: &mut Vec<(Vertex, Position)>, more: usize) -> Result<(), Memory>
@@ -177,7 +189,7 @@ fn widen(room: &mut Vec<(Vertex, Position)>, more: usize) -> Result<(), Memory>
     ensures refused { OnErr result (room.new.items ≡ room.old.items) }
 {
     let len = room.len();
-    let Some(wide) = len.checked_add(more.max(len)) else {
+    let Some(wide) = len.checked_add(more.max(len).max(2 * LONG_LIST)) else {
         return Err(Memory);
     };
     room.resize(wide, (0, 0))?;

@@ -19,13 +19,17 @@ ghost use Rattle.rbg_search.specs.internal.Begun.{IsBegun};
 ghost use Rattle.rbg_search.specs.internal.Behind.{IsReady, RunsBehindPair, SomeRunsBehind};
 ghost use Rattle.rbg_search.specs.internal.Closure.{at_vertex, Reached as Meets};
 ghost use Rattle.rbg_search.specs.internal.Nesting.{NestsFrom};
-ghost use Rattle.rbg_search.specs.internal.Part.{HasMarksOf};
+ghost use Rattle.rbg_auto.specs.Steps.{AreAllThatFollow};
+ghost use Rattle.rbg_search.specs.internal.Part.{HasMarksOf, IsOutcome};
 ghost use Rattle.rbg_search.specs.internal.Straight.{IsWalked};
 
 use crate::answer::{is_valid, outcome_of};
+use crate::fitting::fitting;
 use crate::flat::Flat;
 use crate::game_steps::GameSteps;
+use crate::only::only_modifier;
 use crate::origin::Origin;
+use crate::outcome::Outcome;
 use crate::over::Over;
 use crate::walk::{Walk, walk_inside};
 use rbg_auto::{Expr, Steps};
@@ -34,7 +38,7 @@ use rbg_rules::Game;
 use rbg_state::SemiState;
 use std::alloc::Global;
 use std::marker::Model;
-use std::mem::replace;
+use std::mem::{replace, swap};
 
 /// How much a search may do.
 #[derive(Clone, Copy, Debug, PartialEq, Eq, Drop)]
@@ -232,28 +236,32 @@ impl<'a, S: Steps> Search<'a, S> {
         ensures not_deep { OnOk result ((cut : Bool)
             → IsNotForcedDeep self.old.game cut reach state.old.state (start_of origin) self.old.modifiers) }
     {
-        let mut reached = self.reach_unordered(state, origin)?;
-        sort(&mut reached.pairs);
-        Ok(reached)
+        let mut pairs = self.take_list();
+        let ends = self.reach_into(state, origin, &mut pairs)?;
+        sort(&mut pairs);
+        Ok(Reached { pairs, ends })
     }
 
-    /// As `reach`, with the pairs in no order.
-    pub fn reach_unordered(
+    /// As `reach`, with the modifiers in no order, in a list that is lent: what it held before is gone. Returns whether a
+    /// word may end with no modifier more.
+    #[inline(always)]
+    pub fn reach_into(
         &mut self,
         state: &mut SemiState,
         origin: Origin,
-    ) -> Result<Reached, Over>
+        pairs: &mut Vec<(Vertex, Position)>,
+    ) -> Result<bool, Over>
         requires fits { IsStateOf self.old.game state.old.state }
         requires stands { IsStart self.old.game.rules (start_of origin) }
         ensures kept { self.new ≡ record self.old { opened = self.new.opened } }
         ensures given_back { state.new ≡ record state.old { room = state.new.room } }
         ensures room { state.old.room ≤ state.new.room }
         ensures enough { OnOk result (2 ≤ state.new.room) }
-        ensures reached { IfOk result (λ reached.
-            IsFlatPart self.old.game state.old.state (start_of origin) reached.pairs.items reached.ends) }
-        ensures within { IfOk result (λ reached. All (λ pair.
+        ensures reached { IfOk result (λ ends.
+            IsFlatPart self.old.game state.old.state (start_of origin) pairs.new.items ends) }
+        ensures within { OnOk result (All (λ pair.
             (pair.0 < length self.old.game.board.first) × IsPositionOf self.old.game.rules pair.1)
-            reached.pairs.items) }
+            pairs.new.items) }
         ensures counted { CountsOpenings self.old.game reach state.old.state (start_of origin)
             self.old.opened self.new.opened }
         ensures deep { result ≡ Err Over.Deep
@@ -269,9 +277,49 @@ impl<'a, S: Steps> Search<'a, S> {
         ensures not_deep { OnOk result ((cut : Bool)
             → IsNotForcedDeep self.old.game cut reach state.old.state (start_of origin) self.old.modifiers) }
     {
+        if let Some(position) = only_modifier(&self.rules, state, origin) {
+            return self.reach_only(state, origin, position, pairs);
+        }
         let nested = self.rules.nesting();
-        let found = self.flat_part(state, origin, nested)?;
-        Ok(found)
+        let ends = self.flat_part(state, origin, nested, pairs)?;
+        Ok(ends)
+    }
+
+    /// What is reached where one modifier alone comes next, and is valid.
+    #[inline(always)]
+    fn reach_only(
+        &mut self,
+        state: &mut SemiState,
+        origin: Origin,
+        position: Position,
+        pairs: &mut Vec<(Vertex, Position)>,
+    ) -> Result<bool, Over>
+        requires fits { IsStateOf self.old.game state.old.state }
+        requires stands { IsStart self.old.game.rules (start_of origin) }
+        requires only { AreAllThatFollow self.old.game.rules (start_of origin) (position ∷ []) }
+        requires modifies { IsOutcome self.old.game state.old.state state.old.state.vertex position Outcome.Modifies }
+        ensures kept { self.new ≡ record self.old { opened = self.new.opened } }
+        ensures given_back { state.new ≡ record state.old { room = state.new.room } }
+        ensures room { state.old.room ≤ state.new.room }
+        ensures enough { OnOk result (2 ≤ state.new.room) }
+        ensures reached { IfOk result (λ ends.
+            IsFlatPart self.old.game state.old.state (start_of origin) pairs.new.items ends) }
+        ensures within { OnOk result (All (λ pair.
+            (pair.0 < length self.old.game.board.first) × IsPositionOf self.old.game.rules pair.1)
+            pairs.new.items) }
+        ensures counts { IsCounted self.old.game reach state.old.state (start_of origin)
+            self.old.opened self.new.opened self.old.modifiers self.old.openings self.old.modifiers
+            (result ≡ Err Over.Deep) (result ≡ Err Over.Wide) }
+        ensures forced { OnOk result ((cut : Bool) (left : ℕ)
+            → CountsForced self.old.game cut reach state.old.state (start_of origin)
+            self.old.opened self.new.opened left self.old.modifiers) }
+    {
+        self.enter(state)?;
+        let ends = self.rules.may_end(origin);
+        self.count_pairs(1);
+        pairs.clear();
+        pairs.push((state.vertex(), position))?;
+        Ok(ends)
     }
 
     /// Whether the pattern at a position is valid in the semi-state, which is given back.
@@ -304,12 +352,22 @@ impl<'a, S: Steps> Search<'a, S> {
         Ok(valid)
     }
 
-    /// Takes a list back, for further use.
-    pub fn reuse(&mut self, reached: Reached) -> Result<(), Memory>
+    /// A list to lend to `reach_into`: one that was kept, where there is one. What it holds is of no use.
+    pub fn take_list(&mut self) -> Vec<(Vertex, Position)>
         ensures { self.new ≡ self.old }
     {
-        self.lists.push(reached.pairs)?;
-        Ok(())
+        match self.lists.pop() {
+            Some(list) => list,
+            None => Vec::new(self.alloc),
+        }
+    }
+
+    /// Keeps a list that is no longer needed.
+    pub fn keep_list(&mut self, list: Vec<(Vertex, Position)>)
+        ensures { self.new ≡ self.old }
+    {
+        // where there is no memory, it is let go
+        let _kept = self.lists.push(list);
     }
 
     /// Takes one more opening up.
@@ -347,30 +405,29 @@ impl<'a, S: Steps> Search<'a, S> {
         requires { pairs ≤ length (positions_of self.old.game.rules) * length self.old.game.board.first }
         ensures kept { self.new ≡ self.old }
     {
+        // The game is lawful, so the sum is a number of 64 bits.
+        let _game = self.rules.game();
         if self.finished < self.opened {
             self.finished += 1;
-            self.taken = self.taken.saturating_add(pairs as u64);
+            self.taken += pairs as u64;
         }
     }
 
-    /// Hands out what a flat part found, and keeps the rest for further use.
-    fn finish(&mut self, flat: Box<Flat>) -> Result<Reached, Over>
+    /// Hands out what a flat part found, in the list that is lent, and keeps the rest for further use, with the buffer
+    /// that came. Returns whether a word may end with no modifier more.
+    fn finish(&mut self, flat: Box<Flat>, pairs: &mut Vec<(Vertex, Position)>) -> Result<bool, Over>
         requires { HasMarksOf self.old.game flat.value.queue }
         ensures kept { self.new ≡ self.old }
-        ensures pairs { IfOk result (λ reached. reached.pairs.items ≡ flat.value.found.items) }
-        ensures ends { IfOk result (λ reached. reached.ends ≡ flat.value.ends) }
+        ensures pairs { OnOk result (pairs.new.items ≡ flat.value.found.items) }
+        ensures ends { IfOk result (λ ends. ends ≡ flat.value.ends) }
         ensures memory { IfErr result (λ over. over ≡ Over.Memory) }
     {
         let mut flat = flat;
-        let list = match self.lists.pop() {
-            Some(list) => list,
-            None => Vec::new(self.alloc),
-        };
-        let pairs = replace(&mut flat.found, list);
+        swap(&mut flat.found, pairs);
         let ends = flat.ends;
         self.count_pairs(flat.pairs());
         self.flats.push(flat)?;
-        Ok(Reached { pairs, ends })
+        Ok(ends)
     }
 
     /// Takes one more opening up, and makes room for the changes of two actions.
@@ -531,14 +588,16 @@ impl<'a, S: Steps> Search<'a, S> {
         Ok(self.is_valid(position, walk.ends))
     }
 
-    /// What is reached. Patterns nest at most `nested` deep there.
+    /// What is reached, in a list that is lent, and whether a word may end with no modifier more. Patterns nest at most
+    /// `nested` deep there.
     #[cycle(search)]
     fn flat_part(
         &mut self,
         state: &mut SemiState,
         origin: Origin,
         nested: u8,
-    ) -> Result<Reached, Over>
+        pairs: &mut Vec<(Vertex, Position)>,
+    ) -> Result<bool, Over>
         requires fits { IsStateOf self.old.game state.old.state }
         requires nested { NestsFrom self.old.game.rules nested (start_of origin) }
         requires start { IsStart self.old.game.rules (start_of origin) }
@@ -546,10 +605,9 @@ impl<'a, S: Steps> Search<'a, S> {
         ensures given_back { state.new ≡ record state.old { room = state.new.room } }
         ensures room { state.old.room ≤ state.new.room }
         ensures enough { OnOk result (2 ≤ state.new.room) }
-        ensures reached { IfOk result (λ reached.
-            IsFlatPart self.old.game state.old.state (start_of origin) reached.pairs.items reached.ends) }
-        ensures ready { IfOk result (λ reached.
-            All (IsReady self.old.game state.old.state nested) reached.pairs.items) }
+        ensures reached { IfOk result (λ ends.
+            IsFlatPart self.old.game state.old.state (start_of origin) pairs.new.items ends) }
+        ensures ready { OnOk result (All (IsReady self.old.game state.old.state nested) pairs.new.items) }
         ensures lawful { IfOk result (λ _. IsGame self.old.game) }
         ensures counts { IsCounted self.old.game reach state.old.state (start_of origin)
             self.old.opened self.new.opened self.old.modifiers self.old.openings self.old.modifiers
@@ -564,8 +622,8 @@ impl<'a, S: Steps> Search<'a, S> {
             let valid = self.ask(state, vertex, position, nested)?;
             self.take(&mut flat, vertex, position, valid)?;
         }
-        let reached = self.finish(flat)?;
-        Ok(reached)
+        let ends = self.finish(flat, pairs)?;
+        Ok(ends)
     }
 
     /// Whether the pattern at a position is valid at a vertex. Patterns nest at most `nested` deep, this one included.
@@ -632,13 +690,14 @@ impl<'a, S: Steps> Search<'a, S> {
             → CountsForced self.old.game cut pattern state.old.state (start_of origin)
             self.old.opened self.new.opened modifiers self.old.modifiers) }
     {
-        let reached = self.flat_part(state, origin, nested)?;
-        if reached.ends {
-            self.reuse(reached)?;
+        let mut pairs = self.take_list();
+        let ends = self.flat_part(state, origin, nested, &mut pairs)?;
+        if ends {
+            self.keep_list(pairs);
             return Ok(true);
         }
-        let runs = self.runs_behind(state, &reached.pairs, nested, modifiers)?;
-        self.reuse(reached)?;
+        let runs = self.runs_behind(state, &pairs, nested, modifiers)?;
+        self.keep_list(pairs);
         Ok(runs)
     }
 
@@ -716,29 +775,6 @@ impl<'a, S: Steps> Search<'a, S> {
         state.undo_to(mark);
         Ok(runs?)
     }
-}
-
-/// The flat parts, if each has marks for the game; else none.
-fn fitting(alloc: Global, game: &Game, flats: Vec<Box<Flat>>) -> Vec<Box<Flat>>
-    ensures { All (λ flat. HasMarksOf game.now flat.value.queue) result.items }
-{
-    if are_for(game, &flats) {
-        flats
-    } else {
-        Vec::new(alloc)
-    }
-}
-
-/// Whether each flat part has marks for the game.
-fn are_for(game: &Game, flats: &[Box<Flat>]) -> bool
-    ensures { IsTrue result → All (λ flat. HasMarksOf game.now flat.value.queue) flats.now }
-{
-    for flat in flats {
-        if !flat.is_for(game) {
-            return false;
-        }
-    }
-    true
 }
 
 /// Puts pairs in order: by vertex, then by position.

@@ -1,10 +1,11 @@
 //! A game and its automaton, lent as slices.
-ghost use Rattle.std.specs.Prelude.{◌≡◌, ◌<◌, [], length, All, IfSome, IsTrue, ◌↔◌};
+ghost use Rattle.std.specs.Prelude.{◌≡◌, ◌<◌, [], length, All, IfSome};
 ghost use Rattle.rbg_board.specs.Graph.{next};
 ghost use Rattle.rbg_rules.specs.Games.{IsGame};
 ghost use Rattle.rbg_rules.specs.Words.{after, Ends};
 ghost use Rattle.rbg_auto.specs.Lent.{IsLentOf};
 ghost use Rattle.rbg_auto.specs.Steps.{AreNext, IsGlance};
+ghost use Rattle.rbg_auto.specs.declared.steps.Glance.TheVariants.{Unknown};
 ghost use Rattle.rbg_search.specs.Start.{IsPositionOf};
 
 use rbg_auto::{Glance, Lent};
@@ -32,30 +33,36 @@ impl<'a> Model for Tables<'a> {
 
     ghost view = { λ t. t.game.now };
 
-    ghost use Rattle.std.specs.Prelude.{◌≡◌};
+    ghost use Rattle.std.specs.Prelude.{◌≡◌, ◌≤◌, ℕ, length};
+    ghost use Rattle.rbg_board.specs.Graph.{HasWidth};
     ghost use Rattle.rbg_rules.specs.Games.{IsGame};
     ghost use Rattle.rbg_auto.specs.Lent.{IsLentOf};
 
-    ghost invariant = { λ t. (t.board ≡ t.game.now.board) × IsLentOf t.game.now.rules t.lent × IsGame t.game.now };
+    ghost invariant = { λ t. (t.board ≡ t.game.now.board) × IsLentOf t.game.now.rules t.lent × IsGame t.game.now
+        × ((width : ℕ) → HasWidth width t.board → length t.game.now.directions ≤ width) };
 }
 
 impl<'a> Tables<'a> {
-    /// The tables of a game, with what its automaton lends.
+    /// The tables of a game, with what its automaton lends; none where the board has no entry for some direction.
     #[inline(always)]
-    pub(crate) fn new(game: &'a Game, lent: Lent<'a>) -> Tables<'a>
+    pub(crate) fn new(game: &'a Game, lent: Lent<'a>) -> Option<Tables<'a>>
         requires lent { IsLentOf game.now.rules lent }
         requires lawful { IsGame game.now }
-        ensures { result ≡ game.now }
+        ensures { IfSome result (λ tables. tables ≡ game.now) }
     {
         let board = game.board().lend();
-        Tables { game, board, lent }
+        if game.directions() > board.width() {
+            return None;
+        }
+        Some(Tables { game, board, lent })
     }
 
-    /// What is told at once of the action at a position.
+    /// What is told at once of the action at a position; nothing where words may end.
     #[inline(always)]
     pub(crate) fn glance(&self, position: Position) -> Glance
         requires { IsPositionOf self.now.rules position }
-        ensures { IsGlance self.now.rules position result }
+        ensures told { IsGlance self.now.rules position result }
+        ensures quiet { ¬ (result ≡ Unknown) → ¬ Ends self.now.rules (after position) [] }
     {
         self.lent.glance(position)
     }
@@ -70,22 +77,14 @@ impl<'a> Tables<'a> {
         self.lent.next(position)
     }
 
-    /// Whether a word may end after a position.
-    #[inline(always)]
-    pub(crate) fn may_end(&self, position: Position) -> bool
-        requires { IsPositionOf self.now.rules position }
-        ensures { IsTrue result ↔ Ends self.now.rules (after position) [] }
-    {
-        self.lent.may_end(position)
-    }
-
-    /// The vertex to which a direction leads, or None if it leads nowhere.
+    /// The vertex to which a direction of the game leads, or None if it leads nowhere.
     #[inline(always)]
     pub(crate) fn step(&self, vertex: Vertex, direction: Direction) -> Option<Vertex>
-        requires { vertex < length self.now.board.first }
+        requires vertex { vertex < length self.now.board.first }
+        requires direction { direction < length self.now.directions }
         ensures next { result ≡ next self.now.board vertex direction }
         ensures is_vertex { IfSome result (λ to. to < length self.now.board.first) }
     {
-        self.board.step(vertex, direction)
+        self.board.step_within(vertex, direction)
     }
 }

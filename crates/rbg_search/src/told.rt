@@ -1,8 +1,9 @@
-//! The inner loop of a flat part: pairs are taken as long as their actions are told of and that takes no memory.
-ghost use Rattle.std.specs.Prelude.{◌≡◌, ℕ, ◌<◌, ◌≤◌, [], ◌∷◌, ◌++◌, List, length, take, Contains, Bool, true, false, IsTrue};
+//! The inner loop of a flat part: pairs are taken up to the first that is a pattern, of whose action nothing is told (as
+//! where words may end), or for which there is no room.
+ghost use Rattle.std.specs.Prelude.{◌≡◌, ℕ, ◌<◌, ◌≤◌, ◌-◌, [], ◌∷◌, ◌++◌, List, length, take, Contains, Bool, false, IsTrue};
 ghost use Rattle.rbg_rules.specs.State.{AbstractState};
 ghost use Rattle.rbg_rules.specs.Positions.{IsPatternAt};
-ghost use Rattle.rbg_rules.specs.Words.{Start};
+ghost use Rattle.rbg_rules.specs.Words.{Start, after, Ends};
 ghost use Rattle.rbg_rules.specs.Games.{IsGame};
 ghost use Rattle.rbg_search.specs.Start.{IsPositionOf};
 ghost use Rattle.rbg_search.specs.internal.Part.{IsOutcome, IsPart};
@@ -21,8 +22,6 @@ pub(crate) struct Progress {
     pub(crate) met: usize,
     /// How many of them were taken.
     pub(crate) taken: usize,
-    /// Whether a word may end with no modifier more.
-    pub(crate) ends: bool,
 }
 
 /// Takes pairs, up to the first that is a pattern, of whose action nothing is told, or for which there is no room.
@@ -45,29 +44,30 @@ pub(crate) fn take_told(
     ensures room { length room.new ≡ length room.old }
     ensures taken { result.taken ≤ result.met }
     ensures further { begun.taken ≤ result.taken }
-    ensures part { (s : AbstractState) (f : Start) → s.pieces ≡ pieces.now
+    ensures part { (s : AbstractState) (f : Start) (ends : Bool) → s.pieces ≡ pieces.now
         → IsPart tables.now s f (take begun.met room.old) (take begun.taken (take begun.met room.old))
-        found.old.items begun.ends
+        found.old.items ends
         → IsPart tables.now s f (take result.met room.new) (take result.taken (take result.met room.new))
-        found.new.items result.ends }
+        found.new.items ends }
     ensures still_done { (x : ℕ × ℕ) → Contains (take begun.taken (take begun.met room.old)) x
         → Contains (take result.taken (take result.met room.new)) x }
     ensures quiet { (v p : ℕ) → Contains (take result.taken (take result.met room.new)) (v, p)
         → IsPatternAt tables.now.rules p → Contains (take begun.taken (take begun.met room.old)) (v, p) }
 {
+    // up to here a list that isn't long fits
+    let limit = room.len().saturating_sub(LONG_LIST);
     let mut met = begun.met;
     let mut taken = begun.taken;
-    let mut ends = begun.ends;
     while taken < met {
         let (vertex, position) = room[taken];
         if !take_one(
-            tables, pieces, words, rows, room, found, &mut met, &mut ends, vertex, position,
+            tables, pieces, words, rows, room, found, limit, &mut met, vertex, position,
         ) {
-            return Progress { met, taken, ends };
+            break;
         }
         taken += 1;
     }
-    Progress { met, taken, ends }
+    Progress { met, taken }
 }
 
 /// Takes a pair that was met; not where it is a pattern, where nothing is told of its action, or where there is no room.
@@ -80,36 +80,39 @@ fn take_one(
     rows: usize,
     room: &mut [(Vertex, Position)],
     found: &mut Vec<(Vertex, Position)>,
+    limit: usize,
     met: &mut usize,
-    ends: &mut bool,
     vertex: Vertex,
     position: Position,
 ) -> bool
     requires lawful { IsGame tables.now }
     requires pieces { length pieces.now ≡ length tables.now.board.first }
     requires met { AreMet tables.now rows words.old room.old met.old }
+    requires some { 0 < met.old }
+    requires limit { limit ≡ length room.old - 8 }
     requires vertex { vertex < length tables.now.board.first }
     requires position { IsPositionOf tables.now.rules position }
     ensures met { AreMet tables.now rows words.new room.new met.new }
     ensures words { length words.new ≡ length words.old }
     ensures room { length room.new ≡ length room.old }
     ensures grown { Lengthens (take met.old room.old) (take met.new room.new) }
-    ensures part { IsTrue result → (s : AbstractState) (f : Start) (done : List (ℕ × ℕ)) → s.pieces ≡ pieces.now
+    ensures part { IsTrue result → (s : AbstractState) (f : Start) (done : List (ℕ × ℕ)) (ends : Bool)
+        → s.pieces ≡ pieces.now
         → Contains (take met.old room.old) (vertex, position) → ¬ Contains done (vertex, position)
-        → IsPart tables.now s f (take met.old room.old) done found.old.items ends.old
-        → IsPart tables.now s f (take met.new room.new) (done ++ (vertex, position) ∷ []) found.new.items ends.new }
+        → IsPart tables.now s f (take met.old room.old) done found.old.items ends
+        → IsPart tables.now s f (take met.new room.new) (done ++ (vertex, position) ∷ []) found.new.items ends }
     ensures plain { IsTrue result → ¬ IsPatternAt tables.now.rules position }
     ensures kept { result ≡ false → (take met.new room.new ≡ take met.old room.old)
-        × (found.new.items ≡ found.old.items) × (ends.new ≡ ends.old) }
+        × (found.new.items ≡ found.old.items) }
 {
     match tables.glance(position) {
         Glance::Shift(direction) => match tables.step(vertex, direction) {
-            Some(to) => lead_on(tables, words, rows, room, met, ends, position, to),
+            Some(to) => lead_on(tables, words, rows, room, limit, met, position, to),
             None => true,
         },
         Glance::On(piece) => {
             if pieces[vertex as usize] == piece {
-                lead_on(tables, words, rows, room, met, ends, position, vertex)
+                lead_on(tables, words, rows, room, limit, met, position, vertex)
             } else {
                 true
             }
@@ -117,7 +120,7 @@ fn take_one(
         Glance::OnEither(piece, other) => {
             let here = pieces[vertex as usize];
             if here == piece || here == other {
-                lead_on(tables, words, rows, room, met, ends, position, vertex)
+                lead_on(tables, words, rows, room, limit, met, position, vertex)
             } else {
                 true
             }
@@ -128,7 +131,7 @@ fn take_one(
 }
 
 /// Keeps a modifier, if there is room for it. Tells whether there is.
-#[inline(always)]
+#[inline(never)]
 fn keep_modifier(found: &mut Vec<(Vertex, Position)>, vertex: Vertex, position: Position) -> bool
     ensures found { IsTrue result → found.new.items ≡ found.old.items ++ (vertex, position) ∷ [] }
     ensures kept { result ≡ false → found.new.items ≡ found.old.items }
@@ -140,39 +143,49 @@ fn keep_modifier(found: &mut Vec<(Vertex, Position)>, vertex: Vertex, position: 
     true
 }
 
-/// Meets what may come after an action that leads to a vertex, if there is room for it. Tells whether there is.
+/// Meets what may come after an action that leads to a vertex, if there is room for it. Up to the limit a short list
+/// always fits, and a long one is measured; beyond it nothing is met. Tells whether there was room.
 #[inline(always)]
 fn lead_on(
     tables: &Tables<'_>,
     words: &mut [u64],
     rows: usize,
     room: &mut [(Vertex, Position)],
+    limit: usize,
     met: &mut usize,
-    ends: &mut bool,
     position: Position,
     to: Vertex,
 ) -> bool
     requires lawful { IsGame tables.now }
     requires met { AreMet tables.now rows words.old room.old met.old }
+    requires some { 0 < met.old }
+    requires limit { limit ≡ length room.old - 8 }
+    requires quiet { ¬ Ends tables.now.rules (after position) [] }
     requires to { to < length tables.now.board.first }
     requires position { IsPositionOf tables.now.rules position }
     ensures met { AreMet tables.now rows words.new room.new met.new }
     ensures words { length words.new ≡ length words.old }
     ensures room { length room.new ≡ length room.old }
     ensures grown { Lengthens (take met.old room.old) (take met.new room.new) }
-    ensures part { IsTrue result → (s : AbstractState) (f : Start) (done found : List (ℕ × ℕ)) (v : ℕ)
+    ensures part { IsTrue result → (s : AbstractState) (f : Start) (done found : List (ℕ × ℕ)) (ends : Bool) (v : ℕ)
         → IsOutcome tables.now s v position (Outcome.LeadsTo to)
         → Contains (take met.old room.old) (v, position)
-        → IsPart tables.now s f (take met.old room.old) done found ends.old
-        → IsPart tables.now s f (take met.new room.new) (done ++ (v, position) ∷ []) found ends.new }
-    ensures kept { result ≡ false → (take met.new room.new ≡ take met.old room.old) × (ends.new ≡ ends.old) }
+        → IsPart tables.now s f (take met.old room.old) done found ends
+        → IsPart tables.now s f (take met.new room.new) (done ++ (v, position) ∷ []) found ends }
+    ensures kept { result ≡ false → take met.new room.new ≡ take met.old room.old }
 {
+    if *met > limit {
+        return false;
+    }
     let following = tables.following(position);
+    if following.len() < LONG_LIST {
+        *met = meet_each(words, room, *met, rows, to, following);
+        return true;
+    }
     if room.len() - *met < following.len() {
         return false;
     }
-    *ends |= tables.may_end(position);
-    if following.len() < LONG_LIST || !are_marked(words, rows, to, following) {
+    if !are_marked(words, rows, to, following) {
         *met = meet_each(words, room, *met, rows, to, following);
     }
     true

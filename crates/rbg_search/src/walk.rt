@@ -67,7 +67,7 @@ pub(crate) fn walk_inside<S: Steps>(
 }
 
 /// The one position of a list that has one.
-fn only(positions: &[Position]) -> Option<Position>
+pub(crate) fn only(positions: &[Position]) -> Option<Position>
     ensures { IfSome result (λ p. positions.now ≡ p ∷ []) }
 {
     match positions {

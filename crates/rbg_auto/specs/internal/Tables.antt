@@ -1,5 +1,5 @@
 -- The lists of an array, and what is laid at each position of it.
-use Rattle.std.specs.Prelude.{◌≡◌, ℕ, ◌≤◌, List, ◌++◌, length, slice_range, slice_index_or, Bool, false, Option, Some}
+use Rattle.std.specs.Prelude.{◌≡◌, ℕ, ◌≤◌, List, ◌++◌, length, slice_range, slice_index_or, false, Option, Some}
 use Rattle.rbg_auto.specs.declared.span.Span.{Span}
 use Rattle.rbg_auto.specs.declared.span.Opening.{Opening}
 use Rattle.rbg_auto.specs.declared.span.Node.{Node}
@@ -58,13 +58,6 @@ laid_of entries node inside = record {
 
 abbrev pub laid_at : List ℕ → List Node → List Opening → ℕ → Laid
 laid_at entries nodes insides p = laid_of entries (slice_index_or nodes p no_node) (slice_index_or insides p no_inside)
-
--- What comes after each position, and whether words end there.
-abbrev pub next_at : List ℕ → List Node → ℕ → List ℕ
-next_at entries nodes p = listed entries (slice_index_or nodes p no_node).next
-
-abbrev pub ends_at : List Node → ℕ → Bool
-ends_at nodes p = (slice_index_or nodes p no_node).may_end
 
 -- What is told of the action at each position.
 abbrev pub told_at : List Node → ℕ → Glance

@@ -14,4 +14,5 @@ returns c = λ actions numbered none count.
       steps = compact_steps actions c.args.tree.now c.args.positions numbered none count old new c.in_ok-rules.rules blank c.in_ok-rules.ensures;
       told = untold (expression_of actions c.args.tree.now) c.args.tree.now old new c.in_ok-rules.rules (c.args.positions + 1) blank c.in_ok-rules.ensures;
       has = has_each c.args.tree.now c.args.positions (length (positions_of (expression_of actions c.args.tree.now))) count old new c.in_ok-rules.rules blank c.in_ok-rules.ensures;
+      lends = λ steps some. absurd (cc some);
     }

@@ -6,4 +6,4 @@ use Rattle.rbg_auto.proofs.packing.tell_all.Goals as goal
 pub loop-index-preserved : goal.loop-index-preserved
 loop-index-preserved c =
     let right = c.glance_of-glance.ensures c.args.game.now.rules (c.loop-index.index + 1) c.action.ensures in
-    tells_right c.loop-index.automaton _ c.args.game.now.rules (c.loop-index.index + 1) c.glance_of-glance.result refl c.tell.ensures right c.loop-index.invariant
+    tells_right c.loop-index.automaton _ c.args.game.now.rules (c.loop-index.index + 1) c.glance_of-glance.result refl refl c.tell.ensures right c.loop-index.invariant

@@ -1,8 +1,8 @@
 -- A move that goes on from where one stands.
 use Rattle.std.proofs.Common.{rules, ◌≡◌, ℕ, suc, ◌+◌, ◌-◌, ◌<◌, ◌≤◌, List, ◌∷◌, [], ◌++◌, length, false, refl, sym, ap, ◌∙◌, subst, arith}
-use Rattle.std.specs.Prelude.{All, Option, Some, None, IfSome, IfNone}
+use Rattle.std.specs.Prelude.{All, not}
 use Rattle.std.proofs.lemmas.List.{take_all, length_push}
-use Rattle.rbg_pairs.specs.Move.{most_pairs, IsMoveLength}
+use Rattle.rbg_pairs.specs.Move.{most_pairs}
 use Rattle.rbg_rules.specs.Positions.{IsSwitchAt}
 use Rattle.rbg_rules.specs.Words.{Start, after}
 use Rattle.rbg_rules.specs.State.{AbstractGame, AbstractState, IsStateOf}
@@ -18,8 +18,10 @@ use Rattle.std.proofs.lemmas.List.Sorted.{length_permutation}
 use Rattle.rbg_search.specs.Passing.{IsTooDeep, somewhere, CountsUpTo}
 use Rattle.rbg_search.specs.Searching.{Searching}
 use Rattle.rbg_search.specs.Start.{start_of}
+use Rattle.rbg_search.specs.Flat.{IsFlatPart}
+use Rattle.rbg_search.proofs.Kept.{kept_since}
 use Rattle.rbg_search.proofs.CallerLemmas.{find_begins, counts_begin, counts_reached, counts_end, over_begin, deep_begin}
-use Rattle.rbg_moves.specs.internal.Stepping.{standing_at, place_behind, IsValidAt, GoesOnBehind}
+use Rattle.rbg_moves.specs.internal.Stepping.{standing_at, place_behind, IsValidAt}
 use Rattle.rbg_moves.proofs.Steps.{place_start, place_after, next_applies, next_there, next_from, legal_end, none_found, valid_next}
 use Rattle.rbg_moves.proofs.Seeking.{kept_twice, room_twice, part_of, AtPair, at_turn, pair_is, pair_next, pair_plain, pair_applies, pair_row, pair_deep, pair_counts, pair_over, pair_more, behind_found, one_behind, applied_back, deep_as, over_as, counts_as, behind_as, plain_of, nothing_as}
 use Rattle.rbg_rules.specs.Moves.{AbstractPlace}
@@ -27,45 +29,46 @@ use Rattle.rbg_search.specs.Forced.{CountsForced}
 use Rattle.rbg_moves.proofs.Forcing.{TakenSoFar, so_far_begin, so_far_with, found_forced, found_so_far, finished_forced, forced_as}
 use Rattle.rbg_moves.proofs.finding.+finding.Goals as goal
 
-pub find-reach_unordered-requires-clause-stands : goal.find-reach_unordered-requires-clause-stands
-find-reach_unordered-requires-clause-stands g t c =
+pub find-reach_into-requires-clause-stands : goal.find-reach_into-requires-clause-stands
+find-reach_into-requires-clause-stands g t c =
     let game = c.args.search.now.game in
     let s = c.args.state.now.state in
     let f = stand_of c.args.after in
     let numbered = c.game-game.ensures.lawful.numbered in
-    subst (IsStart game.rules) (sym c.origin_after.ensures) (place_start game numbered (record { state = s; last = c.args.after }) c.requires.place)
+    let stands = subst (IsStart game.rules) (sym c.origin_after.ensures) (place_start game numbered (record { state = s; last = c.args.after }) c.requires.place) in
+    subst (λ (x : Searching). IsStart x.game.rules (start_of c.origin_after.result)) (sym c.take_list-pairs.ensures) stands
 
-pub find-returns-in_err-reached-clause-deep : goal.find-returns-in_err-reached-clause-deep
-find-returns-in_err-reached-clause-deep g t c e =
+pub find-returns-in_err-reach_into-clause-deep : goal.find-returns-in_err-reach_into-clause-deep
+find-returns-in_err-reach_into-clause-deep g t c e =
     let game = c.args.search.now.game in
     let s = c.args.state.now.state in
     let f = stand_of c.args.after in
     let numbered = c.game-game.ensures.lawful.numbered in
-    let deep : IsDeep game reach s f c.args.search.now.modifiers = subst (λ (h : Start). IsDeep game reach s h c.args.search.now.modifiers) c.origin_after.ensures (c.reach_unordered.ensures.deep (search rules)) in
+    let deep : IsDeep game reach s f c.args.search.now.modifiers = subst (λ (h : Start). IsDeep game reach s h c.args.search.now.modifiers) c.origin_after.ensures (subst (λ (x : Searching). IsDeep x.game reach s (start_of c.origin_after.result) x.modifiers) c.take_list-pairs.ensures (c.reach_into.ensures.deep (search rules))) in
     somewhere (deep_begin game numbered (find_begins game s f) deep)
 
-pub find-returns-in_err-reached-clause-wide : goal.find-returns-in_err-reached-clause-wide
-find-returns-in_err-reached-clause-wide g t c e =
+pub find-returns-in_err-reach_into-clause-wide : goal.find-returns-in_err-reach_into-clause-wide
+find-returns-in_err-reach_into-clause-wide g t c e =
     let game = c.args.search.now.game in
     let s = c.args.state.now.state in
     let f = stand_of c.args.after in
     let numbered = c.game-game.ensures.lawful.numbered in
-    let wide : IsOverBudget game reach s f c.args.search.now.opened c.args.search.now.openings = subst (λ (h : Start). IsOverBudget game reach s h c.args.search.now.opened c.args.search.now.openings) c.origin_after.ensures (c.reach_unordered.ensures.wide (search rules)) in
+    let wide : IsOverBudget game reach s f c.args.search.now.opened c.args.search.now.openings = subst (λ (h : Start). IsOverBudget game reach s h c.args.search.now.opened c.args.search.now.openings) c.origin_after.ensures (subst (λ (x : Searching). IsOverBudget x.game reach s (start_of c.origin_after.result) x.opened x.openings) c.take_list-pairs.ensures (c.reach_into.ensures.wide (search rules))) in
     over_begin game numbered (find_begins game s f) wide
 
 pub find-returns-in-Some-clause-found : goal.find-returns-in-Some-clause-found
-find-returns-in-Some-clause-found g t c =
+find-returns-in-Some-clause-found g t c _ =
     let game = c.args.search.now.game in
     let s = c.args.state.now.state in
     let f = stand_of c.args.after in
     let numbered = c.game-game.ensures.lawful.numbered in
-    let items = c.in_ok-reached.reached.pairs.items in
+    let items = c.reach_into.new.pairs.items in
     let last = c.in-Some.last in
-    let next = next_from game s f (start_of c.origin_after.result) c.deref.result.now items c.in_ok-reached.reached.ends last c.in_ok-reached.ensures.reached c.origin_after.ensures c.deref.ensures.value c.in-Some.ensures.there in
+    let next = next_from game s f (start_of c.origin_after.result) c.deref.result.now items c.in_ok-reach_into.field-0 last (subst (λ (x : Searching). IsFlatPart x.game s (start_of c.origin_after.result) items c.in_ok-reach_into.field-0) c.take_list-pairs.ensures c.in_ok-reach_into.ensures.reached) c.origin_after.ensures c.deref.ensures.value c.in-Some.ensures.there in
     let switches : IsSwitchAt game.rules last.1 = subst (λ (h : AbstractGame). IsSwitchAt h.rules last.1) c.game-game.ensures.game c.in-Some.ensures.switches in
     record {
       pairs = last ∷ [];
-      joined = c.in_ok-pairs.ensures ∙ ap (λ (qs : List (ℕ × ℕ)). qs ++ last ∷ []) c.deref-in-Some.ensures.value;
+      joined = c.in_ok-join.ensures ∙ ap (λ (qs : List (ℕ × ℕ)). qs ++ last ∷ []) c.deref-in-Some.ensures.value;
       legal = (place_behind next.later last.1, legal_end game numbered (record { state = s; last = c.args.after }) last.0 last.1 next.later next switches (next_applies game numbered s f last.0 last.1 next));
     }
 
@@ -75,8 +78,8 @@ find-returns-in-Some-clause-counted g t c =
     let s = c.args.state.now.state in
     let f = stand_of c.args.after in
     let numbered = c.game-game.ensures.lawful.numbered in
-    subst (λ (x : Searching). CountsOpenings game find_move s f c.args.search.now.opened x.opened) (sym c.reuse.ensures)
-    (counts_reached game numbered (find_begins game s f) (subst (λ (h : Start). CountsOpenings game reach s h c.args.search.now.opened c.reach_unordered.new.self.opened) c.origin_after.ensures c.reach_unordered.ensures.counted))
+    subst (λ (x : Searching). CountsOpenings game find_move s f c.args.search.now.opened x.opened) (sym c.keep_list.ensures)
+    (counts_reached game numbered (find_begins game s f) (subst (λ (h : Start). CountsOpenings game reach s h c.args.search.now.opened c.reach_into.new.self.opened) c.origin_after.ensures (subst (λ (x : Searching). CountsOpenings x.game reach s (start_of c.origin_after.result) x.opened c.reach_into.new.self.opened) c.take_list-pairs.ensures c.reach_into.ensures.counted)))
 
 pub find-loop-index-init : goal.find-loop-index-init
 find-loop-index-init g t c =
@@ -84,28 +87,28 @@ find-loop-index-init g t c =
     let s = c.args.state.now.state in
     let f = stand_of c.args.after in
     let numbered = c.game-game.ensures.lawful.numbered in
-    let items = c.in_ok-reached.reached.pairs.items in
-    let size : c.len-index-end.result ≡ length items = omega (arith, c.len-index-end.ensures, c.in_ok-reached.reached.pairs.ok.0) in
+    let items = c.reach_into.new.pairs.items in
+    let size : c.len-index-end.result ≡ length items = omega (arith, c.len-index-end.ensures, c.reach_into.new.pairs.ok.0) in
     record {
-      part = part_of game s f (start_of c.origin_after.result) items items c.in_ok-reached.reached.ends c.in_ok-reached.ensures.reached c.origin_after.ensures refl;
+      part = record { ends = c.in_ok-reach_into.field-0; part = part_of game s f (start_of c.origin_after.result) items items c.in_ok-reach_into.field-0 (subst (λ (x : Searching). IsFlatPart x.game s (start_of c.origin_after.result) items c.in_ok-reach_into.field-0) c.take_list-pairs.ensures c.in_ok-reach_into.ensures.reached) c.origin_after.ensures refl };
       plain = plain_of game c.game-game.result.now items c.deref.result.now items c.game-game.ensures.game c.deref.ensures.value refl c.in_default.ensures.none;
       size = sym size;
-      search = c.reach_unordered.ensures.kept;
-      state = c.reach_unordered.ensures.given_back;
-      room = c.reach_unordered.ensures.room;
-      enough = c.in_ok-reached.ensures.enough;
+      search = kept_since c.args.search.now c.take_list-pairs.new.self c.reach_into.new.self c.take_list-pairs.ensures c.reach_into.ensures.kept;
+      state = c.reach_into.ensures.given_back;
+      room = c.reach_into.ensures.room;
+      enough = c.in_ok-reach_into.ensures.enough;
       front = refl;
       nothing = λ k d below later applied. absurd (omega (arith, below));
-      counted = counts_begin game numbered (find_begins game s f) (subst (λ (h : Start). CountsOpenings game reach s h c.args.search.now.opened c.reach_unordered.new.self.opened) c.origin_after.ensures c.reach_unordered.ensures.counted);
+      counted = counts_begin game numbered (find_begins game s f) (subst (λ (h : Start). CountsOpenings game reach s h c.args.search.now.opened c.reach_into.new.self.opened) c.origin_after.ensures (subst (λ (x : Searching). CountsOpenings x.game reach s (start_of c.origin_after.result) x.opened c.reach_into.new.self.opened) c.take_list-pairs.ensures c.reach_into.ensures.counted));
       forced =
           let left = most_pairs - length c.args.front.now.items in
-          so_far_begin game numbered find_move s f c.args.search.now.opened c.reach_unordered.new.self.opened left c.args.search.now.modifiers
-          (subst (λ (h : Start). CountsForced game false reach s h c.args.search.now.opened c.reach_unordered.new.self.opened left c.args.search.now.modifiers) c.origin_after.ensures (c.in_ok-reached.ensures.forced false left));
+          so_far_begin game numbered find_move s f c.args.search.now.opened c.reach_into.new.self.opened left c.args.search.now.modifiers
+          (subst (λ (h : Start). CountsForced game false reach s h c.args.search.now.opened c.reach_into.new.self.opened left c.args.search.now.modifiers) c.origin_after.ensures (subst (λ (x : Searching). CountsForced x.game false reach s (start_of c.origin_after.result) x.opened c.reach_into.new.self.opened left x.modifiers) c.take_list-pairs.ensures (c.in_ok-reach_into.ensures.forced false left)));
     }
 
 pub find-index-requires : goal.find-index-requires
 find-index-requires g t c =
-    let same = length_permutation c.loop-index.reached.pairs.items c.put_in_turn.new.pairs.items c.put_in_turn.ensures.permutation in
+    let same = length_permutation c.loop-index.pairs.items c.put_in_turn.new.pairs.items c.put_in_turn.ensures.permutation in
     omega (arith, c.loop-index-test.true, c.loop-index.invariant.size, same, c.put_in_turn.new.pairs.ok.0)
 
 pub find-returns-then-len-eq-MAX_PAIRS-clause-deep : goal.find-returns-then-len-eq-MAX_PAIRS-clause-deep
@@ -115,10 +118,10 @@ find-returns-then-len-eq-MAX_PAIRS-clause-deep g t c _ =
     let f = stand_of c.args.after in
     let numbered = c.game-game.ensures.lawful.numbered in
     let xs : List (ℕ × ℕ) = c.put_in_turn.new.pairs.items in
-    let ends = c.loop-index.reached.ends in
+    let ends = c.loop-index.invariant.part.ends in
     let k = c.loop-index.index in
     let q : ℕ × ℕ = c.index.result.now in
-    let here : AtPair game s f xs ends k q = at_turn game s f c.loop-index.reached.pairs.items xs ends k c.len-index-end.result q c.game-game.ensures.lawful c.loop-index.invariant.part c.loop-index.invariant.plain c.loop-index.invariant.size c.loop-index-test.true c.put_in_turn.ensures.permutation c.index.ensures in
+    let here : AtPair game s f xs ends k q = at_turn game s f c.loop-index.pairs.items xs ends k c.len-index-end.result q c.game-game.ensures.lawful c.loop-index.invariant.part.part c.loop-index.invariant.plain c.loop-index.invariant.size c.loop-index-test.true c.put_in_turn.ensures.permutation c.index.ensures in
     let same : length c.loop-index.front.items ≡ length c.args.front.now.items = ap length c.loop-index.invariant.front in
     let one : 1 ≡ most_pairs - length c.args.front.now.items = omega (arith, same, c.len.ensures, c.loop-index.front.ok.0, c.if-len-eq-MAX_PAIRS.true) in
     subst (λ (n : ℕ). IsTooDeep game find_move s f n c.args.search.now.modifiers) one (pair_row game s f xs ends k q here c.args.search.now.modifiers)
@@ -130,10 +133,10 @@ find-find_behind-requires g t c κs within =
     let f = stand_of c.args.after in
     let numbered = c.game-game.ensures.lawful.numbered in
     let xs : List (ℕ × ℕ) = c.put_in_turn.new.pairs.items in
-    let ends = c.loop-index.reached.ends in
+    let ends = c.loop-index.invariant.part.ends in
     let k = c.loop-index.index in
     let q : ℕ × ℕ = c.index.result.now in
-    let here : AtPair game s f xs ends k q = at_turn game s f c.loop-index.reached.pairs.items xs ends k c.len-index-end.result q c.game-game.ensures.lawful c.loop-index.invariant.part c.loop-index.invariant.plain c.loop-index.invariant.size c.loop-index-test.true c.put_in_turn.ensures.permutation c.index.ensures in
+    let here : AtPair game s f xs ends k q = at_turn game s f c.loop-index.pairs.items xs ends k c.len-index-end.result q c.game-game.ensures.lawful c.loop-index.invariant.part.part c.loop-index.invariant.plain c.loop-index.invariant.size c.loop-index-test.true c.put_in_turn.ensures.permutation c.index.ensures in
     let v = q.0 in
     let p = q.1 in
     let next = pair_next game s f xs ends k q here in
@@ -156,10 +159,10 @@ find-returns-in_err-found-clause-deep g t c e =
     let f = stand_of c.args.after in
     let numbered = c.game-game.ensures.lawful.numbered in
     let xs : List (ℕ × ℕ) = c.put_in_turn.new.pairs.items in
-    let ends = c.loop-index.reached.ends in
+    let ends = c.loop-index.invariant.part.ends in
     let k = c.loop-index.index in
     let q : ℕ × ℕ = c.index.result.now in
-    let here : AtPair game s f xs ends k q = at_turn game s f c.loop-index.reached.pairs.items xs ends k c.len-index-end.result q c.game-game.ensures.lawful c.loop-index.invariant.part c.loop-index.invariant.plain c.loop-index.invariant.size c.loop-index-test.true c.put_in_turn.ensures.permutation c.index.ensures in
+    let here : AtPair game s f xs ends k q = at_turn game s f c.loop-index.pairs.items xs ends k c.len-index-end.result q c.game-game.ensures.lawful c.loop-index.invariant.part.part c.loop-index.invariant.plain c.loop-index.invariant.size c.loop-index-test.true c.put_in_turn.ensures.permutation c.index.ensures in
     let v = q.0 in
     let p = q.1 in
     let next = pair_next game s f xs ends k q here in
@@ -181,10 +184,10 @@ find-returns-in_err-found-clause-wide g t c e =
     let f = stand_of c.args.after in
     let numbered = c.game-game.ensures.lawful.numbered in
     let xs : List (ℕ × ℕ) = c.put_in_turn.new.pairs.items in
-    let ends = c.loop-index.reached.ends in
+    let ends = c.loop-index.invariant.part.ends in
     let k = c.loop-index.index in
     let q : ℕ × ℕ = c.index.result.now in
-    let here : AtPair game s f xs ends k q = at_turn game s f c.loop-index.reached.pairs.items xs ends k c.len-index-end.result q c.game-game.ensures.lawful c.loop-index.invariant.part c.loop-index.invariant.plain c.loop-index.invariant.size c.loop-index-test.true c.put_in_turn.ensures.permutation c.index.ensures in
+    let here : AtPair game s f xs ends k q = at_turn game s f c.loop-index.pairs.items xs ends k c.len-index-end.result q c.game-game.ensures.lawful c.loop-index.invariant.part.part c.loop-index.invariant.plain c.loop-index.invariant.size c.loop-index-test.true c.put_in_turn.ensures.permutation c.index.ensures in
     let v = q.0 in
     let p = q.1 in
     let next = pair_next game s f xs ends k q here in
@@ -196,17 +199,17 @@ find-returns-in_err-found-clause-wide g t c e =
     pair_over game s f xs ends k q here c.args.search.now.opened now.search.opened c.args.search.now.openings (subst (λ (ds : List (ℕ × ℕ)). CountsUpTo game find_move s f ds c.args.search.now.opened c.loop-index.search.opened) (sym c.put_in_turn.ensures.before) c.loop-index.invariant.counted) wide
 
 pub find-returns-clause-none : goal.find-returns-clause-none
-find-returns-clause-none g t c =
+find-returns-clause-none g t c _ =
     let game = c.args.search.now.game in
     let s = c.args.state.now.state in
     let f = stand_of c.args.after in
     let numbered = c.game-game.ensures.lawful.numbered in
-    let xs : List (ℕ × ℕ) = c.loop-index.reached.pairs.items in
-    let ends = c.loop-index.reached.ends in
+    let xs : List (ℕ × ℕ) = c.loop-index.pairs.items in
+    let ends = c.loop-index.invariant.part.ends in
     let k = c.loop-index.index in
     let all_taken : length xs ≤ k = omega (arith, c.loop-index-test.false, c.loop-index.invariant.size) in
     let all = subst (All (λ (q : ℕ × ℕ). (later : AbstractState) → Applies game q.1 (standing_at s q.0) later → Finished game (place_behind later q.1))) (take_all k xs all_taken) c.loop-index.invariant.nothing in
-    none_found game numbered (record { state = s; last = c.args.after }) f xs ends c.loop-index.invariant.part refl c.loop-index.invariant.plain all
+    none_found game numbered (record { state = s; last = c.args.after }) f xs ends c.loop-index.invariant.part.part refl c.loop-index.invariant.plain all
 
 pub find_behind-find-requires : goal.find_behind-find-requires
 find_behind-find-requires g t c κs within =
@@ -234,19 +237,13 @@ find_behind-returns-in_err-found-clause-wide g t c e later applied =
     let wide = over_as game c.args.search.now.game c.apply_at.new.state.state c.args.position c.args.search.now.opened most most (sym c.requires.game) refl (c.find.ensures.wide (search rules)) in
     one_behind game c.requires.lawful.numbered c.args.position (standing_at c.args.state.now.state c.args.vertex) c.apply_at.new.state.state later (λ (u : AbstractState). IsOverBudget game find_move u (after c.args.position) c.args.search.now.opened most) c.apply_at.ensures.applied applied wide
 
-none_then : {X : Type 0} (o : Option X) (P Q : Type 0) → (P → Q) → IfNone o P → IfNone o Q
-none_then None P Q f fact = f fact
-none_then (Some x) P Q f fact = fact
-
 pub find_behind-returns-clause-none : goal.find_behind-returns-clause-none
-find_behind-returns-clause-none g t c =
+find_behind-returns-clause-none g t c stops later applied =
     let game = c.args.game.now in
     let p = c.args.position in
-    none_then c.in_ok-found.found (Finished c.args.search.now.game (place_behind c.apply_at.new.state.state p))
-    ((later : AbstractState) → Applies game p (standing_at c.args.state.now.state c.args.vertex) later → Finished game (place_behind later p))
-    (λ fact later applied. one_behind game c.requires.lawful.numbered p (standing_at c.args.state.now.state c.args.vertex) c.apply_at.new.state.state later (λ (u : AbstractState). Finished game (place_behind u p)) c.apply_at.ensures.applied applied
-    (subst (λ (h : AbstractGame). Finished h (place_behind c.apply_at.new.state.state p)) (sym c.requires.game) fact))
-    c.in_ok-found.ensures.none
+    let none : Finished c.args.search.now.game (place_behind c.apply_at.new.state.state p) = c.in_ok-found.ensures.none stops in
+    one_behind game c.requires.lawful.numbered p (standing_at c.args.state.now.state c.args.vertex) c.apply_at.new.state.state later (λ (u : AbstractState). Finished game (place_behind u p)) c.apply_at.ensures.applied applied
+    (subst (λ (h : AbstractGame). Finished h (place_behind c.apply_at.new.state.state p)) (sym c.requires.game) none)
 
 pub find_behind-returns-clause-counted : goal.find_behind-returns-clause-counted
 find_behind-returns-clause-counted g t c later applied =
@@ -255,46 +252,38 @@ find_behind-returns-clause-counted g t c later applied =
     one_behind game c.requires.lawful.numbered p (standing_at c.args.state.now.state c.args.vertex) c.apply_at.new.state.state later (λ (u : AbstractState). CountsOpenings game find_move u (after p) c.args.search.now.opened c.find.new.search.opened) c.apply_at.ensures.applied applied
     (counts_as game c.args.search.now.game c.apply_at.new.state.state p c.args.search.now.opened c.find.new.search.opened (sym c.requires.game) c.in_ok-found.ensures.counted)
 
-none_at : {X : Type 0} (o : Option X) (P : Type 0) → o ≡ None → IfNone o P → P
-none_at None P e fact = fact
-none_at (Some x) P e fact = absurd cc
-
-some_at : {X : Type 0} (o : Option X) (x : X) (P : X → Type 0) → o ≡ Some x → IfSome o P → P x
-some_at None x P e fact = absurd cc
-some_at (Some y) x P e fact = let same : y ≡ x = cc in subst P same fact
-
-pub find-returns-in-Some-found-clause-found : goal.find-returns-in-Some-found-clause-found
-find-returns-in-Some-found-clause-found g t c =
+pub find-returns-then-found-clause-found : goal.find-returns-then-found-clause-found
+find-returns-then-found-clause-found g t c _ =
     let game = c.args.search.now.game in
     let s = c.args.state.now.state in
     let f = stand_of c.args.after in
     let numbered = c.game-game.ensures.lawful.numbered in
     let xs : List (ℕ × ℕ) = c.put_in_turn.new.pairs.items in
-    let ends = c.loop-index.reached.ends in
+    let ends = c.loop-index.invariant.part.ends in
     let k = c.loop-index.index in
     let q : ℕ × ℕ = c.index.result.now in
-    let here : AtPair game s f xs ends k q = at_turn game s f c.loop-index.reached.pairs.items xs ends k c.len-index-end.result q c.game-game.ensures.lawful c.loop-index.invariant.part c.loop-index.invariant.plain c.loop-index.invariant.size c.loop-index-test.true c.put_in_turn.ensures.permutation c.index.ensures in
+    let here : AtPair game s f xs ends k q = at_turn game s f c.loop-index.pairs.items xs ends k c.len-index-end.result q c.game-game.ensures.lawful c.loop-index.invariant.part.part c.loop-index.invariant.plain c.loop-index.invariant.size c.loop-index-test.true c.put_in_turn.ensures.permutation c.index.ensures in
     let v = q.0 in
     let p = q.1 in
     let next = pair_next game s f xs ends k q here in
     let now = c.loop-index in
     let there : now.state.state ≡ s = ap (λ (x : History). x.state) c.loop-index.invariant.state in
     let applied = applied_back game c.game-game.result.now s now.state.state next.later v p c.game-game.ensures.game there (pair_applies game s f xs ends k q here) in
-    let behind = some_at c.in_ok-found.found c.in-Some-found.pairs (λ pairs. GoesOnBehind c.game-game.result.now now.state.state v p now.front.items pairs.items) c.in-Some-found.is c.in_ok-found.ensures.found in
-    behind_found game numbered (record { state = s; last = c.args.after }) v p c.args.front.now.items c.in-Some-found.pairs.items next (pair_plain game s f xs ends k q here)
-    (behind_as game c.game-game.result.now s now.state.state v p c.args.front.now.items now.front.items c.in-Some-found.pairs.items c.game-game.ensures.game there c.loop-index.invariant.front behind)
+    let behind = c.in_ok-found.ensures.found c.if-found.true in
+    behind_found game numbered (record { state = s; last = c.args.after }) v p c.args.front.now.items c.find_behind.new.whole.items next (pair_plain game s f xs ends k q here)
+    (behind_as game c.game-game.result.now s now.state.state v p c.args.front.now.items now.front.items c.find_behind.new.whole.items c.game-game.ensures.game there c.loop-index.invariant.front behind)
 
-pub find-returns-in-Some-found-clause-counted : goal.find-returns-in-Some-found-clause-counted
-find-returns-in-Some-found-clause-counted g t c =
+pub find-returns-then-found-clause-counted : goal.find-returns-then-found-clause-counted
+find-returns-then-found-clause-counted g t c =
     let game = c.args.search.now.game in
     let s = c.args.state.now.state in
     let f = stand_of c.args.after in
     let numbered = c.game-game.ensures.lawful.numbered in
     let xs : List (ℕ × ℕ) = c.put_in_turn.new.pairs.items in
-    let ends = c.loop-index.reached.ends in
+    let ends = c.loop-index.invariant.part.ends in
     let k = c.loop-index.index in
     let q : ℕ × ℕ = c.index.result.now in
-    let here : AtPair game s f xs ends k q = at_turn game s f c.loop-index.reached.pairs.items xs ends k c.len-index-end.result q c.game-game.ensures.lawful c.loop-index.invariant.part c.loop-index.invariant.plain c.loop-index.invariant.size c.loop-index-test.true c.put_in_turn.ensures.permutation c.index.ensures in
+    let here : AtPair game s f xs ends k q = at_turn game s f c.loop-index.pairs.items xs ends k c.len-index-end.result q c.game-game.ensures.lawful c.loop-index.invariant.part.part c.loop-index.invariant.plain c.loop-index.invariant.size c.loop-index-test.true c.put_in_turn.ensures.permutation c.index.ensures in
     let v = q.0 in
     let p = q.1 in
     let next = pair_next game s f xs ends k q here in
@@ -302,7 +291,7 @@ find-returns-in-Some-found-clause-counted g t c =
     let there : now.state.state ≡ s = ap (λ (x : History). x.state) c.loop-index.invariant.state in
     let applied = applied_back game c.game-game.result.now s now.state.state next.later v p c.game-game.ensures.game there (pair_applies game s f xs ends k q here) in
     let counted = counts_as game c.game-game.result.now next.later p now.search.opened c.find_behind.new.search.opened c.game-game.ensures.game (c.in_ok-found.ensures.counted next.later applied) in
-    subst (λ (x : Searching). CountsOpenings game find_move s f c.args.search.now.opened x.opened) (sym c.reuse-in-Some-found.ensures)
+    subst (λ (x : Searching). CountsOpenings game find_move s f c.args.search.now.opened x.opened) (sym c.keep_list-then-found.ensures)
     (counts_end game numbered (pair_counts game s f xs ends k q here c.args.search.now.opened now.search.opened c.find_behind.new.search.opened (subst (λ (ds : List (ℕ × ℕ)). CountsUpTo game find_move s f ds c.args.search.now.opened c.loop-index.search.opened) (sym c.put_in_turn.ensures.before) c.loop-index.invariant.counted) counted))
 
 pub find-loop-index-preserved : goal.find-loop-index-preserved
@@ -312,21 +301,21 @@ find-loop-index-preserved g t c =
     let f = stand_of c.args.after in
     let numbered = c.game-game.ensures.lawful.numbered in
     let xs : List (ℕ × ℕ) = c.put_in_turn.new.pairs.items in
-    let ends = c.loop-index.reached.ends in
+    let ends = c.loop-index.invariant.part.ends in
     let k = c.loop-index.index in
     let q : ℕ × ℕ = c.index.result.now in
-    let here : AtPair game s f xs ends k q = at_turn game s f c.loop-index.reached.pairs.items xs ends k c.len-index-end.result q c.game-game.ensures.lawful c.loop-index.invariant.part c.loop-index.invariant.plain c.loop-index.invariant.size c.loop-index-test.true c.put_in_turn.ensures.permutation c.index.ensures in
+    let here : AtPair game s f xs ends k q = at_turn game s f c.loop-index.pairs.items xs ends k c.len-index-end.result q c.game-game.ensures.lawful c.loop-index.invariant.part.part c.loop-index.invariant.plain c.loop-index.invariant.size c.loop-index-test.true c.put_in_turn.ensures.permutation c.index.ensures in
     let v = q.0 in
     let p = q.1 in
     let next = pair_next game s f xs ends k q here in
     let now = c.loop-index in
     let there : now.state.state ≡ s = ap (λ (x : History). x.state) c.loop-index.invariant.state in
     let applied = applied_back game c.game-game.result.now s now.state.state next.later v p c.game-game.ensures.game there (pair_applies game s f xs ends k q here) in
-    let nothing = none_at c.in_ok-found.found ((later : AbstractState) → Applies c.game-game.result.now p (standing_at now.state.state v) later → Finished c.game-game.result.now (place_behind later p)) c.in_default-found.is c.in_ok-found.ensures.none in
+    let nothing = c.in_ok-found.ensures.none (ap not c.if-found.false) in
     record {
-      part = here.part;
+      part = record { ends = ends; part = here.part };
       plain = here.plain;
-      size = length_permutation c.loop-index.reached.pairs.items xs c.put_in_turn.ensures.permutation ∙ c.loop-index.invariant.size;
+      size = length_permutation c.loop-index.pairs.items xs c.put_in_turn.ensures.permutation ∙ c.loop-index.invariant.size;
       search = kept_twice c.args.search.now now.search c.find_behind.new.search c.loop-index.invariant.search c.find_behind.ensures.search;
       state = room_twice c.args.state.now now.state c.find_behind.new.state c.loop-index.invariant.state c.in_ok-found.ensures.state;
       room = omega (arith, c.loop-index.invariant.room, c.in_ok-found.ensures.room);
@@ -352,40 +341,40 @@ find-returns-in-Some-clause-forced g t c =
     let s = c.args.state.now.state in
     let f = stand_of c.args.after in
     let numbered = c.game-game.ensures.lawful.numbered in
-    let items = c.in_ok-reached.reached.pairs.items in
+    let items = c.reach_into.new.pairs.items in
     let last = c.in-Some.last in
     let left = most_pairs - length c.args.front.now.items in
     let most = c.args.search.now.modifiers in
     let place : AbstractPlace = record { state = s; last = c.args.after } in
-    let next = next_from game s f (start_of c.origin_after.result) c.deref.result.now items c.in_ok-reached.reached.ends last c.in_ok-reached.ensures.reached c.origin_after.ensures c.deref.ensures.value c.in-Some.ensures.there in
+    let next = next_from game s f (start_of c.origin_after.result) c.deref.result.now items c.in_ok-reach_into.field-0 last (subst (λ (x : Searching). IsFlatPart x.game s (start_of c.origin_after.result) items c.in_ok-reach_into.field-0) c.take_list-pairs.ensures c.in_ok-reach_into.ensures.reached) c.origin_after.ensures c.deref.ensures.value c.in-Some.ensures.there in
     let switches : IsSwitchAt game.rules last.1 = subst (λ (h : AbstractGame). IsSwitchAt h.rules last.1) c.game-game.ensures.game c.in-Some.ensures.switches in
     let legal = legal_end game numbered place last.0 last.1 next.later next switches (next_applies game numbered s f last.0 last.1 next) in
-    subst (λ (x : Searching). CountsForced game false find_move s f c.args.search.now.opened x.opened left most) (sym c.reuse.ensures)
-    (found_forced game numbered place (last ∷ []) c.args.search.now.opened c.reach_unordered.new.self.opened c.reach_unordered.new.self.opened left most (place_behind next.later last.1, legal) (omega arith)
-    (subst (λ (h : Start). CountsForced game false reach s h c.args.search.now.opened c.reach_unordered.new.self.opened left most) c.origin_after.ensures (c.in_ok-reached.ensures.forced false left)))
+    subst (λ (x : Searching). CountsForced game false find_move s f c.args.search.now.opened x.opened left most) (sym c.keep_list.ensures)
+    (found_forced game numbered place (last ∷ []) c.args.search.now.opened c.reach_into.new.self.opened c.reach_into.new.self.opened left most (place_behind next.later last.1, legal) (omega arith)
+    (subst (λ (h : Start). CountsForced game false reach s h c.args.search.now.opened c.reach_into.new.self.opened left most) c.origin_after.ensures (subst (λ (x : Searching). CountsForced x.game false reach s (start_of c.origin_after.result) x.opened c.reach_into.new.self.opened left x.modifiers) c.take_list-pairs.ensures (c.in_ok-reach_into.ensures.forced false left))))
 
-pub find-returns-in-Some-found-clause-forced : goal.find-returns-in-Some-found-clause-forced
-find-returns-in-Some-found-clause-forced g t c =
+pub find-returns-then-found-clause-forced : goal.find-returns-then-found-clause-forced
+find-returns-then-found-clause-forced g t c =
     let game = c.args.search.now.game in
     let s = c.args.state.now.state in
     let f = stand_of c.args.after in
     let numbered = c.game-game.ensures.lawful.numbered in
     let xs : List (ℕ × ℕ) = c.put_in_turn.new.pairs.items in
-    let ends = c.loop-index.reached.ends in
+    let ends = c.loop-index.invariant.part.ends in
     let k = c.loop-index.index in
     let q : ℕ × ℕ = c.index.result.now in
-    let here : AtPair game s f xs ends k q = at_turn game s f c.loop-index.reached.pairs.items xs ends k c.len-index-end.result q c.game-game.ensures.lawful c.loop-index.invariant.part c.loop-index.invariant.plain c.loop-index.invariant.size c.loop-index-test.true c.put_in_turn.ensures.permutation c.index.ensures in
+    let here : AtPair game s f xs ends k q = at_turn game s f c.loop-index.pairs.items xs ends k c.len-index-end.result q c.game-game.ensures.lawful c.loop-index.invariant.part.part c.loop-index.invariant.plain c.loop-index.invariant.size c.loop-index-test.true c.put_in_turn.ensures.permutation c.index.ensures in
     let v = q.0 in
     let p = q.1 in
     let next = pair_next game s f xs ends k q here in
     let now = c.loop-index in
     let there : now.state.state ≡ s = ap (λ (x : History). x.state) c.loop-index.invariant.state in
     let applied = applied_back game c.game-game.result.now s now.state.state next.later v p c.game-game.ensures.game there (pair_applies game s f xs ends k q here) in
-    let behind = some_at c.in_ok-found.found c.in-Some-found.pairs (λ pairs. GoesOnBehind c.game-game.result.now now.state.state v p now.front.items pairs.items) c.in-Some-found.is c.in_ok-found.ensures.found in
-    let found = behind_found game numbered (record { state = s; last = c.args.after }) v p c.args.front.now.items c.in-Some-found.pairs.items next (pair_plain game s f xs ends k q here)
-    (behind_as game c.game-game.result.now s now.state.state v p c.args.front.now.items now.front.items c.in-Some-found.pairs.items c.game-game.ensures.game there c.loop-index.invariant.front behind) in
+    let behind = c.in_ok-found.ensures.found c.if-found.true in
+    let found = behind_found game numbered (record { state = s; last = c.args.after }) v p c.args.front.now.items c.find_behind.new.whole.items next (pair_plain game s f xs ends k q here)
+    (behind_as game c.game-game.result.now s now.state.state v p c.args.front.now.items now.front.items c.find_behind.new.whole.items c.game-game.ensures.game there c.loop-index.invariant.front behind) in
     let more = c.in_ok-found.ensures.forced next.later applied in
-    subst (λ (x : Searching). CountsForced game false find_move s f c.args.search.now.opened x.opened (most_pairs - length c.args.front.now.items) c.args.search.now.modifiers) (sym c.reuse-in-Some-found.ensures)
+    subst (λ (x : Searching). CountsForced game false find_move s f c.args.search.now.opened x.opened (most_pairs - length c.args.front.now.items) c.args.search.now.modifiers) (sym c.keep_list-then-found.ensures)
     (found_so_far game numbered (record { state = s; last = c.args.after }) found.pairs _ c.args.search.now.opened now.search.opened c.find_behind.new.search.opened (most_pairs - length c.args.front.now.items) c.args.search.now.modifiers found.legal (subst (λ (ds : List (ℕ × ℕ)). TakenSoFar game find_move s f ds c.args.search.now.opened c.loop-index.search.opened (most_pairs - length c.args.front.now.items) c.args.search.now.modifiers) (sym c.put_in_turn.ensures.before) c.loop-index.invariant.forced) (omega (arith, more.fits)))
 
 pub find-returns-clause-forced : goal.find-returns-clause-forced
@@ -398,15 +387,15 @@ find-returns-clause-forced g t c =
     let left = most_pairs - length c.args.front.now.items in
     let most = c.args.search.now.modifiers in
     let place : AbstractPlace = record { state = s; last = c.args.after } in
-    let xs : List (ℕ × ℕ) = c.loop-index.reached.pairs.items in
-    let ends = c.loop-index.reached.ends in
+    let xs : List (ℕ × ℕ) = c.loop-index.pairs.items in
+    let ends = c.loop-index.invariant.part.ends in
     let k = c.loop-index.index in
     let all_taken : length xs ≤ k = omega (arith, c.loop-index-test.false, c.loop-index.invariant.size) in
     let all = subst (All (λ (q : ℕ × ℕ). (later : AbstractState) → Applies game q.1 (standing_at s q.0) later → Finished game (place_behind later q.1))) (take_all k xs all_taken) c.loop-index.invariant.nothing in
-    let finished = none_found game numbered place f xs ends c.loop-index.invariant.part refl c.loop-index.invariant.plain all in
+    let finished = none_found game numbered place f xs ends c.loop-index.invariant.part.part refl c.loop-index.invariant.plain all in
     let taken = subst (λ (ds : List (ℕ × ℕ)). TakenSoFar game find_move s f ds a c.loop-index.search.opened left most) (take_all k xs all_taken) c.loop-index.invariant.forced in
-    let counts = finished_forced game numbered place xs ends a c.loop-index.search.opened left most finished c.loop-index.invariant.part taken in
-    subst (λ (x : Searching). CountsForced game false find_move s f a x.opened left most) (sym c.reuse-2.ensures) counts
+    let counts = finished_forced game numbered place xs ends a c.loop-index.search.opened left most finished c.loop-index.invariant.part.part taken in
+    subst (λ (x : Searching). CountsForced game false find_move s f a x.opened left most) (sym c.keep_list-2.ensures) counts
 
 pub find_behind-returns-clause-forced : goal.find_behind-returns-clause-forced
 find_behind-returns-clause-forced g t c later applied =
@@ -422,12 +411,12 @@ find_behind-returns-clause-forced g t c later applied =
 -- ---- how long the move is
 
 pub find-returns-in-Some-clause-length : goal.find-returns-in-Some-clause-length
-find-returns-in-Some-clause-length g t c =
+find-returns-in-Some-clause-length g t c _ =
     let front : List (ℕ × ℕ) = c.args.front.now.items in
-    let whole : c.in_ok-pairs.pairs.items ≡ front ++ c.in-Some.last ∷ [] = c.in_ok-pairs.ensures ∙ ap (λ (qs : List (ℕ × ℕ)). qs ++ c.in-Some.last ∷ []) c.deref-in-Some.ensures.value in
-    let size : length c.in_ok-pairs.pairs.items ≡ length front + 1 = ap (λ (qs : List (ℕ × ℕ)). length qs) whole ∙ length_push front c.in-Some.last in
+    let whole : c.join.new.buffer.items ≡ front ++ c.in-Some.last ∷ [] = c.in_ok-join.ensures ∙ ap (λ (qs : List (ℕ × ℕ)). qs ++ c.in-Some.last ∷ []) c.deref-in-Some.ensures.value in
+    let size : length c.join.new.buffer.items ≡ length front + 1 = ap (λ (qs : List (ℕ × ℕ)). length qs) whole ∙ length_push front c.in-Some.last in
     (omega (arith, size), omega (arith, size, c.requires.short))
 
-pub find-returns-in-Some-found-clause-length : goal.find-returns-in-Some-found-clause-length
-find-returns-in-Some-found-clause-length g t c =
-    some_at c.in_ok-found.found c.in-Some-found.pairs (λ pairs. IsMoveLength (length pairs.items)) c.in-Some-found.is c.in_ok-found.ensures.length
+pub find-returns-then-found-clause-length : goal.find-returns-then-found-clause-length
+find-returns-then-found-clause-length g t c _ =
+    c.in_ok-found.ensures.length c.if-found.true

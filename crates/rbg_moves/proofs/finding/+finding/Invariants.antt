@@ -6,10 +6,10 @@ use Rattle.rbg_rules.specs.Actions.{Applies}
 use Rattle.rbg_rules.specs.Moves.{stand_of, Finished}
 use Rattle.rbg_rules.specs.Questions.{find_move}
 use Rattle.rbg_rules.specs.Positions.{IsSwitchAt}
-use Rattle.rbg_search.specs.Flat.{IsFlatPart}
 use Rattle.rbg_search.specs.Passing.{CountsUpTo}
 use Rattle.rbg_moves.specs.internal.Stepping.{standing_at, place_behind}
 use Rattle.rbg_moves.proofs.Forcing.{TakenSoFar}
+use Rattle.rbg_moves.proofs.Seeking.{IsWhole}
 use Rattle.rbg_moves.proofs.finding.+finding.Given as goal
 
 abbrev pub decreases-find : goal.decreases-find
@@ -20,15 +20,15 @@ decreases-find_behind g l = 2 * (most_pairs - length l.front.now.items) - 1
 
 abbrev pub invariant-find-loop-index : goal.invariant-find-loop-index
 invariant-find-loop-index g l = record {
-  part : IsFlatPart l.fn.search.game l.fn.state.state (stand_of l.fn.after) l.reached.pairs.items l.reached.ends;
-  plain : All (λ (q : ℕ × ℕ). ¬ IsSwitchAt l.fn.search.game.rules q.1) l.reached.pairs.items;
-  size : length l.reached.pairs.items ≡ l.index-end;
+  part : IsWhole l.fn.search.game l.fn.state.state (stand_of l.fn.after) l.pairs.items;
+  plain : All (λ (q : ℕ × ℕ). ¬ IsSwitchAt l.fn.search.game.rules q.1) l.pairs.items;
+  size : length l.pairs.items ≡ l.index-end;
   search : l.search ≡ record l.fn.search { opened = l.search.opened };
   state : l.state ≡ record l.fn.state { room = l.state.room };
   room : l.fn.state.room ≤ l.state.room;
   enough : 2 ≤ l.state.room;
   front : l.front.items ≡ l.fn.front.items;
-  nothing : All (λ (q : ℕ × ℕ). (later : AbstractState) → Applies l.fn.search.game q.1 (standing_at l.fn.state.state q.0) later → Finished l.fn.search.game (place_behind later q.1)) (take l.index l.reached.pairs.items);
-  counted : CountsUpTo l.fn.search.game find_move l.fn.state.state (stand_of l.fn.after) (take l.index l.reached.pairs.items) l.fn.search.opened l.search.opened;
-  forced : TakenSoFar l.fn.search.game find_move l.fn.state.state (stand_of l.fn.after) (take l.index l.reached.pairs.items) l.fn.search.opened l.search.opened (most_pairs - length l.fn.front.items) l.fn.search.modifiers;
+  nothing : All (λ (q : ℕ × ℕ). (later : AbstractState) → Applies l.fn.search.game q.1 (standing_at l.fn.state.state q.0) later → Finished l.fn.search.game (place_behind later q.1)) (take l.index l.pairs.items);
+  counted : CountsUpTo l.fn.search.game find_move l.fn.state.state (stand_of l.fn.after) (take l.index l.pairs.items) l.fn.search.opened l.search.opened;
+  forced : TakenSoFar l.fn.search.game find_move l.fn.state.state (stand_of l.fn.after) (take l.index l.pairs.items) l.fn.search.opened l.search.opened (most_pairs - length l.fn.front.items) l.fn.search.modifiers;
 }

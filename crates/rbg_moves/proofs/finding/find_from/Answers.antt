@@ -12,23 +12,29 @@ use Rattle.rbg_rules.specs.Limits.{most_openings}
 use Rattle.rbg_search.specs.Searching.{Searching}
 use Rattle.rbg_moves.proofs.Steps.{deep_from, wide_from}
 use Rattle.rbg_moves.proofs.Forcing.{counts_uncut, fits_at}
-use Rattle.std.specs.Prelude.{◌++◌, Option, Some, None, IfSome}
+use Rattle.std.specs.Prelude.{◌++◌, ◌≤◌, Bool, false}
+use Rattle.std.proofs.Common.{Vec}
+use Rattle.std.specs.Global.{Global}
+use Rattle.rbg_pairs.specs.declared.pair.Pair.{Pair}
+use Rattle.rbg_search.specs.Forced.{CountsForced}
+use Rattle.rbg_moves.specs.Limits.{FitsLimits}
 use Rattle.rbg_rules.specs.Moves.{IsLegal}
 use Rattle.rbg_moves.specs.internal.Stepping.{GoesOnByMove}
 use Rattle.rbg_moves.proofs.finding.find_from.Goals as goal
 
 -- What goes on from no pairs by a legal move is that move.
-found_legal : {A : Type 0} (items : A → List (ℕ × ℕ)) (game asked : AbstractGame) (place : AbstractPlace) (front : List (ℕ × ℕ)) (found : Option A) → asked ≡ game → front ≡ [] → IfSome found (λ whole. GoesOnByMove asked place front (items whole)) → IfSome found (λ whole. IsLegal game place (items whole))
-found_legal items game asked place front None same_game none goes = tt
-found_legal items game asked place front (Some whole) same_game none goes =
-    let joined : items whole ≡ goes.pairs = goes.joined ∙ ap (λ (qs : List (ℕ × ℕ)). qs ++ goes.pairs) none in
+found_legal : (game asked : AbstractGame) (place : AbstractPlace) (front whole : List (ℕ × ℕ)) → asked ≡ game → front ≡ [] → GoesOnByMove asked place front whole → IsLegal game place whole
+found_legal game asked place front whole same_game none goes =
+    let joined : whole ≡ goes.pairs = goes.joined ∙ ap (λ (qs : List (ℕ × ℕ)). qs ++ goes.pairs) none in
     subst (IsLegal game place) (sym joined)
     (subst (λ (x : AbstractGame). IsLegal x place goes.pairs) same_game goes.legal)
 
 pub returns-clause-found : goal.returns-clause-found
 returns-clause-found x c =
     let place : AbstractPlace = record { state = c.args.state.now.state; last = c.args.after } in
-    found_legal (λ pairs. pairs.items) c.args.game.now c.search_in-search.result.game place c.clear.new.self.items c.in_ok-found.found c.search_in-search.ensures.game c.clear.ensures.items c.in_ok-found.ensures.found
+    let same : c.find.new.whole.items ≡ c.replace-pairs.result.items = ap (λ (v : Vec Pair Global). v.items) (sym c.replace-pairs.ensures.value) in
+    subst (IsLegal c.args.game.now place) same
+    (found_legal c.args.game.now c.search_in-search.result.game place c.clear.new.self.items c.find.new.whole.items c.search_in-search.ensures.game c.clear.ensures.items (c.in_ok-found.ensures.found c.if-not-found.false))
 
 deep_of : (g : AbstractGame) → IsNumbered g.rules → (s : AbstractState) (f : Start) (items : List (ℕ × ℕ)) (most : ℕ) → items ≡ [] → most ≡ most_modifiers → IsTooDeep g find_move s f (most_pairs - length items) most → IsDeep g find_move s f most
 deep_of g numbered s f items most none limit deep =
@@ -52,17 +58,33 @@ returns-in_err-found-clause-wide x c e =
     wide_from c.args.game.now c.positions-positions.ensures.lawful.numbered find_move place asked.game place.state (stand_of place.last) asked.opened asked.openings
     c.search_in-search.ensures.game refl refl c.search_in-search.ensures.opened c.search_in-search.ensures.openings (c.find.ensures.wide (search rules))
 
-pub returns-clause-fits : goal.returns-clause-fits
-returns-clause-fits x c = λ cut.
-    let game = c.args.game.now in
-    let asked = c.search_in-search.result in
-    let place : AbstractPlace = record { state = c.args.state.now.state; last = c.args.after } in
+-- An answer fits the limits, since what is forced was taken up within the budget.
+fits_of :
+    (game : AbstractGame) (place : AbstractPlace) (asked new : Searching) (front : List (ℕ × ℕ)) (cut : Bool) →
+    asked.game ≡ game →
+    asked.opened ≡ 0 →
+    asked.openings ≡ most_openings →
+    asked.modifiers ≡ most_modifiers →
+    new ≡ record asked { opened = new.opened } →
+    new.opened ≤ new.openings →
+    front ≡ [] → CountsForced asked.game false find_move place.state (stand_of place.last) asked.opened new.opened (most_pairs - length front) asked.modifiers → FitsLimits game cut find_move place
+fits_of game place asked new front cut same none openings modifiers kept within empty forced =
     let s = place.state in
     let f = stand_of place.last in
-    let new = c.find.new.search in
-    let left = most_pairs - length c.clear.new.self.items in
-    let budget : new.openings ≡ most_openings = ap (λ (y : Searching). y.openings) c.find.ensures.search ∙ c.search_in-search.ensures.openings in
-    let none : length c.clear.new.self.items ≡ 0 = ap (λ (ps : List (ℕ × ℕ)). length ps) c.clear.ensures.items in
-    fits_at game asked.game place s f cut find_move asked.opened new.opened left asked.modifiers new.openings
-    c.search_in-search.ensures.game refl refl c.search_in-search.ensures.opened c.opened-opened.ensures.within budget (omega (arith, none)) c.search_in-search.ensures.modifiers
-    (counts_uncut asked.game cut find_move s f asked.opened new.opened left asked.modifiers c.in_ok-found.ensures.forced)
+    let left = most_pairs - length front in
+    let budget : new.openings ≡ most_openings = ap (λ (y : Searching). y.openings) kept ∙ openings in
+    let zero_long : length front ≡ 0 = ap (λ (ps : List (ℕ × ℕ)). length ps) empty in
+    fits_at game asked.game place s f cut find_move asked.opened new.opened left asked.modifiers new.openings same refl refl none within budget (omega (arith, zero_long)) modifiers
+    (counts_uncut asked.game cut find_move s f asked.opened new.opened left asked.modifiers forced)
+
+pub returns-clause-fits : goal.returns-clause-fits
+returns-clause-fits x c = λ cut.
+    let place : AbstractPlace = record { state = c.args.state.now.state; last = c.args.after } in
+    let asked = c.search_in-search in
+    fits_of c.args.game.now place asked.result c.find.new.search c.clear.new.self.items cut asked.ensures.game asked.ensures.opened asked.ensures.openings asked.ensures.modifiers c.find.ensures.search c.opened-opened.ensures.within c.clear.ensures.items c.in_ok-found.ensures.forced
+
+pub returns-then-not-found-clause-fits : goal.returns-then-not-found-clause-fits
+returns-then-not-found-clause-fits x c = λ cut.
+    let place : AbstractPlace = record { state = c.args.state.now.state; last = c.args.after } in
+    let asked = c.search_in-search in
+    fits_of c.args.game.now place asked.result c.find.new.search c.clear.new.self.items cut asked.ensures.game asked.ensures.opened asked.ensures.openings asked.ensures.modifiers c.find.ensures.search c.opened-opened.ensures.within c.clear.ensures.items c.in_ok-found.ensures.forced

@@ -1,12 +1,13 @@
 use Rattle.std.proofs.Common.{◌≡◌, ◌<◌, ℕ, List, length, true, false, sym, ap, ◌∙◌, subst}
-use Rattle.std.specs.Prelude.{Contains}
+use Rattle.std.specs.Prelude.{All, Contains}
 use Rattle.std.proofs.lemmas.List.Elements.{All-contains}
 use Rattle.rbg_rules.specs.State.{AbstractGame, AbstractState, IsStateOf}
 use Rattle.rbg_rules.specs.Actions.{Applies}
 use Rattle.rbg_rules.specs.Moves.{stand_of}
 use Rattle.rbg_rules.specs.Laws.{IsStart}
-use Rattle.rbg_search.specs.Flat.{IsNext}
-use Rattle.rbg_search.specs.Start.{IsPositionOf}
+use Rattle.rbg_search.specs.Flat.{IsNext, IsFlatPart}
+use Rattle.rbg_search.specs.Searching.{Searching}
+use Rattle.rbg_search.specs.Start.{start_of, IsPositionOf}
 use Rattle.rbg_state.specs.History.{History}
 use Rattle.rbg_moves.specs.internal.Stepping.{standing_at, IsValidAt}
 use Rattle.rbg_moves.proofs.Steps.{place_start, place_after, valid_next, modifier_position, next_from, has_next}
@@ -23,10 +24,11 @@ applied_as game game' s s' t v p same here applied =
 true_not_false : true ≡ false → ⊥
 true_not_false e = cc
 
-pub reach_unordered-requires-clause-stands : goal.reach_unordered-requires-clause-stands
-reach_unordered-requires-clause-stands g c =
+pub reach_into-requires-clause-stands : goal.reach_into-requires-clause-stands
+reach_into-requires-clause-stands g c =
     let game = c.args.search.now.game in
-    subst (IsStart game.rules) (sym c.origin_after.ensures) (place_start game c.game-game.ensures.lawful.numbered (record { state = c.args.state.now.state; last = c.args.after }) c.requires.place)
+    let stands = subst (IsStart game.rules) (sym c.origin_after.ensures) (place_start game c.game-game.ensures.lawful.numbered (record { state = c.args.state.now.state; last = c.args.after }) c.requires.place) in
+    subst (λ (x : Searching). IsStart x.game.rules (start_of c.origin_after.result)) (sym c.take_list-pairs.ensures) stands
 
 pub apply_at-requires-clause-valid : goal.apply_at-requires-clause-valid
 apply_at-requires-clause-valid g c =
@@ -34,14 +36,14 @@ apply_at-requires-clause-valid g c =
     let s = c.args.state.now.state in
     let f = stand_of c.args.after in
     let q = c.args.pair in
-    let items = c.in_ok-reached.reached.pairs.items in
+    let items = c.reach_into.new.pairs.items in
     let is : c.deref.result.now ≡ items = c.deref.ensures.value in
     let has = c.has_pair-comes_next.ensures.0 c.if-comes_next.true in
-    let next : IsNext game s f q.0 q.1 = next_from game s f _ c.deref.result.now items c.in_ok-reached.reached.ends q c.in_ok-reached.ensures.reached c.origin_after.ensures is has in
+    let next : IsNext game s f q.0 q.1 = next_from game s f _ c.deref.result.now items c.in_ok-reach_into.field-0 q (subst (λ (x : Searching). IsFlatPart x.game s (start_of c.origin_after.result) items c.in_ok-reach_into.field-0) c.take_list-pairs.ensures c.in_ok-reach_into.ensures.reached) c.origin_after.ensures is has in
     let has' : Contains items q = subst (λ (qs : List (ℕ × ℕ)). Contains qs q) is has in
-    let within = All-contains (λ (r : ℕ × ℕ). (r.0 < length game.board.first) × IsPositionOf game.rules r.1) items q c.in_ok-reached.ensures.within has' in
-    let here : c.reach_unordered.new.state.state ≡ s = ap (λ (h : History). h.state) c.in_ok-reached.ensures.given_back in
-    valid_as game c.game-game.result.now s c.reach_unordered.new.state.state q.0 q.1 c.game-game.ensures.game here (valid_next game c.game-game.ensures.lawful.numbered s f q.0 q.1 within.0 next)
+    let within = All-contains (λ (r : ℕ × ℕ). (r.0 < length game.board.first) × IsPositionOf game.rules r.1) items q (subst (λ (x : Searching). All (λ r. (r.0 < length x.game.board.first) × IsPositionOf x.game.rules r.1) items) c.take_list-pairs.ensures c.in_ok-reach_into.ensures.within) has' in
+    let here : c.reach_into.new.state.state ≡ s = ap (λ (h : History). h.state) c.in_ok-reach_into.ensures.given_back in
+    valid_as game c.game-game.result.now s c.reach_into.new.state.state q.0 q.1 c.game-game.ensures.game here (valid_next game c.game-game.ensures.lawful.numbered s f q.0 q.1 within.0 next)
 
 pub returns-then-comes_next-clause-taken : goal.returns-then-comes_next-clause-taken
 returns-then-comes_next-clause-taken g c _ =
@@ -49,12 +51,12 @@ returns-then-comes_next-clause-taken g c _ =
     let s = c.args.state.now.state in
     let f = stand_of c.args.after in
     let q = c.args.pair in
-    let items = c.in_ok-reached.reached.pairs.items in
+    let items = c.reach_into.new.pairs.items in
     let is : c.deref.result.now ≡ items = c.deref.ensures.value in
     let has = c.has_pair-comes_next.ensures.0 c.if-comes_next.true in
-    let next : IsNext game s f q.0 q.1 = next_from game s f _ c.deref.result.now items c.in_ok-reached.reached.ends q c.in_ok-reached.ensures.reached c.origin_after.ensures is has in
-    let here : c.reach_unordered.new.state.state ≡ s = ap (λ (h : History). h.state) c.in_ok-reached.ensures.given_back in
-    record { next = next; applies = applied_as game c.game-game.result.now s c.reach_unordered.new.state.state c.apply_at.new.state.state q.0 q.1 c.game-game.ensures.game here c.apply_at.ensures.applied }
+    let next : IsNext game s f q.0 q.1 = next_from game s f _ c.deref.result.now items c.in_ok-reach_into.field-0 q (subst (λ (x : Searching). IsFlatPart x.game s (start_of c.origin_after.result) items c.in_ok-reach_into.field-0) c.take_list-pairs.ensures c.in_ok-reach_into.ensures.reached) c.origin_after.ensures is has in
+    let here : c.reach_into.new.state.state ≡ s = ap (λ (h : History). h.state) c.in_ok-reach_into.ensures.given_back in
+    record { next = next; applies = applied_as game c.game-game.result.now s c.reach_into.new.state.state c.apply_at.new.state.state q.0 q.1 c.game-game.ensures.game here c.apply_at.ensures.applied }
 
 pub returns-then-comes_next-clause-in_game : goal.returns-then-comes_next-clause-in_game
 returns-then-comes_next-clause-in_game g c _ =
@@ -62,10 +64,10 @@ returns-then-comes_next-clause-in_game g c _ =
     let s = c.args.state.now.state in
     let f = stand_of c.args.after in
     let q = c.args.pair in
-    let items = c.in_ok-reached.reached.pairs.items in
+    let items = c.reach_into.new.pairs.items in
     let is : c.deref.result.now ≡ items = c.deref.ensures.value in
     let has = c.has_pair-comes_next.ensures.0 c.if-comes_next.true in
-    let next : IsNext game s f q.0 q.1 = next_from game s f _ c.deref.result.now items c.in_ok-reached.reached.ends q c.in_ok-reached.ensures.reached c.origin_after.ensures is has in
+    let next : IsNext game s f q.0 q.1 = next_from game s f _ c.deref.result.now items c.in_ok-reach_into.field-0 q (subst (λ (x : Searching). IsFlatPart x.game s (start_of c.origin_after.result) items c.in_ok-reach_into.field-0) c.take_list-pairs.ensures c.in_ok-reach_into.ensures.reached) c.origin_after.ensures is has in
     let fits : IsStateOf game c.apply_at.new.state.state = subst (λ (g : AbstractGame). IsStateOf g c.apply_at.new.state.state) c.game-game.ensures.game c.apply_at.ensures.fits in
     place_after game c.game-game.ensures.lawful.numbered c.apply_at.new.state.state q.1 next.modifies fits
 
@@ -75,10 +77,10 @@ returns-then-comes_next-clause-position g c _ =
     let s = c.args.state.now.state in
     let f = stand_of c.args.after in
     let q = c.args.pair in
-    let items = c.in_ok-reached.reached.pairs.items in
+    let items = c.reach_into.new.pairs.items in
     let is : c.deref.result.now ≡ items = c.deref.ensures.value in
     let has = c.has_pair-comes_next.ensures.0 c.if-comes_next.true in
-    let next : IsNext game s f q.0 q.1 = next_from game s f _ c.deref.result.now items c.in_ok-reached.reached.ends q c.in_ok-reached.ensures.reached c.origin_after.ensures is has in
+    let next : IsNext game s f q.0 q.1 = next_from game s f _ c.deref.result.now items c.in_ok-reach_into.field-0 q (subst (λ (x : Searching). IsFlatPart x.game s (start_of c.origin_after.result) items c.in_ok-reach_into.field-0) c.take_list-pairs.ensures c.in_ok-reach_into.ensures.reached) c.origin_after.ensures is has in
     modifier_position game c.game-game.ensures.lawful.numbered q.1 next.modifies
 
 pub returns-else-comes_next-clause-refused : goal.returns-else-comes_next-clause-refused
@@ -87,7 +89,7 @@ returns-else-comes_next-clause-refused g c _ next =
     let s = c.args.state.now.state in
     let f = stand_of c.args.after in
     let q = c.args.pair in
-    let items = c.in_ok-reached.reached.pairs.items in
+    let items = c.reach_into.new.pairs.items in
     let is : c.deref.result.now ≡ items = c.deref.ensures.value in
-    let has = has_next game s f _ c.deref.result.now items c.in_ok-reached.reached.ends q c.in_ok-reached.ensures.reached c.origin_after.ensures is next in
+    let has = has_next game s f _ c.deref.result.now items c.in_ok-reach_into.field-0 q (subst (λ (x : Searching). IsFlatPart x.game s (start_of c.origin_after.result) items c.in_ok-reach_into.field-0) c.take_list-pairs.ensures c.in_ok-reach_into.ensures.reached) c.origin_after.ensures is next in
     true_not_false (sym (c.has_pair-comes_next.ensures.1 has) ∙ c.if-comes_next.false)

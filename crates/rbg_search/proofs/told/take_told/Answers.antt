@@ -7,9 +7,9 @@ use Rattle.rbg_search.proofs.Tolds.{there, once, one_more, no_fewer, quiet_befor
 use Rattle.rbg_search.proofs.told.take_told.Goals as goal
 
 pub returns-then-not-take_one-clause-part : goal.returns-then-not-take_one-clause-part
-returns-then-not-take_one-clause-part c = λ s f same part.
+returns-then-not-take_one-clause-part c = λ s f ends same part.
     let kept = c.take_one.ensures.kept c.if-not-take_one.true in
-    rw (kept.0, kept.1, kept.2) (c.loop-taken.invariant.part s f same part)
+    rw (kept.0, kept.1) (c.loop-taken.invariant.part s f ends same part)
 
 pub returns-then-not-take_one-clause-still_done : goal.returns-then-not-take_one-clause-still_done
 returns-then-not-take_one-clause-still_done c = λ x h.
@@ -38,9 +38,9 @@ loop-taken-preserved c =
       room = omega (arith, c.take_one.ensures.room, invariant.room);
       taken = omega (arith, below, no_fewer room met taken within below c.take_one.new.met c.take_one.new.room c.take_one.ensures.grown);
       further = omega (arith, invariant.further);
-      part = λ s f same part.
-          subst (λ (ds : List (ℕ × ℕ)). IsPart c.args.tables.now s f new ds c.take_one.new.found.items c.take_one.new.ends) (sym grown)
-          (c.take_one.ensures.part result s f done same here new_one (invariant.part s f same part));
+      part = λ s f ends same part.
+          subst (λ (ds : List (ℕ × ℕ)). IsPart c.args.tables.now s f new ds c.take_one.new.found.items ends) (sym grown)
+          (c.take_one.ensures.part result s f done ends same here new_one (invariant.part s f ends same part));
       still_done = λ x h. subst (λ (ds : List (ℕ × ℕ)). Contains ds x) (sym grown) (Contains-append_left done (pair ∷ []) x (invariant.still_done x h));
       quiet = λ w p h is. invariant.quiet w p (quiet_before c.args.tables.now.rules done pair (c.take_one.ensures.plain result) w p (subst (λ (ds : List (ℕ × ℕ)). Contains ds (w, p)) grown h) is) is;
     }

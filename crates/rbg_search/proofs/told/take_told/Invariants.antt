@@ -1,6 +1,6 @@
 -- The pairs so far were taken, and the others were met.
 use Rattle.std.proofs.Common.{◌≡◌, ℕ, ◌-◌, ◌^◌, ◌≤◌, length, take}
-use Rattle.std.specs.Prelude.{Contains}
+use Rattle.std.specs.Prelude.{Bool, Contains}
 use Rattle.rbg_rules.specs.Positions.{IsPatternAt}
 use Rattle.rbg_rules.specs.State.{AbstractState}
 use Rattle.rbg_rules.specs.Words.{Start}
@@ -16,10 +16,10 @@ invariant-loop-taken l = record {
   taken : l.taken ≤ l.met;
   further : l.initial.taken ≤ l.taken;
   part :
-      (s : AbstractState) (f : Start) →
+      (s : AbstractState) (f : Start) (ends : Bool) →
       s.pieces ≡ l.pieces →
-      IsPart l.tables s f (take l.initial.met l.initial.room) (take l.initial.taken (take l.initial.met l.initial.room)) l.initial.found.items l.initial.ends →
-      IsPart l.tables s f (take l.met l.room) (take l.taken (take l.met l.room)) l.found.items l.ends;
+      IsPart l.tables s f (take l.initial.met l.initial.room) (take l.initial.taken (take l.initial.met l.initial.room)) l.initial.found.items ends →
+      IsPart l.tables s f (take l.met l.room) (take l.taken (take l.met l.room)) l.found.items ends;
   still_done :
       (x : ℕ × ℕ) →
       Contains (take l.initial.taken (take l.initial.met l.initial.room)) x →

@@ -10,11 +10,11 @@ pairs : (c : goal.After-self-3-1) → take c.self.inside.met c.deref_mut-2.resul
 pairs c = ap (take c.self.inside.met) c.deref_mut-2.ensures.value ∙ ap (λ (m : Met). m.pairs) c.self.view_is
 
 pub returns-clause-part : goal.returns-clause-part
-returns-clause-part c = λ s f same part.
+returns-clause-part c = λ s f ends same part.
     let room = c.take_told-progress.ensures.room ∙ c.deref_mut-2.ensures.len in
     rw (with_items_is c.self.inside.room c.take_told-progress.new.room room)
-    (c.take_told-progress.ensures.part s f same
-    (subst (λ (ps : List (ℕ × ℕ)). IsPart c.args.tables.now s f ps (take c.args.taken ps) c.args.found.now.items c.args.ends) (sym (pairs c)) part))
+    (c.take_told-progress.ensures.part s f ends same
+    (subst (λ (ps : List (ℕ × ℕ)). IsPart c.args.tables.now s f ps (take c.args.taken ps) c.args.found.now.items ends) (sym (pairs c)) part))
 
 pub returns-clause-still_done : goal.returns-clause-still_done
 returns-clause-still_done c = λ x h.

@@ -1,11 +1,12 @@
 use Rattle.std.proofs.Common.{rules, ◌≡◌, ℕ, ◌^◌, ◌<◌, ◌≤◌, List, length, get_or, take, Bool, sym, ap, ◌∙◌, subst, arith, [], ◌∷◌, ◌++◌, ◌-◌, refl, ◌+◌, false, true}
-use Rattle.std.specs.Prelude.{IsTrue, ◌↔◌, All, Some, slice_get, Contains}
+use Rattle.std.specs.Prelude.{IsTrue, ◌↔◌, All, Some, slice_get, Contains, Err}
 use Rattle.rbg_rules.specs.Positions.{inside, IsPatternAt}
 use Rattle.rbg_rules.specs.Words.{Start, beginning, after}
 use Rattle.rbg_rules.specs.State.{AbstractState, IsStateOf}
 use Rattle.rbg_rules.specs.Actions.{Applies}
 use Rattle.rbg_rules.specs.Questions.{SomeWordRuns, reach, pattern}
 use Rattle.rbg_rules.specs.Games.{IsGame}
+use Rattle.rbg_rules.specs.Laws.{IsStart}
 use Rattle.rbg_state.specs.History.{History}
 use Rattle.rbg_search.specs.Flat.{IsFlatPart}
 use Rattle.rbg_search.specs.Start.{start_of}
@@ -16,9 +17,9 @@ use Rattle.rbg_search.specs.internal.Nesting.{NestsFrom}
 use Rattle.rbg_search.specs.internal.Part.{HasMarksOf}
 use Rattle.rbg_search.proofs.Asking.{back, mark_within, given_room, room_twice, asked_nests, some_nested, runs_one, none_more, some_behind, none_behind, runs_here, runs_there}
 use Rattle.rbg_search.proofs.Behinds.{all_ready}
-use Rattle.rbg_search.proofs.Kept.{kept_same, kept_twice, back_same, onward, before, onward_rules, rules_before, further_on}
+use Rattle.rbg_search.proofs.Kept.{kept_same, kept_since, kept_twice, back_same, onward, before, onward_rules, rules_before, further_on}
 use Rattle.rbg_search.specs.Counting.{CountsOpenings}
-use Rattle.rbg_search.specs.internal.Asked.{StandsInPattern, CountsAsked}
+use Rattle.rbg_search.specs.internal.Asked.{StandsInPattern, CountsAsked, IsCounted}
 use Rattle.rbg_search.specs.Forced.{CountsForced}
 use Rattle.rbg_search.specs.internal.Taking.{AsksForced, RanBehind}
 use Rattle.rbg_search.proofs.Behinds.{runs_at_end}
@@ -211,16 +212,16 @@ flat_part-returns-in_err-take-clause-room g t c =
 pub flat_part-finish-requires : goal.flat_part-finish-requires
 flat_part-finish-requires g t c = c.advance.ensures.marks
 
-pub flat_part-returns-in_err-reached-clause-kept : goal.flat_part-returns-in_err-reached-clause-kept
-flat_part-returns-in_err-reached-clause-kept g t c =
+pub flat_part-returns-in_err-ends-clause-kept : goal.flat_part-returns-in_err-ends-clause-kept
+flat_part-returns-in_err-ends-clause-kept g t c =
     kept_twice c.args.self.now c.loop-flat.self c.finish.new.self c.loop-flat.invariant.kept (kept_same c.loop-flat.self c.finish.new.self c.finish.ensures.kept)
 
-pub flat_part-returns-in_err-reached-clause-given_back : goal.flat_part-returns-in_err-reached-clause-given_back
-flat_part-returns-in_err-reached-clause-given_back g t c =
+pub flat_part-returns-in_err-ends-clause-given_back : goal.flat_part-returns-in_err-ends-clause-given_back
+flat_part-returns-in_err-ends-clause-given_back g t c =
     room_twice c.args.state.now c.loop-flat.state c.advance.new.state c.loop-flat.invariant.given_back (back_same c.loop-flat.state c.advance.new.state c.advance.ensures.given_back)
 
-pub flat_part-returns-in_err-reached-clause-room : goal.flat_part-returns-in_err-reached-clause-room
-flat_part-returns-in_err-reached-clause-room g t c =
+pub flat_part-returns-in_err-ends-clause-room : goal.flat_part-returns-in_err-ends-clause-room
+flat_part-returns-in_err-ends-clause-room g t c =
     let same : c.advance.new.state.room ≡ c.loop-flat.state.room = ap (λ (h : History). h.room) c.advance.ensures.given_back in
     omega (arith, same, c.loop-flat.invariant.room)
 
@@ -249,8 +250,8 @@ flat_part-returns-clause-reached g t c =
     let begun : IsBegun c.loop-flat.self.game c.loop-flat.state.state f c.loop-flat.flat.value = onward (λ x s. IsBegun x s f c.loop-flat.flat.value) c.args.self.now c.loop-flat.self c.args.state.now c.loop-flat.state c.loop-flat.invariant.kept c.loop-flat.invariant.given_back c.loop-flat.invariant.begun in
     let part : IsFlatPart c.args.self.now.game c.args.state.now.state f c.advance.new.flat.value.found.items c.advance.new.flat.value.ends =
     before (λ x s. IsFlatPart x s f c.advance.new.flat.value.found.items c.advance.new.flat.value.ends) c.args.self.now c.loop-flat.self c.args.state.now c.loop-flat.state c.loop-flat.invariant.kept c.loop-flat.invariant.given_back (whole f begun) in
-    subst (λ (ps : List (ℕ × ℕ)). IsFlatPart c.args.self.now.game c.args.state.now.state f ps c.in_ok-reached.reached.ends) (sym c.in_ok-reached.ensures.pairs)
-    (subst (λ (e : Bool). IsFlatPart c.args.self.now.game c.args.state.now.state f c.advance.new.flat.value.found.items e) (sym c.in_ok-reached.ensures.ends) part)
+    subst (λ (ps : List (ℕ × ℕ)). IsFlatPart c.args.self.now.game c.args.state.now.state f ps c.in_ok-ends.ends) (sym c.in_ok-ends.ensures.pairs)
+    (subst (λ (e : Bool). IsFlatPart c.args.self.now.game c.args.state.now.state f c.advance.new.flat.value.found.items e) (sym c.in_ok-ends.ensures.ends) part)
 
 pub flat_part-returns-clause-ready : goal.flat_part-returns-clause-ready
 flat_part-returns-clause-ready g t c =
@@ -259,7 +260,7 @@ flat_part-returns-clause-ready g t c =
     let begun : IsBegun c.loop-flat.self.game c.loop-flat.state.state f c.loop-flat.flat.value = onward (λ x s. IsBegun x s f c.loop-flat.flat.value) c.args.self.now c.loop-flat.self c.args.state.now c.loop-flat.state c.loop-flat.invariant.kept c.loop-flat.invariant.given_back c.loop-flat.invariant.begun in
     let part : IsFlatPart c.args.self.now.game c.args.state.now.state f c.advance.new.flat.value.found.items c.advance.new.flat.value.ends =
     before (λ x s. IsFlatPart x s f c.advance.new.flat.value.found.items c.advance.new.flat.value.ends) c.args.self.now c.loop-flat.self c.args.state.now c.loop-flat.state c.loop-flat.invariant.kept c.loop-flat.invariant.given_back (whole f begun) in
-    subst (λ (ps : List (ℕ × ℕ)). All (IsReady c.args.self.now.game c.args.state.now.state c.args.nested) ps) (sym c.in_ok-reached.ensures.pairs)
+    subst (λ (ps : List (ℕ × ℕ)). All (IsReady c.args.self.now.game c.args.state.now.state c.args.nested) ps) (sym c.in_ok-ends.ensures.pairs)
     (all_ready c.args.self.now.game c.loop-flat.invariant.lawful c.args.state.now.state c.requires.fits f c.args.nested c.requires.nested c.advance.new.flat.value.found.items c.advance.new.flat.value.ends part)
 
 pub runs_behind-runs_behind_one-requires : goal.runs_behind-runs_behind_one-requires
@@ -354,18 +355,22 @@ runs_behind_one-returns-clause-answer g t c =
 
 pub word_runs-runs_behind-requires : goal.word_runs-runs_behind-requires
 word_runs-runs_behind-requires g t c κs within =
-    let fits : IsStateOf c.flat_part.new.self.game c.flat_part.new.state.state = onward IsStateOf c.args.self.now c.flat_part.new.self c.args.state.now c.flat_part.new.state c.flat_part.ensures.kept c.flat_part.ensures.given_back c.requires.fits in
-    let ready = onward (λ x s. All (IsReady x s c.args.nested) c.in_ok-reached.reached.pairs.items) c.args.self.now c.flat_part.new.self c.args.state.now c.flat_part.new.state c.flat_part.ensures.kept c.flat_part.ensures.given_back c.in_ok-reached.ensures.ready in (
+    let here : c.take_list-pairs.new.self ≡ c.args.self.now = c.take_list-pairs.ensures in
+    let kept : c.flat_part.new.self ≡ (record c.args.self.now { opened = c.flat_part.new.self.opened }) = kept_since c.args.self.now c.take_list-pairs.new.self c.flat_part.new.self here c.flat_part.ensures.kept in
+    let lawful : IsGame c.args.self.now.game = subst (λ (x : Searching). IsGame x.game) here c.in_ok-ends.ensures.lawful in
+    let reached : IsFlatPart c.args.self.now.game c.args.state.now.state (start_of c.args.origin) c.flat_part.new.pairs.items c.in_ok-ends.ends = subst (λ (x : Searching). IsFlatPart x.game c.args.state.now.state (start_of c.args.origin) c.flat_part.new.pairs.items c.in_ok-ends.ends) here c.in_ok-ends.ensures.reached in
+    let fits : IsStateOf c.flat_part.new.self.game c.flat_part.new.state.state = onward IsStateOf c.args.self.now c.flat_part.new.self c.args.state.now c.flat_part.new.state kept c.flat_part.ensures.given_back c.requires.fits in
+    let ready = onward (λ x s. All (IsReady x s c.args.nested) c.flat_part.new.pairs.items) c.args.self.now c.flat_part.new.self c.args.state.now c.flat_part.new.state kept c.flat_part.ensures.given_back (subst (λ (x : Searching). All (IsReady x.game c.args.state.now.state c.args.nested) c.flat_part.new.pairs.items) here c.in_ok-ends.ensures.ready) in (
       search rules,
       (
         within,
         (
           fits,
           (
-            c.in_ok-reached.ensures.enough,
+            c.in_ok-ends.ensures.enough,
             (
               subst (λ (ps : List (ℕ × ℕ)). All (IsReady c.flat_part.new.self.game c.flat_part.new.state.state c.args.nested) ps) (sym c.deref.ensures.value) ready,
-              inside_pairs c.args.self.now c.flat_part.new.self c.args.state.now c.flat_part.new.state (start_of c.args.origin) c.in_ok-reached.reached.pairs.items c.deref.result.now c.in_ok-reached.reached.ends c.flat_part.ensures.kept c.flat_part.ensures.given_back c.deref.ensures.value c.in_ok-reached.ensures.lawful c.requires.inside c.in_ok-reached.ensures.reached,
+              inside_pairs c.args.self.now c.flat_part.new.self c.args.state.now c.flat_part.new.state (start_of c.args.origin) c.flat_part.new.pairs.items c.deref.result.now c.in_ok-ends.ends kept c.flat_part.ensures.given_back c.deref.ensures.value lawful c.requires.inside reached,
             ),
           ),
         ),
@@ -374,14 +379,21 @@ word_runs-runs_behind-requires g t c κs within =
 
 pub word_runs-returns-clause-answer : goal.word_runs-returns-clause-answer
 word_runs-returns-clause-answer g t c =
-    let decides : IsTrue c.in_ok-runs.runs ↔ SomeRunsBehind c.args.self.now.game c.args.state.now.state c.in_ok-reached.reached.pairs.items =
-    before (λ x s. IsTrue c.in_ok-runs.runs ↔ SomeRunsBehind x s c.in_ok-reached.reached.pairs.items) c.args.self.now c.flat_part.new.self c.args.state.now c.flat_part.new.state c.flat_part.ensures.kept c.flat_part.ensures.given_back
+    let here : c.take_list-pairs.new.self ≡ c.args.self.now = c.take_list-pairs.ensures in
+    let kept : c.flat_part.new.self ≡ (record c.args.self.now { opened = c.flat_part.new.self.opened }) = kept_since c.args.self.now c.take_list-pairs.new.self c.flat_part.new.self here c.flat_part.ensures.kept in
+    let lawful : IsGame c.args.self.now.game = subst (λ (x : Searching). IsGame x.game) here c.in_ok-ends.ensures.lawful in
+    let reached : IsFlatPart c.args.self.now.game c.args.state.now.state (start_of c.args.origin) c.flat_part.new.pairs.items c.in_ok-ends.ends = subst (λ (x : Searching). IsFlatPart x.game c.args.state.now.state (start_of c.args.origin) c.flat_part.new.pairs.items c.in_ok-ends.ends) here c.in_ok-ends.ensures.reached in
+    let decides : IsTrue c.in_ok-runs.runs ↔ SomeRunsBehind c.args.self.now.game c.args.state.now.state c.flat_part.new.pairs.items =
+    before (λ x s. IsTrue c.in_ok-runs.runs ↔ SomeRunsBehind x s c.flat_part.new.pairs.items) c.args.self.now c.flat_part.new.self c.args.state.now c.flat_part.new.state kept c.flat_part.ensures.given_back
     (subst (λ (ps : List (ℕ × ℕ)). IsTrue c.in_ok-runs.runs ↔ SomeRunsBehind c.flat_part.new.self.game c.flat_part.new.state.state ps) c.deref.ensures.value c.in_ok-runs.ensures.answer) in
-    runs_there c.args.self.now.game c.in_ok-reached.ensures.lawful.numbered c.args.state.now.state (start_of c.args.origin) c.in_ok-reached.reached.pairs.items c.in_ok-reached.reached.ends c.in_ok-runs.runs c.in_ok-reached.ensures.reached c.if-reached.false decides
+    runs_there c.args.self.now.game lawful.numbered c.args.state.now.state (start_of c.args.origin) c.flat_part.new.pairs.items c.in_ok-ends.ends c.in_ok-runs.runs reached c.if-ends.false decides
 
-pub word_runs-returns-then-reached-clause-answer : goal.word_runs-returns-then-reached-clause-answer
-word_runs-returns-then-reached-clause-answer g t c =
-    runs_here c.args.self.now.game c.in_ok-reached.ensures.lawful.numbered c.args.state.now.state (start_of c.args.origin) c.in_ok-reached.reached.pairs.items c.in_ok-reached.reached.ends c.in_ok-reached.ensures.reached c.if-reached.true
+pub word_runs-returns-then-ends-clause-answer : goal.word_runs-returns-then-ends-clause-answer
+word_runs-returns-then-ends-clause-answer g t c =
+    let here : c.take_list-pairs.new.self ≡ c.args.self.now = c.take_list-pairs.ensures in
+    let lawful : IsGame c.args.self.now.game = subst (λ (x : Searching). IsGame x.game) here c.in_ok-ends.ensures.lawful in
+    let reached : IsFlatPart c.args.self.now.game c.args.state.now.state (start_of c.args.origin) c.flat_part.new.pairs.items c.in_ok-ends.ends = subst (λ (x : Searching). IsFlatPart x.game c.args.state.now.state (start_of c.args.origin) c.flat_part.new.pairs.items c.in_ok-ends.ends) here c.in_ok-ends.ensures.reached in
+    runs_here c.args.self.now.game lawful.numbered c.args.state.now.state (start_of c.args.origin) c.flat_part.new.pairs.items c.in_ok-ends.ends reached c.if-ends.true
 
 pub flat_part-loop-flat-smaller : goal.flat_part-loop-flat-smaller
 flat_part-loop-flat-smaller g t c =
@@ -457,14 +469,14 @@ flat_part-returns-in_err-take-clause-counts g t c =
     (not_memory c.from_residual-in_err-take.result Memory Deep c.from_residual-in_err-take.ensures.1 refl memory_not_deep)
     (not_memory c.from_residual-in_err-take.result Memory Wide c.from_residual-in_err-take.ensures.1 refl memory_not_wide)
 
-pub flat_part-returns-in_err-reached-clause-counts : goal.flat_part-returns-in_err-reached-clause-counts
-flat_part-returns-in_err-reached-clause-counts g t c =
+pub flat_part-returns-in_err-ends-clause-counts : goal.flat_part-returns-in_err-ends-clause-counts
+flat_part-returns-in_err-ends-clause-counts g t c =
     let f : Start = start_of c.args.origin in
     let done : List (ℕ × ℕ) = take c.loop-flat.flat.value.taken c.loop-flat.flat.value.queue.pairs in
     asked_only c.args.self.now.game c.args.state.now.state f done c.args.self.now.opened c.finish.new.self.opened c.args.self.now.modifiers c.args.self.now.openings c.args.self.now.modifiers _ _
     (subst (λ (x : ℕ). CountsAsked c.args.self.now.game c.args.state.now.state f done c.args.self.now.opened x) (sym (ap (λ (x : Searching). x.opened) c.finish.ensures.kept)) c.loop-flat.invariant.counted)
-    (not_memory c.from_residual-in_err-reached.result c.in_err-reached.field-0.0 Deep c.from_residual-in_err-reached.ensures.1 c.in_err-reached.ensures.memory memory_not_deep)
-    (not_memory c.from_residual-in_err-reached.result c.in_err-reached.field-0.0 Wide c.from_residual-in_err-reached.ensures.1 c.in_err-reached.ensures.memory memory_not_wide)
+    (not_memory c.from_residual-in_err-ends.result c.in_err-ends.field-0.0 Deep c.from_residual-in_err-ends.ensures.1 c.in_err-ends.ensures.memory memory_not_deep)
+    (not_memory c.from_residual-in_err-ends.result c.in_err-ends.field-0.0 Wide c.from_residual-in_err-ends.ensures.1 c.in_err-ends.ensures.memory memory_not_wide)
 
 pub flat_part-returns-clause-counts : goal.flat_part-returns-clause-counts
 flat_part-returns-clause-counts g t c =
@@ -472,7 +484,7 @@ flat_part-returns-clause-counts g t c =
     let done : List (ℕ × ℕ) = take c.loop-flat.flat.value.taken c.loop-flat.flat.value.queue.pairs in
     asked_only c.args.self.now.game c.args.state.now.state f done c.args.self.now.opened c.finish.new.self.opened c.args.self.now.modifiers c.args.self.now.openings c.args.self.now.modifiers _ _
     (subst (λ (x : ℕ). CountsAsked c.args.self.now.game c.args.state.now.state f done c.args.self.now.opened x) (sym (ap (λ (x : Searching). x.opened) c.finish.ensures.kept)) c.loop-flat.invariant.counted)
-    (ok_not_err c.in_ok-reached.reached Deep) (ok_not_err c.in_ok-reached.reached Wide)
+    (ok_not_err c.in_ok-ends.ends Deep) (ok_not_err c.in_ok-ends.ends Wide)
 
 pub runs_behind-loop-vertex-init : goal.runs_behind-loop-vertex-init
 runs_behind-loop-vertex-init g t c = record {
@@ -535,48 +547,55 @@ runs_behind_one-returns-clause-counts g t c = λ later left applies is.
 
 pub word_runs-flat_part-requires : goal.word_runs-flat_part-requires
 word_runs-flat_part-requires g t c κs within =
-    (search rules, (within, (c.requires.fits, (c.requires.nested, inside_start c.args.self.now.game.rules (start_of c.args.origin) c.requires.inside))))
+    let here : c.take_list-pairs.new.self ≡ c.args.self.now = c.take_list-pairs.ensures in
+    let fits : IsStateOf c.take_list-pairs.new.self.game c.args.state.now.state = subst (λ (x : Searching). IsStateOf x.game c.args.state.now.state) (sym here) c.requires.fits in
+    let nested : NestsFrom c.take_list-pairs.new.self.game.rules c.args.nested (start_of c.args.origin) = subst (λ (x : Searching). NestsFrom x.game.rules c.args.nested (start_of c.args.origin)) (sym here) c.requires.nested in
+    let start : IsStart c.take_list-pairs.new.self.game.rules (start_of c.args.origin) = subst (λ (x : Searching). IsStart x.game.rules (start_of c.args.origin)) (sym here) (inside_start c.args.self.now.game.rules (start_of c.args.origin) c.requires.inside) in
+    (search rules, (within, (fits, (nested, start))))
 
-pub word_runs-returns-in_err-reached-clause-counts : goal.word_runs-returns-in_err-reached-clause-counts
-word_runs-returns-in_err-reached-clause-counts g t c =
+pub word_runs-returns-in_err-ends-clause-counts : goal.word_runs-returns-in_err-ends-clause-counts
+word_runs-returns-in_err-ends-clause-counts g t c =
+    let here : c.take_list-pairs.new.self ≡ c.args.self.now = c.take_list-pairs.ensures in
+    let counts_first : IsCounted c.args.self.now.game reach c.args.state.now.state (start_of c.args.origin) c.args.self.now.opened c.flat_part.new.self.opened c.args.self.now.modifiers c.args.self.now.openings c.args.self.now.modifiers (c.flat_part.result ≡ Err Deep) (c.flat_part.result ≡ Err Wide) =
+    subst (λ (x : Searching). IsCounted x.game reach c.args.state.now.state (start_of c.args.origin) x.opened c.flat_part.new.self.opened x.modifiers x.openings x.modifiers (c.flat_part.result ≡ Err Deep) (c.flat_part.result ≡ Err Wide)) here c.flat_part.ensures.counts in
     counted_as c.args.self.now.game pattern c.args.state.now.state (start_of c.args.origin) c.args.self.now.opened c.flat_part.new.self.opened c.args.modifiers c.args.self.now.openings c.args.self.now.modifiers _ _ _ _
-    (given_up c.flat_part.result c.from_residual.result c.in_err-reached.field-0.0 Deep c.in_err-reached.was c.from_residual.ensures.1)
-    (given_up c.flat_part.result c.from_residual.result c.in_err-reached.field-0.0 Wide c.in_err-reached.was c.from_residual.ensures.1)
-    (asks_reached c.args.self.now.game c.args.state.now.state (start_of c.args.origin) c.args.self.now.opened c.flat_part.new.self.opened c.args.modifiers c.args.self.now.modifiers c.args.self.now.openings _ _ c.flat_part.ensures.counts)
+    (given_up c.flat_part.result c.from_residual.result c.in_err-ends.field-0.0 Deep c.in_err-ends.was c.from_residual.ensures.1)
+    (given_up c.flat_part.result c.from_residual.result c.in_err-ends.field-0.0 Wide c.in_err-ends.was c.from_residual.ensures.1)
+    (asks_reached c.args.self.now.game c.args.state.now.state (start_of c.args.origin) c.args.self.now.opened c.flat_part.new.self.opened c.args.modifiers c.args.self.now.modifiers c.args.self.now.openings _ _ counts_first)
 
-pub word_runs-returns-in_err-reuse-clause-counts : goal.word_runs-returns-in_err-reuse-clause-counts
-word_runs-returns-in_err-reuse-clause-counts g t c =
-    asks_only c.args.self.now.game c.args.state.now.state (start_of c.args.origin) c.args.self.now.opened c.flat_part.new.self.opened c.reuse.new.self.opened c.args.modifiers c.args.self.now.modifiers c.args.self.now.openings _ _ _ _
-    (ap (λ (x : Searching). x.opened) c.reuse.ensures) c.flat_part.ensures.counts
-    (not_memory c.from_residual-in_err-reuse.result Memory Deep c.from_residual-in_err-reuse.ensures.1 refl memory_not_deep)
-    (not_memory c.from_residual-in_err-reuse.result Memory Wide c.from_residual-in_err-reuse.ensures.1 refl memory_not_wide)
-
-pub word_runs-returns-then-reached-clause-counts : goal.word_runs-returns-then-reached-clause-counts
-word_runs-returns-then-reached-clause-counts g t c =
-    asks_only c.args.self.now.game c.args.state.now.state (start_of c.args.origin) c.args.self.now.opened c.flat_part.new.self.opened c.reuse.new.self.opened c.args.modifiers c.args.self.now.modifiers c.args.self.now.openings _ _ _ _
-    (ap (λ (x : Searching). x.opened) c.reuse.ensures) c.flat_part.ensures.counts
+pub word_runs-returns-then-ends-clause-counts : goal.word_runs-returns-then-ends-clause-counts
+word_runs-returns-then-ends-clause-counts g t c =
+    let here : c.take_list-pairs.new.self ≡ c.args.self.now = c.take_list-pairs.ensures in
+    let counts_first : IsCounted c.args.self.now.game reach c.args.state.now.state (start_of c.args.origin) c.args.self.now.opened c.flat_part.new.self.opened c.args.self.now.modifiers c.args.self.now.openings c.args.self.now.modifiers (c.flat_part.result ≡ Err Deep) (c.flat_part.result ≡ Err Wide) =
+    subst (λ (x : Searching). IsCounted x.game reach c.args.state.now.state (start_of c.args.origin) x.opened c.flat_part.new.self.opened x.modifiers x.openings x.modifiers (c.flat_part.result ≡ Err Deep) (c.flat_part.result ≡ Err Wide)) here c.flat_part.ensures.counts in
+    asks_only c.args.self.now.game c.args.state.now.state (start_of c.args.origin) c.args.self.now.opened c.flat_part.new.self.opened c.keep_list.new.self.opened c.args.modifiers c.args.self.now.modifiers c.args.self.now.openings _ _ _ _
+    (ap (λ (x : Searching). x.opened) c.keep_list.ensures) counts_first
     (ok_not_err true Deep) (ok_not_err true Wide)
 
 pub word_runs-returns-in_err-runs-clause-counts : goal.word_runs-returns-in_err-runs-clause-counts
 word_runs-returns-in_err-runs-clause-counts g t c =
+    let here : c.take_list-pairs.new.self ≡ c.args.self.now = c.take_list-pairs.ensures in
+    let kept : c.flat_part.new.self ≡ (record c.args.self.now { opened = c.flat_part.new.self.opened }) = kept_since c.args.self.now c.take_list-pairs.new.self c.flat_part.new.self here c.flat_part.ensures.kept in
+    let lawful : IsGame c.args.self.now.game = subst (λ (x : Searching). IsGame x.game) here c.in_ok-ends.ensures.lawful in
+    let reached : IsFlatPart c.args.self.now.game c.args.state.now.state (start_of c.args.origin) c.flat_part.new.pairs.items c.in_ok-ends.ends = subst (λ (x : Searching). IsFlatPart x.game c.args.state.now.state (start_of c.args.origin) c.flat_part.new.pairs.items c.in_ok-ends.ends) here c.in_ok-ends.ensures.reached in
+    let counts_first : IsCounted c.args.self.now.game reach c.args.state.now.state (start_of c.args.origin) c.args.self.now.opened c.flat_part.new.self.opened c.args.self.now.modifiers c.args.self.now.openings c.args.self.now.modifiers (c.flat_part.result ≡ Err Deep) (c.flat_part.result ≡ Err Wide) =
+    subst (λ (x : Searching). IsCounted x.game reach c.args.state.now.state (start_of c.args.origin) x.opened c.flat_part.new.self.opened x.modifiers x.openings x.modifiers (c.flat_part.result ≡ Err Deep) (c.flat_part.result ≡ Err Wide)) here c.flat_part.ensures.counts in
     counted_as c.args.self.now.game pattern c.args.state.now.state (start_of c.args.origin) c.args.self.now.opened c.runs_behind.new.self.opened c.args.modifiers c.args.self.now.openings c.args.self.now.modifiers _ _ _ _
     (given_up c.runs_behind.result c.from_residual-in_err-runs.result c.in_err-runs.field-0.0 Deep c.in_err-runs.was c.from_residual-in_err-runs.ensures.1)
     (given_up c.runs_behind.result c.from_residual-in_err-runs.result c.in_err-runs.field-0.0 Wide c.in_err-runs.was c.from_residual-in_err-runs.ensures.1)
-    (behind_step c.args.self.now c.flat_part.new.self c.args.state.now c.flat_part.new.state (start_of c.args.origin) c.in_ok-reached.reached.pairs.items c.deref.result.now c.in_ok-reached.reached.ends c.runs_behind.new.self.opened c.args.modifiers _ _ c.flat_part.ensures.kept c.flat_part.ensures.given_back c.deref.ensures.value c.in_ok-reached.ensures.lawful c.requires.inside c.in_ok-reached.ensures.reached c.if-reached.false c.flat_part.ensures.counts.counted c.runs_behind.ensures.counts)
-
-pub word_runs-returns-in_err-reuse-2-clause-counts : goal.word_runs-returns-in_err-reuse-2-clause-counts
-word_runs-returns-in_err-reuse-2-clause-counts g t c =
-    let counts = behind_step c.args.self.now c.flat_part.new.self c.args.state.now c.flat_part.new.state (start_of c.args.origin) c.in_ok-reached.reached.pairs.items c.deref.result.now c.in_ok-reached.reached.ends c.runs_behind.new.self.opened c.args.modifiers _ _ c.flat_part.ensures.kept c.flat_part.ensures.given_back c.deref.ensures.value c.in_ok-reached.ensures.lawful c.requires.inside c.in_ok-reached.ensures.reached c.if-reached.false c.flat_part.ensures.counts.counted c.runs_behind.ensures.counts in
-    counted_only c.args.self.now.game pattern c.args.state.now.state (start_of c.args.origin) c.args.self.now.opened c.reuse-2.new.self.opened c.args.modifiers c.args.self.now.openings c.args.self.now.modifiers _ _
-    (subst (λ (x : ℕ). CountsOpenings c.args.self.now.game pattern c.args.state.now.state (start_of c.args.origin) c.args.self.now.opened x) (sym (ap (λ (x : Searching). x.opened) c.reuse-2.ensures)) counts.counted)
-    (not_memory c.from_residual-in_err-reuse-2.result Memory Deep c.from_residual-in_err-reuse-2.ensures.1 refl memory_not_deep)
-    (not_memory c.from_residual-in_err-reuse-2.result Memory Wide c.from_residual-in_err-reuse-2.ensures.1 refl memory_not_wide)
+    (behind_step c.args.self.now c.flat_part.new.self c.args.state.now c.flat_part.new.state (start_of c.args.origin) c.flat_part.new.pairs.items c.deref.result.now c.in_ok-ends.ends c.runs_behind.new.self.opened c.args.modifiers _ _ kept c.flat_part.ensures.given_back c.deref.ensures.value lawful c.requires.inside reached c.if-ends.false counts_first.counted c.runs_behind.ensures.counts)
 
 pub word_runs-returns-clause-counts : goal.word_runs-returns-clause-counts
 word_runs-returns-clause-counts g t c =
-    let counts = behind_step c.args.self.now c.flat_part.new.self c.args.state.now c.flat_part.new.state (start_of c.args.origin) c.in_ok-reached.reached.pairs.items c.deref.result.now c.in_ok-reached.reached.ends c.runs_behind.new.self.opened c.args.modifiers _ _ c.flat_part.ensures.kept c.flat_part.ensures.given_back c.deref.ensures.value c.in_ok-reached.ensures.lawful c.requires.inside c.in_ok-reached.ensures.reached c.if-reached.false c.flat_part.ensures.counts.counted c.runs_behind.ensures.counts in
-    counted_only c.args.self.now.game pattern c.args.state.now.state (start_of c.args.origin) c.args.self.now.opened c.reuse-2.new.self.opened c.args.modifiers c.args.self.now.openings c.args.self.now.modifiers _ _
-    (subst (λ (x : ℕ). CountsOpenings c.args.self.now.game pattern c.args.state.now.state (start_of c.args.origin) c.args.self.now.opened x) (sym (ap (λ (x : Searching). x.opened) c.reuse-2.ensures)) counts.counted)
+    let here : c.take_list-pairs.new.self ≡ c.args.self.now = c.take_list-pairs.ensures in
+    let kept : c.flat_part.new.self ≡ (record c.args.self.now { opened = c.flat_part.new.self.opened }) = kept_since c.args.self.now c.take_list-pairs.new.self c.flat_part.new.self here c.flat_part.ensures.kept in
+    let lawful : IsGame c.args.self.now.game = subst (λ (x : Searching). IsGame x.game) here c.in_ok-ends.ensures.lawful in
+    let reached : IsFlatPart c.args.self.now.game c.args.state.now.state (start_of c.args.origin) c.flat_part.new.pairs.items c.in_ok-ends.ends = subst (λ (x : Searching). IsFlatPart x.game c.args.state.now.state (start_of c.args.origin) c.flat_part.new.pairs.items c.in_ok-ends.ends) here c.in_ok-ends.ensures.reached in
+    let counts_first : IsCounted c.args.self.now.game reach c.args.state.now.state (start_of c.args.origin) c.args.self.now.opened c.flat_part.new.self.opened c.args.self.now.modifiers c.args.self.now.openings c.args.self.now.modifiers (c.flat_part.result ≡ Err Deep) (c.flat_part.result ≡ Err Wide) =
+    subst (λ (x : Searching). IsCounted x.game reach c.args.state.now.state (start_of c.args.origin) x.opened c.flat_part.new.self.opened x.modifiers x.openings x.modifiers (c.flat_part.result ≡ Err Deep) (c.flat_part.result ≡ Err Wide)) here c.flat_part.ensures.counts in
+    let counts = behind_step c.args.self.now c.flat_part.new.self c.args.state.now c.flat_part.new.state (start_of c.args.origin) c.flat_part.new.pairs.items c.deref.result.now c.in_ok-ends.ends c.runs_behind.new.self.opened c.args.modifiers _ _ kept c.flat_part.ensures.given_back c.deref.ensures.value lawful c.requires.inside reached c.if-ends.false counts_first.counted c.runs_behind.ensures.counts in
+    counted_only c.args.self.now.game pattern c.args.state.now.state (start_of c.args.origin) c.args.self.now.opened c.keep_list-2.new.self.opened c.args.modifiers c.args.self.now.openings c.args.self.now.modifiers _ _
+    (subst (λ (x : ℕ). CountsOpenings c.args.self.now.game pattern c.args.state.now.state (start_of c.args.origin) c.args.self.now.opened x) (sym (ap (λ (x : Searching). x.opened) c.keep_list-2.ensures)) counts.counted)
     (ok_not_err c.in_ok-runs.runs Deep) (ok_not_err c.in_ok-runs.runs Wide)
 
 -- ---- what is forced
@@ -606,32 +625,43 @@ pub runs_behind_one-returns-clause-forced : goal.runs_behind_one-returns-clause-
 runs_behind_one-returns-clause-forced g t c = λ cut later applies.
     subst (λ (u : AbstractState). CountsForced c.args.self.now.game cut pattern u (after c.args.position) c.args.self.now.opened c.word_runs-runs.new.self.opened (c.args.modifiers - 1) c.args.self.now.modifiers) (sym (c.apply_at.ensures.only later applies)) (c.in_ok-runs.ensures.forced cut)
 
-pub word_runs-returns-then-reached-clause-forced : goal.word_runs-returns-then-reached-clause-forced
-word_runs-returns-then-reached-clause-forced g t c = λ cut.
+pub word_runs-returns-then-ends-clause-forced : goal.word_runs-returns-then-ends-clause-forced
+word_runs-returns-then-ends-clause-forced g t c = λ cut.
+    let here : c.take_list-pairs.new.self ≡ c.args.self.now = c.take_list-pairs.ensures in
+    let lawful : IsGame c.args.self.now.game = subst (λ (x : Searching). IsGame x.game) here c.in_ok-ends.ensures.lawful in
+    let reached : IsFlatPart c.args.self.now.game c.args.state.now.state (start_of c.args.origin) c.flat_part.new.pairs.items c.in_ok-ends.ends = subst (λ (x : Searching). IsFlatPart x.game c.args.state.now.state (start_of c.args.origin) c.flat_part.new.pairs.items c.in_ok-ends.ends) here c.in_ok-ends.ensures.reached in
+    let counts_forced : CountsForced c.args.self.now.game cut reach c.args.state.now.state (start_of c.args.origin) c.args.self.now.opened c.flat_part.new.self.opened c.args.modifiers c.args.self.now.modifiers =
+    subst (λ (x : Searching). CountsForced x.game cut reach c.args.state.now.state (start_of c.args.origin) x.opened c.flat_part.new.self.opened c.args.modifiers x.modifiers) here (c.in_ok-ends.ensures.forced cut c.args.modifiers) in
     let f : Start = start_of c.args.origin in
-    let numbered = c.in_ok-reached.ensures.lawful.numbered in
-    let same : c.reuse.new.self.opened ≡ c.flat_part.new.self.opened = ap (λ (x : Searching). x.opened) c.reuse.ensures in
-    word_forced c.args.self.now.game numbered cut c.args.state.now.state f c.args.self.now.opened c.flat_part.new.self.opened c.reuse.new.self.opened c.args.modifiers c.args.self.now.modifiers
-    (runs_at_end c.args.self.now.game numbered c.args.state.now.state f c.in_ok-reached.reached.pairs.items c.in_ok-reached.reached.ends c.in_ok-reached.ensures.reached c.if-reached.true)
-    (omega (arith, same)) (c.in_ok-reached.ensures.forced cut c.args.modifiers)
+    let numbered = lawful.numbered in
+    let same : c.keep_list.new.self.opened ≡ c.flat_part.new.self.opened = ap (λ (x : Searching). x.opened) c.keep_list.ensures in
+    word_forced c.args.self.now.game numbered cut c.args.state.now.state f c.args.self.now.opened c.flat_part.new.self.opened c.keep_list.new.self.opened c.args.modifiers c.args.self.now.modifiers
+    (runs_at_end c.args.self.now.game numbered c.args.state.now.state f c.flat_part.new.pairs.items c.in_ok-ends.ends reached c.if-ends.true)
+    (omega (arith, same)) counts_forced
 
 pub word_runs-returns-clause-forced : goal.word_runs-returns-clause-forced
 word_runs-returns-clause-forced g t c = λ cut.
+    let here : c.take_list-pairs.new.self ≡ c.args.self.now = c.take_list-pairs.ensures in
+    let kept : c.flat_part.new.self ≡ (record c.args.self.now { opened = c.flat_part.new.self.opened }) = kept_since c.args.self.now c.take_list-pairs.new.self c.flat_part.new.self here c.flat_part.ensures.kept in
+    let lawful : IsGame c.args.self.now.game = subst (λ (x : Searching). IsGame x.game) here c.in_ok-ends.ensures.lawful in
+    let reached : IsFlatPart c.args.self.now.game c.args.state.now.state (start_of c.args.origin) c.flat_part.new.pairs.items c.in_ok-ends.ends = subst (λ (x : Searching). IsFlatPart x.game c.args.state.now.state (start_of c.args.origin) c.flat_part.new.pairs.items c.in_ok-ends.ends) here c.in_ok-ends.ensures.reached in
+    let counts_forced : CountsForced c.args.self.now.game cut reach c.args.state.now.state (start_of c.args.origin) c.args.self.now.opened c.flat_part.new.self.opened c.args.modifiers c.args.self.now.modifiers =
+    subst (λ (x : Searching). CountsForced x.game cut reach c.args.state.now.state (start_of c.args.origin) x.opened c.flat_part.new.self.opened c.args.modifiers x.modifiers) here (c.in_ok-ends.ensures.forced cut c.args.modifiers) in
     let game = c.args.self.now.game in
     let s : AbstractState = c.args.state.now.state in
     let f : Start = start_of c.args.origin in
-    let numbered = c.in_ok-reached.ensures.lawful.numbered in
-    let found : List (ℕ × ℕ) = c.in_ok-reached.reached.pairs.items in
+    let numbered = lawful.numbered in
+    let found : List (ℕ × ℕ) = c.flat_part.new.pairs.items in
     let b = c.flat_part.new.self.opened in
     let last = c.runs_behind.new.self.opened in
     let most = c.args.self.now.modifiers in
-    let same : c.reuse-2.new.self.opened ≡ last = ap (λ (x : Searching). x.opened) c.reuse-2.ensures in
+    let same : c.keep_list-2.new.self.opened ≡ last = ap (λ (x : Searching). x.opened) c.keep_list-2.ensures in
     let decides : IsTrue c.in_ok-runs.runs ↔ SomeRunsBehind game s found =
-    before (λ x u. IsTrue c.in_ok-runs.runs ↔ SomeRunsBehind x u found) c.args.self.now c.flat_part.new.self c.args.state.now c.flat_part.new.state c.flat_part.ensures.kept c.flat_part.ensures.given_back
+    before (λ x u. IsTrue c.in_ok-runs.runs ↔ SomeRunsBehind x u found) c.args.self.now c.flat_part.new.self c.args.state.now c.flat_part.new.state kept c.flat_part.ensures.given_back
     (subst (λ (ps : List (ℕ × ℕ)). IsTrue c.in_ok-runs.runs ↔ SomeRunsBehind c.flat_part.new.self.game c.flat_part.new.state.state ps) c.deref.ensures.value c.in_ok-runs.ensures.answer) in
-    let answer = runs_there game numbered s f found c.in_ok-reached.reached.ends c.in_ok-runs.runs c.in_ok-reached.ensures.reached c.if-reached.false decides in
+    let answer = runs_there game numbered s f found c.in_ok-ends.ends c.in_ok-runs.runs reached c.if-ends.false decides in
     let ran : RanBehind game s found c.in_ok-runs.runs b last c.args.modifiers most =
-    search_before (λ y w. RanBehind y.game w found c.in_ok-runs.runs b last c.args.modifiers y.modifiers) c.args.self.now c.flat_part.new.self c.args.state.now c.flat_part.new.state c.flat_part.ensures.kept c.flat_part.ensures.given_back
+    search_before (λ y w. RanBehind y.game w found c.in_ok-runs.runs b last c.args.modifiers y.modifiers) c.args.self.now c.flat_part.new.self c.args.state.now c.flat_part.new.state kept c.flat_part.ensures.given_back
     (subst (λ (ps : List (ℕ × ℕ)). RanBehind c.flat_part.new.self.game c.flat_part.new.state.state ps c.in_ok-runs.runs b last c.args.modifiers c.flat_part.new.self.modifiers) c.deref.ensures.value c.in_ok-runs.ensures.forced) in
     subst (λ (n : ℕ). CountsForced game cut pattern s f c.args.self.now.opened n c.args.modifiers most) (sym same)
-    (asked_forced game numbered s f found c.in_ok-reached.reached.ends c.in_ok-runs.runs c.args.self.now.opened b last c.args.modifiers most cut answer c.in_ok-reached.ensures.reached (c.in_ok-reached.ensures.forced cut c.args.modifiers) ran)
+    (asked_forced game numbered s f found c.in_ok-ends.ends c.in_ok-runs.runs c.args.self.now.opened b last c.args.modifiers most cut answer reached counts_forced ran)

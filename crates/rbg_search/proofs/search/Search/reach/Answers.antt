@@ -1,4 +1,11 @@
-use Rattle.rbg_search.specs.Start.{start_of}
+use Rattle.std.proofs.Common.{subst}
+use Rattle.std.specs.Prelude.{All, length, ◌<◌}
+use Rattle.rbg_rules.specs.Questions.{reach, IsDeep}
+use Rattle.rbg_search.specs.Counting.{IsOverBudget}
+use Rattle.rbg_search.specs.Flat.{IsFlatPart}
+use Rattle.rbg_search.specs.Forced.{CountsAllForced, IsNotForcedDeep}
+use Rattle.rbg_search.specs.Searching.{Searching}
+use Rattle.rbg_search.specs.Start.{start_of, IsPositionOf}
 use Rattle.rbg_search.proofs.Orders.{flat_permuted, within_permuted}
 use Rattle.rbg_search.specs.declared.over.Over.TheVariants.{Deep, Wide}
 use Rattle.rbg_search.proofs.Counted.{ok_not_err}
@@ -6,26 +13,39 @@ use Rattle.rbg_search.proofs.CountedSteps.{given_up}
 use Rattle.rbg_search.proofs.search.Search.reach.Goals as goal
 
 pub sort-requires : goal.sort-requires
-sort-requires g c = c.in_ok-reached.ensures.reached.different
+sort-requires g c = c.in_ok-ends.ensures.reached.different
 
 pub returns-clause-reached : goal.returns-clause-reached
 returns-clause-reached g c =
-    flat_permuted c.args.self.now.game c.args.state.now.state (start_of c.args.origin) c.in_ok-reached.reached.pairs.items c.sort.new.pairs.items c.in_ok-reached.reached.ends c.sort.ensures.permutation c.in_ok-reached.ensures.reached
+    subst (λ (x : Searching). IsFlatPart x.game c.args.state.now.state (start_of c.args.origin) c.sort.new.pairs.items c.in_ok-ends.ends) c.take_list-pairs.ensures
+    (flat_permuted c.take_list-pairs.new.self.game c.args.state.now.state (start_of c.args.origin) c.reach_into.new.pairs.items c.sort.new.pairs.items c.in_ok-ends.ends c.sort.ensures.permutation c.in_ok-ends.ensures.reached)
 
 pub returns-clause-within : goal.returns-clause-within
 returns-clause-within g c =
-    within_permuted c.args.self.now.game c.in_ok-reached.reached.pairs.items c.sort.new.pairs.items c.sort.ensures.permutation c.in_ok-reached.ensures.within
+    subst (λ (x : Searching). All (λ pair. (pair.0 < length x.game.board.first) × IsPositionOf x.game.rules pair.1) c.sort.new.pairs.items) c.take_list-pairs.ensures
+    (within_permuted c.take_list-pairs.new.self.game c.reach_into.new.pairs.items c.sort.new.pairs.items c.sort.ensures.permutation c.in_ok-ends.ensures.within)
 
-pub returns-in_err-reached-clause-deep : goal.returns-in_err-reached-clause-deep
-returns-in_err-reached-clause-deep g c = λ d.
-    c.reach_unordered.ensures.deep (given_up c.reach_unordered.result c.from_residual.result c.in_err-reached.field-0.0 Deep c.in_err-reached.was c.from_residual.ensures.1 d)
+pub returns-in_err-ends-clause-deep : goal.returns-in_err-ends-clause-deep
+returns-in_err-ends-clause-deep g c = λ d.
+    subst (λ (x : Searching). IsDeep x.game reach c.args.state.now.state (start_of c.args.origin) x.modifiers) c.take_list-pairs.ensures
+    (c.reach_into.ensures.deep (given_up c.reach_into.result c.from_residual.result c.in_err-ends.field-0.0 Deep c.in_err-ends.was c.from_residual.ensures.1 d))
 
-pub returns-in_err-reached-clause-wide : goal.returns-in_err-reached-clause-wide
-returns-in_err-reached-clause-wide g c = λ w.
-    c.reach_unordered.ensures.wide (given_up c.reach_unordered.result c.from_residual.result c.in_err-reached.field-0.0 Wide c.in_err-reached.was c.from_residual.ensures.1 w)
+pub returns-in_err-ends-clause-wide : goal.returns-in_err-ends-clause-wide
+returns-in_err-ends-clause-wide g c = λ w.
+    subst (λ (x : Searching). IsOverBudget x.game reach c.args.state.now.state (start_of c.args.origin) x.opened x.openings) c.take_list-pairs.ensures
+    (c.reach_into.ensures.wide (given_up c.reach_into.result c.from_residual.result c.in_err-ends.field-0.0 Wide c.in_err-ends.was c.from_residual.ensures.1 w))
 
 pub returns-clause-deep : goal.returns-clause-deep
 returns-clause-deep g c = λ d. absurd (ok_not_err _ Deep d)
 
 pub returns-clause-wide : goal.returns-clause-wide
 returns-clause-wide g c = λ w. absurd (ok_not_err _ Wide w)
+
+pub returns-clause-all_forced : goal.returns-clause-all_forced
+returns-clause-all_forced g c = λ cut.
+    let opened = c.reach_into.new.self.opened in
+    subst (λ (x : Searching). CountsAllForced x.game cut reach c.args.state.now.state (start_of c.args.origin) x.opened opened) c.take_list-pairs.ensures (c.in_ok-ends.ensures.all_forced cut)
+
+pub returns-clause-not_deep : goal.returns-clause-not_deep
+returns-clause-not_deep g c = λ cut.
+    subst (λ (x : Searching). IsNotForcedDeep x.game cut reach c.args.state.now.state (start_of c.args.origin) x.modifiers) c.take_list-pairs.ensures (c.in_ok-ends.ensures.not_deep cut)

@@ -5,7 +5,7 @@ use Rattle.std.proofs.lemmas.List.{take_more, take_all}
 use Rattle.std.proofs.lemmas.List.Elements.{All-push}
 use Rattle.rbg_search.specs.declared.flat.Flat.{Flat}
 use Rattle.rbg_search.specs.internal.Part.{HasMarksOf}
-use Rattle.rbg_search.proofs.search.are_for.Goals as goal
+use Rattle.rbg_search.proofs.fitting.are_for.Goals as goal
 
 pub loop-flat-preserved : goal.loop-flat-preserved
 loop-flat-preserved c =

@@ -1,7 +1,7 @@
 use Rattle.std.proofs.Common.{◌-◌, ◌∙◌, ℕ, List, length}
 use Rattle.std.proofs.lemmas.List.{with_items_is}
 use Rattle.std.proofs.lemmas.List.Sorted.{IsPermutation-put_mid, length_permutation}
-use Rattle.rbg_moves.proofs.turns.put_in_turn.Goals as goal
+use Rattle.rbg_moves.proofs.turns.choose.Goals as goal
 
 pub returns-then-turn-lt-FEW_TURNS-clause-permutation : goal.returns-then-turn-lt-FEW_TURNS-clause-permutation
 returns-then-turn-lt-FEW_TURNS-clause-permutation c =

@@ -1,0 +1,75 @@
+-- A flat part that is one modifier alone.
+use Rattle.std.proofs.Common.{◌≡◌, ℕ, zero, suc, ◌*◌, ◌<◌, ◌≤◌, List, [], ◌∷◌, Bool, true, false, refl, sym, subst, inl, inr, arith}
+use Rattle.std.proofs.lemmas.Nat.{rows as products}
+use Rattle.std.specs.Prelude.{Contains, Decides}
+use Rattle.std.proofs.lemmas.List.Elements.{Contains-push, Contains-push_cases}
+use Rattle.rbg_rules.specs.Expression.{AbstractAction, shift, on, off, assignment, comparison, switch, positive, negative, Expression}
+use Rattle.rbg_rules.specs.Positions.{IsNumbered, IsModifierAt, IsPatternAt, is_modifier, is_pattern}
+use Rattle.rbg_rules.specs.Words.{Start, Ends}
+use Rattle.rbg_rules.specs.State.{AbstractGame, AbstractState}
+use Rattle.rbg_auto.specs.Steps.{AreAllThatFollow}
+use Rattle.rbg_search.specs.Flat.{IsFlatPart}
+use Rattle.rbg_search.specs.Start.{IsPositionOf}
+use Rattle.rbg_search.specs.internal.Closure.{Reached}
+use Rattle.rbg_search.specs.internal.Meeting.{MeetsAll}
+use Rattle.rbg_search.specs.internal.Part.{IsOutcome, IsPart}
+use Rattle.rbg_search.specs.declared.outcome.Outcome.TheVariants.{Modifies}
+use Rattle.rbg_search.proofs.Glances.{no_pattern}
+use Rattle.rbg_search.proofs.Starts.{follower_position}
+use Rattle.rbg_search.proofs.Meetings.{meets_none, meets_one}
+use Rattle.rbg_search.proofs.Parts.{begin_part, modifier_part, all_met, whole_part}
+
+none_there : (q : ℕ × ℕ) → ¬ Contains [] q
+none_there q (k, under, is) = absurd (omega (arith, under))
+
+plain_modifier : (a : AbstractAction) → is_modifier a ≡ true → is_pattern a ≡ false
+plain_modifier (shift d) is = refl
+plain_modifier (on xs) is = refl
+plain_modifier (off x) is = refl
+plain_modifier (assignment v e) is = refl
+plain_modifier (comparison e r f) is = refl
+plain_modifier (switch n) is = refl
+plain_modifier (positive x) is = absurd cc
+plain_modifier (negative x) is = absurd cc
+
+-- A modifier is no pattern.
+no_modifier_pattern : (rules : Expression) → IsNumbered rules → (p : ℕ) → IsModifierAt rules p → ¬ IsPatternAt rules p
+no_modifier_pattern rules numbered p m = no_pattern rules numbered p m.action m.stands (plain_modifier m.action m.modifies)
+
+-- The one position that may come next stands in the rules.
+pub only_position : (rules : Expression) → IsNumbered rules → (f : Start) (p : ℕ) → AreAllThatFollow rules f (p ∷ []) → IsPositionOf rules p
+only_position rules numbered f p follow = follower_position rules numbered f p ((follow.exact p).0 (Contains-push [] p))
+
+-- There is a pair of one of so many and one of so many others.
+pub some_pair : (a b k l : ℕ) → k < a → l < b → 1 ≤ a * b
+some_pair (suc a) (suc b) k l first second = grind (arith, products)
+some_pair (suc a) zero k l first second = absurd (omega (arith, second))
+some_pair zero b k l first second = absurd (omega (arith, first))
+
+module _ (game : AbstractGame) (numbered : IsNumbered game.rules) (s : AbstractState) (f : Start) (p : ℕ) (ends : Bool) (follow : AreAllThatFollow game.rules f (p ∷ [])) (decides : Decides ends (Ends game.rules f [])) (modifies : IsOutcome game s s.vertex p Modifies) where
+  -- The modifier is met, done and found.
+  alone : List (ℕ × ℕ)
+  alone = (s.vertex, p) ∷ []
+
+  meets : MeetsAll [] alone s.vertex (p ∷ [])
+  unfolding alone
+  meets = meets_one [] [] alone s.vertex p [] (meets_none [] s.vertex) (inr (none_there (s.vertex, p), refl))
+
+  part : IsPart game s f alone alone alone ends
+  unfolding alone
+  part = modifier_part game s f alone [] [] ends s.vertex p (begin_part game s f alone (p ∷ []) ends meets follow decides) (Contains-push [] (s.vertex, p)) (none_there (s.vertex, p)) modifies
+
+  pub alone_whole : IsFlatPart game s f ((s.vertex, p) ∷ []) ends
+  unfolding alone
+  alone_whole = whole_part game s f numbered alone alone ends part
+
+  pub alone_met : (v q : ℕ) → Reached game s f v q → Contains {X = ℕ × ℕ} ((s.vertex, p) ∷ []) (v, q)
+  unfolding alone
+  alone_met v q = all_met game s f numbered alone alone ends part v q
+
+  -- It is no pattern.
+  pub alone_quiet : (w q : ℕ) → Contains {X = ℕ × ℕ} ((s.vertex, p) ∷ []) (w, q) → IsPatternAt game.rules q → Contains {X = ℕ × ℕ} [] (w, q)
+  alone_quiet w q there pattern = elim (Contains-push_cases [] (s.vertex, p) (w, q) there) [
+    | inl none ↦ none
+    | inr same ↦ absurd (no_modifier_pattern game.rules numbered p modifies.0 (subst (λ (x : ℕ × ℕ). IsPatternAt game.rules x.1) (sym same) pattern))
+  ]

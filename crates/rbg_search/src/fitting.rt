@@ -1,0 +1,30 @@
+//! Which flat parts that were left by other searches are of use for a game.
+ghost use Rattle.std.specs.Prelude.{All, IsTrue};
+ghost use Rattle.rbg_search.specs.internal.Part.{HasMarksOf};
+
+use crate::flat::Flat;
+use rbg_rules::Game;
+use std::alloc::Global;
+
+/// The flat parts, if each has marks for the game; else none.
+pub(crate) fn fitting(alloc: Global, game: &Game, flats: Vec<Box<Flat>>) -> Vec<Box<Flat>>
+    ensures { All (λ flat. HasMarksOf game.now flat.value.queue) result.items }
+{
+    if are_for(game, &flats) {
+        flats
+    } else {
+        Vec::new(alloc)
+    }
+}
+
+/// Whether each flat part has marks for the game.
+fn are_for(game: &Game, flats: &[Box<Flat>]) -> bool
+    ensures { IsTrue result → All (λ flat. HasMarksOf game.now flat.value.queue) flats.now }
+{
+    for flat in flats {
+        if !flat.is_for(game) {
+            return false;
+        }
+    }
+    true
+}
