@@ -1,0 +1,292 @@
+#!/usr/bin/env python3
+"""Takes the figures of docs/COSTS.md and prints them as tables: make bench, or tools/bench/bench.py SECTION ..
+
+Instructions are counted by valgrind's callgrind, and are repeatable. Seconds are processor seconds of one run without
+it, and memory is the greatest of that run; both are only printed. The programs are ./rbg and ./rbg_author, which
+`make build` leaves. Only the sections `forms` and `changes` build a program of their own, in a copy of the repository,
+and so prove what is not proved there yet; --bench names that program where it is built already.
+"""
+
+import argparse
+import os
+import pathlib
+import re
+import shutil
+import subprocess
+import sys
+import tempfile
+import time
+
+sys.dont_write_bytecode = True
+import texts  # noqa: E402
+
+HERE = pathlib.Path(__file__).resolve().parent
+ROOT = HERE.parents[1]
+
+
+class Run:
+    """What a run took: instructions in all and within each function, or seconds and memory."""
+
+    def __init__(self, room):
+        self.room = room
+
+    def file(self, name, text):
+        path = self.room / name
+        path.write_text(text)
+        return str(path)
+
+    def plain(self, words, text=""):
+        """What is printed, the processor seconds, and the greatest memory in megabytes."""
+        given, printed, used = self.file("given", text), self.room / "printed", self.room / "used"
+        # (a program that Python starts by itself would have Python's own memory among its own)
+        with open(given) as source, open(printed, "w") as target:
+            subprocess.run(["/usr/bin/time", "-q", "-f", "%U %S %M", "-o", str(used), *words], stdin=source, stdout=target)
+        user, system, kilobytes = map(float, used.read_text().split())
+        return printed.read_text(), user + system, kilobytes / 1024
+
+    def counted(self, words, text="", within=()):
+        """What is printed, the instructions in all, and those within each of these functions."""
+        given, printed, out = self.file("given", text), self.room / "printed", self.room / "callgrind.out"
+        valgrind = ["valgrind", "--tool=callgrind", f"--callgrind-out-file={out}"]
+        with open(given) as source, open(printed, "w") as target:
+            said = subprocess.run([*valgrind, *words], stdin=source, stdout=target, stderr=subprocess.PIPE, text=True)
+        total = re.search(r"Collected\s*: (\d+)", said.stderr)
+        if not total:
+            sys.exit(f"valgrind failed: {said.stderr[-500:]}")
+        inside = self.inside(out, within) if within else {}
+        return printed.read_text(), int(total[1]), inside
+
+    def inside(self, out, names):
+        """The instructions within functions, by the file that callgrind leaves. A name is a pattern of a whole path."""
+        words = ["callgrind_annotate", "--inclusive=yes", "--threshold=100", "--auto=no", str(out)]
+        listed = subprocess.run(words, capture_output=True, text=True).stdout
+        found = {}
+        for line in listed.splitlines():
+            at = re.match(r"\s*([\d,]+) \(.*?\)\s+\S*?:(\S+)", line)
+            if at:
+                for name in names:
+                    if re.fullmatch(name + r"(::<.*)?", at[2]):
+                        found[name] = max(found.get(name, 0), int(at[1].replace(",", "")))
+        return found
+
+
+def millions(number):
+    if number < 9_995_000:
+        return f"{number / 1e6:.2f}"
+    return f"{number / 1e6:,.1f}"
+
+
+def row(*cells):
+    print("| " + " | ".join(str(it) for it in cells) + " |", flush=True)
+
+
+def head(title, *cells):
+    print(f"\n{title}\n")
+    row(*cells)
+    print("|" + "---|" * len(cells), flush=True)
+
+
+def checked(run, programs, cases, title):
+    head(title, "Text", "Bytes", "It prints", "Million instructions", "Seconds", "Megabytes")
+    for label, text in cases:
+        file = run.file("text.rbg", text)
+        words = [programs.rbg, "check", file]
+        printed, total, _ = run.counted(words)
+        _, seconds, memory = run.plain(words)
+        row(f"`{label}`", f"{len(text):,}", printed.strip()[:48], millions(total), f"{seconds:.2f}", f"{memory:.0f}")
+
+
+def heavy_texts(run, programs):
+    calls = "names(262144) names(200000) names(100000) doubling(17) doubling(16) doubling(15) argument(200000) "
+    calls += "argument(100000) argument(50000) joins(262000) reads(990) reads(495) long_name(10) long_name(9) "
+    calls += "long_name(8) long_name(10,100_000) long_name(15,100_000)"
+    checked(run, programs, made(calls), "Heavy texts: `rbg check TEXT`")
+
+
+def loading(run, programs):
+    calls = "sets(9990) sets(19985) offs(10000) offs(20000) nested(64,1) nested(128,1) nested(128,190) "
+    calls += "nested(128,380) vertices(2048) vertices(4096) long(14,100_000) long(13,100_000) long(14,50_000)"
+    checked(run, programs, made(calls), "Loading a game: `rbg check TEXT`")
+
+
+def made(calls):
+    """Each call of a function of texts.py, with its text."""
+    for call in calls.split():
+        yield call.replace(",", ", "), eval(call, vars(texts))
+
+
+NAMES = sorted(it.stem for it in texts.GAMES.glob("*.rbg"))
+HEAVY_RULES = "sequence(20000) one_sum(20000) starred_sum(20000) stars_in_a_row(5000) stars_in_a_row(10000) stars_within(128,19872)"
+
+
+# Functions, by patterns of their symbols.
+LOAD, COMPACT = r"rbg_game::(.*::)?load", r"rbg_auto::(.*::)?compact"
+QUESTIONS = r".*PlayedGame::find_pairs", r".*PlayedGame::try_move"
+
+
+def automaton(run, programs):
+    head("The automaton: `rbg_author perft`, within `compact`", "Rules", "Million instructions of `load`", "of `compact`")
+    cases = [*made(HEAVY_RULES), *((name, texts.game(name)) for name in NAMES)]
+    for label, text in cases:
+        file = run.file("text.rbg", text)
+        _, _, inside = run.counted([programs.author, "perft", file, "1"], within=(LOAD, COMPACT))
+        row(label, *(millions(inside[it]) if it in inside else "not told" for it in (LOAD, COMPACT)))
+
+
+DEPTHS = {
+    "breakthrough": 3, "chess": 2, "english_draughts": 4, "reversi": 4, "go_9x9": 2, "connect_four": 4, "tictactoe": 5,
+    "hex": 2, "international_draughts": 3, "gomoku": 2, "amazons": 1, "abalone": 2,
+}  # fmt: skip
+
+
+def search(run, programs):
+    head("The search: `rbg_author perft GAME MOVES`", "Game", "Moves", "Sequences", "Openings", "Pairs", "Instructions a pair")
+    for name, depth in DEPTHS.items():
+        file = run.file("text.rbg", texts.game(name))
+        before = run.counted([programs.author, "explain", file])[1], 0, 0
+        for moves in range(1, depth + 1):
+            printed, total, _ = run.counted([programs.author, "perft", file, str(moves)])
+            lines = printed.splitlines()
+            openings, pairs = map(int, lines[-1].split()[1:])
+            spent, more, taken = total - before[0], openings - before[1], pairs - before[2]
+            before = total, openings, pairs
+            if moves >= depth - 1:
+                row(name, moves, f"{int(lines[-2].split()[1]):,}", f"{more:,}", f"{taken:,}", round(spent / taken))
+
+
+def limit(run, programs):
+    head("Questions at the limit: `rbg referee GAME`", "Board", "The end", "Seconds", "Megabytes")
+    for size in (8, 64):
+        file = run.file("text.rbg", texts.at_the_limit(size))
+        printed, seconds, memory = run.plain([programs.rbg, "referee", file], "config 1000 3 0\n")
+        row(f"{size} x {size}", printed.splitlines()[-1], f"{seconds:.1f}", f"{memory:.0f}")
+
+
+def matches(run, programs):
+    title = "Matches: `rbg referee GAME < SCRIPT`, without what the first line of the script alone takes"
+    head(title, "Match", "Messages", "Made moves", "Instructions a message", "In the searches", "Beside them, a made move")
+    for label, text, script in match_cases():
+        file = run.file("text.rbg", text)
+        words = [programs.rbg, "referee", file]
+        _, opening, first = run.counted(words, script.splitlines()[0] + "\n", QUESTIONS)
+        printed, total, inside = run.counted(words, script, QUESTIONS)
+        messages = sum(line.startswith("m ") for line in script.splitlines())
+        moves = sum(line.startswith("1 M") for line in printed.splitlines())
+        searching = sum(inside.values()) - sum(first.values())
+        spent = total - opening
+        beside = f"{(spent - searching) / moves:,.0f}" if searching else "not told"
+        row(label, f"{messages:,}", f"{moves:,}", f"{spent / messages:,.0f}", f"{searching / messages:,.0f}", beside)
+
+
+def match_cases():
+    for name in NAMES:
+        yield name, texts.game(name), texts.script(name)
+    for turns in (1000, 10000):
+        yield f"chess without end, {turns:,} messages", texts.endless_chess(), texts.knights(turns)
+
+
+def streams(run, programs):
+    head("Streams: `rbg referee GAME < SCRIPT`", "Script", "Bytes sent", "Instructions a byte beside the opening", "Megabytes")
+    text = texts.endless_chess()
+    file = run.file("text.rbg", text)
+    words = [programs.rbg, "referee", file]
+    whole = texts.knights(1000)
+    opening = run.counted(words, "config 1000 3 0\n")[1]
+    plain = run.counted(words, whole)[1]
+    cut = texts.bytewise(whole)
+    sent = sum(line.startswith("p ") for line in cut.splitlines())
+    row("1,000 messages, byte by byte, beside the same in whole", f"{sent:,}", round((run.counted(words, cut)[1] - plain) / sent), f"{run.plain(words, cut)[2]:.0f}")
+    size = 1_000_000
+    flood = texts.flood(size)
+    row("a message without end", f"{size:,}", round((run.counted(words, flood)[1] - opening) / size), f"{run.plain(words, flood)[2]:.0f}")
+    for turns in (1000, 10000):
+        row(f"{turns:,} messages of chess without end", "", "", f"{run.plain(words, texts.knights(turns))[2]:.0f}")
+
+
+def built(run):
+    """Builds the program of the folder forms in a copy of the repository, with what is proved there."""
+    copy = run.room / "copy"
+    copy.mkdir()
+    shutil.copy(ROOT / "crates.txt", copy)
+    # (by links, where the copy is on the same disk: checks replace the files that they keep, and write into none)
+    if subprocess.run(["cp", "-al", str(ROOT / "crates"), str(copy)], stderr=subprocess.DEVNULL).returncode:
+        shutil.rmtree(copy / "crates", ignore_errors=True)
+        subprocess.run(["cp", "-a", str(ROOT / "crates"), str(copy)], check=True)
+    crate = copy / "crates" / "bench"
+    (crate / "src").mkdir(parents=True)
+    shutil.copy(HERE / "forms" / "main.txt", crate / "src" / "main.rt")
+    place = crate / "proofs" / "apply_many"
+    place.mkdir(parents=True)
+    shutil.copy(HERE / "forms" / "Invariants.txt", place / "Invariants.antt")
+    with open(copy / "crates.txt", "a") as listed:
+        listed.write("bench: rbg_base rbg_game rbg_rules rbg_state rbg_auto anyhow\n")
+    with open(crate / "stdin", "w") as given:
+        given.write("0 0 0 0 0\n" + texts.CHANGES)
+    with open(crate / "stdin") as given:
+        built_it = subprocess.run(["rt", "run"], cwd=crate, stdin=given, capture_output=True, text=True)
+    program = crate / "out" / "bench"
+    if not program.exists():
+        sys.exit(f"the program of tools/bench/forms was not built:\n{built_it.stdout[-2000:]}{built_it.stderr[-2000:]}")
+    return str(program)
+
+
+def forms(run, programs):
+    program = programs.bench or built(run)
+    head("Heavy automatons: `compact`", "Rules", "Entries", "Million instructions", "Seconds", "Megabytes")
+    for label, text in made(HEAVY_RULES):
+        base = run.counted([program], "0 0 0 0 0\n" + text)[1]
+        entries, total, _ = run.counted([program], "1 0 0 0 0\n" + text)
+        _, seconds, memory = run.plain([program], "1 0 0 0 0\n" + text)
+        row(f"`{label}`", f"{int(entries):,}", millions(total - base), f"{seconds:.2f}", f"{memory:.0f}")
+    head("Games: both forms of the automaton", "Game", "Entries", "Million instructions of `load`", "of `compact`", "of `compile`")
+    for name in NAMES:
+        text = texts.game(name)
+        base = run.counted([program], "0 0 0 0 0\n" + text)[1]
+        entries, total, _ = run.counted([program], "1 0 0 0 0\n" + text)
+        compiled = run.counted([program], "2 0 0 0 0\n" + text)[1]
+        row(name, f"{int(entries):,}", millions(base), millions(total - base), millions(compiled - base))
+
+
+def changes(run, programs):
+    program = programs.bench or built(run)
+    head("Changes of a semi-state", "Action", "Instructions of `apply`", "Of `undo_to`, for each change")
+    cases = (
+        ("a step along an edge", 2, 3), ("an on of two pieces, of which the first is there", 4, 4),
+        ("an on of no piece, which isn't valid", 6, 6), ("an off", 5, 5), ("a switch", 1, 7),
+    )  # fmt: skip
+    times = 100_000
+    for label, first, second in cases:
+        count = lambda turns, undo: run.counted([program], f"3 {first} {second} {turns} {undo}\n{texts.CHANGES}")[1]
+        applied = (count(times, 0) - count(0, 0)) / (2 * times)
+        undone = (count(times, 1) - count(times, 0)) / (2 * times)
+        row(label, round(applied), round(undone) if undone > 1 else "no change")
+
+
+SECTIONS = {
+    "texts": heavy_texts, "loading": loading, "automaton": automaton, "search": search, "limit": limit,
+    "matches": matches, "streams": streams, "forms": forms, "changes": changes,
+}  # fmt: skip
+
+
+def main():
+    parser = argparse.ArgumentParser(description=__doc__.split("\n")[0])
+    parser.add_argument("sections", nargs="*", metavar="SECTION", help=f"of {', '.join(SECTIONS)}; all where none is named")
+    parser.add_argument("--rbg", default=str(ROOT / "rbg"), help="the program rbg")
+    parser.add_argument("--author", default=str(ROOT / "rbg_author"), help="the program rbg_author")
+    parser.add_argument("--bench", help="the program of tools/bench/forms, where it is built already")
+    programs = parser.parse_args()
+    for name in programs.sections:
+        if name not in SECTIONS:
+            parser.error(f"no section {name}: there are {', '.join(SECTIONS)}")
+    for program in (programs.rbg, programs.author):
+        if not os.access(program, os.X_OK):
+            sys.exit(f"{program} is missing: make build makes it")
+    for name in programs.sections or SECTIONS:
+        start = time.monotonic()
+        with tempfile.TemporaryDirectory(prefix="rbg-bench-") as room:
+            SECTIONS[name](Run(pathlib.Path(room)), programs)
+        print(f"\n({name} took {time.monotonic() - start:.0f} seconds)", flush=True)
+
+
+if __name__ == "__main__":
+    main()
