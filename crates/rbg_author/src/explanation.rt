@@ -8,7 +8,8 @@ use crate::place::place_of;
 use crate::spot::{Spot, head_name};
 use rbg_console::Refusal;
 use rbg_game::LoadError;
-use rbg_macro::{MacroError, TextError, Token, tokens};
+use rbg_macro::MacroError;
+use rbg_tokens::{TextError, Token, tokens};
 use std::alloc::{AllocError, Global};
 
 /// What an author is told of a refused text: the file, the line and the column, what was expected and what stands

@@ -7,10 +7,9 @@ use rbg_game::limits::{
     MAX_VARIABLES, MAX_VERTICES,
 };
 use rbg_game::{GameError, LoadError, Thing};
-use rbg_macro::{
-    MAX_JOINED, MAX_KEPT, MAX_LEVEL, MAX_READ, MAX_TEXT, MacroError, Symbol, TextError, Token,
-};
+use rbg_macro::{MAX_JOINED, MAX_KEPT, MAX_LEVEL, MAX_READ, MacroError};
 use rbg_syntax::{Expectation, SyntaxError};
+use rbg_tokens::{MAX_TEXT, Symbol, TextError, Token};
 use std::fmt::{self, Formatter};
 use std::str;
 

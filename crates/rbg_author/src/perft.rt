@@ -1,23 +1,20 @@
 //! What `perft` prints of a game: how many sequences of moves it has.
 
 use crate::report::Report;
-use rbg_auto::{Compact, Steps, compact};
 use rbg_game::Game;
-use rbg_perft::{CountError, Workspace, count_from_start};
+use rbg_perft::{CountError, PlayedGame, Workspace, count_from_start};
 use std::alloc::{AllocError, Global};
 
 /// A line `DEPTH SEQUENCES ENDED` for each depth from 1 on: how many sequences of that many moves of the players there
 /// are from the beginning of play, and after how many of them play is finished. Where a number isn't found, its line
 /// is the word that says why, and it is the last. Else the last line is `searched OPENINGS PAIRS`: how many openings the
 /// searches took up, and how many pairs of a position and a vertex they took.
-pub fn perft(alloc: Global, game: &Game, depth: u8) -> Result<Report, AllocError> {
-    let Ok(steps) = compact(alloc, game) else {
-        return Err(AllocError);
-    };
+pub fn perft(alloc: Global, game: Game, depth: u8) -> Result<Report, AllocError> {
+    let game = PlayedGame::new(alloc, game)?;
     let mut text = Vec::new(alloc);
     let mut workspace = Workspace::new(alloc);
     for moves in 1..=depth {
-        if let Some(error) = push_counts(alloc, &mut text, game, &steps, moves, &mut workspace)? {
+        if let Some(error) = push_counts(alloc, &mut text, &game, moves, &mut workspace)? {
             push_reason(&mut text, error)?;
             return Ok(Report { text, status: 1 });
         }
@@ -42,14 +39,11 @@ fn push_searched(
 fn push_counts(
     alloc: Global,
     text: &mut Vec<u8>,
-    game: &Game,
-    steps: &Compact,
+    game: &PlayedGame,
     moves: u8,
     workspace: &mut Workspace,
-) -> Result<Option<CountError>, AllocError>
-    requires steps { ⟦<Compact as Steps>⟧.of_rules steps.now game.now.rules }
-{
-    match count_from_start(alloc, game, steps, moves, workspace) {
+) -> Result<Option<CountError>, AllocError> {
+    match count_from_start(game, moves, workspace) {
         Ok(counts) => {
             let sequences = counts.sequences;
             let ended = counts.ended;

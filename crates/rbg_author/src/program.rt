@@ -113,7 +113,7 @@ fn perft_file<F: Files>(
     depth: u8,
 ) -> Result<Report, AllocError> {
     match read_game(alloc, files, file)? {
-        Read::Found(game) => perft(alloc, &game, depth),
+        Read::Found(game) => perft(alloc, game, depth),
         Read::Other(report) => Ok(report),
     }
 }

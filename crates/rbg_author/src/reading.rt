@@ -4,7 +4,7 @@ use crate::explanation::explain;
 use crate::report::Report;
 use rbg_console::{DEVICE, Files, Input};
 use rbg_game::{Game, LoadError, load};
-use rbg_macro::{MAX_TEXT, TextError};
+use rbg_tokens::{MAX_TEXT, TextError};
 use std::alloc::{AllocError, Global};
 
 /// What was read, or what is said where it can't be had.

@@ -1,6 +1,6 @@
 //! What stands around a token of a text.
 
-use rbg_macro::{Symbol, Token, TokenKind};
+use rbg_tokens::{Symbol, Token, TokenKind};
 
 /// The names of the sections.
 const SECTIONS: [&str; 5] = ["players", "pieces", "variables", "board", "rules"];

@@ -43,7 +43,8 @@ fn set(places: &mut [Place], position: Position, place: Place)
 /// Lays a part of the rules, after which the rest comes.
 #[cycle(filling)]
 fn fill(alloc: Global, places: &mut [Place], rule: &Rule, rest: &Rest) -> Result<(), Memory>
-    ensures { IfOk result (λ _. FillsTree places.old places.new rule.now rest.now.positions.items rest.now.may_end) }
+    ensures { IfOk result (λ _.
+        FillsTree places.old places.new rule.now rest.now.positions.items rest.now.may_end) }
 {
     match rule {
         Rule::Act(position) => {
@@ -107,7 +108,8 @@ fn fill_sequence(
 /// Lays the parts of a sum, all with the same rest.
 #[cycle(filling)]
 fn fill_sum(alloc: Global, places: &mut [Place], parts: &[Rule], rest: &Rest) -> Result<(), Memory>
-    ensures { IfOk result (λ _. FillsSum places.old places.new parts.now rest.now.positions.items rest.now.may_end) }
+    ensures { IfOk result (λ _.
+        FillsSum places.old places.new parts.now rest.now.positions.items rest.now.may_end) }
 {
     for part in parts {
         fill(alloc, places, part, rest)?;

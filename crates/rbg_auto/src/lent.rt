@@ -35,7 +35,8 @@ impl<'a> Lent<'a> {
     #[inline(always)]
     pub fn glance(&self, position: Position) -> Glance
         requires { HasAnswer self.now position }
-        ensures told { (rules : Expression) → IsLentOf rules self.now → IsGlance rules position result }
+        ensures told { (rules : Expression) → IsLentOf rules self.now
+            → IsGlance rules position result }
         ensures quiet { (rules : Expression) → IsLentOf rules self.now →
             result ≢ Unknown → ¬ Ends rules (after position) [] }
     {
@@ -46,7 +47,8 @@ impl<'a> Lent<'a> {
     #[inline(always)]
     pub fn next(&self, position: Position) -> &'a [Position]
         requires { HasAnswer self.now position }
-        ensures { (rules : Expression) → IsLentOf rules self.now → AreNext rules position result.now }
+        ensures { (rules : Expression) → IsLentOf rules self.now
+            → AreNext rules position result.now }
     {
         let step = self.steps[position as usize];
         &self.entries[step.start..step.start + step.len]

@@ -38,7 +38,8 @@ pub fn compact_tree(alloc: Global, tree: &Rule, positions: usize) -> Result<Comp
 
 /// What is told of an on: its pieces, where there are one or two.
 fn glance_of_on(pieces: &[Piece]) -> Glance
-    ensures { (rules : Expression) (p : ℕ) → HasAction rules p (on pieces.now) → IsGlance rules p result }
+    ensures { (rules : Expression) (p : ℕ) → HasAction rules p (on pieces.now)
+        → IsGlance rules p result }
 {
     match pieces {
         [piece] => Glance::On(*piece),

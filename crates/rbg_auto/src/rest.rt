@@ -18,7 +18,8 @@ pub(crate) struct Rest {
 /// What comes before a part, where the rest comes after it.
 pub(crate) fn before(alloc: Global, part: &Rule, rest: &Rest) -> Result<Rest, Memory>
     ensures { IfOk result (λ before.
-        IsBefore part.now rest.now.positions.items rest.now.may_end before.positions.items before.may_end) }
+        IsBefore part.now rest.now.positions.items rest.now.may_end before.positions.items
+        before.may_end) }
 {
     let mut first = Vec::new(alloc);
     if push_first(part, &mut first)? {
@@ -35,7 +36,8 @@ pub(crate) fn before(alloc: Global, part: &Rule, rest: &Rest) -> Result<Rest, Me
 
 /// What comes after each turn of a star of the part, where the rest comes after the star: the part again, or the rest.
 pub(crate) fn again(alloc: Global, part: &Rule, rest: &Rest) -> Result<Rest, Memory>
-    ensures positions { IfOk result (λ again. IsAgain part.now rest.now.positions.items again.positions.items) }
+    ensures positions { IfOk result (λ again.
+        IsAgain part.now rest.now.positions.items again.positions.items) }
     ensures may_end { IfOk result (λ again. again.may_end ≡ rest.now.may_end) }
 {
     let mut first = Vec::new(alloc);

@@ -44,15 +44,18 @@ pub trait Steps {
 
     /// The positions with which words of the expression begin.
     fn first(&self, expr: Expr) -> &[Position]
-        ensures { (rules : Expression) → of_rules self.now rules → AreFirst rules (level_of expr) result.now };
+        ensures { (rules : Expression) → of_rules self.now rules
+            → AreFirst rules (level_of expr) result.now };
 
     /// The positions that come directly after the position in some word of the expression to which it belongs.
     fn next(&self, position: Position) -> &[Position]
-        ensures { (rules : Expression) → of_rules self.now rules → AreNext rules position result.now };
+        ensures { (rules : Expression) → of_rules self.now rules
+            → AreNext rules position result.now };
 
     /// Whether a word of the expression to which the position belongs ends there.
     fn may_end(&self, position: Position) -> bool
-        ensures { (rules : Expression) → of_rules self.now rules → IsTrue result ↔ Ends rules (after position) [] };
+        ensures { (rules : Expression) → of_rules self.now rules
+            → IsTrue result ↔ Ends rules (after position) [] };
 
     /// What is told at once of the action at the position. It may be nothing, whatever the action is.
     fn glance(&self, position: Position) -> Glance
@@ -65,5 +68,6 @@ pub trait Steps {
 
     /// Whether the empty list is a word of the expression.
     fn may_be_empty(&self, expr: Expr) -> bool
-        ensures { (rules : Expression) → of_rules self.now rules → IsTrue result ↔ Ends rules (beginning (level_of expr)) [] };
+        ensures { (rules : Expression) → of_rules self.now rules
+            → IsTrue result ↔ Ends rules (beginning (level_of expr)) [] };
 }

@@ -32,7 +32,8 @@ pub(crate) fn push_first(rule: &Rule, first: &mut Vec<Position>) -> Result<bool,
 /// The same of the sequence of the parts: up to the first part that may not be empty.
 #[cycle(first)]
 fn push_first_of_sequence(parts: &[Rule], first: &mut Vec<Position>) -> Result<bool, Memory>
-    ensures { IfOk result (λ empty. GivesFirstsOfSequence parts.now first.old.items first.new.items empty) }
+    ensures { IfOk result (λ empty.
+        GivesFirstsOfSequence parts.now first.old.items first.new.items empty) }
 {
     for part in parts {
         if !push_first(part, first)? {
@@ -45,7 +46,8 @@ fn push_first_of_sequence(parts: &[Rule], first: &mut Vec<Position>) -> Result<b
 /// The same of the sum of the parts.
 #[cycle(first)]
 fn push_first_of_sum(parts: &[Rule], first: &mut Vec<Position>) -> Result<bool, Memory>
-    ensures { IfOk result (λ empty. GivesFirstsOfSum parts.now first.old.items first.new.items empty) }
+    ensures { IfOk result (λ empty.
+        GivesFirstsOfSum parts.now first.old.items first.new.items empty) }
 {
     let mut may_be_empty = false;
     for part in parts {

@@ -29,20 +29,22 @@ impl Walk {
     /// With nothing laid, at that many positions with position 0.
     pub(crate) fn new(alloc: Global, positions: usize) -> Result<Walk, Memory>
         ensures nodes { IfOk result (λ walk. walk.table.nodes.items ≡ replicate positions no_node) }
-        ensures insides { IfOk result (λ walk. walk.table.insides.items ≡ replicate positions no_inside) }
+        ensures insides { IfOk result (λ walk.
+            walk.table.insides.items ≡ replicate positions no_inside) }
         ensures entries { IfOk result (λ walk. walk.table.entries.items ≡ []) }
     {
         Ok(Walk {
             alloc,
             table: Table::new(alloc, positions)?,
-            shelf: Shelf::new(alloc, positions)?,
+            shelf: Shelf::new(alloc),
         })
     }
 
     /// Where the list of positions is in the table.
     fn intern(&mut self, positions: &[Position]) -> Result<Span, Memory>
         ensures adds { IfOk result (λ _. AddsList self.old.table self.new.table) }
-        ensures keeps { IfOk result (λ span. Keeps self.new.table.entries.items span positions.now) }
+        ensures keeps { IfOk result (λ span.
+            Keeps self.new.table.entries.items span positions.now) }
     {
         let hash = hash_of(positions);
         if let Some(span) = self.shelf.find(&self.table, hash, positions) {
@@ -57,8 +59,10 @@ impl Walk {
     fn keep(&mut self, rest: &Rest, kept: &mut Option<Span>) -> Result<Span, Memory>
         requires { IsKept self.old.table.entries.items kept.old rest.now.positions.items }
         ensures adds { IfOk result (λ _. AddsList self.old.table self.new.table) }
-        ensures keeps { IfOk result (λ span. Keeps self.new.table.entries.items span rest.now.positions.items) }
-        ensures kept { IfOk result (λ _. IsKept self.new.table.entries.items kept.new rest.now.positions.items) }
+        ensures keeps { IfOk result (λ span.
+            Keeps self.new.table.entries.items span rest.now.positions.items) }
+        ensures kept { IfOk result (λ _.
+            IsKept self.new.table.entries.items kept.new rest.now.positions.items) }
     {
         if let Some(span) = *kept {
             return Ok(span);
@@ -73,8 +77,10 @@ impl Walk {
     fn lay(&mut self, rule: &Rule, rest: &Rest, kept: &mut Option<Span>) -> Result<(), Memory>
         requires { IsKept self.old.table.entries.items kept.old rest.now.positions.items }
         ensures lays { IfOk result (λ _.
-            LaysTree self.old.table self.new.table rule.now rest.now.positions.items rest.now.may_end) }
-        ensures kept { IfOk result (λ _. IsKept self.new.table.entries.items kept.new rest.now.positions.items) }
+            LaysTree self.old.table self.new.table rule.now rest.now.positions.items
+            rest.now.may_end) }
+        ensures kept { IfOk result (λ _.
+            IsKept self.new.table.entries.items kept.new rest.now.positions.items) }
     {
         match rule {
             Rule::Act(position) => {
@@ -111,7 +117,8 @@ impl Walk {
     /// Lays a level: the rules, or the inside of a pattern. Nothing comes after it.
     #[cycle(laying)]
     pub(crate) fn lay_level(&mut self, rule: &Rule) -> Result<Opening, Memory>
-        ensures { IfOk result (λ opening. LaysLevel self.old.table self.new.table rule.now opening) }
+        ensures { IfOk result (λ opening.
+            LaysLevel self.old.table self.new.table rule.now opening) }
     {
         let mut first = Vec::new(self.alloc);
         let may_be_empty = push_first(rule, &mut first)?;
@@ -138,10 +145,13 @@ impl Walk {
     ) -> Result<Rest, Memory>
         requires { IsKept self.old.table.entries.items kept.old rest.now.positions.items }
         ensures lays { IfOk result (λ _.
-            LaysTree self.old.table self.new.table part.now rest.now.positions.items rest.now.may_end) }
-        ensures kept { IfOk result (λ _. IsKept self.new.table.entries.items kept.new rest.now.positions.items) }
+            LaysTree self.old.table self.new.table part.now rest.now.positions.items
+            rest.now.may_end) }
+        ensures kept { IfOk result (λ _.
+            IsKept self.new.table.entries.items kept.new rest.now.positions.items) }
         ensures before { IfOk result (λ before.
-            IsBefore part.now rest.now.positions.items rest.now.may_end before.positions.items before.may_end) }
+            IsBefore part.now rest.now.positions.items rest.now.may_end before.positions.items
+            before.may_end) }
     {
         self.lay(part, rest, kept)?;
         before(self.alloc, part, rest)
@@ -157,8 +167,10 @@ impl Walk {
     ) -> Result<(), Memory>
         requires { IsKept self.old.table.entries.items kept.old rest.now.positions.items }
         ensures lays { IfOk result (λ _.
-            LaysSequence self.old.table self.new.table parts.now rest.now.positions.items rest.now.may_end) }
-        ensures kept { IfOk result (λ _. IsKept self.new.table.entries.items kept.new rest.now.positions.items) }
+            LaysSequence self.old.table self.new.table parts.now rest.now.positions.items
+            rest.now.may_end) }
+        ensures kept { IfOk result (λ _.
+            IsKept self.new.table.entries.items kept.new rest.now.positions.items) }
     {
         if parts.is_empty() {
             return Ok(());
@@ -183,8 +195,10 @@ impl Walk {
     ) -> Result<(), Memory>
         requires { IsKept self.old.table.entries.items kept.old rest.now.positions.items }
         ensures lays { IfOk result (λ _.
-            LaysSum self.old.table self.new.table parts.now rest.now.positions.items rest.now.may_end) }
-        ensures kept { IfOk result (λ _. IsKept self.new.table.entries.items kept.new rest.now.positions.items) }
+            LaysSum self.old.table self.new.table parts.now rest.now.positions.items
+            rest.now.may_end) }
+        ensures kept { IfOk result (λ _.
+            IsKept self.new.table.entries.items kept.new rest.now.positions.items) }
     {
         for part in parts {
             self.lay(part, rest, kept)?;

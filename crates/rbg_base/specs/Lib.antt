@@ -1,3 +1,5 @@
 -- What every layer shares.
 pub mod Names
 pub mod Decimals
+pub mod Move
+pub mod List

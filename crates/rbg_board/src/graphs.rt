@@ -26,7 +26,8 @@ pub struct Cell {
 #[tactic(auto, unfolding(crate::specs::Written::GraphRefusal))]
 fn index_names(alloc: Global, cells: &[Cell]) -> Result<HashMap<u32, Vertex>, BoardError>
     requires { HasCount (written_of cells.now) }
-    ensures index { IfOk result (λ index. IsIndex (names_of (written_of cells.now)) (hash.get nat_eq index)) }
+    ensures index { IfOk result (λ index.
+        IsIndex (names_of (written_of cells.now)) (hash.get nat_eq index)) }
     ensures differ { OnOk result (AreDifferent (names_of (written_of cells.now))) }
     ensures refusal { IfErr result (GraphRefusal (written_of cells.now)) }
 {
@@ -51,7 +52,8 @@ fn leads(edges: &[(Direction, u32)], direction: Direction) -> bool
 /// Whether two of the edges have one direction.
 #[tactic(auto, unfolding(crate::specs::Cells::AreDifferent))]
 fn leads_twice(edges: &[(Direction, u32)]) -> bool
-    ensures { MatchBool result (HasTwice (directions_in edges.now)) (AreDifferent (directions_in edges.now)) }
+    ensures { MatchBool result (HasTwice (directions_in edges.now))
+        (AreDifferent (directions_in edges.now)) }
 {
     for (i, edge) in edges.iter().enumerate() {
         if leads(&edges[..i], edge.0) {
@@ -63,7 +65,8 @@ fn leads_twice(edges: &[(Direction, u32)]) -> bool
 
 /// Whether some cell has two edges of one direction.
 fn some_leads_twice(cells: &[Cell]) -> bool
-    ensures { MatchBool result (SomeDirectionTwice (written_of cells.now)) (DirectionsDiffer (written_of cells.now)) }
+    ensures { MatchBool result (SomeDirectionTwice (written_of cells.now))
+        (DirectionsDiffer (written_of cells.now)) }
 {
     for cell in cells {
         if leads_twice(&cell.edges) {
@@ -112,7 +115,8 @@ fn push_edges(
     requires different { AreDifferent (directions_in edges.now) }
     ensures row { OnOk result
         (AddsRow (hash.get nat_eq index.now) width edges.now table.old.items table.new.items) }
-    ensures known { OnOk result (All (λ edge. IsSome (hash.get nat_eq index.now edge.1)) edges.now) }
+    ensures known { OnOk result (All (λ edge.
+        IsSome (hash.get nat_eq index.now edge.1)) edges.now) }
     ensures refusal { IfErr result (EdgesRefusal (hash.get nat_eq index.now) edges.now) }
 {
     let start = table.len();

@@ -88,7 +88,8 @@ fn lacks_cell(rows: &[Vec<Piece>]) -> bool
 
 /// The first row that does not fit the rows above it, which grow and then shrink by one cell each.
 fn first_misfit(rows: &[Vec<Piece>]) -> Option<usize>
-    ensures { MatchOption result (GrowsThenShrinks (rows_of rows.now)) (IsFirstMisfit (rows_of rows.now)) }
+    ensures { MatchOption result (GrowsThenShrinks (rows_of rows.now))
+        (IsFirstMisfit (rows_of rows.now)) }
 {
     let mut shrinking = false;
     for row in 1..rows.len() {

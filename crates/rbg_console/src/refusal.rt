@@ -2,8 +2,9 @@
 
 use rbg_board::BoardError;
 use rbg_game::{GameError, LoadError};
-use rbg_macro::{MacroError, TextError};
+use rbg_macro::MacroError;
 use rbg_syntax::SyntaxError;
+use rbg_tokens::TextError;
 use std::fmt::{self, Formatter};
 
 /// A refusal. Its text is `<layer> <number> <name>`, and then the place or thing where there is one.

@@ -16,11 +16,13 @@ ghost use Rattle.rbg_examples.specs.ExampleGames.{one_square, two_squares, star_
 /// In `->white ([e])* ->black` the keeper begins by the switch to white. White may end its turn at once, or after any
 /// number of offs, but not with an off.
 pub fn moves_through_a_star()
-    ensures opening { IsLegal star_of_offs (record { state = start_of star_of_offs; last = None }) ((0, 1) ∷ []) }
+    ensures opening { IsLegal star_of_offs (record { state = start_of star_of_offs; last = None })
+        ((0, 1) ∷ []) }
     ensures at_once { IsLegal star_of_offs (white_on (0 ∷ [])) ((0, 3) ∷ []) }
     ensures after_two { IsLegal star_of_offs (white_on (0 ∷ [])) ((0, 2) ∷ (0, 2) ∷ (0, 3) ∷ []) }
     ensures no_switch { ¬ IsLegal star_of_offs (white_on (0 ∷ [])) ((0, 2) ∷ []) }
-    ensures two_switches { ¬ IsLegal star_of_offs (record { state = start_of star_of_offs; last = None })
+    ensures two_switches { ¬ IsLegal star_of_offs
+        (record { state = start_of star_of_offs; last = None })
         ((0, 1) ∷ (0, 3) ∷ []) }
 {}
 
@@ -28,7 +30,8 @@ pub fn moves_through_a_star()
 /// second one is still e, and white still stands on the first.
 pub fn pattern_is_undone()
     ensures legal { IsLegal looking_right (white_on (0 ∷ 0 ∷ [])) ((1, 7) ∷ (1, 8) ∷ []) }
-    ensures not_its_off { ¬ IsLegal looking_right (white_on (0 ∷ 0 ∷ [])) ((1, 4) ∷ (1, 7) ∷ (1, 8) ∷ []) }
+    ensures not_its_off { ¬ IsLegal looking_right (white_on (0 ∷ 0 ∷ [])) ((1, 4) ∷ (1, 7) ∷ (1, 8)
+        ∷ []) }
 {}
 
 /// In `->white {! right [w] {w}} [w] ->black` the negative pattern stops white on two squares, where a word of its
@@ -47,9 +50,11 @@ pub fn nested_patterns()
 
 /// Division drops the fraction toward zero, and by zero it has no value.
 pub fn division()
-    ensures then_times { value_of (product (quotient (number 7) (number 2)) (number 2)) (state_of 1 [] 0) ≡
+    ensures then_times { value_of (product (quotient (number 7) (number 2)) (number 2))
+        (state_of 1 [] 0) ≡
         Some (pos 6) }
-    ensures below_zero { value_of (quotient (difference (number 0) (number 7)) (number 2)) (state_of 1 [] 0) ≡
+    ensures below_zero { value_of (quotient (difference (number 0) (number 7)) (number 2))
+        (state_of 1 [] 0) ≡
         Some (negsuc 2) }
     ensures by_zero { value_of (quotient (number 1) (number 0)) (state_of 1 [] 0) ≡ None }
 {}
@@ -57,21 +62,27 @@ pub fn division()
 /// A value outside signed 64 bits at any point gives none, also where the whole would be in range again.
 pub fn numbers_of_64_bits()
     ensures greatest { value_of (number (2 ^ 63 - 1)) (state_of 1 [] 0) ≡ Some (pos (2 ^ 63 - 1)) }
-    ensures above { value_of (difference (sum (number (2 ^ 63 - 1)) (number 1)) (number 1)) (state_of 1 [] 0) ≡ None }
-    ensures least { value_of (difference (difference (number 0) (number (2 ^ 63 - 1))) (number 1)) (state_of 1 [] 0) ≡
+    ensures above { value_of (difference (sum (number (2 ^ 63 - 1)) (number 1)) (number 1))
+        (state_of 1 [] 0) ≡ None }
+    ensures least { value_of (difference (difference (number 0) (number (2 ^ 63 - 1))) (number 1))
+        (state_of 1 [] 0) ≡
         Some (negsuc (2 ^ 63 - 1)) }
-    ensures below { value_of (difference (difference (number 0) (number (2 ^ 63 - 1))) (number 2)) (state_of 1 [] 0) ≡
+    ensures below { value_of (difference (difference (number 0) (number (2 ^ 63 - 1))) (number 2))
+        (state_of 1 [] 0) ≡
         None }
-    ensures negated_least { value_of (quotient (difference (negated (number (2 ^ 63 - 1))) (number 1))
+    ensures negated_least { value_of (quotient
+        (difference (negated (number (2 ^ 63 - 1))) (number 1))
         (negated (number 1))) (state_of 1 [] 0) ≡ None }
     ensures product { value_of (product (number (2 ^ 32)) (number (2 ^ 31 - 1))) (state_of 1 [] 0) ≡
         Some (pos (2 ^ 63 - 2 ^ 32)) }
-    ensures wide_product { value_of (product (number (2 ^ 32)) (number (2 ^ 31))) (state_of 1 [] 0) ≡ None }
+    ensures wide_product { value_of (product (number (2 ^ 32)) (number (2 ^ 31))) (state_of 1 [] 0)
+        ≡ None }
 {}
 
 /// A piece in arithmetic is the number of vertices that hold it.
 pub fn counted_pieces()
-    ensures times_three { value_of (product (piece_count 0) (number 3)) (state_of 1 (0 ∷ 0 ∷ []) 0) ≡ Some (pos 6) }
+    ensures times_three { value_of (product (piece_count 0) (number 3)) (state_of 1 (0 ∷ 0 ∷ []) 0)
+        ≡ Some (pos 6) }
     ensures others { value_of (piece_count 1) (state_of 1 (0 ∷ 1 ∷ 0 ∷ []) 0) ≡ Some (pos 1) }
 {}
 
@@ -86,7 +97,8 @@ pub fn bounded_assignment()
 /// `{}` is valid nowhere, and `[w]` everywhere.
 pub fn empty_set()
     ensures on_nothing { (s t : AbstractState) → ¬ Acts without_end (on []) s t }
-    ensures off_anything { (s : AbstractState) → (t : AbstractState) × Acts without_end (off 1) s t }
+    ensures off_anything { (s : AbstractState)
+        → (t : AbstractState) × Acts without_end (off 1) s t }
 {}
 
 /// `->white ([w])* {}` has no move for white, however many offs it takes.
@@ -96,8 +108,10 @@ pub fn no_way_to_end()
 
 /// The keeper may move again and again in `(->>)*`.
 pub fn keeper_moves()
-    ensures first { IsLegal keeper_for_ever (record { state = start_of keeper_for_ever; last = None }) ((0, 1) ∷ []) }
-    ensures again { IsLegal keeper_for_ever (record { state = start_of keeper_for_ever; last = Some 1 }) ((0, 1) ∷ []) }
+    ensures first { IsLegal keeper_for_ever
+        (record { state = start_of keeper_for_ever; last = None }) ((0, 1) ∷ []) }
+    ensures again { IsLegal keeper_for_ever
+        (record { state = start_of keeper_for_ever; last = Some 1 }) ((0, 1) ∷ []) }
 {}
 
 /// Words of a star, of a sum and of a sequence.
@@ -136,7 +150,8 @@ pub fn openings_of_a_sum()
 
 /// A question for a move doesn't go past an answer: in `->white ([e])* ->black` the switch is met before any off.
 pub fn openings_end_at_an_answer()
-    ensures { (o : List Item) → Opening star_of_offs find_move (state_of 1 (0 ∷ []) 0) (after 1) o → o ≡ [] }
+    ensures { (o : List Item) → Opening star_of_offs find_move (state_of 1 (0 ∷ []) 0) (after 1) o
+        → o ≡ [] }
 {}
 
 /// A pattern's question opens what the pattern's own modifiers make, after the vertex where it is asked.
@@ -147,7 +162,8 @@ pub fn openings_in_a_pattern()
 
 /// In `->white ([w])* {}` white's question is deep under any budget of modifiers.
 pub fn deep_question()
-    ensures { (modifiers : ℕ) → IsDeep without_end find_move (state_of 1 (0 ∷ []) 0) (after 1) modifiers }
+    ensures { (modifiers : ℕ)
+        → IsDeep without_end find_move (state_of 1 (0 ∷ []) 0) (after 1) modifiers }
 {}
 
 /// A list of pairs that is no move forces no opening, not even the empty list.

@@ -5,8 +5,8 @@ use Rattle.std.specs.Prelude.{All}
 use Rattle.std.proofs.Math.Seq.{take-append_seam}
 use Rattle.std.proofs.lemmas.List.{map-append, length-map}
 use Rattle.std.proofs.lemmas.Slice.Zip.{AllZip-long}
-use Rattle.rbg_syntax.specs.Formed.{IsWhole}
-use Rattle.rbg_syntax.specs.Tree.{SpeltBounded, SpeltBoard, rectangle, hexagon, graph, SpeltName, SpeltDescription}
+use Rattle.rbg_grammar.specs.Formed.{IsWhole}
+use Rattle.rbg_grammar.specs.Tree.{SpeltBounded, SpeltBoard, rectangle, hexagon, graph, SpeltName, SpeltDescription}
 use Rattle.rbg_rules.specs.Expression.{Expression}
 use Rattle.rbg_rules.specs.Games.{IsGame, IsWithinLimits}
 use Rattle.rbg_rules.specs.Limits.{greatest_bound}

@@ -10,8 +10,8 @@ use Rattle.rbg_board.specs.Rectangle.{MakesRectangle, RectangleRefusal}
 use Rattle.rbg_board.specs.Hexagon.{MakesHexagon, HexagonRefusal}
 use Rattle.rbg_board.specs.declared.error.BoardError.{BoardError}
 use Rattle.rbg_board.specs.declared.error.BoardError.TheVariants as board_errors
-use Rattle.rbg_syntax.specs.Tree.{SpeltName, SpeltBounded, SpeltEdge, SpeltVertex, SpeltBoard, rectangle, hexagon, graph}
-use Rattle.rbg_syntax.specs.Tree.{SpeltDescription}
+use Rattle.rbg_grammar.specs.Tree.{SpeltName, SpeltBounded, SpeltEdge, SpeltVertex, SpeltBoard, rectangle, hexagon, graph}
+use Rattle.rbg_grammar.specs.Tree.{SpeltDescription}
 use Rattle.rbg_rules.specs.State.{AbstractGame}
 use Rattle.rbg_rules.specs.Limits.{greatest_bound, most_directions}
 use Rattle.rbg_rules.specs.LawfulNames.{AreDifferentNames, AreLawfulNames}

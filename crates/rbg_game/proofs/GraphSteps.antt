@@ -6,10 +6,10 @@ use Rattle.std.proofs.lemmas.List.{length-map, length-take, map-append, take-map
 use Rattle.std.proofs.lemmas.Grind.{flat_map-append}
 use Rattle.std.proofs.lemmas.Option.{slice_get_within, get_or_from_slice_get}
 use Rattle.rbg_board.specs.declared.error.BoardError.TheVariants as board_errors
-use Rattle.rbg_syntax.specs.Tree.{SpeltName, SpeltEdge, SpeltVertex, graph}
-use Rattle.rbg_syntax.specs.Views.{edge_of, vertex_of}
-use Rattle.rbg_syntax.specs.declared.description.Edge.{Edge}
-use Rattle.rbg_syntax.specs.declared.description.Vertex.{Vertex}
+use Rattle.rbg_grammar.specs.Tree.{SpeltName, SpeltEdge, SpeltVertex, graph}
+use Rattle.rbg_grammar.specs.Views.{edge_of, vertex_of}
+use Rattle.rbg_grammar.specs.declared.description.Edge.{Edge}
+use Rattle.rbg_grammar.specs.declared.description.Vertex.{Vertex}
 use Rattle.rbg_numbering.specs.declared.error.GameError.{GameError}
 use Rattle.rbg_numbering.specs.declared.error.GameError.TheVariants as errors
 use Rattle.rbg_numbering.specs.Names.{IsNumberOf}

@@ -9,7 +9,7 @@ use Rattle.std.proofs.lemmas.Slice.Zip.{AllZip-long, all_zipped_more}
 use Rattle.std.proofs.Math.Seq.{get_or-append_seam}
 use Rattle.rbg_base.proofs.CallerLemmas.{AllZip-weaker, Contains-from_get, get_from-Contains, slice_get-append_left}
 use Rattle.rbg_board.specs.Cells.{AreDifferent}
-use Rattle.rbg_syntax.specs.Tree.{SpeltName}
+use Rattle.rbg_grammar.specs.Tree.{SpeltName}
 use Rattle.rbg_rules.specs.LawfulNames.{AreDifferentNames}
 use Rattle.rbg_numbering.specs.declared.error.GameError.{GameError}
 use Rattle.rbg_numbering.specs.declared.error.GameError.TheVariants as errors

@@ -2,16 +2,18 @@
 use Rattle.std.proofs.Common.{◌≡◌, ◌≢◌, ℕ, List, sym, subst}
 use Rattle.std.specs.Prelude.{Result, Ok, Err}
 use Rattle.std.specs.Result.{IfErr, IsErrAnd}
-use Rattle.rbg_macro.specs.Token.{Lexeme, SectionTokens}
-use Rattle.rbg_macro.specs.Text.{HasTokens, HasTextFault}
+use Rattle.rbg_tokens.specs.Token.{Lexeme}
+use Rattle.rbg_macro.specs.Sections.{SectionTokens}
+use Rattle.rbg_tokens.specs.Text.{HasTokens, HasTextFault}
 use Rattle.rbg_macro.specs.Expansion.{HasSections, HasMacroFault}
-use Rattle.rbg_macro.specs.declared.error.TextError.{TextError}
+use Rattle.rbg_tokens.specs.declared.error.TextError.{TextError}
 use Rattle.rbg_macro.specs.declared.error.MacroError.{MacroError}
-use Rattle.rbg_macro.proofs.OneReading.{tokens_once, text_refused_for_memory}
+use Rattle.rbg_tokens.proofs.OneReading.{tokens_once, text_refused_for_memory}
 use Rattle.rbg_macro.proofs.OneExpansion.{sections_once, sections_refused_for_memory}
-use Rattle.rbg_syntax.specs.Tree.{SpeltDescription}
-use Rattle.rbg_syntax.proofs.OneDescription.{one_description}
-use Rattle.rbg_syntax.specs.Spells.{Spells, HasFault as HasSyntaxFault}
+use Rattle.rbg_grammar.specs.Tree.{SpeltDescription}
+use Rattle.rbg_grammar.proofs.OneDescription.{one_description}
+use Rattle.rbg_grammar.specs.Spells.{Spells}
+use Rattle.rbg_syntax.specs.Faults.{HasFault as HasSyntaxFault}
 use Rattle.rbg_syntax.specs.declared.error.SyntaxError.{SyntaxError}
 use Rattle.rbg_syntax.specs.declared.error.SyntaxError.TheVariants.{Memory as SyntaxMemory}
 use Rattle.rbg_rules.specs.State.{AbstractGame}

@@ -5,7 +5,7 @@ use Rattle.std.specs.Prelude.{slice_get, Contains}
 use Rattle.std.proofs.lemmas.List.{take-map, map-append}
 use Rattle.std.proofs.lemmas.List.Elements.{All-append, Contains-append_left, Contains-append_right, Contains-append_cases}
 use Rattle.std.proofs.lemmas.Option.{slice_get_within}
-use Rattle.rbg_syntax.specs.Tree.{SpeltName, SpeltBounded, SpeltDescription}
+use Rattle.rbg_grammar.specs.Tree.{SpeltName, SpeltBounded, SpeltDescription}
 use Rattle.rbg_rules.specs.Limits.{greatest_bound}
 use Rattle.rbg_numbering.specs.declared.error.GameError.{GameError}
 use Rattle.rbg_numbering.specs.Names.{texts_of}

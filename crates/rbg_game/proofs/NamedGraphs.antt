@@ -11,7 +11,7 @@ use Rattle.rbg_board.specs.Graph.{Graph, HasWidth}
 use Rattle.rbg_board.specs.Written.{Written, names_of, directions_in, directions_of, IsWritten, MakesGraph, GraphRefusal, TargetsKnown}
 use Rattle.rbg_board.specs.declared.error.BoardError.{BoardError}
 use Rattle.rbg_board.specs.declared.error.BoardError.TheVariants as board_errors
-use Rattle.rbg_syntax.specs.Tree.{SpeltName, SpeltEdge, SpeltVertex, graph}
+use Rattle.rbg_grammar.specs.Tree.{SpeltName, SpeltEdge, SpeltVertex, graph}
 use Rattle.rbg_rules.specs.Limits.{most_directions}
 use Rattle.rbg_rules.specs.LawfulNames.{AreDifferentNames, AreLawfulNames}
 use Rattle.rbg_numbering.specs.Names.{IsNumberOf}

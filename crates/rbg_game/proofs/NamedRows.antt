@@ -4,7 +4,7 @@ use Rattle.std.specs.List.{AllZip, range_with_len}
 use Rattle.std.proofs.lemmas.List.{length-map, get_or-map}
 use Rattle.std.proofs.lemmas.Option.{slice_get-get_or}
 use Rattle.std.proofs.lemmas.Slice.Zip.{AllZip-long}
-use Rattle.rbg_syntax.specs.Tree.{SpeltName, SpeltBoard, rectangle, hexagon}
+use Rattle.rbg_grammar.specs.Tree.{SpeltName, SpeltBoard, rectangle, hexagon}
 use Rattle.rbg_board.specs.Graph.{Graph, HasWidth}
 use Rattle.rbg_board.specs.Cells.{Rows, width_of}
 use Rattle.rbg_board.specs.Rectangle.{IsRectangle, MakesRectangle}

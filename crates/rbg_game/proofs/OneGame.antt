@@ -2,7 +2,7 @@
 use Rattle.std.proofs.Common.{◌≡◌, ℕ, List, ◌++◌, Some, sym, ◌∙◌, subst}
 use Rattle.std.proofs.lemmas.Option.{same_Some}
 use Rattle.std.proofs.lemmas.List.{map-append}
-use Rattle.rbg_syntax.specs.Tree.{SpeltBounded, SpeltDescription}
+use Rattle.rbg_grammar.specs.Tree.{SpeltBounded, SpeltDescription}
 use Rattle.rbg_rules.specs.State.{AbstractGame}
 use Rattle.rbg_rules.specs.LawfulNames.{AreDifferentNames}
 use Rattle.rbg_numbering.specs.Names.{Names, HasDifferentNames}

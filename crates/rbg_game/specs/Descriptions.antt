@@ -7,8 +7,8 @@ use Rattle.rbg_board.specs.Graph.{Graph, HasWidth, IsGraphOf}
 use Rattle.rbg_board.specs.Rectangle.{RectangleEdge, MakesRectangle}
 use Rattle.rbg_board.specs.Hexagon.{HexagonEdge, MakesHexagon}
 use Rattle.rbg_board.specs.Written.{Written, pieces_of, directions_of, WrittenEdge, MakesGraph}
-use Rattle.rbg_syntax.specs.Tree.{SpeltName, SpeltBounded, SpeltEdge, SpeltVertex}
-use Rattle.rbg_syntax.specs.Tree.{SpeltBoard, rectangle, hexagon, graph, SpeltDescription}
+use Rattle.rbg_grammar.specs.Tree.{SpeltName, SpeltBounded, SpeltEdge, SpeltVertex}
+use Rattle.rbg_grammar.specs.Tree.{SpeltBoard, rectangle, hexagon, graph, SpeltDescription}
 use Rattle.rbg_rules.specs.Games.{IsGame}
 use Rattle.rbg_rules.specs.LawfulNames.{AreDifferentNames}
 use Rattle.rbg_rules.specs.State.{AbstractGame}

@@ -7,8 +7,8 @@ use Rattle.rbg_board.specs.Rectangle.{RectangleRefusal}
 use Rattle.rbg_board.specs.Hexagon.{HexagonRefusal}
 use Rattle.rbg_board.specs.declared.error.BoardError.{BoardError}
 use Rattle.rbg_board.specs.declared.error.BoardError.TheVariants as board_errors
-use Rattle.rbg_syntax.specs.Tree.{SpeltName, SpeltNumber, SpeltBounded, SpeltEdge, SpeltVertex}
-use Rattle.rbg_syntax.specs.Tree.{SpeltBoard, rectangle, hexagon, graph, SpeltDescription}
+use Rattle.rbg_grammar.specs.Tree.{SpeltName, SpeltNumber, SpeltBounded, SpeltEdge, SpeltVertex}
+use Rattle.rbg_grammar.specs.Tree.{SpeltBoard, rectangle, hexagon, graph, SpeltDescription}
 use Rattle.rbg_rules.specs.Limits.{most_players, most_pieces, most_variables}
 use Rattle.rbg_rules.specs.Limits.{greatest_bound, most_directions, most_vertices}
 use Rattle.rbg_numbering.specs.declared.error.GameError.{GameError}

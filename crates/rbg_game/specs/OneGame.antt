@@ -1,6 +1,6 @@
 -- Laws: a description is at most one game, and so is a text; a description with a fault is none.
 use Rattle.std.specs.Prelude.{◌≡◌, ◌≢◌, ℕ, List}
-use Rattle.rbg_syntax.specs.Tree.{SpeltDescription}
+use Rattle.rbg_grammar.specs.Tree.{SpeltDescription}
 use Rattle.rbg_rules.specs.State.{AbstractGame}
 use Rattle.rbg_numbering.specs.declared.error.GameError.{GameError}
 use Rattle.rbg_numbering.specs.declared.error.GameError.TheVariants.{Memory}

@@ -1,7 +1,7 @@
 //! The checks of a description: its names by their numbers, then its board, then its rules.
 ghost use Rattle.std.specs.Prelude.{◌≡◌, ◌≢◌, IfOk, IfErr, length};
-ghost use Rattle.rbg_syntax.specs.Descriptions.{description_of, description_of_parts};
-ghost use Rattle.rbg_syntax.specs.Formed.{IsWhole};
+ghost use Rattle.rbg_grammar.specs.Descriptions.{description_of, description_of_parts};
+ghost use Rattle.rbg_grammar.specs.Formed.{IsWhole};
 ghost use Rattle.rbg_rules.specs.Games.{IsGame};
 ghost use Rattle.rbg_rules.specs.Positions.{positions_of};
 ghost use Rattle.rbg_rules.specs.State.{AbstractGame};
@@ -17,9 +17,9 @@ mod names;
 
 use boards::{NamedBoard, make_board};
 use names::{Things, number_things};
+use rbg_grammar::{Description, DescriptionParts};
 use rbg_numbering::{GameError, NameTables, number_rules};
 use rbg_rules::{Game, Parts, Rules};
-use rbg_syntax::{Description, DescriptionParts};
 use std::alloc::{AllocError, Global};
 
 /// The game of a description.
@@ -31,7 +31,8 @@ pub fn check(alloc: Global, description: Description<'_>) -> Result<Game, GameEr
 
     // The description has the fault that an error names, and unless memory ran out it is no game.
     ensures fault { IfErr result (HasFault (description_of description.entry)) }
-    ensures refused { IfErr result (λ e. e ≢ GameError.Memory → (game : AbstractGame) → ¬ IsGameOf (description_of description.entry) game) }
+    ensures refused { IfErr result (λ e. e ≢ GameError.Memory → (game : AbstractGame)
+        → ¬ IsGameOf (description_of description.entry) game) }
 {
     check_parts(alloc, &description.into_parts())
 }

@@ -4,9 +4,10 @@ ghost use Rattle.rbg_game.specs.Loading.{HasSectionsOf, Loads, IsRefused};
 
 use crate::checking::check;
 use crate::error::LoadError;
-use rbg_macro::{Source, expand, tokens};
+use rbg_macro::{Source, expand};
 use rbg_rules::Game;
 use rbg_syntax::parse;
+use rbg_tokens::tokens;
 use std::alloc::Global;
 
 /// The game of a text: its tokens are cut, its macros are expanded, its sections are read, and what they spell is

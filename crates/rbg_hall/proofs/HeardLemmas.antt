@@ -84,11 +84,12 @@ of_another seat heard one differ = record {
 }
 
 -- what a line has told of which the same was heard
-pub said_the_same : (seat : ℕ) (heard now : List Heard) (before : Told) →
-    SameOf seat heard now → has_said seat now before ≡ has_said seat heard before
-said_the_same seat heard now before same = λ i. record {
+pub said_the_same : (seat : ℕ) (heard now : List Heard) (stalls : ℕ) (before : Told) →
+    SameOf seat heard now → has_said seat now stalls before ≡ has_said seat heard stalls before
+said_the_same seat heard now stalls before same = λ i. record {
   given = before.given ++ same.given i;
   ends = before.ends + same.ends i;
   taken = before.taken;
+  stalls = before.stalls + stalls;
   failures = before.failures + same.failures i;
 }

@@ -1,5 +1,5 @@
 -- Lemmas on lines over memory.
-use Rattle.std.proofs.Common.{◌≡◌, ◌<◌, ◌≤◌, ℕ, ◌+◌, List, [], ◌∷◌, ◌++◌, length, take, drop, get_or, ap, sym, ◌∙◌, arith, append_assoc, append-nil, refl, zero, suc, false, min}
+use Rattle.std.proofs.Common.{◌≡◌, ◌<◌, ◌≤◌, ℕ, ◌+◌, List, [], ◌∷◌, ◌++◌, length, take, drop, get_or, ap, sym, ◌∙◌, arith, append_assoc, append-nil, refl, zero, suc, Bool, false, min, if◌then◌else◌}
 use Rattle.std.specs.List.{flat_map, count_by}
 use Rattle.std.proofs.Math.Seq.{take-add}
 use Rattle.std.proofs.lemmas.Grind.{flat_map-append}
@@ -10,7 +10,10 @@ use Rattle.rbg_hall.specs.declared.give.Give.TheVariants.{Nothing, Ended, Failed
 use Rattle.rbg_hall.specs.Answers.{with_failure}
 use Rattle.rbg_hall.specs.MemoryLines.{bytes_in, is_end, memory_told}
 use Rattle.rbg_hall.specs.Told.{Told}
-use Rattle.rbg_hall.proofs.HeardLemmas.{one_if}
+
+-- one that counts, or not
+abbrev one_if : Bool → ℕ
+one_if test = if test then 1 else 0
 
 -- the bytes of one more give
 bytes_more : (gives : List Give) (whole : ℕ) → whole < length gives →
@@ -33,16 +36,17 @@ take_none zero = refl
 take_none (suc n) = refl
 
 -- a give without bytes was passed
-pub passed : (gives : List Give) (whole offset : ℕ) (taken : List ℕ) (failures : ℕ) (give : Give) →
+pub passed : (gives : List Give) (whole offset : ℕ) (taken : List ℕ) (stalls failures : ℕ) (give : Give) →
     whole < length gives →
     get_or gives whole Nothing ≡ give →
     bytes_in give ≡ [] →
-    memory_told gives (whole + 1) 0 taken failures
-    ≡ record (memory_told gives whole offset taken failures) { ends = count_by is_end (take whole gives) + one_if (is_end give) }
-passed gives whole offset taken failures give there is empty = λ i. record {
+    memory_told gives (whole + 1) 0 taken stalls failures
+    ≡ record (memory_told gives whole offset taken stalls failures) { ends = count_by is_end (take whole gives) + one_if (is_end give) }
+passed gives whole offset taken stalls failures give there is empty = λ i. record {
   given = given i;
   ends = (ends_more gives whole there ∙ ap (λ x. count_by is_end (take whole gives) + one_if (is_end x)) is) i;
   taken = taken;
+  stalls = stalls;
   failures = failures;
 }
   where
@@ -58,15 +62,15 @@ passed gives whole offset taken failures give there is empty = λ i. record {
         (none ∙ sym (take_none offset) ∙ ap (take offset) (sym none))
 
 -- bytes were given, and more are left
-pub given_some : (gives : List Give) (whole offset count : ℕ) (taken : List ℕ) (failures : ℕ) (bytes given : List ℕ) →
+pub given_some : (gives : List Give) (whole offset count : ℕ) (taken : List ℕ) (stalls failures : ℕ) (bytes given : List ℕ) →
     bytes_in (get_or gives whole Nothing) ≡ bytes →
     given ≡ take count (drop offset bytes) →
-    record (memory_told gives whole offset taken failures) {
-      given = (memory_told gives whole offset taken failures).given ++ given;
+    record (memory_told gives whole offset taken stalls failures) {
+      given = (memory_told gives whole offset taken stalls failures).given ++ given;
     }
-    ≡ memory_told gives whole (offset + count) taken failures
-given_some gives whole offset count taken failures bytes given is are =
-    ap (λ all. record (memory_told gives whole offset taken failures) { given = all }) (
+    ≡ memory_told gives whole (offset + count) taken stalls failures
+given_some gives whole offset count taken stalls failures bytes given is are =
+    ap (λ all. record (memory_told gives whole offset taken stalls failures) { given = all }) (
     append_assoc (flat_map bytes_in (take whole gives)) (take offset now) given
     ∙ ap (λ all. flat_map bytes_in (take whole gives) ++ all) (
     ap (λ more. take offset now ++ more) (are ∙ ap (λ all. take count (drop offset all)) (sym is))
@@ -76,20 +80,21 @@ given_some gives whole offset count taken failures bytes given is are =
     now = bytes_in (get_or gives whole Nothing)
 
 -- the rest was given
-pub given_rest : (gives : List Give) (whole offset : ℕ) (taken : List ℕ) (failures : ℕ) (bytes given : List ℕ) (give : Give) →
+pub given_rest : (gives : List Give) (whole offset : ℕ) (taken : List ℕ) (stalls failures : ℕ) (bytes given : List ℕ) (give : Give) →
     whole < length gives →
     get_or gives whole Nothing ≡ give →
     bytes_in give ≡ bytes →
     is_end give ≡ false →
     given ≡ drop offset bytes →
-    record (memory_told gives whole offset taken failures) {
-      given = (memory_told gives whole offset taken failures).given ++ given;
+    record (memory_told gives whole offset taken stalls failures) {
+      given = (memory_told gives whole offset taken stalls failures).given ++ given;
     }
-    ≡ memory_told gives (whole + 1) 0 taken failures
-given_rest gives whole offset taken failures bytes given give there is holds no_end are = λ i. record {
+    ≡ memory_told gives (whole + 1) 0 taken stalls failures
+given_rest gives whole offset taken stalls failures bytes given give there is holds no_end are = λ i. record {
   given = all i;
   ends = ends i;
   taken = taken;
+  stalls = stalls;
   failures = failures;
 }
   where
@@ -116,35 +121,35 @@ plus_nothing : (n : ℕ) → n + 0 ≡ n
 plus_nothing n = omega arith
 
 -- a line that gave nothing
-pub gave_nothing : (gives : List Give) (whole offset : ℕ) (taken : List ℕ) (failures : ℕ) (so_far : Told) →
+pub gave_nothing : (gives : List Give) (whole offset : ℕ) (taken : List ℕ) (stalls failures : ℕ) (so_far : Told) →
     whole < length gives →
     get_or gives whole Nothing ≡ Nothing →
-    so_far ≡ memory_told gives whole offset taken failures →
-    so_far ≡ memory_told gives (whole + 1) 0 taken failures
-gave_nothing gives whole offset taken failures so_far there is told =
+    so_far ≡ memory_told gives whole offset taken stalls failures →
+    so_far ≡ memory_told gives (whole + 1) 0 taken stalls failures
+gave_nothing gives whole offset taken stalls failures so_far there is told =
     told
-    ∙ (λ i. record (memory_told gives whole offset taken failures) { ends = sym (plus_nothing (count_by is_end (take whole gives))) i })
-    ∙ sym (passed gives whole offset taken failures Nothing there is refl)
+    ∙ (λ i. record (memory_told gives whole offset taken stalls failures) { ends = sym (plus_nothing (count_by is_end (take whole gives))) i })
+    ∙ sym (passed gives whole offset taken stalls failures Nothing there is refl)
 
 -- a line that ended
-pub told_end : (gives : List Give) (whole offset : ℕ) (taken : List ℕ) (failures : ℕ) (so_far : Told) →
+pub told_end : (gives : List Give) (whole offset : ℕ) (taken : List ℕ) (stalls failures : ℕ) (so_far : Told) →
     whole < length gives →
     get_or gives whole Nothing ≡ Ended →
-    so_far ≡ memory_told gives whole offset taken failures →
-    record so_far { ends = so_far.ends + 1 } ≡ memory_told gives (whole + 1) 0 taken failures
-told_end gives whole offset taken failures so_far there is told =
-    ap (λ (t : Told). record t { ends = t.ends + 1 }) told ∙ sym (passed gives whole offset taken failures Ended there is refl)
+    so_far ≡ memory_told gives whole offset taken stalls failures →
+    record so_far { ends = so_far.ends + 1 } ≡ memory_told gives (whole + 1) 0 taken stalls failures
+told_end gives whole offset taken stalls failures so_far there is told =
+    ap (λ (t : Told). record t { ends = t.ends + 1 }) told ∙ sym (passed gives whole offset taken stalls failures Ended there is refl)
 
 -- a line that failed
-pub told_failure : (gives : List Give) (whole offset : ℕ) (taken : List ℕ) (failures : ℕ) (so_far : Told) →
+pub told_failure : (gives : List Give) (whole offset : ℕ) (taken : List ℕ) (stalls failures : ℕ) (so_far : Told) →
     whole < length gives →
     get_or gives whole Nothing ≡ Failed →
-    so_far ≡ memory_told gives whole offset taken failures →
-    with_failure so_far ≡ memory_told gives (whole + 1) 0 taken (failures + 1)
-told_failure gives whole offset taken failures so_far there is told =
+    so_far ≡ memory_told gives whole offset taken stalls failures →
+    with_failure so_far ≡ memory_told gives (whole + 1) 0 taken stalls (failures + 1)
+told_failure gives whole offset taken stalls failures so_far there is told =
     ap with_failure told
-    ∙ (λ i. record (memory_told gives whole offset taken (failures + 1)) { ends = sym (plus_nothing (count_by is_end (take whole gives))) i })
-    ∙ sym (passed gives whole offset taken (failures + 1) Failed there is refl)
+    ∙ (λ i. record (memory_told gives whole offset taken stalls (failures + 1)) { ends = sym (plus_nothing (count_by is_end (take whole gives))) i })
+    ∙ sym (passed gives whole offset taken stalls (failures + 1) Failed there is refl)
 
 -- all of a list
 pub take_most : (bytes : List ℕ) (count room : ℕ) → count ≡ min (length bytes) room → length bytes ≤ count → take count bytes ≡ bytes

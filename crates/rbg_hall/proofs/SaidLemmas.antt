@@ -12,15 +12,18 @@ says seat one so_far = record {
   given = so_far.given ++ bytes_of seat one;
   ends = so_far.ends + one_if (is_end_of seat one);
   taken = so_far.taken;
+  stalls = so_far.stalls;
   failures = so_far.failures + one_if (is_failure_of seat one);
 }
 
-pub said_one : (seat : ℕ) (heard : List Heard) (one : Heard) (before : Told) (queued : List ℕ) (taken : ℕ) →
-    has_taken (has_said seat (heard ++ one ∷ []) before) queued taken ≡ says seat one (has_taken (has_said seat heard before) queued taken)
-said_one seat heard one before queued taken = λ i. record {
+pub said_one : (seat : ℕ) (heard : List Heard) (one : Heard) (stalls : ℕ) (before : Told) (queued : List ℕ) (taken : ℕ) →
+    has_taken (has_said seat (heard ++ one ∷ []) stalls before) queued taken
+    ≡ says seat one (has_taken (has_said seat heard stalls before) queued taken)
+said_one seat heard one stalls before queued taken = λ i. record {
   given = given i;
   ends = ends i;
   taken = before.taken ++ take taken queued;
+  stalls = before.stalls + stalls;
   failures = failures i;
 }
   where
@@ -41,6 +44,7 @@ says_gave seat at bytes so_far = λ i. record {
   given = so_far.given ++ ap (λ test. if test then bytes else []) (itself seat) i;
   ends = plus_nothing so_far.ends i;
   taken = so_far.taken;
+  stalls = so_far.stalls;
   failures = plus_nothing so_far.failures i;
 }
 
@@ -49,6 +53,7 @@ says_ended seat at so_far = λ i. record {
   given = append-nil so_far.given i;
   ends = so_far.ends + ap one_if (itself seat) i;
   taken = so_far.taken;
+  stalls = so_far.stalls;
   failures = plus_nothing so_far.failures i;
 }
 
@@ -57,6 +62,7 @@ says_failed_to_give seat at so_far = λ i. record {
   given = append-nil so_far.given i;
   ends = plus_nothing so_far.ends i;
   taken = so_far.taken;
+  stalls = so_far.stalls;
   failures = so_far.failures + ap one_if (itself seat) i;
 }
 
@@ -65,5 +71,6 @@ says_failed_to_take seat at so_far = λ i. record {
   given = append-nil so_far.given i;
   ends = plus_nothing so_far.ends i;
   taken = so_far.taken;
+  stalls = so_far.stalls;
   failures = so_far.failures + ap one_if (itself seat) i;
 }

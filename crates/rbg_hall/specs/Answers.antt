@@ -1,5 +1,5 @@
 -- What a line's answer adds to what it has told.
-use Rattle.std.specs.Prelude.{ℕ, ◌+◌, ◌≤◌, List, ◌++◌, take}
+use Rattle.std.specs.Prelude.{ℕ, zero, suc, ◌+◌, ◌≤◌, List, [], ◌∷◌, ◌++◌, take}
 use Rattle.rbg_hall.specs.declared.answer.Polled.{Polled}
 use Rattle.rbg_hall.specs.declared.answer.Polled.TheVariants.{Got, Nothing, Ended, Failed as PollFailed}
 use Rattle.rbg_hall.specs.declared.answer.Put.{Put}
@@ -29,7 +29,16 @@ after_poll so_far Nothing buffer = so_far
 after_poll so_far Ended buffer = record so_far { ends = so_far.ends + 1 }
 after_poll so_far PollFailed buffer = with_failure so_far
 
+-- how often a line took none of these bytes that it was offered, where it took so many: once or never
+abbrev pub stalls_of : (taken : ℕ) → (offered : List ℕ) → ℕ
+stalls_of zero [] = 0
+stalls_of zero (byte ∷ bytes) = 1
+stalls_of (suc taken) offered = 0
+
 -- What a line has told after these bytes were put to it with this answer. It took the first ones.
 abbrev pub after_put : Told → Put → (bytes : List ℕ) → Told
-after_put so_far (Took n) bytes = record so_far { taken = so_far.taken ++ take n bytes }
+after_put so_far (Took n) bytes = record so_far {
+  taken = so_far.taken ++ take n bytes;
+  stalls = so_far.stalls + stalls_of n bytes;
+}
 after_put so_far PutFailed bytes = with_failure so_far

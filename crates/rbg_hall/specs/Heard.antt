@@ -45,6 +45,13 @@ abbrev pub is_failed_put : Heard → Bool
 is_failed_put (failed_to_take seat at) = true
 is_failed_put _ = false
 
+-- whether a line was polled
+abbrev pub is_polled : Heard → Bool
+is_polled (gave seat at bytes) = true
+is_polled (ended seat at) = true
+is_polled (failed_to_give seat at) = true
+is_polled _ = false
+
 -- whether a round is over
 abbrev pub is_round_over : Heard → Bool
 is_round_over (round_over at) = true

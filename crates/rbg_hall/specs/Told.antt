@@ -2,16 +2,17 @@
 use Rattle.std.specs.Prelude.{◌≡◌, ℕ, List, [], length, slice_get, Some, slice_index_or}
 
 -- What a line has told so far: the bytes that it gave, how often it answered that it has ended, the bytes that it took,
--- and how often it failed.
+-- how often it took none of the bytes that it was offered, and how often it failed.
 pub record Told : Type 0 where
   pub given : List ℕ
   pub ends : ℕ
   pub taken : List ℕ
+  pub stalls : ℕ
   pub failures : ℕ
 
 -- what a line has told that nobody has used
 abbrev pub nothing_told : Told
-nothing_told = record { given = []; ends = 0; taken = []; failures = 0 }
+nothing_told = record { given = []; ends = 0; taken = []; stalls = 0; failures = 0 }
 
 -- This may be all that the line has told so far, and its failures are counted.
 pub record Tells {L : Type 0} (told : L → Told → Type 0) (failure_count : L → ℕ) (line : L) (so_far : Told) :

@@ -9,5 +9,6 @@ pub trait Clock {
 
     /// The moment, in milliseconds.
     fn now(&mut self) -> u64
-        ensures { (so_far : List ℕ) → told self.old so_far → told self.new (so_far ++ result ∷ []) };
+        ensures { (so_far : List ℕ) → told self.old so_far
+            → told self.new (so_far ++ result ∷ []) };
 }

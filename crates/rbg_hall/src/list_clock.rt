@@ -1,5 +1,5 @@
 //! Clocks over a list.
-ghost use Rattle.std.specs.Prelude.{◌≤◌, [], vec_len};
+ghost use Rattle.std.specs.Prelude.{◌≡◌, ◌≤◌, ◌++◌, ◌∷◌, [], ℕ, List, vec_len};
 ghost use Rattle.rbg_hall.specs.ListClocks.{HasTold};
 
 use crate::Clock;
@@ -16,7 +16,9 @@ pub struct ListClock {
 impl ListClock {
     /// A clock that tells these moments.
     pub fn new(moments: Vec<u64>) -> ListClock
-        ensures { ⟦<ListClock as Clock>⟧.told result [] }
+        ensures moments { result.moments ≡ moments }
+        ensures none { result.told ≡ 0 }
+        ensures told { ⟦<ListClock as Clock>⟧.told result [] }
     {
         ListClock { moments, told: 0 }
     }
@@ -25,7 +27,12 @@ impl ListClock {
 impl Clock for ListClock {
     ghost told = { λ clock so_far. HasTold clock.moments.items clock.told so_far };
 
-    fn now(&mut self) -> u64 {
+    fn now(&mut self) -> u64
+        ensures told { (so_far : List ℕ) →
+            HasTold self.old.moments.items self.old.told so_far →
+            HasTold self.new.moments.items self.new.told (so_far ++ result ∷ []) }
+        ensures moments { self.new.moments ≡ self.old.moments }
+    {
         if let Some(moment) = self.moments.as_slice().get(self.told) {
             self.told += 1;
             return *moment;

@@ -3,29 +3,32 @@ ghost use Rattle.std.specs.Prelude.{◌≡◌, ◌≤◌, ◌<◌, ◌+◌, ◌+
 ghost use Rattle.rbg_match.specs.Matches.{HasHistory};
 ghost use Rattle.rbg_match.specs.PlayingOn.{seats_of};
 ghost use Rattle.rbg_hall.specs.Heard.{Heard, failed_to_take, IsLive};
+ghost use Rattle.rbg_hall.specs.Passing.{Intake};
 ghost use Rattle.rbg_hall.specs.Told.{Told, Tells};
-ghost use Rattle.rbg_hall.specs.internal.InCall.{Start, InCall, LacksMemoryInCall};
-ghost use Rattle.rbg_hall.specs.internal.Lines.{AreServed, has_taken, live_lines, passed_on};
+ghost use Rattle.rbg_hall.specs.internal.InCall.{Start, InCall, Passed, LacksMemoryInCall};
+ghost use Rattle.rbg_hall.specs.internal.Lines.{AreServed, AreServedFrom, ArePassed, has_taken, live_lines, passed_on};
 
-use crate::progress::Progress;
+use crate::line_state::LineState;
 use crate::{Line, Put};
 use rbg_base::Memory;
 use rbg_match::{Event, Match, Outbox};
 
 /// Puts the rest of the bytes to a live line, until it has all of them, takes none, or fails.
-fn pass_to<L: Line>(line: &mut L, bytes: &[u8], progress: &mut Progress)
-    requires { progress.old.live ≡ true }
-    ensures within { progress.old.taken ≤ length bytes.now → progress.new.taken ≤ length bytes.now }
+fn pass_to<L: Line>(line: &mut L, bytes: &[u8], state: &mut LineState)
+    requires { state.old.live ≡ true }
+    ensures within { state.old.taken ≤ length bytes.now → state.new.taken ≤ length bytes.now }
+    ensures more { state.old.taken ≤ state.new.taken }
     ensures told { (before : Told) →
-        Tells L.told L.failure_count line.old (has_taken before bytes.now progress.old.taken) →
-        Tells L.told L.failure_count line.new (passed_on before bytes.now progress.new) }
+        state.old.taken ≤ length bytes.now →
+        Tells L.told L.failure_count line.old (has_taken before bytes.now state.old.taken) →
+        Tells L.told L.failure_count line.new (passed_on before bytes.now state.new) }
 {
-    while progress.taken < bytes.len() {
-        match line.put(&bytes[progress.taken..]) {
+    while state.taken < bytes.len() {
+        match line.put(&bytes[state.taken..]) {
             Put::Took(0) => return,
-            Put::Took(count) => progress.taken += count,
+            Put::Took(count) => state.taken += count,
             Put::Failed => {
-                progress.live = false;
+                state.live = false;
                 return;
             }
         }
@@ -36,31 +39,33 @@ fn pass_to<L: Line>(line: &mut L, bytes: &[u8], progress: &mut Progress)
 /// behind it are left out.
 fn pass_to_each<L: Line>(
     lines: &mut [L],
-    progress: &mut [Progress],
+    states: &mut [LineState],
     outbox: &Outbox,
 ) -> Option<usize>
-    requires progress { length progress.old ≡ length lines.old }
+    requires states { length states.old ≡ length lines.old }
     requires seats { length outbox.now ≡ length lines.old }
-    ensures served { (before : List Told) (heard : List Heard) →
-        AreServed L.told L.failure_count before heard outbox.now lines.old progress.old →
+    ensures served { (before : List Told) (heard : List Heard) (since : List Intake) →
+        AreServed L.told L.failure_count before heard outbox.now lines.old states.old since →
         MatchOption result
-        (AreServed L.told L.failure_count before heard outbox.now lines.new progress.new)
+        (ArePassed L.told L.failure_count before heard outbox.now lines.new states.new since
+        (length lines.old))
         (λ index.
         IsLive (index + 1) heard
         × ((at : ℕ) →
-        AreServed L.told L.failure_count before (heard ++ failed_to_take (index + 1) at ∷ []) outbox.now lines.new
-        progress.new)) }
+        AreServedFrom L.told L.failure_count before (heard
+        ++ failed_to_take (index + 1) at ∷ []) outbox.now lines.new
+        states.new since)) }
     ensures there { IfSome result (λ index. index < length lines.new) }
-    ensures fewer { IfSome result (λ _. live_lines progress.new < live_lines progress.old) }
+    ensures fewer { IfSome result (λ _. live_lines states.new < live_lines states.old) }
 {
     for index in 0..lines.len() {
-        if progress[index].live {
+        if states[index].live {
             pass_to(
                 &mut lines[index],
                 outbox.bytes(index + 1),
-                &mut progress[index],
+                &mut states[index],
             );
-            if !progress[index].live {
+            if !states[index].live {
                 return Some(index);
             }
         }
@@ -72,26 +77,30 @@ fn pass_to_each<L: Line>(
 /// must be the last that the clock told; then passing begins anew.
 pub(crate) fn pass<L: Line>(
     lines: &mut [L],
-    progress: &mut [Progress],
+    states: &mut [LineState],
     refereed: &mut Match,
     outbox: &mut Outbox,
     at: u64,
 ) -> Result<(), Memory>
-    requires progress { length progress.old ≡ length lines.old }
+    requires states { length states.old ≡ length lines.old }
     requires lines { length lines.old ≡ seats_of refereed.old.game }
     requires seats { length outbox.old ≡ seats_of refereed.old.game }
     ensures ok { OnOk result ((start : Start) (earlier : List ℕ) (rounds : ℕ) →
-        InCall L.told L.failure_count start (earlier ++ at ∷ []) rounds lines.old progress.old refereed.old outbox.old →
-        InCall L.told L.failure_count start (earlier ++ at ∷ []) rounds lines.new progress.new refereed.new outbox.new) }
+        InCall L.told L.failure_count start (earlier
+        ++ at ∷ []) rounds lines.old states.old refereed.old outbox.old →
+        Passed L.told L.failure_count start (earlier
+        ++ at ∷ []) rounds lines.new states.new refereed.new outbox.new) }
     ensures err { OnErr result ((start : Start) (earlier : List ℕ) (rounds : ℕ) →
-        InCall L.told L.failure_count start (earlier ++ at ∷ []) rounds lines.old progress.old refereed.old outbox.old →
-        LacksMemoryInCall L.told L.failure_count start (earlier ++ at ∷ []) rounds lines.new progress.new refereed.new
+        InCall L.told L.failure_count start (earlier
+        ++ at ∷ []) rounds lines.old states.old refereed.old outbox.old →
+        LacksMemoryInCall L.told L.failure_count start (earlier
+        ++ at ∷ []) rounds lines.new states.new refereed.new
         outbox.new) }
     ensures history { OnOk result (HasHistory refereed.old → HasHistory refereed.new) }
     ensures game { refereed.new.game ≡ refereed.old.game }
     ensures seats { length outbox.new ≡ length outbox.old }
 {
-    while let Some(index) = pass_to_each(lines, progress, outbox) {
+    while let Some(index) = pass_to_each(lines, states, outbox) {
         let seat = index as u64 + 1;
         refereed.step(Event::Ended { seat, at }, outbox)?;
     }

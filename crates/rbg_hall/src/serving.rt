@@ -8,7 +8,7 @@ ghost use Rattle.rbg_hall.specs.internal.InCall.{Start, InCallOf};
 ghost use Rattle.rbg_hall.specs.internal.Lines.{absent, at_first};
 
 use crate::ending::{is_over, is_whole};
-use crate::progress::Progress;
+use crate::line_state::LineState;
 use crate::rounds::{begin, round};
 use crate::{Clock, Line, ServeError, Served};
 use rbg_base::Memory;
@@ -34,30 +34,33 @@ pub fn serve<L: Line, C: Clock>(
     ensures serves { (before : List Told) (asked : List ℕ) →
         TellEach L.told L.failure_count lines.old before →
         C.told clock.old asked →
-        ServesOver L.told L.failure_count C.told lines.new clock.new rounds before asked refereed.old refereed.new
+        ServesOver L.told L.failure_count C.told lines.new clock.new rounds before asked
+        refereed.old refereed.new
         outbox.old outbox.new result }
-    ensures history { (¬ IsErrOf result ServeError.Memory) → HasHistory refereed.old → HasHistory refereed.new }
+    ensures history { (¬ IsErrOf result ServeError.Memory) → HasHistory refereed.old
+        → HasHistory refereed.new }
     ensures game { refereed.new.game ≡ refereed.old.game }
     ensures seats { length outbox.new ≡ length outbox.old }
 {
-    let mut progress = progress_at_first(alloc, lines.len())?;
-    serve_rounds(lines, &mut progress, refereed, outbox, clock, rounds)
+    let mut states = states_at_first(alloc, lines.len())?;
+    serve_rounds(lines, &mut states, refereed, outbox, clock, rounds)
 }
 
-/// The progress of that many lines that have taken nothing.
-fn progress_at_first(alloc: Global, lines: usize) -> Result<Vec<Progress>, Memory>
-    ensures { IfOk result (λ progress.
-        (length progress.items ≡ lines)
-        × ((index : ℕ) → index < length progress.items → slice_index_or progress.items index absent ≡ at_first)) }
+/// The states of that many lines that have taken nothing.
+fn states_at_first(alloc: Global, lines: usize) -> Result<Vec<LineState>, Memory>
+    ensures { IfOk result (λ states.
+        (length states.items ≡ lines)
+        × ((index : ℕ) → index < length states.items
+        → slice_index_or states.items index absent ≡ at_first)) }
 {
-    let mut progress = Vec::with_capacity(alloc, lines)?;
+    let mut states = Vec::with_capacity(alloc, lines)?;
     for _ in 0..lines {
-        progress.push(Progress {
+        states.push(LineState {
             taken: 0,
             live: true,
         })?;
     }
-    Ok(progress)
+    Ok(states)
 }
 
 /// The most bytes of a poll.
@@ -66,34 +69,37 @@ const PIECE: usize = 4096;
 /// Serves the match with lines that have come so far.
 fn serve_rounds<L: Line, C: Clock>(
     lines: &mut [L],
-    progress: &mut [Progress],
+    states: &mut [LineState],
     refereed: &mut Match,
     outbox: &mut Outbox,
     clock: &mut C,
     rounds: u64,
 ) -> Result<Served, ServeError>
-    requires progress { length progress.old ≡ length lines.old }
+    requires states { length states.old ≡ length lines.old }
     requires lines { length lines.old ≡ seats_of refereed.old.game }
     requires seats { length outbox.old ≡ seats_of refereed.old.game }
     ensures serves { (start : Start) →
-        InCallOf L.told L.failure_count C.told start 0 lines.old progress.old clock.old refereed.old outbox.old →
-        ServesOver L.told L.failure_count C.told lines.new clock.new rounds start.told start.asked start.state refereed.new
+        InCallOf L.told L.failure_count C.told start 0 lines.old states.old clock.old refereed.old
+        outbox.old →
+        ServesOver L.told L.failure_count C.told lines.new clock.new rounds start.told start.asked
+        start.state refereed.new
         start.queued outbox.new result }
-    ensures history { (¬ IsErrOf result ServeError.Memory) → HasHistory refereed.old → HasHistory refereed.new }
+    ensures history { (¬ IsErrOf result ServeError.Memory) → HasHistory refereed.old
+        → HasHistory refereed.new }
     ensures game { refereed.new.game ≡ refereed.old.game }
     ensures seats { length outbox.new ≡ length outbox.old }
 {
-    begin(lines, progress, refereed, outbox, clock)?;
+    begin(lines, states, refereed, outbox, clock)?;
     let mut buffer = [0; PIECE];
     let mut done = 0;
-    while !is_over(refereed, progress, outbox) {
+    while !is_over(refereed, states, outbox) {
         if done >= rounds {
             return Err(ServeError::Rounds);
         }
-        round(lines, progress, refereed, outbox, clock, &mut buffer)?;
+        round(lines, states, refereed, outbox, clock, &mut buffer)?;
         done += 1;
     }
-    let whole = is_whole(progress, outbox);
+    let whole = is_whole(states, outbox);
     Ok(Served {
         rounds: done,
         whole,

@@ -1,6 +1,6 @@
 //! What the lines of a record tell of play.
 
-use rbg_pairs::Move;
+use rbg_base::Move;
 use rbg_wire::Outcome;
 
 /// An entry of a record: a move that was made, or how the record ends.

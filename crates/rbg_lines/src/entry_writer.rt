@@ -6,8 +6,7 @@ ghost use Rattle.rbg_lines.specs.Entries.{entry_text, moment_text};
 ghost use Rattle.rbg_lines.specs.Lines.{line_of};
 
 use crate::undo::all_or_nothing;
-use rbg_base::Memory;
-use rbg_pairs::Move;
+use rbg_base::{Memory, Move};
 use rbg_wire::{Outcome, write_number, write_outcome, write_pairs};
 
 /// Appends the line of a move, with its moment if there is one. On an error the bytes are unchanged.
@@ -18,7 +17,8 @@ pub fn write_move(
     out: &mut Vec<u8>,
 ) -> Result<(), Memory>
     ensures ok { OnOk result
-        (out.new.items ≡ out.old.items ++ line_of (moment_text at ++ entry_text (MoveEntry player pairs.now))) }
+        (out.new.items ≡ out.old.items
+        ++ line_of (moment_text at ++ entry_text (MoveEntry player pairs.now))) }
     ensures err { OnErr result (out.new.items ≡ out.old.items) }
 {
     let len = out.len();
@@ -29,7 +29,8 @@ pub fn write_move(
 /// Appends the line of the end, with its moment if there is one. On an error the bytes are unchanged.
 pub fn write_end(at: Option<u64>, outcome: Option<Outcome>, out: &mut Vec<u8>) -> Result<(), Memory>
     ensures ok { OnOk result
-        (out.new.items ≡ out.old.items ++ line_of (moment_text at ++ entry_text (EndEntry outcome))) }
+        (out.new.items ≡ out.old.items
+        ++ line_of (moment_text at ++ entry_text (EndEntry outcome))) }
     ensures err { OnErr result (out.new.items ≡ out.old.items) }
 {
     let len = out.len();

@@ -19,7 +19,8 @@ pub fn read_version(line: &[u8]) -> Option<Version>
     // The text is that of the version that is returned.
     ensures found { IfSome result (λ version. line.now ≡ version_text version) }
     // The version is returned whose text this is.
-    ensures only { (version : AnyVersion) → line.now ≡ version_text version → result ≡ Some version }
+    ensures only { (version : AnyVersion) → line.now ≡ version_text version
+        → result ≡ Some version }
 {
     if line == b"rbg 1".as_slice() {
         Some(Version::One)

@@ -45,7 +45,8 @@ impl<'a> Iterator for Names<'a> {
 
 // The text before the first space, and the text behind it.
 fn first_name(text: &[u8]) -> Option<(&[u8], &[u8])>
-    ensures found { IfSome result (λ parts. words_of text.now ≡ parts.0.now ∷ words_of parts.1.now) }
+    ensures found { IfSome result (λ parts.
+        words_of text.now ≡ parts.0.now ∷ words_of parts.1.now) }
     ensures none { IfNone result (words_of text.now ≡ text.now ∷ []) }
 {
     let (name, rest) = cut_at(b' ', text)?;

@@ -7,11 +7,11 @@ use Rattle.std.specs.List.{slice_range}
 use Rattle.rbg_macro.specs.declared.read_token.ReadToken.{ReadToken}
 use Rattle.rbg_macro.specs.Call.{Arguments, arguments, arguments_by, nesting, Within, Cuts, Ends, Mismatched, closing, cutting, with_token, with_argument}
 use Rattle.rbg_macro.specs.internal.Calls.{AreArguments}
-use Rattle.rbg_macro.specs.declared.token.TokenKind.{TokenKind}
-use Rattle.rbg_macro.specs.Kinds.{opens, closes, is_semicolon, is_close_parenthesis}
+use Rattle.rbg_tokens.specs.declared.token.TokenKind.{TokenKind}
+use Rattle.rbg_tokens.specs.Kinds.{opens, closes, is_semicolon, is_close_parenthesis}
 use Rattle.rbg_macro.specs.internal.Template.{lists_in}
 use Rattle.rbg_macro.specs.internal.ReadTokens.{read_lexeme}
-use Rattle.rbg_macro.specs.Token.{Lexeme}
+use Rattle.rbg_tokens.specs.Token.{Lexeme}
 
 -- arguments with complete ones, and the beginning of one, before them
 abbrev pub with_front : List (List Lexeme) → List Lexeme → Arguments → Arguments

@@ -6,7 +6,7 @@ use Rattle.rbg_macro.specs.Call.{arguments, Calls, meets, called}
 use Rattle.rbg_macro.specs.internal.Calls.{AreArguments, begins_with_parenthesis}
 use Rattle.rbg_macro.specs.Macro.{Macro, filled}
 use Rattle.rbg_macro.specs.internal.Template.{piece_in, macro_of, IsNamed}
-use Rattle.rbg_macro.specs.Token.{Lexeme}
+use Rattle.rbg_tokens.specs.Token.{Lexeme}
 
 called_with : (m : Macro) (behind rest : List Lexeme) (lists : List (List Lexeme)) (n : ℕ) → begins_with_parenthesis behind ≡ true → rest ≡ drop 1 behind →
     AreArguments rest lists n → length lists ≡ m.parameters → called m behind ≡ Calls (filled m.body lists) (drop (n + 1) behind)

@@ -6,11 +6,11 @@ use Rattle.std.proofs.lemmas.List.{drop-append-le, take-append-le, length-map, d
 use Rattle.rbg_macro.specs.declared.error.MacroError.{MacroError}
 use Rattle.rbg_macro.specs.declared.limits.TheConstants.{MAX_JOINED}
 use Rattle.rbg_macro.specs.declared.read_token.ReadToken.{ReadToken}
-use Rattle.rbg_macro.specs.declared.token.TokenKind.{TokenKind}
+use Rattle.rbg_tokens.specs.declared.token.TokenKind.{TokenKind}
 use Rattle.rbg_macro.specs.internal.Joined.{word_at, JoinsNext, JoinsChain, FailsChain, begins_with_tilde}
 use Rattle.rbg_macro.specs.Joining.{joined_from, joined_kind, joined_token}
 use Rattle.rbg_macro.specs.internal.ReadTokens.{read_lexeme}
-use Rattle.rbg_macro.specs.Token.{Lexeme}
+use Rattle.rbg_tokens.specs.Token.{Lexeme}
 use Rattle.rbg_macro.proofs.Heads.{two_tokens}
 use Rattle.rbg_macro.proofs.Spans.{whole_of}
 

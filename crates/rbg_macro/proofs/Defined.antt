@@ -8,14 +8,14 @@ use Rattle.std.specs.Str.{bytes_eq}
 use Rattle.rbg_macro.specs.declared.error.MacroError.{MacroError}
 use Rattle.rbg_macro.specs.declared.macros.Template.{Template}
 use Rattle.rbg_macro.specs.declared.source.SectionKind.{SectionKind}
-use Rattle.rbg_macro.specs.declared.token.Token.{Token}
-use Rattle.rbg_macro.specs.internal.Defines.{AddsDefined, with_one_more}
+use Rattle.rbg_tokens.specs.declared.token.Token.{Token}
+use Rattle.rbg_macro.specs.internal.Defines.{AddsDefined, with_one_more, BeginsDefinition}
 use Rattle.rbg_macro.specs.Definition.{Definitions, Defined, A_Section, A_Macro, Part, expect, behind_equals, behind_name, section_named, defined, definitions, definitions_of, parts, part_of, is_hash_token, first_at, with_section}
-use Rattle.rbg_macro.specs.internal.Defines.{BeginsDefinition}
-use Rattle.rbg_macro.specs.Kinds.{is_name_kind, is_hash}
+use Rattle.rbg_tokens.specs.Kinds.{is_name_kind, is_hash}
 use Rattle.rbg_macro.specs.Macro.{Macro, body_of}
 use Rattle.rbg_macro.specs.internal.Template.{macro_of, piece_in}
-use Rattle.rbg_macro.specs.Token.{Lexeme, SectionTokens, lexeme_of}
+use Rattle.rbg_tokens.specs.Token.{Lexeme, lexeme_of}
+use Rattle.rbg_macro.specs.Sections.{SectionTokens}
 
 pub defined_section : (earlier : List Macro) (part : Part) (name : Lexeme) (ts body : List Lexeme) (kind : SectionKind) →
     expect (λ t. is_name_kind t.kind) part.end part.tokens ≡ Ok (name, ts) → Some kind ≡ section_named name.text →

@@ -7,7 +7,7 @@ use Rattle.rbg_macro.specs.Call.{Calls, meets}
 use Rattle.rbg_macro.specs.internal.Calls.{IsNoCall}
 use Rattle.rbg_macro.specs.Expansion.{FailsReading, too_many_read, no_call, in_call}
 use Rattle.rbg_macro.specs.Macro.{Macro}
-use Rattle.rbg_macro.specs.Token.{Lexeme}
+use Rattle.rbg_tokens.specs.Token.{Lexeme}
 
 pub fails_without_call : (macros : List Macro) (d n k : ℕ) (t : Lexeme) (ts : List Lexeme) (e : MacroError) → IsNoCall macros t ts e → FailsReading macros d n k (t ∷ ts) e
 fails_without_call macros d n k t ts e is = rw is.at_name (no_call d n k t ts is.meets)

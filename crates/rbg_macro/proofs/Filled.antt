@@ -8,7 +8,7 @@ use Rattle.rbg_macro.specs.declared.macros.Piece.{Piece as KeptPiece}
 use Rattle.rbg_macro.specs.declared.read_token.ReadToken.{ReadToken}
 use Rattle.rbg_macro.specs.Macro.{filled, filled_piece}
 use Rattle.rbg_macro.specs.internal.Template.{piece_in, lists_in}
-use Rattle.rbg_macro.specs.Token.{Lexeme}
+use Rattle.rbg_tokens.specs.Token.{Lexeme}
 
 -- the length of the pieces so far
 pub record FilledSoFar (body : List KeptPiece) (arguments : List (Bor (List ReadToken))) (i len room : ℕ) : Type 0 where

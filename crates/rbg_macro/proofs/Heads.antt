@@ -6,12 +6,12 @@ use Rattle.std.specs.List.{list_any}
 use Rattle.std.specs.Str.{bytes_eq}
 use Rattle.rbg_macro.specs.declared.error.MacroError.{MacroError}
 use Rattle.rbg_macro.specs.declared.error.MacroError.TheVariants.{BadDefinition}
-use Rattle.rbg_macro.specs.declared.token.Token.{Token}
+use Rattle.rbg_tokens.specs.declared.token.Token.{Token}
 use Rattle.rbg_macro.specs.Definition.{parameter_list, is_new_name}
 use Rattle.rbg_macro.specs.internal.Defines.{AddsParameter}
-use Rattle.rbg_macro.specs.Kinds.{is_name_kind, is_semicolon, is_close_parenthesis}
+use Rattle.rbg_tokens.specs.Kinds.{is_name_kind, is_semicolon, is_close_parenthesis}
 use Rattle.rbg_macro.specs.internal.Template.{texts_in}
-use Rattle.rbg_macro.specs.Token.{Lexeme, lexeme_of}
+use Rattle.rbg_tokens.specs.Token.{Lexeme, lexeme_of}
 
 -- a text among those behind references
 pub among_texts : (text : List ℕ) (keys : List (Bor (List ℕ))) → list_any (λ k. bytes_eq text k.now) keys ≡ list_any (bytes_eq text) (texts_in keys)

@@ -11,12 +11,12 @@ use Rattle.rbg_base.proofs.CallerLemmas.{AllZip-push_one, none_of_not_some}
 use Rattle.rbg_macro.specs.declared.macros.Piece.{Piece as KeptPiece}
 use Rattle.rbg_macro.specs.declared.macros.Template.{Template}
 use Rattle.rbg_macro.specs.declared.read_token.ReadToken.{ReadToken}
-use Rattle.rbg_macro.specs.Kinds.{is_name_kind}
+use Rattle.rbg_tokens.specs.Kinds.{is_name_kind}
 use Rattle.rbg_macro.specs.Macro.{Macro, macro_named}
 use Rattle.rbg_macro.specs.internal.Marks.{AreMarkedLists, FillsMarks, IsMarkedWord, KeepsMarks, Word, lexeme_in_word, word_of, IsNumberOf, IsMarked, IsMarkedPiece, IsMarkedTemplate, IsTemplateAt}
 use Rattle.rbg_macro.specs.internal.Template.{macro_of, macro_in, piece_in, IsNamed}
 use Rattle.rbg_macro.specs.internal.ReadTokens.{read_lexeme}
-use Rattle.rbg_macro.specs.Token.{Lexeme}
+use Rattle.rbg_tokens.specs.Token.{Lexeme}
 use Rattle.rbg_macro.proofs.Names.{lookup_none, lookup_some}
 
 -- the macro whose template is at an index

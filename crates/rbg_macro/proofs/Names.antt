@@ -9,10 +9,10 @@ use Rattle.std.specs.Option.{option_copied}
 use Rattle.std.specs.Str.{bytes_eq}
 use Rattle.indexmap.specs.IndexMap.{insert_entry}
 use Rattle.rbg_macro.specs.declared.macros.Template.{Template}
-use Rattle.rbg_macro.specs.Kinds.{is_name_kind}
+use Rattle.rbg_tokens.specs.Kinds.{is_name_kind}
 use Rattle.rbg_macro.specs.Macro.{macro_named, piece_of, Word, Place}
 use Rattle.rbg_macro.specs.internal.Template.{macro_of, macro_in, texts_in, IsNamed}
-use Rattle.rbg_macro.specs.Token.{Lexeme}
+use Rattle.rbg_tokens.specs.Token.{Lexeme}
 
 -- whether a name is there
 pub has_lookup : (name : List ℕ) (es : List (Bor (List ℕ) × Template)) → is_some (lookup (λ k. bytes_eq name k.now) es) ≡ list_any (λ m. bytes_eq name m.name) (map macro_in es)

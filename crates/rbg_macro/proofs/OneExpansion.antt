@@ -9,7 +9,8 @@ use Rattle.rbg_macro.specs.Definition.{Definitions}
 use Rattle.rbg_macro.specs.Expansion.{Expands, list, Reads, nothing, stays, call, Fails, too_many_read, no_join, reading, FailsReading, too_many_kept, behind_kept, no_call, too_deep, in_call, behind_call, ExpandsAll, none, one_more, FailsAll, here, later, kept, HasSections, HasFault, HasMacroFault}
 use Rattle.rbg_macro.specs.Joining.{joined}
 use Rattle.rbg_macro.specs.Macro.{Macro}
-use Rattle.rbg_macro.specs.Token.{Lexeme, SectionTokens}
+use Rattle.rbg_tokens.specs.Token.{Lexeme}
+use Rattle.rbg_macro.specs.Sections.{SectionTokens}
 
 -- a list that expands is joined, and the joined list is read
 record IsRead (macros : List Macro) (d : ℕ) (ts us : List Lexeme) (n : ℕ) : Type 0 where

@@ -8,7 +8,8 @@ use Rattle.rbg_macro.specs.Definition.{Definitions}
 use Rattle.rbg_macro.specs.Expansion.{Expands, Fails, too_many_read, no_join, reading, FailsReading, too_many_kept, behind_kept, no_call, too_deep, in_call, behind_call, FailsAll, here, later, HasFault, HasMacroFault}
 use Rattle.rbg_macro.specs.Joining.{joined}
 use Rattle.rbg_macro.specs.Macro.{Macro}
-use Rattle.rbg_macro.specs.Token.{Lexeme, SectionTokens}
+use Rattle.rbg_tokens.specs.Token.{Lexeme}
+use Rattle.rbg_macro.specs.Sections.{SectionTokens}
 use Rattle.rbg_macro.proofs.OneExpansion.{expands_once, list_has_no_fault}
 
 -- a list that has a fault: it isn't counted, isn't joined, or its joined list has the fault

@@ -11,7 +11,7 @@ use Rattle.rbg_macro.specs.Expansion.{Expands, list, Reads, nothing, stays, call
 use Rattle.rbg_macro.specs.Macro.{Macro}
 use Rattle.rbg_macro.specs.internal.Progress.{IsWithinLimits, ReadsOn, ReadsJoined, FailsJoined, GivesWay, IsTooMany, no_join as joins_not, reading as fails_reading}
 use Rattle.rbg_macro.specs.internal.ReadTokens.{read_lexeme}
-use Rattle.rbg_macro.specs.Token.{Lexeme}
+use Rattle.rbg_tokens.specs.Token.{Lexeme}
 
 -- The list was read up to a place. If the rest expands to something, then the list expands to what was kept, followed
 -- by it, and a fault of the rest is a fault of the list.

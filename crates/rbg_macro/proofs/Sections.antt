@@ -17,7 +17,8 @@ use Rattle.rbg_macro.specs.Errors.{UnlessMemory}
 use Rattle.rbg_macro.specs.Macro.{Macro}
 use Rattle.rbg_macro.specs.internal.Progress.{IsWithinLimits, ReadsJoined, FailsJoined, ReadsSection, no_join as joins_not, reading as fails_reading}
 use Rattle.rbg_macro.specs.internal.Span.{section_in, IsSectionWithin}
-use Rattle.rbg_macro.specs.Token.{Lexeme, SectionTokens}
+use Rattle.rbg_tokens.specs.Token.{Lexeme}
+use Rattle.rbg_macro.specs.Sections.{SectionTokens}
 use Rattle.rbg_macro.proofs.Exits.{unless_weaker}
 use Rattle.rbg_macro.proofs.Spans.{slice_of_front, slice_of_end}
 

@@ -12,13 +12,15 @@ use Rattle.rbg_macro.specs.Call.{Arguments, Nesting, Within, Cuts, Ends, Mismatc
 use Rattle.rbg_macro.specs.Definition.{Part, parts, part_of, is_hash_token, expect, behind_equals, is_new_name, parameter_list, behind_name, section_named, Defined, A_Section, A_Macro, defined_as, defined, Definitions, with_section, with_defined, definitions, definitions_of}
 use Rattle.rbg_macro.specs.Expansion.{Expands, list, Reads, nothing, stays, call, ExpandsAll, none, one_more, HasSections}
 use Rattle.rbg_macro.specs.Steps.{◌>>=◌}
-use Rattle.rbg_macro.specs.Kinds.{is_name_kind, is_hash, is_equals, is_semicolon, is_open_parenthesis, is_close_parenthesis}
+use Rattle.rbg_tokens.specs.Kinds.{is_name_kind, is_hash, is_equals, is_semicolon, is_open_parenthesis, is_close_parenthesis}
 use Rattle.rbg_macro.specs.Macro.{Piece, Word, Place, Macro, parameter_named, word_or_place, body_of, filled, macro_named}
 use Rattle.rbg_macro.specs.internal.Span.{section_in, IsSectionWithin, IsSectionIn}
-use Rattle.rbg_macro.specs.Spelling.{IsLexeme, AreLexemes}
-use Rattle.rbg_macro.specs.Text.{HasTokens}
-use Rattle.rbg_macro.specs.Token.{Lexeme, SectionTokens}
-use Rattle.rbg_macro.proofs.SpeltTokens.{Spelt, by_recursion, each, joined_spelt, tokens_spelt}
+use Rattle.rbg_tokens.specs.Spelling.{IsLexeme}
+use Rattle.rbg_macro.specs.Sections.{AreLexemes, SectionTokens}
+use Rattle.rbg_tokens.specs.Text.{HasTokens}
+use Rattle.rbg_tokens.specs.Token.{Lexeme}
+use Rattle.rbg_tokens.proofs.SpeltTokens.{Spelt, by_recursion, each, tokens_spelt}
+use Rattle.rbg_macro.proofs.SpeltJoins.{joined_spelt}
 
 -- what each element of two lists is, each one of their concatenation is
 both_lists : {X : Type 0} (P : X → Type 0) (xs ys : List X) → AllByRecursion P xs → AllByRecursion P ys → AllByRecursion P (xs ++ ys)

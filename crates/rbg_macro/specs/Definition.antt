@@ -8,10 +8,11 @@ use Rattle.rbg_macro.specs.declared.error.MacroError.TheVariants.{BadDefinition,
 use Rattle.rbg_macro.specs.declared.source.SectionKind.{SectionKind}
 use Rattle.rbg_macro.specs.declared.source.SectionKind.TheVariants.{Players, Pieces, Variables, Board, Rules}
 use Rattle.rbg_macro.specs.Steps.{◌>>=◌}
-use Rattle.rbg_macro.specs.Kinds.{is_name_kind, is_hash, is_equals, is_semicolon, is_open_parenthesis}
-use Rattle.rbg_macro.specs.Kinds.{is_close_parenthesis}
+use Rattle.rbg_tokens.specs.Kinds.{is_name_kind, is_hash, is_equals, is_semicolon, is_open_parenthesis}
+use Rattle.rbg_tokens.specs.Kinds.{is_close_parenthesis}
 use Rattle.rbg_macro.specs.Macro.{Macro, body_of}
-use Rattle.rbg_macro.specs.Token.{Lexeme, SectionTokens}
+use Rattle.rbg_tokens.specs.Token.{Lexeme}
+use Rattle.rbg_macro.specs.Sections.{SectionTokens}
 
 -- the tokens from one `#` up to the next
 pub record Part : Type 0 where

@@ -1,34 +1,14 @@
--- Laws of texts, their tokens and their expansion. The module `laws` proves each.
+-- Laws of tokens and their expansion. The module `laws` proves each.
 use Rattle.std.specs.Prelude.{ℕ, ◌≡◌, ◌≢◌, List, All}
 use Rattle.rbg_macro.specs.declared.error.MacroError.{MacroError}
 use Rattle.rbg_macro.specs.declared.error.MacroError.TheVariants as macro_errors
-use Rattle.rbg_macro.specs.declared.error.TextError.{TextError}
-use Rattle.rbg_macro.specs.declared.error.TextError.TheVariants as text_errors
-use Rattle.rbg_macro.specs.declared.limits.TheConstants.{MAX_JOINED, MAX_KEPT, MAX_LEVEL, MAX_READ, MAX_TEXT}
-use Rattle.rbg_macro.specs.Limits.{deepest_level, longest_joined, longest_text, most_kept, most_read}
+use Rattle.rbg_macro.specs.declared.limits.TheConstants.{MAX_JOINED, MAX_KEPT, MAX_LEVEL, MAX_READ}
+use Rattle.rbg_macro.specs.Limits.{deepest_level, longest_joined, most_kept, most_read}
 use Rattle.rbg_macro.specs.Expansion.{Expands, HasSections, HasMacroFault}
 use Rattle.rbg_macro.specs.Macro.{Macro}
-use Rattle.rbg_macro.specs.Spelling.{AreLexemes}
-use Rattle.rbg_macro.specs.Text.{HasTokens, HasTextFault}
-use Rattle.rbg_macro.specs.Token.{Lexeme, SectionTokens}
-
--- a text with tokens has no zero byte
-abbrev pub NoZeroByteLaw : Type 0
-NoZeroByteLaw = (text : List ℕ) (ts : List Lexeme) → HasTokens text ts → All (λ byte. byte ≢ 0) text
-
--- a text has at most one list of tokens
-abbrev pub OneReadingLaw : Type 0
-OneReadingLaw = (text : List ℕ) (a b : List Lexeme) → HasTokens text a → HasTokens text b → a ≡ b
-
--- a text with tokens has no error other than out of memory
-abbrev pub TokensOrFaultLaw : Type 0
-TokensOrFaultLaw = (text : List ℕ) (ts : List Lexeme) → HasTokens text ts → (e : TextError) →
-    HasTextFault text e → e ≡ text_errors.Memory
-
--- a text has at most one error other than out of memory
-abbrev pub OneTextErrorLaw : Type 0
-OneTextErrorLaw = (text : List ℕ) (e f : TextError) → HasTextFault text e → HasTextFault text f →
-    e ≢ text_errors.Memory → f ≢ text_errors.Memory → e ≡ f
+use Rattle.rbg_macro.specs.Sections.{AreLexemes, SectionTokens}
+use Rattle.rbg_tokens.specs.Text.{HasTokens}
+use Rattle.rbg_tokens.specs.Token.{Lexeme}
 
 -- a list expands to one list at most, while one number of tokens is read
 abbrev pub OneListLaw : Type 0
@@ -57,7 +37,6 @@ SpeltTokensLaw =
 
 -- the limits of the code are those of the definitions
 pub record LimitsLaw : Type 0 where
-  pub text : MAX_TEXT ≡ longest_text
   pub kept : MAX_KEPT ≡ most_kept
   pub read : MAX_READ ≡ most_read
   pub level : MAX_LEVEL ≡ deepest_level

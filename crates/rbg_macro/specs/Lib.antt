@@ -1,9 +1,6 @@
--- Tokens of a text, macros and their expansion, by topic. The folder `internal` is for the crate's own proofs.
+-- Sections, macros and their expansion, by topic. The folder `internal` is for the crate's own proofs.
 pub mod Limits
-pub mod Token
-pub mod Kinds
-pub mod Spelling
-pub mod Text
+pub mod Sections
 pub mod Steps
 pub mod Errors
 pub mod Macro

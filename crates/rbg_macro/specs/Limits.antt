@@ -1,9 +1,5 @@
--- The limits on texts and expansions.
+-- The limits on expansions.
 use Rattle.std.specs.Prelude.{ℕ}
-
--- the greatest length of a text, in bytes
-abbrev pub longest_text : ℕ
-longest_text = 262144
 
 -- the greatest number of tokens that all expanded sections have together
 abbrev pub most_kept : ℕ

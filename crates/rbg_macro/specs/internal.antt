@@ -4,7 +4,6 @@ pub mod Defines
 pub mod Gives
 pub mod Joined
 pub mod Marks
-pub mod Part
 pub mod Progress
 pub mod ReadTokens
 pub mod Span

@@ -13,8 +13,8 @@ use crate::error::MacroError;
 use crate::macros::Piece;
 use crate::marking::MarkedMacros;
 use crate::read_token::ReadToken;
-use crate::token::TokenKind;
 use rbg_base::Memory;
+use rbg_tokens::TokenKind;
 use smallvec::SmallVec;
 use std::alloc::Global;
 
@@ -77,7 +77,8 @@ fn find_arguments<'t, 'j>(
     alloc: Global,
     tokens: &'j [ReadToken<'t, 'j>],
 ) -> Result<Option<(Arguments<'t, 'j>, usize)>, Memory>
-    ensures arguments { IfOk result (λ o. MatchOption o (arguments 0 (map read_lexeme tokens.now) ≡ None)
+    ensures arguments { IfOk result (λ o.
+        MatchOption o (arguments 0 (map read_lexeme tokens.now) ≡ None)
         (λ x. AreArguments (map read_lexeme tokens.now) (lists_in x.0.items) x.1)) }
     ensures marks { IfOk result (λ o. IfSome o (λ x. KeepsMarks tokens.now x.0.items)) }
 {

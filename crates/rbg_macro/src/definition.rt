@@ -9,15 +9,15 @@ ghost use Rattle.rbg_macro.specs.Definition.{section_named, first_at, defined, d
 ghost use Rattle.rbg_macro.specs.internal.Defines.{BeginsDefinition};
 ghost use Rattle.rbg_macro.specs.internal.Gives.{Gives};
 ghost use Rattle.rbg_macro.specs.Errors.{UnlessMemory};
-ghost use Rattle.rbg_macro.specs.Kinds.{is_name_kind, is_equals, is_hash};
+ghost use Rattle.rbg_tokens.specs.Kinds.{is_name_kind, is_equals, is_hash};
 ghost use Rattle.rbg_macro.specs.internal.Template.{macro_of, texts_in};
-ghost use Rattle.rbg_macro.specs.Token.{Lexeme, lexeme_of};
+ghost use Rattle.rbg_tokens.specs.Token.{Lexeme, lexeme_of};
 
 use crate::error::MacroError;
 use crate::macros::{Macros, Template};
 use crate::source::SectionKind;
-use crate::token::Token;
 use indexmap::IndexSet;
+use rbg_tokens::Token;
 use std::alloc::Global;
 
 /// A section with its own tokens.
@@ -55,7 +55,8 @@ fn expect_name<'t, 's>(
 
 /// What follows the next token of a head, if the token is `=`.
 fn expect_equals<'t, 's>(tokens: &'s [Token<'t>], end: usize) -> Result<&'s [Token<'t>], MacroError>
-    ensures { Gives (λ x. map lexeme_of x.now) result (behind_equals end (map lexeme_of tokens.now)) }
+    ensures { Gives (λ x.
+        map lexeme_of x.now) result (behind_equals end (map lexeme_of tokens.now)) }
 {
     let Some((token, behind)) = tokens.split_first() else {
         return Err(MacroError::BadDefinition { at: end });

@@ -1,27 +1,10 @@
-//! Why a text has no tokens, and why tokens have no expansion.
+//! Why tokens have no expansion.
 ghost use Rattle.std.specs.Prelude.{◌≡◌};
-ghost use Rattle.rbg_macro.specs.declared.error.TextError.TheVariants as text_errors;
 ghost use Rattle.rbg_macro.specs.declared.error.MacroError.TheVariants as macro_errors;
 
 use rbg_base::Memory;
 use std::alloc::AllocFailed;
 use thiserror::Error;
-
-/// Why a text has no tokens.
-#[derive(Clone, Copy, Debug, PartialEq, Eq, Error)]
-pub enum TextError {
-    /// The text has more than `MAX_TEXT` bytes.
-    #[error("the text is too long")]
-    TooLong,
-    /// There is a zero byte, between tokens or in a comment.
-    #[error("the text has a zero byte")]
-    ZeroByte,
-    /// The byte at this offset begins no token.
-    #[error("no token begins at byte {at}")]
-    BadByte { at: usize },
-    #[error("out of memory")]
-    Memory,
-}
 
 /// Why tokens have no expansion.
 #[derive(Clone, Copy, Debug, PartialEq, Eq, Error)]
@@ -46,22 +29,6 @@ pub enum MacroError {
     BadJoin { at: usize },
     #[error("out of memory")]
     Memory,
-}
-
-impl From<Memory> for TextError {
-    ghost from_gives = { λ _ e. e ≡ text_errors.Memory };
-
-    fn from(_error: Memory) -> TextError {
-        TextError::Memory
-    }
-}
-
-impl<T: Drop> From<AllocFailed<T>> for TextError {
-    ghost from_gives = { λ _ e. e ≡ text_errors.Memory };
-
-    fn from(_error: AllocFailed<T>) -> TextError {
-        TextError::Memory
-    }
 }
 
 impl From<Memory> for MacroError {

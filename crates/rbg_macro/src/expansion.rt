@@ -6,7 +6,7 @@ ghost use Rattle.rbg_macro.specs.Call.{Stays, meets};
 ghost use Rattle.rbg_macro.specs.Expansion.{ExpandsWithin, Fails, FailsReading, FailsAll, HasSections, HasMacroFault};
 ghost use Rattle.rbg_macro.specs.internal.Defines.{section_of};
 ghost use Rattle.rbg_macro.specs.Errors.{UnlessMemory};
-ghost use Rattle.rbg_macro.specs.Kinds.{is_tilde};
+ghost use Rattle.rbg_tokens.specs.Kinds.{is_tilde};
 ghost use Rattle.rbg_macro.specs.internal.Marks.{IsMarked, IsMarkedWord};
 ghost use Rattle.rbg_macro.specs.internal.Progress.{ReadsOn, ReadsJoined, ReadsSection, FailsJoined, GivesWay};
 ghost use Rattle.rbg_macro.specs.internal.Progress.{IsTooMany, IsWithinLimits};
@@ -23,7 +23,7 @@ use crate::limits::{MAX_KEPT, MAX_LEVEL, MAX_READ};
 use crate::marking::MarkedMacros;
 use crate::read_token::ReadToken;
 use crate::source::{SectionSpan, Source};
-use crate::token::Tokens;
+use rbg_tokens::Tokens;
 use std::alloc::Global;
 
 /// How far an expansion has come: how many tokens were read, and which were kept.
@@ -44,9 +44,11 @@ impl<'t> Progress<'t> {
 
     /// Keeps a token that stays.
     fn keep(&mut self, token: &ReadToken<'t, '_>) -> Result<(), MacroError>
-        ensures ok { OnOk result (self.new ≡ record self.old { kept = self.old.kept ++ read_lexeme token.now ∷ [] }) }
+        ensures ok { OnOk result (self.new
+            ≡ record self.old { kept = self.old.kept ++ read_lexeme token.now ∷ [] }) }
         ensures fits { OnOk result (length self.old.kept < MAX_KEPT) }
-        ensures err { IfErr result (UnlessMemory (λ e. IsTooMany e (MAX_KEPT ≤ length self.old.kept))) }
+        ensures err { IfErr result (UnlessMemory (λ e.
+            IsTooMany e (MAX_KEPT ≤ length self.old.kept))) }
     {
         if self.kept.len() >= MAX_KEPT {
             return Err(MacroError::TooManyTokens);
@@ -75,7 +77,8 @@ fn body_of_call<'t, 'j>(
         (map read_lexeme x.0.items) x.1)) }
     ensures marked { IfOk result (λ o. IfSome o (λ x. All (IsMarked macros.now) x.0.items)) }
     ensures err { IfErr result (UnlessMemory (λ e. (k : ℕ) →
-        FailsReading macros.now level read k (read_lexeme name.now ∷ map read_lexeme behind.now) e)) }
+        FailsReading macros.now level read k (read_lexeme name.now
+        ∷ map read_lexeme behind.now) e)) }
 {
     let Some(call) = find_call(alloc, macros, name, behind)? else {
         return Ok(None);
@@ -110,8 +113,10 @@ fn read_list<'t, 'j>(
     requires level { level ≤ MAX_LEVEL }
     requires within { IsWithinLimits progress.old }
     requires marked { All (IsMarked macros.now) list.now }
-    ensures ok { OnOk result (ReadsJoined macros.now level (map read_lexeme list.now) progress.old progress.new) }
-    ensures err { IfErr result (UnlessMemory (FailsJoined macros.now level (map read_lexeme list.now) progress.old)) }
+    ensures ok { OnOk result (ReadsJoined macros.now level (map read_lexeme list.now) progress.old
+        progress.new) }
+    ensures err { IfErr result (UnlessMemory
+        (FailsJoined macros.now level (map read_lexeme list.now) progress.old)) }
 {
     if !has_tilde(list) {
         return read_joined(alloc, macros, level, list, progress);
@@ -133,7 +138,8 @@ fn read_joined<'t, 'j>(
     requires level { level ≤ MAX_LEVEL }
     requires within { IsWithinLimits progress.old }
     requires marked { All (IsMarked macros.now) list.now }
-    ensures ok { OnOk result (ReadsOn macros.now level (map read_lexeme list.now) progress.old progress.new) }
+    ensures ok { OnOk result (ReadsOn macros.now level (map read_lexeme list.now) progress.old
+        progress.new) }
     ensures err { IfErr result (UnlessMemory (FailsReading macros.now level progress.old.read
         (length progress.old.kept) (map read_lexeme list.now))) }
 {
@@ -169,8 +175,10 @@ fn read_section<'t>(
     progress: &mut Progress<'t>,
 ) -> Result<SectionSpan, MacroError>
     requires { IsWithinLimits progress.old }
-    ensures ok { IfOk result (ReadsSection macros.now (section_of section.now) progress.old progress.new) }
-    ensures err { IfErr result (UnlessMemory (Fails macros.now 0 progress.old.read (length progress.old.kept)
+    ensures ok { IfOk result (ReadsSection macros.now (section_of section.now) progress.old
+        progress.new) }
+    ensures err { IfErr result (UnlessMemory
+        (Fails macros.now 0 progress.old.read (length progress.old.kept)
         (section_of section.now).tokens)) }
 {
     if section.tokens.len() > MAX_READ - progress.read {
@@ -198,7 +206,8 @@ fn expand_sections<'t>(
     ensures within { IfOk result (λ x. All (IsSectionWithin (length x.0)) x.1.items) }
     ensures ok { IfOk result (λ x. ExpandsWithin macros.now (map section_of bodies.now)
         (map (section_in x.0) x.1.items)) }
-    ensures err { IfErr result (UnlessMemory (FailsAll macros.now 0 0 (map section_of bodies.now))) }
+    ensures err { IfErr result (UnlessMemory
+        (FailsAll macros.now 0 0 (map section_of bodies.now))) }
 {
     let mut progress = Progress {
         read: 0,

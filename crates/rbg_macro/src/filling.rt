@@ -16,8 +16,10 @@ fn argument_at<'t, 'j>(
     arguments: &[&'j [ReadToken<'t, 'j>]],
     index: usize,
 ) -> &'j [ReadToken<'t, 'j>]
-    ensures tokens { map read_lexeme result.now ≡ unwrap_or (slice_get (lists_in arguments.now) index) [] }
-    ensures marks { (macros : List Macro) → AreMarkedLists macros arguments.now → All (IsMarked macros) result.now }
+    ensures tokens { map read_lexeme result.now
+        ≡ unwrap_or (slice_get (lists_in arguments.now) index) [] }
+    ensures marks { (macros : List Macro) → AreMarkedLists macros arguments.now
+        → All (IsMarked macros) result.now }
 {
     if index < arguments.len() {
         return arguments[index];
@@ -41,7 +43,8 @@ pub(crate) fn filled_len<'t, 'j>(
     arguments: &[&'j [ReadToken<'t, 'j>]],
     room: usize,
 ) -> Option<usize>
-    ensures { MatchOption result (room < length (filled (map piece_in body.now) (lists_in arguments.now)))
+    ensures { MatchOption result (room
+        < length (filled (map piece_in body.now) (lists_in arguments.now)))
         (λ n. (n ≡ length (filled (map piece_in body.now) (lists_in arguments.now))) × (n ≤ room)) }
 {
     let mut len = 0;
@@ -61,10 +64,12 @@ fn push_piece<'t, 'j>(
     piece: &Piece<'t>,
     arguments: &[&'j [ReadToken<'t, 'j>]],
 ) -> Result<(), Memory>
-    ensures tokens { OnOk result (map read_lexeme tokens.new.items ≡ map read_lexeme tokens.old.items ++ filled_piece
+    ensures tokens { OnOk result (map read_lexeme tokens.new.items
+        ≡ map read_lexeme tokens.old.items ++ filled_piece
         (lists_in arguments.now) (piece_in piece.now)) }
     ensures marks { OnOk result ((macros : List Macro) → All (IsMarked macros) tokens.old.items →
-        IsMarkedPiece macros piece.now → AreMarkedLists macros arguments.now → All (IsMarked macros) tokens.new.items) }
+        IsMarkedPiece macros piece.now → AreMarkedLists macros arguments.now
+        → All (IsMarked macros) tokens.new.items) }
 {
     match piece {
         Piece::Word(token) => tokens.push(*token)?,

@@ -9,16 +9,16 @@ ghost use Rattle.rbg_macro.specs.internal.Marks.{IsMarked, IsMarkedWord, word_of
 ghost use Rattle.rbg_macro.specs.internal.ReadTokens.{read_lexeme};
 ghost use Rattle.rbg_macro.specs.internal.Span.{lexeme_in, IsSpanWithin};
 ghost use Rattle.rbg_macro.specs.Joining.{joined, joined_from, joined_kind};
-ghost use Rattle.rbg_macro.specs.Kinds.{is_tilde};
-ghost use Rattle.rbg_macro.specs.Token.{Lexeme};
+ghost use Rattle.rbg_tokens.specs.Kinds.{is_tilde};
+ghost use Rattle.rbg_tokens.specs.Token.{Lexeme};
 
 use crate::buffer::Span;
 use crate::error::MacroError;
 use crate::limits::MAX_JOINED;
 use crate::marking::MarkedMacros;
 use crate::read_token::{Bytes, ReadToken};
-use crate::token::TokenKind;
 use rbg_base::Memory;
+use rbg_tokens::TokenKind;
 use std::alloc::Global;
 use std::marker::Model;
 
@@ -80,11 +80,13 @@ fn join_next(
 ) -> Result<TokenKind, MacroError>
     requires start { start ≤ length texts.old.items }
     requires tilde { IsTrue (begins_with_tilde (map read_lexeme tokens.now)) }
-    ensures ok { IfOk result (λ k. JoinsNext kind k (drop start texts.old.items) (drop start texts.new.items)
+    ensures ok { IfOk result (λ k.
+        JoinsNext kind k (drop start texts.old.items) (drop start texts.new.items)
         (map read_lexeme tokens.now)) }
     ensures front { take (length texts.old.items) texts.new.items ≡ texts.old.items }
     ensures err { IfErr result (UnlessMemory (λ e. (at : ℕ) →
-        joined_from (word_at at kind (drop start texts.old.items)) (map read_lexeme tokens.now) ≡ Err e)) }
+        joined_from (word_at at kind (drop start texts.old.items)) (map read_lexeme tokens.now)
+        ≡ Err e)) }
 {
     let at = tokens[0].at;
     if tokens.len() == 1 {
@@ -153,9 +155,11 @@ impl<'t, 'j> JoinedList<'t, 'j> {
         tokens: &[ReadToken<'_, '_>],
     ) -> Result<usize, MacroError>
         requires { 0 < length tokens.now }
-        ensures ok { IfOk result (AddsChain (map lexeme_in_word self.old) (map lexeme_in_word self.new)
+        ensures ok { IfOk result (AddsChain (map lexeme_in_word self.old)
+            (map lexeme_in_word self.new)
             (map read_lexeme tokens.now)) }
-        ensures marks { OnOk result (All (IsMarkedWord macros.now) self.old → All (IsMarkedWord macros.now) self.new) }
+        ensures marks { OnOk result (All (IsMarkedWord macros.now) self.old
+            → All (IsMarkedWord macros.now) self.new) }
         ensures err { IfErr result (UnlessMemory (λ e. FailsChain (map read_lexeme tokens.now) e)) }
     {
         let at = tokens[0].at;

@@ -1,27 +1,6 @@
-//! Laws of texts, their tokens and their expansion. Each function does nothing: its contract is the law.
-ghost use Rattle.rbg_macro.specs.Laws.{LimitsLaw, NoZeroByteLaw, OneReadingLaw, OneTextErrorLaw, TokensOrFaultLaw};
-ghost use Rattle.rbg_macro.specs.Laws.{OneExpansionLaw, OneListLaw, OneMacroErrorLaw, SectionsOrFaultLaw};
+//! Laws of tokens and their expansion. Each function does nothing: its contract is the law.
+ghost use Rattle.rbg_macro.specs.Laws.{LimitsLaw, OneExpansionLaw, OneListLaw, OneMacroErrorLaw, SectionsOrFaultLaw};
 ghost use Rattle.rbg_macro.specs.Laws.{SpeltTokensLaw};
-
-/// A text with tokens has no zero byte.
-pub fn texts_have_no_zero_byte()
-    ensures { NoZeroByteLaw }
-{}
-
-/// A text has at most one list of tokens.
-pub fn texts_have_one_reading()
-    ensures { OneReadingLaw }
-{}
-
-/// A text with tokens is refused only because memory runs out.
-pub fn texts_with_tokens_have_no_fault()
-    ensures { TokensOrFaultLaw }
-{}
-
-/// A text has at most one error other than out of memory.
-pub fn texts_have_one_error()
-    ensures { OneTextErrorLaw }
-{}
 
 /// A list expands to at most one list, and the number of tokens read is the same each time.
 pub fn lists_expand_one_way()

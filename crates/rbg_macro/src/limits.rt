@@ -1,7 +1,4 @@
-//! The limits on texts and expansions.
-
-/// The greatest length of a text, in bytes.
-pub const MAX_TEXT: usize = 262_144;
+//! The limits on expansions.
 
 /// The greatest number of tokens that all expanded sections have together.
 pub const MAX_KEPT: usize = 100_000;

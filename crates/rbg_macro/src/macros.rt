@@ -8,12 +8,12 @@ ghost use Rattle.rbg_macro.specs.Macro.{macro_named, piece_of, body_of};
 ghost use Rattle.rbg_macro.specs.internal.Template.{macro_of, piece_in, texts_in};
 ghost use Rattle.rbg_macro.specs.internal.Marks.{IsNumberOf, IsTemplateAt};
 ghost use Rattle.rbg_macro.specs.internal.ReadTokens.{read_lexeme};
-ghost use Rattle.rbg_macro.specs.Token.{lexeme_of};
+ghost use Rattle.rbg_tokens.specs.Token.{lexeme_of};
 
 use crate::read_token::ReadToken;
-use crate::token::Token;
 use indexmap::{IndexMap, IndexSet};
 use rbg_base::Memory;
+use rbg_tokens::Token;
 use std::alloc::Global;
 use std::marker::Model;
 
@@ -55,8 +55,10 @@ impl<'t> Template<'t> {
         parameters: &IndexSet<&'t [u8]>,
         tokens: &[Token<'t>],
     ) -> Result<Self, Memory>
-        ensures parameters { IfOk result (λ t. t.parameters ≡ length (texts_in parameters.now.keys)) }
-        ensures body { IfOk result (λ t. map piece_in t.body.items ≡ body_of (texts_in parameters.now.keys)
+        ensures parameters { IfOk result (λ t.
+            t.parameters ≡ length (texts_in parameters.now.keys)) }
+        ensures body { IfOk result (λ t.
+            map piece_in t.body.items ≡ body_of (texts_in parameters.now.keys)
             (map lexeme_of tokens.now)) }
     {
         let mut body = Vec::with_capacity(alloc, tokens.len())?;
@@ -121,7 +123,8 @@ impl<'t> Macros<'t> {
 
     /// The template of the macro with this number.
     pub(crate) fn template(&self, number: usize) -> Option<&Template<'t>>
-        ensures { MatchOption result (length self.now ≤ number) (λ t. IsTemplateAt self.now number t.now) }
+        ensures { MatchOption result (length self.now ≤ number) (λ t.
+            IsTemplateAt self.now number t.now) }
     {
         match self.by_name.get_index(number) {
             Some((_, template)) => Some(template),

@@ -5,12 +5,12 @@ ghost use Rattle.rbg_macro.specs.Macro.{macro_named};
 ghost use Rattle.rbg_macro.specs.internal.Marks.{IsMarked, IsMarkedPiece, IsMarkedTemplate};
 ghost use Rattle.rbg_macro.specs.internal.ReadTokens.{read_lexeme};
 ghost use Rattle.rbg_macro.specs.internal.Template.{piece_in, IsNamed};
-ghost use Rattle.rbg_macro.specs.Token.{lexeme_of};
+ghost use Rattle.rbg_tokens.specs.Token.{lexeme_of};
 
 use crate::macros::{Macros, Piece, Template};
 use crate::read_token::ReadToken;
-use crate::token::Token;
 use rbg_base::Memory;
+use rbg_tokens::Token;
 use std::alloc::Global;
 use std::marker::Model;
 
@@ -61,7 +61,8 @@ impl<'t> Macros<'t> {
     /// The template with marks.
     fn mark_template(&self, alloc: Global, template: &Template<'t>) -> Result<Template<'t>, Memory>
         ensures parameters { IfOk result (λ t. t.parameters ≡ template.now.parameters) }
-        ensures body { IfOk result (λ t. map piece_in t.body.items ≡ map piece_in template.now.body.items) }
+        ensures body { IfOk result (λ t.
+            map piece_in t.body.items ≡ map piece_in template.now.body.items) }
         ensures marked { IfOk result (λ t. All (IsMarkedPiece self.now) t.body.items) }
     {
         let mut body = Vec::with_capacity(alloc, template.body.len())?;

@@ -1,11 +1,11 @@
 //! The expanded sections of a description, which share its text and own what macros joined.
 ghost use Rattle.std.specs.Prelude.{◌≡◌, ◌<◌, ◌==◌, IsTrue, Some, length, slice_get};
 ghost use Rattle.rbg_base.specs.Names.{is_name};
-ghost use Rattle.rbg_macro.specs.Spelling.{is_number};
-ghost use Rattle.rbg_macro.specs.Token.{lexeme_of};
+ghost use Rattle.rbg_tokens.specs.Spelling.{is_number};
+ghost use Rattle.rbg_tokens.specs.Token.{lexeme_of};
 
 use crate::buffer::TokenBuffer;
-use crate::token::{Token, TokenKind};
+use rbg_tokens::{Token, TokenKind};
 use std::fmt;
 use std::marker::Model;
 
@@ -50,7 +50,7 @@ pub struct Source<'t> {
 
 impl<'t> Model for Source<'t> {
     ghost use Rattle.std.specs.Prelude.{List, map, All, length};
-    ghost use Rattle.rbg_macro.specs.Token.{SectionTokens};
+    ghost use Rattle.rbg_macro.specs.Sections.{SectionTokens};
 
     ghost Value = { List SectionTokens };
 
@@ -70,7 +70,7 @@ pub struct Section<'a> {
 
 impl<'a> Model for Section<'a> {
     ghost use Rattle.std.specs.Prelude.{length};
-    ghost use Rattle.rbg_macro.specs.Token.{SectionTokens};
+    ghost use Rattle.rbg_macro.specs.Sections.{SectionTokens};
 
     ghost Value = { SectionTokens };
 

@@ -3,7 +3,7 @@ use Rattle.std.proofs.Common.{ℕ, List, length, subst}
 use Rattle.std.specs.Prelude.{◌≢◌, IsTrue, All}
 use Rattle.std.proofs.lemmas.List.Elements.{All-take}
 use Rattle.rbg_base.specs.Names.{is_name}
-use Rattle.rbg_macro.proofs.ZeroBytes.{text_has_no_zero_byte}
+use Rattle.rbg_tokens.proofs.ZeroBytes.{text_has_no_zero_byte}
 use Rattle.rbg_rules.specs.State.{AbstractGame}
 use Rattle.rbg_game.specs.Loading.{Loads}
 

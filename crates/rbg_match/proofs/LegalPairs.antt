@@ -11,7 +11,7 @@ use Rattle.rbg_rules.specs.Moves.{AbstractPlace, RunPairs, stay, modify, pass, I
 use Rattle.rbg_rules.specs.Places.{IsPlaceOf}
 use Rattle.rbg_rules.proofs.PositionLemmas.{Among, has_position}
 use Rattle.rbg_rules.proofs.StateLemmas.{state_law}
-use Rattle.rbg_pairs.specs.Move.{IsMoveLength}
+use Rattle.rbg_base.specs.Move.{IsMoveLength}
 use Rattle.rbg_wire.specs.Messages.{ArePairs, IsShortPair}
 
 -- a number of a range is below its end

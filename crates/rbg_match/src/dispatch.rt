@@ -45,10 +45,12 @@ fn handle_piece(
     ensures play { IsPlayOf context.entry.game.now (play_of play.new) }
     ensures says { Says outbox.old outbox.new result (λ _ said.
         HandlesAll context.entry.game.now context.entry.config (play_of play.old)
-        (inputs_at context.entry.moment (map (sent seat) (cut message_limit inbox.old.rest bytes.now).items))
+        (inputs_at context.entry.moment
+        (map (sent seat) (cut message_limit inbox.old.rest bytes.now).items))
         (play_of play.new) said) }
     ensures ready { OnOk result (IsReady inbox.new) }
-    ensures rest { OnOk result (inbox.new.rest ≡ (cut message_limit inbox.old.rest bytes.now).rest) }
+    ensures rest { OnOk result (inbox.new.rest
+        ≡ (cut message_limit inbox.old.rest bytes.now).rest) }
 {
     inbox.feed(bytes)?;
     while let Some(took) = inbox.take() {
@@ -78,7 +80,8 @@ pub(crate) fn handle_event(
         context.entry.moment < due_of context.entry.config (play_of play.old) →
         IsOk result }
     ensures ready { OnOk result (AreReady inboxes.new) }
-    ensures rests { OnOk result (rests_of inboxes.new ≡ rests_after (rests_of inboxes.old) (event_of event.entry)) }
+    ensures rests { OnOk result (rests_of inboxes.new
+        ≡ rests_after (rests_of inboxes.old) (event_of event.entry)) }
 {
     match event {
         Event::Piece { seat, bytes, .. } => {

@@ -35,7 +35,8 @@ fn refuse(
     requires most { seat ≤ seats_of context.game.now }
     ensures play { IsPlayOf context.entry.game.now (play_of play.new) }
     ensures says { Says outbox.old outbox.new result (λ _ said.
-        Refuses (seats_of context.entry.game.now) context.entry.config (play_of play.old) seat reason
+        Refuses (seats_of context.entry.game.now) context.entry.config (play_of play.old) seat
+        reason
         (play_of play.new) said) }
 {
     outbox.tell(seat, &Message::Refused { reason })?;
@@ -63,7 +64,8 @@ fn judge(
     requires spelled { ArePairs pairs }
     ensures play { IsPlayOf context.entry.game.now (play_of play.new) }
     ensures says { Says outbox.old outbox.new result (λ _ said.
-        Judges context.entry.game.now context.entry.config (play_of play.old) context.entry.moment pairs
+        Judges context.entry.game.now context.entry.config (play_of play.old) context.entry.moment
+        pairs
         (play_of play.new) said) }
 {
     match context
@@ -100,7 +102,8 @@ fn handle_in_time(
     requires most { seat ≤ seats_of context.game.now }
     ensures play { IsPlayOf context.entry.game.now (play_of play.new) }
     ensures says { Says outbox.old outbox.new result (λ _ said.
-        HandlesInTime context.entry.game.now context.entry.config (play_of play.old) context.entry.moment
+        HandlesInTime context.entry.game.now context.entry.config (play_of play.old)
+        context.entry.moment
         (sent seat (item_of took.entry)) (play_of play.new) said) }
 {
     if seat as u64 != play.mover() {
@@ -130,7 +133,8 @@ pub(crate) fn handle(
     ensures says { Says outbox.old outbox.new result (λ _ said.
         Handles context.entry.game.now context.entry.config (play_of play.old) context.entry.moment
         (input_of input.entry) (play_of play.new) said) }
-    ensures quiet { input.entry ≡ Input.Tick → context.entry.moment < due_of context.entry.config (play_of play.old) →
+    ensures quiet { input.entry ≡ Input.Tick
+        → context.entry.moment < due_of context.entry.config (play_of play.old) →
         IsOk result }
 {
     if play.outcome.is_some() {

@@ -123,9 +123,11 @@ impl Match {
     /// failed, and each further call returns `Err`.
     pub fn step(&mut self, event: Event<'_>, outbox: &mut Outbox) -> Result<(), Memory>
         requires { length outbox.old ≡ seats_of self.old.game }
-        ensures ok { OnOk result (Steps self.old (event_of event.entry) self.new outbox.old outbox.new) }
+        ensures ok { OnOk result (Steps self.old (event_of event.entry) self.new outbox.old
+            outbox.new) }
         ensures err { OnErr result
-            ((outbox.new ≡ outbox.old) × (self.new.failed ≡ true) × (self.new.game ≡ self.old.game)) }
+            ((outbox.new ≡ outbox.old) × (self.new.failed ≡ true)
+            × (self.new.game ≡ self.old.game)) }
         ensures history { OnOk result (HasHistory self.old → HasHistory self.new) }
         ensures failed { self.old.failed ≡ true → IsErr result }
         ensures seats { length outbox.new ≡ length outbox.old }
@@ -136,7 +138,8 @@ impl Match {
             self.old.failed ≡ false →
             IsOk result }
         ensures quiet { IsTickAlone self.old.streams.rests (event_of event.entry) →
-            counted self.old.streams (moment_of (event_of event.entry)) < due_of self.old.config self.old.play →
+            counted self.old.streams (moment_of (event_of event.entry))
+            < due_of self.old.config self.old.play →
             self.old.failed ≡ false →
             IsOk result }
     {

@@ -33,7 +33,8 @@ fn greet_seat(
     requires most { seat ≤ length outbox.old }
     requires name { IsTrue (is_name name.now) }
     requires no_zero { All (λ byte. byte ≢ 0) text.now }
-    ensures { Says outbox.old outbox.new result (λ _ said. said ≡ greeting text.now config seat name.now) }
+    ensures { Says outbox.old outbox.new result (λ _ said.
+        said ≡ greeting text.now config seat name.now) }
 {
     let who = Message::Who {
         player: seat as u64,
@@ -59,7 +60,8 @@ pub(crate) fn greet(
     requires seats { length outbox.old ≡ seats_of game.now }
     requires names { All (λ name. IsTrue (is_name name)) game.now.players }
     requires no_zero { All (λ byte. byte ≢ 0) text.now }
-    ensures { Says outbox.old outbox.new result (λ _ said. said ≡ greetings text.now config game.now.players) }
+    ensures { Says outbox.old outbox.new result (λ _ said.
+        said ≡ greetings text.now config game.now.players) }
 {
     for index in 0..game.players() {
         let name = game.player_name(index as u16 + 1);

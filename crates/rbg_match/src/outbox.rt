@@ -23,7 +23,7 @@ ghost use Rattle.rbg_match.specs.Deliveries.{AreMarks, Delivery, delivered, to_s
 ghost use Rattle.rbg_match.specs.Limits.{most_seats};
 ghost use Rattle.rbg_match.specs.internal.Saying.{Says};
 
-use rbg_pairs::Pair;
+use rbg_base::Pair;
 use rbg_wire::{Message, write_message, write_move};
 use std::alloc::{AllocError, Global};
 use std::marker::Model;
@@ -100,7 +100,8 @@ impl Outbox {
         requires is_seat { 1 ≤ seat }
         requires is_there { seat ≤ length self.old }
         requires spelled { HasSpelling (message_of message.now) }
-        ensures { Says self.old self.new result (λ _ said. said ≡ to_seat seat (message_of message.now)) }
+        ensures { Says self.old self.new result (λ _ said.
+            said ≡ to_seat seat (message_of message.now)) }
     {
         write_message(message, &mut self.queues[seat - 1])
     }
@@ -108,7 +109,8 @@ impl Outbox {
     /// Queues a message for each seat.
     pub(crate) fn tell_each(&mut self, message: &Message<'_>) -> Result<(), AllocError>
         requires { HasSpelling (message_of message.now) }
-        ensures { Says self.old self.new result (λ _ said. said ≡ to_each (length self.old) (message_of message.now)) }
+        ensures { Says self.old self.new result (λ _ said.
+            said ≡ to_each (length self.old) (message_of message.now)) }
     {
         for index in 0..self.seats() {
             self.tell(index + 1, message)?;
@@ -119,7 +121,8 @@ impl Outbox {
     /// Queues the message of a move for each seat. It is spelt once.
     pub(crate) fn tell_move(&mut self, pairs: &[Pair]) -> Result<(), AllocError>
         requires { ArePairs pairs.now }
-        ensures { Says self.old self.new result (λ _ said. said ≡ to_each (length self.old) (move_message pairs.now)) }
+        ensures { Says self.old self.new result (λ _ said.
+            said ≡ to_each (length self.old) (move_message pairs.now)) }
     {
         let alloc = *self.told.allocator();
         let mut told = replace(&mut self.told, Vec::new(alloc));
@@ -188,7 +191,8 @@ fn append(bytes: &[u8], queue: &mut Vec<u8>) -> Result<(), AllocError>
 fn lengths(queues: &[Vec<u8>]) -> [usize; MAX_SEATS]
     requires { length queues.now ≤ most_seats }
     ensures { (i : ℕ) (d : Vec ℕ) →
-        i < length queues.now → slice_index result i ≡ length (slice_index_or queues.now i d).items }
+        i < length queues.now → slice_index result i
+        ≡ length (slice_index_or queues.now i d).items }
 {
     let mut marks = [0; MAX_SEATS];
     for (index, queue) in queues.iter().enumerate() {

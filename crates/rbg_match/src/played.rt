@@ -2,7 +2,7 @@
 ghost use Rattle.std.specs.Prelude.{◌≡◌, ◌<◌, ◌≤◌, ◌⊎◌, length, Err, IfNone, IfOk, IfSome};
 ghost use Rattle.rbg_moves.specs.Limits.{FitsLimits};
 ghost use Rattle.rbg_moves.specs.Listing.{IsListed};
-ghost use Rattle.rbg_pairs.specs.Move.{IsMoveLength};
+ghost use Rattle.rbg_base.specs.Move.{IsMoveLength};
 ghost use Rattle.rbg_rules.specs.Heavy.{IsHeavyToFind, IsHeavyToTry, IsTooHard};
 ghost use Rattle.rbg_rules.specs.Moves.{AbstractPlace, Finished, IsLegal, Legal};
 ghost use Rattle.rbg_rules.specs.Places.{IsPlaceOf};
@@ -10,12 +10,11 @@ ghost use Rattle.rbg_rules.specs.Questions.{list_moves as listing_moves};
 ghost use Rattle.rbg_wire.specs.Messages.{ArePairs};
 
 use rbg_auto::{Compact, Steps, compact};
-use rbg_base::Memory;
+use rbg_base::{Memory, Pair};
 use rbg_moves::{
     Listed, Move, Over, Place, Workspace, find_pairs_with, list_moves, make_move_with,
     try_move_with,
 };
-use rbg_pairs::Pair;
 use rbg_rules::Game;
 use std::alloc::Global;
 use std::marker::Model;
@@ -73,11 +72,14 @@ impl PlayedGame {
         workspace: &mut Workspace,
     ) -> Result<Option<Vec<Pair>>, Over>
         requires place { IsPlaceOf self.now place.now }
-        ensures found { IfOk result (λ found. IfSome found (λ pairs. IsLegal self.now place.now pairs.items)) }
+        ensures found { IfOk result (λ found.
+            IfSome found (λ pairs. IsLegal self.now place.now pairs.items)) }
         ensures spelled { IfOk result (λ found. IfSome found (λ pairs. ArePairs pairs.items)) }
-        ensures length { IfOk result (λ found. IfSome found (λ pairs. IsMoveLength (length pairs.items))) }
+        ensures length { IfOk result (λ found.
+            IfSome found (λ pairs. IsMoveLength (length pairs.items))) }
         ensures finished { IfOk result (λ found. IfNone found (Finished self.now place.now)) }
-        ensures heavy { (result ≡ Err Over.Deep) ⊎ (result ≡ Err Over.Wide) → IsHeavyToFind self.now place.now }
+        ensures heavy { (result ≡ Err Over.Deep) ⊎ (result ≡ Err Over.Wide)
+            → IsHeavyToFind self.now place.now }
     {
         find_pairs_with(self.alloc, &self.game, &self.automaton, place, workspace)
     }
@@ -111,10 +113,12 @@ impl PlayedGame {
     pub(crate) fn list_moves(&self, place: &Place, max: usize) -> Result<Listed, Over>
         requires place { IsPlaceOf self.now place.now }
         requires some { 0 < max }
-        ensures listed { IfOk result (λ listed. IsListed self.now place.now max listed.moves.items listed.cut) }
+        ensures listed { IfOk result (λ listed.
+            IsListed self.now place.now max listed.moves.items listed.cut) }
         ensures heavy { (result ≡ Err Over.Deep) ⊎ (result ≡ Err Over.Wide)
             → IsTooHard self.now listing_moves place.now }
-        ensures fits { IfOk result (λ listed. FitsLimits self.now listed.cut listing_moves place.now) }
+        ensures fits { IfOk result (λ listed.
+            FitsLimits self.now listed.cut listing_moves place.now) }
     {
         list_moves(self.alloc, &self.game, &self.automaton, place, max)
     }

@@ -91,7 +91,8 @@ fn go_on(
 fn handle_all(refereed: &mut Match, events: &[Event<'_>], outbox: &mut Outbox) -> Result<(), usize>
     requires works { refereed.old.failed ≡ false }
     requires seats { length outbox.old ≡ seats_of refereed.old.game }
-    ensures all { OnOk result (StepsAll refereed.old outbox.old (map event_of events.now) refereed.new outbox.new) }
+    ensures all { OnOk result (StepsAll refereed.old outbox.old (map event_of events.now)
+        refereed.new outbox.new) }
     ensures some { IfErr result (λ done.
         (done < length events.now)
         × (state : MatchState)

@@ -9,15 +9,14 @@ ghost use Rattle.rbg_rules.specs.Places.{IsPlaceOf};
 ghost use Rattle.rbg_match.specs.internal.Playable.{IsPlayOf};
 ghost use Rattle.rbg_match.specs.PlayingOn.{PlaysOn, seats_of};
 ghost use Rattle.rbg_match.specs.internal.OneStep.{PlaysOnOnce};
-ghost use Rattle.rbg_pairs.specs.Move.{IsMoveLength};
+ghost use Rattle.rbg_base.specs.Move.{IsMoveLength};
 
 use crate::context::Context;
 use crate::play::Play;
 use crate::played::above_limits;
 use crate::{Made, Outbox};
-use rbg_base::Memory;
+use rbg_base::{Memory, Pair};
 use rbg_moves::{Move, Place};
-use rbg_pairs::Pair;
 use rbg_rules::Game;
 use rbg_wire::{Message, Outcome, Scores};
 use std::mem::replace;
@@ -61,7 +60,8 @@ pub(crate) fn make(
     outbox: &mut Outbox,
 ) -> Result<(), Memory>
     requires { ArePairs pairs }
-    ensures play { OnOk result (play_of play.new ≡ moved (play_of play.old) context.entry.moment pairs to) }
+    ensures play { OnOk result (play_of play.new
+        ≡ moved (play_of play.old) context.entry.moment pairs to) }
     ensures err { OnErr result (play_of play.new ≡ play_of play.old) }
     ensures says { Says outbox.old outbox.new result (λ _ said.
         said ≡ to_each (length outbox.old) (move_message pairs)) }
@@ -123,7 +123,8 @@ fn play_on_once(
     requires seats { length outbox.old ≡ seats_of context.game.now }
     ensures play { IsPlayOf context.entry.game.now (play_of play.new) }
     ensures says { Says outbox.old outbox.new result
-        (PlaysOnOnce context.entry.game.now context.entry.moment in_a_row (play_of play.old) (play_of play.new)) }
+        (PlaysOnOnce context.entry.game.now context.entry.moment in_a_row (play_of play.old)
+        (play_of play.new)) }
 {
     let mover = play.mover();
     if mover == 0 && in_a_row >= MAX_KEEPER_MOVES {
@@ -167,7 +168,8 @@ pub(crate) fn play_on(
     requires seats { length outbox.old ≡ seats_of context.game.now }
     ensures play { IsPlayOf context.entry.game.now (play_of play.new) }
     ensures says { Says outbox.old outbox.new result (λ _ said.
-        PlaysOn context.entry.game.now context.entry.moment 0 (play_of play.old) (play_of play.new) said) }
+        PlaysOn context.entry.game.now context.entry.moment 0 (play_of play.old) (play_of play.new)
+        said) }
 {
     let mut in_a_row = 0;
     loop {

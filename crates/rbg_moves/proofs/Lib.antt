@@ -9,3 +9,4 @@ pub mod Further
 pub mod Seeking
 pub mod Forcing
 pub mod Copies
+pub mod Scoring

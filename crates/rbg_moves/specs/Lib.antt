@@ -2,4 +2,5 @@
 pub mod Equality
 pub mod Listing
 pub mod Limits
+pub mod Settling
 pub mod internal

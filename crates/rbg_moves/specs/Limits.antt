@@ -1,9 +1,13 @@
--- What an answer says of the limits.
+-- The limit of the keeper's moves, and what an answer says of the limits of questions.
 use Rattle.std.specs.Prelude.{ℕ, ◌≤◌, Bool}
 use Rattle.rbg_rules.specs.State.{AbstractGame}
 use Rattle.rbg_rules.specs.Moves.{AbstractPlace, stand_of}
 use Rattle.rbg_rules.specs.Questions.{Question, IsDeep, IsWide, HasForced, IsForcedDeep}
 use Rattle.rbg_rules.specs.Limits.{most_openings, most_modifiers}
+
+-- the keeper makes at most this many moves in a row
+abbrev pub most_keeper_moves : ℕ
+most_keeper_moves = 1000
 
 -- An opening of the question at a place has too many modifiers in a row.
 abbrev pub IsDeepAt : AbstractGame → Question → AbstractPlace → Type 0

@@ -1,6 +1,6 @@
 //! What the questions at a place have in common.
-ghost use Rattle.std.specs.Prelude.{◌≡◌, ◌<◌, ◌↔◌, [], ◌∷◌, ◌++◌, length, OnOk, IsTrue};
-ghost use Rattle.rbg_pairs.specs.Move.{IsMoveLength};
+ghost use Rattle.std.specs.Prelude.{◌≡◌, ◌<◌, ◌≤◌, ◌↔◌, [], ◌∷◌, ◌++◌, length, OnOk, IsTrue};
+ghost use Rattle.rbg_base.specs.Move.{IsMoveLength};
 ghost use Rattle.rbg_rules.specs.Games.{IsGame};
 ghost use Rattle.rbg_rules.specs.Limits.{most_openings, most_modifiers};
 ghost use Rattle.rbg_rules.specs.Positions.{IsSwitchAt};
@@ -9,8 +9,7 @@ ghost use Rattle.rbg_search.specs.Start.{start_of, IsPositionOf};
 ghost use Rattle.rbg_moves.specs.internal.Shown.{shows_switch};
 
 use rbg_auto::{Expr, Steps};
-use rbg_base::{Memory, Position};
-use rbg_pairs::{Move, Pair};
+use rbg_base::{Memory, Move, Pair, Position};
 use rbg_rules::limits::{MAX_MODIFIERS, MAX_OPENINGS};
 use rbg_rules::{Action, Game};
 use rbg_search::{Budget, Origin, Search, Workspace};
@@ -34,6 +33,22 @@ pub(crate) fn search_in<'a, S: Steps>(
         modifiers: MAX_MODIFIERS as u16,
     };
     Search::with_workspace(alloc, game, steps, budget, workspace)
+}
+
+/// For proofs alone: the game is an accepted one. It does nothing.
+#[inline(always)]
+pub(crate) fn game_is_accepted(game: &Game)
+    ensures { IsGame game.now }
+{
+    let _positions = game.positions();
+}
+
+/// For proofs alone: what a search has taken up is within its budget. It does nothing.
+#[inline(always)]
+pub(crate) fn budget_is_kept<S: Steps>(search: &Search<'_, S>)
+    ensures { search.now.opened ≤ search.now.openings }
+{
+    let _opened = search.opened();
 }
 
 /// Where one stands in the rules after the action at a position, or at their beginning.

@@ -1,6 +1,6 @@
 //! Some legal move, where there is one.
 ghost use Rattle.std.specs.Prelude.{◌≡◌, ◌⊎◌, ◌+◌, ◌-◌, ◌<◌, ◌≤◌, length, All, Contains, IfOk, IfSome, IfNone, IsTrue, not, OnOk, Err, Bool, false};
-ghost use Rattle.rbg_pairs.specs.Move.{most_pairs, IsMoveLength};
+ghost use Rattle.rbg_base.specs.Move.{most_pairs, IsMoveLength};
 ghost use Rattle.rbg_rules.specs.State.{AbstractState, IsStateOf};
 ghost use Rattle.rbg_rules.specs.Positions.{IsSwitchAt};
 ghost use Rattle.rbg_rules.specs.Words.{after};
@@ -17,14 +17,13 @@ ghost use Rattle.rbg_search.specs.Forced.{CountsForced};
 ghost use Rattle.rbg_moves.specs.Limits.{IsDeepAt, IsWideAt, FitsLimits};
 ghost use Rattle.rbg_moves.specs.internal.Stepping.{standing_at, place_behind, IsValidAt, GoesOnByMove, GoesOnBehind};
 
-use crate::asking::{join, move_of, origin_after, search_in};
+use crate::asking::{budget_is_kept, game_is_accepted, join, move_of, origin_after, search_in};
+use crate::least::{least_switch, put_in_turn};
 use crate::place::Place;
 use crate::stepping::apply_at;
-use crate::turns::{least_switch, put_in_turn};
 use crate::workspace::Workspace;
 use rbg_auto::Steps;
-use rbg_base::{Position, Vertex};
-use rbg_pairs::{MAX_PAIRS, Move, Pair};
+use rbg_base::{MAX_PAIRS, Move, Pair, Position, Vertex};
 use rbg_rules::Game;
 use rbg_search::{Over, Search, Workspace as SearchWorkspace};
 use rbg_state::SemiState;
@@ -46,7 +45,8 @@ pub fn find_move<S: Steps>(
     ensures found { IfOk result (λ found. IfSome found (IsLegal game.now place.now)) }
     ensures length { IfOk result (λ found. IfSome found (λ pairs. IsMoveLength (length pairs))) }
     ensures finished { IfOk result (λ found. IfNone found (Finished game.now place.now)) }
-    ensures heavy { (result ≡ Err Over.Deep) ⊎ (result ≡ Err Over.Wide) → IsHeavyToFind game.now place.now }
+    ensures heavy { (result ≡ Err Over.Deep) ⊎ (result ≡ Err Over.Wide)
+        → IsHeavyToFind game.now place.now }
     ensures deep { result ≡ Err Over.Deep → IsDeepAt game.now find_move place.now }
     ensures wide { result ≡ Err Over.Wide → IsWideAt game.now find_move place.now }
     ensures fits { OnOk result ((cut : Bool) → FitsLimits game.now cut find_move place.now) }
@@ -69,7 +69,8 @@ pub fn find_move_with<S: Steps>(
     ensures found { IfOk result (λ found. IfSome found (IsLegal game.now place.now)) }
     ensures length { IfOk result (λ found. IfSome found (λ pairs. IsMoveLength (length pairs))) }
     ensures finished { IfOk result (λ found. IfNone found (Finished game.now place.now)) }
-    ensures heavy { (result ≡ Err Over.Deep) ⊎ (result ≡ Err Over.Wide) → IsHeavyToFind game.now place.now }
+    ensures heavy { (result ≡ Err Over.Deep) ⊎ (result ≡ Err Over.Wide)
+        → IsHeavyToFind game.now place.now }
     ensures deep { result ≡ Err Over.Deep → IsDeepAt game.now find_move place.now }
     ensures wide { result ≡ Err Over.Wide → IsWideAt game.now find_move place.now }
     ensures fits { OnOk result ((cut : Bool) → FitsLimits game.now cut find_move place.now) }
@@ -92,10 +93,13 @@ pub fn find_pairs_with<S: Steps>(
 ) -> Result<Option<Vec<Pair>>, Over>
     requires steps { S.of_rules steps.now game.now.rules }
     requires place { IsPlaceOf game.now place.now }
-    ensures found { IfOk result (λ found. IfSome found (λ pairs. IsLegal game.now place.now pairs.items)) }
-    ensures length { IfOk result (λ found. IfSome found (λ pairs. IsMoveLength (length pairs.items))) }
+    ensures found { IfOk result (λ found.
+        IfSome found (λ pairs. IsLegal game.now place.now pairs.items)) }
+    ensures length { IfOk result (λ found.
+        IfSome found (λ pairs. IsMoveLength (length pairs.items))) }
     ensures finished { IfOk result (λ found. IfNone found (Finished game.now place.now)) }
-    ensures heavy { (result ≡ Err Over.Deep) ⊎ (result ≡ Err Over.Wide) → IsHeavyToFind game.now place.now }
+    ensures heavy { (result ≡ Err Over.Deep) ⊎ (result ≡ Err Over.Wide)
+        → IsHeavyToFind game.now place.now }
     ensures deep { result ≡ Err Over.Deep → IsDeepAt game.now find_move place.now }
     ensures wide { result ≡ Err Over.Wide → IsWideAt game.now find_move place.now }
     ensures fits { OnOk result ((cut : Bool) → FitsLimits game.now cut find_move place.now) }
@@ -125,11 +129,14 @@ pub fn find_pairs_on<S: Steps>(
 ) -> Result<Option<Vec<Pair>>, Over>
     requires steps { S.of_rules steps.now game.now.rules }
     requires place { IsPlaceOf game.now place.old }
-    ensures found { IfOk result (λ found. IfSome found (λ pairs. IsLegal game.now place.old pairs.items)) }
-    ensures length { IfOk result (λ found. IfSome found (λ pairs. IsMoveLength (length pairs.items))) }
+    ensures found { IfOk result (λ found.
+        IfSome found (λ pairs. IsLegal game.now place.old pairs.items)) }
+    ensures length { IfOk result (λ found.
+        IfSome found (λ pairs. IsMoveLength (length pairs.items))) }
     ensures finished { IfOk result (λ found. IfNone found (Finished game.now place.old)) }
     ensures kept { OnOk result (place.new ≡ place.old) }
-    ensures heavy { (result ≡ Err Over.Deep) ⊎ (result ≡ Err Over.Wide) → IsHeavyToFind game.now place.old }
+    ensures heavy { (result ≡ Err Over.Deep) ⊎ (result ≡ Err Over.Wide)
+        → IsHeavyToFind game.now place.old }
     ensures deep { result ≡ Err Over.Deep → IsDeepAt game.now find_move place.old }
     ensures wide { result ≡ Err Over.Wide → IsWideAt game.now find_move place.old }
     ensures fits { OnOk result ((cut : Bool) → FitsLimits game.now cut find_move place.old) }
@@ -163,7 +170,8 @@ fn find_from<S: Steps>(
     requires place { IsPlaceOf game.now (record { state = state.old.state; last = after }) }
     ensures found { IfOk result (λ found. IfSome found (λ pairs.
         IsLegal game.now (record { state = state.old.state; last = after }) pairs.items)) }
-    ensures length { IfOk result (λ found. IfSome found (λ pairs. IsMoveLength (length pairs.items))) }
+    ensures length { IfOk result (λ found.
+        IfSome found (λ pairs. IsMoveLength (length pairs.items))) }
     ensures finished { IfOk result (λ found. IfNone found
         (Finished game.now (record { state = state.old.state; last = after }))) }
     ensures kept { OnOk result (state.new.state ≡ state.old.state) }
@@ -174,12 +182,11 @@ fn find_from<S: Steps>(
     ensures fits { OnOk result ((cut : Bool)
         → FitsLimits game.now cut find_move (record { state = state.old.state; last = after })) }
 {
-    let _positions = game.positions();
+    game_is_accepted(game);
     front.clear();
     let mut search = search_in(alloc, game, steps, searches);
     let found = find(&mut search, state, front, whole, after)?;
-    // What was taken up is within the budget.
-    let _opened = search.opened();
+    budget_is_kept(&search);
     search.leave(searches);
     if !found {
         return Ok(None);

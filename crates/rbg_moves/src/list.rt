@@ -1,7 +1,7 @@
 //! The legal moves of a place.
 ghost use Rattle.std.specs.Prelude.{◌≡◌, ◌≢◌, ◌⊎◌, ℕ, ◌+◌, ◌-◌, ◌<◌, ◌≤◌, [], ◌∷◌, ◌++◌, length, All, AllPairs, IfOk, OnOk, Err, Some, Bool};
 ghost use Rattle.std.specs.List.Sorted.{IsPermutation};
-ghost use Rattle.rbg_pairs.specs.Move.{most_pairs};
+ghost use Rattle.rbg_base.specs.Move.{most_pairs};
 ghost use Rattle.rbg_rules.specs.State.{AbstractState, IsStateOf};
 ghost use Rattle.rbg_rules.specs.Words.{after};
 ghost use Rattle.rbg_rules.specs.Actions.{Applies};
@@ -21,13 +21,12 @@ ghost use Rattle.rbg_moves.specs.Listing.{IsGathered, IsListed, IsMoveBefore};
 ghost use Rattle.rbg_moves.specs.internal.Gathering.{Gathers, GathersBehind, ListsSwitches};
 ghost use Rattle.rbg_moves.specs.internal.Stepping.{standing_at, IsValidAt};
 
-use crate::asking::{is_switch, move_of, origin_after, search_in};
+use crate::asking::{budget_is_kept, is_switch, move_of, origin_after, search_in};
 use crate::place::Place;
 use crate::stepping::apply_at;
 use crate::workspace::Workspace;
 use rbg_auto::Steps;
-use rbg_base::{Memory, Position, Vertex};
-use rbg_pairs::{MAX_PAIRS, Move, MoveList, Pair};
+use rbg_base::{MAX_PAIRS, Memory, Move, MoveList, Pair, Position, Vertex};
 use rbg_rules::Game;
 use rbg_search::{Origin, Over, Search};
 use rbg_state::SemiState;
@@ -62,7 +61,8 @@ pub fn list_moves<S: Steps>(
     requires steps { S.of_rules steps.now game.now.rules }
     requires place { IsPlaceOf game.now place.now }
     requires some { 0 < max }
-    ensures listed { IfOk result (λ listed. IsListed game.now place.now max listed.moves.items listed.cut) }
+    ensures listed { IfOk result (λ listed.
+        IsListed game.now place.now max listed.moves.items listed.cut) }
     ensures heavy { (result ≡ Err Over.Deep) ⊎ (result ≡ Err Over.Wide)
         → IsTooHard game.now listing_moves place.now }
     ensures deep { result ≡ Err Over.Deep → IsDeepAt game.now listing_moves place.now }
@@ -86,7 +86,8 @@ pub fn list_moves_with<S: Steps>(
     requires steps { S.of_rules steps.now game.now.rules }
     requires place { IsPlaceOf game.now place.now }
     requires some { 0 < max }
-    ensures listed { IfOk result (λ listed. IsListed game.now place.now max listed.moves.items listed.cut) }
+    ensures listed { IfOk result (λ listed.
+        IsListed game.now place.now max listed.moves.items listed.cut) }
     ensures heavy { (result ≡ Err Over.Deep) ⊎ (result ≡ Err Over.Wide)
         → IsTooHard game.now listing_moves place.now }
     ensures deep { result ≡ Err Over.Deep → IsDeepAt game.now listing_moves place.now }
@@ -120,7 +121,8 @@ pub fn gather_moves_with<S: Steps>(
         → IsTooHard game.now listing_moves place.now }
     ensures deep { result ≡ Err Over.Deep → IsDeepAt game.now listing_moves place.now }
     ensures wide { result ≡ Err Over.Wide → IsWideAt game.now listing_moves place.now }
-    ensures fits { IfOk result (λ gathered. FitsLimits game.now gathered.cut listing_moves place.now) }
+    ensures fits { IfOk result (λ gathered.
+        FitsLimits game.now gathered.cut listing_moves place.now) }
 {
     let found = gather(alloc, game, steps, place, max, false, workspace)?;
     Ok(found)
@@ -145,7 +147,8 @@ fn gather<S: Steps>(
         → IsTooHard game.now listing_moves place.now }
     ensures deep { result ≡ Err Over.Deep → IsDeepAt game.now listing_moves place.now }
     ensures wide { result ≡ Err Over.Wide → IsWideAt game.now listing_moves place.now }
-    ensures fits { IfOk result (λ gathered. FitsLimits game.now gathered.cut listing_moves place.now) }
+    ensures fits { IfOk result (λ gathered.
+        FitsLimits game.now gathered.cut listing_moves place.now) }
 {
     let moves = workspace.take_moves();
     let mut found = Found {
@@ -163,8 +166,7 @@ fn gather<S: Steps>(
         &mut found,
         place.after,
     )?;
-    // What was taken up is within the budget.
-    let _opened = search.opened();
+    budget_is_kept(&search);
     search.leave(&mut workspace.searches);
     let moves = found.moves;
     Ok(Gathered { moves, cut })
@@ -255,7 +257,8 @@ fn reach_next<S: Steps>(
     ensures deep { result ≡ Err Over.Deep
         → IsDeep search.old.game reach state.old.state (start_of origin) search.old.modifiers }
     ensures wide { result ≡ Err Over.Wide
-        → IsOverBudget search.old.game reach state.old.state (start_of origin) search.old.opened search.old.openings }
+        → IsOverBudget search.old.game reach state.old.state (start_of origin) search.old.opened
+        search.old.openings }
     ensures forced { OnOk result ((cut : Bool) (left : ℕ)
         → CountsForced search.old.game cut reach state.old.state (start_of origin)
         search.old.opened search.new.opened left search.old.modifiers) }

@@ -3,11 +3,11 @@ ghost use Rattle.std.specs.Prelude.{IfOk};
 ghost use Rattle.rbg_rules.specs.Moves.{Legal, IsLegal};
 ghost use Rattle.rbg_rules.specs.Places.{IsPlaceOf};
 
+use crate::asking::game_is_accepted;
 use crate::place::Place;
 use crate::stepping::apply_at;
 use crate::workspace::Workspace;
-use rbg_base::{Memory, Position};
-use rbg_pairs::{Move, Pair};
+use rbg_base::{Memory, Move, Pair, Position};
 use rbg_rules::Game;
 use rbg_state::SemiState;
 
@@ -80,11 +80,13 @@ fn make_all(
 ) -> Result<Option<Position>, Memory>
     requires place { IsPlaceOf game.now (record { state = state.old.state; last = after }) }
     requires legal { IsLegal game.now (record { state = state.old.state; last = after }) pairs.now }
-    ensures to { IfOk result (λ last. Legal game.now (record { state = state.old.state; last = after }) pairs.now
+    ensures to { IfOk result (λ last.
+        Legal game.now (record { state = state.old.state; last = after }) pairs.now
         (record { state = state.new.state; last = last })) }
-    ensures in_game { IfOk result (λ last. IsPlaceOf game.now (record { state = state.new.state; last = last })) }
+    ensures in_game { IfOk result (λ last.
+        IsPlaceOf game.now (record { state = state.new.state; last = last })) }
 {
-    let _positions = game.positions();
+    game_is_accepted(game);
     let mut after = after;
     for pair in pairs {
         state.reserve(2)?;

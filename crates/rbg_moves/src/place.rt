@@ -26,7 +26,8 @@ impl Model for Place {
 impl Place {
     /// The place where play begins.
     pub fn start(alloc: Global, game: &Game) -> Result<Place, Memory>
-        ensures start { IfOk result (λ place. place ≡ record { state = start_of game.now; last = None }) }
+        ensures start { IfOk result (λ place.
+            place ≡ record { state = start_of game.now; last = None }) }
         ensures fits { IfOk result (λ place. IsStateOf game.now place.state) }
     {
         Ok(Place {

@@ -15,8 +15,7 @@ ghost use Rattle.rbg_moves.specs.internal.Stepping.{standing_at, place_behind, I
 
 use crate::asking::origin_after;
 use rbg_auto::Steps;
-use rbg_base::{Position, Vertex};
-use rbg_pairs::Pair;
+use rbg_base::{Pair, Position, Vertex};
 use rbg_rules::Game;
 use rbg_search::{Over, Search};
 use rbg_state::SemiState;
@@ -52,13 +51,15 @@ pub(crate) fn take<S: Steps>(
         → IsPlaceOf search.old.game (place_behind state.new.state pair.1)) }
     ensures refused { IfOk result (λ taken. IsTrue (not taken)
         → ¬ IsNext search.old.game state.old.state (stand_of after) pair.0 pair.1) }
-    ensures position { IfOk result (λ taken. IsTrue taken → IsPositionOf search.old.game.rules pair.1) }
+    ensures position { IfOk result (λ taken. IsTrue taken
+        → IsPositionOf search.old.game.rules pair.1) }
     ensures counted { CountsOpenings search.old.game reach state.old.state (stand_of after)
         search.old.opened search.new.opened }
     ensures deep { result ≡ Err Over.Deep
         → IsDeep search.old.game reach state.old.state (stand_of after) search.old.modifiers }
     ensures wide { result ≡ Err Over.Wide
-        → IsOverBudget search.old.game reach state.old.state (stand_of after) search.old.opened search.old.openings }
+        → IsOverBudget search.old.game reach state.old.state (stand_of after) search.old.opened
+        search.old.openings }
     ensures forced { OnOk result ((left : ℕ)
         → CountsForced search.old.game false reach state.old.state (stand_of after)
         search.old.opened search.new.opened left search.old.modifiers) }

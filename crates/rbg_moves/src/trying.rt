@@ -9,13 +9,12 @@ ghost use Rattle.rbg_search.specs.Forced.{CountsForced};
 ghost use Rattle.rbg_moves.specs.Limits.{IsDeepAt, IsWideAt, FitsLimits};
 ghost use Rattle.rbg_moves.specs.internal.Stepping.{place_behind, IsTried};
 
-use crate::asking::{is_switch, search_in};
+use crate::asking::{budget_is_kept, game_is_accepted, is_switch, search_in};
 use crate::place::Place;
 use crate::stepping::take;
 use crate::workspace::Workspace;
 use rbg_auto::Steps;
-use rbg_base::Position;
-use rbg_pairs::{Move, Pair};
+use rbg_base::{Move, Pair, Position};
 use rbg_rules::Game;
 use rbg_search::{Over, Search};
 use rbg_state::SemiState;
@@ -40,10 +39,12 @@ pub fn try_move<S: Steps>(
     ensures in_game { IfOk result (λ after. IfSome after (IsPlaceOf game.now)) }
     ensures illegal { IfOk result (λ after. IfNone after (
         (to : AbstractPlace) → ¬ Legal game.now place.now pairs.now to)) }
-    ensures heavy { (result ≡ Err Over.Deep) ⊎ (result ≡ Err Over.Wide) → IsHeavyToTry game.now place.now pairs.now }
+    ensures heavy { (result ≡ Err Over.Deep) ⊎ (result ≡ Err Over.Wide)
+        → IsHeavyToTry game.now place.now pairs.now }
     ensures deep { result ≡ Err Over.Deep → IsDeepAt game.now (try_move pairs.now) place.now }
     ensures wide { result ≡ Err Over.Wide → IsWideAt game.now (try_move pairs.now) place.now }
-    ensures fits { OnOk result ((cut : Bool) → FitsLimits game.now cut (try_move pairs.now) place.now) }
+    ensures fits { OnOk result ((cut : Bool)
+        → FitsLimits game.now cut (try_move pairs.now) place.now) }
 {
     let mut workspace = Workspace::new(alloc);
     try_move_with(alloc, game, steps, place, pairs, &mut workspace)
@@ -67,17 +68,18 @@ pub fn try_move_with<S: Steps>(
     ensures in_game { IfOk result (λ after. IfSome after (IsPlaceOf game.now)) }
     ensures illegal { IfOk result (λ after. IfNone after (
         (to : AbstractPlace) → ¬ Legal game.now place.now pairs.now to)) }
-    ensures heavy { (result ≡ Err Over.Deep) ⊎ (result ≡ Err Over.Wide) → IsHeavyToTry game.now place.now pairs.now }
+    ensures heavy { (result ≡ Err Over.Deep) ⊎ (result ≡ Err Over.Wide)
+        → IsHeavyToTry game.now place.now pairs.now }
     ensures deep { result ≡ Err Over.Deep → IsDeepAt game.now (try_move pairs.now) place.now }
     ensures wide { result ≡ Err Over.Wide → IsWideAt game.now (try_move pairs.now) place.now }
-    ensures fits { OnOk result ((cut : Bool) → FitsLimits game.now cut (try_move pairs.now) place.now) }
+    ensures fits { OnOk result ((cut : Bool)
+        → FitsLimits game.now cut (try_move pairs.now) place.now) }
 {
-    let _positions = game.positions();
+    game_is_accepted(game);
     let mut search = search_in(alloc, game, steps, &mut workspace.searches);
     let mut state = workspace.copy_of(&place.state)?;
     let end = follow(&mut search, &mut state, place.after, pairs.as_slice())?;
-    // What was taken up is within the budget.
-    let _opened = search.opened();
+    budget_is_kept(&search);
     search.leave(&mut workspace.searches);
     match end {
         Some(last) => Ok(Some(Place {
@@ -96,16 +98,19 @@ fn follow<S: Steps>(
     pairs: &[Pair],
 ) -> Result<Option<Position>, Over>
     requires place { IsPlaceOf search.old.game (record { state = state.old.state; last = after }) }
-    ensures tried { IfOk result (IsTried search.old.game (record { state = state.old.state; last = after }) pairs.now
+    ensures tried { IfOk result (IsTried search.old.game
+        (record { state = state.old.state; last = after }) pairs.now
         state.new.state) }
     ensures in_game { IfOk result (λ end. IfSome end (λ last.
         IsPlaceOf search.old.game (place_behind state.new.state last))) }
     ensures deep { result ≡ Err Over.Deep
-        → IsDeep search.old.game (try_move pairs.now) state.old.state (stand_of after) search.old.modifiers }
+        → IsDeep search.old.game (try_move pairs.now) state.old.state (stand_of after)
+        search.old.modifiers }
     ensures wide { result ≡ Err Over.Wide → IsOverBudget search.old.game (try_move pairs.now)
         state.old.state (stand_of after) search.old.opened search.old.openings }
     ensures kept { search.new ≡ record search.old { opened = search.new.opened } }
-    ensures forced { IfOk result (λ end. IfSome end (λ _. CountsForced search.old.game false (try_move pairs.now)
+    ensures forced { IfOk result (λ end.
+        IfSome end (λ _. CountsForced search.old.game false (try_move pairs.now)
         state.old.state (stand_of after) search.old.opened search.new.opened
         (length pairs.now) search.old.modifiers)) }
 {

@@ -2,8 +2,7 @@
 ghost use Rattle.std.specs.Prelude.{◌≡◌, [], IfOk};
 
 use crate::place::Place;
-use rbg_base::Memory;
-use rbg_pairs::{MoveList, Pair};
+use rbg_base::{Memory, MoveList, Pair};
 use rbg_search::Workspace as SearchWorkspace;
 use rbg_state::SemiState;
 use std::alloc::Global;

@@ -6,14 +6,14 @@ use Rattle.std.specs.List.{AllZip, range_with_len}
 use Rattle.std.proofs.lemmas.Bool.{and_parts}
 use Rattle.std.proofs.lemmas.List.{length-append}
 use Rattle.rbg_base.specs.declared.relation.Relation.{Relation}
-use Rattle.rbg_syntax.specs.Formed.{is_formed_action, is_formed_expression}
-use Rattle.rbg_syntax.specs.Tree.{SpeltName, SpeltRule, SpeltAction}
-use Rattle.rbg_syntax.specs.Views.{name_of, expression_of as spelt_expression_of, action_of as spelt_action_of}
-use Rattle.rbg_syntax.specs.declared.expression.Expression.{Expression as SyntaxExpression}
-use Rattle.rbg_syntax.specs.declared.names.Name.{Name}
-use Rattle.rbg_syntax.specs.declared.rule.Action.{Action as SyntaxAction}
-use Rattle.rbg_syntax.specs.declared.rule.Action as actions
-use Rattle.rbg_syntax.proofs.Trees.{action_of-Shift, action_of-On, action_of-Off, action_of-Assign, action_of-Compare, action_of-Switch}
+use Rattle.rbg_grammar.specs.Formed.{is_formed_action, is_formed_expression}
+use Rattle.rbg_grammar.specs.Tree.{SpeltName, SpeltRule, SpeltAction}
+use Rattle.rbg_grammar.specs.Views.{name_of, expression_of as spelt_expression_of, action_of as spelt_action_of}
+use Rattle.rbg_grammar.specs.declared.expression.Expression.{Expression as SyntaxExpression}
+use Rattle.rbg_grammar.specs.declared.names.Name.{Name}
+use Rattle.rbg_grammar.specs.declared.rule.Action.{Action as SyntaxAction}
+use Rattle.rbg_grammar.specs.declared.rule.Action as actions
+use Rattle.rbg_grammar.proofs.Trees.{action_of-Shift, action_of-On, action_of-Off, action_of-Assign, action_of-Compare, action_of-Switch}
 use Rattle.rbg_rules.specs.Expression.{switch, skip, act}
 use Rattle.rbg_rules.specs.Limits.{most_positions, most_nested_patterns}
 use Rattle.rbg_rules.specs.Positions.{positions_of, positions_inside}

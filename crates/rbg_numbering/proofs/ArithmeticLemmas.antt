@@ -5,18 +5,18 @@ use Rattle.std.specs.Global.{Global}
 use Rattle.std.proofs.lemmas.Bool.{and_parts}
 use Rattle.std.proofs.lemmas.List.{get_or-map, length-map, get_or-take, length-take, take_all}
 use Rattle.std.proofs.lemmas.List.Elements.{All-nil, All-cons}
-use Rattle.rbg_syntax.specs.Formed.{is_formed_expression, are_formed_terms, are_formed_factors, make_a_sum, make_a_product}
-use Rattle.rbg_syntax.specs.Tree.{SpeltName, SpeltNumber, SpeltExpression, SpeltTerms, no_terms, more_terms, terms_after, SpeltFactors, no_factors, more_factors, factors_after}
-use Rattle.rbg_syntax.specs.Views.{name_of, number_of, expression_of}
-use Rattle.rbg_syntax.specs.declared.expression.Additive.{Additive}
-use Rattle.rbg_syntax.specs.declared.expression.Multiplicative.{Multiplicative}
-use Rattle.rbg_syntax.specs.declared.expression.Expression.{Expression}
-use Rattle.rbg_syntax.specs.declared.expression.Expression as expressions
-use Rattle.rbg_syntax.specs.declared.expression.Term.{Term}
-use Rattle.rbg_syntax.specs.declared.expression.Factor.{Factor}
-use Rattle.rbg_syntax.specs.declared.names.Name.{Name}
-use Rattle.rbg_syntax.specs.declared.names.Number.{Number}
-use Rattle.rbg_syntax.proofs.Trees.{expression_of-Number, expression_of-Name, expression_of-Negated, expression_of-Sum, expression_of-Product}
+use Rattle.rbg_grammar.specs.Formed.{is_formed_expression, are_formed_terms, are_formed_factors, make_a_sum, make_a_product}
+use Rattle.rbg_grammar.specs.Tree.{SpeltName, SpeltNumber, SpeltExpression, SpeltTerms, no_terms, more_terms, terms_after, SpeltFactors, no_factors, more_factors, factors_after}
+use Rattle.rbg_grammar.specs.Views.{name_of, number_of, expression_of}
+use Rattle.rbg_grammar.specs.declared.expression.Additive.{Additive}
+use Rattle.rbg_grammar.specs.declared.expression.Multiplicative.{Multiplicative}
+use Rattle.rbg_grammar.specs.declared.expression.Expression.{Expression}
+use Rattle.rbg_grammar.specs.declared.expression.Expression as expressions
+use Rattle.rbg_grammar.specs.declared.expression.Term.{Term}
+use Rattle.rbg_grammar.specs.declared.expression.Factor.{Factor}
+use Rattle.rbg_grammar.specs.declared.names.Name.{Name}
+use Rattle.rbg_grammar.specs.declared.names.Number.{Number}
+use Rattle.rbg_grammar.proofs.Trees.{expression_of-Number, expression_of-Name, expression_of-Negated, expression_of-Sum, expression_of-Product}
 use Rattle.rbg_rules.specs.Expression.{AbstractArithmetic, negated}
 use Rattle.rbg_rules.specs.Translation.{Change, operated, changed, arithmetic_of, operation_of}
 use Rattle.rbg_rules.specs.declared.arithmetic.Operator.{Operator}

@@ -6,12 +6,12 @@ use Rattle.std.proofs.lemmas.Bool.{and_parts}
 use Rattle.std.proofs.lemmas.List.FromFn.{length-range_with_len}
 use Rattle.std.proofs.lemmas.List.Elements.{All-nil, All-cons}
 use Rattle.std.proofs.lemmas.Option.{slice_get_within}
-use Rattle.rbg_syntax.specs.declared.expression.Additive.{Additive}
-use Rattle.rbg_syntax.specs.declared.expression.Additive.TheVariants.{Plus, Minus}
-use Rattle.rbg_syntax.specs.declared.expression.Multiplicative.{Multiplicative}
-use Rattle.rbg_syntax.specs.declared.expression.Multiplicative.TheVariants.{Times, Over}
-use Rattle.rbg_syntax.specs.Formed.{is_formed, are_formed, is_formed_action, has_two_rules}
-use Rattle.rbg_syntax.specs.Tree.{SpeltName, SpeltExpression, SpeltTerms, no_terms, more_terms, SpeltFactors, no_factors, more_factors, SpeltRule, SpeltRules, no_rules, more_rules, SpeltAction}
+use Rattle.rbg_grammar.specs.declared.expression.Additive.{Additive}
+use Rattle.rbg_grammar.specs.declared.expression.Additive.TheVariants.{Plus, Minus}
+use Rattle.rbg_grammar.specs.declared.expression.Multiplicative.{Multiplicative}
+use Rattle.rbg_grammar.specs.declared.expression.Multiplicative.TheVariants.{Times, Over}
+use Rattle.rbg_grammar.specs.Formed.{is_formed, are_formed, is_formed_action, has_two_rules}
+use Rattle.rbg_grammar.specs.Tree.{SpeltName, SpeltExpression, SpeltTerms, no_terms, more_terms, SpeltFactors, no_factors, more_factors, SpeltRule, SpeltRules, no_rules, more_rules, SpeltAction}
 use Rattle.rbg_rules.specs.Expression.{AbstractArithmetic, AbstractAction, shift, on, off, assignment, comparison, switch, positive, negative, Expression, act, skip, sequence, fail, choice, star}
 use Rattle.rbg_rules.specs.Games.{HasNoEmptySum, HasNoEmptySumInside, NestsWithin, InsideNestsWithin, HasNamesOf, IsActionOf}
 use Rattle.rbg_rules.specs.Limits.{most_nested_patterns}

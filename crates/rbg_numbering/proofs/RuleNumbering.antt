@@ -5,14 +5,14 @@ use Rattle.std.specs.Global.{Global}
 use Rattle.std.proofs.lemmas.Bool.{and_parts}
 use Rattle.std.proofs.lemmas.List.{length-append, length-map, get_or-map, take-map, take_all}
 use Rattle.std.proofs.lemmas.List.Elements.{All-nil, All-cons}
-use Rattle.rbg_syntax.specs.Formed.{is_formed, are_formed, is_formed_action, has_two_rules}
-use Rattle.rbg_syntax.specs.Tree.{SpeltRule, SpeltRules, no_rules, more_rules, rules_after, SpeltAction}
-use Rattle.rbg_syntax.specs.Views.{rule_of, action_of}
-use Rattle.rbg_syntax.specs.declared.rule.Action.{Action as SyntaxAction}
-use Rattle.rbg_syntax.specs.declared.rule.Action as actions
-use Rattle.rbg_syntax.specs.declared.rule.Rule.{Rule as SyntaxRule}
-use Rattle.rbg_syntax.specs.declared.rule.Rule as rules
-use Rattle.rbg_syntax.proofs.Trees.{rule_of-Act, rule_of-Then, rule_of-Or, rule_of-Star, action_of-PositivePattern, action_of-NegativePattern}
+use Rattle.rbg_grammar.specs.Formed.{is_formed, are_formed, is_formed_action, has_two_rules}
+use Rattle.rbg_grammar.specs.Tree.{SpeltRule, SpeltRules, no_rules, more_rules, rules_after, SpeltAction}
+use Rattle.rbg_grammar.specs.Views.{rule_of, action_of}
+use Rattle.rbg_grammar.specs.declared.rule.Action.{Action as SyntaxAction}
+use Rattle.rbg_grammar.specs.declared.rule.Action as actions
+use Rattle.rbg_grammar.specs.declared.rule.Rule.{Rule as SyntaxRule}
+use Rattle.rbg_grammar.specs.declared.rule.Rule as rules
+use Rattle.rbg_grammar.proofs.Trees.{rule_of-Act, rule_of-Then, rule_of-Or, rule_of-Star, action_of-PositivePattern, action_of-NegativePattern}
 use Rattle.rbg_rules.specs.declared.rule.Action.{Action}
 use Rattle.rbg_rules.specs.declared.rule.Action.TheVariants.{Positive, Negative}
 use Rattle.rbg_rules.specs.declared.rule.Rule.{Rule}

@@ -5,7 +5,7 @@ use Rattle.std.specs.Global.{Global}
 use Rattle.std.specs.List.{range_with_len}
 use Rattle.std.proofs.lemmas.List.{length-append, map-append}
 use Rattle.std.proofs.lemmas.List.Elements.{All-nil, All-push}
-use Rattle.rbg_syntax.specs.Tree.{SpeltRule, SpeltRules, no_rules, more_rules, rules_after, SpeltAction}
+use Rattle.rbg_grammar.specs.Tree.{SpeltRule, SpeltRules, no_rules, more_rules, rules_after, SpeltAction}
 use Rattle.rbg_rules.specs.Expression.{Expression, act, skip, sequence, fail, choice, star}
 use Rattle.rbg_rules.specs.Limits.{most_positions}
 use Rattle.rbg_rules.specs.Positions.{positions_of}

@@ -1,9 +1,9 @@
 -- Why a rule has no numbers: the fault that an error names, at its place.
 use Rattle.std.specs.Prelude.{◌≡◌, ℕ, zero, suc, ◌+◌, ◌<◌, ◌≤◌, ◌^◌, List, [], ◌∷◌, Option, Some, Contains}
-use Rattle.rbg_syntax.specs.Tree.{SpeltName, SpeltNumber, SpeltExpression, SpeltTerms, more_terms, SpeltFactors, more_factors}
-use Rattle.rbg_syntax.specs.Tree.{SpeltRule, SpeltRules, no_rules, more_rules, SpeltAction}
-use Rattle.rbg_syntax.specs.declared.expression.Additive.{Additive}
-use Rattle.rbg_syntax.specs.declared.expression.Multiplicative.{Multiplicative}
+use Rattle.rbg_grammar.specs.Tree.{SpeltName, SpeltNumber, SpeltExpression, SpeltTerms, more_terms, SpeltFactors, more_factors}
+use Rattle.rbg_grammar.specs.Tree.{SpeltRule, SpeltRules, no_rules, more_rules, SpeltAction}
+use Rattle.rbg_grammar.specs.declared.expression.Additive.{Additive}
+use Rattle.rbg_grammar.specs.declared.expression.Multiplicative.{Multiplicative}
 use Rattle.rbg_base.specs.declared.relation.Relation.{Relation}
 use Rattle.rbg_rules.specs.Limits.{most_positions, most_nested_patterns}
 use Rattle.rbg_numbering.specs.declared.error.GameError.{GameError}

@@ -1,6 +1,6 @@
 -- Laws: a rule is one expression by numbers at most; with a fault it is none.
 use Rattle.std.specs.Prelude.{◌≡◌, ◌≢◌}
-use Rattle.rbg_syntax.specs.Tree.{SpeltRule}
+use Rattle.rbg_grammar.specs.Tree.{SpeltRule}
 use Rattle.rbg_rules.specs.Expression.{Expression}
 use Rattle.rbg_numbering.specs.declared.error.GameError.{GameError}
 use Rattle.rbg_numbering.specs.declared.error.GameError.TheVariants.{Memory}

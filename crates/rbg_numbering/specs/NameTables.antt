@@ -1,7 +1,7 @@
 -- Tables of names, and why names are not added to a table or not found in it.
 use Rattle.std.specs.Prelude.{◌≡◌, ℕ, List, Vec, Some, ◌++◌, map, take, slice_get, Contains}
 use Rattle.std.specs.Global.{Global}
-use Rattle.rbg_syntax.specs.Tree.{SpeltName}
+use Rattle.rbg_grammar.specs.Tree.{SpeltName}
 use Rattle.rbg_numbering.specs.declared.error.GameError.{GameError}
 use Rattle.rbg_numbering.specs.declared.error.GameError.TheVariants.{UnknownName, SameName, Memory}
 use Rattle.rbg_numbering.specs.Names.{texts_of}

@@ -1,6 +1,6 @@
 -- Names and their numbers.
 use Rattle.std.specs.Prelude.{◌≡◌, ℕ, List, Some, map, slice_get}
-use Rattle.rbg_syntax.specs.Tree.{SpeltName}
+use Rattle.rbg_grammar.specs.Tree.{SpeltName}
 use Rattle.rbg_rules.specs.LawfulNames.{AreDifferentNames}
 
 -- the names of things, each list in order of the numbers

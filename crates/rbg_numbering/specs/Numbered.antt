@@ -1,6 +1,6 @@
 -- The rules of a description by numbers, with all that every game keeps of its rules.
 use Rattle.std.specs.Prelude.{◌≡◌, ℕ, ◌≤◌, length}
-use Rattle.rbg_syntax.specs.Tree.{SpeltRule}
+use Rattle.rbg_grammar.specs.Tree.{SpeltRule}
 use Rattle.rbg_rules.specs.Expression.{AbstractAction, switch, Expression}
 use Rattle.rbg_rules.specs.Games.{HasNoEmptySum, NestsWithin, IsActionOf}
 use Rattle.rbg_rules.specs.Positions.{HasAction, positions_of, IsNumbered, IsLevel, inside}

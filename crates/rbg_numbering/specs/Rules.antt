@@ -2,13 +2,13 @@
 -- of text is a statement of its own (IsNumbered).
 use Rattle.std.specs.Prelude.{◌≡◌, ℕ, ◌+◌, ◌<◌, ◌^◌, ◌⊎◌, List, Some, None, Contains}
 use Rattle.std.specs.List.{AllZip}
-use Rattle.rbg_syntax.specs.Tree.{SpeltExpression, SpeltTerms, no_terms, more_terms}
-use Rattle.rbg_syntax.specs.Tree.{SpeltFactors, no_factors, more_factors}
-use Rattle.rbg_syntax.specs.Tree.{SpeltRule, SpeltRules, no_rules, more_rules, SpeltAction}
-use Rattle.rbg_syntax.specs.declared.expression.Additive.{Additive}
-use Rattle.rbg_syntax.specs.declared.expression.Additive.TheVariants.{Plus, Minus}
-use Rattle.rbg_syntax.specs.declared.expression.Multiplicative.{Multiplicative}
-use Rattle.rbg_syntax.specs.declared.expression.Multiplicative.TheVariants.{Times, Over}
+use Rattle.rbg_grammar.specs.Tree.{SpeltExpression, SpeltTerms, no_terms, more_terms}
+use Rattle.rbg_grammar.specs.Tree.{SpeltFactors, no_factors, more_factors}
+use Rattle.rbg_grammar.specs.Tree.{SpeltRule, SpeltRules, no_rules, more_rules, SpeltAction}
+use Rattle.rbg_grammar.specs.declared.expression.Additive.{Additive}
+use Rattle.rbg_grammar.specs.declared.expression.Additive.TheVariants.{Plus, Minus}
+use Rattle.rbg_grammar.specs.declared.expression.Multiplicative.{Multiplicative}
+use Rattle.rbg_grammar.specs.declared.expression.Multiplicative.TheVariants.{Times, Over}
 use Rattle.rbg_rules.specs.Expression.{AbstractArithmetic, number, variable, piece_count, negated}
 use Rattle.rbg_rules.specs.Expression.{sum, difference, product, quotient}
 use Rattle.rbg_rules.specs.Expression.{AbstractAction, shift, on, off, assignment, comparison, switch}

@@ -1,7 +1,7 @@
 //! Actions by numbers. Each takes the next position of the table.
 ghost use Rattle.std.specs.Prelude.{◌≡◌, ◌<◌, ◌≤◌, ◌+◌, ◌^◌, ◌∷◌, ◌++◌, [], IfOk, IfErr, option_map, length, true, false};
-ghost use Rattle.rbg_syntax.specs.Formed.{is_formed_action};
-ghost use Rattle.rbg_syntax.specs.Views.{name_of, action_of as spelt_action_of};
+ghost use Rattle.rbg_grammar.specs.Formed.{is_formed_action};
+ghost use Rattle.rbg_grammar.specs.Views.{name_of, action_of as spelt_action_of};
 ghost use Rattle.rbg_rules.specs.Expression.{skip};
 ghost use Rattle.rbg_rules.specs.Translation.{action_of, shows_pattern};
 ghost use Rattle.rbg_numbering.specs.Rules.{ActionIs};
@@ -10,15 +10,15 @@ ghost use Rattle.rbg_numbering.specs.Numbered.{names_of, IsWithinLimits};
 ghost use Rattle.rbg_numbering.specs.internal.Actions.{IsPlayer, player_names, is_spelt_pattern, HasActionFault, IsActionHere, OpensPattern, HasOpeningFault};
 ghost use Rattle.rbg_numbering.specs.internal.Steps.{AddsRule, HasFaultFrom};
 ghost use Rattle.rbg_rules.specs.declared.rule.Rule.TheVariants as rules;
-ghost use Rattle.rbg_syntax.specs.Tree.{act};
+ghost use Rattle.rbg_grammar.specs.Tree.{act};
 
 use crate::arithmetic::number_expression;
 use crate::error::{GameError, Thing};
 use crate::name_table::NameTable;
 use crate::tables::NameTables;
+use rbg_grammar::Name;
 use rbg_rules::Action;
 use rbg_rules::limits::{MAX_NESTED_PATTERNS, MAX_POSITIONS};
-use rbg_syntax::Name;
 use std::alloc::Global;
 
 /// Adds an action that is no pattern, and returns its position. So many patterns may still be opened where it stands.
@@ -26,7 +26,7 @@ pub(crate) fn add_action(
     alloc: Global,
     names: &NameTables<'_>,
     patterns_left: usize,
-    action: &rbg_syntax::Action<'_>,
+    action: &rbg_grammar::Action<'_>,
     actions: &mut Vec<Action>,
 ) -> Result<u32, GameError>
     requires plain { is_spelt_pattern (spelt_action_of action.now) ≡ false }
@@ -35,9 +35,11 @@ pub(crate) fn add_action(
     requires room { length actions.old.items ≤ MAX_POSITIONS }
     requires nesting { patterns_left ≤ MAX_NESTED_PATTERNS }
     ensures added { IfOk result
-        (λ p. AddsRule (names_of names.now) patterns_left (act (spelt_action_of action.now)) actions.old.items actions.new.items (rules.Act p)) }
+        (λ p. AddsRule (names_of names.now) patterns_left (act (spelt_action_of action.now))
+        actions.old.items actions.new.items (rules.Act p)) }
     ensures fault { IfErr result
-        (HasFaultFrom (names_of names.now) patterns_left (length actions.old.items) (act (spelt_action_of action.now))) }
+        (HasFaultFrom (names_of names.now) patterns_left (length actions.old.items)
+        (act (spelt_action_of action.now))) }
 {
     if actions.len() == MAX_POSITIONS {
         return Err(GameError::TooMany {
@@ -56,7 +58,8 @@ pub(crate) fn open_pattern(
     actions: &mut Vec<Action>,
 ) -> Result<u32, GameError>
     requires room { length actions.old.items ≤ MAX_POSITIONS }
-    ensures opened { IfOk result (OpensPattern patterns_left pattern actions.old.items actions.new.items) }
+    ensures opened { IfOk result (OpensPattern patterns_left pattern actions.old.items
+        actions.new.items) }
     ensures fault { IfErr result (HasOpeningFault patterns_left at (length actions.old.items)) }
 {
     if actions.len() == MAX_POSITIONS {
@@ -75,30 +78,32 @@ fn number_action(
     alloc: Global,
     names: &NameTables<'_>,
     patterns_left: usize,
-    action: &rbg_syntax::Action<'_>,
+    action: &rbg_grammar::Action<'_>,
 ) -> Result<Action, GameError>
     requires plain { is_spelt_pattern (spelt_action_of action.now) ≡ false }
     requires formed { is_formed_action (spelt_action_of action.now) ≡ true }
     requires limits { IsWithinLimits (names_of names.now) }
     requires nesting { patterns_left ≤ MAX_NESTED_PATTERNS }
-    ensures action { IfOk result (IsActionHere (names_of names.now) patterns_left (spelt_action_of action.now)) }
-    ensures fault { IfErr result (HasActionFault (names_of names.now) patterns_left (spelt_action_of action.now)) }
+    ensures action { IfOk result (IsActionHere (names_of names.now) patterns_left
+        (spelt_action_of action.now)) }
+    ensures fault { IfErr result (HasActionFault (names_of names.now) patterns_left
+        (spelt_action_of action.now)) }
 {
     match action {
-        rbg_syntax::Action::Shift(direction) => Ok(Action::Shift {
+        rbg_grammar::Action::Shift(direction) => Ok(Action::Shift {
             direction: names.directions.find(direction)?,
         }),
-        rbg_syntax::Action::On(pieces) => Ok(Action::On {
+        rbg_grammar::Action::On(pieces) => Ok(Action::On {
             pieces: names.pieces.find_all(alloc, pieces)?,
         }),
-        rbg_syntax::Action::Off(piece) => Ok(Action::Off {
+        rbg_grammar::Action::Off(piece) => Ok(Action::Off {
             piece: names.pieces.find(piece)?,
         }),
-        rbg_syntax::Action::Assign { variable, value } => Ok(Action::Assign {
+        rbg_grammar::Action::Assign { variable, value } => Ok(Action::Assign {
             variable: names.variables.find(variable)?,
             value: number_expression(alloc, names, value)?,
         }),
-        rbg_syntax::Action::Compare {
+        rbg_grammar::Action::Compare {
             left,
             relation,
             right,
@@ -107,7 +112,7 @@ fn number_action(
             relation: *relation,
             right: number_expression(alloc, names, right)?,
         }),
-        rbg_syntax::Action::Switch { at, player } => {
+        rbg_grammar::Action::Switch { at, player } => {
             if patterns_left < MAX_NESTED_PATTERNS {
                 return Err(GameError::SwitchInPattern { at: *at });
             }
@@ -115,9 +120,8 @@ fn number_action(
                 player: number_of_player(names.players, player)?,
             })
         }
-        rbg_syntax::Action::PositivePattern { .. } | rbg_syntax::Action::NegativePattern { .. } => {
-            unreachable!()
-        }
+        rbg_grammar::Action::PositivePattern { .. } | rbg_grammar::Action::NegativePattern { .. } =>
+            { unreachable!() }
     }
 }
 
@@ -125,7 +129,8 @@ fn number_action(
 fn number_of_player(table: &NameTable, player: &Option<Name<'_>>) -> Result<u16, GameError>
     requires { length table.now < 2 ^ 16 }
     ensures number { IfOk result (IsPlayer table.now (option_map name_of player.now)) }
-    ensures fault { IfErr result (HasLookUpFault table.now (player_names (option_map name_of player.now))) }
+    ensures fault { IfErr result (HasLookUpFault table.now
+        (player_names (option_map name_of player.now))) }
 {
     match player {
         Some(name) => Ok(table.find(name)? + 1),

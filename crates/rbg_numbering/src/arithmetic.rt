@@ -1,8 +1,8 @@
 //! Arithmetic by numbers: a name is that of a variable or of a piece, and a sum or a product is a chain from the left.
 ghost use Rattle.std.specs.Prelude.{◌≡◌, ◌<◌, IfOk, IfErr, All, map, length, true, Some};
-ghost use Rattle.rbg_syntax.specs.Formed.{is_formed_expression};
-ghost use Rattle.rbg_syntax.specs.Tree.{SpeltExpression, no_terms, terms_after, no_factors, factors_after, sum, product};
-ghost use Rattle.rbg_syntax.specs.Views.{name_of, number_of, expression_of};
+ghost use Rattle.rbg_grammar.specs.Formed.{is_formed_expression};
+ghost use Rattle.rbg_grammar.specs.Tree.{SpeltExpression, no_terms, terms_after, no_factors, factors_after, sum, product};
+ghost use Rattle.rbg_grammar.specs.Views.{name_of, number_of, expression_of};
 ghost use Rattle.rbg_rules.specs.Translation.{arithmetic_of};
 ghost use Rattle.rbg_numbering.specs.Rules.{ArithmeticIs, SumIs, ProductIs};
 ghost use Rattle.rbg_numbering.specs.Names.{Names};
@@ -12,8 +12,8 @@ ghost use Rattle.rbg_numbering.specs.internal.Arithmetic.{term_of, factor_of, Ad
 
 use crate::error::GameError;
 use crate::tables::NameTables;
+use rbg_grammar::{Additive, Expression, Factor, Multiplicative, Name, Number, Term};
 use rbg_rules::{Arithmetic, Operation, Operator};
-use rbg_syntax::{Additive, Expression, Factor, Multiplicative, Name, Number, Term};
 use std::alloc::Global;
 
 /// An expression by numbers.
@@ -25,8 +25,10 @@ pub(crate) fn number_expression(
 ) -> Result<Arithmetic, GameError>
     requires formed { is_formed_expression (expression_of expression.now) ≡ true }
     requires limits { IsWithinLimits (names_of names.now) }
-    ensures value { IfOk result (λ a. ArithmeticIs (names_of names.now) (expression_of expression.now) (arithmetic_of a)) }
-    ensures fault { IfErr result (HasArithmeticFault (names_of names.now) (expression_of expression.now)) }
+    ensures value { IfOk result (λ a.
+        ArithmeticIs (names_of names.now) (expression_of expression.now) (arithmetic_of a)) }
+    ensures fault { IfErr result (HasArithmeticFault (names_of names.now)
+        (expression_of expression.now)) }
 {
     match expression {
         Expression::Number(number) => number_number(*number),
@@ -51,8 +53,10 @@ fn number_terms(
     requires formed { All (λ t. is_formed_expression (expression_of t.value) ≡ true) terms.now }
     requires limits { IsWithinLimits (names_of names.now) }
     ensures value { IfOk result
-        (λ a. SumIs (names_of names.now) (terms_after no_terms (map term_of terms.now)) (arithmetic_of a)) }
-    ensures fault { IfErr result (HasArithmeticFault (names_of names.now) (sum (terms_after no_terms (map term_of terms.now)))) }
+        (λ a. SumIs (names_of names.now) (terms_after no_terms (map term_of terms.now))
+        (arithmetic_of a)) }
+    ensures fault { IfErr result (HasArithmeticFault (names_of names.now)
+        (sum (terms_after no_terms (map term_of terms.now)))) }
 {
     let first = number_expression(alloc, names, &terms[0].value)?;
     let mut rest = Vec::with_capacity(alloc, terms.len() - 1)?;
@@ -75,7 +79,8 @@ fn number_term(
     requires formed { is_formed_expression (expression_of term.now.value) ≡ true }
     requires limits { IsWithinLimits (names_of names.now) }
     ensures value { IfOk result (AddsTerm (names_of names.now) (term_of term.now)) }
-    ensures fault { IfErr result (HasArithmeticFault (names_of names.now) (expression_of term.now.value)) }
+    ensures fault { IfErr result (HasArithmeticFault (names_of names.now)
+        (expression_of term.now.value)) }
 {
     Ok(Operation {
         operator: match term.operator {
@@ -97,8 +102,10 @@ fn number_factors(
     requires formed { All (λ f. is_formed_expression (expression_of f.value) ≡ true) factors.now }
     requires limits { IsWithinLimits (names_of names.now) }
     ensures value { IfOk result
-        (λ a. ProductIs (names_of names.now) (factors_after no_factors (map factor_of factors.now)) (arithmetic_of a)) }
-    ensures fault { IfErr result (HasArithmeticFault (names_of names.now) (product (factors_after no_factors (map factor_of factors.now)))) }
+        (λ a. ProductIs (names_of names.now) (factors_after no_factors (map factor_of factors.now))
+        (arithmetic_of a)) }
+    ensures fault { IfErr result (HasArithmeticFault (names_of names.now)
+        (product (factors_after no_factors (map factor_of factors.now)))) }
 {
     let first = number_expression(alloc, names, &factors[0].value)?;
     let mut rest = Vec::with_capacity(alloc, factors.len() - 1)?;
@@ -121,7 +128,8 @@ fn number_factor(
     requires formed { is_formed_expression (expression_of factor.now.value) ≡ true }
     requires limits { IsWithinLimits (names_of names.now) }
     ensures value { IfOk result (AddsFactor (names_of names.now) (factor_of factor.now)) }
-    ensures fault { IfErr result (HasArithmeticFault (names_of names.now) (expression_of factor.now.value)) }
+    ensures fault { IfErr result (HasArithmeticFault (names_of names.now)
+        (expression_of factor.now.value)) }
 {
     Ok(Operation {
         operator: match factor.operator {
@@ -134,8 +142,11 @@ fn number_factor(
 
 /// The number that is spelt, if it fits signed 64 bits.
 fn number_number(number: Number) -> Result<Arithmetic, GameError>
-    ensures value { (names : Names) → IfOk result (λ a. ArithmeticIs names (SpeltExpression.number (number_of number)) (arithmetic_of a)) }
-    ensures fault { (names : Names) → IfErr result (HasArithmeticFault names (SpeltExpression.number (number_of number))) }
+    ensures value { (names : Names)
+        → IfOk result (λ a.
+        ArithmeticIs names (SpeltExpression.number (number_of number)) (arithmetic_of a)) }
+    ensures fault { (names : Names)
+        → IfErr result (HasArithmeticFault names (SpeltExpression.number (number_of number))) }
 {
     match number.value {
         Some(value) if value <= i64::MAX as u64 => Ok(Arithmetic::Number(value)),
@@ -146,8 +157,11 @@ fn number_number(number: Number) -> Result<Arithmetic, GameError>
 /// The variable of a name, or else the piece.
 fn number_name(names: &NameTables<'_>, name: &Name<'_>) -> Result<Arithmetic, GameError>
     requires { IsWithinLimits (names_of names.now) }
-    ensures value { IfOk result (λ a. ArithmeticIs (names_of names.now) (SpeltExpression.name (name_of name.now)) (arithmetic_of a)) }
-    ensures fault { IfErr result (HasArithmeticFault (names_of names.now) (SpeltExpression.name (name_of name.now))) }
+    ensures value { IfOk result (λ a.
+        ArithmeticIs (names_of names.now) (SpeltExpression.name (name_of name.now))
+        (arithmetic_of a)) }
+    ensures fault { IfErr result (HasArithmeticFault (names_of names.now)
+        (SpeltExpression.name (name_of name.now))) }
 {
     if let Some(variable) = names.variables.number_of(name.text) {
         return Ok(Arithmetic::Variable(variable as u16));

@@ -3,14 +3,14 @@ ghost use Rattle.std.specs.Prelude.{◌≡◌, ◌≤◌, ◌^◌, [], ◌∷◌
 ghost use Rattle.std.specs.Prelude.{MatchOption, OnOk, OnErr, IfErr, IfOk, string_bytes};
 ghost use Rattle.std.specs.List.{AllZip};
 ghost use Rattle.rbg_base.specs.Names.{is_name};
-ghost use Rattle.rbg_syntax.specs.Views.{name_of};
+ghost use Rattle.rbg_grammar.specs.Views.{name_of};
 ghost use Rattle.rbg_rules.specs.Texts.{texts};
 ghost use Rattle.rbg_rules.specs.LawfulNames.{AreLawfulNames};
 ghost use Rattle.rbg_numbering.specs.Names.{IsNumberOf};
 ghost use Rattle.rbg_numbering.specs.NameTables.{HasLookUpFault, HasNameFault};
 
 use crate::error::GameError;
-use rbg_syntax::Name;
+use rbg_grammar::Name;
 use std::alloc::{AllocError, Global};
 use std::collections::BTreeMap;
 use std::marker::Model;
@@ -57,7 +57,8 @@ impl NameTable {
 
     /// The number of a name, if it is in the table.
     pub fn number_of(&self, text: &[u8]) -> Option<usize>
-        ensures { MatchOption result (¬ Contains self.now text.now) (λ n. slice_get self.now n ≡ Some text.now) }
+        ensures { MatchOption result (¬ Contains self.now text.now) (λ n.
+            slice_get self.now n ≡ Some text.now) }
     {
         self.numbers.get(text).copied()
     }
@@ -77,7 +78,8 @@ impl NameTable {
     /// The numbers of names that a description uses.
     pub fn find_all(&self, alloc: Global, names: &[Name<'_>]) -> Result<Vec<u16>, GameError>
         requires { length self.now ≤ 2 ^ 16 }
-        ensures numbers { IfOk result (λ ns. AllZip (IsNumberOf self.now) (map name_of names.now) ns.items) }
+        ensures numbers { IfOk result (λ ns.
+            AllZip (IsNumberOf self.now) (map name_of names.now) ns.items) }
         ensures fault { IfErr result (HasLookUpFault self.now (map name_of names.now)) }
     {
         let mut numbers = Vec::with_capacity(alloc, names.len())?;

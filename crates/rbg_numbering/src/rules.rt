@@ -1,8 +1,8 @@
 //! The rules of a description by numbers: names are looked up, and the actions are numbered in order of text.
 ghost use Rattle.std.specs.Prelude.{◌≡◌, ◌≤◌, IfOk, IfErr, All, map, length, true};
-ghost use Rattle.rbg_syntax.specs.Formed.{is_formed, is_formed_action};
-ghost use Rattle.rbg_syntax.specs.Tree.{no_rules, rules_after, sequence, act};
-ghost use Rattle.rbg_syntax.specs.Views.{rule_of, action_of};
+ghost use Rattle.rbg_grammar.specs.Formed.{is_formed, is_formed_action};
+ghost use Rattle.rbg_grammar.specs.Tree.{no_rules, rules_after, sequence, act};
+ghost use Rattle.rbg_grammar.specs.Views.{rule_of, action_of};
 ghost use Rattle.rbg_numbering.specs.Faults.{HasRuleFault};
 ghost use Rattle.rbg_numbering.specs.Numbered.{names_of, IsWithinLimits, AreRulesByNumbers};
 ghost use Rattle.rbg_numbering.specs.internal.Steps.{AddsRule, AddsParts, HasFaultFrom};
@@ -18,7 +18,7 @@ use std::alloc::Global;
 pub fn number_rules(
     alloc: Global,
     names: &NameTables<'_>,
-    rule: &rbg_syntax::Rule<'_>,
+    rule: &rbg_grammar::Rule<'_>,
 ) -> Result<Rules, GameError>
     requires formed { is_formed (rule_of rule.now) ≡ true }
     requires limits { IsWithinLimits (names_of names.now) }
@@ -36,27 +36,29 @@ fn number_rule(
     alloc: Global,
     names: &NameTables<'_>,
     patterns_left: usize,
-    rule: &rbg_syntax::Rule<'_>,
+    rule: &rbg_grammar::Rule<'_>,
     actions: &mut Vec<Action>,
 ) -> Result<Rule, GameError>
     requires formed { is_formed (rule_of rule.now) ≡ true }
     requires limits { IsWithinLimits (names_of names.now) }
     requires room { length actions.old.items ≤ MAX_POSITIONS }
     requires nesting { patterns_left ≤ MAX_NESTED_PATTERNS }
-    ensures rule { IfOk result (AddsRule (names_of names.now) patterns_left (rule_of rule.now) actions.old.items actions.new.items) }
-    ensures fault { IfErr result (HasFaultFrom (names_of names.now) patterns_left (length actions.old.items) (rule_of rule.now)) }
+    ensures rule { IfOk result (AddsRule (names_of names.now) patterns_left (rule_of rule.now)
+        actions.old.items actions.new.items) }
+    ensures fault { IfErr result (HasFaultFrom (names_of names.now) patterns_left
+        (length actions.old.items) (rule_of rule.now)) }
 {
     match rule {
-        rbg_syntax::Rule::Act(action) => number_act(alloc, names, patterns_left, action, actions),
-        rbg_syntax::Rule::Then(parts) => {
+        rbg_grammar::Rule::Act(action) => number_act(alloc, names, patterns_left, action, actions),
+        rbg_grammar::Rule::Then(parts) => {
             let parts = number_parts(alloc, names, patterns_left, parts, actions)?;
             Ok(Rule::Then(parts))
         }
-        rbg_syntax::Rule::Or(parts) => {
+        rbg_grammar::Rule::Or(parts) => {
             let parts = number_parts(alloc, names, patterns_left, parts, actions)?;
             Ok(Rule::Or(parts))
         }
-        rbg_syntax::Rule::Star(part) => {
+        rbg_grammar::Rule::Star(part) => {
             let part = number_rule(alloc, names, patterns_left, part, actions)?;
             Ok(Rule::Star(Box::new(alloc, part)?))
         }
@@ -69,7 +71,7 @@ fn number_parts(
     alloc: Global,
     names: &NameTables<'_>,
     patterns_left: usize,
-    parts: &[rbg_syntax::Rule<'_>],
+    parts: &[rbg_grammar::Rule<'_>],
     actions: &mut Vec<Action>,
 ) -> Result<Vec<Rule>, GameError>
     requires formed { All (λ part. is_formed (rule_of part) ≡ true) parts.now }
@@ -77,9 +79,11 @@ fn number_parts(
     requires room { length actions.old.items ≤ MAX_POSITIONS }
     requires nesting { patterns_left ≤ MAX_NESTED_PATTERNS }
     ensures parts { IfOk result
-        (λ xs. AddsParts (names_of names.now) patterns_left (map rule_of parts.now) actions.old.items actions.new.items xs.items) }
+        (λ xs. AddsParts (names_of names.now) patterns_left (map rule_of parts.now)
+        actions.old.items actions.new.items xs.items) }
     ensures fault { IfErr result
-        (HasFaultFrom (names_of names.now) patterns_left (length actions.old.items) (sequence (rules_after no_rules (map rule_of parts.now)))) }
+        (HasFaultFrom (names_of names.now) patterns_left (length actions.old.items)
+        (sequence (rules_after no_rules (map rule_of parts.now)))) }
 {
     let mut rules = Vec::with_capacity(alloc, parts.len())?;
     for part in parts {
@@ -94,18 +98,20 @@ fn number_act(
     alloc: Global,
     names: &NameTables<'_>,
     patterns_left: usize,
-    action: &rbg_syntax::Action<'_>,
+    action: &rbg_grammar::Action<'_>,
     actions: &mut Vec<Action>,
 ) -> Result<Rule, GameError>
     requires formed { is_formed_action (action_of action.now) ≡ true }
     requires limits { IsWithinLimits (names_of names.now) }
     requires room { length actions.old.items ≤ MAX_POSITIONS }
     requires nesting { patterns_left ≤ MAX_NESTED_PATTERNS }
-    ensures rule { IfOk result (AddsRule (names_of names.now) patterns_left (act (action_of action.now)) actions.old.items actions.new.items) }
-    ensures fault { IfErr result (HasFaultFrom (names_of names.now) patterns_left (length actions.old.items) (act (action_of action.now))) }
+    ensures rule { IfOk result (AddsRule (names_of names.now) patterns_left
+        (act (action_of action.now)) actions.old.items actions.new.items) }
+    ensures fault { IfErr result (HasFaultFrom (names_of names.now) patterns_left
+        (length actions.old.items) (act (action_of action.now))) }
 {
     match action {
-        rbg_syntax::Action::PositivePattern { at, rule } => {
+        rbg_grammar::Action::PositivePattern { at, rule } => {
             let position = open_pattern(patterns_left, *at, Action::Positive, actions)?;
             let inside = number_rule(alloc, names, patterns_left - 1, rule, actions)?;
             Ok(Rule::Pattern {
@@ -113,7 +119,7 @@ fn number_act(
                 inside: Box::new(alloc, inside)?,
             })
         }
-        rbg_syntax::Action::NegativePattern { at, rule } => {
+        rbg_grammar::Action::NegativePattern { at, rule } => {
             let position = open_pattern(patterns_left, *at, Action::Negative, actions)?;
             let inside = number_rule(alloc, names, patterns_left - 1, rule, actions)?;
             Ok(Rule::Pattern {
@@ -121,12 +127,12 @@ fn number_act(
                 inside: Box::new(alloc, inside)?,
             })
         }
-        rbg_syntax::Action::Shift(_)
-        | rbg_syntax::Action::On(_)
-        | rbg_syntax::Action::Off(_)
-        | rbg_syntax::Action::Assign { .. }
-        | rbg_syntax::Action::Compare { .. }
-        | rbg_syntax::Action::Switch { .. } => {
+        rbg_grammar::Action::Shift(_)
+        | rbg_grammar::Action::On(_)
+        | rbg_grammar::Action::Off(_)
+        | rbg_grammar::Action::Assign { .. }
+        | rbg_grammar::Action::Compare { .. }
+        | rbg_grammar::Action::Switch { .. } => {
             let position = add_action(alloc, names, patterns_left, action, actions)?;
             Ok(Rule::Act(position))
         }

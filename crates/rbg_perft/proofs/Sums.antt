@@ -5,7 +5,8 @@ use Rattle.std.proofs.lemmas.Option.{slice_get_within, get_or_from_slice_get}
 use Rattle.std.proofs.lemmas.List.{take_more, take_all}
 use Rattle.rbg_rules.specs.State.{AbstractGame}
 use Rattle.rbg_rules.specs.Moves.{AbstractPlace}
-use Rattle.rbg_perft.specs.Counting.{AreCounted, AreCountedBehind, AreLegalMoves, Settles, Sums}
+use Rattle.rbg_moves.specs.Settling.{Settles}
+use Rattle.rbg_perft.specs.Counting.{AreCounted, AreCountedBehind, AreLegalMoves, Sums}
 use Rattle.rbg_perft.specs.Counting.Sums.{more}
 
 -- one more item's numbers are added

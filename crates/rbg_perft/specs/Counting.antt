@@ -2,21 +2,7 @@
 use Rattle.std.specs.Prelude.{◌≡◌, ◌≢◌, ℕ, ◌+◌, ◌⊎◌, zero, suc, List, [], ◌∷◌, ◌++◌, All, AllPairs, Contains}
 use Rattle.rbg_rules.specs.State.{AbstractGame}
 use Rattle.rbg_rules.specs.Moves.{AbstractPlace, Legal, IsLegal, Finished}
-
--- Moves of the keeper lead from one place to the other.
-pub data KeeperMoves (game : AbstractGame) (from : AbstractPlace) : (to : AbstractPlace) → Type 0 where
-  none : KeeperMoves game from from
-  more :
-      {middle to : AbstractPlace} {pairs : List (ℕ × ℕ)} →
-      KeeperMoves game from middle →
-      middle.state.player ≡ 0 →
-      Legal game middle pairs to →
-      KeeperMoves game from to
-
--- The keeper's moves lead from one place to the other, and there a player is to move or play is finished.
-pub record Settles (game : AbstractGame) (from to : AbstractPlace) : Type 0 where
-  pub moves : KeeperMoves game from to
-  pub rests : (to.state.player ≢ 0) ⊎ Finished game to
+use Rattle.rbg_moves.specs.Settling.{Settles}
 
 -- These are the legal moves, each once.
 pub record AreLegalMoves (game : AbstractGame) (place : AbstractPlace) (moves : List (List (ℕ × ℕ))) : Type 0 where

@@ -1,15 +1,11 @@
 //! Sequences of moves, counted.
-ghost use Rattle.std.specs.Prelude.{◌≡◌, ◌+◌, All, IfOk, IfSome};
+ghost use Rattle.std.specs.Prelude.{◌≡◌, ◌+◌, ◌<◌, ◌^◌, length, All, IfOk, IfSome};
 ghost use Rattle.rbg_rules.specs.Moves.{IsLegal};
 ghost use Rattle.rbg_rules.specs.Places.{IsPlaceOf};
 ghost use Rattle.rbg_perft.specs.Counting.{AreCounted, AreCountedBehind, AreLegalMoves, Sums, TellsFinished};
 
 use crate::error::CountError;
-use crate::settling::settle;
-use rbg_auto::Steps;
-use rbg_moves::{MoveList, Place, Workspace, find_pairs_on, gather_moves_with, make_move_into};
-use rbg_rules::Game;
-use std::alloc::Global;
+use rbg_moves::{MoveList, Place, PlayedGame, Workspace};
 
 /// How many sequences of moves there are.
 #[derive(Clone, Copy, Debug, PartialEq, Eq)]
@@ -41,7 +37,8 @@ const ENDED: Counts = Counts {
 impl Counts {
     /// Both together.
     fn join(self, other: Counts) -> Option<Counts>
-        ensures sequences { IfSome result (λ sum. sum.sequences ≡ self.sequences + other.sequences) }
+        ensures sequences { IfSome result (λ sum.
+            sum.sequences ≡ self.sequences + other.sequences) }
         ensures ended { IfSome result (λ sum. sum.ended ≡ self.ended + other.ended) }
     {
         Some(Counts {
@@ -53,74 +50,66 @@ impl Counts {
 
 /// Counts the sequences of so many moves of the players from a place. The keeper's moves between them are not counted.
 /// Where the keeper has several, it makes the one that `find_move` finds. The workspace counts what is searched.
-pub fn count_sequences<S: Steps>(
-    alloc: Global,
-    game: &Game,
-    steps: &S,
+pub fn count_sequences(
+    game: &PlayedGame,
     place: Place,
     moves: u8,
     workspace: &mut Workspace,
 ) -> Result<Counts, CountError>
-    requires steps { S.of_rules steps.now game.now.rules }
     requires place { IsPlaceOf game.now place }
     ensures counted { IfOk result (λ counts.
         AreCounted game.now moves place counts.sequences counts.ended) }
 {
     let mut place = place;
-    let counts = count_from(alloc, game, steps, &mut place, moves, workspace)?;
+    let counts = count_from(game, &mut place, moves, workspace)?;
     workspace.keep(place);
     Ok(counts)
 }
 
 /// Counts the sequences of so many moves of the players from a place, which is led on by the keeper's moves.
 #[cycle(counting)]
-fn count_from<S: Steps>(
-    alloc: Global,
-    game: &Game,
-    steps: &S,
+fn count_from(
+    game: &PlayedGame,
     place: &mut Place,
     moves: u8,
     workspace: &mut Workspace,
 ) -> Result<Counts, CountError>
-    requires steps { S.of_rules steps.now game.now.rules }
     requires place { IsPlaceOf game.now place.old }
     ensures counted { IfOk result (λ counts.
         AreCounted game.now moves place.old counts.sequences counts.ended) }
 {
-    settle(alloc, game, steps, place, workspace)?;
+    game.settle(place, workspace)?;
     if moves == 0 {
-        let here = count_here(alloc, game, steps, place, workspace)?;
+        let here = count_here(game, place, workspace)?;
         return Ok(here);
     }
-    let listed = list_all(alloc, game, steps, place, workspace)?;
-    let counts = count_behind(alloc, game, steps, place, &listed, moves - 1, workspace)?;
+    let listed = list_all(game, place, workspace)?;
+    let counts = count_behind(game, place, &listed, moves - 1, workspace)?;
     workspace.keep_moves(listed);
     Ok(counts)
 }
 
 /// Counts the sequences that begin with one of these moves and have so many further ones.
 #[cycle(counting)]
-fn count_behind<S: Steps>(
-    alloc: Global,
-    game: &Game,
-    steps: &S,
+fn count_behind(
+    game: &PlayedGame,
     place: &Place,
     firsts: &MoveList,
     further: u8,
     workspace: &mut Workspace,
 ) -> Result<Counts, CountError>
-    requires steps { S.of_rules steps.now game.now.rules }
     requires place { IsPlaceOf game.now place.now }
     requires legal { All (IsLegal game.now place.now) firsts.now }
     ensures counted { IfOk result (λ counts.
-        Sums (AreCountedBehind game.now further place.now) firsts.now counts.sequences counts.ended) }
+        Sums (AreCountedBehind game.now further place.now) firsts.now counts.sequences
+        counts.ended) }
 {
     let mut counts = NONE;
     let mut to = workspace.spare();
     for index in 0..firsts.len() {
         let pairs = firsts.get(index);
-        make_move_into(game, place, pairs, &mut to)?;
-        let behind = count_from(alloc, game, steps, &mut to, further, workspace)?;
+        game.make_move_into(place, pairs, &mut to)?;
+        let behind = count_from(game, &mut to, further, workspace)?;
         counts = counts.join(behind).ok_or(CountError::TooMany)?;
     }
     workspace.keep(to);
@@ -128,19 +117,16 @@ fn count_behind<S: Steps>(
 }
 
 /// Counts the one sequence of no moves.
-fn count_here<S: Steps>(
-    alloc: Global,
-    game: &Game,
-    steps: &S,
+fn count_here(
+    game: &PlayedGame,
     place: &mut Place,
     workspace: &mut Workspace,
 ) -> Result<Counts, CountError>
-    requires steps { S.of_rules steps.now game.now.rules }
     requires place { IsPlaceOf game.now place.old }
     ensures one { IfOk result (λ counts. counts.sequences ≡ 1) }
     ensures ended { IfOk result (λ counts. TellsFinished game.now place.old counts.ended) }
 {
-    match find_pairs_on(alloc, game, steps, place, workspace)? {
+    match game.find_pairs_on(place, workspace)? {
         Some(pairs) => {
             workspace.keep_pairs(pairs);
             Ok(GOING)
@@ -150,19 +136,23 @@ fn count_here<S: Steps>(
 }
 
 /// The legal moves, each once.
-fn list_all<S: Steps>(
-    alloc: Global,
-    game: &Game,
-    steps: &S,
+fn list_all(
+    game: &PlayedGame,
     place: &Place,
     workspace: &mut Workspace,
 ) -> Result<MoveList, CountError>
-    requires steps { S.of_rules steps.now game.now.rules }
     requires place { IsPlaceOf game.now place.now }
     ensures all { IfOk result (λ moves. AreLegalMoves game.now place.now moves) }
 {
-    // no list in memory is so long that it is cut there
-    let gathered = gather_moves_with(alloc, game, steps, place, usize::MAX, workspace)?;
-    let _count = gathered.moves.len();
+    let gathered = game.gather_moves(place, usize::MAX, workspace)?;
+    is_in_memory(&gathered.moves);
     Ok(gathered.moves)
+}
+
+/// For proofs alone: no list in memory is so long that it is cut at the greatest length. It does nothing.
+#[inline(always)]
+fn is_in_memory(moves: &MoveList)
+    ensures { length moves.now < 2 ^ 63 }
+{
+    let _count = moves.len();
 }

@@ -2,7 +2,7 @@
 ghost use Rattle.std.specs.Prelude.{◌≡◌};
 
 use rbg_base::Memory as OutOfMemory;
-use rbg_moves::Over;
+use rbg_moves::{Over, Unsettled};
 
 /// Why sequences of moves were not counted.
 #[derive(Clone, Copy, Debug, PartialEq, Eq)]
@@ -24,6 +24,18 @@ impl From<Over> for CountError {
         match over {
             Over::Deep | Over::Wide => CountError::Heavy,
             Over::Memory => CountError::Memory,
+        }
+    }
+}
+
+impl From<Unsettled> for CountError {
+    ghost from_gives = { λ _ _. Unit {0} };
+
+    fn from(unsettled: Unsettled) -> CountError {
+        match unsettled {
+            Unsettled::Heavy => CountError::Heavy,
+            Unsettled::Endless => CountError::Keeper,
+            Unsettled::Memory => CountError::Memory,
         }
     }
 }

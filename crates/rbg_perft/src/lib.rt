@@ -4,9 +4,8 @@
 mod beginning;
 mod counting;
 mod error;
-mod settling;
 
 pub use beginning::count_from_start;
 pub use counting::{Counts, count_sequences};
 pub use error::CountError;
-pub use rbg_moves::Workspace;
+pub use rbg_moves::{PlayedGame, Workspace};

@@ -12,7 +12,7 @@ use Rattle.rbg_rules.specs.Places.{IsPlaceOf}
 use Rattle.rbg_rules.proofs.PositionLemmas.{Among, has_position}
 use Rattle.rbg_rules.proofs.StateLemmas.{state_law}
 use Rattle.rbg_moves.specs.Listing.{IsListed}
-use Rattle.rbg_pairs.specs.Move.{IsMoveLength}
+use Rattle.rbg_base.specs.Move.{IsMoveLength}
 use Rattle.rbg_wire.specs.Messages.{ArePairs, IsShortPair}
 use Rattle.rbg_player.specs.Players.{AbstractSeat}
 use Rattle.rbg_player.specs.Hearing.{IsMover, HasMoveToMake}

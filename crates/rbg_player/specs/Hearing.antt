@@ -1,6 +1,6 @@
 -- What a player does where it hears one message.
 use Rattle.std.specs.Prelude.{◌≡◌, ℕ, ◌≤◌, List, [], ◌∷◌, length, Bool, true, false}
-use Rattle.rbg_pairs.specs.Move.{most_pairs}
+use Rattle.rbg_base.specs.Move.{most_pairs}
 use Rattle.rbg_wire.specs.declared.message.Reason.{Reason}
 use Rattle.rbg_wire.specs.declared.message.Reason.TheVariants.{NoSeat}
 use Rattle.rbg_wire.specs.declared.outcome.Outcome.{Outcome}

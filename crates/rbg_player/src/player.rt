@@ -63,7 +63,8 @@ impl Player {
     /// error.
     pub fn join(alloc: Global, table: u64, out: &mut Vec<u8>) -> Result<Player, Memory>
         ensures player { IfOk result (λ player. player ≡ new_player) }
-        ensures says { OnOk result (out.new.items ≡ out.old.items ++ spelling (join_message table)) }
+        ensures says { OnOk result (out.new.items
+            ≡ out.old.items ++ spelling (join_message table)) }
         ensures err { OnErr result (out.new.items ≡ out.old.items) }
     {
         write_message(&Message::Join { table }, out)?;
@@ -80,7 +81,8 @@ impl Player {
         chooser: &mut C,
         out: &mut Vec<u8>,
     ) -> Result<Heard, PlayerError>
-        ensures hears { OnOk result (HearsPiece self.old piece.now self.new out.old.items out.new.items) }
+        ensures hears { OnOk result (HearsPiece self.old piece.now self.new out.old.items
+            out.new.items) }
         ensures tells { IfOk result (λ heard. heard ≡ heard_at self.new.stage) }
         ensures fails { IfErr result (Fails self.old piece.now) }
         ensures out { OnErr result (out.new.items ≡ out.old.items) }
@@ -130,7 +132,8 @@ fn hear_piece<C: Chooser>(
 ) -> Result<(), PlayerError>
     requires ready { IsReady inbox.old }
     ensures ready { OnOk result (IsReady inbox.new) }
-    ensures hears { OnOk result (HearsPiece (player_of stage.old inbox.old) piece.now (player_of stage.new inbox.new)
+    ensures hears { OnOk result (HearsPiece (player_of stage.old inbox.old) piece.now
+        (player_of stage.new inbox.new)
         out.old.items out.new.items) }
     ensures fails { IfErr result (Fails (player_of stage.old inbox.old) piece.now) }
     ensures kept { take (length out.old.items) out.new.items ≡ out.old.items }
@@ -151,7 +154,8 @@ fn hear_item<C: Chooser>(
     out: &mut Vec<u8>,
 ) -> Result<(), PlayerError>
     ensures hears { OnOk result
-        (HearsItem (stage_of stage.old) (item_of took.entry) (stage_of stage.new) out.old.items out.new.items) }
+        (HearsItem (stage_of stage.old) (item_of took.entry) (stage_of stage.new) out.old.items
+        out.new.items) }
     ensures fault { IfErr result (HasItemFault (stage_of stage.old) (item_of took.entry)) }
     ensures out { OnErr result (out.new.items ≡ out.old.items) }
 {

@@ -1,6 +1,6 @@
 //! A seat in a game, whose player follows play and chooses its moves.
 ghost use Rattle.std.specs.Prelude.{◌≡◌, ◌↔◌, ◌==◌, ℕ, [], length, Contains, None, IfErr, IfNone, IfOk, IfSome, IsTrue, OnOk};
-ghost use Rattle.rbg_pairs.specs.Move.{IsMoveLength};
+ghost use Rattle.rbg_base.specs.Move.{IsMoveLength};
 ghost use Rattle.rbg_game.specs.Loading.{Loads};
 ghost use Rattle.rbg_rules.specs.Games.{IsGame};
 ghost use Rattle.rbg_rules.specs.Places.{IsPlaceOf};
@@ -53,7 +53,8 @@ impl Model for Seat {
 impl Seat {
     /// The seat of a player in the game of a text, at the beginning of play.
     pub(crate) fn new(alloc: Global, player: u64, text: &[u8]) -> Result<Seat, PlayerError>
-        ensures sits { IfOk result (λ seat. Hears (named player) (game_message text.now) (seated seat) []) }
+        ensures sits { IfOk result (λ seat.
+            Hears (named player) (game_message text.now) (seated seat) []) }
         ensures fault { IfErr result (HasFault (named player) (game_message text.now)) }
     {
         let game = load_game(alloc, text)?;
@@ -144,7 +145,8 @@ fn choose_among<C: Chooser>(mut moves: Vec<Move>, chooser: &mut C) -> Option<Mov
 /// The automaton of the game's rules, and the place where play begins.
 fn prepare(alloc: Global, game: &Game) -> Result<(Compact, Place), Memory>
     ensures automaton { IfOk result (λ made. ⟦<Compact as Steps>⟧.of_rules made.0 game.now.rules) }
-    ensures start { IfOk result (λ made. made.1 ≡ record { state = start_of game.now; last = None }) }
+    ensures start { IfOk result (λ made.
+        made.1 ≡ record { state = start_of game.now; last = None }) }
     ensures lawful { IsGame game.now }
     ensures fits { IfOk result (λ made. IsPlaceOf game.now made.1) }
 {

@@ -68,7 +68,8 @@ impl Stage {
         out: &mut Vec<u8>,
     ) -> Result<(), PlayerError>
         ensures ok { OnOk result (HearsAndSays
-            (stage_of self.old) (message_of message.entry) (stage_of self.new) out.old.items out.new.items) }
+            (stage_of self.old) (message_of message.entry) (stage_of self.new) out.old.items
+            out.new.items) }
         ensures fault { IfErr result (HasFault (stage_of self.old) (message_of message.entry)) }
         ensures out { OnErr result (out.new.items ≡ out.old.items) }
     {
@@ -87,7 +88,8 @@ impl Stage {
     fn hear_name(&mut self, player: u64) -> Result<(), PlayerError>
         ensures ok { (name : List ℕ) → OnOk result
             (Hears (stage_of self.old) (who_message player name) (stage_of self.new) []) }
-        ensures fault { (name : List ℕ) → IfErr result (HasFault (stage_of self.old) (who_message player name)) }
+        ensures fault { (name : List ℕ)
+            → IfErr result (HasFault (stage_of self.old) (who_message player name)) }
     {
         match self {
             Stage::Unnamed => {
@@ -104,7 +106,8 @@ impl Stage {
 
     #[tactic(auto, using(crate::proofs::HearingLemmas::hearing))]
     fn hear_game(&mut self, alloc: Global, text: &[u8]) -> Result<(), PlayerError>
-        ensures ok { OnOk result (Hears (stage_of self.old) (game_message text.now) (stage_of self.new) []) }
+        ensures ok { OnOk result (Hears (stage_of self.old) (game_message text.now)
+            (stage_of self.new) []) }
         ensures fault { IfErr result (HasFault (stage_of self.old) (game_message text.now)) }
     {
         match self {
@@ -149,7 +152,8 @@ impl Stage {
         out: &mut Vec<u8>,
     ) -> Result<(), PlayerError>
         ensures ok { OnOk result (HearsAndSays
-            (stage_of self.old) (move_message pairs.now) (stage_of self.new) out.old.items out.new.items) }
+            (stage_of self.old) (move_message pairs.now) (stage_of self.new) out.old.items
+            out.new.items) }
         ensures fault { IfErr result (HasFault (stage_of self.old) (move_message pairs.now)) }
         ensures out { OnErr result (out.new.items ≡ out.old.items) }
     {
@@ -165,7 +169,8 @@ impl Stage {
 
     #[tactic(auto, using(crate::proofs::HearingLemmas::hearing))]
     fn hear_refusal(&self, reason: Reason) -> Result<(), PlayerError>
-        ensures ok { OnOk result (Hears (stage_of self.now) (refusal_message reason) (stage_of self.now) []) }
+        ensures ok { OnOk result (Hears (stage_of self.now) (refusal_message reason)
+            (stage_of self.now) []) }
         ensures fault { IfErr result (HasFault (stage_of self.now) (refusal_message reason)) }
     {
         match self {
@@ -180,7 +185,8 @@ impl Stage {
 
     #[tactic(auto, using(crate::proofs::HearingLemmas::hearing))]
     fn hear_end(&mut self, outcome: Outcome) -> Result<(), PlayerError>
-        ensures ok { OnOk result (Hears (stage_of self.old) (end_message outcome) (stage_of self.new) []) }
+        ensures ok { OnOk result (Hears (stage_of self.old) (end_message outcome)
+            (stage_of self.new) []) }
         ensures fault { IfErr result (HasFault (stage_of self.old) (end_message outcome)) }
     {
         match self {
@@ -219,7 +225,8 @@ fn play<C: Chooser>(
     out: &mut Vec<u8>,
 ) -> Result<(), PlayerError>
     ensures ok { OnOk result
-        (HearsAndSays (playing seat.old) (move_message pairs.now) (playing seat.new) out.old.items out.new.items) }
+        (HearsAndSays (playing seat.old) (move_message pairs.now) (playing seat.new) out.old.items
+        out.new.items) }
     ensures fault { IfErr result (HasFault (playing seat.old) (move_message pairs.now)) }
     ensures out { OnErr result (out.new.items ≡ out.old.items) }
 {

@@ -1,13 +1,13 @@
 //! Why a task is not done: each fault's printed line and its status.
 
 use crate::player_refusal::PlayerRefusal;
-use crate::script::ScriptError;
 use rbg_console::{DEVICE, Refusal, WordsError, write_text};
 use rbg_game::LoadError;
 use rbg_hall::ServeError;
 use rbg_match::{MatchError, RefereeError};
 use rbg_player::PlayerError;
 use rbg_record::RecordError;
+use rbg_script::ScriptError;
 use std::alloc::AllocError;
 use std::io::{self, Write};
 use thiserror::Error;
@@ -101,7 +101,7 @@ impl From<ScriptError> for Fault {
     fn from(error: ScriptError) -> Fault {
         match error {
             ScriptError::Line(line) => Fault::Script(line),
-            ScriptError::Memory(error) => Fault::Memory(error),
+            ScriptError::Memory => Fault::Memory(AllocError),
         }
     }
 }

@@ -4,7 +4,7 @@
 use crate::fault::Fault;
 use rbg_console::{Files, Input, MAX_INPUT, read_input};
 use rbg_game::LoadError;
-use rbg_macro::{MAX_TEXT, TextError};
+use rbg_tokens::{MAX_TEXT, TextError};
 use std::alloc::Global;
 use std::io::Read;
 

@@ -13,7 +13,7 @@ mod printed;
 mod program;
 mod records;
 mod refereeing;
-mod script;
+mod script_events;
 mod serving;
 mod stream_line;
 mod system_network;

@@ -4,8 +4,8 @@ use crate::fault::Fault;
 use crate::inputs::{read_within, record_of, text_of};
 use rbg_console::{Files, MAX_INPUT};
 use rbg_game::{Game, load};
-use rbg_macro::MAX_TEXT;
 use rbg_record::{Checked, check_record, migrate};
+use rbg_tokens::MAX_TEXT;
 use std::alloc::Global;
 
 /// Says whether the record is one of a match of the game, and right.

@@ -3,11 +3,12 @@
 use crate::fault::Fault;
 use crate::inputs::{read_standard_input, read_within, script_of, text_of};
 use crate::printed::match_lines;
-use crate::script::Script;
+use crate::script_events::{config_of, events_of};
 use rbg_console::Files;
 use rbg_game::load;
-use rbg_macro::MAX_TEXT;
 use rbg_match::referee;
+use rbg_script::{Script, cut_at_mark, read_script};
+use rbg_tokens::MAX_TEXT;
 use std::alloc::Global;
 use std::io::Read;
 
@@ -27,15 +28,15 @@ pub fn referee_file<F: Files, R: Read>(
 /// Referees the match of a description, a line `%%` and a script, all on standard input.
 pub fn referee_input<R: Read>(alloc: Global, input: &mut R) -> Result<Vec<u8>, Fault> {
     let bytes = script_of(read_standard_input(alloc, input)?)?;
-    match split_at_mark(bytes.as_slice()) {
-        Some((description, script)) => referee_texts(alloc, description, script),
+    match cut_at_mark(bytes.as_slice()) {
+        Some(texts) => referee_texts(alloc, texts.description, texts.script),
         None => Err(Fault::Script(0)),
     }
 }
 
 /// Referees the match of a description and a script. A refusal of the description comes before a fault of the script.
 fn referee_texts(alloc: Global, description: &[u8], script: &[u8]) -> Result<Vec<u8>, Fault> {
-    match Script::read(alloc, script) {
+    match read_script(alloc, script) {
         Ok(script) => referee_script(alloc, description, &script),
         Err(error) => {
             load(alloc, description)?;
@@ -45,32 +46,13 @@ fn referee_texts(alloc: Global, description: &[u8], script: &[u8]) -> Result<Vec
 }
 
 fn referee_script(alloc: Global, description: &[u8], script: &Script) -> Result<Vec<u8>, Fault> {
-    let events = script.events(alloc)?;
+    let events = events_of(alloc, script.events.as_slice())?;
     let outbox = referee(
         alloc,
         description,
-        script.config,
-        script.now,
+        config_of(script.config),
+        script.config.now,
         events.as_slice(),
     )?;
     Ok(match_lines(alloc, &outbox)?)
-}
-
-/// What stands before the first line that is exactly `%%`, and what stands after it. The line may end the input.
-fn split_at_mark(bytes: &[u8]) -> Option<(&[u8], &[u8])> {
-    for start in 0..bytes.len() {
-        if start > 0 && bytes[start - 1] != b'\n' {
-            continue;
-        }
-        let Some(rest) = bytes[start..].strip_prefix(b"%%") else {
-            continue;
-        };
-        if rest.is_empty() {
-            return Some((&bytes[..start], rest));
-        }
-        if let Some(script) = rest.strip_prefix(b"\n") {
-            return Some((&bytes[..start], script));
-        }
-    }
-    None
 }

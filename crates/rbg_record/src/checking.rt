@@ -17,10 +17,13 @@ use std::alloc::Global;
 /// not right, or asks a question above the limits. What a line tells without a question is looked at before its
 /// question. No question is asked twice.
 pub fn check_record(alloc: Global, game: &Game, bytes: &[u8]) -> Result<Checked, RecordError>
-    ensures good { IfOk result (λ checked. (checked ≡ Checked.Good) ↔ IsRightRecord game.now bytes.now) }
+    ensures good { IfOk result (λ checked.
+        (checked ≡ Checked.Good) ↔ IsRightRecord game.now bytes.now) }
     ensures bad { (line : ℕ) → result ≡ Ok (Checked.Bad line) → IsBadLine game.now bytes.now line }
-    ensures form { (line : ℕ) → result ≡ Err (RecordError.Form line) → IsFormFault game.now bytes.now line }
-    ensures over { (line : ℕ) → result ≡ Err (RecordError.Over line) → IsHeavyLine game.now bytes.now line }
+    ensures form { (line : ℕ) → result ≡ Err (RecordError.Form line)
+        → IsFormFault game.now bytes.now line }
+    ensures over { (line : ℕ) → result ≡ Err (RecordError.Over line)
+        → IsHeavyLine game.now bytes.now line }
 {
     let _positions = game.positions();
     judge_record(alloc, game, bytes)

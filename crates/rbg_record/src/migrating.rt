@@ -37,7 +37,8 @@ enum Part {
 /// Only the form is looked at, so a record that isn't right is migrated too. No question is asked of the rules.
 pub fn migrate(alloc: Global, game: &Game, bytes: &[u8]) -> Result<Vec<u8>, RecordError>
     ensures migrated { IfOk result (λ new. IsMigrated game.now bytes.now new.items) }
-    ensures right { IfOk result (λ new. IsRightRecord game.now new.items ↔ IsRightRecord game.now bytes.now) }
+    ensures right { IfOk result (λ new.
+        IsRightRecord game.now new.items ↔ IsRightRecord game.now bytes.now) }
     ensures form { (line : ℕ) → result ≡ Err (RecordError.Form line) → IsPlainFault bytes.now line }
     ensures never_over { (line : ℕ) → ¬ (result ≡ Err (RecordError.Over line)) }
 {
@@ -88,7 +89,8 @@ fn migrate_line(
 /// Appends the first lines, if the text is that of version 1.
 fn begin(game: &Game, text: &[u8], out: &mut Vec<u8>) -> Result<Option<Part>, Memory>
     ensures leads { IfOk result (λ to. IfSome to (λ next.
-        Migrates game.now (part_of Part.Version) text.now (part_of next) out.old.items out.new.items)) }
+        Migrates game.now (part_of Part.Version) text.now (part_of next) out.old.items
+        out.new.items)) }
     ensures none { IfOk result (λ to. IfNone to (¬ HasPlainForm (part_of Part.Version) text.now)) }
 {
     match read_version(text) {
@@ -112,7 +114,8 @@ fn write_head(game: &Game, out: &mut Vec<u8>) -> Result<(), Memory>
 
 /// Appends the line of the players.
 fn write_players(game: &Game, out: &mut Vec<u8>) -> Result<(), Memory>
-    ensures { OnOk result (out.new.items ≡ out.old.items ++ line_of (players_text game.now.players)) }
+    ensures { OnOk result (out.new.items
+        ≡ out.old.items ++ line_of (players_text game.now.players)) }
 {
     begin_players(out)?;
     write_names(game, out)?;
@@ -121,7 +124,8 @@ fn write_players(game: &Game, out: &mut Vec<u8>) -> Result<(), Memory>
 
 /// Appends the players' names, with a space before each.
 fn write_names(game: &Game, out: &mut Vec<u8>) -> Result<(), Memory>
-    ensures { OnOk result (out.new.items ≡ out.old.items ++ flat_map (λ name. codes " " ++ name) game.now.players) }
+    ensures { OnOk result (out.new.items
+        ≡ out.old.items ++ flat_map (λ name. codes " " ++ name) game.now.players) }
 {
     for index in 0..game.players() {
         write_player(game.player_name(index as u16 + 1).as_bytes(), out)?;

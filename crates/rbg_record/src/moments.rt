@@ -32,7 +32,8 @@ pub(crate) fn unwritten(entry: &Entry) -> u64
 
 /// Whether the time for a turn is within its limits, and the moment of the beginning is one that is counted.
 pub(crate) fn is_lawful(start: Start) -> bool
-    ensures { IsTrue result ↔ (IsWithinLimits (turn_config start.turn_ms) × (start.now ≤ latest_moment)) }
+    ensures { IsTrue result ↔ (IsWithinLimits (turn_config start.turn_ms)
+        × (start.now ≤ latest_moment)) }
 {
     let config = Config {
         turn_ms: start.turn_ms,
@@ -83,7 +84,8 @@ impl Standing {
 
     /// Whether what an entry tells without a question is right in a game.
     pub(crate) fn fits(&self, game: &RecordedGame<'_>, told: &Timed) -> bool
-        ensures { IsTrue result ↔ FitsUnasked game.now (standing_of self.now) told.now.at told.now.entry }
+        ensures { IsTrue result
+            ↔ FitsUnasked game.now (standing_of self.now) told.now.at told.now.entry }
     {
         let at = told.at;
         match &told.entry {
@@ -96,7 +98,8 @@ impl Standing {
     }
 
     fn fits_outcome(&self, game: &RecordedGame<'_>, at: u64, outcome: Outcome) -> bool
-        ensures { IsTrue result ↔ FitsUnasked game.now (standing_of self.now) at (EndEntry (Some outcome)) }
+        ensures { IsTrue result
+            ↔ FitsUnasked game.now (standing_of self.now) at (EndEntry (Some outcome)) }
     {
         match outcome {
             Outcome::Finished { .. } => at == self.last,

@@ -41,7 +41,8 @@ pub(crate) fn read_line(
     text: &[u8],
 ) -> Result<Reached, Fault>
     requires { IsReachedIn game.now (reached_of reached) }
-    ensures leads { IfOk result (λ to. Leads game.now (reached_of reached) text.now (reached_of to)) }
+    ensures leads { IfOk result (λ to.
+        Leads game.now (reached_of reached) text.now (reached_of to)) }
     ensures in_game { IfOk result (λ to. IsReachedIn game.now (reached_of to)) }
     ensures refused { IfErr result (Refuses game.now (reached_of reached) text.now) }
 {
@@ -111,7 +112,8 @@ fn start(game: &RecordedGame<'_>, text: &[u8]) -> Result<Reached, Fault>
 /// Reads a move or the end.
 fn go_on(game: &RecordedGame<'_>, standing: Standing, text: &[u8]) -> Result<Reached, Fault>
     requires { IsPlaceOf game.now standing.place }
-    ensures leads { IfOk result (λ to. Leads game.now (entry_next (standing_of standing)) text.now (reached_of to)) }
+    ensures leads { IfOk result (λ to.
+        Leads game.now (entry_next (standing_of standing)) text.now (reached_of to)) }
     ensures in_game { IfOk result (λ to. IsReachedIn game.now (reached_of to)) }
     ensures refused { IfErr result (Refuses game.now (entry_next (standing_of standing)) text.now) }
 {
@@ -141,7 +143,8 @@ fn read_in(version: Version, text: &[u8]) -> Option<Timed>
 /// What an entry leads to. What needs no question is looked at first.
 fn judge(game: &RecordedGame<'_>, standing: Standing, told: &Timed) -> Result<Reached, Fault>
     requires { IsPlaceOf game.now standing.place }
-    ensures leads { IfOk result (λ to. EntryLeads game.now (standing_of standing) told.now (reached_of to)) }
+    ensures leads { IfOk result (λ to.
+        EntryLeads game.now (standing_of standing) told.now (reached_of to)) }
     ensures in_game { IfOk result (λ to. IsReachedIn game.now (reached_of to)) }
     ensures refused { IfErr result (RefusesEntry game.now (standing_of standing) told.now) }
 {

@@ -107,7 +107,8 @@ impl<'a> RecordedGame<'a> {
     /// Whether these are the players' values at a place.
     pub(crate) fn are_scores(&self, place: &Place, scores: &Scores) -> bool
         requires { IsPlaceOf self.now place.now }
-        ensures { IsTrue result ↔ (scores.now ≡ take (length self.now.players) place.now.state.values) }
+        ensures { IsTrue result ↔ (scores.now
+            ≡ take (length self.now.players) place.now.state.values) }
     {
         let mut values = Scores::new();
         for index in 0..self.game.players() {
@@ -122,7 +123,8 @@ impl<'a> RecordedGame<'a> {
     pub(crate) fn is_finished(&self, place: &Place) -> Result<bool, Fault>
         requires { IsPlaceOf self.now place.now }
         ensures finished { IfOk result (λ finished. finished ≡ true → Finished self.now place.now) }
-        ensures going { IfOk result (λ finished. finished ≡ false → SomeIsLegal self.now place.now) }
+        ensures going { IfOk result (λ finished. finished ≡ false
+            → SomeIsLegal self.now place.now) }
         ensures heavy { result ≡ Err Fault.Over → IsHeavyToFind self.now place.now }
         ensures other { IfErr result IsOverOrMemory }
     {

@@ -64,7 +64,8 @@ fn write_players(played: &Match, out: &mut Vec<u8>) -> Result<(), Memory>
 // Appends the players' names, with a space before each.
 fn write_names(played: &Match, out: &mut Vec<u8>) -> Result<(), Memory>
     ensures { OnOk result
-        (out.new.items ≡ out.old.items ++ flat_map (λ name. codes " " ++ name) played.now.game.players) }
+        (out.new.items ≡ out.old.items
+        ++ flat_map (λ name. codes " " ++ name) played.now.game.players) }
 {
     for index in 0..played.players() {
         write_player(played.player_name(index as u16 + 1).as_bytes(), out)?;
@@ -82,7 +83,8 @@ fn write_entries(version: Version, played: &Match, out: &mut Vec<u8>) -> Result<
 
 fn write_moves(version: Version, moves: &[Made], out: &mut Vec<u8>) -> Result<(), Memory>
     ensures { OnOk result
-        (out.new.items ≡ out.old.items ++ flat_map (λ made. line_of (made_text version made)) moves.now) }
+        (out.new.items ≡ out.old.items
+        ++ flat_map (λ made. line_of (made_text version made)) moves.now) }
 {
     for made in moves {
         write_move(

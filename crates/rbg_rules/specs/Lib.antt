@@ -18,5 +18,6 @@ pub mod Translation
 pub mod Table
 pub mod Texts
 pub mod Codes
+pub mod PlaceCodes
 pub mod Kept
 pub mod Parts

@@ -72,7 +72,8 @@ impl Game {
     /// The game of parts that were checked.
     pub fn new(parts: Parts) -> Game
         requires lawful { IsGame (game_of_parts parts) }
-        requires actions { length parts.rules.actions.items ≡ length (positions_of (rules_of parts.rules)) }
+        requires actions { length parts.rules.actions.items
+            ≡ length (positions_of (rules_of parts.rules)) }
         ensures { result ≡ game_of_parts parts }
     {
         Game {

@@ -19,7 +19,8 @@ use rbg_rules::{Action, Game};
 pub(crate) fn outcome_of(vertex: Vertex, valid: bool) -> Outcome
     ensures outcome { (game : AbstractGame) (s : AbstractState) (p : ℕ)
         → IsNumbered game.rules → IsPatternAt game.rules p
-        → IsTrue valid ↔ Applies game p (at_vertex s vertex) (at_vertex s vertex) → IsOutcome game s vertex p result }
+        → IsTrue valid ↔ Applies game p (at_vertex s vertex) (at_vertex s vertex)
+        → IsOutcome game s vertex p result }
     ensures there { (u : ℕ) → result ≡ Outcome.LeadsTo u → u ≡ vertex }
 {
     if valid {
@@ -34,7 +35,8 @@ pub(crate) fn is_valid(game: &Game, position: Position, runs: bool) -> bool
     requires lawful { IsGame game.now }
     requires there { IsPatternAt game.now.rules position }
     requires position { IsPositionOf game.now.rules position }
-    ensures { (s : AbstractState) → IsTrue runs ↔ SomeWordRuns game.now s (beginning (inside position))
+    ensures { (s : AbstractState)
+        → IsTrue runs ↔ SomeWordRuns game.now s (beginning (inside position))
         → IsTrue result ↔ Applies game.now position s s }
 {
     if is_negative(game.action(position)) {

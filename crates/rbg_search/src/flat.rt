@@ -64,7 +64,8 @@ impl Flat {
         requires there { vertex < length rules.now.board.first }
         ensures marks { HasMarksOf rules.now self.new.queue }
         ensures begun { OnOk result ((s : AbstractState) → s.vertex ≡ vertex
-            → IsPart rules.now s (start_of origin) self.new.queue.pairs (take self.new.taken self.new.queue.pairs)
+            → IsPart rules.now s (start_of origin) self.new.queue.pairs
+            (take self.new.taken self.new.queue.pairs)
             self.new.found.items self.new.ends) }
         ensures taken { OnOk result (self.new.taken ≤ length self.new.queue.pairs) }
         ensures none_taken { OnOk result (self.new.taken ≡ 0) }
@@ -172,9 +173,11 @@ impl Flat {
         requires within { self.old.taken ≤ length self.old.queue.pairs }
         ensures marks { HasMarksOf rules.now self.new.queue }
         ensures part { OnOk result ((f : Start)
-            → IsPart rules.now state.now.state f self.old.queue.pairs (take self.old.taken self.old.queue.pairs)
+            → IsPart rules.now state.now.state f self.old.queue.pairs
+            (take self.old.taken self.old.queue.pairs)
             self.old.found.items self.old.ends
-            → IsPart rules.now state.now.state f self.new.queue.pairs (take self.new.taken self.new.queue.pairs)
+            → IsPart rules.now state.now.state f self.new.queue.pairs
+            (take self.new.taken self.new.queue.pairs)
             self.new.found.items self.new.ends) }
         ensures within { OnOk result (self.new.taken ≤ length self.new.queue.pairs) }
         ensures further { OnOk result (self.old.taken ≤ self.new.taken) }
@@ -182,7 +185,8 @@ impl Flat {
             → Contains (take self.old.taken self.old.queue.pairs) x
             → Contains (take self.new.taken self.new.queue.pairs) x) }
         ensures quiet { OnOk result ((v p : ℕ)
-            → Contains (take self.new.taken self.new.queue.pairs) (v, p) → IsPatternAt rules.now.rules p
+            → Contains (take self.new.taken self.new.queue.pairs) (v, p)
+            → IsPatternAt rules.now.rules p
             → Contains (take self.old.taken self.old.queue.pairs) (v, p)) }
         ensures asked { IfOk result (λ next. IfSome next (λ pair.
             (slice_get self.new.queue.pairs self.new.taken ≡ Some pair)
@@ -190,9 +194,11 @@ impl Flat {
             × IsPatternAt rules.now.rules pair.1)) }
         ensures fresh { IfOk result (λ next. IfSome next (λ pair.
             ¬ Contains (take self.new.taken self.new.queue.pairs) pair)) }
-        ensures done { IfOk result (λ next. IfNone next (self.new.taken ≡ length self.new.queue.pairs)) }
+        ensures done { IfOk result (λ next.
+            IfNone next (self.new.taken ≡ length self.new.queue.pairs)) }
         ensures whole { IfOk result (λ next. IfNone next ((f : Start)
-            → IsPart rules.now state.now.state f self.old.queue.pairs (take self.old.taken self.old.queue.pairs)
+            → IsPart rules.now state.now.state f self.old.queue.pairs
+            (take self.old.taken self.old.queue.pairs)
             self.old.found.items self.old.ends
             → IsFlatPart rules.now state.now.state f self.new.found.items self.new.ends)) }
     {
@@ -223,16 +229,19 @@ impl Flat {
         requires within { self.old.taken ≤ length self.old.queue.pairs }
         ensures marks { HasMarksOf rules.now self.new.queue }
         ensures part { (f : Start)
-            → IsPart rules.now state.now.state f self.old.queue.pairs (take self.old.taken self.old.queue.pairs)
+            → IsPart rules.now state.now.state f self.old.queue.pairs
+            (take self.old.taken self.old.queue.pairs)
             self.old.found.items self.old.ends
-            → IsPart rules.now state.now.state f self.new.queue.pairs (take self.new.taken self.new.queue.pairs)
+            → IsPart rules.now state.now.state f self.new.queue.pairs
+            (take self.new.taken self.new.queue.pairs)
             self.new.found.items self.new.ends }
         ensures within { self.new.taken ≤ length self.new.queue.pairs }
         ensures further { self.old.taken ≤ self.new.taken }
         ensures still_done { (x : ℕ × ℕ) → Contains (take self.old.taken self.old.queue.pairs) x
             → Contains (take self.new.taken self.new.queue.pairs) x }
         ensures quiet { (v p : ℕ) → Contains (take self.new.taken self.new.queue.pairs) (v, p)
-            → IsPatternAt rules.now.rules p → Contains (take self.old.taken self.old.queue.pairs) (v, p) }
+            → IsPatternAt rules.now.rules p
+            → Contains (take self.old.taken self.old.queue.pairs) (v, p) }
     {
         if let Some(tables) = rules.tables() {
             self.taken = self
@@ -254,7 +263,8 @@ pub(crate) fn tried<S: Steps>(
     requires fits { IsStateOf rules.now state.now.state }
     requires there { vertex < length rules.now.board.first }
     requires position { IsPositionOf rules.now.rules position }
-    ensures outcome { IfSome result (λ outcome. IsOutcome rules.now state.now.state vertex position outcome) }
+    ensures outcome { IfSome result (λ outcome.
+        IsOutcome rules.now state.now.state vertex position outcome) }
     ensures there { IfSome result (λ outcome. (u : ℕ) → outcome ≡ Outcome.LeadsTo u
         → u < length rules.now.board.first) }
     ensures plain { IfSome result (λ _. ¬ IsPatternAt rules.now.rules position) }
@@ -289,7 +299,8 @@ fn shifted(game: &Game, vertex: Vertex, direction: Direction) -> Outcome
 fn stood_on(state: &SemiState, vertex: Vertex, piece: Piece) -> Outcome
     requires { vertex < length state.now.state.pieces }
     ensures outcome { (game : AbstractGame) (q : ℕ) → IsNumbered game.rules
-        → HasAction game.rules q (on (piece ∷ [])) → IsOutcome game state.now.state vertex q result }
+        → HasAction game.rules q (on (piece ∷ []))
+        → IsOutcome game state.now.state vertex q result }
     ensures there { (u : ℕ) → result ≡ Outcome.LeadsTo u → u ≡ vertex }
 {
     if state.piece(vertex) == piece {
@@ -304,7 +315,8 @@ fn stood_on(state: &SemiState, vertex: Vertex, piece: Piece) -> Outcome
 fn stood_on_either(state: &SemiState, vertex: Vertex, piece: Piece, other: Piece) -> Outcome
     requires { vertex < length state.now.state.pieces }
     ensures outcome { (game : AbstractGame) (q : ℕ) → IsNumbered game.rules
-        → HasAction game.rules q (on (piece ∷ other ∷ [])) → IsOutcome game state.now.state vertex q result }
+        → HasAction game.rules q (on (piece ∷ other ∷ []))
+        → IsOutcome game state.now.state vertex q result }
     ensures there { (u : ℕ) → result ≡ Outcome.LeadsTo u → u ≡ vertex }
 {
     let here = state.piece(vertex);
@@ -322,7 +334,8 @@ fn tried_at(game: &Game, state: &SemiState, vertex: Vertex, position: Position) 
     requires fits { IsStateOf game.now state.now.state }
     requires there { vertex < length game.now.board.first }
     requires position { IsPositionOf game.now.rules position }
-    ensures outcome { IfSome result (λ outcome. IsOutcome game.now state.now.state vertex position outcome) }
+    ensures outcome { IfSome result (λ outcome.
+        IsOutcome game.now state.now.state vertex position outcome) }
     ensures there { IfSome result (λ outcome. (u : ℕ) → outcome ≡ Outcome.LeadsTo u
         → u < length game.now.board.first) }
     ensures plain { IfSome result (λ _. ¬ IsPatternAt game.now.rules position) }

@@ -50,7 +50,8 @@ pub(crate) const LONG_LIST: usize = 8;
 pub(crate) fn are_marked(words: &[u64], rows: usize, vertex: Vertex, positions: &[Position]) -> bool
     requires small { length words.now < 2 ^ 64 }
     requires there { All (λ p. vertex / 64 * rows + p < length words.now) positions.now }
-    ensures { IsTrue result → All (λ p. is_marked words.now (mark_at rows (vertex, p)) ≡ true) positions.now }
+    ensures { IsTrue result → All (λ p.
+        is_marked words.now (mark_at rows (vertex, p)) ≡ true) positions.now }
 {
     let column = vertex as usize / 64;
     let bit = vertex % 64;

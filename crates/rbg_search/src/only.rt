@@ -22,7 +22,8 @@ pub(crate) fn only_modifier<S: Steps>(
     origin: Origin,
 ) -> Option<Position>
     requires { IsStateOf rules.now state.now.state }
-    ensures only { IfSome result (λ p. AreAllThatFollow rules.now.rules (start_of origin) (p ∷ [])) }
+    ensures only { IfSome result (λ p.
+        AreAllThatFollow rules.now.rules (start_of origin) (p ∷ [])) }
     ensures modifies { IfSome result (λ p.
         IsOutcome rules.now state.now.state state.now.state.vertex p Outcome.Modifies) }
 {

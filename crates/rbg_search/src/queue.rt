@@ -132,7 +132,8 @@ impl Queue {
         ensures further { taken ≤ result }
         ensures part { (s : AbstractState) (f : Start) (ends : Bool) → s.pieces ≡ pieces.now
             → IsPart tables.now s f self.old.pairs (take taken self.old.pairs) found.old.items ends
-            → IsPart tables.now s f self.new.pairs (take result self.new.pairs) found.new.items ends }
+            → IsPart tables.now s f self.new.pairs (take result self.new.pairs) found.new.items
+            ends }
         ensures still_done { (x : ℕ × ℕ) → Contains (take taken self.old.pairs) x
             → Contains (take result self.new.pairs) x }
         ensures quiet { (v p : ℕ) → Contains (take result self.new.pairs) (v, p)
@@ -184,7 +185,8 @@ fn make_room(room: &mut Vec<(Vertex, Position)>, met: usize, more: usize) -> Res
 #[cold]
 #[inline(never)]
 fn widen(room: &mut Vec<(Vertex, Position)>, more: usize) -> Result<(), Memory>
-    ensures items { OnOk result ((n : ℕ) × (room.new.items ≡ room.old.items ++ replicate n (0, 0))) }
+    ensures items { OnOk result ((n : ℕ)
+        × (room.new.items ≡ room.old.items ++ replicate n (0, 0))) }
     ensures wide { OnOk result (length room.old.items + more ≤ length room.new.items) }
     ensures refused { OnErr result (room.new.items ≡ room.old.items) }
 {

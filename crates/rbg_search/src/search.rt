@@ -216,7 +216,8 @@ impl<'a, S: Steps> Search<'a, S> {
         ensures room { state.old.room ≤ state.new.room }
         ensures enough { OnOk result (2 ≤ state.new.room) }
         ensures reached { IfOk result (λ reached.
-            IsFlatPart self.old.game state.old.state (start_of origin) reached.pairs.items reached.ends) }
+            IsFlatPart self.old.game state.old.state (start_of origin) reached.pairs.items
+            reached.ends) }
         ensures order { IfOk result (λ reached. AllPairs IsBefore reached.pairs.items) }
         ensures within { IfOk result (λ reached. All (λ pair.
             (pair.0 < length self.old.game.board.first) × IsPositionOf self.old.game.rules pair.1)
@@ -226,7 +227,8 @@ impl<'a, S: Steps> Search<'a, S> {
         ensures deep { result ≡ Err Over.Deep
             → IsDeep self.old.game reach state.old.state (start_of origin) self.old.modifiers }
         ensures wide { result ≡ Err Over.Wide
-            → IsOverBudget self.old.game reach state.old.state (start_of origin) self.old.opened self.old.openings }
+            → IsOverBudget self.old.game reach state.old.state (start_of origin) self.old.opened
+            self.old.openings }
         ensures forced { OnOk result ((cut : Bool) (left : ℕ)
             → CountsForced self.old.game cut reach state.old.state (start_of origin)
             self.old.opened self.new.opened left self.old.modifiers) }
@@ -234,7 +236,8 @@ impl<'a, S: Steps> Search<'a, S> {
             → CountsAllForced self.old.game cut reach state.old.state (start_of origin)
             self.old.opened self.new.opened) }
         ensures not_deep { OnOk result ((cut : Bool)
-            → IsNotForcedDeep self.old.game cut reach state.old.state (start_of origin) self.old.modifiers) }
+            → IsNotForcedDeep self.old.game cut reach state.old.state (start_of origin)
+            self.old.modifiers) }
     {
         let mut pairs = self.take_list();
         let ends = self.reach_into(state, origin, &mut pairs)?;
@@ -267,7 +270,8 @@ impl<'a, S: Steps> Search<'a, S> {
         ensures deep { result ≡ Err Over.Deep
             → IsDeep self.old.game reach state.old.state (start_of origin) self.old.modifiers }
         ensures wide { result ≡ Err Over.Wide
-            → IsOverBudget self.old.game reach state.old.state (start_of origin) self.old.opened self.old.openings }
+            → IsOverBudget self.old.game reach state.old.state (start_of origin) self.old.opened
+            self.old.openings }
         ensures forced { OnOk result ((cut : Bool) (left : ℕ)
             → CountsForced self.old.game cut reach state.old.state (start_of origin)
             self.old.opened self.new.opened left self.old.modifiers) }
@@ -275,7 +279,8 @@ impl<'a, S: Steps> Search<'a, S> {
             → CountsAllForced self.old.game cut reach state.old.state (start_of origin)
             self.old.opened self.new.opened) }
         ensures not_deep { OnOk result ((cut : Bool)
-            → IsNotForcedDeep self.old.game cut reach state.old.state (start_of origin) self.old.modifiers) }
+            → IsNotForcedDeep self.old.game cut reach state.old.state (start_of origin)
+            self.old.modifiers) }
     {
         if let Some(position) = only_modifier(&self.rules, state, origin) {
             return self.reach_only(state, origin, position, pairs);
@@ -297,7 +302,8 @@ impl<'a, S: Steps> Search<'a, S> {
         requires fits { IsStateOf self.old.game state.old.state }
         requires stands { IsStart self.old.game.rules (start_of origin) }
         requires only { AreAllThatFollow self.old.game.rules (start_of origin) (position ∷ []) }
-        requires modifies { IsOutcome self.old.game state.old.state state.old.state.vertex position Outcome.Modifies }
+        requires modifies { IsOutcome self.old.game state.old.state state.old.state.vertex position
+            Outcome.Modifies }
         ensures kept { self.new ≡ record self.old { opened = self.new.opened } }
         ensures given_back { state.new ≡ record state.old { room = state.new.room } }
         ensures room { state.old.room ≤ state.new.room }
@@ -331,18 +337,22 @@ impl<'a, S: Steps> Search<'a, S> {
         ensures room { state.old.room ≤ state.new.room }
         ensures valid { IfOk result (λ valid.
             IsTrue valid ↔ Applies self.old.game position state.old.state state.old.state) }
-        ensures counted { CountsOpenings self.old.game pattern state.old.state (beginning (inside position))
+        ensures counted { CountsOpenings self.old.game pattern state.old.state
+            (beginning (inside position))
             self.old.opened self.new.opened }
         ensures deep { result ≡ Err Over.Deep
-            → IsDeep self.old.game pattern state.old.state (beginning (inside position)) self.old.modifiers }
+            → IsDeep self.old.game pattern state.old.state (beginning (inside position))
+            self.old.modifiers }
         ensures wide { result ≡ Err Over.Wide
             → IsOverBudget self.old.game pattern state.old.state (beginning (inside position))
             self.old.opened self.old.openings }
         ensures all_forced { OnOk result ((cut : Bool)
-            → CountsAllForced self.old.game cut pattern state.old.state (beginning (inside position))
+            → CountsAllForced self.old.game cut pattern state.old.state
+            (beginning (inside position))
             self.old.opened self.new.opened) }
         ensures not_deep { OnOk result ((cut : Bool)
-            → IsNotForcedDeep self.old.game cut pattern state.old.state (beginning (inside position))
+            → IsNotForcedDeep self.old.game cut pattern state.old.state
+            (beginning (inside position))
             self.old.modifiers) }
     {
         state.reserve(1)?;
@@ -402,7 +412,8 @@ impl<'a, S: Steps> Search<'a, S> {
 
     /// Counts the pairs of a flat part that is found whole. Each of these was opened.
     fn count_pairs(&mut self, pairs: usize)
-        requires { pairs ≤ length (positions_of self.old.game.rules) * length self.old.game.board.first }
+        requires { pairs ≤ length (positions_of self.old.game.rules) * length
+            self.old.game.board.first }
         ensures kept { self.new ≡ self.old }
     {
         // The game is lawful, so the sum is a number of 64 bits.
@@ -474,7 +485,8 @@ impl<'a, S: Steps> Search<'a, S> {
         requires marks { HasMarksOf self.now.game flat.old.value.queue }
         requires within { flat.old.value.taken ≤ length flat.old.value.queue.pairs }
         ensures given_back { state.new ≡ state.old }
-        ensures begun { OnOk result ((f : Start) → IsBegun self.now.game state.old.state f flat.old.value
+        ensures begun { OnOk result ((f : Start)
+            → IsBegun self.now.game state.old.state f flat.old.value
             → IsBegun self.now.game state.old.state f flat.new.value) }
         ensures further { OnOk result (flat.old.value.taken ≤ flat.new.value.taken) }
         ensures asked { IfOk result (λ next. IfSome next (λ pair.
@@ -483,13 +495,15 @@ impl<'a, S: Steps> Search<'a, S> {
             × IsPatternAt self.now.game.rules pair.1)) }
         ensures whole { IfOk result (λ next. IfNone next ((f : Start)
             → IsBegun self.now.game state.old.state f flat.old.value
-            → IsFlatPart self.now.game state.old.state f flat.new.value.found.items flat.new.value.ends)) }
+            → IsFlatPart self.now.game state.old.state f flat.new.value.found.items
+            flat.new.value.ends)) }
         ensures marks { HasMarksOf self.now.game flat.new.value.queue }
         ensures still_done { OnOk result ((x : ℕ × ℕ)
             → Contains (take flat.old.value.taken flat.old.value.queue.pairs) x
             → Contains (take flat.new.value.taken flat.new.value.queue.pairs) x) }
         ensures quiet { OnOk result ((v p : ℕ)
-            → Contains (take flat.new.value.taken flat.new.value.queue.pairs) (v, p) → IsPatternAt self.now.game.rules p
+            → Contains (take flat.new.value.taken flat.new.value.queue.pairs) (v, p)
+            → IsPatternAt self.now.game.rules p
             → Contains (take flat.old.value.taken flat.old.value.queue.pairs) (v, p)) }
         ensures met { IfOk result (λ next. IfNone next ((f : Start)
             → IsBegun self.now.game state.old.state f flat.old.value → (v p : ℕ)
@@ -512,11 +526,13 @@ impl<'a, S: Steps> Search<'a, S> {
         valid: bool,
     ) -> Result<(), Memory>
         requires marks { HasMarksOf self.now.game flat.old.value.queue }
-        requires here { slice_get flat.old.value.queue.pairs flat.old.value.taken ≡ Some (vertex, position) }
+        requires here { slice_get flat.old.value.queue.pairs flat.old.value.taken
+            ≡ Some (vertex, position) }
         requires vertex { vertex < length self.now.game.board.first }
         requires there { IsPatternAt self.now.game.rules position }
         ensures begun { OnOk result ((s : AbstractState) (f : Start)
-            → IsTrue valid ↔ Applies self.now.game position (at_vertex s vertex) (at_vertex s vertex)
+            → IsTrue valid
+            ↔ Applies self.now.game position (at_vertex s vertex) (at_vertex s vertex)
             → IsBegun self.now.game s f flat.old.value → IsBegun self.now.game s f flat.new.value) }
         ensures taken { OnOk result (flat.new.value.taken ≡ flat.old.value.taken + 1) }
         ensures small { OnOk result (flat.new.value.taken < 2 ^ 64) }
@@ -539,7 +555,8 @@ impl<'a, S: Steps> Search<'a, S> {
         requires modifies { IsModifierAt self.now.game.rules position }
         ensures fits { IsStateOf self.now.game state.new.state }
         ensures only { (t : AbstractState)
-            → Applies self.now.game position (at_vertex state.old.state vertex) t → t ≡ state.new.state }
+            → Applies self.now.game position (at_vertex state.old.state vertex) t
+            → t ≡ state.new.state }
         ensures after { IsAfter state.old state.new }
         ensures capacity { capacity_of state.new ≡ capacity_of state.old }
     {
@@ -550,7 +567,8 @@ impl<'a, S: Steps> Search<'a, S> {
     /// Whether a pattern is valid where some word of its inside runs, or none.
     fn is_valid(&self, position: Position, runs: bool) -> bool
         requires there { IsPatternAt self.now.game.rules position }
-        ensures { (s : AbstractState) → IsTrue runs ↔ SomeWordRuns self.now.game s (beginning (inside position))
+        ensures { (s : AbstractState)
+            → IsTrue runs ↔ SomeWordRuns self.now.game s (beginning (inside position))
             → IsTrue result ↔ Applies self.now.game position s s }
     {
         is_valid(self.rules.game(), position, runs)
@@ -560,9 +578,11 @@ impl<'a, S: Steps> Search<'a, S> {
     fn walk(&self, state: &SemiState, vertex: Vertex, position: Position) -> Option<Walk>
         requires fits { IsStateOf self.now.game state.now.state }
         requires vertex { vertex < length state.now.state.pieces }
-        ensures walked { IfSome result (λ walk. IsWalked self.now.game (at_vertex state.now.state vertex)
+        ensures walked { IfSome result (λ walk.
+            IsWalked self.now.game (at_vertex state.now.state vertex)
             (beginning (inside position)) walk.ends) }
-        ensures few { IfSome result (λ walk. walk.pairs ≤ length (positions_of self.now.game.rules)) }
+        ensures few { IfSome result (λ walk.
+            walk.pairs ≤ length (positions_of self.now.game.rules)) }
     {
         walk_inside(&self.rules, state, vertex, position)
     }
@@ -575,7 +595,8 @@ impl<'a, S: Steps> Search<'a, S> {
         ensures valid { IfOk result (λ valid. (s : AbstractState)
             → IsWalked self.old.game s (beginning (inside position)) walk.ends
             → IsTrue valid ↔ Applies self.old.game position s s) }
-        ensures counts { (s : AbstractState) → IsCounted self.old.game pattern s (beginning (inside position))
+        ensures counts { (s : AbstractState)
+            → IsCounted self.old.game pattern s (beginning (inside position))
             self.old.opened self.new.opened self.old.modifiers self.old.openings self.old.modifiers
             (result ≡ Err Over.Deep) (result ≡ Err Over.Wide) }
         ensures forced { OnOk result ((s : AbstractState) (cut : Bool)
@@ -607,7 +628,8 @@ impl<'a, S: Steps> Search<'a, S> {
         ensures enough { OnOk result (2 ≤ state.new.room) }
         ensures reached { IfOk result (λ ends.
             IsFlatPart self.old.game state.old.state (start_of origin) pairs.new.items ends) }
-        ensures ready { OnOk result (All (IsReady self.old.game state.old.state nested) pairs.new.items) }
+        ensures ready { OnOk result (All (IsReady self.old.game state.old.state nested)
+            pairs.new.items) }
         ensures lawful { IfOk result (λ _. IsGame self.old.game) }
         ensures counts { IsCounted self.old.game reach state.old.state (start_of origin)
             self.old.opened self.new.opened self.old.modifiers self.old.openings self.old.modifiers
@@ -640,7 +662,8 @@ impl<'a, S: Steps> Search<'a, S> {
         requires vertex { vertex < length state.old.state.pieces }
         requires there { IsPatternAt self.old.game.rules position }
         requires some { 0 < nested }
-        requires nested { (k : ℕ) → nested ≡ suc k → NestsFrom self.old.game.rules k (beginning (inside position)) }
+        requires nested { (k : ℕ) → nested ≡ suc k
+            → NestsFrom self.old.game.rules k (beginning (inside position)) }
         ensures kept { self.new ≡ record self.old { opened = self.new.opened } }
         ensures given_back { state.new ≡ record state.old { room = state.new.room } }
         ensures room { state.old.room ≤ state.new.room }
@@ -666,7 +689,8 @@ impl<'a, S: Steps> Search<'a, S> {
         Ok(self.is_valid(position, runs?))
     }
 
-    /// Whether some word runs. An opening with `modifiers` more is too deep.
+    /// Whether some word runs: one that ends with no modifier more, or else one behind a modifier, of which each is tried in
+    /// order of vertices and then of positions. An opening with `modifiers` more is too deep.
     #[cycle(search)]
     fn word_runs(
         &mut self,
@@ -696,12 +720,15 @@ impl<'a, S: Steps> Search<'a, S> {
             self.keep_list(pairs);
             return Ok(true);
         }
+        // which questions are above the limits doesn't depend on how the queue met the pairs
+        sort(&mut pairs);
         let runs = self.runs_behind(state, &pairs, nested, modifiers)?;
         self.keep_list(pairs);
         Ok(runs)
     }
 
-    /// Whether some word runs behind one of these modifiers. An opening with `modifiers` more is too deep.
+    /// Whether some word runs behind one of these modifiers, which are tried in turn. An opening with `modifiers` more is
+    /// too deep.
     #[cycle(search)]
     fn runs_behind(
         &mut self,
@@ -778,10 +805,13 @@ impl<'a, S: Steps> Search<'a, S> {
 }
 
 /// Puts pairs in order: by vertex, then by position.
+#[inline(always)]
 fn sort(pairs: &mut Vec<(Vertex, Position)>)
     requires { AllPairs (λ a b. a ≢ b) pairs.old.items }
     ensures permutation { IsPermutation pairs.old.items pairs.new.items }
     ensures order { AllPairs IsBefore pairs.new.items }
 {
-    pairs.sort_unstable();
+    if pairs.len() > 1 {
+        pairs.sort_unstable();
+    }
 }

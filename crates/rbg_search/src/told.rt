@@ -45,14 +45,17 @@ pub(crate) fn take_told(
     ensures taken { result.taken ≤ result.met }
     ensures further { begun.taken ≤ result.taken }
     ensures part { (s : AbstractState) (f : Start) (ends : Bool) → s.pieces ≡ pieces.now
-        → IsPart tables.now s f (take begun.met room.old) (take begun.taken (take begun.met room.old))
+        → IsPart tables.now s f (take begun.met room.old)
+        (take begun.taken (take begun.met room.old))
         found.old.items ends
-        → IsPart tables.now s f (take result.met room.new) (take result.taken (take result.met room.new))
+        → IsPart tables.now s f (take result.met room.new)
+        (take result.taken (take result.met room.new))
         found.new.items ends }
     ensures still_done { (x : ℕ × ℕ) → Contains (take begun.taken (take begun.met room.old)) x
         → Contains (take result.taken (take result.met room.new)) x }
     ensures quiet { (v p : ℕ) → Contains (take result.taken (take result.met room.new)) (v, p)
-        → IsPatternAt tables.now.rules p → Contains (take begun.taken (take begun.met room.old)) (v, p) }
+        → IsPatternAt tables.now.rules p
+        → Contains (take begun.taken (take begun.met room.old)) (v, p) }
 {
     // up to here a list that isn't long fits
     let limit = room.len().saturating_sub(LONG_LIST);
@@ -96,11 +99,13 @@ fn take_one(
     ensures words { length words.new ≡ length words.old }
     ensures room { length room.new ≡ length room.old }
     ensures grown { Lengthens (take met.old room.old) (take met.new room.new) }
-    ensures part { IsTrue result → (s : AbstractState) (f : Start) (done : List (ℕ × ℕ)) (ends : Bool)
+    ensures part { IsTrue result
+        → (s : AbstractState) (f : Start) (done : List (ℕ × ℕ)) (ends : Bool)
         → s.pieces ≡ pieces.now
         → Contains (take met.old room.old) (vertex, position) → ¬ Contains done (vertex, position)
         → IsPart tables.now s f (take met.old room.old) done found.old.items ends
-        → IsPart tables.now s f (take met.new room.new) (done ++ (vertex, position) ∷ []) found.new.items ends }
+        → IsPart tables.now s f (take met.new room.new) (done
+        ++ (vertex, position) ∷ []) found.new.items ends }
     ensures plain { IsTrue result → ¬ IsPatternAt tables.now.rules position }
     ensures kept { result ≡ false → (take met.new room.new ≡ take met.old room.old)
         × (found.new.items ≡ found.old.items) }
@@ -167,7 +172,8 @@ fn lead_on(
     ensures words { length words.new ≡ length words.old }
     ensures room { length room.new ≡ length room.old }
     ensures grown { Lengthens (take met.old room.old) (take met.new room.new) }
-    ensures part { IsTrue result → (s : AbstractState) (f : Start) (done found : List (ℕ × ℕ)) (ends : Bool) (v : ℕ)
+    ensures part { IsTrue result
+        → (s : AbstractState) (f : Start) (done found : List (ℕ × ℕ)) (ends : Bool) (v : ℕ)
         → IsOutcome tables.now s v position (Outcome.LeadsTo to)
         → Contains (take met.old room.old) (v, position)
         → IsPart tables.now s f (take met.old room.old) done found ends

@@ -1,8 +1,10 @@
 //! How the vertices of a board lie, as its description writes them.
 
 use rbg_game::LoadError;
-use rbg_macro::{expand, tokens};
-use rbg_syntax::{Board, Name, SyntaxError, Vertex, parse};
+use rbg_grammar::{Board, Name, Vertex};
+use rbg_macro::expand;
+use rbg_syntax::{SyntaxError, parse};
+use rbg_tokens::tokens;
 use std::alloc::{AllocError, Global};
 
 /// How the vertices of a board lie.

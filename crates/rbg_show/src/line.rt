@@ -1,6 +1,7 @@
 //! The lines of lists, scripts and records, and the moves that they may mean.
 
-use rbg_pairs::Move;
+use rbg_base::Move;
+use rbg_script::read_message;
 use rbg_wire::{read_number, read_pairs};
 use std::alloc::{AllocError, Global};
 
@@ -42,8 +43,11 @@ impl<'a> Line<'a> {
         if line == b"rbg 2".as_slice() {
             return Line::Head(Lead::MomentAndPlayer);
         }
-        if let Some(fields) = line.strip_prefix(b"m ") {
-            return Line::said(fields).unwrap_or(Line::Other);
+        if let Some(message) = read_message(line) {
+            return Line::Said {
+                seat: message.seat,
+                text: message.text,
+            };
         }
         let text = match cut_number(line) {
             Some((_, text)) => text,
@@ -53,13 +57,6 @@ impl<'a> Line<'a> {
             Some(b'0'..=b'9' | b'M') => Line::Numbers(line),
             _ => Line::Other,
         }
-    }
-
-    /// `<seat> <moment> <text>`, as a script has it.
-    fn said(fields: &'a [u8]) -> Option<Line<'a>> {
-        let (seat, fields) = cut_number(fields)?;
-        let (_, text) = cut_number(fields)?;
-        Some(Line::Said { seat, text })
     }
 
     /// The moves that the line may mean, where `lead` stands before the pairs, or where nobody has said what does.

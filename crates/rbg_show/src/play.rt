@@ -39,7 +39,8 @@ impl<'a> Play<'a> {
     /// The beginning of play.
     pub(crate) fn start(alloc: Global, game: &'a Game) -> Result<Play<'a>, Memory>
         ensures game { IfOk result (λ play. play.game ≡ game.now) }
-        ensures place { IfOk result (λ play. play.place ≡ record { state = start_of game.now; last = None }) }
+        ensures place { IfOk result (λ play.
+            play.place ≡ record { state = start_of game.now; last = None }) }
     {
         let _positions = game.positions();
         let steps = compact(alloc, game)?;
@@ -88,7 +89,8 @@ impl<'a> Play<'a> {
     /// A legal move, the one that the referee would make for the keeper. None where play is finished.
     pub(crate) fn find(&self) -> Result<Option<Move>, Over>
         ensures found { IfOk result (λ found. IfSome found (IsLegal self.now.game self.now.place)) }
-        ensures finished { IfOk result (λ found. IfNone found (Finished self.now.game self.now.place)) }
+        ensures finished { IfOk result (λ found.
+            IfNone found (Finished self.now.game self.now.place)) }
     {
         find_move(self.alloc, self.game, &self.steps, &self.place)
     }

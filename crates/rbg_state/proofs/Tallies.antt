@@ -1,8 +1,8 @@
 -- Running counts stay right where a piece is put on a vertex.
-use Rattle.std.proofs.Common.{◌≡◌, ℕ, ◌+◌, ◌-◌, ◌<◌, ◌^◌, ◌==◌, List, [], ◌∷◌, ◌++◌, Bool, cond, inl, inr, length, get_or, refl, sym, ap, subst, slice_set, replicate, lit<, arith}
+use Rattle.std.proofs.Common.{◌≡◌, ℕ, ◌+◌, ◌-◌, ◌<◌, ◌^◌, ◌==◌, List, [], ◌∷◌, ◌++◌, Bool, cond, inl, inr, length, get_or, refl, sym, ap, subst, ◌∙◌, slice_set, replicate, lit<, arith}
 use Rattle.std.specs.Prelude.{count_by, ◌≢◌}
 use Rattle.std.proofs.lemmas.Bool.{cases_lt, eq-eqb, eqb-true, false_from_ne_true}
-use Rattle.std.proofs.lemmas.List.{length-set, length_push, get_or_past, get_or-set_same, get_or-set_other, length-replicate, get_or-replicate}
+use Rattle.std.proofs.lemmas.List.{set-set, set-get_or, length-set, length_push, get_or_past, get_or-set_same, get_or-set_other, length-replicate, get_or-replicate}
 use Rattle.std.proofs.lemmas.List.Sums.{sum_by-set, sum_by_push, get_or-le-sum_by, count_by-le-length}
 use native.Mathlib.Decide.{ℕ_discrete}
 use Rattle.rbg_state.specs.Tallies.{IsTally}
@@ -114,3 +114,11 @@ module _ (pieces counts : List ℕ) (v o x : ℕ) (tally : IsTally pieces counts
         omega (arith, after, more);
     few = omega (arith, tally.few, length-set pieces v x);
   }
+
+-- what stands on a vertex is put there again, where another piece was put before
+pub put_again : (pieces : List ℕ) (v x : ℕ) → slice_set (slice_set pieces v x) v (get_or pieces v 0) ≡ pieces
+put_again pieces v x = set-set pieces v x (get_or pieces v 0) ∙ set-get_or pieces v 0
+
+-- the piece x is put on the vertex v, and then what stood there
+pub put_back : (pieces : List ℕ) (v x o : ℕ) → o ≡ get_or pieces v 0 → slice_set (slice_set pieces v x) v o ≡ pieces
+put_back pieces v x o is = set-set pieces v x o ∙ ap (slice_set pieces v) is ∙ set-get_or pieces v 0

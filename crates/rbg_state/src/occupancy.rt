@@ -1,5 +1,6 @@
 //! The piece on each vertex of a board, with a running count for each piece.
 ghost use Rattle.std.specs.Prelude.{◌≡◌, ◌+◌, ◌-◌, ◌<◌, ◌^◌, ◌==◌, ◌++◌, [], ◌∷◌, Some, length, count_by, slice_get, slice_index, slice_set, IfOk, OnErr};
+ghost use Rattle.rbg_state.specs.Tallies.{IsTally};
 
 use rbg_base::{Memory, Piece, Vertex};
 use rbg_board::Board;
@@ -103,10 +104,20 @@ impl Occupancy {
         ensures replaced { slice_get self.old vertex ≡ Some result }
     {
         let replaced = replace(&mut self.pieces[vertex as usize], piece);
-        take_one(&mut self.counts, replaced);
-        add_one(&mut self.counts, piece);
+        recount(&mut self.counts, &self.pieces, vertex, replaced);
         replaced
     }
+}
+
+/// Counts the piece that was put on a vertex, and no longer the one that it replaced.
+#[inline(always)]
+fn recount(counts: &mut Vec<u16>, pieces: &[Piece], vertex: Vertex, replaced: Piece)
+    requires vertex { vertex < length pieces.now }
+    requires before { IsTally (slice_set pieces.now vertex replaced) counts.old.items }
+    ensures { IsTally pieces.now counts.new.items }
+{
+    take_one(counts, replaced);
+    add_one(counts, pieces[vertex as usize]);
 }
 
 /// How many of the pieces are this one.
@@ -119,7 +130,8 @@ fn counted(pieces: &[Piece], piece: Piece) -> usize
 /// Counts one more of a piece that has a count.
 fn add_one(counts: &mut Vec<u16>, piece: Piece)
     requires { slice_index counts.old.items piece + 1 < 2 ^ 16 }
-    ensures { counts.new.items ≡ slice_set counts.old.items piece (slice_index counts.old.items piece + 1) }
+    ensures { counts.new.items
+        ≡ slice_set counts.old.items piece (slice_index counts.old.items piece + 1) }
 {
     let index = piece as usize;
     if index < counts.len() {
@@ -130,7 +142,8 @@ fn add_one(counts: &mut Vec<u16>, piece: Piece)
 /// Counts one less of a piece that has a count.
 fn take_one(counts: &mut Vec<u16>, piece: Piece)
     requires { piece < length counts.old.items → 0 < slice_index counts.old.items piece }
-    ensures { counts.new.items ≡ slice_set counts.old.items piece (slice_index counts.old.items piece - 1) }
+    ensures { counts.new.items
+        ≡ slice_set counts.old.items piece (slice_index counts.old.items piece - 1) }
 {
     let index = piece as usize;
     if index < counts.len() {

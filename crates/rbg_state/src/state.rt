@@ -169,7 +169,8 @@ impl SemiState {
         ensures past { self.new.past ≡ take mark self.old.past }
         ensures capacity { capacity_of self.new ≡ capacity_of self.old }
         // What was marked is given back, whatever was done since.
-        ensures given_back { (marked : History) → mark ≡ length marked.past → IsAfter marked self.old
+        ensures given_back { (marked : History) → mark ≡ length marked.past
+            → IsAfter marked self.old
             → self.new ≡ record marked { room = self.new.room } }
     {
         while self.mark().changes() > mark.changes() {
@@ -190,7 +191,8 @@ impl SemiState {
     /// Makes a change, and writes it to the list.
     fn change(&mut self, change: Change)
         requires room { 0 < self.old.room }
-        requires within { IsChangeWithin (length self.old.state.pieces) (length self.old.state.values) change }
+        requires within { IsChangeWithin (length self.old.state.pieces)
+            (length self.old.state.values) change }
         ensures { self.new ≡ changed_to self.old (set change self.old.state) }
     {
         let back = self.parts.set(change);
@@ -204,7 +206,8 @@ impl SemiState {
         ensures moved { self.new ≡ changed_to self.old (record self.old.state { vertex = vertex }) }
         ensures after { IsAfter self.old self.new }
         ensures capacity { capacity_of self.new ≡ capacity_of self.old }
-        ensures fits { (game : AbstractGame) → IsStateOf game self.old.state → IsStateOf game self.new.state }
+        ensures fits { (game : AbstractGame) → IsStateOf game self.old.state
+            → IsStateOf game self.new.state }
     {
         self.change(Change::Vertex(vertex));
     }

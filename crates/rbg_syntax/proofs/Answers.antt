@@ -1,11 +1,12 @@
 -- What is answered for one section, from what was read of its tokens.
 use Rattle.std.proofs.Common.{◌≡◌, ℕ, List, [], ◌∷◌, Result, Ok, Err, refl, sym, ◌∙◌}
-use Rattle.rbg_macro.specs.Token.{Lexeme}
+use Rattle.rbg_tokens.specs.Token.{Lexeme}
 use Rattle.rbg_syntax.specs.declared.error.ReadError.{ReadError}
 use Rattle.rbg_syntax.specs.declared.error.ReadError.TheVariants as errors
-use Rattle.rbg_syntax.specs.internal.Reading.{Fault, misfit, Reading, Gives, Fails, FailsWithin, ended_at, whole_at}
-use Rattle.rbg_syntax.proofs.Readers.{IsReadBy, bind_ok, ok_one}
-use Rattle.rbg_syntax.proofs.Turns.{Fails-from, FailsWithin-shallow}
+use Rattle.rbg_grammar.specs.Reading.{Fault, misfit, Reading, ended_at, whole_at}
+use Rattle.rbg_syntax.specs.internal.Giving.{Gives, Fails, FailsWithin}
+use Rattle.rbg_grammar.proofs.Readers.{IsReadBy, bind_ok, ok_one}
+use Rattle.rbg_syntax.proofs.Exits.{Fails-from, FailsWithin-shallow}
 
 -- What is returned for one section: the only value that its tokens spell, or that they spell none, unless memory ran
 -- out.

@@ -1,31 +1,34 @@
 -- What is answered for the whole description, from the answers for its sections.
 use Rattle.std.proofs.Common.{◌≡◌, ◌≤◌, List, [], ◌∷◌, length, ℕ, Option, Some, None, Result, Ok, Err, refl, sym, ap, ◌∙◌, subst, arith, inl, inr}
 use Rattle.std.specs.Prelude.{slice_get}
-use Rattle.rbg_macro.specs.Token.{Lexeme, SectionTokens}
+use Rattle.rbg_tokens.specs.Token.{Lexeme}
+use Rattle.rbg_macro.specs.Sections.{SectionTokens}
 use Rattle.rbg_macro.specs.declared.source.SectionKind.{SectionKind}
 use Rattle.rbg_macro.specs.declared.source.SectionKind.TheVariants.{Players, Pieces, Variables, Board, Rules}
-use Rattle.rbg_macro.specs.declared.token.Symbol.TheVariants.{Comma}
+use Rattle.rbg_tokens.specs.declared.token.Symbol.TheVariants.{Comma}
 use Rattle.rbg_syntax.specs.declared.error.ReadError.{ReadError}
 use Rattle.rbg_syntax.specs.declared.error.ReadError.TheVariants as faults
 use Rattle.rbg_syntax.specs.declared.error.SyntaxError.{SyntaxError}
 use Rattle.rbg_syntax.specs.declared.error.SyntaxError.TheVariants as errors
-use Rattle.rbg_syntax.specs.Tree.{SpeltBounded, SpeltName, SpeltBoard, SpeltRule}
-use Rattle.rbg_syntax.specs.Grammar.{ArePlayers, AreVariables, ArePieces, IsBoard, AreRules}
-use Rattle.rbg_syntax.specs.internal.Reading.{Fault, misfit, Reading, Gives, GivesWithin, GivesAt, Fails, FailsWithin, error_in, placed, start_of, is_name, is_symbol, bounded_at, name_at, separated_at, listed_at, board_at, whole_at, variables_at}
-use Rattle.rbg_syntax.specs.internal.RuleReading.{rules_at}
-use Rattle.rbg_syntax.specs.Sections.{sections_of, AreDifferent}
-use Rattle.rbg_syntax.specs.Spells.{HasSection, MayHaveVariables, IsSpelt, HasFault}
-use Rattle.rbg_syntax.proofs.Readers.{Always}
-use Rattle.rbg_syntax.proofs.Combinators.{EndsList, Stops}
-use Rattle.rbg_syntax.proofs.SectionReaders.{players_read, names_read, board_read}
+use Rattle.rbg_grammar.specs.Tree.{SpeltBounded, SpeltName, SpeltBoard, SpeltRule}
+use Rattle.rbg_grammar.specs.Grammar.{ArePlayers, AreVariables, ArePieces, IsBoard, AreRules}
+use Rattle.rbg_grammar.specs.Reading.{Fault, misfit, Reading, is_name, is_symbol, bounded_at, name_at, separated_at, listed_at, board_at, whole_at, variables_at}
+use Rattle.rbg_syntax.specs.internal.Giving.{Gives, GivesWithin, GivesAt, Fails, FailsWithin, error_in, placed, start_of}
+use Rattle.rbg_grammar.specs.RuleReading.{rules_at}
+use Rattle.rbg_grammar.specs.Sections.{sections_of, AreDifferent}
+use Rattle.rbg_grammar.specs.Spells.{HasSection, MayHaveVariables, IsSpelt}
+use Rattle.rbg_syntax.specs.Faults.{HasFault}
+use Rattle.rbg_grammar.proofs.Readers.{Always}
+use Rattle.rbg_grammar.proofs.Combinators.{EndsList, Stops}
+use Rattle.rbg_grammar.proofs.SectionReaders.{players_read, names_read, board_read}
 use Rattle.rbg_syntax.proofs.Answers.{Reads, Reads-from_gives, ok_value, whole_sound, whole_complete}
-use Rattle.rbg_syntax.proofs.Depths.{spells_nothing, too_deep_here}
-use Rattle.rbg_syntax.proofs.Misfits.{Judges}
+use Rattle.rbg_grammar.proofs.Depths.{spells_nothing, too_deep_here}
+use Rattle.rbg_grammar.proofs.Misfits.{Judges}
 use Rattle.rbg_syntax.proofs.Places.{misspelt, one_error, placed_ok}
-use Rattle.rbg_syntax.proofs.RuleMisfits.{rules_judged}
-use Rattle.rbg_syntax.proofs.SectionMisfits.{players_judged, pieces_judged, variables_judged, board_judged}
-use Rattle.rbg_syntax.proofs.OneDescription.{one_variables, variables_read}
-use Rattle.rbg_syntax.proofs.RuleReaders.{EndsRules, nothing_ends_rules, rules_read}
+use Rattle.rbg_grammar.proofs.RuleMisfits.{rules_judged}
+use Rattle.rbg_grammar.proofs.SectionMisfits.{players_judged, pieces_judged, variables_judged, board_judged}
+use Rattle.rbg_grammar.proofs.OneDescription.{one_variables, variables_read}
+use Rattle.rbg_grammar.proofs.RuleReaders.{EndsRules, nothing_ends_rules, rules_read}
 
 -- a section of a kind is the only one where none stands twice
 only_one : (xs : List SectionTokens) (s : SectionTokens) → length xs ≤ 1 → slice_get xs 0 ≡ Some s → xs ≡ s ∷ []

@@ -1,19 +1,22 @@
 -- Where a fault stands, the sections spell no description.
 use Rattle.std.proofs.Common.{◌≡◌, ◌≤◌, List, [], ◌∷◌, length, Result, Ok, Err, refl, sym, ap, ◌∙◌, arith, inl, inr}
 use Rattle.std.specs.Prelude.{IsErrAnd, IfErr}
-use Rattle.rbg_macro.specs.Token.{Lexeme, SectionTokens}
+use Rattle.rbg_tokens.specs.Token.{Lexeme}
+use Rattle.rbg_macro.specs.Sections.{SectionTokens}
 use Rattle.rbg_macro.specs.declared.source.SectionKind.{SectionKind}
 use Rattle.rbg_macro.specs.declared.source.SectionKind.TheVariants.{Players, Pieces, Variables, Board, Rules}
-use Rattle.rbg_syntax.specs.declared.description.Description.{Description}
+use Rattle.rbg_grammar.specs.declared.description.Description.{Description}
 use Rattle.rbg_syntax.specs.declared.error.SyntaxError.{SyntaxError}
 use Rattle.rbg_syntax.specs.declared.error.SyntaxError.TheVariants as errors
-use Rattle.rbg_syntax.specs.Grammar.{AreVariables}
-use Rattle.rbg_syntax.specs.Sections.{sections_of, count_of, IsTwice}
-use Rattle.rbg_syntax.specs.Spells.{HasSection, IsSection, MayHaveVariables, Spells, IsSpelt, HasFault, IsAnswer}
-use Rattle.rbg_syntax.specs.Tree.{SpeltBounded, SpeltDescription}
-use Rattle.rbg_syntax.proofs.OneDescription.{spelt_here}
+use Rattle.rbg_grammar.specs.Grammar.{AreVariables}
+use Rattle.rbg_grammar.specs.Sections.{sections_of, count_of}
+use Rattle.rbg_syntax.specs.Faults.{IsTwice}
+use Rattle.rbg_grammar.specs.Spells.{HasSection, IsSection, MayHaveVariables, Spells, IsSpelt}
+use Rattle.rbg_syntax.specs.Faults.{HasFault, IsAnswer}
+use Rattle.rbg_grammar.specs.Tree.{SpeltBounded, SpeltDescription}
+use Rattle.rbg_grammar.proofs.OneDescription.{spelt_here}
 use Rattle.rbg_syntax.proofs.SectionLists.{twice_counted}
-use Rattle.rbg_syntax.proofs.Depths.{too_deep_spells_nothing}
+use Rattle.rbg_grammar.proofs.Depths.{too_deep_spells_nothing}
 
 is_one : {sections : List SectionTokens} {kind : SectionKind} {A : Type 0} {P : List Lexeme → A → List Lexeme → Type 0} {x : A} → IsSection sections kind P x → count_of kind sections ≡ 1
 is_one s = ap length s.has.only

@@ -1,32 +1,9 @@
--- Lemmas about the grammar, about what reads it, and about the trees of the code.
+-- Lemmas about what the parser returns.
 pub mod Answers
-pub mod AtomReaders
-pub mod Combinators
-pub mod Depths
 pub mod Descriptions
-pub mod ExampleReadings
+pub mod Exits
 pub mod Faults
-pub mod FormedTrees
 pub mod Fronts
-pub mod MisfitCombinators
-pub mod Misfits
-pub mod Nesting
-pub mod OneDescription
-pub mod OnePlace
 pub mod Parts
-pub mod PhraseLaws
-pub mod Pieces
 pub mod Places
-pub mod Readers
-pub mod RuleMisfits
-pub mod RuleOutcomes
-pub mod RuleReaders
 pub mod SectionLists
-pub mod SectionMisfits
-pub mod SectionReaders
-pub mod SharedOutcomes
-pub mod SumOutcomes
-pub mod SumReaders
-pub mod Trees
-pub mod Turns
-pub mod Whole

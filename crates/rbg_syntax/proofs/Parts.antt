@@ -1,17 +1,17 @@
 -- A first part and further ones, as the parser reads them.
 use Rattle.std.proofs.Common.{◌≡◌, ◌-◌, ℕ, zero, suc, List, [], ◌∷◌, Bool, true, false, None, Result, Ok, Err, refl, ap, ◌∙◌, arith}
-use Rattle.rbg_macro.specs.Token.{Lexeme}
-use Rattle.rbg_macro.specs.declared.token.Symbol.{Symbol}
-use Rattle.rbg_macro.specs.declared.token.Symbol.TheVariants.{Plus, OpenParenthesis, CloseParenthesis, OpenBrace, CloseBrace, Question, Exclamation}
-use Rattle.rbg_macro.specs.declared.token.TokenKind.{TokenKind}
-use Rattle.rbg_syntax.specs.declared.expression.Additive.{Additive}
-use Rattle.rbg_syntax.specs.declared.expression.Additive.TheVariants as additive
-use Rattle.rbg_syntax.specs.declared.expression.Multiplicative.{Multiplicative}
-use Rattle.rbg_syntax.specs.declared.expression.Multiplicative.TheVariants as multiplicative
-use Rattle.rbg_syntax.specs.Tree.{SpeltExpression, SpeltRule, act, positive, negative, sum_of, product_of, sequence_of}
-use Rattle.rbg_syntax.specs.internal.Reading.{Fault, misfit, too_deep, Reading, ◌>>=◌, next_is, is_symbol, symbol_at, repeated_at, after_at, separated_at, within_at, further_at, in_sequence, open_atom_at}
-use Rattle.rbg_syntax.specs.internal.RuleReading.{too_deep_at, factor_at, further_factor_at, further_term_at, in_choice, in_product, in_sum, is_opening, is_product_sign, is_sum_sign, number_or_name_at, primary_at, sum_at, term_at, sum_over_at, atom_at, begins_atom, bracket_atom_at, item_at, sequence_at, rules_over_at, rules_at, pattern_at, positive_at, negative_at}
-use Rattle.rbg_syntax.proofs.Turns.{repeated_ends}
+use Rattle.rbg_tokens.specs.Token.{Lexeme}
+use Rattle.rbg_tokens.specs.declared.token.Symbol.{Symbol}
+use Rattle.rbg_tokens.specs.declared.token.Symbol.TheVariants.{Plus, OpenParenthesis, CloseParenthesis, OpenBrace, CloseBrace, Question, Exclamation}
+use Rattle.rbg_tokens.specs.declared.token.TokenKind.{TokenKind}
+use Rattle.rbg_grammar.specs.declared.expression.Additive.{Additive}
+use Rattle.rbg_grammar.specs.declared.expression.Additive.TheVariants as additive
+use Rattle.rbg_grammar.specs.declared.expression.Multiplicative.{Multiplicative}
+use Rattle.rbg_grammar.specs.declared.expression.Multiplicative.TheVariants as multiplicative
+use Rattle.rbg_grammar.specs.Tree.{SpeltExpression, SpeltRule, act, positive, negative, sum_of, product_of, sequence_of}
+use Rattle.rbg_grammar.specs.Reading.{Fault, misfit, too_deep, Reading, ◌>>=◌, next_is, is_symbol, symbol_at, repeated_at, after_at, separated_at, within_at, further_at, in_sequence, open_atom_at}
+use Rattle.rbg_grammar.specs.RuleReading.{too_deep_at, factor_at, further_factor_at, further_term_at, in_choice, in_product, in_sum, is_opening, is_product_sign, is_sum_sign, number_or_name_at, primary_at, sum_at, term_at, sum_over_at, atom_at, begins_atom, bracket_atom_at, item_at, sequence_at, rules_over_at, rules_at, pattern_at, positive_at, negative_at}
+use Rattle.rbg_grammar.proofs.Turns.{repeated_ends}
 
 further_stops : {X : Type 0} (x : X) (test : TokenKind → Bool) (read : List Lexeme → Reading X) (ts : List Lexeme) → next_is test ts ≡ false → further_at x test read ts ≡ Ok (x ∷ [], ts)
 unfolding further_at

@@ -1,15 +1,18 @@
 -- The place of an error: the first token of a section that doesn't fit, or the section's `#`.
 use Rattle.std.proofs.Common.{◌≡◌, ℕ, List, [], ◌∷◌, ◌++◌, Option, Some, None, Result, Ok, Err, refl, sym, ap, ◌∙◌, subst, append_assoc, inl, inr}
-use Rattle.rbg_macro.specs.Token.{Lexeme, SectionTokens}
+use Rattle.rbg_tokens.specs.Token.{Lexeme}
+use Rattle.rbg_macro.specs.Sections.{SectionTokens}
 use Rattle.rbg_macro.specs.declared.source.SectionKind.{SectionKind}
 use Rattle.rbg_syntax.specs.declared.error.Expectation.{Expectation}
 use Rattle.rbg_syntax.specs.declared.error.ReadError.{ReadError}
 use Rattle.rbg_syntax.specs.declared.error.ReadError.TheVariants as faults
 use Rattle.rbg_syntax.specs.declared.error.SyntaxError.{SyntaxError}
-use Rattle.rbg_syntax.specs.internal.Reading.{Fault, misfit, too_deep, Reading, ◌>>=◌, Gives, GivesWithin, ended_at, whole_at, error_in, placed}
-use Rattle.rbg_syntax.specs.Sections.{sections_of}
-use Rattle.rbg_syntax.specs.Spells.{IsSpelt, HasFault}
-use Rattle.rbg_syntax.proofs.Misfits.{Taken, Stuck, Judged, Judges}
+use Rattle.rbg_grammar.specs.Reading.{Fault, misfit, too_deep, Reading, ◌>>=◌, ended_at, whole_at}
+use Rattle.rbg_syntax.specs.internal.Giving.{Gives, GivesWithin, error_in, placed}
+use Rattle.rbg_grammar.specs.Sections.{sections_of}
+use Rattle.rbg_grammar.specs.Spells.{IsSpelt}
+use Rattle.rbg_syntax.specs.Faults.{HasFault}
+use Rattle.rbg_grammar.proofs.Misfits.{Taken, Stuck, Judged, Judges}
 
 -- the tokens before the one at this place may begin such a phrase, and with it they don't fit, whatever follows
 pub record Stops {B : Type 0} (P : List Lexeme → B → List Lexeme → Type 0) (read : List Lexeme → Reading B) (ts : List Lexeme) (at : ℕ) : Type 0 where

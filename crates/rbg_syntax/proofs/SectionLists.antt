@@ -4,11 +4,11 @@ use Rattle.std.specs.Prelude.{slice_get, IfErr}
 use Rattle.std.specs.Option.{ok_or}
 use Rattle.rbg_syntax.specs.declared.error.SyntaxError.{SyntaxError}
 use denote.Enum.Bare.{sameb, same_true, true_same}
-use Rattle.rbg_macro.specs.Token.{SectionTokens}
+use Rattle.rbg_macro.specs.Sections.{SectionTokens}
 use Rattle.rbg_macro.specs.contracts.source.SectionKind.{the_type}
 use Rattle.rbg_macro.specs.declared.source.SectionKind.{SectionKind}
 use Rattle.rbg_macro.specs.declared.source.SectionKind.TheVariants.{Players, Pieces, Variables, Board, Rules}
-use Rattle.rbg_syntax.specs.Sections.{same_kind, sections_of, count_of, AreDifferent, IsFirstTwice}
+use Rattle.rbg_grammar.specs.Sections.{same_kind, sections_of, count_of, AreDifferent, IsFirstTwice}
 
 -- the test of the code
 pub same_kind-sameb : (a b : SectionKind) → sameb the_type a b ≡ same_kind a b

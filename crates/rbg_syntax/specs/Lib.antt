@@ -1,12 +1,4 @@
--- The grammar of descriptions, the trees that it spells, and what the parser is shown to do.
-pub mod Descriptions
-pub mod Examples
-pub mod Formed
-pub mod Grammar
+-- The errors of the parser, and what the parser is shown to do.
+pub mod Faults
 pub mod Laws
-pub mod Phrase
-pub mod Sections
-pub mod Spells
-pub mod Tree
-pub mod Views
 pub mod internal

@@ -1,3 +1,2 @@
 -- Definitions that only the crate's own proofs and private contracts cite.
-pub mod Reading
-pub mod RuleReading
+pub mod Giving

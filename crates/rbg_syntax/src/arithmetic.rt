@@ -1,16 +1,17 @@
 //! The readers of arithmetic. Each takes how many further brackets may be open at once, so a call is never nested
 //! deeper than that.
 ghost use Rattle.std.specs.Prelude.{◌≡◌, map};
-ghost use Rattle.rbg_syntax.specs.declared.expression.Additive.TheVariants as additive;
-ghost use Rattle.rbg_syntax.specs.declared.expression.Multiplicative.TheVariants as multiplicative;
-ghost use Rattle.rbg_syntax.specs.internal.Reading.{GivesWithin, FailsWithin, further_at, next_is};
-ghost use Rattle.rbg_syntax.specs.internal.RuleReading.{factor_at, further_factor_at, further_term_at, in_product, in_sum, is_product_sign, is_sum_sign, number_or_name_at, primary_at, sum_at, term_at};
-ghost use Rattle.rbg_syntax.specs.Views.{expression_of, factor_of, term_of};
+ghost use Rattle.rbg_grammar.specs.declared.expression.Additive.TheVariants as additive;
+ghost use Rattle.rbg_grammar.specs.declared.expression.Multiplicative.TheVariants as multiplicative;
+ghost use Rattle.rbg_syntax.specs.internal.Giving.{GivesWithin, FailsWithin};
+ghost use Rattle.rbg_grammar.specs.Reading.{further_at, next_is};
+ghost use Rattle.rbg_grammar.specs.RuleReading.{factor_at, further_factor_at, further_term_at, in_product, in_sum, is_product_sign, is_sum_sign, number_or_name_at, primary_at, sum_at, term_at};
+ghost use Rattle.rbg_grammar.specs.Views.{expression_of, factor_of, term_of};
 
 use crate::error::{Expectation, ReadError};
-use crate::expression::{Additive, Expression, Factor, Multiplicative, Term};
 use crate::parser::Parser;
-use rbg_macro::{Symbol, TokenKind};
+use rbg_grammar::{Additive, Expression, Factor, Multiplicative, Term};
+use rbg_tokens::{Symbol, TokenKind};
 use std::alloc::Global;
 
 impl<'a> Parser<'a> {
@@ -36,7 +37,8 @@ impl<'a> Parser<'a> {
         brackets: u8,
     ) -> Result<Vec<Term<'a>>, ReadError>
         ensures { GivesWithin (λ v. (map term_of v.items, self.new)) result
-            (further_at (additive.Plus, expression_of first.entry) is_sum_sign (further_term_at (primary_at brackets)) self.old) }
+            (further_at (additive.Plus, expression_of first.entry) is_sum_sign
+            (further_term_at (primary_at brackets)) self.old) }
     {
         let mut terms = Vec::new(alloc);
         terms.push(Term {
@@ -51,9 +53,10 @@ impl<'a> Parser<'a> {
 
     /// A sign, and the term after it.
     #[cycle(sum)]
-    #[tactic(auto, unfolding(crate::specs::internal::RuleReading::further_term_at, crate::specs::internal::Reading::after_at))]
+    #[tactic(auto, unfolding(rbg_grammar::specs::RuleReading::further_term_at, rbg_grammar::specs::Reading::after_at))]
     fn further_term(&mut self, alloc: Global, brackets: u8) -> Result<Term<'a>, ReadError>
-        ensures { GivesWithin (λ t. (term_of t, self.new)) result (further_term_at (primary_at brackets) self.old) }
+        ensures { GivesWithin (λ t.
+            (term_of t, self.new)) result (further_term_at (primary_at brackets) self.old) }
     {
         if self.next_is(Symbol::Plus) {
             self.symbol(Symbol::Plus, Expectation::End)?;
@@ -70,7 +73,8 @@ impl<'a> Parser<'a> {
     /// A term.
     #[cycle(sum)]
     fn term(&mut self, alloc: Global, brackets: u8) -> Result<Expression<'a>, ReadError>
-        ensures { GivesWithin (λ e. (expression_of e, self.new)) result (term_at (primary_at brackets) self.old) }
+        ensures { GivesWithin (λ e.
+            (expression_of e, self.new)) result (term_at (primary_at brackets) self.old) }
     {
         let first = self.factor(alloc, brackets)?;
         if !self.next_is_product_sign() {
@@ -105,9 +109,10 @@ impl<'a> Parser<'a> {
 
     /// An operator, and the factor after it.
     #[cycle(sum)]
-    #[tactic(auto, unfolding(crate::specs::internal::RuleReading::further_factor_at, crate::specs::internal::Reading::after_at))]
+    #[tactic(auto, unfolding(rbg_grammar::specs::RuleReading::further_factor_at, rbg_grammar::specs::Reading::after_at))]
     fn further_factor(&mut self, alloc: Global, brackets: u8) -> Result<Factor<'a>, ReadError>
-        ensures { GivesWithin (λ f. (factor_of f, self.new)) result (further_factor_at (primary_at brackets) self.old) }
+        ensures { GivesWithin (λ f.
+            (factor_of f, self.new)) result (further_factor_at (primary_at brackets) self.old) }
     {
         if self.next_is(Symbol::Star) {
             self.symbol(Symbol::Star, Expectation::End)?;
@@ -123,9 +128,10 @@ impl<'a> Parser<'a> {
 
     /// A factor.
     #[cycle(sum)]
-    #[tactic(auto, using(crate::proofs::Trees::leaves), unfolding(crate::specs::internal::RuleReading::factor_at, crate::specs::internal::Reading::after_at))]
+    #[tactic(auto, using(rbg_grammar::proofs::Trees::leaves), unfolding(rbg_grammar::specs::RuleReading::factor_at, rbg_grammar::specs::Reading::after_at))]
     fn factor(&mut self, alloc: Global, brackets: u8) -> Result<Expression<'a>, ReadError>
-        ensures { GivesWithin (λ e. (expression_of e, self.new)) result (factor_at (primary_at brackets) self.old) }
+        ensures { GivesWithin (λ e.
+            (expression_of e, self.new)) result (factor_at (primary_at brackets) self.old) }
     {
         if !self.next_is(Symbol::Minus) {
             return self.primary(alloc, brackets);
@@ -137,9 +143,10 @@ impl<'a> Parser<'a> {
 
     /// A number, a name, or a sum in parentheses.
     #[cycle(sum)]
-    #[tactic(auto, unfolding(crate::specs::internal::Reading::within_at))]
+    #[tactic(auto, unfolding(rbg_grammar::specs::Reading::within_at))]
     fn primary(&mut self, alloc: Global, brackets: u8) -> Result<Expression<'a>, ReadError>
-        ensures { GivesWithin (λ e. (expression_of e, self.new)) result (primary_at brackets self.old) }
+        ensures { GivesWithin (λ e.
+            (expression_of e, self.new)) result (primary_at brackets self.old) }
     {
         if !self.next_is(Symbol::OpenParenthesis) {
             return self.number_or_name();
@@ -154,9 +161,10 @@ impl<'a> Parser<'a> {
     }
 
     /// A number or a name.
-    #[tactic(auto, using(crate::proofs::Trees::leaves), unfolding(crate::specs::internal::RuleReading::number_or_name_at))]
+    #[tactic(auto, using(rbg_grammar::proofs::Trees::leaves), unfolding(rbg_grammar::specs::RuleReading::number_or_name_at))]
     fn number_or_name(&mut self) -> Result<Expression<'a>, ReadError>
-        ensures { GivesWithin (λ e. (expression_of e, self.new)) result (number_or_name_at self.old) }
+        ensures { GivesWithin (λ e.
+            (expression_of e, self.new)) result (number_or_name_at self.old) }
     {
         if self.next_is_number() {
             let number = self.number()?;
@@ -203,7 +211,7 @@ fn is_product_sign(kind: TokenKind) -> bool
 }
 
 /// The parts of a sum as one expression. One part is that part.
-#[tactic(auto, using(crate::proofs::Trees::sums))]
+#[tactic(auto, using(rbg_grammar::proofs::Trees::sums))]
 fn in_sum(mut terms: Vec<Term<'_>>) -> Expression<'_>
     ensures { expression_of result ≡ in_sum (map term_of terms.entry.items) }
 {
@@ -217,7 +225,7 @@ fn in_sum(mut terms: Vec<Term<'_>>) -> Expression<'_>
 }
 
 /// The parts of a product as one expression. One part is that part.
-#[tactic(auto, using(crate::proofs::Trees::products))]
+#[tactic(auto, using(rbg_grammar::proofs::Trees::products))]
 fn in_product(mut factors: Vec<Factor<'_>>) -> Expression<'_>
     ensures { expression_of result ≡ in_product (map factor_of factors.entry.items) }
 {

@@ -1,26 +1,28 @@
 //! The readers of the actions with arithmetic: comparisons and assignment lists.
 ghost use Rattle.std.specs.Prelude.{◌≡◌, map};
-ghost use Rattle.rbg_macro.specs.declared.token.Symbol.TheVariants as symbols;
-ghost use Rattle.rbg_macro.specs.declared.token.TokenKind.{TokenKind as Kind};
+ghost use Rattle.rbg_tokens.specs.declared.token.Symbol.TheVariants as symbols;
+ghost use Rattle.rbg_tokens.specs.declared.token.TokenKind.{TokenKind as Kind};
 ghost use Rattle.rbg_base.specs.declared.relation.Relation.{Relation as SpeltRelation};
-ghost use Rattle.rbg_syntax.specs.internal.Reading.{Gives, GivesWithin, after_at, separated_at, within_at};
-ghost use Rattle.rbg_syntax.specs.internal.RuleReading.{IsRelationOf, assignment_at, comparison_at, in_brackets_at, relation_at, sum_at};
-ghost use Rattle.rbg_syntax.specs.Views.{rule_of};
+ghost use Rattle.rbg_syntax.specs.internal.Giving.{Gives, GivesWithin};
+ghost use Rattle.rbg_grammar.specs.Reading.{after_at, separated_at, within_at};
+ghost use Rattle.rbg_grammar.specs.RuleReading.{IsRelationOf, assignment_at, comparison_at, in_brackets_at, relation_at, sum_at};
+ghost use Rattle.rbg_grammar.specs.Views.{rule_of};
 
 use crate::error::{Expectation, ReadError};
 use crate::parser::Parser;
-use crate::rule::{Action, Rule};
 use crate::sequences::in_sequence;
 use rbg_base::Relation;
-use rbg_macro::{Symbol, TokenKind};
+use rbg_grammar::{Action, Rule};
+use rbg_tokens::{Symbol, TokenKind};
 use std::alloc::Global;
 
 impl<'a> Parser<'a> {
     /// A comparison.
-    #[tactic(auto, using(crate::proofs::Trees::inner_atoms), unfolding(crate::specs::internal::RuleReading::comparison_at, crate::specs::internal::Reading::after_at, crate::specs::internal::Reading::within_at))]
+    #[tactic(auto, using(rbg_grammar::proofs::Trees::inner_atoms), unfolding(rbg_grammar::specs::RuleReading::comparison_at, rbg_grammar::specs::Reading::after_at, rbg_grammar::specs::Reading::within_at))]
     pub(crate) fn comparison(&mut self, alloc: Global, brackets: u8) -> Result<Rule<'a>, ReadError>
         ensures { GivesWithin (λ r. (rule_of r, self.new)) result
-            (within_at symbols.OpenBrace symbols.CloseBrace (after_at symbols.Dollar (comparison_at (sum_at brackets)))
+            (within_at symbols.OpenBrace symbols.CloseBrace
+            (after_at symbols.Dollar (comparison_at (sum_at brackets)))
             self.old) }
     {
         self.symbol(Symbol::OpenBrace, Expectation::Item)?;
@@ -36,7 +38,7 @@ impl<'a> Parser<'a> {
         }))
     }
 
-    #[tactic(auto, unfolding(crate::specs::internal::RuleReading::relation_at))]
+    #[tactic(auto, unfolding(rbg_grammar::specs::RuleReading::relation_at))]
     fn relation(&mut self) -> Result<Relation, ReadError>
         ensures { Gives (λ r. (r, self.new)) result (relation_at self.old) }
     {
@@ -51,9 +53,10 @@ impl<'a> Parser<'a> {
     }
 
     /// An off, or an assignment list: the sequence of its assignments.
-    #[tactic(auto, unfolding(crate::specs::internal::RuleReading::in_brackets_at, crate::specs::internal::RuleReading::assignments_at, crate::specs::internal::Reading::within_at, crate::specs::internal::Reading::after_at))]
+    #[tactic(auto, unfolding(rbg_grammar::specs::RuleReading::in_brackets_at, rbg_grammar::specs::RuleReading::assignments_at, rbg_grammar::specs::Reading::within_at, rbg_grammar::specs::Reading::after_at))]
     pub(crate) fn in_brackets(&mut self, alloc: Global, brackets: u8) -> Result<Rule<'a>, ReadError>
-        ensures { GivesWithin (λ r. (rule_of r, self.new)) result (in_brackets_at (sum_at brackets) self.old) }
+        ensures { GivesWithin (λ r.
+            (rule_of r, self.new)) result (in_brackets_at (sum_at brackets) self.old) }
     {
         if !self.second_is(Symbol::Dollar) {
             return self.off();
@@ -78,9 +81,10 @@ impl<'a> Parser<'a> {
     }
 
     /// An assignment.
-    #[tactic(auto, using(crate::proofs::Trees::inner_atoms), unfolding(crate::specs::internal::RuleReading::assignment_at, crate::specs::internal::Reading::after_at))]
+    #[tactic(auto, using(rbg_grammar::proofs::Trees::inner_atoms), unfolding(rbg_grammar::specs::RuleReading::assignment_at, rbg_grammar::specs::Reading::after_at))]
     fn assignment(&mut self, alloc: Global, brackets: u8) -> Result<Rule<'a>, ReadError>
-        ensures { GivesWithin (λ r. (rule_of r, self.new)) result (assignment_at (sum_at brackets) self.old) }
+        ensures { GivesWithin (λ r.
+            (rule_of r, self.new)) result (assignment_at (sum_at brackets) self.old) }
     {
         let variable = self.name()?;
         self.symbol(Symbol::Equals, Expectation::Equals)?;

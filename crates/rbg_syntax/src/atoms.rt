@@ -1,16 +1,17 @@
 //! The readers of the actions that need no arithmetic and hold no rules.
-ghost use Rattle.rbg_syntax.specs.internal.Reading.{Gives, off_at, on_at, open_atom_at};
-ghost use Rattle.rbg_syntax.specs.Views.{rule_of};
+ghost use Rattle.rbg_syntax.specs.internal.Giving.{Gives};
+ghost use Rattle.rbg_grammar.specs.Reading.{off_at, on_at, open_atom_at};
+ghost use Rattle.rbg_grammar.specs.Views.{rule_of};
 
 use crate::error::{Expectation, ReadError};
 use crate::parser::Parser;
-use crate::rule::{Action, Rule};
-use rbg_macro::Symbol;
+use rbg_grammar::{Action, Rule};
+use rbg_tokens::Symbol;
 use std::alloc::Global;
 
 impl<'a> Parser<'a> {
     /// A shift or a switch.
-    #[tactic(auto, using(crate::proofs::Trees::atoms), unfolding(crate::specs::internal::Reading::open_atom_at))]
+    #[tactic(auto, using(rbg_grammar::proofs::Trees::atoms), unfolding(rbg_grammar::specs::Reading::open_atom_at))]
     pub(crate) fn open_atom(&mut self) -> Result<Rule<'a>, ReadError>
         ensures { Gives (λ r. (rule_of r, self.new)) result (open_atom_at self.old) }
     {
@@ -28,7 +29,7 @@ impl<'a> Parser<'a> {
     }
 
     /// An on.
-    #[tactic(auto, using(crate::proofs::Trees::atoms, crate::proofs::PhraseLaws::name_takes_some), unfolding(crate::specs::internal::Reading::on_at, crate::specs::internal::Reading::within_at))]
+    #[tactic(auto, using(rbg_grammar::proofs::Trees::atoms, rbg_grammar::proofs::PhraseLaws::name_takes_some), unfolding(rbg_grammar::specs::Reading::on_at, rbg_grammar::specs::Reading::within_at))]
     pub(crate) fn on(&mut self, alloc: Global) -> Result<Rule<'a>, ReadError>
         ensures { Gives (λ r. (rule_of r, self.new)) result (on_at self.old) }
     {
@@ -44,7 +45,7 @@ impl<'a> Parser<'a> {
     }
 
     /// An off.
-    #[tactic(auto, using(crate::proofs::Trees::atoms), unfolding(crate::specs::internal::Reading::off_at, crate::specs::internal::Reading::within_at))]
+    #[tactic(auto, using(rbg_grammar::proofs::Trees::atoms), unfolding(rbg_grammar::specs::Reading::off_at, rbg_grammar::specs::Reading::within_at))]
     pub(crate) fn off(&mut self) -> Result<Rule<'a>, ReadError>
         ensures { Gives (λ r. (rule_of r, self.new)) result (off_at self.old) }
     {

@@ -1,18 +1,18 @@
 //! The readers of boards.
 ghost use Rattle.std.specs.Prelude.{codes};
-ghost use Rattle.rbg_syntax.specs.internal.Reading.{Gives, board_at, direction_at, generated_at, graph_at, hexagon_at, next_word, rectangle_at};
-ghost use Rattle.rbg_syntax.specs.Views.{board_of, name_of};
+ghost use Rattle.rbg_syntax.specs.internal.Giving.{Gives};
+ghost use Rattle.rbg_grammar.specs.Reading.{board_at, direction_at, generated_at, graph_at, hexagon_at, next_word, rectangle_at};
+ghost use Rattle.rbg_grammar.specs.Views.{board_of, name_of};
 
-use crate::description::{Board, HexagonDirections, RectangleDirections};
 use crate::error::{Expectation, ReadError};
-use crate::names::Name;
 use crate::parser::Parser;
-use rbg_macro::Symbol;
+use rbg_grammar::{Board, HexagonDirections, Name, RectangleDirections};
+use rbg_tokens::Symbol;
 use std::alloc::Global;
 
 impl<'a> Parser<'a> {
     /// A board, by the name of its generator.
-    #[tactic(auto, unfolding(crate::specs::internal::Reading::board_at))]
+    #[tactic(auto, unfolding(rbg_grammar::specs::Reading::board_at))]
     pub(crate) fn board(&mut self, alloc: Global) -> Result<Board<'a>, ReadError>
         ensures { Gives (λ b. (board_of b, self.new)) result (board_at self.old) }
     {
@@ -25,9 +25,11 @@ impl<'a> Parser<'a> {
         self.graph_board(alloc)
     }
 
-    #[tactic(auto, unfolding(crate::specs::internal::Reading::generated_at, crate::specs::internal::Reading::within_at))]
+    #[tactic(auto, unfolding(rbg_grammar::specs::Reading::generated_at, rbg_grammar::specs::Reading::within_at))]
     fn rectangle_board(&mut self, alloc: Global) -> Result<Board<'a>, ReadError>
-        ensures { Gives (λ b. (board_of b, self.new)) result (generated_at (codes "rectangle") rectangle_at self.old) }
+        ensures { Gives (λ b.
+            (board_of b, self.new)) result (generated_at (codes "rectangle") rectangle_at
+            self.old) }
     {
         self.word(b"rectangle", Expectation::Generator)?;
         self.symbol(Symbol::OpenParenthesis, Expectation::Opening)?;
@@ -36,9 +38,10 @@ impl<'a> Parser<'a> {
         Ok(board)
     }
 
-    #[tactic(auto, unfolding(crate::specs::internal::Reading::generated_at, crate::specs::internal::Reading::within_at))]
+    #[tactic(auto, unfolding(rbg_grammar::specs::Reading::generated_at, rbg_grammar::specs::Reading::within_at))]
     fn hexagon_board(&mut self, alloc: Global) -> Result<Board<'a>, ReadError>
-        ensures { Gives (λ b. (board_of b, self.new)) result (generated_at (codes "hexagon") hexagon_at self.old) }
+        ensures { Gives (λ b.
+            (board_of b, self.new)) result (generated_at (codes "hexagon") hexagon_at self.old) }
     {
         self.word(b"hexagon", Expectation::Generator)?;
         self.symbol(Symbol::OpenParenthesis, Expectation::Opening)?;
@@ -47,9 +50,10 @@ impl<'a> Parser<'a> {
         Ok(board)
     }
 
-    #[tactic(auto, unfolding(crate::specs::internal::Reading::generated_at, crate::specs::internal::Reading::within_at))]
+    #[tactic(auto, unfolding(rbg_grammar::specs::Reading::generated_at, rbg_grammar::specs::Reading::within_at))]
     fn graph_board(&mut self, alloc: Global) -> Result<Board<'a>, ReadError>
-        ensures { Gives (λ b. (board_of b, self.new)) result (generated_at (codes "graph") graph_at self.old) }
+        ensures { Gives (λ b.
+            (board_of b, self.new)) result (generated_at (codes "graph") graph_at self.old) }
     {
         self.word(b"graph", Expectation::Generator)?;
         self.symbol(Symbol::OpenParenthesis, Expectation::Opening)?;
@@ -58,7 +62,7 @@ impl<'a> Parser<'a> {
         Ok(board)
     }
 
-    #[tactic(auto, using(crate::proofs::PhraseLaws::row_takes_some), unfolding(crate::specs::internal::Reading::rectangle_at, crate::specs::internal::Reading::rows_at))]
+    #[tactic(auto, using(rbg_grammar::proofs::PhraseLaws::row_takes_some), unfolding(rbg_grammar::specs::Reading::rectangle_at, rbg_grammar::specs::Reading::rows_at))]
     fn rectangle(&mut self, alloc: Global) -> Result<Board<'a>, ReadError>
         ensures { Gives (λ b. (board_of b, self.new)) result (rectangle_at self.old) }
     {
@@ -75,7 +79,7 @@ impl<'a> Parser<'a> {
         })
     }
 
-    #[tactic(auto, using(crate::proofs::PhraseLaws::row_takes_some), unfolding(crate::specs::internal::Reading::hexagon_at, crate::specs::internal::Reading::rows_at))]
+    #[tactic(auto, using(rbg_grammar::proofs::PhraseLaws::row_takes_some), unfolding(rbg_grammar::specs::Reading::hexagon_at, rbg_grammar::specs::Reading::rows_at))]
     fn hexagon(&mut self, alloc: Global) -> Result<Board<'a>, ReadError>
         ensures { Gives (λ b. (board_of b, self.new)) result (hexagon_at self.old) }
     {
@@ -94,7 +98,7 @@ impl<'a> Parser<'a> {
         })
     }
 
-    #[tactic(auto, using(crate::proofs::PhraseLaws::vertex_takes_some), unfolding(crate::specs::internal::Reading::graph_at))]
+    #[tactic(auto, using(rbg_grammar::proofs::PhraseLaws::vertex_takes_some), unfolding(rbg_grammar::specs::Reading::graph_at))]
     fn graph(&mut self, alloc: Global) -> Result<Board<'a>, ReadError>
         ensures { Gives (λ b. (board_of b, self.new)) result (graph_at self.old) }
     {
@@ -103,7 +107,7 @@ impl<'a> Parser<'a> {
     }
 
     /// The name of a direction, with its comma.
-    #[tactic(auto, unfolding(crate::specs::internal::Reading::direction_at, crate::specs::internal::Reading::with_comma_at))]
+    #[tactic(auto, unfolding(rbg_grammar::specs::Reading::direction_at, rbg_grammar::specs::Reading::with_comma_at))]
     fn direction(&mut self) -> Result<Name<'a>, ReadError>
         ensures { Gives (λ n. (name_of n, self.new)) result (direction_at self.old) }
     {

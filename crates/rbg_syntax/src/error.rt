@@ -1,6 +1,6 @@
 //! Why sections spell no description.
 ghost use Rattle.rbg_syntax.specs.declared.error.ReadError.TheVariants as errors;
-ghost use Rattle.rbg_syntax.specs.internal.Reading.{error_in};
+ghost use Rattle.rbg_syntax.specs.internal.Giving.{error_in};
 ghost use Rattle.std.specs.Prelude.{◌≡◌};
 
 use rbg_base::Memory;

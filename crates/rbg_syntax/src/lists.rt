@@ -1,16 +1,15 @@
 //! The phrases of which the sections of players, variables, pieces and boards are lists.
-ghost use Rattle.rbg_syntax.specs.internal.Reading.{bounded_at, edge_at, is_name, is_symbol, name_at, row_at, vertex_at};
-ghost use Rattle.rbg_syntax.specs.Tree.{SpeltBounded, SpeltEdge, SpeltName, SpeltVertex};
-ghost use Rattle.rbg_syntax.specs.Views.{bounded_of, edge_of, name_of, names_of, vertex_of};
-ghost use Rattle.rbg_macro.specs.declared.token.Symbol.TheVariants.{OpenBracket};
+ghost use Rattle.rbg_grammar.specs.Reading.{bounded_at, edge_at, is_name, is_symbol, name_at, row_at, vertex_at};
+ghost use Rattle.rbg_grammar.specs.Tree.{SpeltBounded, SpeltEdge, SpeltName, SpeltVertex};
+ghost use Rattle.rbg_grammar.specs.Views.{bounded_of, edge_of, name_of, names_of, vertex_of};
+ghost use Rattle.rbg_tokens.specs.declared.token.Symbol.TheVariants.{OpenBracket};
 ghost use Rattle.std.specs.Prelude.{◌≡◌, List};
 
-use crate::description::{Bounded, Edge, Vertex};
 use crate::error::{Expectation, ReadError};
-use crate::names::Name;
 use crate::parser::Parser;
 use crate::phrase::Phrase;
-use rbg_macro::{Symbol, TokenKind};
+use rbg_grammar::{Bounded, Edge, Name, Vertex};
+use rbg_tokens::{Symbol, TokenKind};
 use std::alloc::Global;
 
 impl<'a> Phrase<'a> for Name<'a> {
@@ -43,7 +42,7 @@ impl<'a> Phrase<'a> for Bounded<'a> {
     ghost begins = { is_name };
 
     /// A player or a variable with its bound.
-    #[tactic(auto, unfolding(crate::specs::internal::Reading::bounded_at, crate::specs::internal::Reading::within_at))]
+    #[tactic(auto, unfolding(rbg_grammar::specs::Reading::bounded_at, rbg_grammar::specs::Reading::within_at))]
     fn read_from(parser: &mut Parser<'a>, _alloc: Global) -> Result<Bounded<'a>, ReadError> {
         let name = parser.name()?;
         parser.symbol(Symbol::OpenParenthesis, Expectation::Opening)?;
@@ -69,7 +68,7 @@ impl<'a> Phrase<'a> for Vec<Name<'a>> {
 
     ghost begins = { is_symbol OpenBracket };
 
-    #[tactic(auto, using(crate::proofs::PhraseLaws::name_takes_some), unfolding(crate::specs::internal::Reading::row_at, crate::specs::internal::Reading::within_at))]
+    #[tactic(auto, using(rbg_grammar::proofs::PhraseLaws::name_takes_some), unfolding(rbg_grammar::specs::Reading::row_at, rbg_grammar::specs::Reading::within_at))]
     fn read_from(parser: &mut Parser<'a>, alloc: Global) -> Result<Vec<Name<'a>>, ReadError> {
         parser.symbol(Symbol::OpenBracket, Expectation::Opening)?;
         let names = parser.listed(alloc)?;
@@ -94,7 +93,7 @@ impl<'a> Phrase<'a> for Edge<'a> {
     ghost begins = { is_name };
 
     /// An edge to a vertex.
-    #[tactic(auto, unfolding(crate::specs::internal::Reading::edge_at, crate::specs::internal::Reading::after_at))]
+    #[tactic(auto, unfolding(rbg_grammar::specs::Reading::edge_at, rbg_grammar::specs::Reading::after_at))]
     fn read_from(parser: &mut Parser<'a>, _alloc: Global) -> Result<Edge<'a>, ReadError> {
         let direction = parser.name()?;
         parser.symbol(Symbol::Colon, Expectation::Colon)?;
@@ -119,7 +118,7 @@ impl<'a> Phrase<'a> for Vertex<'a> {
     ghost begins = { is_name };
 
     /// A vertex of a graph.
-    #[tactic(auto, using(crate::proofs::PhraseLaws::edge_takes_some), unfolding(crate::specs::internal::Reading::vertex_at, crate::specs::internal::Reading::within_at))]
+    #[tactic(auto, using(rbg_grammar::proofs::PhraseLaws::edge_takes_some), unfolding(rbg_grammar::specs::Reading::vertex_at, rbg_grammar::specs::Reading::within_at))]
     fn read_from(parser: &mut Parser<'a>, alloc: Global) -> Result<Vertex<'a>, ReadError> {
         let name = parser.name()?;
         parser.symbol(Symbol::OpenBracket, Expectation::Opening)?;

@@ -1,16 +1,18 @@
 //! What is left of a section's tokens, and the readers of single tokens.
 ghost use Rattle.std.specs.Prelude.{◌≡◌, [], ◌∷◌, drop, List, IfErr, IfOk, IfSome, IsTrue, MatchOption};
 ghost use Rattle.rbg_base.specs.Names.{is_name as is_a_name};
-ghost use Rattle.rbg_macro.specs.Token.{Lexeme, lexeme_of};
-ghost use Rattle.rbg_syntax.specs.internal.Reading.{FailsWithin, Gives, Takes, ended_at, front_at, next_is, next_word, is_name, is_number, is_symbol, name_at, number_at, place_of, symbol_at, word_at};
+ghost use Rattle.rbg_tokens.specs.Token.{Lexeme, lexeme_of};
+ghost use Rattle.rbg_syntax.specs.internal.Giving.{FailsWithin, Gives};
+ghost use Rattle.rbg_grammar.specs.Reading.{Takes, ended_at, front_at, next_is, next_word, is_name, is_number, is_symbol, name_at, number_at, place_of, symbol_at, word_at};
 ghost use Rattle.rbg_syntax.specs.declared.error.ReadError.TheVariants as errors;
-ghost use Rattle.rbg_syntax.specs.internal.RuleReading.{too_deep_at};
-ghost use Rattle.rbg_syntax.specs.Views.{name_of, number_of};
+ghost use Rattle.rbg_grammar.specs.RuleReading.{too_deep_at};
+ghost use Rattle.rbg_grammar.specs.Views.{name_of, number_of};
 
 use crate::error::{Expectation, ReadError};
-use crate::names::{Name, Number};
 use rbg_base::number_of_digits;
-use rbg_macro::{Section, Symbol, Token, TokenKind};
+use rbg_grammar::{Name, Number};
+use rbg_macro::Section;
+use rbg_tokens::{Symbol, Token, TokenKind};
 use std::marker::Model;
 
 /// What is left of a section's tokens.
@@ -23,7 +25,7 @@ pub(crate) struct Parser<'a> {
 impl<'a> Model for Parser<'a> {
     ghost use Rattle.std.specs.Prelude.{List, ◌≤◌, drop, length};
     ghost use Rattle.rbg_base.specs.Names.{is_name as is_a_name};
-    ghost use Rattle.rbg_macro.specs.Token.{Lexeme};
+    ghost use Rattle.rbg_tokens.specs.Token.{Lexeme};
 
     ghost Value = { List Lexeme };
 
@@ -46,8 +48,10 @@ impl<'a> Parser<'a> {
     /// The next token.
     #[tactic(auto, using(crate::proofs::Fronts::front_from_get, crate::proofs::Fronts::drop_whole))]
     pub(crate) fn peek(&self) -> Option<Token<'a>>
-        ensures front { MatchOption result (self.now ≡ []) (λ t. self.now ≡ lexeme_of t ∷ drop 1 self.now) }
-        ensures name { IfSome result (λ t. t.kind ≡ TokenKind.Name → IsTrue (is_a_name t.text.now)) }
+        ensures front { MatchOption result (self.now ≡ []) (λ t.
+            self.now ≡ lexeme_of t ∷ drop 1 self.now) }
+        ensures name { IfSome result (λ t. t.kind ≡ TokenKind.Name
+            → IsTrue (is_a_name t.text.now)) }
     {
         if self.position < self.section.len() {
             Some(self.section.token(self.position))
@@ -188,7 +192,7 @@ impl<'a> Parser<'a> {
     }
 
     /// Passes the symbol, and returns its offset.
-    #[tactic(auto, unfolding(crate::specs::internal::Reading::symbol_at))]
+    #[tactic(auto, unfolding(rbg_grammar::specs::Reading::symbol_at))]
     pub(crate) fn symbol(&mut self, symbol: Symbol, what: Expectation) -> Result<usize, ReadError>
         ensures { Gives (λ at. (at, self.new)) result (symbol_at symbol self.old) }
     {
@@ -204,7 +208,7 @@ impl<'a> Parser<'a> {
     }
 
     /// Passes a name.
-    #[tactic(auto, unfolding(crate::specs::internal::Reading::name_at))]
+    #[tactic(auto, unfolding(rbg_grammar::specs::Reading::name_at))]
     pub(crate) fn name(&mut self) -> Result<Name<'a>, ReadError>
         ensures { Gives (λ n. (name_of n, self.new)) result (name_at self.old) }
     {
@@ -223,7 +227,7 @@ impl<'a> Parser<'a> {
     }
 
     /// Passes a name that is this word, and returns its offset.
-    #[tactic(auto, unfolding(crate::specs::internal::Reading::word_at))]
+    #[tactic(auto, unfolding(rbg_grammar::specs::Reading::word_at))]
     pub(crate) fn word(&mut self, text: &[u8], what: Expectation) -> Result<usize, ReadError>
         ensures { Gives (λ at. (at, self.new)) result (word_at text.now self.old) }
     {
@@ -239,7 +243,7 @@ impl<'a> Parser<'a> {
     }
 
     /// Passes a number.
-    #[tactic(auto, unfolding(crate::specs::internal::Reading::number_at))]
+    #[tactic(auto, unfolding(rbg_grammar::specs::Reading::number_at))]
     pub(crate) fn number(&mut self) -> Result<Number, ReadError>
         ensures { Gives (λ n. (number_of n, self.new)) result (number_at self.old) }
     {

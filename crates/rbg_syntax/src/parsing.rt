@@ -1,22 +1,24 @@
 //! The reader of a whole description.
 ghost use Rattle.std.specs.Prelude.{◌≡◌, slice_get, IfErr, IfOk};
 ghost use Rattle.rbg_macro.specs.declared.source.SectionKind.TheVariants.{Variables};
-ghost use Rattle.rbg_macro.specs.declared.token.Symbol.TheVariants.{Comma};
-ghost use Rattle.rbg_syntax.specs.Descriptions.{description_of};
-ghost use Rattle.rbg_syntax.specs.internal.Reading.{Gives, GivesAt, GivesWithin, board_at, bounded_at, is_name, listed_at, name_at, placed, separated_at, start_of, variables_at, whole_at};
-ghost use Rattle.rbg_syntax.specs.internal.RuleReading.{rules_at};
-ghost use Rattle.rbg_syntax.specs.Sections.{IsMissing, sections_of};
-ghost use Rattle.rbg_syntax.specs.Spells.{HasFault, IsAnswer, Spells, max_brackets};
-ghost use Rattle.rbg_syntax.specs.Tree.{SpeltDescription};
-ghost use Rattle.rbg_syntax.specs.Views.{board_of, bounded_list_of, names_of, rule_of};
+ghost use Rattle.rbg_tokens.specs.declared.token.Symbol.TheVariants.{Comma};
+ghost use Rattle.rbg_grammar.specs.Descriptions.{description_of};
+ghost use Rattle.rbg_syntax.specs.internal.Giving.{Gives, GivesAt, GivesWithin, placed, start_of};
+ghost use Rattle.rbg_grammar.specs.Reading.{board_at, bounded_at, is_name, listed_at, name_at, separated_at, variables_at, whole_at};
+ghost use Rattle.rbg_grammar.specs.RuleReading.{rules_at};
+ghost use Rattle.rbg_syntax.specs.Faults.{IsMissing};
+ghost use Rattle.rbg_grammar.specs.Sections.{sections_of};
+ghost use Rattle.rbg_syntax.specs.Faults.{HasFault, IsAnswer};
+ghost use Rattle.rbg_grammar.specs.Spells.{Spells, max_brackets};
+ghost use Rattle.rbg_grammar.specs.Tree.{SpeltDescription};
+ghost use Rattle.rbg_grammar.specs.Views.{board_of, bounded_list_of, names_of, rule_of};
 
-use crate::description::{Board, Bounded, Description};
 use crate::error::{Expectation, ReadError, SyntaxError};
-use crate::names::Name;
 use crate::parser::Parser;
-use crate::rule::Rule;
 use crate::sections::{find, refuse_twice};
-use rbg_macro::{Section, SectionKind, Source, Symbol};
+use rbg_grammar::{Board, Bounded, Description, DescriptionParts, Name, Rule};
+use rbg_macro::{Section, SectionKind, Source};
+use rbg_tokens::Symbol;
 use std::alloc::Global;
 
 /// How many brackets may be open at once.
@@ -44,13 +46,13 @@ pub fn parse<'a>(alloc: Global, source: &'a Source<'_>) -> Result<Description<'a
     let variables = variables_of(alloc, source)?;
     let board = placed(board.at(), read_board(alloc, board))?;
     let rules = placed(rules.at(), read_rules(alloc, rules))?;
-    Ok(Description {
+    Ok(Description::new(DescriptionParts {
         players,
         variables,
         pieces,
         board,
         rules,
-    })
+    }))
 }
 
 /// What was read of a section whose `#` is at this offset.
@@ -71,9 +73,10 @@ fn needed<'a>(source: &'a Source<'_>, which: SectionKind) -> Result<Section<'a>,
     find(source, which).ok_or(SyntaxError::MissingSection { which })
 }
 
-#[tactic(auto, using(crate::proofs::Answers::endings, crate::proofs::PhraseLaws::bounded_takes_some), unfolding(crate::specs::internal::Reading::whole_at))]
+#[tactic(auto, using(crate::proofs::Answers::endings, rbg_grammar::proofs::PhraseLaws::bounded_takes_some), unfolding(rbg_grammar::specs::Reading::whole_at))]
 fn read_players(alloc: Global, section: Section<'_>) -> Result<Vec<Bounded<'_>>, ReadError>
-    ensures { Gives bounded_list_of result (whole_at (separated_at Comma bounded_at) section.entry.tokens) }
+    ensures { Gives bounded_list_of result
+        (whole_at (separated_at Comma bounded_at) section.entry.tokens) }
 {
     let mut parser = Parser::new(section);
     let players = parser.separated(alloc, Symbol::Comma)?;
@@ -81,7 +84,7 @@ fn read_players(alloc: Global, section: Section<'_>) -> Result<Vec<Bounded<'_>>,
     Ok(players)
 }
 
-#[tactic(auto, using(crate::proofs::Answers::endings, crate::proofs::PhraseLaws::name_takes_some), unfolding(crate::specs::internal::Reading::whole_at))]
+#[tactic(auto, using(crate::proofs::Answers::endings, rbg_grammar::proofs::PhraseLaws::name_takes_some), unfolding(rbg_grammar::specs::Reading::whole_at))]
 fn read_pieces(alloc: Global, section: Section<'_>) -> Result<Vec<Name<'_>>, ReadError>
     ensures { Gives names_of result (whole_at (separated_at Comma name_at) section.entry.tokens) }
 {
@@ -102,9 +105,10 @@ fn variables_of<'a>(alloc: Global, source: &'a Source<'_>) -> Result<Vec<Bounded
     }
 }
 
-#[tactic(auto, using(crate::proofs::Answers::endings, crate::proofs::PhraseLaws::bounded_takes_some), unfolding(crate::specs::internal::Reading::whole_at))]
+#[tactic(auto, using(crate::proofs::Answers::endings, rbg_grammar::proofs::PhraseLaws::bounded_takes_some), unfolding(rbg_grammar::specs::Reading::whole_at))]
 fn read_variables(alloc: Global, section: Section<'_>) -> Result<Vec<Bounded<'_>>, ReadError>
-    ensures { Gives bounded_list_of result (whole_at (listed_at is_name bounded_at) section.entry.tokens) }
+    ensures { Gives bounded_list_of result
+        (whole_at (listed_at is_name bounded_at) section.entry.tokens) }
 {
     let mut parser = Parser::new(section);
     let variables = parser.listed(alloc)?;
@@ -117,7 +121,7 @@ fn read_variables(alloc: Global, section: Section<'_>) -> Result<Vec<Bounded<'_>
     Ok(variables)
 }
 
-#[tactic(auto, using(crate::proofs::Answers::endings), unfolding(crate::specs::internal::Reading::whole_at))]
+#[tactic(auto, using(crate::proofs::Answers::endings), unfolding(rbg_grammar::specs::Reading::whole_at))]
 fn read_board(alloc: Global, section: Section<'_>) -> Result<Board<'_>, ReadError>
     ensures { Gives board_of result (whole_at board_at section.entry.tokens) }
 {
@@ -127,7 +131,7 @@ fn read_board(alloc: Global, section: Section<'_>) -> Result<Board<'_>, ReadErro
     Ok(board)
 }
 
-#[tactic(auto, using(crate::proofs::Answers::endings), unfolding(crate::specs::internal::Reading::whole_at))]
+#[tactic(auto, using(crate::proofs::Answers::endings), unfolding(rbg_grammar::specs::Reading::whole_at))]
 fn read_rules(alloc: Global, section: Section<'_>) -> Result<Rule<'_>, ReadError>
     ensures { GivesWithin rule_of result (whole_at (rules_at max_brackets) section.entry.tokens) }
 {

@@ -1,18 +1,20 @@
 //! Phrases, and the loops that read lists of them.
 ghost use Rattle.std.specs.Prelude.{◌≡◌, map};
-ghost use Rattle.rbg_syntax.specs.internal.Reading.{Gives, TakesSome, listed_at, next_is, repeated_at, separated_at};
+ghost use Rattle.rbg_syntax.specs.internal.Giving.{Gives};
+ghost use Rattle.rbg_grammar.specs.Reading.{TakesSome, listed_at, next_is, repeated_at, separated_at};
 
 use crate::error::ReadError;
 use crate::parser::Parser;
-use rbg_macro::{Symbol, TokenKind};
+use rbg_tokens::{Symbol, TokenKind};
 use std::alloc::Global;
 
 /// A phrase of the grammar that is read from the front of the tokens.
 pub(crate) trait Phrase<'a>: Sized + Drop {
     ghost use Rattle.std.specs.Prelude.{◌≡◌, List, Bool};
-    ghost use Rattle.rbg_macro.specs.Token.{Lexeme};
-    ghost use Rattle.rbg_macro.specs.declared.token.TokenKind.{TokenKind};
-    ghost use Rattle.rbg_syntax.specs.internal.Reading.{Gives, Reading};
+    ghost use Rattle.rbg_tokens.specs.Token.{Lexeme};
+    ghost use Rattle.rbg_tokens.specs.declared.token.TokenKind.{TokenKind};
+    ghost use Rattle.rbg_syntax.specs.internal.Giving.{Gives};
+    ghost use Rattle.rbg_grammar.specs.Reading.{Reading};
 
     // What such a phrase spells.
     ghost Spelt: { Type 0 };
@@ -52,7 +54,8 @@ impl<'a> Parser<'a> {
         separator: Symbol,
     ) -> Result<Vec<T>, ReadError>
         requires { TakesSome T.read }
-        ensures { Gives (λ v. (map T.view v.items, self.new)) result (separated_at separator T.read self.old) }
+        ensures { Gives (λ v.
+            (map T.view v.items, self.new)) result (separated_at separator T.read self.old) }
     {
         let mut phrases = Vec::new(alloc);
         phrases.push(T::read_from(self, alloc)?)?;
@@ -63,10 +66,11 @@ impl<'a> Parser<'a> {
     }
 
     /// Any number of phrases, with commas between them.
-    #[tactic(auto, unfolding(crate::specs::internal::Reading::listed_at))]
+    #[tactic(auto, unfolding(rbg_grammar::specs::Reading::listed_at))]
     pub(crate) fn listed<T: Phrase<'a>>(&mut self, alloc: Global) -> Result<Vec<T>, ReadError>
         requires { TakesSome T.read }
-        ensures { Gives (λ v. (map T.view v.items, self.new)) result (listed_at T.begins T.read self.old) }
+        ensures { Gives (λ v.
+            (map T.view v.items, self.new)) result (listed_at T.begins T.read self.old) }
     {
         if self.next_begins::<T>() {
             self.separated(alloc, Symbol::Comma)
@@ -78,7 +82,8 @@ impl<'a> Parser<'a> {
     /// Any number of phrases, one after the other.
     pub(crate) fn repeated<T: Phrase<'a>>(&mut self, alloc: Global) -> Result<Vec<T>, ReadError>
         requires { TakesSome T.read }
-        ensures { Gives (λ v. (map T.view v.items, self.new)) result (repeated_at T.begins T.read self.old) }
+        ensures { Gives (λ v.
+            (map T.view v.items, self.new)) result (repeated_at T.begins T.read self.old) }
     {
         let mut found = Vec::new(alloc);
         while self.next_begins::<T>() {

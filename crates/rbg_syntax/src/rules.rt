@@ -1,16 +1,17 @@
 //! The readers of rules. Each takes how many further brackets may be open at once, so a call is never nested deeper
 //! than that.
 ghost use Rattle.std.specs.Prelude.{◌≡◌, map};
-ghost use Rattle.rbg_macro.specs.declared.token.Symbol.TheVariants as symbols;
-ghost use Rattle.rbg_syntax.specs.internal.Reading.{GivesWithin, after_at, further_at, is_symbol, next_is};
-ghost use Rattle.rbg_syntax.specs.internal.RuleReading.{atom_at, begins_atom, bracket_atom_at, in_braces_at, in_choice, is_opening, item_at, pattern_at, rules_at, sequence_at, sum_at};
-ghost use Rattle.rbg_syntax.specs.Views.{rule_of};
+ghost use Rattle.rbg_tokens.specs.declared.token.Symbol.TheVariants as symbols;
+ghost use Rattle.rbg_syntax.specs.internal.Giving.{GivesWithin};
+ghost use Rattle.rbg_grammar.specs.Reading.{after_at, further_at, is_symbol, next_is};
+ghost use Rattle.rbg_grammar.specs.RuleReading.{atom_at, begins_atom, bracket_atom_at, in_braces_at, in_choice, is_opening, item_at, pattern_at, rules_at, sequence_at, sum_at};
+ghost use Rattle.rbg_grammar.specs.Views.{rule_of};
 
 use crate::error::{Expectation, ReadError};
 use crate::parser::Parser;
-use crate::rule::{Action, Rule};
 use crate::sequences::in_sequence;
-use rbg_macro::{Symbol, TokenKind};
+use rbg_grammar::{Action, Rule};
+use rbg_tokens::{Symbol, TokenKind};
 use std::alloc::Global;
 
 impl<'a> Parser<'a> {
@@ -35,8 +36,10 @@ impl<'a> Parser<'a> {
         first: Rule<'a>,
         brackets: u8,
     ) -> Result<Vec<Rule<'a>>, ReadError>
-        ensures { GivesWithin (λ v. (map rule_of v.items, self.new)) result (further_at (rule_of first.entry)
-            (is_symbol symbols.Plus) (after_at symbols.Plus (sequence_at (atom_at brackets))) self.old) }
+        ensures { GivesWithin (λ v.
+            (map rule_of v.items, self.new)) result (further_at (rule_of first.entry)
+            (is_symbol symbols.Plus) (after_at symbols.Plus (sequence_at (atom_at brackets)))
+            self.old) }
     {
         let mut parts = Vec::new(alloc);
         parts.push(first)?;
@@ -49,7 +52,8 @@ impl<'a> Parser<'a> {
     /// A sequence.
     #[cycle(rules)]
     fn sequence(&mut self, alloc: Global, brackets: u8) -> Result<Rule<'a>, ReadError>
-        ensures { GivesWithin (λ r. (rule_of r, self.new)) result (sequence_at (atom_at brackets) self.old) }
+        ensures { GivesWithin (λ r.
+            (rule_of r, self.new)) result (sequence_at (atom_at brackets) self.old) }
     {
         let first = self.item(alloc, brackets)?;
         if !self.next_begins_atom() {
@@ -80,9 +84,10 @@ impl<'a> Parser<'a> {
 
     /// An atom, and the `*` after it where there is one.
     #[cycle(rules)]
-    #[tactic(auto, using(crate::proofs::Trees::stars), unfolding(crate::specs::internal::RuleReading::item_at))]
+    #[tactic(auto, using(rbg_grammar::proofs::Trees::stars), unfolding(rbg_grammar::specs::RuleReading::item_at))]
     fn item(&mut self, alloc: Global, brackets: u8) -> Result<Rule<'a>, ReadError>
-        ensures { GivesWithin (λ r. (rule_of r, self.new)) result (item_at (atom_at brackets) self.old) }
+        ensures { GivesWithin (λ r.
+            (rule_of r, self.new)) result (item_at (atom_at brackets) self.old) }
     {
         let rule = self.atom(alloc, brackets)?;
         if !self.next_is(Symbol::Star) {
@@ -108,7 +113,7 @@ impl<'a> Parser<'a> {
 
     /// An atom in brackets, in which at most so many further ones may be open.
     #[cycle(rules)]
-    #[tactic(auto, unfolding(crate::specs::internal::RuleReading::bracket_atom_at, crate::specs::internal::Reading::within_at))]
+    #[tactic(auto, unfolding(rbg_grammar::specs::RuleReading::bracket_atom_at, rbg_grammar::specs::Reading::within_at))]
     fn bracket_atom(&mut self, alloc: Global, brackets: u8) -> Result<Rule<'a>, ReadError>
         ensures { GivesWithin (λ r. (rule_of r, self.new)) result
             (bracket_atom_at (rules_at brackets) (sum_at brackets) self.old) }
@@ -127,7 +132,7 @@ impl<'a> Parser<'a> {
 
     /// A pattern, a comparison or an on.
     #[cycle(rules)]
-    #[tactic(auto, using(crate::proofs::Trees::inner_atoms, crate::proofs::Parts::patterns), unfolding(crate::specs::internal::RuleReading::in_braces_at))]
+    #[tactic(auto, using(rbg_grammar::proofs::Trees::inner_atoms, crate::proofs::Parts::patterns), unfolding(rbg_grammar::specs::RuleReading::in_braces_at))]
     fn in_braces(&mut self, alloc: Global, brackets: u8) -> Result<Rule<'a>, ReadError>
         ensures { GivesWithin (λ r. (rule_of r, self.new)) result
             (in_braces_at (rules_at brackets) (sum_at brackets) self.old) }
@@ -150,7 +155,7 @@ impl<'a> Parser<'a> {
 
     /// The rules in a pattern that has this sign after its `{`, and the offset of that `{`.
     #[cycle(rules)]
-    #[tactic(auto, unfolding(crate::specs::internal::RuleReading::pattern_at, crate::specs::internal::Reading::after_at))]
+    #[tactic(auto, unfolding(rbg_grammar::specs::RuleReading::pattern_at, rbg_grammar::specs::Reading::after_at))]
     fn pattern(
         &mut self,
         alloc: Global,
@@ -215,7 +220,7 @@ fn is_opening(kind: TokenKind) -> bool
 }
 
 /// The parts of a sum of rules as one rule. One part is that part.
-#[tactic(auto, using(crate::proofs::Trees::choices))]
+#[tactic(auto, using(rbg_grammar::proofs::Trees::choices))]
 fn in_choice(mut parts: Vec<Rule<'_>>) -> Rule<'_>
     ensures { rule_of result ≡ in_choice (map rule_of parts.entry.items) }
 {

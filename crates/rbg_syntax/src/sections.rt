@@ -1,6 +1,7 @@
 //! Which sections a source has.
 ghost use Rattle.std.specs.Prelude.{◌≡◌, ◌≤◌, ◌<◌, ◌↔◌, length, slice_get, take, IfErr, IsTrue, OnOk};
-ghost use Rattle.rbg_syntax.specs.Sections.{AreDifferent, IsTwice, count_of, sections_of};
+ghost use Rattle.rbg_grammar.specs.Sections.{AreDifferent, count_of, sections_of};
+ghost use Rattle.rbg_syntax.specs.Faults.{IsTwice};
 
 use crate::error::SyntaxError;
 use rbg_macro::{Section, SectionKind, Source};

@@ -1,7 +1,7 @@
 -- What the calls return that read a text.
 use Rattle.std.specs.Prelude.{◌≡◌, ℕ, ◌<◌, ◌≤◌, ◌^◌, List, [], ◌∷◌, ◌++◌, length, Result, Ok, Err, codes, decimal, All}
 use Rattle.std.specs.List.{flat_map}
-use Rattle.rbg_pairs.specs.Move.{most_pairs}
+use Rattle.rbg_base.specs.Move.{most_pairs}
 use Rattle.rbg_wire.specs.Words.{space}
 use Rattle.rbg_wire.specs.declared.error.WireError.{WireError}
 use Rattle.rbg_wire.specs.declared.error.WireError.TheVariants.{Malformed, TooManyPairs}

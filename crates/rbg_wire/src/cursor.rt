@@ -91,7 +91,8 @@ impl Cursor {
         requires cursor { IsCursorOf self.old bytes.now }
         requires dropping { self.old.dropping ≡ true }
         ensures cursor { IsCursorOf self.new bytes.now }
-        ensures same { (limit : ℕ) → unread limit self.new bytes.now ≡ unread limit self.old bytes.now }
+        ensures same { (limit : ℕ)
+            → unread limit self.new bytes.now ≡ unread limit self.old bytes.now }
         ensures dropping { self.new.dropping ≡ not result }
         ensures all { OnFalse result (drop self.new.start bytes.now ≡ []) }
     {
@@ -115,7 +116,8 @@ impl Cursor {
         ensures start { self.new.start ≡ self.old.start }
         ensures dropping { self.new.dropping ≡ self.old.dropping }
         ensures cursor { IsCursorOf self.new bytes.now }
-        ensures found { IfSome result (λ end. (self.new.looked ≡ end) × IsEnd bytes.now self.new.start end) }
+        ensures found { IfSome result (λ end. (self.new.looked ≡ end)
+            × IsEnd bytes.now self.new.start end) }
         ensures none { IfNone result (
             (self.new.looked ≡ length bytes.now) × LacksByte 0 (drop self.new.start bytes.now)) }
     {

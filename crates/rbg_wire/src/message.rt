@@ -2,7 +2,7 @@
 ghost use Rattle.std.specs.Prelude.{◌≡◌};
 
 use crate::Outcome;
-use rbg_pairs::Move;
+use rbg_base::Move;
 
 /// Why a seat's message is refused.
 #[derive(Clone, Copy, Debug, PartialEq, Eq)]

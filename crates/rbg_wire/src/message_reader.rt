@@ -17,7 +17,8 @@ use rbg_base::{is_name, number_of_decimal};
 /// message.
 pub fn read_message(text: &[u8]) -> Result<Message<'_>, WireError>
     // The text is that of the message that is returned.
-    ensures found { IfOk result (λ m. SpellsMessage text.now (message_of m) × HasFewPairs (message_of m)) }
+    ensures found { IfOk result (λ m. SpellsMessage text.now (message_of m)
+        × HasFewPairs (message_of m)) }
     // The message is returned whose text this is.
     ensures only { (message : AbstractMessage)
         → SpellsMessage text.now message
@@ -47,7 +48,8 @@ fn message_in(text: &[u8]) -> Result<Message<'_>, WireError>
 fn other_message(letter: u8, text: &[u8]) -> Option<Message<'_>>
     requires { letter ≢ move_letter }
     ensures found { IfSome result (λ m. SpellsAfterLetter letter text.now (message_of m)) }
-    ensures none { IfNone result ((message : AbstractMessage) → SpellsMessage (letter ∷ text.now) message → ⊥) }
+    ensures none { IfNone result ((message : AbstractMessage)
+        → SpellsMessage (letter ∷ text.now) message → ⊥) }
 {
     match letter {
         b'W' => who_in(text),
@@ -68,7 +70,8 @@ fn other_message(letter: u8, text: &[u8]) -> Option<Message<'_>>
 
 fn who_in(text: &[u8]) -> Option<Message<'_>>
     ensures found { IfSome result (λ m. SpellsAfterLetter who_letter text.now (message_of m)) }
-    ensures none { IfNone result ((message : AbstractMessage) → SpellsMessage (who_letter ∷ text.now) message → ⊥) }
+    ensures none { IfNone result ((message : AbstractMessage)
+        → SpellsMessage (who_letter ∷ text.now) message → ⊥) }
 {
     let (player, name) = cut_at_space(text)?;
     let player = number_of_decimal(player)?;
@@ -80,7 +83,8 @@ fn who_in(text: &[u8]) -> Option<Message<'_>>
 
 fn game_in(text: &[u8]) -> Option<Message<'_>>
     ensures found { IfSome result (λ m. SpellsAfterLetter game_letter text.now (message_of m)) }
-    ensures none { IfNone result ((message : AbstractMessage) → SpellsMessage (game_letter ∷ text.now) message → ⊥) }
+    ensures none { IfNone result ((message : AbstractMessage)
+        → SpellsMessage (game_letter ∷ text.now) message → ⊥) }
 {
     match first_place(0, text) {
         None => Some(Message::Game { text }),
@@ -90,7 +94,8 @@ fn game_in(text: &[u8]) -> Option<Message<'_>>
 
 fn limits_in(text: &[u8]) -> Option<Message<'_>>
     ensures found { IfSome result (λ m. SpellsAfterLetter limits_letter text.now (message_of m)) }
-    ensures none { IfNone result ((message : AbstractMessage) → SpellsMessage (limits_letter ∷ text.now) message → ⊥) }
+    ensures none { IfNone result ((message : AbstractMessage)
+        → SpellsMessage (limits_letter ∷ text.now) message → ⊥) }
 {
     let (turn_ms, refusals) = cut_at_space(text)?;
     let turn_ms = number_of_decimal(turn_ms)?;
@@ -100,7 +105,8 @@ fn limits_in(text: &[u8]) -> Option<Message<'_>>
 
 fn reason_in(text: &[u8]) -> Option<Reason>
     ensures found { IfSome result (λ reason. text.now ≡ decimal (reason_number reason)) }
-    ensures none { IfNone result ((reason : AnyReason) → text.now ≡ decimal (reason_number reason) → ⊥) }
+    ensures none { IfNone result ((reason : AnyReason) → text.now ≡ decimal (reason_number reason)
+        → ⊥) }
 {
     match number_of_decimal(text)? {
         1 => Some(Reason::Unreadable),

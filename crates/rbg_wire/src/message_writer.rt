@@ -16,8 +16,7 @@ ghost use Rattle.rbg_wire.specs.Writing.{Appends};
 
 use crate::{Message, Outcome};
 use itoa::Buffer;
-use rbg_base::Memory;
-use rbg_pairs::Pair;
+use rbg_base::{Memory, Pair};
 
 /// Appends the message with its zero byte. On an error the bytes are unchanged.
 pub fn write_message(message: &Message<'_>, out: &mut Vec<u8>) -> Result<(), Memory>
@@ -147,7 +146,8 @@ fn put_outcome(outcome: &Outcome, out: &mut Vec<u8>) -> Result<(), Memory>
 }
 
 fn put_scores(scores: &[u64], out: &mut Vec<u8>) -> Result<(), Memory>
-    ensures { Appends out.old.items out.new.items (flat_map (λ score. codes " " ++ decimal score) scores.now) result }
+    ensures { Appends out.old.items out.new.items (flat_map (λ score.
+        codes " " ++ decimal score) scores.now) result }
 {
     for score in scores {
         put_number(b" ", *score, out)?;
@@ -167,7 +167,8 @@ fn put_pairs(pairs: &[Pair], out: &mut Vec<u8>) -> Result<(), Memory>
 }
 
 fn put_more_pairs(pairs: &[Pair], out: &mut Vec<u8>) -> Result<(), Memory>
-    ensures { Appends out.old.items out.new.items (flat_map (λ p. codes " " ++ pair_text p) pairs.now) result }
+    ensures { Appends out.old.items out.new.items (flat_map (λ p.
+        codes " " ++ pair_text p) pairs.now) result }
 {
     for pair in pairs {
         put_pair(b" ", *pair, out)?;

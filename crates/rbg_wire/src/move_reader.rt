@@ -1,6 +1,6 @@
 //! The calls that read the pairs of a move. They allocate nothing.
 ghost use Rattle.std.specs.Prelude.{◌≡◌, ℕ, ◌<◌, ◌≤◌, ◌↔◌, List, [], ◌∷◌, length, decimal, Ok, IfOk, IfErr, IfSome, IfNone, IsErrOf};
-ghost use Rattle.rbg_pairs.specs.Move.{most_pairs};
+ghost use Rattle.rbg_base.specs.Move.{most_pairs};
 ghost use Rattle.rbg_wire.specs.Messages.{IsShortPair};
 ghost use Rattle.rbg_wire.specs.Reading.{SpellsPairs, SpellsMove, SpellsTooMany, ReadsPairs, ArePairWords};
 ghost use Rattle.rbg_wire.specs.Words.{words_left};
@@ -8,7 +8,7 @@ ghost use Rattle.rbg_wire.specs.Words.{words_left};
 use crate::WireError;
 use crate::number_reader::short_number;
 use crate::words::Words;
-use rbg_pairs::{Move, Pair};
+use rbg_base::{Move, Pair};
 
 /// The move of which the whole text is the message: `M<pairs>`.
 ///
@@ -35,13 +35,15 @@ pub fn read_move(text: &[u8]) -> Result<Move, WireError>
 /// pairs.
 pub fn read_pairs(text: &[u8]) -> Result<Move, WireError>
     // The text is the spelling of the pairs that are returned.
-    ensures found { IfOk result (λ pairs. SpellsPairs text.now pairs × (length pairs ≤ most_pairs)) }
+    ensures found { IfOk result (λ pairs. SpellsPairs text.now pairs
+        × (length pairs ≤ most_pairs)) }
     // The pairs are returned whose spelling the text is.
     ensures only { (pairs : List (ℕ × ℕ))
         → SpellsPairs text.now pairs
         → length pairs ≤ most_pairs
         → result ≡ Ok pairs }
-    ensures too_many { IsErrOf result WireError.TooManyPairs ↔ SpellsTooMany (SpellsPairs text.now) }
+    ensures too_many { IsErrOf result WireError.TooManyPairs
+        ↔ SpellsTooMany (SpellsPairs text.now) }
     ensures malformed { IsErrOf result WireError.Malformed
         ↔ ((pairs : List (ℕ × ℕ)) → SpellsPairs text.now pairs → ⊥) }
 {
@@ -87,10 +89,12 @@ pub(crate) fn pairs_of(text: &[u8]) -> Result<Move, WireError>
 #[tactic(auto, using(crate::proofs::PairLemmas::second_no_number))]
 fn next_pair(words: &mut Words<'_>) -> Result<Option<Pair>, WireError>
     ensures found { IfOk result (λ found. IfSome found (λ p.
-        IsShortPair p × (words_left words.old ≡ decimal p.0 ∷ decimal p.1 ∷ words_left words.new))) }
+        IsShortPair p × (words_left words.old
+        ≡ decimal p.0 ∷ decimal p.1 ∷ words_left words.new))) }
     ensures end { IfOk result (λ found. IfNone found (words_left words.old ≡ [])) }
     ensures none { IfErr result (λ e.
-        (e ≡ WireError.Malformed) × ((pairs : List (ℕ × ℕ)) → ArePairWords (words_left words.old) pairs → ⊥)) }
+        (e ≡ WireError.Malformed)
+        × ((pairs : List (ℕ × ℕ)) → ArePairWords (words_left words.old) pairs → ⊥)) }
 {
     let Some(vertex) = words.next() else {
         return Ok(None);

@@ -33,7 +33,8 @@ fn outcome_in(text: &[u8]) -> Option<Outcome>
 // The outcome whose text this is after its letter.
 pub(crate) fn outcome_after_letter(text: &[u8]) -> Option<Outcome>
     ensures found { IfSome result (SpellsOutcome (end_letter ∷ text.now)) }
-    ensures none { IfNone result ((outcome : AnyOutcome) → SpellsOutcome (end_letter ∷ text.now) outcome → ⊥) }
+    ensures none { IfNone result ((outcome : AnyOutcome)
+        → SpellsOutcome (end_letter ∷ text.now) outcome → ⊥) }
 {
     let (kind, fields) = text.split_first()?;
     match kind {

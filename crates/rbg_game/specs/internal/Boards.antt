@@ -5,7 +5,7 @@ use Rattle.rbg_board.specs.Graph.{Graph, IsClosed}
 use Rattle.rbg_board.specs.Cells.{AreDifferent}
 use Rattle.rbg_board.specs.declared.error.BoardError.{BoardError}
 use Rattle.rbg_board.specs.declared.error.BoardError.TheVariants as board_errors
-use Rattle.rbg_syntax.specs.Tree.{SpeltName, SpeltBoard}
+use Rattle.rbg_grammar.specs.Tree.{SpeltName, SpeltBoard}
 use Rattle.rbg_rules.specs.Limits.{most_directions, most_vertices}
 use Rattle.rbg_rules.specs.LawfulNames.{AreDifferentNames, AreLawfulNames}
 use Rattle.rbg_numbering.specs.declared.error.GameError.{GameError}

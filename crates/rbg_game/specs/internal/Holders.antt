@@ -1,6 +1,6 @@
 -- What is wrong with players or variables that are added to a table of names.
 use Rattle.std.specs.Prelude.{ℕ, List, map}
-use Rattle.rbg_syntax.specs.Tree.{SpeltBounded}
+use Rattle.rbg_grammar.specs.Tree.{SpeltBounded}
 use Rattle.rbg_numbering.specs.declared.error.GameError.{GameError}
 use Rattle.rbg_numbering.specs.declared.error.GameError.TheVariants.{Bound}
 use Rattle.rbg_numbering.specs.NameTables.{HasNameFault}

@@ -1,6 +1,6 @@
 -- The players, variables and pieces of a description by their numbers, and the game that is made of them.
 use Rattle.std.specs.Prelude.{◌≡◌, ℕ, ◌≤◌, List, [], ◌++◌, length, All}
-use Rattle.rbg_syntax.specs.Tree.{SpeltBounded, SpeltDescription}
+use Rattle.rbg_grammar.specs.Tree.{SpeltBounded, SpeltDescription}
 use Rattle.rbg_rules.specs.Expression.{Expression}
 use Rattle.rbg_rules.specs.State.{AbstractGame}
 use Rattle.rbg_rules.specs.Limits.{most_players, most_pieces, most_variables, greatest_bound}

@@ -2,8 +2,8 @@
 ghost use Rattle.std.specs.Prelude.{◌≡◌, ◌<◌, ◌≤◌, ◌^◌, ◌∷◌, [], length, map, flat_map, IfOk, OnOk, IfErr};
 ghost use Rattle.std.specs.List.{AllZip};
 ghost use Rattle.rbg_board.specs.Cells.{rows_of};
-ghost use Rattle.rbg_syntax.specs.Tree.{rectangle, hexagon};
-ghost use Rattle.rbg_syntax.specs.Views.{name_of, names_of, board_of};
+ghost use Rattle.rbg_grammar.specs.Tree.{rectangle, hexagon};
+ghost use Rattle.rbg_grammar.specs.Views.{name_of, names_of, board_of};
 ghost use Rattle.rbg_rules.specs.LawfulNames.{AreLawfulNames};
 ghost use Rattle.rbg_numbering.specs.Names.{IsNumberOf};
 ghost use Rattle.rbg_numbering.specs.NameTables.{HasLookUpFault};
@@ -13,9 +13,9 @@ ghost use Rattle.rbg_game.specs.internal.Boards.{MakesBoard, HasVertices, refusa
 use crate::checking::directions::number_directions;
 use crate::checking::graphs::make_graph;
 use rbg_board::{Board, BoardError, MAX_VERTICES, hexagon, rectangle};
+use rbg_grammar::Name;
 use rbg_numbering::{GameError, NameTable};
 use rbg_rules::limits::MAX_PIECES;
-use rbg_syntax::Name;
 use std::alloc::Global;
 
 /// A board, and the names of its directions in order of their numbers.
@@ -32,8 +32,10 @@ fn number_rows(
     rows: &[Vec<Name<'_>>],
 ) -> Result<Vec<Vec<u16>>, GameError>
     requires { length pieces.now ≤ 2 ^ 16 }
-    ensures numbers { IfOk result (λ ns. AllZip (AllZip (IsNumberOf pieces.now)) (map names_of rows.now) (rows_of ns.items)) }
-    ensures fault { IfErr result (HasLookUpFault pieces.now (flat_map (λ row. row) (map names_of rows.now))) }
+    ensures numbers { IfOk result (λ ns.
+        AllZip (AllZip (IsNumberOf pieces.now)) (map names_of rows.now) (rows_of ns.items)) }
+    ensures fault { IfErr result (HasLookUpFault pieces.now (flat_map (λ row.
+        row) (map names_of rows.now))) }
 {
     let mut numbers = Vec::with_capacity(alloc, rows.len())?;
     for row in rows {
@@ -73,8 +75,10 @@ fn make_rectangle(
 ) -> Result<NamedBoard, GameError>
     requires { length pieces.now ≤ MAX_PIECES }
     ensures board { IfOk result
-        (λ b. MakesBoard pieces.now (rectangle (map name_of names.now) (map names_of rows.now)) b.directions b.board) }
-    ensures fault { IfErr result (HasBoardFault pieces.now (rectangle (map name_of names.now) (map names_of rows.now))) }
+        (λ b. MakesBoard pieces.now (rectangle (map name_of names.now) (map names_of rows.now))
+        b.directions b.board) }
+    ensures fault { IfErr result (HasBoardFault pieces.now
+        (rectangle (map name_of names.now) (map names_of rows.now))) }
 {
     let cells = number_rows(alloc, pieces, rows)?;
     let mut numbers = [0; 4];
@@ -94,8 +98,10 @@ fn make_hexagon(
 ) -> Result<NamedBoard, GameError>
     requires { length pieces.now ≤ MAX_PIECES }
     ensures board { IfOk result
-        (λ b. MakesBoard pieces.now (hexagon (map name_of names.now) (map names_of rows.now)) b.directions b.board) }
-    ensures fault { IfErr result (HasBoardFault pieces.now (hexagon (map name_of names.now) (map names_of rows.now))) }
+        (λ b. MakesBoard pieces.now (hexagon (map name_of names.now) (map names_of rows.now))
+        b.directions b.board) }
+    ensures fault { IfErr result (HasBoardFault pieces.now
+        (hexagon (map name_of names.now) (map names_of rows.now))) }
 {
     let cells = number_rows(alloc, pieces, rows)?;
     let mut numbers = [0; 6];
@@ -111,19 +117,20 @@ fn make_hexagon(
 pub(crate) fn make_board(
     alloc: Global,
     pieces: &NameTable,
-    board: &rbg_syntax::Board<'_>,
+    board: &rbg_grammar::Board<'_>,
 ) -> Result<NamedBoard, GameError>
     requires { length pieces.now ≤ MAX_PIECES }
-    ensures board { IfOk result (λ b. MakesBoard pieces.now (board_of board.now) b.directions b.board) }
+    ensures board { IfOk result (λ b.
+        MakesBoard pieces.now (board_of board.now) b.directions b.board) }
     ensures fault { IfErr result (HasBoardFault pieces.now (board_of board.now)) }
 {
     match board {
-        rbg_syntax::Board::Rectangle { directions, rows } => {
+        rbg_grammar::Board::Rectangle { directions, rows } => {
             make_rectangle(alloc, pieces, &directions.names, rows)
         }
-        rbg_syntax::Board::Hexagon { directions, rows } => {
+        rbg_grammar::Board::Hexagon { directions, rows } => {
             make_hexagon(alloc, pieces, &directions.names, rows)
         }
-        rbg_syntax::Board::Graph { vertices } => make_graph(alloc, pieces, vertices),
+        rbg_grammar::Board::Graph { vertices } => make_graph(alloc, pieces, vertices),
     }
 }

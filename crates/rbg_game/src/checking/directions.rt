@@ -1,11 +1,11 @@
 //! Directions by numbers: a name that is new has the next number.
 ghost use Rattle.std.specs.Prelude.{◌≡◌, ◌≤◌, map, length, IfOk, IfErr};
-ghost use Rattle.rbg_syntax.specs.Views.{name_of};
+ghost use Rattle.rbg_grammar.specs.Views.{name_of};
 ghost use Rattle.rbg_game.specs.internal.Boards.{Joins, NumbersDirections};
 
+use rbg_grammar::Name;
 use rbg_numbering::{GameError, NameTable};
 use rbg_rules::limits::MAX_DIRECTIONS;
-use rbg_syntax::Name;
 use std::alloc::Global;
 
 /// The number of a name. A name that is new joins the table.

@@ -2,8 +2,8 @@
 ghost use Rattle.std.specs.Prelude.{◌≡◌, ◌≤◌, ◌<◌, ◌^◌, List, ℕ, map, length, All, Contains, IfOk, OnOk, IfErr};
 ghost use Rattle.std.specs.List.{AllZip};
 ghost use Rattle.rbg_board.specs.Vertices.{written_of};
-ghost use Rattle.rbg_syntax.specs.Tree.{graph};
-ghost use Rattle.rbg_syntax.specs.Views.{edge_of, vertex_of};
+ghost use Rattle.rbg_grammar.specs.Tree.{graph};
+ghost use Rattle.rbg_grammar.specs.Views.{edge_of, vertex_of};
 ghost use Rattle.rbg_rules.specs.LawfulNames.{AreDifferentNames};
 ghost use Rattle.rbg_numbering.specs.Names.{IsNumberOf};
 ghost use Rattle.rbg_game.specs.Descriptions.{IsOrderOfFirstUse, directions_named, vertex_names};
@@ -15,9 +15,9 @@ ghost use Rattle.rbg_game.specs.internal.Graphs.{AddsInOrder, edge_directions, I
 use crate::checking::boards::{NamedBoard, name_board, refusal_of};
 use crate::checking::directions::join;
 use rbg_board::{BoardError, Cell, MAX_VERTICES, graph};
+use rbg_grammar::{Edge, Vertex};
 use rbg_numbering::{GameError, NameTable, Thing};
 use rbg_rules::limits::{MAX_DIRECTIONS, MAX_PIECES};
-use rbg_syntax::{Edge, Vertex};
 use std::alloc::Global;
 
 /// The numbers of the pieces of vertices.
@@ -28,8 +28,10 @@ fn number_pieces(
 ) -> Result<Vec<u16>, GameError>
     requires { length pieces.now ≤ 2 ^ 16 }
     ensures numbers { IfOk result
-        (λ ns. AllZip (IsNumberOf pieces.now) (board_pieces (graph (map vertex_of vertices.now))) ns.items) }
-    ensures fault { IfErr result (HasLookUpFault pieces.now (board_pieces (graph (map vertex_of vertices.now)))) }
+        (λ ns. AllZip (IsNumberOf pieces.now) (board_pieces (graph (map vertex_of vertices.now)))
+        ns.items) }
+    ensures fault { IfErr result (HasLookUpFault pieces.now
+        (board_pieces (graph (map vertex_of vertices.now)))) }
 {
     let mut numbers = Vec::with_capacity(alloc, vertices.len())?;
     for vertex in vertices {
@@ -40,7 +42,8 @@ fn number_pieces(
 
 /// Adds the directions of edges that are new to the table.
 fn join_directions(table: &mut NameTable, edges: &[Edge<'_>]) -> Result<(), GameError>
-    ensures order { OnOk result (AddsInOrder (edge_directions (map edge_of edges.now)) table.old table.new) }
+    ensures order { OnOk result (AddsInOrder (edge_directions (map edge_of edges.now)) table.old
+        table.new) }
     ensures memory { IfErr result (λ error. error ≡ GameError.Memory) }
 {
     for edge in edges {
@@ -51,7 +54,8 @@ fn join_directions(table: &mut NameTable, edges: &[Edge<'_>]) -> Result<(), Game
 
 /// The directions of vertices in order of first use.
 fn name_directions(alloc: Global, vertices: &[Vertex<'_>]) -> Result<NameTable, GameError>
-    ensures order { IfOk result (IsOrderOfFirstUse (directions_named (map vertex_of vertices.now))) }
+    ensures order { IfOk result (IsOrderOfFirstUse
+        (directions_named (map vertex_of vertices.now))) }
     ensures memory { IfErr result (λ error. error ≡ GameError.Memory) }
 {
     let mut table = NameTable::new(alloc);
@@ -66,7 +70,8 @@ fn name_vertices(alloc: Global, vertices: &[Vertex<'_>]) -> Result<NameTable, Ga
     ensures names { IfOk result (λ names. names ≡ vertex_names (map vertex_of vertices.now)) }
     ensures differ { IfOk result AreDifferentNames }
     ensures fault { IfErr result
-        (λ error. (pieces : List (List ℕ)) → HasBoardFault pieces (graph (map vertex_of vertices.now)) error) }
+        (λ error. (pieces : List (List ℕ))
+        → HasBoardFault pieces (graph (map vertex_of vertices.now)) error) }
 {
     let mut names = NameTable::new(alloc);
     for (vertex, written) in vertices.iter().enumerate() {
@@ -89,7 +94,8 @@ fn number_edges(
     requires few { length directions.now ≤ MAX_DIRECTIONS }
     requires known { All (λ edge. Contains directions.now edge.direction.text.now) edges.now }
     requires vertices { length names.now ≤ MAX_VERTICES }
-    ensures edges { IfOk result (λ es. AllZip (IsEdge directions.now names.now) (map edge_of edges.now) es.items) }
+    ensures edges { IfOk result (λ es.
+        AllZip (IsEdge directions.now names.now) (map edge_of edges.now) es.items) }
     ensures memory { IfErr result (λ error. error ≡ GameError.Memory) }
 {
     let mut numbers = Vec::with_capacity(alloc, edges.len())?;
@@ -110,13 +116,15 @@ fn number_cells(
     vertices: &[Vertex<'_>],
 ) -> Result<Vec<Cell>, GameError>
     requires few { length directions.now ≤ MAX_DIRECTIONS }
-    requires known { IsOrderOfFirstUse (directions_named (map vertex_of vertices.now)) directions.now }
+    requires known { IsOrderOfFirstUse (directions_named (map vertex_of vertices.now))
+        directions.now }
     requires names { names.now ≡ vertex_names (map vertex_of vertices.now) }
     requires vertices { length vertices.now ≤ MAX_VERTICES }
     requires pieces { length pieces.now ≡ length vertices.now }
     ensures cells { IfOk result (λ cells. (table : List (List ℕ)) →
         AllZip (IsNumberOf table) (board_pieces (graph (map vertex_of vertices.now))) pieces.now →
-        AllZip (IsCell table directions.now names.now) (map vertex_of vertices.now) (written_of cells.items)) }
+        AllZip (IsCell table directions.now names.now) (map vertex_of vertices.now)
+        (written_of cells.items)) }
     ensures memory { IfErr result (λ error. error ≡ GameError.Memory) }
 {
     let mut cells = Vec::with_capacity(alloc, vertices.len())?;

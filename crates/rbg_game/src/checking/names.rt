@@ -1,7 +1,7 @@
 //! The names of players, variables and pieces by their numbers, and the bounds of the variables.
 ghost use Rattle.std.specs.Prelude.{◌≡◌, ◌≤◌, [], ◌∷◌, ◌++◌, map, Some, OnOk, IfOk, IfErr};
-ghost use Rattle.rbg_syntax.specs.Views.{name_of, number_of, bounded_of};
-ghost use Rattle.rbg_syntax.specs.Descriptions.{description_of_parts};
+ghost use Rattle.rbg_grammar.specs.Views.{name_of, number_of, bounded_of};
+ghost use Rattle.rbg_grammar.specs.Descriptions.{description_of_parts};
 ghost use Rattle.rbg_numbering.specs.Names.{texts_of};
 ghost use Rattle.rbg_game.specs.Descriptions.{holder_names};
 ghost use Rattle.rbg_game.specs.Faults.{IsNoBound, HasFault};
@@ -9,9 +9,9 @@ ghost use Rattle.rbg_numbering.specs.NameTables.{HasNameFault};
 ghost use Rattle.rbg_game.specs.internal.Holders.{HasHolderFault};
 ghost use Rattle.rbg_game.specs.internal.Things.{AddsBounds, AreThingsOf};
 
+use rbg_grammar::{Bounded, DescriptionParts, Name, Number};
 use rbg_numbering::{GameError, NameTable, Thing};
 use rbg_rules::limits::{MAX_BOUND, MAX_PIECES, MAX_PLAYERS, MAX_VARIABLES};
-use rbg_syntax::{Bounded, DescriptionParts, Name, Number};
 use std::alloc::Global;
 
 /// The names of a description, and the bounds of its variables.
@@ -79,7 +79,8 @@ fn add_names(table: &mut NameTable, names: &[Name<'_>]) -> Result<(), GameError>
 
 /// Adds the names of players after those of the table.
 fn add_players(table: &mut NameTable, players: &[Bounded<'_>]) -> Result<(), GameError>
-    ensures names { OnOk result (table.new ≡ table.old ++ holder_names (map bounded_of players.now)) }
+    ensures names { OnOk result (table.new
+        ≡ table.old ++ holder_names (map bounded_of players.now)) }
     ensures fault { IfErr result (HasHolderFault table.old (map bounded_of players.now)) }
 {
     for player in players {
@@ -94,8 +95,10 @@ fn add_holders(
     bounds: &mut Vec<u32>,
     holders: &[Bounded<'_>],
 ) -> Result<(), GameError>
-    ensures names { OnOk result (table.new ≡ table.old ++ holder_names (map bounded_of holders.now)) }
-    ensures bounds { OnOk result (AddsBounds (map bounded_of holders.now) bounds.old.items bounds.new.items) }
+    ensures names { OnOk result (table.new
+        ≡ table.old ++ holder_names (map bounded_of holders.now)) }
+    ensures bounds { OnOk result (AddsBounds (map bounded_of holders.now) bounds.old.items
+        bounds.new.items) }
     ensures fault { IfErr result (HasHolderFault table.old (map bounded_of holders.now)) }
 {
     for holder in holders {
@@ -111,7 +114,8 @@ fn add_holder(
     holder: &Bounded<'_>,
 ) -> Result<(), GameError>
     ensures name { OnOk result (table.new ≡ table.old ++ holder.now.name.text.now ∷ []) }
-    ensures bound { OnOk result (AddsBounds (bounded_of holder.now ∷ []) bounds.old.items bounds.new.items) }
+    ensures bound { OnOk result (AddsBounds (bounded_of holder.now
+        ∷ []) bounds.old.items bounds.new.items) }
     ensures fault { IfErr result (HasHolderFault table.old (bounded_of holder.now ∷ [])) }
 {
     table.insert(&holder.name)?;

@@ -5,11 +5,11 @@ use Rattle.rbg_macro.specs.declared.call.Effect.{Effect}
 use Rattle.rbg_macro.specs.declared.call.Effect.TheVariants as effects
 use Rattle.rbg_macro.specs.declared.error.MacroError.{MacroError}
 use Rattle.rbg_macro.specs.declared.error.MacroError.TheVariants.{ArgumentCount}
-use Rattle.rbg_macro.specs.Kinds.{is_open_parenthesis}
+use Rattle.rbg_tokens.specs.Kinds.{is_open_parenthesis}
 use Rattle.rbg_macro.specs.Call.{Arguments, arguments, Nesting, Within, Cuts, Ends, Mismatched, Calls, NoCall, meets}
 use Rattle.rbg_macro.specs.Macro.{Macro, filled}
 use Rattle.rbg_macro.specs.internal.Template.{piece_in, lists_in}
-use Rattle.rbg_macro.specs.Token.{Lexeme}
+use Rattle.rbg_tokens.specs.Token.{Lexeme}
 
 abbrev pub nesting_of : Effect → Nesting
 nesting_of (effects.Within n) = Within n

@@ -3,8 +3,9 @@ use Rattle.std.specs.Prelude.{ℕ, ◌≡◌, IsTrue, List, [], ◌∷◌, ◌++
 use Rattle.rbg_macro.specs.declared.definition.Definitions.{Definitions as KeptDefinitions}
 use Rattle.rbg_macro.specs.declared.definition.SectionBody.{SectionBody}
 use Rattle.rbg_macro.specs.Definition.{Definitions, Defined, A_Section, A_Macro, Part, defined, is_new_name}
-use Rattle.rbg_macro.specs.Kinds.{is_hash}
-use Rattle.rbg_macro.specs.Token.{Lexeme, SectionTokens, lexeme_of}
+use Rattle.rbg_tokens.specs.Kinds.{is_hash}
+use Rattle.rbg_tokens.specs.Token.{Lexeme, lexeme_of}
+use Rattle.rbg_macro.specs.Sections.{SectionTokens}
 
 abbrev pub section_of : SectionBody → SectionTokens
 section_of s = record { kind = s.kind; at = s.at; tokens = map lexeme_of s.tokens.now }

@@ -10,7 +10,7 @@ use Rattle.rbg_macro.specs.declared.read_token.ReadToken.{ReadToken}
 use Rattle.rbg_macro.specs.Macro.{Macro, macro_named}
 use Rattle.rbg_macro.specs.internal.Template.{macro_of, piece_in}
 use Rattle.rbg_macro.specs.internal.ReadTokens.{read_lexeme}
-use Rattle.rbg_macro.specs.Token.{Lexeme}
+use Rattle.rbg_tokens.specs.Token.{Lexeme}
 
 -- a token and its mark
 pub record Word : Type 0 where

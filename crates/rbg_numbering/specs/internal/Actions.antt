@@ -1,6 +1,6 @@
 -- One action by numbers, and what is wrong with one.
 use Rattle.std.specs.Prelude.{◌≡◌, ℕ, ◌+◌, ◌<◌, ◌≤◌, List, [], ◌∷◌, ◌++◌, Option, Some, None, Bool, true, false, length}
-use Rattle.rbg_syntax.specs.Tree.{SpeltName, SpeltExpression, SpeltAction}
+use Rattle.rbg_grammar.specs.Tree.{SpeltName, SpeltExpression, SpeltAction}
 use Rattle.rbg_rules.specs.Expression.{skip}
 use Rattle.rbg_rules.specs.Limits.{most_positions, most_nested_patterns}
 use Rattle.rbg_rules.specs.Translation.{action_of, shows_pattern}

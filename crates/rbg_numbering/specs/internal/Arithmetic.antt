@@ -1,11 +1,11 @@
 -- What the operations of a chain do.
 use Rattle.std.specs.Prelude.{◌≡◌}
-use Rattle.rbg_syntax.specs.Tree.{SpeltExpression}
-use Rattle.rbg_syntax.specs.Views.{expression_of}
-use Rattle.rbg_syntax.specs.declared.expression.Additive.{Additive}
-use Rattle.rbg_syntax.specs.declared.expression.Multiplicative.{Multiplicative}
-use Rattle.rbg_syntax.specs.declared.expression.Term.{Term}
-use Rattle.rbg_syntax.specs.declared.expression.Factor.{Factor}
+use Rattle.rbg_grammar.specs.Tree.{SpeltExpression}
+use Rattle.rbg_grammar.specs.Views.{expression_of}
+use Rattle.rbg_grammar.specs.declared.expression.Additive.{Additive}
+use Rattle.rbg_grammar.specs.declared.expression.Multiplicative.{Multiplicative}
+use Rattle.rbg_grammar.specs.declared.expression.Term.{Term}
+use Rattle.rbg_grammar.specs.declared.expression.Factor.{Factor}
 use Rattle.rbg_rules.specs.Expression.{AbstractArithmetic}
 use Rattle.rbg_rules.specs.Translation.{operation_of}
 use Rattle.rbg_rules.specs.declared.arithmetic.Operation.{Operation}

@@ -1,7 +1,7 @@
 -- Rules by numbers on the way: what a part of the rules adds to the table of actions.
 use Rattle.std.specs.Prelude.{◌≡◌, ℕ, suc, ◌+◌, ◌<◌, ◌≤◌, List, [], ◌∷◌, ◌++◌, length, map, All}
 use Rattle.std.specs.List.{range_with_len}
-use Rattle.rbg_syntax.specs.Tree.{SpeltName, SpeltExpression, SpeltRule, SpeltAction}
+use Rattle.rbg_grammar.specs.Tree.{SpeltName, SpeltExpression, SpeltRule, SpeltAction}
 use Rattle.rbg_rules.specs.Expression.{AbstractAction, switch, positive, negative, Expression, act, skip, sequence, fail, choice, star}
 use Rattle.rbg_rules.specs.Limits.{most_positions, most_nested_patterns}
 use Rattle.rbg_rules.specs.Positions.{positions_of}

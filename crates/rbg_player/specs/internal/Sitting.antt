@@ -1,6 +1,6 @@
 -- What a seat's calls do.
 use Rattle.std.specs.Prelude.{◌≡◌, ℕ, ◌≤◌, List, length, Bool}
-use Rattle.rbg_pairs.specs.Move.{most_pairs}
+use Rattle.rbg_base.specs.Move.{most_pairs}
 use Rattle.rbg_wire.specs.Messages.{ArePairs}
 use Rattle.rbg_rules.specs.Moves.{Legal, IsLegal}
 use Rattle.rbg_rules.specs.Questions.{list_moves}

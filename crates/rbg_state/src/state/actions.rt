@@ -35,9 +35,12 @@ impl SemiState {
         requires there { position ≤ length (positions_of game.now.rules) }
         requires no_pattern { ¬ IsPatternAt game.now.rules position }
         requires room { 0 < self.old.room }
-        ensures valid { result ≡ Applied.Valid → Applies game.now position self.old.state self.new.state }
-        ensures only { (t : AbstractState) → Applies game.now position self.old.state t → t ≡ self.new.state }
-        ensures invalid { result ≡ Applied.Invalid → (t : AbstractState) → ¬ Applies game.now position self.old.state t }
+        ensures valid { result ≡ Applied.Valid
+            → Applies game.now position self.old.state self.new.state }
+        ensures only { (t : AbstractState) → Applies game.now position self.old.state t
+            → t ≡ self.new.state }
+        ensures invalid { result ≡ Applied.Invalid → (t : AbstractState)
+            → ¬ Applies game.now position self.old.state t }
         ensures unchanged { result ≡ Applied.Invalid → self.new ≡ self.old }
         ensures fits { IsStateOf game.now self.new.state }
         ensures after { IsAfter self.old self.new }
@@ -55,7 +58,8 @@ impl SemiState {
         requires named { (a : AbstractAction) → Shows a action.now → IsActionOf game.now a }
         requires no_pattern { shows_pattern action.now ≡ false }
         requires room { 0 < self.old.room }
-        ensures { (a : AbstractAction) → Shows a action.now → Answers game.now a self.old self.new result }
+        ensures { (a : AbstractAction) → Shows a action.now
+            → Answers game.now a self.old self.new result }
     {
         match action {
             Action::Shift { direction } => self.shift(board, *direction),
@@ -119,7 +123,8 @@ impl SemiState {
         requires reads { ReadsBelow (length self.old.state.values) (arithmetic_of expression.now) }
         requires room { 0 < self.old.room }
         ensures { (game : AbstractGame) → slice_index game.bounds variable ≡ bound
-            → Answers game (assignment variable (arithmetic_of expression.now)) self.old self.new result }
+            → Answers game (assignment variable (arithmetic_of expression.now)) self.old self.new
+            result }
     {
         let Some(value) = self.assigned(expression, bound) else {
             return Applied::Invalid;
@@ -132,9 +137,11 @@ impl SemiState {
     #[tactic(auto, using(rbg_rules::proofs::Bridge::translation, crate::proofs::Fits::by_conversion))]
     pub(super) fn assigned(&self, expression: &Arithmetic, bound: u32) -> Option<u32>
         requires { ReadsBelow (length self.now.state.values) (arithmetic_of expression.now) }
-        ensures some { IfSome result (λ n. (value_of (arithmetic_of expression.now) self.now.state ≡ Some (pos n))
+        ensures some { IfSome result (λ n.
+            (value_of (arithmetic_of expression.now) self.now.state ≡ Some (pos n))
             × (n ≤ bound)) }
-        ensures none { IfNone result ((n : ℕ) → value_of (arithmetic_of expression.now) self.now.state ≡ Some (pos n)
+        ensures none { IfNone result ((n : ℕ)
+            → value_of (arithmetic_of expression.now) self.now.state ≡ Some (pos n)
             → ¬ (n ≤ bound)) }
     {
         // a number alone is what most assignments have

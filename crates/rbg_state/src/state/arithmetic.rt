@@ -28,7 +28,8 @@ impl SemiState {
     /// What operations make of a value, from the left.
     #[cycle(evaluate)]
     fn continued(&self, first: i64, operations: &[Operation]) -> Option<i64>
-        requires { All (λ o. ReadsBelow (length self.now.state.values) (arithmetic_of o.operand)) operations.now }
+        requires { All (λ o.
+            ReadsBelow (length self.now.state.values) (arithmetic_of o.operand)) operations.now }
         ensures { result ≡ value_after self.now.state (Some first) operations.now }
     {
         let mut value = first;

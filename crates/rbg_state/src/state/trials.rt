@@ -37,7 +37,8 @@ impl SemiState {
         requires vertex { vertex < length self.now.state.pieces }
         requires from_one { 0 < position }
         requires there { position ≤ length (positions_of game.now.rules) }
-        ensures told { IsTrial game.now (record self.now.state { vertex = vertex }) position result }
+        ensures told { IsTrial game.now (record self.now.state { vertex = vertex }) position
+            result }
         ensures pattern { IsPatternAt game.now.rules position → result ≡ Trial.Pattern }
         ensures there { (v : ℕ) → result ≡ Trial.LeadsTo v → v < length self.now.state.pieces }
     {
@@ -76,7 +77,8 @@ impl SemiState {
     #[inline(always)]
     fn tell_on(&self, pieces: &[Piece], vertex: Vertex) -> Trial
         requires { vertex < length self.now.state.pieces }
-        ensures { (game : AbstractGame) → Tells game (on pieces.now) (record self.now.state { vertex = vertex }) result }
+        ensures { (game : AbstractGame)
+            → Tells game (on pieces.now) (record self.now.state { vertex = vertex }) result }
     {
         if is_among(pieces, self.piece(vertex)) {
             Trial::LeadsTo(vertex)
@@ -108,7 +110,8 @@ impl SemiState {
     /// What an assignment to a variable with this bound would do, at any vertex.
     fn tell_assign(&self, expression: &Arithmetic, bound: u32) -> Trial
         requires { ReadsBelow (length self.now.state.values) (arithmetic_of expression.now) }
-        ensures { (game : AbstractGame) (variable vertex : ℕ) → slice_index game.bounds variable ≡ bound
+        ensures { (game : AbstractGame) (variable vertex : ℕ)
+            → slice_index game.bounds variable ≡ bound
             → Tells game (assignment variable (arithmetic_of expression.now))
             (record self.now.state { vertex = vertex }) result }
     {
@@ -134,7 +137,8 @@ fn is_among(pieces: &[Piece], piece: Piece) -> bool
 
 /// What a shift would do that leads to this vertex, or nowhere.
 fn tell_shift(to: Option<Vertex>) -> Trial
-    ensures { (game : AbstractGame) (s : AbstractState) (direction : ℕ) → next game.board s.vertex direction ≡ to
+    ensures { (game : AbstractGame) (s : AbstractState) (direction : ℕ)
+        → next game.board s.vertex direction ≡ to
         → Tells game (shift direction) s result }
 {
     match to {

@@ -1,8 +1,8 @@
 use Rattle.std.proofs.Common.{subst}
 use Rattle.std.specs.Prelude.{◌≢◌, IfOk, IfErr}
 use Rattle.std.proofs.lemmas.Result.{IfErr-weaker}
-use Rattle.rbg_syntax.specs.Tree.{SpeltDescription}
-use Rattle.rbg_syntax.specs.Descriptions.{description_of}
+use Rattle.rbg_grammar.specs.Tree.{SpeltDescription}
+use Rattle.rbg_grammar.specs.Descriptions.{description_of}
 use Rattle.rbg_rules.specs.State.{AbstractGame}
 use Rattle.rbg_numbering.specs.declared.error.GameError.TheVariants.{Memory}
 use Rattle.rbg_game.specs.Descriptions.{IsGameOf}

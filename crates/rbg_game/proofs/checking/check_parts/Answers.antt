@@ -1,5 +1,5 @@
 use Rattle.std.proofs.Common.{sym, subst}
-use Rattle.rbg_syntax.specs.Descriptions.{description_of_parts}
+use Rattle.rbg_grammar.specs.Descriptions.{description_of_parts}
 use Rattle.rbg_rules.specs.State.{AbstractGame}
 use Rattle.rbg_rules.specs.Translation.{rules_of}
 use Rattle.rbg_numbering.specs.declared.error.GameError.TheVariants.{Memory}

@@ -10,8 +10,8 @@ invariant-loop-index g l =
     × (length l.outbox ≡ length l.fn.outbox)
     × (HasHistory l.fn.refereed → HasHistory l.refereed)
     × ((start : Start) (earlier : List ℕ) (rounds : ℕ) →
-    InCall g.L.Line.told g.L.Line.failure_count start (earlier ++ l.at ∷ []) rounds l.fn.lines l.fn.progress l.fn.refereed l.fn.outbox →
-    InCall g.L.Line.told g.L.Line.failure_count start (earlier ++ l.at ∷ []) rounds l.lines l.progress l.refereed l.outbox)
+    InCall g.L.Line.told g.L.Line.failure_count start (earlier ++ l.at ∷ []) rounds l.fn.lines l.fn.states l.fn.refereed l.fn.outbox →
+    InCall g.L.Line.told g.L.Line.failure_count start (earlier ++ l.at ∷ []) rounds l.lines l.states l.refereed l.outbox)
 
 abbrev pub decreases-loop-index : goal.decreases-loop-index
-decreases-loop-index g l = live_lines l.progress
+decreases-loop-index g l = live_lines l.states

@@ -8,9 +8,9 @@ returns-clause-ok g c = on_ok c.pass.result (λ passes start rounds call. record
   moments = call.moments ++ c.now-at.result ∷ [];
   clock_tells = one_more_moment g.C.Clock.told c.now-at.new.self start.asked call.moments c.now-at.result
       (c.now-at.ensures (start.asked ++ call.moments) call.clock_tells);
-  call = passes start call.moments rounds
+  passed = passes start call.moments rounds
       (asked_once g.L.Line.told g.L.Line.failure_count start call.moments c.now-at.result rounds c.args.lines.now
-      c.args.progress.now c.args.refereed.now c.args.outbox.now call.call);
+      c.args.states.now c.args.refereed.now c.args.outbox.now call.call);
 }) c.pass.ensures.ok
 
 pub returns-clause-err : goal.returns-clause-err
@@ -20,5 +20,5 @@ returns-clause-err g c = on_err_weaker c.pass.result (λ passes start rounds cal
       (c.now-at.ensures (start.asked ++ call.moments) call.clock_tells);
   call = passes start call.moments rounds
       (asked_once g.L.Line.told g.L.Line.failure_count start call.moments c.now-at.result rounds c.args.lines.now
-      c.args.progress.now c.args.refereed.now c.args.outbox.now call.call);
+      c.args.states.now c.args.refereed.now c.args.outbox.now call.call);
 }) c.pass.ensures.err

@@ -10,9 +10,9 @@ returns-in_default-clause-ok g c = λ start rounds call. record {
   moments = call.moments ++ c.now-at.result ∷ [];
   clock_tells = one_more_moment g.C.Clock.told c.now-at.new.self start.asked call.moments c.now-at.result
       (c.now-at.ensures (start.asked ++ call.moments) call.clock_tells);
-  call = poll_unheard g.L.Line.told g.L.Line.failure_count start call.moments c.now-at.result rounds c.args.lines.now
-      c.poll-polled.new.lines c.args.progress.now c.poll-polled.new.progress c.args.refereed.now c.args.outbox.now c.args.index
-      c.poll-polled.result c.poll-polled.new.buffer call.call c.in_default.ensures c.poll-polled.ensures.served;
+  passed = poll_unheard g.L.Line.told g.L.Line.failure_count start call.moments c.now-at.result rounds c.args.lines.now
+      c.poll-polled.new.lines c.args.states.now c.poll-polled.new.states c.args.refereed.now c.args.outbox.now c.args.index
+      c.poll-polled.result c.poll-polled.new.buffer call.passed c.in_default.ensures c.poll-polled.ensures.served;
 }
 
 pub returns-in_err-step-clause-err : goal.returns-in_err-step-clause-err
@@ -21,11 +21,11 @@ returns-in_err-step-clause-err g c = on_err c.from_residual.result (λ start rou
   clock_tells = one_more_moment g.C.Clock.told c.now-at.new.self start.asked call.moments c.now-at.result
       (c.now-at.ensures (start.asked ++ call.moments) call.clock_tells);
   call = refused g.L.Line.told g.L.Line.failure_count start (call.moments ++ c.now-at.result ∷ []) rounds
-      c.poll-polled.new.lines c.poll-polled.new.progress c.args.refereed.now c.step.new.self c.args.outbox.now c.step.new.outbox
+      c.poll-polled.new.lines c.poll-polled.new.states c.args.refereed.now c.step.new.self c.args.outbox.now c.step.new.outbox
       (event_of c.in-Some.event)
       (poll_heard g.L.Line.told g.L.Line.failure_count start call.moments c.now-at.result rounds c.args.lines.now
-      c.poll-polled.new.lines c.args.progress.now c.poll-polled.new.progress c.args.refereed.now c.args.outbox.now c.args.index
-      c.poll-polled.result c.poll-polled.new.buffer (event_of c.in-Some.event) call.call c.requires.there
+      c.poll-polled.new.lines c.args.states.now c.poll-polled.new.states c.args.refereed.now c.args.outbox.now c.args.index
+      c.poll-polled.result c.poll-polled.new.buffer (event_of c.in-Some.event) call.passed c.requires.going c.requires.there
       c.poll-polled.auto.lines (omega (arith, c.requires.seats, c.requires.lines)) c.in-Some.ensures c.poll-polled.ensures.served)
       c.in_err-step.ensures.err.0
       c.in_err-step.ensures.err.1;
@@ -36,13 +36,13 @@ returns-clause-ok g c = on_ok c.pass.result (λ passes start rounds call. record
   moments = call.moments ++ c.now-at.result ∷ [];
   clock_tells = one_more_moment g.C.Clock.told c.now-at.new.self start.asked call.moments c.now-at.result
       (c.now-at.ensures (start.asked ++ call.moments) call.clock_tells);
-  call = passes start call.moments rounds (
+  passed = passes start call.moments rounds (
       handled g.L.Line.told g.L.Line.failure_count start (call.moments ++ c.now-at.result ∷ []) rounds
-      c.poll-polled.new.lines c.poll-polled.new.progress c.args.refereed.now c.step.new.self c.args.outbox.now c.step.new.outbox
+      c.poll-polled.new.lines c.poll-polled.new.states c.args.refereed.now c.step.new.self c.args.outbox.now c.step.new.outbox
       (event_of c.in-Some.event)
       (poll_heard g.L.Line.told g.L.Line.failure_count start call.moments c.now-at.result rounds c.args.lines.now
-      c.poll-polled.new.lines c.args.progress.now c.poll-polled.new.progress c.args.refereed.now c.args.outbox.now c.args.index
-      c.poll-polled.result c.poll-polled.new.buffer (event_of c.in-Some.event) call.call c.requires.there
+      c.poll-polled.new.lines c.args.states.now c.poll-polled.new.states c.args.refereed.now c.args.outbox.now c.args.index
+      c.poll-polled.result c.poll-polled.new.buffer (event_of c.in-Some.event) call.passed c.requires.going c.requires.there
       c.poll-polled.auto.lines (omega (arith, c.requires.seats, c.requires.lines)) c.in-Some.ensures c.poll-polled.ensures.served)
       c.in_ok-step.ensures.ok);
 }) c.pass.ensures.ok
@@ -54,11 +54,11 @@ returns-clause-err g c = on_err_weaker c.pass.result (λ passes start rounds cal
       (c.now-at.ensures (start.asked ++ call.moments) call.clock_tells);
   call = passes start call.moments rounds (
       handled g.L.Line.told g.L.Line.failure_count start (call.moments ++ c.now-at.result ∷ []) rounds
-      c.poll-polled.new.lines c.poll-polled.new.progress c.args.refereed.now c.step.new.self c.args.outbox.now c.step.new.outbox
+      c.poll-polled.new.lines c.poll-polled.new.states c.args.refereed.now c.step.new.self c.args.outbox.now c.step.new.outbox
       (event_of c.in-Some.event)
       (poll_heard g.L.Line.told g.L.Line.failure_count start call.moments c.now-at.result rounds c.args.lines.now
-      c.poll-polled.new.lines c.args.progress.now c.poll-polled.new.progress c.args.refereed.now c.args.outbox.now c.args.index
-      c.poll-polled.result c.poll-polled.new.buffer (event_of c.in-Some.event) call.call c.requires.there
+      c.poll-polled.new.lines c.args.states.now c.poll-polled.new.states c.args.refereed.now c.args.outbox.now c.args.index
+      c.poll-polled.result c.poll-polled.new.buffer (event_of c.in-Some.event) call.passed c.requires.going c.requires.there
       c.poll-polled.auto.lines (omega (arith, c.requires.seats, c.requires.lines)) c.in-Some.ensures c.poll-polled.ensures.served)
       c.in_ok-step.ensures.ok);
 }) c.pass.ensures.err

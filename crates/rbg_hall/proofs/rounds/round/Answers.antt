@@ -5,7 +5,7 @@ use Rattle.rbg_hall.proofs.rounds.round.Goals as goal
 
 pub returns-in_err-hear-clause-err : goal.returns-in_err-hear-clause-err
 returns-in_err-hear-clause-err g c = on_err c.from_residual.result (λ start rounds call.
-    later g.L.Line.told g.L.Line.failure_count g.C.Clock.told start rounds (rounds + 1) c.hear.new.lines c.hear.new.progress
+    later g.L.Line.told g.L.Line.failure_count g.C.Clock.told start rounds (rounds + 1) c.hear.new.lines c.hear.new.states
     c.hear.new.clock c.hear.new.refereed c.hear.new.outbox (omega arith)
     (c.in_err-hear.ensures.err start rounds (c.loop-index.invariant.3 start rounds call)))
 

@@ -10,10 +10,10 @@ returns-in_err-step-clause-err g c = on_err c.from_residual.result (λ start rou
   clock_tells = one_more_moment g.C.Clock.told c.now-at.new.self start.asked call.moments c.now-at.result
       (c.now-at.ensures (start.asked ++ call.moments) call.clock_tells);
   call = refused g.L.Line.told g.L.Line.failure_count start (call.moments ++ c.now-at.result ∷ []) (rounds + 1)
-      c.args.lines.now c.args.progress.now c.args.refereed.now c.step.new.self c.args.outbox.now c.step.new.outbox
+      c.args.lines.now c.args.states.now c.args.refereed.now c.step.new.self c.args.outbox.now c.step.new.outbox
       (moment_alone c.now-at.result)
       (ticked g.L.Line.told g.L.Line.failure_count start call.moments c.now-at.result rounds c.args.lines.now
-      c.args.progress.now c.args.refereed.now c.args.outbox.now call.call (omega (arith, c.requires.seats, c.requires.lines)))
+      c.args.states.now c.args.refereed.now c.args.outbox.now call.passed (omega (arith, c.requires.seats, c.requires.lines)))
       c.in_err-step.ensures.err.0
       c.in_err-step.ensures.err.1;
 })
@@ -23,12 +23,12 @@ returns-clause-ok g c = on_ok c.pass.result (λ passes start rounds call. record
   moments = call.moments ++ c.now-at.result ∷ [];
   clock_tells = one_more_moment g.C.Clock.told c.now-at.new.self start.asked call.moments c.now-at.result
       (c.now-at.ensures (start.asked ++ call.moments) call.clock_tells);
-  call = passes start call.moments (rounds + 1) (
+  passed = passes start call.moments (rounds + 1) (
       handled g.L.Line.told g.L.Line.failure_count start (call.moments ++ c.now-at.result ∷ []) (rounds + 1)
-      c.args.lines.now c.args.progress.now c.args.refereed.now c.step.new.self c.args.outbox.now c.step.new.outbox
+      c.args.lines.now c.args.states.now c.args.refereed.now c.step.new.self c.args.outbox.now c.step.new.outbox
       (moment_alone c.now-at.result)
       (ticked g.L.Line.told g.L.Line.failure_count start call.moments c.now-at.result rounds c.args.lines.now
-      c.args.progress.now c.args.refereed.now c.args.outbox.now call.call (omega (arith, c.requires.seats, c.requires.lines)))
+      c.args.states.now c.args.refereed.now c.args.outbox.now call.passed (omega (arith, c.requires.seats, c.requires.lines)))
       c.in_ok-step.ensures.ok);
 }) c.pass.ensures.ok
 
@@ -39,9 +39,9 @@ returns-clause-err g c = on_err_weaker c.pass.result (λ passes start rounds cal
       (c.now-at.ensures (start.asked ++ call.moments) call.clock_tells);
   call = passes start call.moments (rounds + 1) (
       handled g.L.Line.told g.L.Line.failure_count start (call.moments ++ c.now-at.result ∷ []) (rounds + 1)
-      c.args.lines.now c.args.progress.now c.args.refereed.now c.step.new.self c.args.outbox.now c.step.new.outbox
+      c.args.lines.now c.args.states.now c.args.refereed.now c.step.new.self c.args.outbox.now c.step.new.outbox
       (moment_alone c.now-at.result)
       (ticked g.L.Line.told g.L.Line.failure_count start call.moments c.now-at.result rounds c.args.lines.now
-      c.args.progress.now c.args.refereed.now c.args.outbox.now call.call (omega (arith, c.requires.seats, c.requires.lines)))
+      c.args.states.now c.args.refereed.now c.args.outbox.now call.passed (omega (arith, c.requires.seats, c.requires.lines)))
       c.in_ok-step.ensures.ok);
 }) c.pass.ensures.err

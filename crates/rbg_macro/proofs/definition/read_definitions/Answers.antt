@@ -3,7 +3,7 @@ use Rattle.std.proofs.Common.{◌≡◌, Err, ◌+◌, ◌≤◌, length, map, a
 use Rattle.std.proofs.lemmas.Result.{err_from_is_err_and}
 use Rattle.rbg_macro.specs.internal.Defines.{defines_of}
 use Rattle.rbg_macro.specs.Definition.{definitions_of}
-use Rattle.rbg_macro.specs.Token.{lexeme_of}
+use Rattle.rbg_tokens.specs.Token.{lexeme_of}
 use Rattle.rbg_macro.proofs.Defined.{first_is_hash, defined_behind, faults_behind}
 use Rattle.rbg_macro.proofs.Exits.{unless_weaker}
 use Rattle.std.proofs.lemmas.List.{take_rest}

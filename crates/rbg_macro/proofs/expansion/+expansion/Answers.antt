@@ -1,6 +1,6 @@
 -- A joined list is read token by token.
 use Rattle.std.proofs.Common.{ℕ, ◌≡◌, ◌+◌, ◌≤◌, length, map, arith, sym, ap, ◌∙◌}
-use Rattle.std.proofs.lemmas.List.{length-map}
+use Rattle.std.proofs.lemmas.List.{length-map, take_rest}
 use Rattle.std.proofs.lemmas.Result.{err_from_is_err_and, IfErr-weaker, on_ok_weaker}
 use Rattle.rbg_macro.specs.Expansion.{FailsReading}
 use Rattle.rbg_macro.specs.Errors.{UnlessMemory}
@@ -10,7 +10,6 @@ use Rattle.rbg_macro.proofs.Exits.{unless_weaker}
 use Rattle.rbg_macro.proofs.JoinedLists.{joined_already}
 use Rattle.rbg_macro.proofs.Marks.{lexemes_of_words, marks_of_words}
 use Rattle.rbg_macro.proofs.Reading.{nothing_read, token_kept, call_read, call_fails, token_too_many, all_read}
-use Rattle.std.proofs.lemmas.List.{take_rest}
 use Rattle.rbg_macro.proofs.expansion.+expansion.Goals as goal
 
 pub read_joined-loop-at-init : goal.read_joined-loop-at-init

@@ -3,4 +3,4 @@ use Rattle.std.proofs.Common.{refl}
 use Rattle.rbg_macro.proofs.laws.limits_are_as_defined.Goals as goal
 
 pub returns : goal.returns
-returns c = record { text = refl; kept = refl; read = refl; level = refl; joined = refl }
+returns c = record { kept = refl; read = refl; level = refl; joined = refl }

@@ -2,7 +2,7 @@
 use Rattle.std.proofs.Common.{rules, ◌≡◌, ℕ, suc, ◌+◌, ◌-◌, ◌<◌, ◌≤◌, List, ◌∷◌, [], ◌++◌, length, false, refl, sym, ap, ◌∙◌, subst, arith}
 use Rattle.std.specs.Prelude.{All, not}
 use Rattle.std.proofs.lemmas.List.{take_all, length_push}
-use Rattle.rbg_pairs.specs.Move.{most_pairs}
+use Rattle.rbg_base.specs.Move.{most_pairs}
 use Rattle.rbg_rules.specs.Positions.{IsSwitchAt}
 use Rattle.rbg_rules.specs.Words.{Start, after}
 use Rattle.rbg_rules.specs.State.{AbstractGame, AbstractState, IsStateOf}

@@ -1,6 +1,6 @@
 -- How far the recursion goes, and what the loop over the pairs keeps.
 use Rattle.std.proofs.Common.{◌≡◌, ◌≤◌, ◌-◌, ◌*◌, ℕ, All, take, length}
-use Rattle.rbg_pairs.specs.Move.{most_pairs}
+use Rattle.rbg_base.specs.Move.{most_pairs}
 use Rattle.rbg_rules.specs.State.{AbstractState}
 use Rattle.rbg_rules.specs.Actions.{Applies}
 use Rattle.rbg_rules.specs.Moves.{stand_of, Finished}

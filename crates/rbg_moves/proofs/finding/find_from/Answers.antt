@@ -1,5 +1,5 @@
 use Rattle.std.proofs.Common.{rules, ◌≡◌, ◌-◌, ℕ, List, [], length, refl, sym, ap, ◌∙◌, subst, arith}
-use Rattle.rbg_pairs.specs.Move.{most_pairs}
+use Rattle.rbg_base.specs.Move.{most_pairs}
 use Rattle.rbg_rules.specs.Positions.{IsNumbered}
 use Rattle.rbg_rules.specs.Words.{Start}
 use Rattle.rbg_rules.specs.State.{AbstractGame, AbstractState}
@@ -15,7 +15,7 @@ use Rattle.rbg_moves.proofs.Forcing.{counts_uncut, fits_at}
 use Rattle.std.specs.Prelude.{◌++◌, ◌≤◌, Bool, false}
 use Rattle.std.proofs.Common.{Vec}
 use Rattle.std.specs.Global.{Global}
-use Rattle.rbg_pairs.specs.declared.pair.Pair.{Pair}
+use Rattle.rbg_base.specs.declared.pair.Pair.{Pair}
 use Rattle.rbg_search.specs.Forced.{CountsForced}
 use Rattle.rbg_moves.specs.Limits.{FitsLimits}
 use Rattle.rbg_rules.specs.Moves.{IsLegal}
@@ -47,7 +47,7 @@ returns-in_err-found-clause-deep x c e =
     let place : AbstractPlace = record { state = c.args.state.now.state; last = c.args.after } in
     let s = place.state in
     let f = stand_of place.last in
-    let numbered : IsNumbered asked.game.rules = subst (λ (y : AbstractGame). IsNumbered y.rules) (sym c.search_in-search.ensures.game) c.positions-positions.ensures.lawful.numbered in
+    let numbered : IsNumbered asked.game.rules = subst (λ (y : AbstractGame). IsNumbered y.rules) (sym c.search_in-search.ensures.game) c.game_is_accepted.ensures.numbered in
     deep_from c.args.game.now find_move place asked.game s f asked.modifiers c.search_in-search.ensures.game refl refl c.search_in-search.ensures.modifiers
     (deep_of asked.game numbered s f c.clear.new.self.items asked.modifiers c.clear.ensures.items c.search_in-search.ensures.modifiers (c.find.ensures.deep (search rules)))
 
@@ -55,7 +55,7 @@ pub returns-in_err-found-clause-wide : goal.returns-in_err-found-clause-wide
 returns-in_err-found-clause-wide x c e =
     let asked = c.search_in-search.result in
     let place : AbstractPlace = record { state = c.args.state.now.state; last = c.args.after } in
-    wide_from c.args.game.now c.positions-positions.ensures.lawful.numbered find_move place asked.game place.state (stand_of place.last) asked.opened asked.openings
+    wide_from c.args.game.now c.game_is_accepted.ensures.numbered find_move place asked.game place.state (stand_of place.last) asked.opened asked.openings
     c.search_in-search.ensures.game refl refl c.search_in-search.ensures.opened c.search_in-search.ensures.openings (c.find.ensures.wide (search rules))
 
 -- An answer fits the limits, since what is forced was taken up within the budget.
@@ -81,10 +81,10 @@ pub returns-clause-fits : goal.returns-clause-fits
 returns-clause-fits x c = λ cut.
     let place : AbstractPlace = record { state = c.args.state.now.state; last = c.args.after } in
     let asked = c.search_in-search in
-    fits_of c.args.game.now place asked.result c.find.new.search c.clear.new.self.items cut asked.ensures.game asked.ensures.opened asked.ensures.openings asked.ensures.modifiers c.find.ensures.search c.opened-opened.ensures.within c.clear.ensures.items c.in_ok-found.ensures.forced
+    fits_of c.args.game.now place asked.result c.find.new.search c.clear.new.self.items cut asked.ensures.game asked.ensures.opened asked.ensures.openings asked.ensures.modifiers c.find.ensures.search c.budget_is_kept.ensures c.clear.ensures.items c.in_ok-found.ensures.forced
 
 pub returns-then-not-found-clause-fits : goal.returns-then-not-found-clause-fits
 returns-then-not-found-clause-fits x c = λ cut.
     let place : AbstractPlace = record { state = c.args.state.now.state; last = c.args.after } in
     let asked = c.search_in-search in
-    fits_of c.args.game.now place asked.result c.find.new.search c.clear.new.self.items cut asked.ensures.game asked.ensures.opened asked.ensures.openings asked.ensures.modifiers c.find.ensures.search c.opened-opened.ensures.within c.clear.ensures.items c.in_ok-found.ensures.forced
+    fits_of c.args.game.now place asked.result c.find.new.search c.clear.new.self.items cut asked.ensures.game asked.ensures.opened asked.ensures.openings asked.ensures.modifiers c.find.ensures.search c.budget_is_kept.ensures c.clear.ensures.items c.in_ok-found.ensures.forced

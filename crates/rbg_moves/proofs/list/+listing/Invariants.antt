@@ -1,6 +1,6 @@
 -- How far the recursion goes, and what the loop over the pairs keeps.
 use Rattle.std.proofs.Common.{◌≡◌, ◌≤◌, ◌-◌, ◌*◌, take, length, false}
-use Rattle.rbg_pairs.specs.Move.{most_pairs}
+use Rattle.rbg_base.specs.Move.{most_pairs}
 use Rattle.rbg_rules.specs.Moves.{stand_of}
 use Rattle.rbg_rules.specs.Questions.{list_moves}
 use Rattle.rbg_search.specs.Passing.{CountsUpTo}

@@ -68,4 +68,4 @@ returns-clause-fits g c =
     let budget : new.openings ≡ most_openings = ap (λ (y : Searching). y.openings) c.list.ensures.search ∙ c.search_in-search.ensures.openings in
     let none : length c.clear.new.self.items ≡ 0 = ap (λ (ps : List (ℕ × ℕ)). length ps) c.clear.ensures.items in
     fits_at game asked.game c.args.place.now s f c.in_ok-cut.cut list_moves asked.opened new.opened left asked.modifiers new.openings
-    c.search_in-search.ensures.game state start c.search_in-search.ensures.opened c.opened-opened.ensures.within budget (omega (arith, none)) c.search_in-search.ensures.modifiers c.in_ok-cut.ensures.forced
+    c.search_in-search.ensures.game state start c.search_in-search.ensures.opened c.budget_is_kept.ensures budget (omega (arith, none)) c.search_in-search.ensures.modifiers c.in_ok-cut.ensures.forced

@@ -18,7 +18,7 @@ loop-pair-init c = record {
 pub apply_at-requires-clause-valid : goal.apply_at-requires-clause-valid
 apply_at-requires-clause-valid c =
     let game = c.args.game.now in
-    let lawful = c.positions-positions.ensures.lawful in
+    let lawful = c.game_is_accepted.ensures in
     let all = c.args.pairs.now in
     let k = c.loop-pair.pair-index in
     let s = c.loop-pair.state.state in
@@ -36,7 +36,7 @@ apply_at-requires-clause-valid c =
 pub loop-pair-preserved : goal.loop-pair-preserved
 loop-pair-preserved c =
     let game = c.args.game.now in
-    let lawful = c.positions-positions.ensures.lawful in
+    let lawful = c.game_is_accepted.ensures in
     let all = c.args.pairs.now in
     let k = c.loop-pair.pair-index in
     let s = c.loop-pair.state.state in
@@ -61,7 +61,7 @@ loop-pair-preserved c =
 pub returns-clause-to : goal.returns-clause-to
 returns-clause-to c =
     let game = c.args.game.now in
-    let lawful = c.positions-positions.ensures.lawful in
+    let lawful = c.game_is_accepted.ensures in
     let all = c.args.pairs.now in
     let k = c.loop-pair.pair-index in
     let s = c.loop-pair.state.state in

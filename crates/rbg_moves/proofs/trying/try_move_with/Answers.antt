@@ -42,7 +42,7 @@ returns-in_err-end-clause-wide x c e =
     let state : s ≡ c.args.place.now.state = c.in_ok-state.ensures.state ∙ ap (λ (y : AbstractPlace). y.state) c.place.view_is in
     let start : stand_of c.place.inside.after ≡ stand_of c.args.place.now.last = ap (λ (y : AbstractPlace). stand_of y.last) c.place.view_is in
     subst (λ (ps : List (ℕ × ℕ)). IsWideAt c.args.game.now (try_move ps) c.args.place.now) c.as_slice.ensures.pairs
-    (wide_from c.args.game.now c.positions-positions.ensures.lawful.numbered (try_move c.as_slice.result.now) c.args.place.now asked.game s (stand_of c.place.inside.after) asked.opened asked.openings
+    (wide_from c.args.game.now c.game_is_accepted.ensures.numbered (try_move c.as_slice.result.now) c.args.place.now asked.game s (stand_of c.place.inside.after) asked.opened asked.openings
     c.search_in-search.ensures.game state start c.search_in-search.ensures.opened c.search_in-search.ensures.openings (c.follow.ensures.wide (search rules)))
 
 pub returns-in_err-end-clause-heavy : goal.returns-in_err-end-clause-heavy
@@ -56,7 +56,7 @@ returns-in-Some-clause-only x c other also =
     let game = c.args.game.now in
     let there = from_copy c.args.place.now c.in_ok-state.state.state c.place.inside.state.state c.place.inside.after c.in_ok-state.ensures.state c.place.view_is in
     let legal = tried_as game c.search_in-search.result.game c.args.place.now _ c.args.pairs.now c.as_slice.result.now c.follow.new.state.state c.in_ok-end.end _ c.search_in-search.ensures.game there c.as_slice.ensures.pairs c.in-Some.is c.in_ok-end.ensures.tried in
-    one_place_law game c.positions-positions.ensures.lawful.numbered c.args.place.now c.args.pairs.now other (place_behind c.follow.new.state.state c.in-Some.last) also legal
+    one_place_law game c.game_is_accepted.ensures.numbered c.args.place.now c.args.pairs.now other (place_behind c.follow.new.state.state c.in-Some.last) also legal
 
 pub returns-in-None-clause-illegal : goal.returns-in-None-clause-illegal
 returns-in-None-clause-illegal x c to legal =
@@ -78,7 +78,7 @@ returns-in-Some-clause-fits x c = λ cut.
     let counts = some_counts c.in_ok-end.end c.in-Some.last (CountsForced asked.game false (try_move ps) s f asked.opened new.opened (length ps) asked.modifiers) c.in-Some.is c.in_ok-end.ensures.forced in
     subst (λ (qs : List (ℕ × ℕ)). FitsLimits game cut (try_move qs) c.args.place.now) c.as_slice.ensures.pairs
     (fits_at game asked.game c.args.place.now s f cut (try_move ps) asked.opened new.opened (length ps) asked.modifiers new.openings
-    c.search_in-search.ensures.game state start c.search_in-search.ensures.opened c.opened-opened.ensures.within budget (omega (arith, c.as_slice.ensures.range)) c.search_in-search.ensures.modifiers
+    c.search_in-search.ensures.game state start c.search_in-search.ensures.opened c.budget_is_kept.ensures budget (omega (arith, c.as_slice.ensures.range)) c.search_in-search.ensures.modifiers
     (counts_uncut asked.game cut (try_move ps) s f asked.opened new.opened (length ps) asked.modifiers counts))
 
 pub returns-in-None-clause-fits : goal.returns-in-None-clause-fits

@@ -1,6 +1,6 @@
 use Rattle.std.proofs.Common.{◌∙◌, ap, inl, inr, arith}
-use Rattle.rbg_syntax.specs.Views.{action_of as spelt_action_of}
-use Rattle.rbg_syntax.proofs.Trees.{action_of-PositivePattern, action_of-NegativePattern}
+use Rattle.rbg_grammar.specs.Views.{action_of as spelt_action_of}
+use Rattle.rbg_grammar.proofs.Trees.{action_of-PositivePattern, action_of-NegativePattern}
 use Rattle.rbg_numbering.specs.Numbered.{names_of}
 use Rattle.rbg_numbering.specs.internal.Actions.{is_spelt_pattern, HasActionFault}
 use Rattle.rbg_numbering.proofs.LookUps.{passed_on}

@@ -1,8 +1,8 @@
 use Rattle.std.proofs.Common.{rules, ◌≡◌, ◌+◌, sym, subst, refl, map, get_or, true}
-use Rattle.rbg_syntax.specs.declared.expression.Expression.{the_lemmas}
-use Rattle.rbg_syntax.specs.Tree.{SpeltExpression, no_terms, terms_after, no_factors, factors_after}
-use Rattle.rbg_syntax.specs.Views.{expression_of}
-use Rattle.rbg_syntax.specs.Formed.{is_formed_expression}
+use Rattle.rbg_grammar.specs.declared.expression.Expression.{the_lemmas}
+use Rattle.rbg_grammar.specs.Tree.{SpeltExpression, no_terms, terms_after, no_factors, factors_after}
+use Rattle.rbg_grammar.specs.Views.{expression_of}
+use Rattle.rbg_grammar.specs.Formed.{is_formed_expression}
 use Rattle.rbg_rules.specs.Translation.{arithmetic_of}
 use Rattle.rbg_numbering.specs.declared.error.GameError.TheVariants.{Memory}
 use Rattle.rbg_numbering.specs.Numbered.{names_of}

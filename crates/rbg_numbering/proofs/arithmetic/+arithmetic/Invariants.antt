@@ -1,6 +1,6 @@
 -- The chain so far is the sum, or the product, of the first part and of those that were read.
 use Rattle.std.proofs.Common.{◌+◌, map, take}
-use Rattle.rbg_syntax.specs.Tree.{no_terms, terms_after, no_factors, factors_after}
+use Rattle.rbg_grammar.specs.Tree.{no_terms, terms_after, no_factors, factors_after}
 use Rattle.rbg_rules.specs.Translation.{changed, arithmetic_of, operation_of}
 use Rattle.rbg_numbering.specs.Numbered.{names_of}
 use Rattle.rbg_numbering.specs.Rules.{SumIs, ProductIs}

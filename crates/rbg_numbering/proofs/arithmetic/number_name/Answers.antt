@@ -1,8 +1,8 @@
 use Rattle.std.proofs.Common.{inl, inr}
-use Rattle.rbg_syntax.specs.Views.{name_of}
+use Rattle.rbg_grammar.specs.Views.{name_of}
 use Rattle.rbg_rules.proofs.Bridge.{arithmetic_of-Variable, arithmetic_of-PieceCount}
 use Rattle.rbg_numbering.specs.Numbered.{names_of}
-use Rattle.rbg_syntax.specs.Tree.{SpeltExpression}
+use Rattle.rbg_grammar.specs.Tree.{SpeltExpression}
 use Rattle.rbg_numbering.specs.Faults.{HasArithmeticFault}
 use Rattle.rbg_numbering.proofs.LookUps.{passed_on}
 use Rattle.rbg_numbering.proofs.ArithmeticLemmas.{unknown_alone}

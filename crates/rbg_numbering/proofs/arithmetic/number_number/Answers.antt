@@ -1,6 +1,6 @@
 use Rattle.std.proofs.Common.{sym, ◌∙◌, arith}
 use Rattle.std.proofs.lemmas.Option.{same_Some}
-use Rattle.rbg_syntax.specs.Views.{number_of}
+use Rattle.rbg_grammar.specs.Views.{number_of}
 use Rattle.rbg_rules.proofs.Bridge.{arithmetic_of-Number}
 use Rattle.rbg_numbering.proofs.ArithmeticLemmas.{too_great_alone}
 use Rattle.rbg_numbering.proofs.arithmetic.number_number.Goals.{in_default-via-in-Some+else-value, in_default-via-in_default}

@@ -1,9 +1,9 @@
 use Rattle.std.proofs.Common.{rules, ◌∙◌, ap, sym, inl, inr, refl, map, length, arith}
-use Rattle.rbg_syntax.specs.Formed.{is_formed}
-use Rattle.rbg_syntax.specs.Tree.{SpeltRule, no_rules, rules_after}
-use Rattle.rbg_syntax.specs.Views.{rule_of, action_of}
-use Rattle.rbg_syntax.specs.declared.rule.Rule.{the_lemmas}
-use Rattle.rbg_syntax.proofs.Trees.{action_of-Shift, action_of-On, action_of-Off, action_of-Assign, action_of-Compare, action_of-Switch}
+use Rattle.rbg_grammar.specs.Formed.{is_formed}
+use Rattle.rbg_grammar.specs.Tree.{SpeltRule, no_rules, rules_after}
+use Rattle.rbg_grammar.specs.Views.{rule_of, action_of}
+use Rattle.rbg_grammar.specs.declared.rule.Rule.{the_lemmas}
+use Rattle.rbg_grammar.proofs.Trees.{action_of-Shift, action_of-On, action_of-Off, action_of-Assign, action_of-Compare, action_of-Switch}
 use Rattle.rbg_rules.specs.declared.rule.Action.TheVariants.{Positive, Negative}
 use Rattle.rbg_numbering.specs.declared.error.GameError.TheVariants.{Memory}
 use Rattle.rbg_numbering.specs.Numbered.{names_of}

@@ -1,5 +1,5 @@
 use Rattle.std.proofs.Common.{[], length, subst}
-use Rattle.rbg_syntax.specs.Views.{rule_of}
+use Rattle.rbg_grammar.specs.Views.{rule_of}
 use Rattle.rbg_rules.specs.Limits.{most_nested_patterns}
 use Rattle.rbg_numbering.specs.Numbered.{names_of}
 use Rattle.rbg_numbering.specs.Faults.{HasRuleFault}

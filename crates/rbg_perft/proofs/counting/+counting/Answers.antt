@@ -9,19 +9,19 @@ use Rattle.rbg_perft.proofs.Sums.{sums_more, sums_end, counted_from, all_at}
 use Rattle.rbg_perft.proofs.counting.+counting.Goals as goal
 
 pub count_behind-loop-index-init : goal.count_behind-loop-index-init
-count_behind-loop-index-init g t c = none
+count_behind-loop-index-init t c = none
 
 pub count_behind-make_move_into-requires-clause-legal :
     goal.count_behind-make_move_into-requires-clause-legal
-count_behind-make_move_into-requires-clause-legal g t c =
+count_behind-make_move_into-requires-clause-legal t c =
     all_at (IsLegal c.args.game.now c.args.place.now) c.args.firsts.now c.loop-index.index c.get-pairs.result.now c.requires.legal c.get-pairs.ensures.pairs
 
 pub count_behind-count_from-requires : goal.count_behind-count_from-requires
-count_behind-count_from-requires g t c κs within =
-    (search rules, (within, (c.requires.steps, c.in_ok-make_move_into.ensures.in_game)))
+count_behind-count_from-requires t c =
+    (search rules, c.in_ok-make_move_into.ensures.in_game)
 
 pub count_behind-loop-index-preserved : goal.count_behind-loop-index-preserved
-count_behind-loop-index-preserved g t c =
+count_behind-loop-index-preserved t c =
     let firsts = c.args.firsts.now in
     let k = c.loop-index.index in
     let pairs = c.get-pairs.result.now in
@@ -34,24 +34,24 @@ count_behind-loop-index-preserved g t c =
     sequences ended
 
 pub count_behind-returns : goal.count_behind-returns
-count_behind-returns g t c =
+count_behind-returns t c =
     let all : length c.args.firsts.now ≤ c.loop-index.index = omega (arith, c.loop-index-test.false, c.len-index-end.ensures.count) in
     record { counted = sums_end (AreCountedBehind c.args.game.now c.args.further c.args.place.now) c.args.firsts.now c.loop-index.index c.loop-index.counts.sequences c.loop-index.counts.ended all c.loop-index.invariant }
 
 pub count_from-count_behind-requires : goal.count_from-count_behind-requires
-count_from-count_behind-requires g t c κs within =
+count_from-count_behind-requires t c =
     let some : 0 < c.args.moves = omega (arith, c.if-moves-eq0.false) in
-    (search rules, (within, (c.requires.steps, (c.in_ok-settle.ensures.place, c.in_ok-listed.ensures.all.legal))))
+    (search rules, (c.in_ok-settle.ensures.place, c.in_ok-listed.ensures.all.legal))
 
 pub count_from-returns : goal.count_from-returns
-count_from-returns g t c =
+count_from-returns t c =
     let some : 0 < c.args.moves = omega (arith, c.if-moves-eq0.false) in
     record {
       counted = counted_from c.args.game.now c.args.moves c.args.place.now c.settle.new.place c.in_ok-listed.listed c.in_ok-counts.counts.sequences c.in_ok-counts.counts.ended some c.in_ok-settle.ensures.settles c.in_ok-listed.ensures.all c.in_ok-counts.ensures.counted;
     }
 
 pub count_from-returns-then-moves-eq0 : goal.count_from-returns-then-moves-eq0
-count_from-returns-then-moves-eq0 g t c =
+count_from-returns-then-moves-eq0 t c =
     let counts = c.in_ok-here.here in
     record {
       counted = subst (λ (k : ℕ). AreCounted c.args.game.now k c.args.place.now counts.sequences counts.ended) (sym c.if-moves-eq0.true)

@@ -4,11 +4,11 @@ use Rattle.rbg_perft.specs.Counting.{AreCountedBehind, Sums}
 use Rattle.rbg_perft.proofs.counting.+counting.Given as goal
 
 abbrev pub decreases-count_behind : goal.decreases-count_behind
-decreases-count_behind g l = 2 * l.further + 1
+decreases-count_behind l = 2 * l.further + 1
 
 abbrev pub decreases-count_from : goal.decreases-count_from
-decreases-count_from g l = 2 * l.moves
+decreases-count_from l = 2 * l.moves
 
 abbrev pub invariant-count_behind-loop-index : goal.invariant-count_behind-loop-index
-invariant-count_behind-loop-index g l =
+invariant-count_behind-loop-index l =
     Sums (AreCountedBehind l.fn.game l.fn.further l.fn.place) (take l.index l.firsts) l.counts.sequences l.counts.ended

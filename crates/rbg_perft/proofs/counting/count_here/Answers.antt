@@ -5,6 +5,6 @@ use Rattle.rbg_rules.specs.Moves.{IsLegal}
 use Rattle.rbg_perft.proofs.counting.count_here.Goals as goal
 
 pub returns-in-Some-clause-ended : goal.returns-in-Some-clause-ended
-returns-in-Some-clause-ended g c =
+returns-in-Some-clause-ended c =
     let found : IsLegal c.args.game.now c.args.place.now c.in-Some.pairs.items = subst (λ o. IfSome o (λ ps. IsLegal c.args.game.now c.args.place.now ps.items)) c.in-Some.is c.in_ok-pairs.ensures.found in
     inr (refl, λ finished. finished.no_move c.in-Some.pairs.items found.0 found.1)

@@ -1,5 +1,5 @@
 use Rattle.rbg_syntax.specs.declared.error.SyntaxError.TheVariants as errors
-use Rattle.rbg_syntax.specs.Sections.{sections_of}
+use Rattle.rbg_grammar.specs.Sections.{sections_of}
 use Rattle.rbg_syntax.proofs.SectionLists.{missing_first}
 use Rattle.rbg_syntax.proofs.parsing.needed.Goals as goal
 

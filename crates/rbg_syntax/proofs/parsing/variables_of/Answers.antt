@@ -1,6 +1,6 @@
 use Rattle.std.proofs.Common.{Ok, map, refl, sym, ap, ◌∙◌}
-use Rattle.rbg_syntax.specs.Views.{bounded_of}
-use Rattle.rbg_syntax.specs.internal.Reading.{placed}
+use Rattle.rbg_grammar.specs.Views.{bounded_of}
+use Rattle.rbg_syntax.specs.internal.Giving.{placed}
 use Rattle.rbg_syntax.proofs.Descriptions.{variables_first, variables_none, variables_start}
 use Rattle.rbg_syntax.proofs.parsing.variables_of.Goals as goal
 

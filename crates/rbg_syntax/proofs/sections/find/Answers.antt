@@ -1,7 +1,7 @@
 use Rattle.std.proofs.Common.{◌≡◌, ◌+◌, drop, true, false, Some, sym, ap, ◌∙◌, List}
 use Rattle.std.specs.Prelude.{slice_get}
-use Rattle.rbg_macro.specs.Token.{SectionTokens}
-use Rattle.rbg_syntax.specs.Sections.{same_kind, sections_of}
+use Rattle.rbg_macro.specs.Sections.{SectionTokens}
+use Rattle.rbg_grammar.specs.Sections.{same_kind, sections_of}
 use Rattle.rbg_syntax.proofs.SectionLists.{tested, sections_of-drop}
 use Rattle.rbg_syntax.proofs.sections.find.Goals as goal
 

@@ -1,6 +1,6 @@
 use Rattle.std.proofs.Common.{◌≡◌, drop}
 use Rattle.std.specs.Prelude.{slice_get}
-use Rattle.rbg_syntax.specs.Sections.{sections_of}
+use Rattle.rbg_grammar.specs.Sections.{sections_of}
 use Rattle.rbg_syntax.proofs.sections.find.Given as goal
 
 abbrev pub invariant-loop-index : goal.invariant-loop-index

@@ -1,6 +1,6 @@
 use Rattle.std.proofs.Common.{rules, ◌≡◌, ◌<◌, take, drop, sym, arith}
 use Rattle.std.proofs.lemmas.List.{take_all}
-use Rattle.rbg_syntax.specs.Sections.{count_of}
+use Rattle.rbg_grammar.specs.Sections.{count_of}
 use Rattle.rbg_syntax.proofs.SectionLists.{split_at, one_more_different}
 use Rattle.rbg_syntax.proofs.sections.refuse_twice.Goals as goal
 

@@ -1,5 +1,5 @@
 use Rattle.std.proofs.Common.{◌≡◌, ◌+◌, true, false, refl, arith}
-use Rattle.rbg_syntax.specs.Sections.{same_kind}
+use Rattle.rbg_grammar.specs.Sections.{same_kind}
 use Rattle.rbg_syntax.proofs.SectionLists.{tested, count_of-take_one, count_of-take}
 use Rattle.rbg_syntax.proofs.sections.stands_before.Goals as goal
 

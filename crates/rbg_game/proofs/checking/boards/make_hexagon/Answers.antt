@@ -2,8 +2,8 @@ use Rattle.std.proofs.Common.{◌≡◌, length, map, subst, sym, arith}
 use Rattle.std.proofs.lemmas.List.{length-map}
 use Rattle.rbg_board.specs.Cells.{rows_of}
 use Rattle.rbg_board.specs.Hexagon.{IsHexagon, MakesHexagon, HexagonRefusal}
-use Rattle.rbg_syntax.specs.Views.{name_of, names_of}
-use Rattle.rbg_syntax.specs.Tree.{hexagon}
+use Rattle.rbg_grammar.specs.Views.{name_of, names_of}
+use Rattle.rbg_grammar.specs.Tree.{hexagon}
 use Rattle.rbg_numbering.specs.declared.error.GameError.{GameError}
 use Rattle.rbg_numbering.proofs.LookUps.{passed_on}
 use Rattle.rbg_game.specs.Faults.{HasBoardFault, no_hexagon, board_memory}

@@ -2,8 +2,8 @@ use Rattle.std.proofs.Common.{List, flat_map, map, subst}
 use Rattle.std.specs.List.{AllZip}
 use Rattle.std.proofs.lemmas.List.{map-append}
 use Rattle.rbg_board.specs.Cells.{rows_of}
-use Rattle.rbg_syntax.specs.Tree.{SpeltName}
-use Rattle.rbg_syntax.specs.Views.{name_of, names_of}
+use Rattle.rbg_grammar.specs.Tree.{SpeltName}
+use Rattle.rbg_grammar.specs.Views.{name_of, names_of}
 use Rattle.rbg_numbering.specs.declared.error.GameError.TheVariants.{Memory}
 use Rattle.rbg_numbering.specs.Names.{IsNumberOf}
 use Rattle.rbg_numbering.specs.NameTables.{HasLookUpFault, no_memory}

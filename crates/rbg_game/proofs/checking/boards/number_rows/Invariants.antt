@@ -1,7 +1,7 @@
 use Rattle.std.proofs.Common.{map, take}
 use Rattle.std.specs.List.{AllZip}
 use Rattle.rbg_board.specs.Cells.{rows_of}
-use Rattle.rbg_syntax.specs.Views.{names_of}
+use Rattle.rbg_grammar.specs.Views.{names_of}
 use Rattle.rbg_numbering.specs.Names.{IsNumberOf}
 use Rattle.rbg_game.proofs.checking.boards.number_rows.Given as goal
 

@@ -1,5 +1,5 @@
 use Rattle.std.proofs.lemmas.Result.{err_from_is_err_and}
-use Rattle.rbg_syntax.specs.Views.{name_of}
+use Rattle.rbg_grammar.specs.Views.{name_of}
 use Rattle.rbg_game.proofs.Joining.{joins_known, joins_new, new_name_fault}
 use Rattle.rbg_game.proofs.checking.directions.join.Goals as goal
 

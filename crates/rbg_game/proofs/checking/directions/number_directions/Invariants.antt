@@ -1,5 +1,5 @@
 use Rattle.std.proofs.Common.{◌≡◌, length, map, take}
-use Rattle.rbg_syntax.specs.Views.{name_of}
+use Rattle.rbg_grammar.specs.Views.{name_of}
 use Rattle.rbg_game.specs.internal.Boards.{NumbersDirections}
 use Rattle.rbg_game.proofs.checking.directions.number_directions.Given as goal
 

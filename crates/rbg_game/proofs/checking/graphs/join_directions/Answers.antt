@@ -1,5 +1,5 @@
 use Rattle.std.proofs.Common.{ℕ, List, map, take, subst, sym}
-use Rattle.rbg_syntax.specs.Views.{edge_of}
+use Rattle.rbg_grammar.specs.Views.{edge_of}
 use Rattle.rbg_game.specs.internal.Graphs.{AddsInOrder, edge_directions}
 use Rattle.rbg_game.proofs.Joining.{adds_one}
 use Rattle.rbg_game.proofs.GraphSteps.{edges_more}

@@ -1,5 +1,5 @@
 use Rattle.std.proofs.Common.{map, take}
-use Rattle.rbg_syntax.specs.Views.{edge_of}
+use Rattle.rbg_grammar.specs.Views.{edge_of}
 use Rattle.rbg_game.specs.internal.Graphs.{AddsInOrder, edge_directions}
 use Rattle.rbg_game.proofs.checking.graphs.join_directions.Given as goal
 

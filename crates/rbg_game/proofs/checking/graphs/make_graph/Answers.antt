@@ -7,8 +7,8 @@ use Rattle.rbg_board.specs.Graph.{HasWidth}
 use Rattle.rbg_board.specs.Vertices.{written_of}
 use Rattle.rbg_board.specs.Written.{Written, directions_of, IsWritten, MakesGraph, GraphRefusal}
 use Rattle.rbg_board.specs.declared.graphs.Cell.{Cell}
-use Rattle.rbg_syntax.specs.Tree.{SpeltVertex, graph}
-use Rattle.rbg_syntax.specs.Views.{vertex_of}
+use Rattle.rbg_grammar.specs.Tree.{SpeltVertex, graph}
+use Rattle.rbg_grammar.specs.Views.{vertex_of}
 use Rattle.rbg_rules.specs.LawfulNames.{AreDifferentNames}
 use Rattle.rbg_numbering.specs.declared.error.GameError.{GameError}
 use Rattle.rbg_numbering.specs.Names.{IsNumberOf}

@@ -1,5 +1,5 @@
 use Rattle.std.proofs.Common.{map, take}
-use Rattle.rbg_syntax.specs.Views.{vertex_of}
+use Rattle.rbg_grammar.specs.Views.{vertex_of}
 use Rattle.rbg_game.specs.Descriptions.{IsOrderOfFirstUse, directions_named}
 use Rattle.rbg_game.proofs.checking.graphs.name_directions.Given as goal
 

@@ -1,6 +1,6 @@
 use Rattle.std.proofs.Common.{ℕ, List, map, subst, sym}
-use Rattle.rbg_syntax.specs.Tree.{graph}
-use Rattle.rbg_syntax.specs.Views.{vertex_of}
+use Rattle.rbg_grammar.specs.Tree.{graph}
+use Rattle.rbg_grammar.specs.Views.{vertex_of}
 use Rattle.rbg_numbering.specs.declared.error.GameError.{GameError}
 use Rattle.rbg_numbering.proofs.LookUps.{passed_on}
 use Rattle.rbg_game.specs.Faults.{HasBoardFault, board_memory, no_graph}

@@ -4,9 +4,9 @@ use Rattle.std.specs.Prelude.{Contains}
 use Rattle.std.proofs.lemmas.List.{map-append}
 use Rattle.rbg_base.proofs.CallerLemmas.{AllZip-push_one, map-take_more}
 use Rattle.rbg_board.specs.Vertices.{written_of}
-use Rattle.rbg_syntax.specs.Tree.{SpeltVertex}
-use Rattle.rbg_syntax.specs.Views.{edge_of, vertex_of}
-use Rattle.rbg_syntax.specs.declared.description.Edge.{Edge}
+use Rattle.rbg_grammar.specs.Tree.{SpeltVertex}
+use Rattle.rbg_grammar.specs.Views.{edge_of, vertex_of}
+use Rattle.rbg_grammar.specs.declared.description.Edge.{Edge}
 use Rattle.rbg_game.specs.internal.Graphs.{IsEdge, IsCell}
 use Rattle.rbg_game.proofs.GraphSteps.{all_known, cell_made}
 use Rattle.rbg_game.proofs.checking.graphs.number_cells.Goals as goal

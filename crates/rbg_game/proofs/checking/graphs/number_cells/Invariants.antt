@@ -1,8 +1,8 @@
 use Rattle.std.proofs.Common.{ℕ, List, map, take}
 use Rattle.std.specs.List.{AllZip}
 use Rattle.rbg_board.specs.Vertices.{written_of}
-use Rattle.rbg_syntax.specs.Tree.{graph}
-use Rattle.rbg_syntax.specs.Views.{vertex_of}
+use Rattle.rbg_grammar.specs.Tree.{graph}
+use Rattle.rbg_grammar.specs.Views.{vertex_of}
 use Rattle.rbg_numbering.specs.Names.{IsNumberOf}
 use Rattle.rbg_game.specs.Faults.{board_pieces}
 use Rattle.rbg_game.specs.internal.Graphs.{IsCell}

@@ -1,8 +1,8 @@
 use Rattle.std.proofs.Common.{sym, subst}
 use Rattle.std.specs.Prelude.{Contains}
 use Rattle.std.proofs.lemmas.Result.{err_from_is_err_and}
-use Rattle.rbg_syntax.specs.Views.{name_of, edge_of}
-use Rattle.rbg_syntax.specs.declared.description.Edge.{Edge}
+use Rattle.rbg_grammar.specs.Views.{name_of, edge_of}
+use Rattle.rbg_grammar.specs.declared.description.Edge.{Edge}
 use Rattle.rbg_numbering.proofs.Lists.{AllZip-step}
 use Rattle.rbg_game.specs.internal.Graphs.{IsTarget, IsEdge}
 use Rattle.rbg_game.proofs.GraphSteps.{known_found, target_of}

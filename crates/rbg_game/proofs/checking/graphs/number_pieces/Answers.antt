@@ -1,8 +1,8 @@
 use Rattle.std.proofs.Common.{◌++◌, ◌∷◌, [], List, map, take, subst, sym}
 use Rattle.std.specs.List.{AllZip}
 use Rattle.rbg_base.proofs.CallerLemmas.{AllZip-push_one, Contains-map}
-use Rattle.rbg_syntax.specs.Tree.{SpeltName, SpeltVertex, graph}
-use Rattle.rbg_syntax.specs.Views.{name_of, vertex_of}
+use Rattle.rbg_grammar.specs.Tree.{SpeltName, SpeltVertex, graph}
+use Rattle.rbg_grammar.specs.Views.{name_of, vertex_of}
 use Rattle.rbg_numbering.specs.declared.error.GameError.TheVariants.{Memory}
 use Rattle.rbg_numbering.specs.Names.{IsNumberOf}
 use Rattle.rbg_numbering.specs.NameTables.{HasLookUpFault, no_memory}

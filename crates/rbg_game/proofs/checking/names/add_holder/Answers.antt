@@ -1,5 +1,5 @@
 use Rattle.std.proofs.Common.{[], ◌∷◌, refl, subst, sym, arith}
-use Rattle.rbg_syntax.specs.Views.{bounded_of}
+use Rattle.rbg_grammar.specs.Views.{bounded_of}
 use Rattle.rbg_numbering.specs.declared.error.GameError.{GameError}
 use Rattle.rbg_numbering.specs.declared.error.GameError.TheVariants.{Memory}
 use Rattle.rbg_numbering.specs.NameTables.{no_memory}

@@ -1,7 +1,7 @@
 use Rattle.std.proofs.Common.{◌≡◌, ◌+◌, List, ◌++◌, ◌∷◌, [], ℕ, map, take, ap, sym, ◌∙◌, subst, append_assoc}
 use Rattle.std.proofs.lemmas.List.{take-map, map_more, map-append}
-use Rattle.rbg_syntax.specs.Views.{bounded_of}
-use Rattle.rbg_syntax.specs.Tree.{SpeltBounded}
+use Rattle.rbg_grammar.specs.Views.{bounded_of}
+use Rattle.rbg_grammar.specs.Tree.{SpeltBounded}
 use Rattle.rbg_game.specs.Descriptions.{holder_names}
 use Rattle.rbg_game.specs.internal.Holders.{HasHolderFault}
 use Rattle.rbg_game.specs.internal.Things.{AddsBounds}

@@ -1,7 +1,7 @@
 use Rattle.std.proofs.Common.{◌≡◌, ◌++◌, List, map, take, ap, sym, ◌∙◌}
 use Rattle.std.proofs.lemmas.List.{take-map}
-use Rattle.rbg_syntax.specs.Views.{name_of}
-use Rattle.rbg_syntax.specs.Tree.{SpeltName}
+use Rattle.rbg_grammar.specs.Views.{name_of}
+use Rattle.rbg_grammar.specs.Tree.{SpeltName}
 use Rattle.rbg_numbering.specs.Names.{texts_of}
 use Rattle.rbg_numbering.specs.NameTables.{HasNameFault}
 use Rattle.rbg_numbering.proofs.Lists.{slice_get-map_read}

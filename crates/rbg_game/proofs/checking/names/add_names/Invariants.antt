@@ -1,5 +1,5 @@
 use Rattle.std.proofs.Common.{◌≡◌, ◌++◌, map, take}
-use Rattle.rbg_syntax.specs.Views.{name_of}
+use Rattle.rbg_grammar.specs.Views.{name_of}
 use Rattle.rbg_numbering.specs.Names.{texts_of}
 use Rattle.rbg_game.proofs.checking.names.add_names.Given as goal
 

@@ -1,7 +1,7 @@
 use Rattle.std.proofs.Common.{◌≡◌, ◌++◌, List, map, take, ap, sym, ◌∙◌}
 use Rattle.std.proofs.lemmas.List.{take-map}
-use Rattle.rbg_syntax.specs.Views.{bounded_of}
-use Rattle.rbg_syntax.specs.Tree.{SpeltBounded}
+use Rattle.rbg_grammar.specs.Views.{bounded_of}
+use Rattle.rbg_grammar.specs.Tree.{SpeltBounded}
 use Rattle.rbg_game.specs.Descriptions.{holder_names}
 use Rattle.rbg_game.specs.internal.Holders.{HasHolderFault, by_name}
 use Rattle.rbg_numbering.proofs.Lists.{slice_get-map_read}

@@ -1,10 +1,10 @@
 use Rattle.std.proofs.Common.{◌≡◌, List, ℕ, [], ◌++◌, map, length, sym, ap, ◌∙◌, subst, refl, arith}
 use Rattle.std.proofs.lemmas.List.{length-map, map-append}
-use Rattle.rbg_syntax.specs.Descriptions.{description_of_parts}
-use Rattle.rbg_syntax.specs.Views.{name_of, bounded_of}
-use Rattle.rbg_syntax.specs.Tree.{SpeltBounded, SpeltName, SpeltDescription}
-use Rattle.rbg_syntax.specs.declared.names.Name.{Name}
-use Rattle.rbg_syntax.specs.declared.description.Bounded.{Bounded}
+use Rattle.rbg_grammar.specs.Descriptions.{description_of_parts}
+use Rattle.rbg_grammar.specs.Views.{name_of, bounded_of}
+use Rattle.rbg_grammar.specs.Tree.{SpeltBounded, SpeltName, SpeltDescription}
+use Rattle.rbg_grammar.specs.declared.names.Name.{Name}
+use Rattle.rbg_grammar.specs.declared.description.Bounded.{Bounded}
 use Rattle.rbg_numbering.specs.declared.error.GameError.{GameError}
 use Rattle.rbg_numbering.specs.Names.{texts_of}
 use Rattle.rbg_game.specs.Descriptions.{holder_names, holders_of}

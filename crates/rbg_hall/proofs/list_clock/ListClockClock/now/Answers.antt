@@ -5,8 +5,8 @@ use Rattle.rbg_hall.specs.ListClocks.{last_moment}
 use Rattle.rbg_hall.proofs.ClockLemmas.{told_next, told_again}
 use Rattle.rbg_hall.proofs.list_clock.ListClockClock.now.Goals as goal
 
-pub returns-in-Some : goal.returns-in-Some
-returns-in-Some c =
+pub returns-in-Some-clause-told : goal.returns-in-Some-clause-told
+returns-in-Some-clause-told c =
     let found = c.in-Some.ensures.lookup.3 in
     let list = c.as_slice.ensures.value in
     let told = c.args.self.now.told in
@@ -16,8 +16,8 @@ returns-in-Some c =
     (sym (found.1 0 ∙ ap (λ items. get_or items told 0) list))
     has
 
-pub returns : goal.returns
-returns c =
+pub returns-clause-told : goal.returns-clause-told
+returns-clause-told c =
     let none = c.in_default.ensures.lookup.3 in
     let list = c.as_slice.ensures.value in
     λ so_far has.

@@ -2,7 +2,7 @@
 use Rattle.std.proofs.Common.{◌≡◌, map, take}
 use Rattle.rbg_macro.specs.Macro.{body_of}
 use Rattle.rbg_macro.specs.internal.Template.{piece_in, texts_in}
-use Rattle.rbg_macro.specs.Token.{lexeme_of}
+use Rattle.rbg_tokens.specs.Token.{lexeme_of}
 use Rattle.rbg_macro.proofs.macros.Template.new.Given as goal
 
 abbrev pub invariant-loop-token : goal.invariant-loop-token

@@ -3,7 +3,7 @@ use Rattle.std.proofs.Common.{◌≡◌, map, take}
 use Rattle.std.specs.List.{All}
 use Rattle.rbg_macro.specs.internal.Marks.{IsMarked}
 use Rattle.rbg_macro.specs.internal.ReadTokens.{read_lexeme}
-use Rattle.rbg_macro.specs.Token.{lexeme_of}
+use Rattle.rbg_tokens.specs.Token.{lexeme_of}
 use Rattle.rbg_macro.proofs.marking.MarkedMacros.mark_all.Given as goal
 
 abbrev pub invariant-loop-token : goal.invariant-loop-token

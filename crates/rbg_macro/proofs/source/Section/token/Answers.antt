@@ -1,6 +1,6 @@
 -- A section's token is one of the list.
 use Rattle.std.proofs.Common.{◌∙◌, sym, ap, slice_get}
-use Rattle.rbg_macro.specs.Token.{SectionTokens}
+use Rattle.rbg_macro.specs.Sections.{SectionTokens}
 use Rattle.rbg_macro.proofs.Spans.{get_in_range}
 use Rattle.rbg_macro.proofs.source.Section.token.Goals as goal
 

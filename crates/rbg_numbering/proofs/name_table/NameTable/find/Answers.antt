@@ -1,4 +1,4 @@
-use Rattle.rbg_syntax.specs.Views.{name_of}
+use Rattle.rbg_grammar.specs.Views.{name_of}
 use Rattle.rbg_numbering.proofs.LookUps.{unknown_alone}
 use Rattle.rbg_numbering.proofs.name_table.NameTable.find.Goals as goal
 

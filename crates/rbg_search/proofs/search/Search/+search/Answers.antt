@@ -17,6 +17,8 @@ use Rattle.rbg_search.specs.internal.Nesting.{NestsFrom}
 use Rattle.rbg_search.specs.internal.Part.{HasMarksOf}
 use Rattle.rbg_search.proofs.Asking.{back, mark_within, given_room, room_twice, asked_nests, some_nested, runs_one, none_more, some_behind, none_behind, runs_here, runs_there}
 use Rattle.rbg_search.proofs.Behinds.{all_ready}
+use Rattle.std.proofs.lemmas.List.Sorted.{All-permutation}
+use Rattle.rbg_search.proofs.Orders.{flat_permuted}
 use Rattle.rbg_search.proofs.Kept.{kept_same, kept_since, kept_twice, back_same, onward, before, onward_rules, rules_before, further_on}
 use Rattle.rbg_search.specs.Counting.{CountsOpenings}
 use Rattle.rbg_search.specs.internal.Asked.{StandsInPattern, CountsAsked, IsCounted}
@@ -353,14 +355,19 @@ pub runs_behind_one-returns-clause-answer : goal.runs_behind_one-returns-clause-
 runs_behind_one-returns-clause-answer g t c =
     runs_one c.args.self.now.game c.args.state.now.state c.apply_at.new.state.state c.args.nested c.args.vertex c.args.position c.in_ok-runs.field-0 c.requires.ready c.apply_at.ensures.only c.in_ok-runs.ensures.answer
 
+pub word_runs-sort-requires : goal.word_runs-sort-requires
+word_runs-sort-requires g t c = c.in_ok-ends.ensures.reached.different
+
 pub word_runs-runs_behind-requires : goal.word_runs-runs_behind-requires
 word_runs-runs_behind-requires g t c κs within =
     let here : c.take_list-pairs.new.self ≡ c.args.self.now = c.take_list-pairs.ensures in
     let kept : c.flat_part.new.self ≡ (record c.args.self.now { opened = c.flat_part.new.self.opened }) = kept_since c.args.self.now c.take_list-pairs.new.self c.flat_part.new.self here c.flat_part.ensures.kept in
     let lawful : IsGame c.args.self.now.game = subst (λ (x : Searching). IsGame x.game) here c.in_ok-ends.ensures.lawful in
     let reached : IsFlatPart c.args.self.now.game c.args.state.now.state (start_of c.args.origin) c.flat_part.new.pairs.items c.in_ok-ends.ends = subst (λ (x : Searching). IsFlatPart x.game c.args.state.now.state (start_of c.args.origin) c.flat_part.new.pairs.items c.in_ok-ends.ends) here c.in_ok-ends.ensures.reached in
+    let sorted = flat_permuted c.args.self.now.game c.args.state.now.state (start_of c.args.origin) c.flat_part.new.pairs.items c.sort.new.pairs.items c.in_ok-ends.ends c.sort.ensures.permutation reached in
     let fits : IsStateOf c.flat_part.new.self.game c.flat_part.new.state.state = onward IsStateOf c.args.self.now c.flat_part.new.self c.args.state.now c.flat_part.new.state kept c.flat_part.ensures.given_back c.requires.fits in
-    let ready = onward (λ x s. All (IsReady x s c.args.nested) c.flat_part.new.pairs.items) c.args.self.now c.flat_part.new.self c.args.state.now c.flat_part.new.state kept c.flat_part.ensures.given_back (subst (λ (x : Searching). All (IsReady x.game c.args.state.now.state c.args.nested) c.flat_part.new.pairs.items) here c.in_ok-ends.ensures.ready) in (
+    let all_ready = All-permutation (IsReady c.args.self.now.game c.args.state.now.state c.args.nested) c.flat_part.new.pairs.items c.sort.new.pairs.items c.sort.ensures.permutation (subst (λ (x : Searching). All (IsReady x.game c.args.state.now.state c.args.nested) c.flat_part.new.pairs.items) here c.in_ok-ends.ensures.ready) in
+    let ready = onward (λ x s. All (IsReady x s c.args.nested) c.sort.new.pairs.items) c.args.self.now c.flat_part.new.self c.args.state.now c.flat_part.new.state kept c.flat_part.ensures.given_back all_ready in (
       search rules,
       (
         within,
@@ -370,7 +377,7 @@ word_runs-runs_behind-requires g t c κs within =
             c.in_ok-ends.ensures.enough,
             (
               subst (λ (ps : List (ℕ × ℕ)). All (IsReady c.flat_part.new.self.game c.flat_part.new.state.state c.args.nested) ps) (sym c.deref.ensures.value) ready,
-              inside_pairs c.args.self.now c.flat_part.new.self c.args.state.now c.flat_part.new.state (start_of c.args.origin) c.flat_part.new.pairs.items c.deref.result.now c.in_ok-ends.ends kept c.flat_part.ensures.given_back c.deref.ensures.value lawful c.requires.inside reached,
+              inside_pairs c.args.self.now c.flat_part.new.self c.args.state.now c.flat_part.new.state (start_of c.args.origin) c.sort.new.pairs.items c.deref.result.now c.in_ok-ends.ends kept c.flat_part.ensures.given_back c.deref.ensures.value lawful c.requires.inside sorted,
             ),
           ),
         ),
@@ -383,10 +390,11 @@ word_runs-returns-clause-answer g t c =
     let kept : c.flat_part.new.self ≡ (record c.args.self.now { opened = c.flat_part.new.self.opened }) = kept_since c.args.self.now c.take_list-pairs.new.self c.flat_part.new.self here c.flat_part.ensures.kept in
     let lawful : IsGame c.args.self.now.game = subst (λ (x : Searching). IsGame x.game) here c.in_ok-ends.ensures.lawful in
     let reached : IsFlatPart c.args.self.now.game c.args.state.now.state (start_of c.args.origin) c.flat_part.new.pairs.items c.in_ok-ends.ends = subst (λ (x : Searching). IsFlatPart x.game c.args.state.now.state (start_of c.args.origin) c.flat_part.new.pairs.items c.in_ok-ends.ends) here c.in_ok-ends.ensures.reached in
-    let decides : IsTrue c.in_ok-runs.runs ↔ SomeRunsBehind c.args.self.now.game c.args.state.now.state c.flat_part.new.pairs.items =
-    before (λ x s. IsTrue c.in_ok-runs.runs ↔ SomeRunsBehind x s c.flat_part.new.pairs.items) c.args.self.now c.flat_part.new.self c.args.state.now c.flat_part.new.state kept c.flat_part.ensures.given_back
+    let sorted = flat_permuted c.args.self.now.game c.args.state.now.state (start_of c.args.origin) c.flat_part.new.pairs.items c.sort.new.pairs.items c.in_ok-ends.ends c.sort.ensures.permutation reached in
+    let decides : IsTrue c.in_ok-runs.runs ↔ SomeRunsBehind c.args.self.now.game c.args.state.now.state c.sort.new.pairs.items =
+    before (λ x s. IsTrue c.in_ok-runs.runs ↔ SomeRunsBehind x s c.sort.new.pairs.items) c.args.self.now c.flat_part.new.self c.args.state.now c.flat_part.new.state kept c.flat_part.ensures.given_back
     (subst (λ (ps : List (ℕ × ℕ)). IsTrue c.in_ok-runs.runs ↔ SomeRunsBehind c.flat_part.new.self.game c.flat_part.new.state.state ps) c.deref.ensures.value c.in_ok-runs.ensures.answer) in
-    runs_there c.args.self.now.game lawful.numbered c.args.state.now.state (start_of c.args.origin) c.flat_part.new.pairs.items c.in_ok-ends.ends c.in_ok-runs.runs reached c.if-ends.false decides
+    runs_there c.args.self.now.game lawful.numbered c.args.state.now.state (start_of c.args.origin) c.sort.new.pairs.items c.in_ok-ends.ends c.in_ok-runs.runs sorted c.if-ends.false decides
 
 pub word_runs-returns-then-ends-clause-answer : goal.word_runs-returns-then-ends-clause-answer
 word_runs-returns-then-ends-clause-answer g t c =
@@ -578,12 +586,13 @@ word_runs-returns-in_err-runs-clause-counts g t c =
     let kept : c.flat_part.new.self ≡ (record c.args.self.now { opened = c.flat_part.new.self.opened }) = kept_since c.args.self.now c.take_list-pairs.new.self c.flat_part.new.self here c.flat_part.ensures.kept in
     let lawful : IsGame c.args.self.now.game = subst (λ (x : Searching). IsGame x.game) here c.in_ok-ends.ensures.lawful in
     let reached : IsFlatPart c.args.self.now.game c.args.state.now.state (start_of c.args.origin) c.flat_part.new.pairs.items c.in_ok-ends.ends = subst (λ (x : Searching). IsFlatPart x.game c.args.state.now.state (start_of c.args.origin) c.flat_part.new.pairs.items c.in_ok-ends.ends) here c.in_ok-ends.ensures.reached in
+    let sorted = flat_permuted c.args.self.now.game c.args.state.now.state (start_of c.args.origin) c.flat_part.new.pairs.items c.sort.new.pairs.items c.in_ok-ends.ends c.sort.ensures.permutation reached in
     let counts_first : IsCounted c.args.self.now.game reach c.args.state.now.state (start_of c.args.origin) c.args.self.now.opened c.flat_part.new.self.opened c.args.self.now.modifiers c.args.self.now.openings c.args.self.now.modifiers (c.flat_part.result ≡ Err Deep) (c.flat_part.result ≡ Err Wide) =
     subst (λ (x : Searching). IsCounted x.game reach c.args.state.now.state (start_of c.args.origin) x.opened c.flat_part.new.self.opened x.modifiers x.openings x.modifiers (c.flat_part.result ≡ Err Deep) (c.flat_part.result ≡ Err Wide)) here c.flat_part.ensures.counts in
     counted_as c.args.self.now.game pattern c.args.state.now.state (start_of c.args.origin) c.args.self.now.opened c.runs_behind.new.self.opened c.args.modifiers c.args.self.now.openings c.args.self.now.modifiers _ _ _ _
     (given_up c.runs_behind.result c.from_residual-in_err-runs.result c.in_err-runs.field-0.0 Deep c.in_err-runs.was c.from_residual-in_err-runs.ensures.1)
     (given_up c.runs_behind.result c.from_residual-in_err-runs.result c.in_err-runs.field-0.0 Wide c.in_err-runs.was c.from_residual-in_err-runs.ensures.1)
-    (behind_step c.args.self.now c.flat_part.new.self c.args.state.now c.flat_part.new.state (start_of c.args.origin) c.flat_part.new.pairs.items c.deref.result.now c.in_ok-ends.ends c.runs_behind.new.self.opened c.args.modifiers _ _ kept c.flat_part.ensures.given_back c.deref.ensures.value lawful c.requires.inside reached c.if-ends.false counts_first.counted c.runs_behind.ensures.counts)
+    (behind_step c.args.self.now c.flat_part.new.self c.args.state.now c.flat_part.new.state (start_of c.args.origin) c.sort.new.pairs.items c.deref.result.now c.in_ok-ends.ends c.runs_behind.new.self.opened c.args.modifiers _ _ kept c.flat_part.ensures.given_back c.deref.ensures.value lawful c.requires.inside sorted c.if-ends.false counts_first.counted c.runs_behind.ensures.counts)
 
 pub word_runs-returns-clause-counts : goal.word_runs-returns-clause-counts
 word_runs-returns-clause-counts g t c =
@@ -591,9 +600,10 @@ word_runs-returns-clause-counts g t c =
     let kept : c.flat_part.new.self ≡ (record c.args.self.now { opened = c.flat_part.new.self.opened }) = kept_since c.args.self.now c.take_list-pairs.new.self c.flat_part.new.self here c.flat_part.ensures.kept in
     let lawful : IsGame c.args.self.now.game = subst (λ (x : Searching). IsGame x.game) here c.in_ok-ends.ensures.lawful in
     let reached : IsFlatPart c.args.self.now.game c.args.state.now.state (start_of c.args.origin) c.flat_part.new.pairs.items c.in_ok-ends.ends = subst (λ (x : Searching). IsFlatPart x.game c.args.state.now.state (start_of c.args.origin) c.flat_part.new.pairs.items c.in_ok-ends.ends) here c.in_ok-ends.ensures.reached in
+    let sorted = flat_permuted c.args.self.now.game c.args.state.now.state (start_of c.args.origin) c.flat_part.new.pairs.items c.sort.new.pairs.items c.in_ok-ends.ends c.sort.ensures.permutation reached in
     let counts_first : IsCounted c.args.self.now.game reach c.args.state.now.state (start_of c.args.origin) c.args.self.now.opened c.flat_part.new.self.opened c.args.self.now.modifiers c.args.self.now.openings c.args.self.now.modifiers (c.flat_part.result ≡ Err Deep) (c.flat_part.result ≡ Err Wide) =
     subst (λ (x : Searching). IsCounted x.game reach c.args.state.now.state (start_of c.args.origin) x.opened c.flat_part.new.self.opened x.modifiers x.openings x.modifiers (c.flat_part.result ≡ Err Deep) (c.flat_part.result ≡ Err Wide)) here c.flat_part.ensures.counts in
-    let counts = behind_step c.args.self.now c.flat_part.new.self c.args.state.now c.flat_part.new.state (start_of c.args.origin) c.flat_part.new.pairs.items c.deref.result.now c.in_ok-ends.ends c.runs_behind.new.self.opened c.args.modifiers _ _ kept c.flat_part.ensures.given_back c.deref.ensures.value lawful c.requires.inside reached c.if-ends.false counts_first.counted c.runs_behind.ensures.counts in
+    let counts = behind_step c.args.self.now c.flat_part.new.self c.args.state.now c.flat_part.new.state (start_of c.args.origin) c.sort.new.pairs.items c.deref.result.now c.in_ok-ends.ends c.runs_behind.new.self.opened c.args.modifiers _ _ kept c.flat_part.ensures.given_back c.deref.ensures.value lawful c.requires.inside sorted c.if-ends.false counts_first.counted c.runs_behind.ensures.counts in
     counted_only c.args.self.now.game pattern c.args.state.now.state (start_of c.args.origin) c.args.self.now.opened c.keep_list-2.new.self.opened c.args.modifiers c.args.self.now.openings c.args.self.now.modifiers _ _
     (subst (λ (x : ℕ). CountsOpenings c.args.self.now.game pattern c.args.state.now.state (start_of c.args.origin) c.args.self.now.opened x) (sym (ap (λ (x : Searching). x.opened) c.keep_list-2.ensures)) counts.counted)
     (ok_not_err c.in_ok-runs.runs Deep) (ok_not_err c.in_ok-runs.runs Wide)
@@ -645,13 +655,14 @@ word_runs-returns-clause-forced g t c = λ cut.
     let kept : c.flat_part.new.self ≡ (record c.args.self.now { opened = c.flat_part.new.self.opened }) = kept_since c.args.self.now c.take_list-pairs.new.self c.flat_part.new.self here c.flat_part.ensures.kept in
     let lawful : IsGame c.args.self.now.game = subst (λ (x : Searching). IsGame x.game) here c.in_ok-ends.ensures.lawful in
     let reached : IsFlatPart c.args.self.now.game c.args.state.now.state (start_of c.args.origin) c.flat_part.new.pairs.items c.in_ok-ends.ends = subst (λ (x : Searching). IsFlatPart x.game c.args.state.now.state (start_of c.args.origin) c.flat_part.new.pairs.items c.in_ok-ends.ends) here c.in_ok-ends.ensures.reached in
+    let sorted = flat_permuted c.args.self.now.game c.args.state.now.state (start_of c.args.origin) c.flat_part.new.pairs.items c.sort.new.pairs.items c.in_ok-ends.ends c.sort.ensures.permutation reached in
     let counts_forced : CountsForced c.args.self.now.game cut reach c.args.state.now.state (start_of c.args.origin) c.args.self.now.opened c.flat_part.new.self.opened c.args.modifiers c.args.self.now.modifiers =
     subst (λ (x : Searching). CountsForced x.game cut reach c.args.state.now.state (start_of c.args.origin) x.opened c.flat_part.new.self.opened c.args.modifiers x.modifiers) here (c.in_ok-ends.ensures.forced cut c.args.modifiers) in
     let game = c.args.self.now.game in
     let s : AbstractState = c.args.state.now.state in
     let f : Start = start_of c.args.origin in
     let numbered = lawful.numbered in
-    let found : List (ℕ × ℕ) = c.flat_part.new.pairs.items in
+    let found : List (ℕ × ℕ) = c.sort.new.pairs.items in
     let b = c.flat_part.new.self.opened in
     let last = c.runs_behind.new.self.opened in
     let most = c.args.self.now.modifiers in
@@ -659,9 +670,9 @@ word_runs-returns-clause-forced g t c = λ cut.
     let decides : IsTrue c.in_ok-runs.runs ↔ SomeRunsBehind game s found =
     before (λ x u. IsTrue c.in_ok-runs.runs ↔ SomeRunsBehind x u found) c.args.self.now c.flat_part.new.self c.args.state.now c.flat_part.new.state kept c.flat_part.ensures.given_back
     (subst (λ (ps : List (ℕ × ℕ)). IsTrue c.in_ok-runs.runs ↔ SomeRunsBehind c.flat_part.new.self.game c.flat_part.new.state.state ps) c.deref.ensures.value c.in_ok-runs.ensures.answer) in
-    let answer = runs_there game numbered s f found c.in_ok-ends.ends c.in_ok-runs.runs reached c.if-ends.false decides in
+    let answer = runs_there game numbered s f found c.in_ok-ends.ends c.in_ok-runs.runs sorted c.if-ends.false decides in
     let ran : RanBehind game s found c.in_ok-runs.runs b last c.args.modifiers most =
     search_before (λ y w. RanBehind y.game w found c.in_ok-runs.runs b last c.args.modifiers y.modifiers) c.args.self.now c.flat_part.new.self c.args.state.now c.flat_part.new.state kept c.flat_part.ensures.given_back
     (subst (λ (ps : List (ℕ × ℕ)). RanBehind c.flat_part.new.self.game c.flat_part.new.state.state ps c.in_ok-runs.runs b last c.args.modifiers c.flat_part.new.self.modifiers) c.deref.ensures.value c.in_ok-runs.ensures.forced) in
     subst (λ (n : ℕ). CountsForced game cut pattern s f c.args.self.now.opened n c.args.modifiers most) (sym same)
-    (asked_forced game numbered s f found c.in_ok-ends.ends c.in_ok-runs.runs c.args.self.now.opened b last c.args.modifiers most cut answer reached counts_forced ran)
+    (asked_forced game numbered s f found c.in_ok-ends.ends c.in_ok-runs.runs c.args.self.now.opened b last c.args.modifiers most cut answer sorted counts_forced ran)

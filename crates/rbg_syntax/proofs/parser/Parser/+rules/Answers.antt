@@ -1,11 +1,12 @@
 use Rattle.std.proofs.Common.{rules, ◌≡◌, [], ◌∷◌, map, true, false, sym, ◌∙◌}
-use Rattle.rbg_macro.specs.declared.token.Symbol.TheVariants as symbols
-use Rattle.rbg_syntax.specs.internal.Reading.{after_at, is_symbol, next_is}
-use Rattle.rbg_syntax.specs.internal.RuleReading.{atom_at, begins_atom, is_opening, item_at, sequence_at, too_deep_at}
-use Rattle.rbg_syntax.specs.Views.{rule_of}
+use Rattle.rbg_tokens.specs.declared.token.Symbol.TheVariants as symbols
+use Rattle.rbg_grammar.specs.Reading.{after_at, is_symbol, next_is}
+use Rattle.rbg_grammar.specs.RuleReading.{atom_at, begins_atom, is_opening, item_at, sequence_at, too_deep_at}
+use Rattle.rbg_grammar.specs.Views.{rule_of}
 use Rattle.rbg_syntax.proofs.Parts.{atom_inside, atom_open, atom_none, same_deep, rules_fail, rules_alone, rules_more, rules_more_fail, sequence_fail, sequence_alone, sequence_more, sequence_more_fail}
-use Rattle.rbg_syntax.proofs.PhraseLaws.{item_takes_some, sequence_takes_some}
-use Rattle.rbg_syntax.proofs.Turns.{FailsWithin-from, GivesWithin-shallow, GivesWithin-from_err, further_begins, some_turn, some_turn_fails, some_ends, some_smaller, separated_turn, separated_turn_fails, separated_ends, separated_smaller, map-push, taken, left}
+use Rattle.rbg_grammar.proofs.PhraseLaws.{item_takes_some, sequence_takes_some}
+use Rattle.rbg_syntax.proofs.Exits.{FailsWithin-from, GivesWithin-shallow, GivesWithin-from_err}
+use Rattle.rbg_grammar.proofs.Turns.{further_begins, some_turn, some_turn_fails, some_ends, some_smaller, separated_turn, separated_turn_fails, separated_ends, separated_smaller, map-push, taken, left}
 use Rattle.rbg_syntax.proofs.parser.Parser.+rules.Goals as goal
 
 pub further_items-loop-alloc-init : goal.further_items-loop-alloc-init

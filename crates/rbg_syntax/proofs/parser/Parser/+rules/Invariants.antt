@@ -1,10 +1,10 @@
 -- Each atom in brackets has one bracket less to open. What a loop has read stands before what it will read.
 use Rattle.std.proofs.Common.{◌≡◌, ◌+◌, ◌*◌, length, map}
-use Rattle.rbg_macro.specs.declared.token.Symbol.TheVariants as symbols
-use Rattle.rbg_syntax.specs.internal.Reading.{after_at, further_at, is_symbol, repeated_at}
-use Rattle.rbg_syntax.specs.internal.RuleReading.{atom_at, begins_atom, item_at, sequence_at}
-use Rattle.rbg_syntax.specs.Views.{rule_of}
-use Rattle.rbg_syntax.proofs.Turns.{prepend}
+use Rattle.rbg_tokens.specs.declared.token.Symbol.TheVariants as symbols
+use Rattle.rbg_grammar.specs.Reading.{after_at, further_at, is_symbol, repeated_at}
+use Rattle.rbg_grammar.specs.RuleReading.{atom_at, begins_atom, item_at, sequence_at}
+use Rattle.rbg_grammar.specs.Views.{rule_of}
+use Rattle.rbg_grammar.proofs.Turns.{prepend}
 use Rattle.rbg_syntax.proofs.parser.Parser.+rules.Given as goal
 
 abbrev pub decreases-atom : goal.decreases-atom

@@ -1,13 +1,14 @@
 use Rattle.std.proofs.Common.{rules, ◌≡◌, [], ◌∷◌, map, true, false, sym, ◌∙◌, ◌-◌}
-use Rattle.rbg_syntax.specs.declared.expression.Additive.TheVariants as additive
-use Rattle.rbg_syntax.specs.declared.expression.Multiplicative.TheVariants as multiplicative
-use Rattle.rbg_macro.specs.declared.token.Symbol.TheVariants.{OpenParenthesis, CloseParenthesis}
-use Rattle.rbg_syntax.specs.internal.Reading.{is_symbol, next_is}
-use Rattle.rbg_syntax.specs.internal.RuleReading.{further_factor_at, further_term_at, is_product_sign, is_sum_sign, primary_at, sum_at, too_deep_at}
-use Rattle.rbg_syntax.specs.Views.{expression_of, factor_of, term_of}
+use Rattle.rbg_grammar.specs.declared.expression.Additive.TheVariants as additive
+use Rattle.rbg_grammar.specs.declared.expression.Multiplicative.TheVariants as multiplicative
+use Rattle.rbg_tokens.specs.declared.token.Symbol.TheVariants.{OpenParenthesis, CloseParenthesis}
+use Rattle.rbg_grammar.specs.Reading.{is_symbol, next_is}
+use Rattle.rbg_grammar.specs.RuleReading.{further_factor_at, further_term_at, is_product_sign, is_sum_sign, primary_at, sum_at, too_deep_at}
+use Rattle.rbg_grammar.specs.Views.{expression_of, factor_of, term_of}
 use Rattle.rbg_syntax.proofs.Parts.{primary_inside, primary_open, primary_none, same_deep, within_no_opening, within_no_inside, within_no_closing, within_whole, sum_fail, sum_alone, sum_more, sum_more_fail, term_fail, term_alone, term_more, term_more_fail}
-use Rattle.rbg_syntax.proofs.PhraseLaws.{further_factor_takes_some, further_term_takes_some}
-use Rattle.rbg_syntax.proofs.Turns.{FailsWithin-from, FailsWithin-shallow, GivesWithin-from_err, further_begins, some_turn, some_turn_fails, some_ends, some_smaller, map-push}
+use Rattle.rbg_grammar.proofs.PhraseLaws.{further_factor_takes_some, further_term_takes_some}
+use Rattle.rbg_syntax.proofs.Exits.{FailsWithin-from, FailsWithin-shallow, GivesWithin-from_err}
+use Rattle.rbg_grammar.proofs.Turns.{further_begins, some_turn, some_turn_fails, some_ends, some_smaller, map-push}
 use Rattle.rbg_syntax.proofs.parser.Parser.+sum.Goals as goal
 
 pub further_terms-loop-alloc-init : goal.further_terms-loop-alloc-init

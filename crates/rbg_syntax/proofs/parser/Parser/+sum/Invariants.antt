@@ -1,11 +1,11 @@
 -- Each sum in parentheses has one bracket less to open. What a loop has read stands before what it will read.
 use Rattle.std.proofs.Common.{◌≡◌, ◌+◌, ◌*◌, length, map}
-use Rattle.rbg_syntax.specs.declared.expression.Additive.TheVariants as additive
-use Rattle.rbg_syntax.specs.declared.expression.Multiplicative.TheVariants as multiplicative
-use Rattle.rbg_syntax.specs.internal.Reading.{further_at, repeated_at}
-use Rattle.rbg_syntax.specs.internal.RuleReading.{further_factor_at, further_term_at, is_product_sign, is_sum_sign, primary_at}
-use Rattle.rbg_syntax.specs.Views.{expression_of, factor_of, term_of}
-use Rattle.rbg_syntax.proofs.Turns.{prepend}
+use Rattle.rbg_grammar.specs.declared.expression.Additive.TheVariants as additive
+use Rattle.rbg_grammar.specs.declared.expression.Multiplicative.TheVariants as multiplicative
+use Rattle.rbg_grammar.specs.Reading.{further_at, repeated_at}
+use Rattle.rbg_grammar.specs.RuleReading.{further_factor_at, further_term_at, is_product_sign, is_sum_sign, primary_at}
+use Rattle.rbg_grammar.specs.Views.{expression_of, factor_of, term_of}
+use Rattle.rbg_grammar.proofs.Turns.{prepend}
 use Rattle.rbg_syntax.proofs.parser.Parser.+sum.Given as goal
 
 abbrev pub decreases-primary : goal.decreases-primary

@@ -1,9 +1,10 @@
 use Rattle.std.proofs.Common.{rules, ◌≡◌, [], ◌∷◌, map}
-use Rattle.rbg_macro.specs.declared.token.Symbol.TheVariants as symbols
-use Rattle.rbg_syntax.specs.internal.RuleReading.{assignment_at, sum_at}
-use Rattle.rbg_syntax.specs.Views.{rule_of}
-use Rattle.rbg_syntax.proofs.PhraseLaws.{assignment_takes_some}
-use Rattle.rbg_syntax.proofs.Turns.{GivesWithin-from_err, separated_begins, separated_begin_fails, separated_turn, separated_turn_fails, separated_ends, separated_smaller, map-push, taken, left}
+use Rattle.rbg_tokens.specs.declared.token.Symbol.TheVariants as symbols
+use Rattle.rbg_grammar.specs.RuleReading.{assignment_at, sum_at}
+use Rattle.rbg_grammar.specs.Views.{rule_of}
+use Rattle.rbg_grammar.proofs.PhraseLaws.{assignment_takes_some}
+use Rattle.rbg_syntax.proofs.Exits.{GivesWithin-from_err}
+use Rattle.rbg_grammar.proofs.Turns.{separated_begins, separated_begin_fails, separated_turn, separated_turn_fails, separated_ends, separated_smaller, map-push, taken, left}
 use Rattle.rbg_syntax.proofs.parser.Parser.assignments.Goals as goal
 
 pub returns-in_err-assignment : goal.returns-in_err-assignment

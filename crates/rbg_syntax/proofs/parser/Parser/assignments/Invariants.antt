@@ -1,9 +1,9 @@
 use Rattle.std.proofs.Common.{◌≡◌, length, map}
-use Rattle.rbg_macro.specs.declared.token.Symbol.TheVariants as symbols
-use Rattle.rbg_syntax.specs.internal.Reading.{after_at, is_symbol, repeated_at, separated_at}
-use Rattle.rbg_syntax.specs.internal.RuleReading.{assignment_at, sum_at}
-use Rattle.rbg_syntax.specs.Views.{rule_of}
-use Rattle.rbg_syntax.proofs.Turns.{prepend}
+use Rattle.rbg_tokens.specs.declared.token.Symbol.TheVariants as symbols
+use Rattle.rbg_grammar.specs.Reading.{after_at, is_symbol, repeated_at, separated_at}
+use Rattle.rbg_grammar.specs.RuleReading.{assignment_at, sum_at}
+use Rattle.rbg_grammar.specs.Views.{rule_of}
+use Rattle.rbg_grammar.proofs.Turns.{prepend}
 use Rattle.rbg_syntax.proofs.parser.Parser.assignments.Given as goal
 
 abbrev pub invariant-loop-alloc : goal.invariant-loop-alloc

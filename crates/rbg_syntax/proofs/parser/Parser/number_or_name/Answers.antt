@@ -1,6 +1,6 @@
 use Rattle.std.proofs.Common.{sym, ◌∙◌}
-use Rattle.rbg_syntax.proofs.SumReaders.{no_number_or_name}
-use Rattle.rbg_syntax.proofs.Turns.{FailsWithin-misfit}
+use Rattle.rbg_grammar.proofs.SumReaders.{no_number_or_name}
+use Rattle.rbg_syntax.proofs.Exits.{FailsWithin-misfit}
 use Rattle.rbg_syntax.proofs.parser.Parser.number_or_name.Goals as goal
 
 pub returns-then-not-next_is_name : goal.returns-then-not-next_is_name

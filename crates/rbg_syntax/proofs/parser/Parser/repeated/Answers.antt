@@ -1,6 +1,7 @@
 use Rattle.std.proofs.Common.{◌≡◌, map, true, false, sym, ◌∙◌}
-use Rattle.rbg_syntax.specs.internal.Reading.{next_is, repeated_at}
-use Rattle.rbg_syntax.proofs.Turns.{prepend-nil, Gives-from_err, some_turn, some_turn_fails, some_ends, some_smaller, map-push}
+use Rattle.rbg_grammar.specs.Reading.{next_is, repeated_at}
+use Rattle.rbg_grammar.proofs.Turns.{prepend-nil, some_turn, some_turn_fails, some_ends, some_smaller, map-push}
+use Rattle.rbg_syntax.proofs.Exits.{Gives-from_err}
 use Rattle.rbg_syntax.proofs.parser.Parser.repeated.Goals as goal
 
 pub loop-alloc-init : goal.loop-alloc-init

@@ -1,5 +1,6 @@
 use Rattle.std.proofs.Common.{rules, ◌≡◌, [], ◌∷◌, map}
-use Rattle.rbg_syntax.proofs.Turns.{Gives-from_err, separated_begins, separated_begin_fails, separated_turn, separated_turn_fails, separated_ends, separated_smaller, map-push, taken, left}
+use Rattle.rbg_syntax.proofs.Exits.{Gives-from_err}
+use Rattle.rbg_grammar.proofs.Turns.{separated_begins, separated_begin_fails, separated_turn, separated_turn_fails, separated_ends, separated_smaller, map-push, taken, left}
 use Rattle.rbg_syntax.proofs.parser.Parser.separated.Goals as goal
 
 pub returns-in_err-read_from : goal.returns-in_err-read_from

@@ -1,6 +1,6 @@
 use Rattle.std.proofs.Common.{◌≡◌, length, map}
-use Rattle.rbg_syntax.specs.internal.Reading.{after_at, is_symbol, repeated_at, separated_at}
-use Rattle.rbg_syntax.proofs.Turns.{prepend}
+use Rattle.rbg_grammar.specs.Reading.{after_at, is_symbol, repeated_at, separated_at}
+use Rattle.rbg_grammar.proofs.Turns.{prepend}
 use Rattle.rbg_syntax.proofs.parser.Parser.separated.Given as goal
 
 abbrev pub invariant-loop-alloc : goal.invariant-loop-alloc

@@ -1,0 +1,25 @@
+-- Lemmas about the grammar, about what is read of tokens, and about the trees of the code.
+pub mod AtomReaders
+pub mod Combinators
+pub mod Depths
+pub mod ExampleReadings
+pub mod FormedTrees
+pub mod MisfitCombinators
+pub mod Misfits
+pub mod Nesting
+pub mod OneDescription
+pub mod OnePlace
+pub mod PhraseLaws
+pub mod Pieces
+pub mod Readers
+pub mod RuleMisfits
+pub mod RuleOutcomes
+pub mod RuleReaders
+pub mod SectionMisfits
+pub mod SectionReaders
+pub mod SharedOutcomes
+pub mod SumOutcomes
+pub mod SumReaders
+pub mod Trees
+pub mod Turns
+pub mod Whole

@@ -1,0 +1,154 @@
+-- When a function reads a phrase: what it gives is such a phrase, and each such phrase is given.
+use Rattle.std.proofs.Common.{◌≡◌, ◌≤◌, ◌+◌, ℕ, List, [], ◌∷◌, length, Bool, true, false, cond, Some, Result, Ok, Err, refl, sym, ap, subst, arith}
+use denote.Enum.Bare.{same_true, true_same}
+use Rattle.std.specs.Str.{bytes_eq}
+use Rattle.std.proofs.lemmas.Slice.Eq.{bytes_eq-Decides}
+use Rattle.rbg_base.specs.Decimals.{number_of_digits}
+use Rattle.rbg_tokens.specs.Token.{Lexeme}
+use Rattle.rbg_tokens.specs.contracts.token.Symbol.{the_type}
+use Rattle.rbg_tokens.specs.declared.token.Symbol.{Symbol}
+use Rattle.rbg_tokens.specs.declared.token.TokenKind.{TokenKind}
+use Rattle.rbg_tokens.specs.declared.token.TokenKind.TheVariants as kinds
+use Rattle.rbg_grammar.specs.Tree.{SpeltName, SpeltNumber}
+use Rattle.rbg_grammar.specs.Phrase.{IsSymbol, symbol, IsName, name, IsNumber, number, IsWord, word}
+use Rattle.rbg_grammar.specs.Reading.{Fault, misfit, Reading, ◌>>=◌, next_is, is_name, is_number, is_symbol, token_at, symbol_at, name_at, number_at, word_at}
+
+pub bind_ok : {A B : Type 0} (r : Result A Fault) (f : A → Result B Fault) (y : B) → (r >>= f) ≡ Ok y → (x : A) × (r ≡ Ok x) × (f x ≡ Ok y)
+bind_ok (Ok x) f y e = (x, refl, e)
+bind_ok (Err d) f y e = cc
+
+-- Each phrase has at least so many tokens, and is read where what follows may follow.
+pub record IsReadBy {A : Type 0} (least : ℕ) (P : List Lexeme → A → List Lexeme → Type 0) (Follow : List Lexeme → Type 0) (read : List Lexeme → Reading A) : Type 0 where
+  pub sound : (ts : List Lexeme) (x : A) (rest : List Lexeme) → read ts ≡ Ok (x, rest) → P ts x rest
+  pub complete : (ts : List Lexeme) (x : A) (rest : List Lexeme) → P ts x rest → Follow rest → read ts ≡ Ok (x, rest)
+  pub shorter : (ts : List Lexeme) (x : A) (rest : List Lexeme) → P ts x rest → least + length rest ≤ length ts
+
+abbrev pub Always : List Lexeme → Type 0
+Always ts = Unit {0}
+
+pub chosen_ok : {A : Type 0} (b : Bool) (x y : A) (f : Fault) → cond {A = Result A Fault} b (Ok x) (Err f) ≡ Ok y → (b ≡ true) × (x ≡ y)
+chosen_ok true x y f e = (refl, cc)
+chosen_ok false x y f e = cc
+
+-- the front token of what token_at gives
+token_at_ok : (test : TokenKind → Bool) (ts : List Lexeme) (t : Lexeme) (rest : List Lexeme) → token_at test ts ≡ Ok (t, rest) → (ts ≡ t ∷ rest) × (test t.kind ≡ true)
+token_at_ok test [] t rest e = cc
+token_at_ok test (u ∷ us) t rest e =
+    let p = chosen_ok {A = Lexeme × List Lexeme} (test u.kind) (u, us) (t, rest) (misfit (Some u.at)) e in
+    (ap (λ (q : Lexeme × List Lexeme). q.0 ∷ q.1) p.1, subst (λ (q : Lexeme × List Lexeme). test q.0.kind ≡ true) p.1 p.0)
+
+pub kind_of-is_name : (k : TokenKind) → is_name k ≡ true → k ≡ kinds.Name
+kind_of-is_name kinds.Name e = refl
+kind_of-is_name kinds.Number e = cc
+kind_of-is_name (kinds.Symbol s) e = cc
+
+pub kind_of-is_number : (k : TokenKind) → is_number k ≡ true → k ≡ kinds.Number
+kind_of-is_number kinds.Name e = cc
+kind_of-is_number kinds.Number e = refl
+kind_of-is_number (kinds.Symbol s) e = cc
+
+pub kind_of-is_symbol : (s : Symbol) (k : TokenKind) → is_symbol s k ≡ true → k ≡ kinds.Symbol s
+kind_of-is_symbol s kinds.Name e = cc
+kind_of-is_symbol s kinds.Number e = cc
+kind_of-is_symbol s (kinds.Symbol x) e = ap kinds.Symbol (same_true the_type tt x s e)
+
+pub ok_one : {A : Type 0} (x y : A) → ◌≡◌ {A = Result A Fault} (Ok x) (Ok y) → x ≡ y
+ok_one x y e = cc
+
+symbol_sound : (s : Symbol) (ts : List Lexeme) (at : ℕ) (rest : List Lexeme) → symbol_at s ts ≡ Ok (at, rest) → IsSymbol s ts at rest
+unfolding symbol_at
+symbol_sound s ts at rest e =
+    let (t, taken, given) = bind_ok (token_at (is_symbol s) ts) (λ (t : Lexeme × List Lexeme). Ok (t.0.at, t.1)) (at, rest) e in
+    let (here, is) = token_at_ok (is_symbol s) ts t.0 t.1 taken in
+    let k : IsSymbol s (t.0 ∷ t.1) t.0.at t.1 = symbol (kind_of-is_symbol s t.0.kind is) in
+    subst (λ (q : ℕ × List Lexeme). IsSymbol s ts q.0 q.1) (ok_one (t.0.at, t.1) (at, rest) given) (subst (λ us. IsSymbol s us t.0.at t.1) (sym here) k)
+
+pub symbol_complete : {s : Symbol} {ts rest : List Lexeme} {at : ℕ} → IsSymbol s ts at rest → symbol_at s ts ≡ Ok (at, rest)
+unfolding symbol_at
+symbol_complete {s} (symbol k) = rw (k, true_same the_type s s refl)
+
+symbol_shorter : {s : Symbol} {ts rest : List Lexeme} {at : ℕ} → IsSymbol s ts at rest → 1 + length rest ≤ length ts
+symbol_shorter (symbol k) = omega arith
+
+pub symbol_read : (s : Symbol) → IsReadBy 1 (IsSymbol s) Always (symbol_at s)
+symbol_read s = record {
+  sound = symbol_sound s;
+  complete = λ ts x rest d f. symbol_complete d;
+  shorter = λ ts x rest d. symbol_shorter d;
+}
+
+name_sound : (ts : List Lexeme) (n : SpeltName) (rest : List Lexeme) → name_at ts ≡ Ok (n, rest) → IsName ts n rest
+unfolding name_at
+name_sound ts n rest e =
+    let (t, taken, given) = bind_ok (token_at is_name ts) (λ (t : Lexeme × List Lexeme). Ok (record { text = t.0.text; at = t.0.at }, t.1)) (n, rest) e in
+    let (here, is) = token_at_ok is_name ts t.0 t.1 taken in
+    let k : IsName (t.0 ∷ t.1) (record { text = t.0.text; at = t.0.at }) t.1 = name (kind_of-is_name t.0.kind is) in
+    subst (λ (q : SpeltName × List Lexeme). IsName ts q.0 q.1) (ok_one _ (n, rest) given) (subst (λ us. IsName us (record { text = t.0.text; at = t.0.at }) t.1) (sym here) k)
+
+pub name_complete : {ts rest : List Lexeme} {n : SpeltName} → IsName ts n rest → name_at ts ≡ Ok (n, rest)
+unfolding name_at
+name_complete (name k) = rw k
+
+name_shorter : {ts rest : List Lexeme} {n : SpeltName} → IsName ts n rest → 1 + length rest ≤ length ts
+name_shorter (name k) = omega arith
+
+pub name_read : IsReadBy 1 IsName Always name_at
+name_read = record { sound = name_sound; complete = λ ts x rest d f. name_complete d; shorter = λ ts x rest d. name_shorter d }
+
+number_sound : (ts : List Lexeme) (n : SpeltNumber) (rest : List Lexeme) → number_at ts ≡ Ok (n, rest) → IsNumber ts n rest
+unfolding number_at
+number_sound ts n rest e =
+    let (t, taken, given) = bind_ok (token_at is_number ts) (λ (t : Lexeme × List Lexeme). Ok (record { value = number_of_digits t.0.text; at = t.0.at }, t.1)) (n, rest) e in
+    let (here, is) = token_at_ok is_number ts t.0 t.1 taken in
+    let k : IsNumber (t.0 ∷ t.1) (record { value = number_of_digits t.0.text; at = t.0.at }) t.1 = number (kind_of-is_number t.0.kind is) in
+    subst (λ (q : SpeltNumber × List Lexeme). IsNumber ts q.0 q.1) (ok_one _ (n, rest) given) (subst (λ us. IsNumber us (record { value = number_of_digits t.0.text; at = t.0.at }) t.1) (sym here) k)
+
+pub number_complete : {ts rest : List Lexeme} {n : SpeltNumber} → IsNumber ts n rest → number_at ts ≡ Ok (n, rest)
+unfolding number_at
+number_complete (number k) = rw k
+
+number_shorter : {ts rest : List Lexeme} {n : SpeltNumber} → IsNumber ts n rest → 1 + length rest ≤ length ts
+number_shorter (number k) = omega arith
+
+pub number_read : IsReadBy 1 IsNumber Always number_at
+number_read = record { sound = number_sound; complete = λ ts x rest d f. number_complete d; shorter = λ ts x rest d. number_shorter d }
+
+word_sound : (text : List ℕ) (ts : List Lexeme) (at : ℕ) (rest : List Lexeme) → word_at text ts ≡ Ok (at, rest) → IsWord text ts at rest
+unfolding word_at
+word_sound text ts at rest e =
+    let (t, taken, given) = bind_ok (token_at is_name ts) (λ (t : Lexeme × List Lexeme). cond {A = Reading ℕ} (bytes_eq t.0.text text) (Ok (t.0.at, t.1)) (Err (misfit (Some t.0.at)))) (at, rest) e in
+    let (here, is) = token_at_ok is_name ts t.0 t.1 taken in
+    let (same, given) = chosen_ok {A = ℕ × List Lexeme} (bytes_eq t.0.text text) (t.0.at, t.1) (at, rest) (misfit (Some t.0.at)) given in
+    let k : IsWord text (t.0 ∷ t.1) t.0.at t.1 = word (kind_of-is_name t.0.kind is) ((bytes_eq-Decides t.0.text text).0 same) in
+    subst (λ (q : ℕ × List Lexeme). IsWord text ts q.0 q.1) given (subst (λ us. IsWord text us t.0.at t.1) (sym here) k)
+
+pub word_complete : {text : List ℕ} {ts rest : List Lexeme} {at : ℕ} → IsWord text ts at rest → word_at text ts ≡ Ok (at, rest)
+unfolding word_at
+word_complete {text} (word k same) = rw (k, same, (bytes_eq-Decides text text).1 refl)
+
+word_shorter : {text : List ℕ} {ts rest : List Lexeme} {at : ℕ} → IsWord text ts at rest → 1 + length rest ≤ length ts
+word_shorter (word k same) = omega arith
+
+pub word_read : (text : List ℕ) → IsReadBy 1 (IsWord text) Always (word_at text)
+word_read text = record { sound = word_sound text; complete = λ ts x rest d f. word_complete d; shorter = λ ts x rest d. word_shorter d }
+
+symbol_next_at : {s : Symbol} {ts rest : List Lexeme} {at : ℕ} → IsSymbol s ts at rest → next_is (is_symbol s) ts ≡ true
+symbol_next_at {s} (symbol k) = rw (k, true_same the_type s s refl)
+
+pub symbol_next : (s : Symbol) (ts : List Lexeme) (at : ℕ) (rest : List Lexeme) → IsSymbol s ts at rest → next_is (is_symbol s) ts ≡ true
+symbol_next s ts at rest d = symbol_next_at d
+
+name_next_at : {ts rest : List Lexeme} {n : SpeltName} → IsName ts n rest → next_is is_name ts ≡ true
+name_next_at (name k) = rw k
+
+pub name_next : (ts : List Lexeme) (n : SpeltName) (rest : List Lexeme) → IsName ts n rest → next_is is_name ts ≡ true
+name_next ts n rest d = name_next_at d
+
+-- what any test says where the next token is a symbol, or a name
+pub next_test-symbol : (s : Symbol) (test : TokenKind → Bool) (ts : List Lexeme) → next_is (is_symbol s) ts ≡ true → next_is test ts ≡ test (kinds.Symbol s)
+next_test-symbol s test [] e = cc
+next_test-symbol s test (t ∷ ts) e = ap test (kind_of-is_symbol s t.kind e)
+
+pub next_test-name : (test : TokenKind → Bool) (ts : List Lexeme) → next_is is_name ts ≡ true → next_is test ts ≡ test kinds.Name
+next_test-name test [] e = cc
+next_test-name test (t ∷ ts) e = ap test (kind_of-is_name t.kind e)

@@ -1,0 +1,140 @@
+-- What the trees of the code stand for, level by level.
+use Rattle.std.proofs.Common.{◌≡◌, ◌∙◌, ℕ, List, [], ◌∷◌, Option, length, map, option_map, rules, refl, arith, Vec, vec_len}
+use Rattle.std.proofs.lemmas.List.{length-map}
+use Rattle.rbg_grammar.specs.Reading.{in_sequence}
+use Rattle.rbg_grammar.specs.RuleReading.{in_choice, in_product, in_sum}
+use Rattle.std.specs.declared.alloc.Global.{Global}
+use Rattle.std.specs.declared.boxed.Box.{Box}
+use Rattle.rbg_grammar.specs.Tree.{SpeltExpression, SpeltRule, SpeltAction, no_rules, no_terms, no_factors, rules_after, terms_after, factors_after}
+use Rattle.rbg_grammar.specs.Views.{SpeltFactor, SpeltTerm, name_of, number_of, expression_of, term_of, factor_of, action_of, rule_of}
+use Rattle.rbg_grammar.specs.declared.names.Name.{Name}
+use Rattle.rbg_grammar.specs.declared.names.Number.{Number}
+use Rattle.rbg_grammar.specs.declared.expression.Expression.{Expression}
+use Rattle.rbg_grammar.specs.declared.expression.Expression as expressions
+use Rattle.rbg_grammar.specs.declared.expression.Term.{Term}
+use Rattle.rbg_grammar.specs.declared.expression.Factor.{Factor}
+use Rattle.rbg_base.specs.declared.relation.Relation.{Relation}
+use Rattle.rbg_grammar.specs.declared.rule.Rule.{Rule}
+use Rattle.rbg_grammar.specs.declared.rule.Rule as rules'
+use Rattle.rbg_grammar.specs.declared.rule.Action.{Action}
+use Rattle.rbg_grammar.specs.declared.rule.Action as actions
+
+pub rule_of-Act : (a : Action) → rule_of (rules'.Act a) ≡ SpeltRule.act (action_of a)
+unfolding rule_of action_of
+rule_of-Act a = search (rules, rules'.the_lemmas)
+
+pub rule_of-Then : (v : Vec Rule Global) → rule_of (rules'.Then v) ≡ SpeltRule.sequence (rules_after no_rules (map rule_of v.items))
+unfolding rule_of
+rule_of-Then v = search (rules, rules'.the_lemmas)
+
+pub rule_of-Or : (v : Vec Rule Global) → rule_of (rules'.Or v) ≡ SpeltRule.choice (rules_after no_rules (map rule_of v.items))
+unfolding rule_of
+rule_of-Or v = search (rules, rules'.the_lemmas)
+
+pub rule_of-Star : (b : Box Rule Global) → rule_of (rules'.Star b) ≡ SpeltRule.star (rule_of b.value)
+unfolding rule_of
+rule_of-Star b = search (rules, rules'.the_lemmas)
+
+pub action_of-Shift : (n : Name) → action_of (actions.Shift n) ≡ SpeltAction.shift (name_of n)
+unfolding action_of
+action_of-Shift n = search (rules, actions.the_lemmas)
+
+pub action_of-On : (v : Vec Name Global) → action_of (actions.On v) ≡ SpeltAction.on (map name_of v.items)
+unfolding action_of
+action_of-On v = search (rules, actions.the_lemmas)
+
+pub action_of-Off : (n : Name) → action_of (actions.Off n) ≡ SpeltAction.off (name_of n)
+unfolding action_of
+action_of-Off n = search (rules, actions.the_lemmas)
+
+pub action_of-Assign : (n : Name) (e : Expression) → action_of (actions.Assign n e) ≡ SpeltAction.assign (name_of n) (expression_of e)
+unfolding action_of
+action_of-Assign n e = search (rules, actions.the_lemmas)
+
+pub action_of-Compare : (e : Expression) (r : Relation) (f : Expression) → action_of (actions.Compare e r f) ≡ SpeltAction.compare (expression_of e) r (expression_of f)
+unfolding action_of
+action_of-Compare e r f = search (rules, actions.the_lemmas)
+
+pub action_of-Switch : (at : ℕ) (o : Option Name) → action_of (actions.Switch at o) ≡ SpeltAction.switch at (option_map name_of o)
+unfolding action_of
+action_of-Switch at o = search (rules, actions.the_lemmas)
+
+pub action_of-PositivePattern : (at : ℕ) (b : Box Rule Global) → action_of (actions.PositivePattern at b) ≡ SpeltAction.positive at (rule_of b.value)
+unfolding action_of rule_of
+action_of-PositivePattern at b = search (rules, actions.the_lemmas)
+
+pub action_of-NegativePattern : (at : ℕ) (b : Box Rule Global) → action_of (actions.NegativePattern at b) ≡ SpeltAction.negative at (rule_of b.value)
+unfolding action_of rule_of
+action_of-NegativePattern at b = search (rules, actions.the_lemmas)
+
+pub expression_of-Number : (n : Number) → expression_of (expressions.Number n) ≡ SpeltExpression.number (number_of n)
+unfolding expression_of
+expression_of-Number n = search (rules, expressions.the_lemmas)
+
+pub expression_of-Name : (n : Name) → expression_of (expressions.Name n) ≡ SpeltExpression.name (name_of n)
+unfolding expression_of
+expression_of-Name n = search (rules, expressions.the_lemmas)
+
+pub expression_of-Negated : (b : Box Expression Global) → expression_of (expressions.Negated b) ≡ SpeltExpression.negated (expression_of b.value)
+unfolding expression_of
+expression_of-Negated b = search (rules, expressions.the_lemmas)
+
+pub expression_of-Sum : (v : Vec Term Global) → expression_of (expressions.Sum v) ≡ SpeltExpression.sum (terms_after no_terms (map term_of v.items))
+unfolding expression_of
+expression_of-Sum v = search (rules, expressions.the_lemmas)
+
+pub expression_of-Product : (v : Vec Factor Global) → expression_of (expressions.Product v) ≡ SpeltExpression.product (factors_after no_factors (map factor_of v.items))
+unfolding expression_of
+expression_of-Product v = search (rules, expressions.the_lemmas)
+
+-- rules that are one action
+pub ruleset atoms = (rule_of-Act, action_of-Shift, action_of-On, action_of-Off, action_of-Switch)
+
+-- rules that are one action with arithmetic or a pattern
+pub ruleset inner_atoms = (rule_of-Act, action_of-Assign, action_of-Compare, action_of-PositivePattern, action_of-NegativePattern)
+
+-- the star of a rule
+pub ruleset stars = (rule_of-Star)
+
+-- expressions without parts that are lists
+pub ruleset leaves = (expression_of-Number, expression_of-Name, expression_of-Negated)
+
+many_in_sequence : (rs : List SpeltRule) → (length rs ≡ 1 → ⊥) → SpeltRule.sequence (rules_after no_rules rs) ≡ in_sequence rs
+many_in_sequence [] several = refl
+many_in_sequence (r ∷ []) several = absurd (several refl)
+many_in_sequence (r ∷ s ∷ rs) several = refl
+
+pub rule_of-in_sequence : (v : Vec Rule Global) → (vec_len v ≡ 1 → ⊥) → rule_of (rules'.Then v) ≡ in_sequence (map rule_of v.items)
+rule_of-in_sequence v several = rule_of-Then v ∙ many_in_sequence (map rule_of v.items) (λ e. several (omega (arith, e, length-map v.items rule_of, v.ok.0)))
+
+pub ruleset sequences = (rule_of-in_sequence)
+
+many_in_sum : (ts : List SpeltTerm) → (length ts ≡ 1 → ⊥) → SpeltExpression.sum (terms_after no_terms ts) ≡ in_sum ts
+many_in_sum [] several = refl
+many_in_sum (t ∷ []) several = absurd (several refl)
+many_in_sum (t ∷ u ∷ ts) several = refl
+
+pub expression_of-in_sum : (v : Vec Term Global) → (vec_len v ≡ 1 → ⊥) → expression_of (expressions.Sum v) ≡ in_sum (map term_of v.items)
+expression_of-in_sum v several = expression_of-Sum v ∙ many_in_sum (map term_of v.items) (λ e. several (omega (arith, e, length-map v.items term_of, v.ok.0)))
+
+pub ruleset sums = (expression_of-in_sum)
+
+many_in_product : (fs : List SpeltFactor) → (length fs ≡ 1 → ⊥) → SpeltExpression.product (factors_after no_factors fs) ≡ in_product fs
+many_in_product [] several = refl
+many_in_product (f ∷ []) several = absurd (several refl)
+many_in_product (f ∷ g ∷ fs) several = refl
+
+pub expression_of-in_product : (v : Vec Factor Global) → (vec_len v ≡ 1 → ⊥) → expression_of (expressions.Product v) ≡ in_product (map factor_of v.items)
+expression_of-in_product v several = expression_of-Product v ∙ many_in_product (map factor_of v.items) (λ e. several (omega (arith, e, length-map v.items factor_of, v.ok.0)))
+
+pub ruleset products = (expression_of-in_product)
+
+many_in_choice : (rs : List SpeltRule) → (length rs ≡ 1 → ⊥) → SpeltRule.choice (rules_after no_rules rs) ≡ in_choice rs
+many_in_choice [] several = refl
+many_in_choice (r ∷ []) several = absurd (several refl)
+many_in_choice (r ∷ s ∷ rs) several = refl
+
+pub rule_of-in_choice : (v : Vec Rule Global) → (vec_len v ≡ 1 → ⊥) → rule_of (rules'.Or v) ≡ in_choice (map rule_of v.items)
+rule_of-in_choice v several = rule_of-Or v ∙ many_in_choice (map rule_of v.items) (λ e. several (omega (arith, e, length-map v.items rule_of, v.ok.0)))
+
+pub ruleset choices = (rule_of-in_choice)

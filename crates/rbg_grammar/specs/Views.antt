@@ -1,0 +1,112 @@
+-- The spelt tree that a tree of the code stands for.
+use Rattle.std.specs.Prelude.{List, map, option_map}
+use Rattle.std.specs.declared.alloc.Global.{Global}
+use Rattle.std.specs.declared.vec.Vec.{Vec}
+use Rattle.rbg_grammar.specs.Tree.{SpeltName, SpeltNumber, SpeltBounded, SpeltEdge, SpeltVertex, SpeltBoard, SpeltDescription, SpeltExpression, no_terms, no_factors, SpeltRule, no_rules, SpeltAction, terms_after, factors_after, rules_after}
+use Rattle.rbg_grammar.specs.declared.names.Name.{Name}
+use Rattle.rbg_grammar.specs.declared.names.Number.{Number}
+use Rattle.rbg_grammar.specs.declared.description.Bounded.{Bounded}
+use Rattle.rbg_grammar.specs.declared.description.Edge.{Edge}
+use Rattle.rbg_grammar.specs.declared.description.Vertex.{Vertex}
+use Rattle.rbg_grammar.specs.declared.description.Board.{Board}
+use Rattle.rbg_grammar.specs.declared.description.Board.TheVariants.{Rectangle, Hexagon, Graph}
+use Rattle.rbg_grammar.specs.declared.expression.Additive.{Additive}
+use Rattle.rbg_grammar.specs.declared.expression.Multiplicative.{Multiplicative}
+use Rattle.rbg_grammar.specs.declared.expression.Expression.{Expression, fold-Expression}
+use Rattle.rbg_grammar.specs.declared.expression.Factor.{Factor}
+use Rattle.rbg_grammar.specs.declared.expression.Term.{Term}
+use Rattle.rbg_grammar.specs.declared.expression.Expression.TheOpen.{Expression-F, Term-F, Factor-F}
+use Rattle.rbg_grammar.specs.declared.rule.Rule.{Rule, fold-Rule}
+use Rattle.rbg_grammar.specs.declared.rule.Action.{Action, fold-Action}
+use Rattle.rbg_grammar.specs.declared.rule.Action.TheOpen.{Action-F, Rule-F}
+
+abbrev pub name_of : Name → SpeltName
+name_of n = record { text = n.text.now; at = n.at }
+
+abbrev pub number_of : Number → SpeltNumber
+number_of n = record { value = n.value; at = n.at }
+
+abbrev pub bounded_of : Bounded → SpeltBounded
+bounded_of b = record { name = name_of b.name; bound = number_of b.bound }
+
+abbrev pub names_of : Vec Name Global → List SpeltName
+names_of v = map name_of v.items
+
+abbrev pub bounded_list_of : Vec Bounded Global → List SpeltBounded
+bounded_list_of v = map bounded_of v.items
+
+abbrev pub edge_of : Edge → SpeltEdge
+edge_of e = record { direction = name_of e.direction; target = name_of e.target }
+
+abbrev pub vertex_of : Vertex → SpeltVertex
+vertex_of v = record { name = name_of v.name; piece = name_of v.piece; edges = map edge_of v.edges.items }
+
+abbrev pub board_of : Board → SpeltBoard
+board_of (Rectangle directions rows) = SpeltBoard.rectangle (map name_of directions.names) (map names_of rows.items)
+board_of (Hexagon directions rows) = SpeltBoard.hexagon (map name_of directions.names) (map names_of rows.items)
+board_of (Graph vertices) = SpeltBoard.graph (map vertex_of vertices.items)
+
+-- a factor and a term, with its expression already seen as what it spells
+abbrev pub SpeltFactor : Type 0
+SpeltFactor = Multiplicative × SpeltExpression
+
+abbrev pub SpeltTerm : Type 0
+SpeltTerm = Additive × SpeltExpression
+
+-- one level of an expression, with each part already seen as its spelt expression
+abbrev pub expression_step : Expression-F SpeltExpression SpeltFactor SpeltTerm → SpeltExpression
+expression_step (Expression-F.Number n) = SpeltExpression.number (number_of n)
+expression_step (Expression-F.Name n) = SpeltExpression.name (name_of n)
+expression_step (Expression-F.Negated e) = SpeltExpression.negated e.value
+expression_step (Expression-F.Sum terms) = SpeltExpression.sum (terms_after no_terms terms.items)
+expression_step (Expression-F.Product factors) = SpeltExpression.product (factors_after no_factors factors.items)
+
+abbrev pub factor_step : Factor-F SpeltExpression SpeltFactor SpeltTerm → SpeltFactor
+factor_step f = (f.operator, f.value)
+
+abbrev pub term_step : Term-F SpeltExpression SpeltFactor SpeltTerm → SpeltTerm
+term_step t = (t.operator, t.value)
+
+unfoldable pub expression_of : Expression → SpeltExpression
+expression_of = fold-Expression SpeltExpression SpeltFactor SpeltTerm expression_step factor_step term_step
+
+-- a term and a factor of the code as their operators and spelt expressions
+abbrev pub term_of : Term → SpeltTerm
+term_of t = (t.operator, expression_of t.value)
+
+abbrev pub factor_of : Factor → SpeltFactor
+factor_of f = (f.operator, expression_of f.value)
+
+-- one level of the rules, with each part already seen as what it spells
+abbrev pub action_step : Action-F SpeltAction SpeltRule → SpeltAction
+action_step (Action-F.Shift n) = SpeltAction.shift (name_of n)
+action_step (Action-F.On ns) = SpeltAction.on (map name_of ns.items)
+action_step (Action-F.Off n) = SpeltAction.off (name_of n)
+action_step (Action-F.Assign n e) = SpeltAction.assign (name_of n) (expression_of e)
+action_step (Action-F.Compare e r f) = SpeltAction.compare (expression_of e) r (expression_of f)
+action_step (Action-F.Switch at player) = SpeltAction.switch at (option_map name_of player)
+action_step (Action-F.PositivePattern at r) = SpeltAction.positive at r.value
+action_step (Action-F.NegativePattern at r) = SpeltAction.negative at r.value
+
+abbrev pub rule_step : Rule-F SpeltAction SpeltRule → SpeltRule
+rule_step (Rule-F.Act a) = SpeltRule.act a
+rule_step (Rule-F.Then rs) = SpeltRule.sequence (rules_after no_rules rs.items)
+rule_step (Rule-F.Or rs) = SpeltRule.choice (rules_after no_rules rs.items)
+rule_step (Rule-F.Star r) = SpeltRule.star r.value
+
+unfoldable pub action_of : Action → SpeltAction
+action_of = fold-Action SpeltAction SpeltRule action_step rule_step
+
+unfoldable pub rule_of : Rule → SpeltRule
+rule_of = fold-Rule SpeltAction SpeltRule action_step rule_step
+
+-- what the sections spell, from the trees of the code for them
+abbrev pub spelt : Vec Bounded Global → Vec Bounded Global → Vec Name Global → Board → Rule → SpeltDescription
+spelt players variables pieces board rules =
+    record {
+      players = map bounded_of players.items;
+      variables = map bounded_of variables.items;
+      pieces = map name_of pieces.items;
+      board = board_of board;
+      rules = rule_of rules;
+    }

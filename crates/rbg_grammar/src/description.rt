@@ -1,0 +1,164 @@
+//! What the sections of a description spell.
+ghost use Rattle.rbg_grammar.specs.Formed.{IsWhole};
+ghost use Rattle.rbg_grammar.specs.Views.{spelt};
+
+use crate::names::{Name, Number};
+use crate::rule::Rule;
+
+/// What the sections of a source spell, which it borrows.
+///
+/// It has a player and a piece, and no sequence, sum or product of fewer than two parts.
+#[derive(Debug, PartialEq, Eq, Drop)]
+pub struct Description<'a> {
+    pub(crate) players: Vec<Bounded<'a>>,
+    pub(crate) variables: Vec<Bounded<'a>>,
+    pub(crate) pieces: Vec<Name<'a>>,
+    pub(crate) board: Board<'a>,
+    pub(crate) rules: Rule<'a>,
+    pub ghost whole: { IsWhole (spelt players variables pieces board rules) },
+}
+
+/// The parts of a description, to be taken one by one.
+#[derive(Debug, PartialEq, Eq, Drop)]
+pub struct DescriptionParts<'a> {
+    pub players: Vec<Bounded<'a>>,
+    pub variables: Vec<Bounded<'a>>,
+    pub pieces: Vec<Name<'a>>,
+    pub board: Board<'a>,
+    pub rules: Rule<'a>,
+}
+
+impl<'a> Description<'a> {
+    ghost use Rattle.std.specs.Prelude.{◌≡◌, map};
+    ghost use Rattle.rbg_grammar.specs.Descriptions.{description_of, description_of_parts};
+    ghost use Rattle.rbg_grammar.specs.Views.{board_of, bounded_of, name_of, rule_of};
+
+    /// The description of these parts.
+    pub fn new(parts: DescriptionParts<'a>) -> Self
+        requires { IsWhole (description_of_parts parts) }
+        ensures { description_of result ≡ description_of_parts parts.entry }
+    {
+        let DescriptionParts {
+            players,
+            variables,
+            pieces,
+            board,
+            rules,
+        } = parts;
+        Description {
+            players,
+            variables,
+            pieces,
+            board,
+            rules,
+        }
+    }
+
+    /// The players, in order of the text.
+    pub fn players(&self) -> &[Bounded<'a>]
+        ensures { map bounded_of result.now ≡ (description_of self.now).players }
+    {
+        &self.players
+    }
+
+    /// The variables, in order of the text.
+    pub fn variables(&self) -> &[Bounded<'a>]
+        ensures { map bounded_of result.now ≡ (description_of self.now).variables }
+    {
+        &self.variables
+    }
+
+    /// The pieces, in order of the text.
+    pub fn pieces(&self) -> &[Name<'a>]
+        ensures { map name_of result.now ≡ (description_of self.now).pieces }
+    {
+        &self.pieces
+    }
+
+    /// The board by its generator.
+    pub fn board(&self) -> &Board<'a>
+        ensures { board_of result.now ≡ (description_of self.now).board }
+    {
+        &self.board
+    }
+
+    /// The rules.
+    pub fn rules(&self) -> &Rule<'a>
+        ensures { rule_of result.now ≡ (description_of self.now).rules }
+    {
+        &self.rules
+    }
+
+    /// Takes the description apart.
+    pub fn into_parts(self) -> DescriptionParts<'a>
+        ensures same { description_of_parts result ≡ description_of self.entry }
+        ensures whole { IsWhole (description_of_parts result) }
+    {
+        let Description {
+            players,
+            variables,
+            pieces,
+            board,
+            rules,
+        } = self;
+        DescriptionParts {
+            players,
+            variables,
+            pieces,
+            board,
+            rules,
+        }
+    }
+}
+
+/// A player or a variable with the greatest value that it may have, as in `white(100)`.
+#[derive(Debug, PartialEq, Eq, Drop)]
+pub struct Bounded<'a> {
+    pub name: Name<'a>,
+    pub bound: Number,
+}
+
+/// The board by its generator.
+#[derive(Debug, PartialEq, Eq, Drop)]
+pub enum Board<'a> {
+    /// Rows of pieces from top to bottom.
+    Rectangle {
+        directions: RectangleDirections<'a>,
+        rows: Vec<Vec<Name<'a>>>,
+    },
+    /// Rows of pieces from top to bottom.
+    Hexagon {
+        directions: HexagonDirections<'a>,
+        rows: Vec<Vec<Name<'a>>>,
+    },
+    Graph {
+        vertices: Vec<Vertex<'a>>,
+    },
+}
+
+/// The names of the directions up, down, left and right.
+#[derive(Debug, PartialEq, Eq, Drop)]
+pub struct RectangleDirections<'a> {
+    pub names: [Name<'a>; 4],
+}
+
+/// The names of the directions north-west, north-east, east, south-east, south-west and west.
+#[derive(Debug, PartialEq, Eq, Drop)]
+pub struct HexagonDirections<'a> {
+    pub names: [Name<'a>; 6],
+}
+
+/// A vertex of a graph with its first piece, as in `a[e]{right: b}`.
+#[derive(Debug, PartialEq, Eq, Drop)]
+pub struct Vertex<'a> {
+    pub name: Name<'a>,
+    pub piece: Name<'a>,
+    pub edges: Vec<Edge<'a>>,
+}
+
+/// An edge to the vertex of that name, as `right: b`.
+#[derive(Debug, PartialEq, Eq, Drop)]
+pub struct Edge<'a> {
+    pub direction: Name<'a>,
+    pub target: Name<'a>,
+}

@@ -1,0 +1,17 @@
+//! The grammar of game descriptions: the trees that descriptions are, and which tokens spell which tree.
+#![tactic(auto)]
+
+mod description;
+pub mod examples;
+mod expression;
+pub mod laws;
+mod names;
+mod rule;
+
+pub use description::{
+    Board, Bounded, Description, DescriptionParts, Edge, HexagonDirections, RectangleDirections,
+    Vertex,
+};
+pub use expression::{Additive, Expression, Factor, Multiplicative, Term};
+pub use names::{Name, Number};
+pub use rule::{Action, Rule};

@@ -1,5 +1,0 @@
-use Rattle.rbg_macro.proofs.OneReading.{tokens_once}
-use Rattle.rbg_macro.proofs.laws.texts_have_one_reading.Goals as goal
-
-pub returns : goal.returns
-returns c = tokens_once

@@ -1,0 +1,67 @@
+//! The keeper's moves before a player's.
+ghost use Rattle.std.specs.Prelude.{◌≡◌, ◌≢◌, Err, IfOk, OnErr};
+ghost use Rattle.rbg_rules.specs.Moves.{Legal, IsLegal};
+ghost use Rattle.rbg_rules.specs.Places.{IsPlaceOf};
+ghost use Rattle.rbg_moves.specs.Limits.{most_keeper_moves};
+ghost use Rattle.rbg_moves.specs.Settling.{IsEndless, MeetsHeavy, Settles};
+
+use crate::place::Place;
+use crate::played::PlayedGame;
+use crate::unsettled::Unsettled;
+use crate::workspace::Workspace;
+use rbg_base::{Memory, Pair};
+
+/// The most moves that the keeper makes in a row.
+pub const MAX_KEEPER_MOVES: u32 = 1000;
+
+impl PlayedGame {
+    /// Leads a place, by moves of the keeper, to one where a player is to move or play is finished. Where there is no
+    /// such place, what is left is no use.
+    pub fn settle(&self, place: &mut Place, workspace: &mut Workspace) -> Result<(), Unsettled>
+        requires place { IsPlaceOf self.now place.old }
+        ensures settles { IfOk result (λ _. Settles self.now place.old place.new) }
+        ensures place { IfOk result (λ _. IsPlaceOf self.now place.new) }
+        ensures heavy { result ≡ Err Unsettled.Heavy → MeetsHeavy self.now place.old }
+        ensures endless { result ≡ Err Unsettled.Endless → IsEndless self.now place.old }
+    {
+        for _ in 0..MAX_KEEPER_MOVES {
+            if place.state.player() != 0 {
+                return Ok(());
+            }
+            match self.find_pairs_on(place, workspace)? {
+                Some(pairs) => self.make_found(place, pairs, workspace)?,
+                None => return Ok(()),
+            }
+        }
+        rest(place)
+    }
+
+    /// Makes the move of these pairs, which is legal. The workspace gets the list of them.
+    fn make_found(
+        &self,
+        place: &mut Place,
+        pairs: Vec<Pair>,
+        workspace: &mut Workspace,
+    ) -> Result<(), Memory>
+        requires place { IsPlaceOf self.now place.old }
+        requires legal { IsLegal self.now place.old pairs.items }
+        ensures to { IfOk result (λ _. Legal self.now place.old pairs.items place.new) }
+        ensures in_game { IfOk result (λ _. IsPlaceOf self.now place.new) }
+    {
+        self.make_move_on(place, pairs.as_slice())?;
+        workspace.keep_pairs(pairs);
+        Ok(())
+    }
+}
+
+/// Whether a player is to move.
+fn rest(place: &Place) -> Result<(), Unsettled>
+    ensures player { IfOk result (λ _. place.now.state.player ≢ 0) }
+    ensures keeper { OnErr result (place.now.state.player ≡ 0) }
+    ensures endless { OnErr result (result ≡ Err Unsettled.Endless) }
+{
+    if place.state.player() == 0 {
+        return Err(Unsettled::Endless);
+    }
+    Ok(())
+}

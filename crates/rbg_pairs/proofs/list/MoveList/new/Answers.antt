@@ -1,5 +1,0 @@
-use Rattle.rbg_pairs.proofs.Lists.{lists_none}
-use Rattle.rbg_pairs.proofs.list.MoveList.new.Goals as goal
-
-pub returns : goal.returns
-returns c = lists_none c.new.result.items c.new-2.result.items c.new-2.ensures.items

@@ -1,3 +1,0 @@
--- Moves as they are written.
-pub mod Move
-pub mod List

@@ -1,0 +1,9 @@
+-- What the proofs of this crate share.
+pub mod Apart
+pub mod Cuts
+pub mod Digits
+pub mod Lacking
+pub mod LineLemmas
+pub mod Marks
+pub mod Parts
+pub mod ScriptLemmas

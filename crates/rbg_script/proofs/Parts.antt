@@ -1,0 +1,121 @@
+-- The fields of a line.
+use Rattle.std.proofs.Common.{◌≡◌, ℕ, ◌<◌, ◌^◌, List, [], ◌∷◌, ◌++◌, decimal, codes, ap, sym, ◌∙◌, subst, arith, append_assoc}
+use Rattle.std.proofs.lemmas.Fmt.{decimal_injective}
+use Rattle.rbg_wire.specs.Bytes.{LacksByte}
+use Rattle.rbg_wire.proofs.NumberLemmas.{lacks_byte-decimal}
+use Rattle.rbg_script.specs.declared.config.ScriptConfig.{ScriptConfig}
+use Rattle.rbg_script.specs.Config.{AreWithinLimits, SpellsConfig, config_text}
+use Rattle.rbg_script.specs.Events.{HasFields, SpellsEvent, by_end, by_tick, end_event, tick_event, fields_text, end_text, tick_text}
+use Rattle.rbg_script.proofs.Cuts.{no_cut, same_cut, same_end}
+
+pub space_lacks : (n : ℕ) → n < 2 ^ 64 → LacksByte 32 (decimal n)
+space_lacks n small = lacks_byte-decimal 32 n (omega arith) small
+
+-- A text that is cut at its first space, where it is a number, a space and more.
+pub cut_fields : (text word rest : List ℕ) → text ≡ word ++ 32 ∷ rest → LacksByte 32 word → (n : ℕ) (more : List ℕ) → n < 2 ^ 64 → text ≡ decimal n ++ 32 ∷ more → (word ≡ decimal n) × (rest ≡ more)
+cut_fields text word rest cut lacks n more small is = same_cut 32 word (decimal n) rest more lacks (space_lacks n small) (sym cut ∙ is)
+
+pub no_fields : (text more : List ℕ) (n : ℕ) → LacksByte 32 text → text ≡ decimal n ++ 32 ∷ more → ⊥
+no_fields text more n lacks is = no_cut 32 (decimal n) more (subst (LacksByte 32) is lacks)
+
+-- Two texts of a number, a space and more are the same in both parts.
+pub same_fields : (text x y : List ℕ) (m n : ℕ) → m < 2 ^ 64 → n < 2 ^ 64 → text ≡ decimal m ++ 32 ∷ x → text ≡ decimal n ++ 32 ∷ y → (m ≡ n) × (x ≡ y)
+same_fields text x y m n first second h k =
+    let parts = same_cut 32 (decimal m) (decimal n) x y (space_lacks m first) (space_lacks n second) (sym h ∙ k) in
+    (decimal_injective m n first second parts.0, parts.1)
+
+-- a word, two fields with a space behind each, and more
+two_fields : (word a b rest : List ℕ) → word ++ a ++ codes " " ++ b ++ codes " " ++ rest ≡ word ++ (a ++ 32 ∷ (b ++ 32 ∷ rest))
+two_fields word a b rest =
+    append_assoc (word ++ a ++ codes " " ++ b) (codes " ") rest
+    ∙ (append_assoc (word ++ a ++ codes " ") b (32 ∷ rest)
+    ∙ (append_assoc (word ++ a) (codes " ") (b ++ 32 ∷ rest) ∙ append_assoc word a (32 ∷ (b ++ 32 ∷ rest))))
+
+-- what is left behind a first field, of a text of numbers
+pub behind_first : (fields rest more : List ℕ) (m n : ℕ) → m < 2 ^ 64 → n < 2 ^ 64 → fields ≡ decimal m ++ 32 ∷ rest → fields ≡ decimal n ++ 32 ∷ more → rest ≡ more
+behind_first fields rest more m n first second is other = (same_fields fields rest more m n first second is other).1
+
+-- a number, a space and more
+pub with_number : (text word rest more : List ℕ) (n : ℕ) → text ≡ word ++ 32 ∷ rest → word ≡ decimal n → rest ≡ more → text ≡ decimal n ++ 32 ∷ more
+with_number text word rest more n cut number is = cut ∙ (ap (λ w. w ++ 32 ∷ rest) number ∙ ap (λ r. decimal n ++ 32 ∷ r) is)
+
+-- The fields of a line with a seat and a moment.
+pub fields_shape : (word : List ℕ) (seat at : ℕ) (rest : List ℕ) → fields_text word seat at rest ≡ word ++ (decimal seat ++ 32 ∷ (decimal at ++ 32 ∷ rest))
+unfolding fields_text
+fields_shape word seat at rest = two_fields word (decimal seat) (decimal at) rest
+
+pub behind_word : (text word fields : List ℕ) (seat at : ℕ) (rest : List ℕ) → text ≡ word ++ fields → HasFields text word seat at rest → fields ≡ decimal seat ++ 32 ∷ (decimal at ++ 32 ∷ rest)
+behind_word text word fields seat at rest is h = same_end word fields (decimal seat ++ 32 ∷ (decimal at ++ 32 ∷ rest)) (sym is ∙ (h.is ∙ fields_shape word seat at rest))
+
+pub has_fields : (text word fields behind : List ℕ) (seat at : ℕ) (rest : List ℕ) → seat < 2 ^ 64 → at < 2 ^ 64 → text ≡ word ++ fields → fields ≡ decimal seat ++ 32 ∷ behind → behind ≡ decimal at ++ 32 ∷ rest → HasFields text word seat at rest
+has_fields text word fields behind seat at rest first second is parts more = record {
+  numbers = (first, second);
+  is = is ∙ (ap (λ f. word ++ f) parts ∙ (ap (λ b. word ++ (decimal seat ++ 32 ∷ b)) more ∙ sym (fields_shape word seat at rest)));
+}
+
+pub one_fields : (text word : List ℕ) (s t a b : ℕ) (x y : List ℕ) → HasFields text word s a x → HasFields text word t b y → (s ≡ t) × (a ≡ b) × (x ≡ y)
+one_fields text word s t a b x y h k =
+    let fields : decimal s ++ 32 ∷ (decimal a ++ 32 ∷ x) ≡ decimal t ++ 32 ∷ (decimal b ++ 32 ∷ y) = same_end word _ _ (sym (fields_shape word s a x) ∙ (sym h.is ∙ (k.is ∙ fields_shape word t b y))) in
+    let first = same_fields (decimal t ++ 32 ∷ (decimal b ++ 32 ∷ y)) (decimal a ++ 32 ∷ x) (decimal b ++ 32 ∷ y) s t h.numbers.0 k.numbers.0 (sym fields) (λ i. decimal t ++ 32 ∷ (decimal b ++ 32 ∷ y)) in
+    let second = same_fields (decimal b ++ 32 ∷ y) x y a b h.numbers.1 k.numbers.1 (sym first.1) (λ i. decimal b ++ 32 ∷ y) in
+    (first.0, second.0, second.1)
+
+-- The end of a stream, and a moment.
+pub end_shape : (seat at : ℕ) → end_text seat at ≡ codes "e " ++ (decimal seat ++ 32 ∷ decimal at)
+unfolding end_text
+end_shape seat at = append_assoc (codes "e " ++ decimal seat) (codes " ") (decimal at) ∙ append_assoc (codes "e ") (decimal seat) (32 ∷ decimal at)
+
+pub tick_shape : (at : ℕ) → tick_text at ≡ codes "t " ++ decimal at
+unfolding tick_text
+tick_shape at = λ i. codes "t " ++ decimal at
+
+-- The config.
+pub config_shape : (config : ScriptConfig) → config_text config ≡ codes "config " ++ (decimal config.turn_ms ++ 32 ∷ (decimal config.refusals ++ 32 ∷ decimal config.now))
+unfolding config_text
+config_shape config = two_fields (codes "config ") (decimal config.turn_ms) (decimal config.refusals) (decimal config.now)
+
+pub config_fields : (text fields : List ℕ) (config : ScriptConfig) → text ≡ codes "config " ++ fields → SpellsConfig text config → fields ≡ decimal config.turn_ms ++ 32 ∷ (decimal config.refusals ++ 32 ∷ decimal config.now)
+config_fields text fields config is h = same_end (codes "config ") fields _ (sym is ∙ (h.is ∙ config_shape config))
+
+pub turn_small : (turn refusals : ℕ) → AreWithinLimits turn refusals → turn < 2 ^ 64
+turn_small turn refusals h = omega (arith, h.turn)
+
+pub refusals_small : (turn refusals : ℕ) → AreWithinLimits turn refusals → refusals < 2 ^ 64
+refusals_small turn refusals h = omega (arith, h.few)
+
+pub spells_config : (text fields behind last : List ℕ) (turn refusals now : ℕ) → AreWithinLimits turn refusals → now < 2 ^ 64 → text ≡ codes "config " ++ fields → fields ≡ decimal turn ++ 32 ∷ behind → behind ≡ decimal refusals ++ 32 ∷ last → last ≡ decimal now → SpellsConfig text (record { turn_ms = turn; refusals = refusals; now = now })
+spells_config text fields behind last turn refusals now within small is first second third =
+    let config : ScriptConfig = record { turn_ms = turn; refusals = refusals; now = now } in
+    let parts : behind ≡ decimal refusals ++ 32 ∷ decimal now = second ∙ ap (λ l. decimal refusals ++ 32 ∷ l) third in
+    record {
+      has = (within, small);
+      is = is ∙ (ap (λ f. codes "config " ++ f) first ∙ (ap (λ b. codes "config " ++ (decimal turn ++ 32 ∷ b)) parts ∙ sym (config_shape config)));
+    }
+
+-- The end of a stream, and a moment, in a text.
+pub end_fields : (text fields : List ℕ) (seat at : ℕ) → text ≡ codes "e " ++ fields → text ≡ end_text seat at → fields ≡ decimal seat ++ 32 ∷ decimal at
+end_fields text fields seat at is end = same_end (codes "e ") fields (decimal seat ++ 32 ∷ decimal at) (sym is ∙ (end ∙ end_shape seat at))
+
+pub spells_end : (text fields last : List ℕ) (seat at : ℕ) → seat < 2 ^ 64 → at < 2 ^ 64 → text ≡ codes "e " ++ fields → fields ≡ decimal seat ++ 32 ∷ last → last ≡ decimal at → SpellsEvent text (end_event seat at)
+spells_end text fields last seat at first second is parts more =
+    by_end seat at (first, second) (is ∙ (ap (λ f. codes "e " ++ f) (parts ∙ ap (λ l. decimal seat ++ 32 ∷ l) more) ∙ sym (end_shape seat at)))
+
+pub tick_field : (text field : List ℕ) (at : ℕ) → text ≡ codes "t " ++ field → text ≡ tick_text at → field ≡ decimal at
+tick_field text field at is tick = same_end (codes "t ") field (decimal at) (sym is ∙ (tick ∙ tick_shape at))
+
+pub spells_tick : (text field : List ℕ) (at : ℕ) → at < 2 ^ 64 → text ≡ codes "t " ++ field → field ≡ decimal at → SpellsEvent text (tick_event at)
+spells_tick text field at small is more = by_tick at small (is ∙ (ap (λ f. codes "t " ++ f) more ∙ sym (tick_shape at)))
+
+-- the three numbers of a config's text
+pub config_last : (text fields behind last : List ℕ) (turn refusals : ℕ) (config : ScriptConfig) → turn < 2 ^ 64 → refusals < 2 ^ 64 → text ≡ codes "config " ++ fields → fields ≡ decimal turn ++ 32 ∷ behind → behind ≡ decimal refusals ++ 32 ∷ last → SpellsConfig text config → (turn ≡ config.turn_ms) × (refusals ≡ config.refusals) × (last ≡ decimal config.now)
+config_last text fields behind last turn refusals config m n is first second h =
+    let one = same_fields fields behind (decimal config.refusals ++ 32 ∷ decimal config.now) turn config.turn_ms m (turn_small config.turn_ms config.refusals h.has.0) first (config_fields text fields config is h) in
+    let two = same_fields behind last (decimal config.now) refusals config.refusals n (refusals_small config.turn_ms config.refusals h.has.0) second one.1 in
+    (one.0, two.0, two.1)
+
+pub other_limits : (turn refusals t r : ℕ) → turn ≡ t → refusals ≡ r → AreWithinLimits t r → AreWithinLimits turn refusals
+other_limits turn refusals t r same_turn same_refusals h = record {
+  some_time = omega (arith, same_turn, h.some_time);
+  turn = omega (arith, same_turn, h.turn);
+  few = omega (arith, same_refusals, h.few);
+}

@@ -1,0 +1,15 @@
+-- The event of the line is added behind the others.
+use Rattle.std.proofs.Common.{refl, ap, map, ◌∙◌}
+use Rattle.std.proofs.lemmas.List.{map-append}
+use Rattle.rbg_script.specs.Events.{SpellsEvent, event_of}
+use Rattle.rbg_script.specs.internal.Reading.{taken, not_taken}
+use Rattle.rbg_script.proofs.Apart.{some_here, no_event_here}
+use Rattle.rbg_script.proofs.script.take_line.Goals as goal
+
+pub returns-in_default : goal.returns-in_default
+returns-in_default c = not_taken (no_event_here _ _ c.in_default.is c.in_ok-event.ensures.only) refl
+
+pub returns : goal.returns
+returns c =
+    taken (event_of c.in-Some.event) (some_here (λ event. SpellsEvent c.args.line.now (event_of event)) _ _ c.in-Some.is c.in_ok-event.ensures.found)
+    (ap (map event_of) c.in_ok-push.ensures.items ∙ map-append event_of c.args.events.now.items _)

@@ -1,0 +1,43 @@
+-- Laws of the lines of a script.
+use Rattle.std.specs.Prelude.{◌≡◌, ℕ, List, All}
+use Rattle.rbg_wire.specs.Bytes.{LacksByte}
+use Rattle.rbg_script.specs.declared.config.ScriptConfig.{ScriptConfig}
+use Rattle.rbg_script.specs.Config.{ConfigHasSpelling, SpellsConfig, config_text}
+use Rattle.rbg_script.specs.Events.{AbstractEvent, EventHasSpelling, SpellsBytes, SpellsEvent, event_text}
+use Rattle.rbg_script.specs.Inputs.{IsInput}
+use Rattle.rbg_script.specs.Lines.{HasLines, line_feed}
+use Rattle.rbg_script.specs.Scripts.{AbstractScript, HasMisfit, ScriptHasSpelling, SpellsScript, script_text}
+
+-- A text spells at most one config or one event, and none spells both. Digits spell at most one list of bytes.
+pub record SpellingsAreApart : Type 0 where
+  pub configs : (text : List ℕ) (a b : ScriptConfig) → SpellsConfig text a → SpellsConfig text b → a ≡ b
+  pub events : (text : List ℕ) (a b : AbstractEvent) → SpellsEvent text a → SpellsEvent text b → a ≡ b
+  pub kinds : (text : List ℕ) (config : ScriptConfig) (event : AbstractEvent)
+      → SpellsConfig text config
+      → SpellsEvent text event
+      → ⊥
+  pub bytes : (digits a b : List ℕ) → SpellsBytes digits a → SpellsBytes digits b → a ≡ b
+
+-- What is written of a config or an event is a line, and spells it. So does what is written of a whole script.
+pub record WrittenIsRead : Type 0 where
+  pub configs : (config : ScriptConfig) → ConfigHasSpelling config → SpellsConfig (config_text config) config
+  pub events : (event : AbstractEvent) → EventHasSpelling event → SpellsEvent (event_text event) event
+  pub config_lines : (config : ScriptConfig) → ConfigHasSpelling config → LacksByte line_feed (config_text config)
+  pub event_lines : (event : AbstractEvent) → EventHasSpelling event → LacksByte line_feed (event_text event)
+  pub scripts : (script : AbstractScript) → ScriptHasSpelling script → SpellsScript (script_text script) script
+
+-- Each text has one list of lines. It spells at most one script; or one line is the first that isn't of its form, and
+-- then it spells none.
+pub record ScriptsAreApart : Type 0 where
+  pub lines : (text : List ℕ) (a b : List (List ℕ)) → HasLines text a → HasLines text b → a ≡ b
+  pub scripts : (text : List ℕ) (a b : AbstractScript) → SpellsScript text a → SpellsScript text b → a ≡ b
+  pub misfits : (text : List ℕ) (m n : ℕ) → HasMisfit text m → HasMisfit text n → m ≡ n
+  pub either : (text : List ℕ) (number : ℕ) (script : AbstractScript)
+      → HasMisfit text number
+      → SpellsScript text script
+      → ⊥
+
+-- An input is cut in one way at most.
+abbrev pub InputsAreApart : Type 0
+InputsAreApart =
+    (input d e s t : List ℕ) → IsInput input d s → IsInput input e t → (d ≡ e) × (s ≡ t)

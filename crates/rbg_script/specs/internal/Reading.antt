@@ -1,0 +1,48 @@
+-- Where the calls stand that read line by line.
+use Rattle.std.specs.Prelude.{◌≡◌, ◌≢◌, ℕ, ◌+◌, Bool, true, false, List, [], ◌∷◌, ◌++◌, length, codes, All}
+use Rattle.std.specs.List.{AllZip}
+use Rattle.rbg_wire.specs.Bytes.{LacksByte}
+use Rattle.rbg_script.specs.declared.error.ScriptError.{ScriptError}
+use Rattle.rbg_script.specs.declared.error.ScriptError.TheVariants.{Line, Memory}
+use Rattle.rbg_script.specs.Events.{AbstractEvent, SpellsEvent}
+use Rattle.rbg_script.specs.Inputs.{mark}
+use Rattle.rbg_script.specs.Lines.{HasLines, line_feed, lines_of}
+use Rattle.rbg_script.specs.Scripts.{IsNoEvent}
+
+-- the text begins with the line, and the rest is behind it
+pub data BeginsWith (text line rest : List ℕ) : Type 0 where
+  ended : LacksByte line_feed line → text ≡ line ++ line_feed ∷ rest → BeginsWith text line rest
+  alone : LacksByte line_feed line → text ≡ line → rest ≡ [] → BeginsWith text line rest
+
+-- a line spells the event that is added, or it spells none and nothing is added
+pub data TakesLine (line : List ℕ) (old new : List AbstractEvent) : Bool → Type 0 where
+  taken : (event : AbstractEvent) → SpellsEvent line event → new ≡ old ++ event ∷ [] → TakesLine line old new true
+  not_taken : IsNoEvent line → new ≡ old → TakesLine line old new false
+
+-- what is left of a text behind lines that spell these events
+pub record ReadSoFar (text left : List ℕ) (events : List AbstractEvent) : Type 0 where
+  pub lines : List (List ℕ)
+  pub spelled : AllZip SpellsEvent lines events
+  pub onward : (more : List (List ℕ)) → HasLines left more → HasLines text (lines ++ more)
+
+-- the lines of the text spell these events
+pub record SpellsEvents (text : List ℕ) (events : List AbstractEvent) : Type 0 where
+  pub lines : List (List ℕ)
+  pub has : HasLines text lines
+  pub spelled : AllZip SpellsEvent lines events
+
+-- why the lines below the first are not read as events
+pub data IsEventReason (text : List ℕ) : ScriptError → Type 0 where
+  bad_line : (line : List ℕ) (before behind : List (List ℕ)) (events : List AbstractEvent)
+      → HasLines text (before ++ line ∷ behind)
+      → AllZip SpellsEvent before events
+      → IsNoEvent line
+      → IsEventReason text (Line (length before + 2))
+  out_of_memory : IsEventReason text Memory
+
+-- what is left of an input behind whole lines that are not the mark
+pub record Unmarked (input left : List ℕ) : Type 0 where
+  pub lines : List (List ℕ)
+  pub parts : input ≡ lines_of lines ++ left
+  pub whole : All (LacksByte line_feed) lines
+  pub unmarked : All (λ line. line ≢ mark) lines

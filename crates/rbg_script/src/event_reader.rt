@@ -1,0 +1,183 @@
+//! The calls that read an event.
+ghost use Rattle.std.specs.Prelude.{◌≡◌, ℕ, ◌<◌, ◌^◌, List, [], ◌∷◌, ◌++◌, IfSome, IfNone, IfOk, codes};
+ghost use Rattle.std.specs.Bool.{OnFalse};
+ghost use Rattle.std.specs.Option.{IsSomeAnd};
+ghost use Rattle.hex.specs.declared.error.FromHexError.TheVariants.{OutOfMemory};
+ghost use Rattle.rbg_script.specs.Events.{
+  AbstractEvent,
+  AreNumbers,
+  HasFields,
+  SpellsBytes,
+  SpellsEvent,
+  SpellsMessage,
+  end_text,
+  event_of,
+  piece_event,
+  tick_text,
+};
+
+use crate::fields::{after_text, cut_number, fields_in};
+use crate::{Message, ScriptEvent};
+use hex::FromHexError;
+use rbg_base::{Memory, number_of_decimal};
+use std::alloc::Global;
+
+/// The message of an `m` line that is the whole text. It allocates nothing.
+///
+/// Returns None if the text is no such line.
+pub fn read_message(line: &[u8]) -> Option<Message<'_>>
+    // The text is the line of the message that is returned.
+    ensures found { IfSome result (SpellsMessage line.now) }
+    // The message is returned whose line this is.
+    ensures only { (seat at : ℕ) (said : List ℕ)
+        → HasFields line.now (codes "m ") seat at said
+        → IsSomeAnd result (λ message.
+        (message.seat ≡ seat) × (message.at ≡ at) × (message.text.now ≡ said)) }
+{
+    message_in(line)
+}
+
+/// The event of which the whole text is a spelling.
+///
+/// Returns None if it is that of no event.
+pub fn read_event(alloc: Global, line: &[u8]) -> Result<Option<ScriptEvent>, Memory>
+    // The text is one of the event that is returned.
+    ensures found { IfOk result (λ read.
+        IfSome read (λ event. SpellsEvent line.now (event_of event))) }
+    // The event is returned whose text this is.
+    ensures only { (event : AbstractEvent)
+        → SpellsEvent line.now event
+        → IfOk result (λ read. IsSomeAnd read (λ found. event_of found ≡ event)) }
+{
+    event_in(alloc, line)
+}
+
+fn event_in(alloc: Global, line: &[u8]) -> Result<Option<ScriptEvent>, Memory>
+    ensures found { IfOk result (λ read.
+        IfSome read (λ event. SpellsEvent line.now (event_of event))) }
+    ensures none { IfOk result (λ read.
+        IfNone read ((event : AbstractEvent) → SpellsEvent line.now event → ⊥)) }
+{
+    if let Some(message) = message_in(line) {
+        return Ok(Some(piece_of(alloc, &message)?));
+    }
+    let piece = piece_in(alloc, line)?;
+    if piece.is_some() {
+        return Ok(piece);
+    }
+    Ok(instant_in(line))
+}
+
+fn message_in(line: &[u8]) -> Option<Message<'_>>
+    ensures found { IfSome result (SpellsMessage line.now) }
+    ensures none { IfNone result ((seat at : ℕ) (said : List ℕ)
+        → HasFields line.now (codes "m ") seat at said
+        → ⊥) }
+{
+    let fields = fields_in(b"m ", line)?;
+    Some(Message {
+        seat: fields.seat,
+        at: fields.at,
+        text: fields.rest,
+    })
+}
+
+// The piece that a message is: its text and a zero byte.
+fn piece_of(alloc: Global, message: &Message<'_>) -> Result<ScriptEvent, Memory>
+    ensures { IfOk result (λ event.
+        event_of event
+        ≡ piece_event message.now.seat message.now.at (message.now.text.now ++ 0 ∷ [])) }
+{
+    let mut bytes = Vec::with_capacity(alloc, message.text.len().saturating_add(1))?;
+    bytes.extend_from_slice(message.text)?;
+    bytes.push(0)?;
+    Ok(ScriptEvent::Piece {
+        seat: message.seat,
+        at: message.at,
+        bytes,
+    })
+}
+
+// The piece of a `p` line.
+fn piece_in(alloc: Global, line: &[u8]) -> Result<Option<ScriptEvent>, Memory>
+    ensures found { IfOk result (λ read.
+        IfSome read (λ event. SpellsEvent line.now (event_of event))) }
+    ensures none { IfOk result (λ read. IfNone read ((seat at : ℕ) (digits bytes : List ℕ)
+        → HasFields line.now (codes "p ") seat at digits
+        → SpellsBytes digits bytes
+        → ⊥)) }
+{
+    let Some(fields) = fields_in(b"p ", line) else {
+        return Ok(None);
+    };
+    let Some(bytes) = bytes_of(alloc, fields.rest)? else {
+        return Ok(None);
+    };
+    Ok(Some(ScriptEvent::Piece {
+        seat: fields.seat,
+        at: fields.at,
+        bytes,
+    }))
+}
+
+// The bytes that hexadecimal digits spell.
+fn bytes_of(alloc: Global, digits: &[u8]) -> Result<Option<Vec<u8>>, Memory>
+    ensures found { IfOk result (λ read.
+        IfSome read (λ bytes. SpellsBytes digits.now bytes.items)) }
+    ensures none { IfOk result (λ read.
+        IfNone read ((bytes : List ℕ) → SpellsBytes digits.now bytes → ⊥)) }
+{
+    match hex::decode(alloc, digits) {
+        Ok(bytes) => Ok(Some(bytes)),
+        Err(error) => {
+            if is_memory(error) {
+                Err(Memory)
+            } else {
+                Ok(None)
+            }
+        }
+    }
+}
+
+fn is_memory(error: FromHexError) -> bool
+    ensures { OnFalse result (error ≡ OutOfMemory → ⊥) }
+{
+    matches!(error, FromHexError::OutOfMemory)
+}
+
+// The event of a line that has no bytes.
+fn instant_in(line: &[u8]) -> Option<ScriptEvent>
+    ensures found { IfSome result (λ event. SpellsEvent line.now (event_of event)) }
+    ensures ended { IfNone result ((seat at : ℕ)
+        → AreNumbers seat at
+        → line.now ≡ end_text seat at
+        → ⊥) }
+    ensures ticked { IfNone result ((at : ℕ) → at < 2 ^ 64 → line.now ≡ tick_text at → ⊥) }
+{
+    match end_in(line) {
+        Some(event) => Some(event),
+        None => tick_in(line),
+    }
+}
+
+fn end_in(line: &[u8]) -> Option<ScriptEvent>
+    ensures found { IfSome result (λ event. SpellsEvent line.now (event_of event)) }
+    ensures none { IfNone result ((seat at : ℕ)
+        → AreNumbers seat at
+        → line.now ≡ end_text seat at
+        → ⊥) }
+{
+    let fields = after_text(b"e ", line)?;
+    let (seat, at) = cut_number(fields)?;
+    let at = number_of_decimal(at)?;
+    Some(ScriptEvent::Ended { seat, at })
+}
+
+fn tick_in(line: &[u8]) -> Option<ScriptEvent>
+    ensures found { IfSome result (λ event. SpellsEvent line.now (event_of event)) }
+    ensures none { IfNone result ((at : ℕ) → at < 2 ^ 64 → line.now ≡ tick_text at → ⊥) }
+{
+    let at = after_text(b"t ", line)?;
+    let at = number_of_decimal(at)?;
+    Some(ScriptEvent::Tick { at })
+}

@@ -1,0 +1,131 @@
+//! The calls that write a line of a script at the end of a list of bytes.
+ghost use Rattle.std.specs.Prelude.{◌≡◌, ◌++◌, ◌<◌, OnOk, OnErr, codes, decimal, slice_index};
+ghost use Rattle.std.specs.List.{flat_map};
+ghost use Rattle.hex.specs.Hex.{lower_digits};
+ghost use Rattle.rbg_wire.specs.Writing.{Appends};
+ghost use Rattle.rbg_script.specs.Config.{config_text};
+ghost use Rattle.rbg_script.specs.Events.{byte_text, end_text, event_of, event_text, fields_text, tick_text};
+ghost use Rattle.rbg_script.specs.Lines.{line_of};
+
+use crate::undo::all_or_nothing;
+use crate::{ScriptConfig, ScriptEvent};
+use rbg_base::Memory;
+use rbg_wire::write_number;
+
+/// The hexadecimal digits that are written.
+const DIGITS: &[u8; 16] = b"0123456789abcdef";
+
+/// Appends the line of a config. On an error the bytes are unchanged.
+pub fn write_config(config: ScriptConfig, out: &mut Vec<u8>) -> Result<(), Memory>
+    ensures ok { OnOk result (out.new.items ≡ out.old.items ++ line_of (config_text config)) }
+    ensures err { OnErr result (out.new.items ≡ out.old.items) }
+{
+    let len = out.len();
+    let written = put_config(config, out);
+    all_or_nothing(written, len, out)
+}
+
+/// Appends the line of an event. A piece is written in small hexadecimal digits. On an error the bytes are unchanged.
+pub fn write_event(event: &ScriptEvent, out: &mut Vec<u8>) -> Result<(), Memory>
+    ensures ok { OnOk result
+        (out.new.items ≡ out.old.items ++ line_of (event_text (event_of event.now))) }
+    ensures err { OnErr result (out.new.items ≡ out.old.items) }
+{
+    let len = out.len();
+    let written = put_event(event, out);
+    all_or_nothing(written, len, out)
+}
+
+#[tactic(auto, unfolding(crate::specs::Config::config_text))]
+fn put_config(config: ScriptConfig, out: &mut Vec<u8>) -> Result<(), Memory>
+    ensures { Appends out.old.items out.new.items (line_of (config_text config)) result }
+{
+    out.extend_from_slice(b"config ")?;
+    write_number(config.turn_ms, out)?;
+    out.extend_from_slice(b" ")?;
+    write_number(u64::from(config.refusals), out)?;
+    out.extend_from_slice(b" ")?;
+    write_number(config.now, out)?;
+    out.extend_from_slice(b"\n")
+}
+
+fn put_event(event: &ScriptEvent, out: &mut Vec<u8>) -> Result<(), Memory>
+    ensures { Appends out.old.items out.new.items
+        (line_of (event_text (event_of event.now))) result }
+{
+    put_text(event, out)?;
+    out.extend_from_slice(b"\n")
+}
+
+#[tactic(auto, unfolding(crate::specs::Events::event_text))]
+fn put_text(event: &ScriptEvent, out: &mut Vec<u8>) -> Result<(), Memory>
+    ensures { Appends out.old.items out.new.items (event_text (event_of event.now)) result }
+{
+    match event {
+        ScriptEvent::Piece { seat, at, bytes } => put_piece(*seat, *at, bytes.as_slice(), out),
+        ScriptEvent::Ended { seat, at } => put_end(*seat, *at, out),
+        ScriptEvent::Tick { at } => put_tick(*at, out),
+    }
+}
+
+#[tactic(auto, unfolding(crate::specs::Events::fields_text))]
+fn put_piece(seat: u64, at: u64, bytes: &[u8], out: &mut Vec<u8>) -> Result<(), Memory>
+    ensures { Appends out.old.items out.new.items
+        (fields_text (codes "p ") seat at (flat_map byte_text bytes.now)) result }
+{
+    put_head(seat, at, out)?;
+    put_digits(bytes, out)
+}
+
+// Appends what stands before the digits of a piece.
+fn put_head(seat: u64, at: u64, out: &mut Vec<u8>) -> Result<(), Memory>
+    ensures { Appends out.old.items out.new.items
+        (codes "p " ++ decimal seat ++ codes " " ++ decimal at ++ codes " ") result }
+{
+    out.extend_from_slice(b"p ")?;
+    write_number(seat, out)?;
+    out.extend_from_slice(b" ")?;
+    write_number(at, out)?;
+    out.extend_from_slice(b" ")
+}
+
+#[tactic(auto, unfolding(crate::specs::Events::end_text))]
+fn put_end(seat: u64, at: u64, out: &mut Vec<u8>) -> Result<(), Memory>
+    ensures { Appends out.old.items out.new.items (end_text seat at) result }
+{
+    out.extend_from_slice(b"e ")?;
+    write_number(seat, out)?;
+    out.extend_from_slice(b" ")?;
+    write_number(at, out)
+}
+
+#[tactic(auto, unfolding(crate::specs::Events::tick_text))]
+fn put_tick(at: u64, out: &mut Vec<u8>) -> Result<(), Memory>
+    ensures { Appends out.old.items out.new.items (tick_text at) result }
+{
+    out.extend_from_slice(b"t ")?;
+    write_number(at, out)
+}
+
+fn put_digits(bytes: &[u8], out: &mut Vec<u8>) -> Result<(), Memory>
+    ensures { Appends out.old.items out.new.items (flat_map byte_text bytes.now) result }
+{
+    for byte in bytes {
+        put_byte(*byte, out)?;
+    }
+    Ok(())
+}
+
+fn put_byte(byte: u8, out: &mut Vec<u8>) -> Result<(), Memory>
+    ensures { Appends out.old.items out.new.items (byte_text byte) result }
+{
+    out.extend_from_slice(&[digit(byte / 16), digit(byte % 16)])
+}
+
+// The digit of a number below 16.
+fn digit(value: u8) -> u8
+    requires { value < 16 }
+    ensures { result ≡ slice_index lower_digits value }
+{
+    DIGITS[value as usize]
+}

@@ -1,5 +1,0 @@
-use Rattle.rbg_syntax.proofs.ExampleReadings.{starred_assignments}
-use Rattle.rbg_syntax.proofs.examples.a_star_binds_to_the_whole_assignment_list.Goals as goal
-
-pub returns : goal.returns
-returns c = starred_assignments

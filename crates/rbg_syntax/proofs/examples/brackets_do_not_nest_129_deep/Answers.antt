@@ -1,5 +1,0 @@
-use Rattle.rbg_syntax.proofs.ExampleReadings.{too_many_brackets}
-use Rattle.rbg_syntax.proofs.examples.brackets_do_not_nest_129_deep.Goals as goal
-
-pub returns : goal.returns
-returns c = too_many_brackets

@@ -1,5 +1,0 @@
-use Rattle.rbg_syntax.proofs.ExampleReadings.{two_minuses}
-use Rattle.rbg_syntax.proofs.examples.two_minuses_are_no_sum.Goals as goal
-
-pub returns : goal.returns
-returns c = two_minuses

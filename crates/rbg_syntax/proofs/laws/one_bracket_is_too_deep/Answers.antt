@@ -1,5 +1,0 @@
-use Rattle.rbg_syntax.proofs.Depths.{one_too_deep}
-use Rattle.rbg_syntax.proofs.laws.one_bracket_is_too_deep.Goals as goal
-
-pub returns : goal.returns
-returns c = one_too_deep

@@ -1,0 +1,7 @@
+-- Lemmas.
+pub mod OneReading
+mod Parts
+mod Scan
+pub mod SpeltTokens
+pub mod Words
+pub mod ZeroBytes

@@ -1,0 +1,2 @@
+-- What only the contracts of private functions and this crate's proofs cite.
+pub mod Part
