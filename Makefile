@@ -4,24 +4,30 @@ PROGRAM := crates/rbg_manager
 AUTHOR := crates/rbg_author_main
 CRATES := $(wildcard crates/*)
 # The programs with a stored run, and the crates with tests. Stored runs with words of their own are the gate's, and so
-# is rbg_search_tests, whose 2,000 games take too long where each step is checked.
+# is rbg_test_search, whose 2,000 games take too long where each step is checked.
 STORED := $(filter-out $(patsubst crates/%/args,%,$(wildcard crates/*/args)) rbg_games,$(patsubst crates/%/stdin,%,$(wildcard crates/*/stdin)))
-TESTED := $(filter-out rbg_search_tests,$(sort $(foreach file,$(shell grep -rl --include='*.rt' '^ *#\[test\]' crates),$(word 2,$(subst /, ,$(file))))))
+TESTED := $(filter-out rbg_test_search,$(sort $(foreach file,$(shell grep -rl --include='*.rt' '^ *#\[test\]' crates),$(word 2,$(subst /, ,$(file))))))
 # The game of `make demo` and of `make clients`, and the port on which the clients' match is served.
 GAME := crates/rbg_games/data/tictactoe.rbg
 PORT := 4710
+# How many cases `make compare` makes by chance, the seed of the first one, and the program that it runs.
+N := 10000
+SEED := 1
+RBG := ./rbg
 # How long a test may take without the proof: its build checks each step.
 SECONDS := 600
 
-.PHONY: help run demo games clients try build test check fmt clean
+.PHONY: help run demo games clients compare try build bench test check fmt clean
 
 help:
-	@echo 'make run      referees the stored match (crates/rbg_manager/stdin), with no proof'
+	@echo 'make run      referees the first match of README.md (crates/rbg_manager/stdin), with no proof'
 	@echo 'make demo     referees a match between two players over connections, and prints its record, with no proof'
 	@echo 'make games    checks each of the games that come with it, counts its first moves and referees a match, with no proof'
 	@echo 'make clients  lets two example clients play a match over ./rbg serve, and checks its record (after make build)'
+	@echo 'make compare  compares ./rbg with the interpreter of tools/slow, on stored cases and N=10000 others of SEED=1 (after make build)'
 	@echo 'make try      runs the stored runs and the tests, with no proof; make -j4 try runs four at once'
 	@echo 'make build    proves the programs and what they stand on, and leaves them as ./rbg and ./rbg_author'
+	@echo 'make bench    prints the tables of docs/COSTS.md, by valgrind (after make build); SECTIONS="texts search" prints some'
 	@echo 'make test     the gate: every proof from nothing, the must-fail edits, each test, each program'
 	@echo 'make check    proves what changed since the last check, lowest crates first'
 	@echo 'make fmt      lays out the sources and the proofs'
@@ -45,6 +51,10 @@ clients:
 	  { kill $$first $$served 2> /dev/null; false; }; } && \
 	cat $$record && ./rbg replay $(GAME) $$record; status=$$?; rm -f $$record; exit $$status
 
+compare:
+	@test -x $(RBG) || { echo 'make compare needs $(RBG): run make build first, or give RBG=path'; exit 1; }
+	@python3 tools/slow/compare.py --rbg $(RBG) --count $(N) --seed $(SEED)
+
 try: $(STORED:%=try-run-%) $(TESTED:%=try-test-%)
 
 try-run-%:
@@ -58,6 +68,9 @@ build:
 	cp $(PROGRAM)/out/rbg_manager rbg
 	cd $(AUTHOR) && $(RT) run -- --help
 	cp $(AUTHOR)/out/rbg_author_main rbg_author
+
+bench:
+	@python3 tools/bench/bench.py $(SECTIONS)
 
 test:
 	$(RT) ci
