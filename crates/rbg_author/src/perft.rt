@@ -1,6 +1,7 @@
 //! What `perft` prints of a game: how many sequences of moves it has.
 
 use crate::report::Report;
+use rbg_console::Status;
 use rbg_game::Game;
 use rbg_perft::{CountError, PlayedGame, Workspace, count_from_start};
 use std::alloc::{AllocError, Global};
@@ -16,11 +17,13 @@ pub fn perft(alloc: Global, game: Game, depth: u8) -> Result<Report, AllocError>
     for moves in 1..=depth {
         if let Some(error) = push_counts(alloc, &mut text, &game, moves, &mut workspace)? {
             push_reason(&mut text, error)?;
-            return Ok(Report { text, status: 1 });
+            let status = Status::Refused;
+            return Ok(Report { text, status });
         }
     }
     push_searched(alloc, &mut text, &workspace)?;
-    Ok(Report { text, status: 0 })
+    let status = Status::Success;
+    Ok(Report { text, status })
 }
 
 /// The line that says how much was searched.

@@ -6,7 +6,7 @@ use crate::reading::{Read, read_game};
 use crate::report::{Report, print};
 use crate::shown::show_file;
 use clap::{Arg, ArgAction, ArgMatches, Command};
-use rbg_console::{Files, WordsError, file_argument, match_words};
+use rbg_console::{Files, Status, WordsError, file_argument, match_words};
 use std::alloc::{AllocError, Global};
 use std::io::{self, Write};
 
@@ -14,14 +14,14 @@ use std::io::{self, Write};
 const USUAL_DEPTH: u8 = 3;
 
 /// Runs the program: reads the file that its words name, and its input where they ask for it, writes what is said, and
-/// gives the status.
+/// returns the status.
 pub fn run<F: Files, R: io::Read, W: Write>(
     alloc: Global,
     words: &[String],
     files: &mut F,
     input: &mut R,
     output: &mut W,
-) -> u8 {
+) -> Status {
     print(output, &obey(alloc, words, files, input))
 }
 
@@ -100,7 +100,7 @@ fn explain_file<F: Files>(alloc: Global, files: &mut F, file: &str) -> Result<Re
     match read_game(alloc, files, file)? {
         Read::Found(game) => Ok(Report {
             text: listing(alloc, &game)?.into_bytes(),
-            status: 0,
+            status: Status::Success,
         }),
         Read::Other(report) => Ok(report),
     }

@@ -2,7 +2,7 @@
 
 use crate::explanation::explain;
 use crate::report::Report;
-use rbg_console::{DEVICE, Files, Input};
+use rbg_console::{Files, Input, Status};
 use rbg_game::{Game, LoadError, load};
 use rbg_tokens::{MAX_TEXT, TextError};
 use std::alloc::{AllocError, Global};
@@ -50,7 +50,7 @@ pub(crate) fn unreadable(alloc: Global, file: &str) -> Result<Report, AllocError
     let line = format!(in alloc; "{file}: the file can't be read\n")?;
     Ok(Report {
         text: line.into_bytes(),
-        status: DEVICE,
+        status: Status::Device,
     })
 }
 
@@ -66,6 +66,6 @@ pub(crate) fn refuse(
     }
     Ok(Report {
         text: explain(alloc, file, text, error)?,
-        status: 1,
+        status: Status::Refused,
     })
 }

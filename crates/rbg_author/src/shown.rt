@@ -2,7 +2,7 @@
 
 use crate::reading::{Read, read_text, refuse, unreadable};
 use crate::report::Report;
-use rbg_console::{Files, Input, MAX_INPUT, read_input};
+use rbg_console::{Files, Input, MAX_INPUT, Status, read_input};
 use rbg_show::{ShowError, show};
 use std::alloc::{AllocError, Global};
 use std::io;
@@ -35,7 +35,11 @@ fn show_moves(
     match show(alloc, text, moves, only_last) {
         Ok(shown) => Ok(Report {
             text: shown.text,
-            status: if shown.is_whole { 0 } else { 1 },
+            status: if shown.is_whole {
+                Status::Success
+            } else {
+                Status::Refused
+            },
         }),
         Err(ShowError::Load(error)) => refuse(alloc, file, text, error),
         Err(ShowError::Memory(error)) => Err(error),

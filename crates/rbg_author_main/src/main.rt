@@ -2,12 +2,12 @@
 #![tactic(auto)]
 
 use rbg_author::{print, run};
-use rbg_console::{SystemFiles, words};
+use rbg_console::{Status, SystemFiles, words};
 use std::io;
 use std::process::ExitCode;
 
-/// Runs the program on the system's files, and gives its status.
-fn run_on_system(rt: &HostRuntime, words: &[String]) -> u8 {
+/// Runs the program on the system's files, and returns its status.
+fn run_on_system(rt: &HostRuntime, words: &[String]) -> Status {
     run(
         rt.alloc(),
         words,
@@ -18,8 +18,9 @@ fn run_on_system(rt: &HostRuntime, words: &[String]) -> u8 {
 }
 
 fn main(rt: HostRuntime) -> ExitCode {
-    ExitCode::from(match words(&rt) {
+    let status = match words(&rt) {
         Ok(words) => run_on_system(&rt, words.as_slice()),
         Err(error) => print(&mut io::writer(&rt), &Err(error)),
-    })
+    };
+    ExitCode::from(status.code())
 }

@@ -28,7 +28,7 @@ mod network;
 
 use crate::cases::{Case, CasesError, Program, Text, read_cases};
 use crate::network::MemoryNetwork;
-use rbg_console::{Files, Input, MAX_INPUT, read_input};
+use rbg_console::{Files, Input, MAX_INPUT, Status, read_input};
 use std::alloc::{AllocError, Global};
 use std::io::{self, Write};
 use std::process::ExitCode;
@@ -62,8 +62,8 @@ fn last_lines(text: &[u8], count: usize) -> &[u8] {
     text
 }
 
-/// Runs the case's program, and gives its status.
-fn run_program(alloc: Global, case: &Case<'_>, printed: &mut Vec<u8>) -> u8 {
+/// Runs the case's program, and returns its status.
+fn run_program(alloc: Global, case: &Case<'_>, printed: &mut Vec<u8>) -> Status {
     let words = case.words.as_slice();
     let mut files = CaseFiles {
         files: case.files.as_slice(),
@@ -84,7 +84,7 @@ fn run_case(alloc: Global, case: &Case<'_>, output: &mut Vec<u8>) -> Result<(), 
     output.extend_from_slice(case.name)?;
     output.push(b'\n')?;
     let mut printed = Vec::new(alloc);
-    let status = run_program(alloc, case, &mut printed);
+    let status = run_program(alloc, case, &mut printed).code();
     output.extend_from_slice(last_lines(printed.as_slice(), case.shown))?;
     let line = format!(in alloc; "status {status}\n")?;
     output.extend_from_slice(line.as_bytes())

@@ -6,11 +6,13 @@ mod counts;
 mod input;
 mod output;
 mod refusal;
+mod status;
 mod system;
 
 pub use command_line::{WordsError, file_argument, match_words};
 pub use counts::count_line;
 pub use input::{Files, Input, MAX_INPUT, read_input};
-pub use output::{DEVICE, write_text};
+pub use output::write_text;
 pub use refusal::Refusal;
+pub use status::Status;
 pub use system::{SystemFiles, words};

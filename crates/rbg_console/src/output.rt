@@ -1,15 +1,13 @@
 //! Writing what a program says.
 
+use crate::status::Status;
 use std::io::{self, Write};
 
-/// The status where a file or a stream fails.
-pub const DEVICE: u8 = 3;
-
-/// Writes the text and gives the status, or that of a device where the output fails.
-pub fn write_text<W: Write>(output: &mut W, text: &[u8], status: u8) -> u8 {
+/// Writes the text and returns the status, or `Status::Device` if the output fails.
+pub fn write_text<W: Write>(output: &mut W, text: &[u8], status: Status) -> Status {
     match write_and_flush(output, text) {
         Ok(()) => status,
-        Err(_) => DEVICE,
+        Err(_) => Status::Device,
     }
 }
 

@@ -9,7 +9,7 @@
 mod boards;
 
 use boards::GameFiles;
-use rbg_console::{Files, Input, MAX_INPUT, SystemFiles, read_input};
+use rbg_console::{Files, Input, MAX_INPUT, Status, SystemFiles, read_input};
 use rbg_program::SystemNetwork;
 use std::alloc::{AllocError, Global};
 use std::io::{self, Write};
@@ -43,7 +43,7 @@ fn run_rbg(
         &mut input,
         output,
     );
-    Ok(status == 0)
+    Ok(status == Status::Success)
 }
 
 /// Runs `rbg_author` with these words and this input, and says whether all went well.
@@ -57,7 +57,7 @@ fn run_author(
     let mut files = GameFiles::new(rt);
     let mut input = input;
     let status = rbg_author::run(rt.alloc(), words.as_slice(), &mut files, &mut input, output);
-    Ok(status == 0)
+    Ok(status == Status::Success)
 }
 
 /// Checks the game, counts its moves up to the depth, and says whether all went well.

@@ -1,13 +1,13 @@
 //! The program `rbg`: a referee for games of Regular Boardgames.
 #![tactic(auto)]
 
-use rbg_console::{SystemFiles, words};
+use rbg_console::{Status, SystemFiles, words};
 use rbg_program::{Fault, SystemNetwork, report, run};
 use std::io;
 use std::process::ExitCode;
 
-/// Runs the program on the system's files, connections and streams, and gives its status.
-fn run_on_system(rt: &HostRuntime, words: &[String]) -> u8 {
+/// Runs the program on the system's files, connections and streams, and returns its status.
+fn run_on_system(rt: &HostRuntime, words: &[String]) -> Status {
     run(
         rt.alloc(),
         words,
@@ -19,8 +19,9 @@ fn run_on_system(rt: &HostRuntime, words: &[String]) -> u8 {
 }
 
 fn main(rt: HostRuntime) -> ExitCode {
-    ExitCode::from(match words(&rt) {
+    let status = match words(&rt) {
         Ok(words) => run_on_system(&rt, words.as_slice()),
         Err(error) => report(&mut io::writer(&rt), &Err(Fault::from(error))),
-    })
+    };
+    ExitCode::from(status.code())
 }

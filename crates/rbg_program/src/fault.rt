@@ -1,10 +1,11 @@
 //! Why a task is not done: each fault's printed line and its status.
 
 use crate::player_refusal::PlayerRefusal;
-use rbg_console::{DEVICE, Refusal, WordsError, write_text};
+use rbg_console::{Refusal, Status, WordsError, write_text};
 use rbg_game::LoadError;
 use rbg_hall::ServeError;
 use rbg_match::{MatchError, RefereeError};
+use rbg_network::ClientError;
 use rbg_player::PlayerError;
 use rbg_record::RecordError;
 use rbg_script::ScriptError;
@@ -51,19 +52,19 @@ pub enum Fault {
 
 impl Fault {
     /// The status with which the program ends.
-    fn status(&self) -> u8 {
+    fn status(&self) -> Status {
         match self {
-            Fault::Refused(_) => 1,
-            Fault::Script(_) => 2,
-            Fault::BadRecord(_) => 2,
-            Fault::RecordForm(_) => 2,
-            Fault::RecordOver(_) => 2,
-            Fault::Device => DEVICE,
-            Fault::Rounds => 3,
-            Fault::Player(_) => 3,
-            Fault::Memory(_) => 4,
-            Fault::Help(_) => 0,
-            Fault::CommandLine(_) => 64,
+            Fault::Refused(_) => Status::Refused,
+            Fault::Script(_) => Status::BadInput,
+            Fault::BadRecord(_) => Status::BadInput,
+            Fault::RecordForm(_) => Status::BadInput,
+            Fault::RecordOver(_) => Status::BadInput,
+            Fault::Device => Status::Device,
+            Fault::Rounds => Status::Device,
+            Fault::Player(_) => Status::Device,
+            Fault::Memory(_) => Status::Memory,
+            Fault::Help(_) => Status::Success,
+            Fault::CommandLine(_) => Status::CommandLine,
         }
     }
 }
@@ -134,6 +135,15 @@ impl From<PlayerError> for Fault {
     }
 }
 
+impl From<ClientError> for Fault {
+    fn from(error: ClientError) -> Fault {
+        match error {
+            ClientError::Device => Fault::Device,
+            ClientError::Player(error) => Fault::from(error),
+        }
+    }
+}
+
 impl From<io::Error> for Fault {
     fn from(_error: io::Error) -> Fault {
         Fault::Device
@@ -150,13 +160,13 @@ impl From<WordsError> for Fault {
     }
 }
 
-/// Writes the lines or the fault's line, and gives the status, or that of a device where the output fails.
-pub fn report<W: Write>(output: &mut W, outcome: &Result<Vec<u8>, Fault>) -> u8 {
+/// Writes the lines or the fault's line and returns the status, or `Status::Device` if the output fails.
+pub fn report<W: Write>(output: &mut W, outcome: &Result<Vec<u8>, Fault>) -> Status {
     match outcome {
-        Ok(lines) => write_text(output, lines.as_slice(), 0),
+        Ok(lines) => write_text(output, lines.as_slice(), Status::Success),
         Err(fault) => match write_fault(output, fault) {
             Ok(()) => fault.status(),
-            Err(_) => DEVICE,
+            Err(_) => Status::Device,
         },
     }
 }

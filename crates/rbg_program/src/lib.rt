@@ -2,12 +2,10 @@
 //! its status.
 #![tactic(auto)]
 
-mod client;
 mod commands;
 mod fault;
 mod inputs;
 mod moves;
-mod network;
 mod player_refusal;
 mod printed;
 mod program;
@@ -15,13 +13,10 @@ mod records;
 mod refereeing;
 mod script_events;
 mod serving;
-mod stream_line;
-mod system_network;
 mod task;
 
 pub use fault::{Fault, report};
-pub use network::Network;
 pub use program::run;
-pub use rbg_console::{Files, Input};
+pub use rbg_console::{Files, Input, Status};
 pub use rbg_hall::Clock;
-pub use system_network::{SystemClock, SystemNetwork};
+pub use rbg_network::{Network, SystemClock, SystemNetwork};

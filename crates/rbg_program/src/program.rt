@@ -4,17 +4,17 @@
 use crate::fault::{Fault, report};
 use crate::inputs::read_description;
 use crate::moves::list_file;
-use crate::network::Network;
 use crate::records::{migrate_files, replay_files};
 use crate::refereeing::{referee_file, referee_input};
 use crate::serving::{demo_file, play, serve_file};
 use crate::task::Task;
-use rbg_console::{Files, count_line};
+use rbg_console::{Files, Status, count_line};
 use rbg_game::{Game, load};
+use rbg_network::Network;
 use std::alloc::{AllocError, Global};
 use std::io::{Read, Write};
 
-/// Runs the program: reads what its words ask for, writes the lines, and gives the status.
+/// Runs the program: reads what its words ask for, writes the lines, and returns the status.
 pub fn run<F: Files, N: Network, R: Read, W: Write>(
     alloc: Global,
     words: &[String],
@@ -22,7 +22,7 @@ pub fn run<F: Files, N: Network, R: Read, W: Write>(
     network: &mut N,
     input: &mut R,
     output: &mut W,
-) -> u8 {
+) -> Status {
     report(output, &obey(alloc, words, files, network, input))
 }
 

@@ -3,17 +3,15 @@ ghost use Rattle.std.specs.Prelude.{◌≡◌, length, IfOk};
 ghost use Rattle.rbg_game.specs.Loading.{Loads};
 ghost use Rattle.rbg_match.specs.PlayingOn.{seats_of};
 
-use crate::client::Client;
 use crate::fault::Fault;
 use crate::inputs::read_description;
-use crate::network::Network;
 use crate::printed::outcome_line;
-use crate::stream_line::{PlayedLine, StreamLine};
 use crate::task::Service;
 use rbg_console::Files;
 use rbg_game::{Game, load};
 use rbg_hall::{Clock, Line, serve};
 use rbg_match::Match;
+use rbg_network::{Client, Network, PlayedLine, StreamLine};
 use rbg_player::Heard;
 use rbg_record::{write_record, write_record_1};
 use rbg_wire::Outcome;

@@ -65,7 +65,7 @@ fn an_input_that_fails_or_has_no_end(rt: HostRuntime) {
             &mut Endless { reads },
             &mut output,
         );
-        assert_eq!(rt; found, status);
+        assert_eq!(rt; found.code(), status);
         assert_eq!(rt; output.as_slice(), text.as_bytes());
     }
 }
@@ -81,6 +81,6 @@ fn a_failing_output_has_the_status_of_a_device(rt: HostRuntime) -> Result<(), Fa
         &mut reader,
         &mut Closed,
     );
-    assert_eq!(rt; status, 3);
+    assert_eq!(rt; status.code(), 3);
     Ok(())
 }

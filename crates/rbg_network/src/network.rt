@@ -31,7 +31,7 @@ pub trait Network {
 }
 
 /// Whether a stream only says that it has nothing now, or takes nothing now.
-pub fn is_nothing_yet(error: &io::Error) -> bool {
+pub(crate) fn is_nothing_yet(error: &io::Error) -> bool {
     matches!(
         error.kind(),
         ErrorKind::WouldBlock | ErrorKind::TimedOut | ErrorKind::Interrupted
