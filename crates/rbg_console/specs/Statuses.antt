@@ -4,7 +4,7 @@ use Rattle.rbg_console.specs.declared.status.Status.{Status}
 use Rattle.rbg_console.specs.declared.status.Status.TheVariants.{Success, Refused, BadInput, Device, Memory, CommandLine}
 
 -- As docs/PROGRAM.md has them.
-def pub status_code : Status → ℕ
+unfoldable pub status_code : Status → ℕ
 status_code Success = 0
 status_code Refused = 1
 status_code BadInput = 2

@@ -21,6 +21,7 @@ pub enum Status {
 
 impl Status {
     /// The number that the system is given.
+    #[tactic(auto, unfolding(crate::specs::Statuses::status_code))]
     pub fn code(self) -> u8
         ensures { result ≡ status_code self }
     {

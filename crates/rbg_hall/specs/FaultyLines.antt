@@ -16,9 +16,9 @@ abbrev pub faults : (call calls : ℕ) → ℕ
 faults zero calls = 0
 faults (suc before) calls = if calls == suc before then 1 else 0
 
--- The calls but the one that fails, which has this number, are passed on to this line, of so many that have come: it gave the
--- same bytes and took the same, and failed as often, without the fault. It ended and took none no more often, since a
--- failure that can't be counted any more is told so.
+-- So many calls have come, and all but the one that fails, which has this number, are passed on to this line: it gave
+-- the same bytes and took the same, and failed as often, without the fault. It ended and took none at most as often,
+-- since a failure that can't be counted any more is told as such an end or such a put.
 pub record PassesOn {L : Type 0} (told : L → Told → Type 0) (failure_count : L → ℕ) (call calls : ℕ) (line : L)
     (so_far : Told) : Type 0 where
   pub inner : Told
@@ -41,7 +41,8 @@ abbrev pub counted_put : (failures : ℕ) → Put → Put
 counted_put failures (Took n) = Took n
 counted_put failures PutFailed = if failures == most_failures then Took 0 else PutFailed
 
--- A poll is passed on to the line, and its answer is the line's.
+-- The line changes as a poll with this answer may change it, and the answer is passed back. A line that keeps no record
+-- may not have been asked.
 pub record PollsOn {L : Type 0} (told : L → Told → Type 0) (failure_count : L → ℕ) (failures : ℕ) (old new : L)
     (result : Polled) (buffer : List ℕ) : Type 0 where
   pub answer : Polled
@@ -49,7 +50,7 @@ pub record PollsOn {L : Type 0} (told : L → Told → Type 0) (failure_count : 
   pub tells : (so_far : Told) →
       Tells told failure_count old so_far → Tells told failure_count new (after_poll so_far answer buffer)
 
--- A put is passed on to the line, and its answer is the line's.
+-- The line changes as a put with this answer may change it, and the answer is passed back.
 pub record PutsOn {L : Type 0} (told : L → Told → Type 0) (failure_count : L → ℕ) (failures : ℕ) (old new : L)
     (result : Put) (bytes : List ℕ) : Type 0 where
   pub answer : Put

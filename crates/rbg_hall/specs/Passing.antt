@@ -26,8 +26,7 @@ pub record ComeBefore (since now : List Intake) : Type 0 where
   pub taken : (index : ℕ) → (intake_at since index).taken ≤ (intake_at now index).taken
   pub stalls : (index : ℕ) → (intake_at since index).stalls ≤ (intake_at now index).stalls
 
--- Since the lines had the first intakes, all that is queued was offered to each that is live: it has taken all, or it took
--- none of what was left.
+-- Each line that is live has taken all that is queued, or took none at some put since the lines had the first intakes.
 abbrev pub AllOffered : List Heard → (queued : List (List ℕ)) → (since now : List Intake) → Type 0
 AllOffered heard queued since now =
     (index : ℕ) → index < length queued →

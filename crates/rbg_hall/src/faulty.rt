@@ -25,6 +25,7 @@ impl<L: Line> Faulty<L> {
         ensures line { result.line ≡ line }
         ensures call { result.call ≡ call }
         ensures calls { result.calls ≡ 0 }
+        ensures failures { result.failures ≡ L.failure_count line }
         ensures told { (so_far : Told) →
             Tells L.told L.failure_count line so_far → ⟦<Faulty<L> as Line>⟧.told result so_far }
     {

@@ -1,5 +1,6 @@
 -- Moves of the keeper before a player's.
-use Rattle.std.specs.Prelude.{◌≡◌, ◌≢◌, ℕ, zero, suc, ◌<◌, ◌≤◌, ◌⊎◌, List}
+use Rattle.std.specs.Prelude.{◌≡◌, ◌≢◌, ℕ, zero, suc, ◌<◌, ◌≤◌, ◌⊎◌, List, length}
+use Rattle.rbg_base.specs.Move.{IsMoveLength}
 use Rattle.rbg_rules.specs.State.{AbstractGame}
 use Rattle.rbg_rules.specs.Heavy.{IsHeavyToFind}
 use Rattle.rbg_rules.specs.Moves.{AbstractPlace, Legal, Finished}
@@ -13,15 +14,16 @@ pub data KeeperMoves (game : AbstractGame) (from : AbstractPlace) : (many : ℕ)
       KeeperMoves game from many middle →
       middle.state.player ≡ 0 →
       Legal game middle pairs to →
+      IsMoveLength (length pairs) →
       KeeperMoves game from (suc many) to
 
--- The keeper's moves, at most 1,000, lead from one place to the other, and there a player is to move or play is
--- finished.
+-- The keeper's moves, at most 1,000, lead from one place to the other. There a player is to move, or play is finished
+-- after fewer than 1,000: after 1,000 the keeper is asked no more.
 pub record Settles (game : AbstractGame) (from to : AbstractPlace) : Type 0 where
   pub many : ℕ
   pub few : many ≤ most_keeper_moves
   pub moves : KeeperMoves game from many to
-  pub rests : (to.state.player ≢ 0) ⊎ Finished game to
+  pub rests : (to.state.player ≢ 0) ⊎ ((many < most_keeper_moves) × Finished game to)
 
 -- The keeper's moves, fewer than 1,000, lead to a place where the keeper is to move, and the question for a legal move
 -- is above the limits there.

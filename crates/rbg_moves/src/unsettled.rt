@@ -20,7 +20,7 @@ impl From<Over> for Unsettled {
     ghost use Rattle.rbg_search.specs.declared.over.Over.TheVariants.{Deep, Wide, Memory as NoMemory};
 
     ghost from_gives = { λ over why.
-        ((why ≡ Heavy) × ((over ≡ Deep) ⊎ (over ≡ Wide))) ⊎ (why ≡ Memory) };
+        ((why ≡ Heavy) × ((over ≡ Deep) ⊎ (over ≡ Wide))) ⊎ ((why ≡ Memory) × (over ≡ NoMemory)) };
 
     fn from(over: Over) -> Unsettled {
         match over {
