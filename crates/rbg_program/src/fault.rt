@@ -4,11 +4,11 @@ use crate::player_refusal::PlayerRefusal;
 use rbg_console::{Refusal, Status, WordsError, write_text};
 use rbg_game::LoadError;
 use rbg_hall::ServeError;
-use rbg_match::{MatchError, RefereeError};
+use rbg_match::MatchError;
 use rbg_network::ClientError;
 use rbg_player::PlayerError;
 use rbg_record::RecordError;
-use rbg_script::ScriptError;
+use rbg_refereeing::RefereeingError;
 use std::alloc::AllocError;
 use std::io::{self, Write};
 use thiserror::Error;
@@ -88,21 +88,12 @@ impl From<MatchError> for Fault {
     }
 }
 
-impl From<RefereeError> for Fault {
-    fn from(error: RefereeError) -> Fault {
+impl From<RefereeingError> for Fault {
+    fn from(error: RefereeingError) -> Fault {
         match error {
-            RefereeError::Load(error) => Fault::from(error),
-            RefereeError::Config => Fault::Script(1),
-            RefereeError::Memory { .. } => Fault::Memory(AllocError),
-        }
-    }
-}
-
-impl From<ScriptError> for Fault {
-    fn from(error: ScriptError) -> Fault {
-        match error {
-            ScriptError::Line(line) => Fault::Script(line),
-            ScriptError::Memory => Fault::Memory(AllocError),
+            RefereeingError::Load(error) => Fault::from(error),
+            RefereeingError::Script(line) => Fault::Script(line),
+            RefereeingError::Memory => Fault::Memory(AllocError),
         }
     }
 }

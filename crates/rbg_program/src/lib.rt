@@ -11,7 +11,6 @@ mod printed;
 mod program;
 mod records;
 mod refereeing;
-mod script_events;
 mod serving;
 mod task;
 

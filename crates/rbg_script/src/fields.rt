@@ -14,7 +14,7 @@ pub(crate) struct Fields<'a> {
 }
 
 /// The bytes before the first such byte, and those behind it.
-pub(crate) fn cut_at(byte: u8, bytes: &[u8]) -> Option<(&[u8], &[u8])>
+pub fn cut_at(byte: u8, bytes: &[u8]) -> Option<(&[u8], &[u8])>
     ensures found { IfSome result (λ parts.
         (bytes.now ≡ parts.0.now ++ byte ∷ parts.1.now) × LacksByte byte parts.0.now) }
     ensures none { IfNone result (LacksByte byte bytes.now) }
@@ -24,7 +24,7 @@ pub(crate) fn cut_at(byte: u8, bytes: &[u8]) -> Option<(&[u8], &[u8])>
 }
 
 /// The bytes behind a text, if they begin with it.
-pub(crate) fn after_text<'a>(text: &[u8], bytes: &'a [u8]) -> Option<&'a [u8]>
+pub fn after_text<'a>(text: &[u8], bytes: &'a [u8]) -> Option<&'a [u8]>
     ensures found { IfSome result (λ rest. bytes.now ≡ text.now ++ rest.now) }
     ensures none { IfNone result ((rest : List ℕ) → bytes.now ≡ text.now ++ rest → ⊥) }
 {

@@ -1,9 +1,9 @@
 -- The events so far are those of the script's first ones.
 use Rattle.std.proofs.Common.{◌≡◌, map, take}
 use Rattle.rbg_match.specs.Inputs.{event_of}
-use Rattle.rbg_program.specs.Scripts.{event_for}
+use Rattle.rbg_refereeing.specs.Scripts.{event_for}
 use Rattle.rbg_script.specs.Events.{event_of as scripted_event}
-use Rattle.rbg_program.proofs.script_events.events_of.Given as goal
+use Rattle.rbg_refereeing.proofs.script_events.events_of.Given as goal
 
 abbrev pub invariant-loop-event : goal.invariant-loop-event
 invariant-loop-event l =

@@ -1,7 +1,7 @@
 //! The events of a script, as a match is given them.
 ghost use Rattle.std.specs.Prelude.{◌≡◌, map, IfOk};
 ghost use Rattle.rbg_match.specs.Inputs.{event_of as match_event};
-ghost use Rattle.rbg_program.specs.Scripts.{event_for};
+ghost use Rattle.rbg_refereeing.specs.Scripts.{config_for, event_for};
 ghost use Rattle.rbg_script.specs.Events.{event_of as scripted_event};
 
 use rbg_match::{Config, Event};
@@ -10,8 +10,7 @@ use std::alloc::{AllocError, Global};
 
 /// The config of the match.
 pub fn config_of(config: ScriptConfig) -> Config
-    ensures turn { result.turn_ms ≡ config.turn_ms }
-    ensures refusals { result.refusals ≡ config.refusals }
+    ensures { result ≡ config_for config }
 {
     Config {
         turn_ms: config.turn_ms,

@@ -1,0 +1,4 @@
+pub mod Errors
+pub mod Matches
+pub mod Printed
+pub mod Scripts

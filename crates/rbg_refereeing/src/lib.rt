@@ -1,0 +1,10 @@
+//! The match of a description and a script, from the bytes of an input to the bytes that are printed.
+#![tactic(auto)]
+
+mod error;
+mod printed;
+mod refereeing;
+mod script_events;
+
+pub use error::RefereeingError;
+pub use refereeing::{referee_input, referee_texts};
