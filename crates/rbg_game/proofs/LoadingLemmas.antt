@@ -19,8 +19,8 @@ use Rattle.rbg_syntax.specs.declared.error.SyntaxError.TheVariants.{Memory as Sy
 use Rattle.rbg_rules.specs.State.{AbstractGame}
 use Rattle.rbg_game.specs.Descriptions.{IsGameOf}
 use Rattle.rbg_game.specs.Faults.{HasFault}
-use Rattle.rbg_numbering.specs.declared.error.GameError.{GameError}
-use Rattle.rbg_numbering.specs.declared.error.GameError.TheVariants.{Memory as GameMemory}
+use Rattle.rbg_game.specs.declared.game_error.GameError.{GameError}
+use Rattle.rbg_game.specs.declared.game_error.GameError.TheVariants.{Memory as GameMemory}
 use Rattle.rbg_game.specs.declared.error.LoadError.{LoadError}
 use Rattle.rbg_game.specs.declared.error.LoadError.TheVariants as errors
 use Rattle.rbg_game.specs.Loading.{HasSectionsOf, Describes, IsRefused}

@@ -3,11 +3,12 @@
 
 mod checking;
 mod error;
+mod game_error;
 pub mod laws;
 mod loading;
 
 pub use checking::check;
 pub use error::LoadError;
+pub use game_error::{GameError, Thing};
 pub use loading::load;
-pub use rbg_numbering::{GameError, Thing};
 pub use rbg_rules::{Action, Arithmetic, Game, Operation, Operator, Relation, Rule, Rules, limits};
