@@ -33,6 +33,10 @@ one_source text a b x y = sections_once y.tokens a b (subst (λ ts. HasSections 
 pub one_spelt : (text : List ℕ) (a b : SpeltDescription) → Describes text a → Describes text b → a ≡ b
 one_spelt text a b x y = one_description y.sections a b (subst (λ ss. Spells ss a) (one_source text x.sections y.sections x.has y.has) x.spells) y.spells
 
+-- The sections of a text's tokens are the text's.
+pub sections_of_text : (text : List ℕ) (tokens : List Lexeme) (sections : List SectionTokens) → HasTokens text tokens → HasSections tokens sections → HasSectionsOf text sections
+sections_of_text text tokens sections cut expanded = record { tokens = tokens; cut = cut; expanded = expanded }
+
 -- What the sections of a text spell is what the text spells.
 pub described : (text : List ℕ) (sections : List SectionTokens) (d : SpeltDescription) → HasSectionsOf text sections → Spells sections d → Describes text d
 described text sections d has spells = record { sections = sections; has = has; spells = spells }

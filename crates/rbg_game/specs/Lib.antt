@@ -3,5 +3,6 @@ pub mod Descriptions
 pub mod GameErrors
 pub mod Faults
 pub mod Loading
+pub mod Layouts
 pub mod OneGame
 pub mod internal

@@ -5,10 +5,12 @@ mod checking;
 mod error;
 mod game_error;
 pub mod laws;
+mod layout;
 mod loading;
 
 pub use checking::check;
 pub use error::LoadError;
 pub use game_error::{GameError, Thing};
-pub use loading::load;
+pub use layout::Layout;
+pub use loading::{LoadedGame, load, load_with_layout};
 pub use rbg_rules::{Action, Arithmetic, Game, Operation, Operator, Relation, Rule, Rules, limits};
