@@ -1,7 +1,6 @@
 //! The lines of a text on which a macro is called.
 
-use crate::line::count_line_feeds;
-use rbg_tokens::{Symbol, Token};
+use rbg_tokens::{Symbol, Token, count_line_feeds};
 use std::alloc::{AllocError, Global};
 
 /// The numbers of the lines on which a macro is called, each once. A call whose name is joined isn't found.

@@ -2,37 +2,24 @@
 
 use crate::calls::{called_lines, push_calls};
 use crate::excerpt::Excerpt;
-use crate::line::Line;
 use crate::message::{Found, Message};
 use crate::place::place_of;
 use crate::spot::{Spot, head_name};
 use rbg_console::Refusal;
 use rbg_game::LoadError;
 use rbg_macro::MacroError;
-use rbg_tokens::{TextError, Token, tokens};
+use rbg_tokens::{TextLine, Token};
 use std::alloc::{AllocError, Global};
 
 /// What an author is told of a refused text: the file, the line and the column, what was expected and what stands
-/// there, the line itself with carets below the place, and the printed line of the refusal.
+/// there, the line itself with carets below the place, and the printed line of the refusal. The tokens are those of the
+/// text, none where it can't be cut into tokens.
 pub fn explain(
     alloc: Global,
     file: &str,
     text: &[u8],
-    error: LoadError,
-) -> Result<Vec<u8>, AllocError> {
-    match tokens(alloc, text) {
-        Ok(tokens) => explain_over(alloc, file, text, error, tokens.as_slice()),
-        Err(TextError::Memory) => Err(AllocError),
-        Err(_) => explain_over(alloc, file, text, error, &[]),
-    }
-}
-
-fn explain_over(
-    alloc: Global,
-    file: &str,
-    text: &[u8],
-    error: LoadError,
     tokens: &[Token<'_>],
+    error: LoadError,
 ) -> Result<Vec<u8>, AllocError> {
     let mut output = Vec::new(alloc);
     match place_of(&error, text, tokens) {
@@ -64,7 +51,7 @@ fn push_place(
     message: Message<'_>,
 ) -> Result<(), AllocError> {
     let at = at.min(text.len());
-    let line = Line::of(text, at);
+    let line = TextLine::of(text, at);
     let offset = at - line.start;
     let number = line.number;
     let column = offset.saturating_add(1);
@@ -96,7 +83,7 @@ fn push_notes(
         push_calls(alloc, output, lines.as_slice())?;
     }
     if let Some(head) = defined_macro(&message, tokens) {
-        let number = Line::of(text, head.at.min(text.len())).number;
+        let number = TextLine::of(text, head.at.min(text.len())).number;
         let name = Found(Some(head));
         let line = format!(in alloc; "the macro {name} is defined on line {number}\n")?;
         output.extend_from_slice(line.as_bytes())?;

@@ -5,7 +5,6 @@
 mod calls;
 mod excerpt;
 mod explanation;
-mod line;
 mod listing;
 mod message;
 mod perft;
@@ -17,6 +16,5 @@ mod shown;
 mod spot;
 
 pub use explanation::explain;
-pub use line::Line;
 pub use program::run;
 pub use report::{Report, print};

@@ -98,8 +98,8 @@ fn show_command<'a>(alloc: Global) -> Result<Command<'a>, AllocError> {
 
 fn explain_file<F: Files>(alloc: Global, files: &mut F, file: &str) -> Result<Report, AllocError> {
     match read_game(alloc, files, file)? {
-        Read::Found(game) => Ok(Report {
-            text: listing(alloc, &game)?.into_bytes(),
+        Read::Found(loaded) => Ok(Report {
+            text: listing(alloc, &loaded.game)?.into_bytes(),
             status: Status::Success,
         }),
         Read::Other(report) => Ok(report),
@@ -113,7 +113,7 @@ fn perft_file<F: Files>(
     depth: u8,
 ) -> Result<Report, AllocError> {
     match read_game(alloc, files, file)? {
-        Read::Found(game) => perft(alloc, game, depth),
+        Read::Found(loaded) => perft(alloc, loaded.game, depth),
         Read::Other(report) => Ok(report),
     }
 }

@@ -3,8 +3,8 @@
 use crate::explanation::explain;
 use crate::report::Report;
 use rbg_console::{Files, Input, Status};
-use rbg_game::{Game, LoadError, load};
-use rbg_tokens::{MAX_TEXT, TextError};
+use rbg_game::{LoadError, LoadedGame, load_with_layout};
+use rbg_tokens::{MAX_TEXT, TextError, Token, tokens};
 use std::alloc::{AllocError, Global};
 
 /// What was read, or what is said where it can't be had.
@@ -19,14 +19,27 @@ pub(crate) fn read_game<F: Files>(
     alloc: Global,
     files: &mut F,
     file: &str,
-) -> Result<Read<Game>, AllocError> {
+) -> Result<Read<LoadedGame>, AllocError> {
     match read_text(alloc, files, file)? {
-        Read::Found(text) => match load(alloc, text.as_slice()) {
-            Ok(game) => Ok(Read::Found(game)),
-            Err(error) => Ok(Read::Other(refuse(alloc, file, text.as_slice(), error)?)),
-        },
+        Read::Found(text) => load_text(alloc, file, text.as_slice()),
         Read::Other(report) => Ok(Read::Other(report)),
     }
+}
+
+/// The game of a file's text. The text is cut into its tokens once, for the game and for what is said of a refusal.
+pub(crate) fn load_text(
+    alloc: Global,
+    file: &str,
+    text: &[u8],
+) -> Result<Read<LoadedGame>, AllocError> {
+    let refused = match tokens(alloc, text) {
+        Ok(tokens) => match load_with_layout(alloc, &tokens) {
+            Ok(loaded) => return Ok(Read::Found(loaded)),
+            Err(error) => refuse(alloc, file, text, tokens.as_slice(), error),
+        },
+        Err(error) => refuse(alloc, file, text, &[], LoadError::Text(error)),
+    };
+    Ok(Read::Other(refused?))
 }
 
 /// Reads the text of a file, if it is no longer than a description may be.
@@ -39,7 +52,7 @@ pub(crate) fn read_text<F: Files>(
         Input::Whole(text) => Ok(Read::Found(text)),
         Input::TooLong => {
             let error = LoadError::Text(TextError::TooLong);
-            Ok(Read::Other(refuse(alloc, file, &[], error)?))
+            Ok(Read::Other(refuse(alloc, file, &[], &[], error)?))
         }
         Input::Device => Ok(Read::Other(unreadable(alloc, file)?)),
     }
@@ -55,17 +68,18 @@ pub(crate) fn unreadable(alloc: Global, file: &str) -> Result<Report, AllocError
 }
 
 /// What is said of a text that is refused. A want of memory is passed on.
-pub(crate) fn refuse(
+fn refuse(
     alloc: Global,
     file: &str,
     text: &[u8],
+    tokens: &[Token<'_>],
     error: LoadError,
 ) -> Result<Report, AllocError> {
     if error.is_memory() {
         return Err(AllocError);
     }
     Ok(Report {
-        text: explain(alloc, file, text, error)?,
+        text: explain(alloc, file, text, tokens, error)?,
         status: Status::Refused,
     })
 }

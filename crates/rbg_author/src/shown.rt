@@ -1,9 +1,9 @@
 //! What `show` prints of a game and a list of moves.
 
-use crate::reading::{Read, read_text, refuse, unreadable};
+use crate::reading::{Read, load_text, read_text, unreadable};
 use crate::report::Report;
 use rbg_console::{Files, Input, MAX_INPUT, Status, read_input};
-use rbg_show::{ShowError, show};
+use rbg_show::show;
 use std::alloc::{AllocError, Global};
 use std::io;
 
@@ -32,16 +32,18 @@ fn show_moves(
     moves: &[u8],
     only_last: bool,
 ) -> Result<Report, AllocError> {
-    match show(alloc, text, moves, only_last) {
-        Ok(shown) => Ok(Report {
-            text: shown.text,
-            status: if shown.is_whole {
-                Status::Success
-            } else {
-                Status::Refused
-            },
-        }),
-        Err(ShowError::Load(error)) => refuse(alloc, file, text, error),
-        Err(ShowError::Memory(error)) => Err(error),
+    match load_text(alloc, file, text)? {
+        Read::Found(loaded) => {
+            let shown = show(alloc, &loaded, moves, only_last)?;
+            Ok(Report {
+                text: shown.text,
+                status: if shown.is_whole {
+                    Status::Success
+                } else {
+                    Status::Refused
+                },
+            })
+        }
+        Read::Other(report) => Ok(report),
     }
 }

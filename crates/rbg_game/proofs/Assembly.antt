@@ -12,7 +12,9 @@ use Rattle.rbg_rules.specs.Games.{IsGame, IsWithinLimits}
 use Rattle.rbg_rules.specs.Limits.{greatest_bound}
 use Rattle.rbg_game.specs.declared.checking.boards.NamedBoard.{NamedBoard}
 use Rattle.rbg_game.specs.declared.checking.names.Things.{Things}
-use Rattle.rbg_numbering.specs.declared.error.GameError.{GameError}
+use Rattle.rbg_game.specs.declared.game_error.GameError.{GameError}
+use Rattle.rbg_numbering.specs.declared.error.NumberingError.{NumberingError}
+use Rattle.rbg_game.specs.GameErrors.{game_error_of}
 use Rattle.rbg_numbering.specs.Names.{Names, texts_of}
 use Rattle.rbg_game.specs.Descriptions.{NamedBoard as BoardByNames, BoardIs, directions_named, holder_names, holders_of, AreBounds, IsGameOf}
 use Rattle.rbg_numbering.specs.Faults.{Purpose, as_direction, as_piece, as_player, as_variable, names_for, HasRuleFault}
@@ -47,7 +49,7 @@ module _ (d : SpeltDescription) (things : Things) (board : NamedBoard) (whole : 
   names_known as_player = among_same (holder_names d.players) things.players (sym are.players)
   names_known as_variable = among_same (holder_names (holders_of d)) things.variables (sym are.variables)
 
-  pub rules_unlawful : (error : GameError) → HasRuleFault (rule_names things board) d.rules error → HasFault d error
+  pub rules_unlawful : (error : NumberingError) → HasRuleFault (rule_names things board) d.rules error → HasFault d (game_error_of error)
   rules_unlawful error fault = in_rules (rule_fault_by (names_spelt d) (rule_names things board) d.rules error names_known fault)
 
 module _ (d : SpeltDescription) (things : Things) (board : NamedBoard) (rules : Expression) (whole : IsWhole d) (are : AreThingsOf d things)

@@ -15,8 +15,9 @@ use Rattle.rbg_grammar.specs.Tree.{SpeltDescription}
 use Rattle.rbg_rules.specs.State.{AbstractGame}
 use Rattle.rbg_rules.specs.Limits.{greatest_bound, most_directions}
 use Rattle.rbg_rules.specs.LawfulNames.{AreDifferentNames, AreLawfulNames}
-use Rattle.rbg_numbering.specs.declared.error.GameError.{GameError}
-use Rattle.rbg_numbering.specs.declared.error.GameError.TheVariants.{Memory}
+use Rattle.rbg_game.specs.declared.game_error.GameError.{GameError}
+use Rattle.rbg_game.specs.GameErrors.{game_error_of}
+use Rattle.rbg_game.specs.declared.game_error.GameError.TheVariants.{Memory}
 use Rattle.rbg_numbering.specs.Names.{texts_of}
 use Rattle.rbg_game.specs.Descriptions.{names_in}
 use Rattle.rbg_game.specs.Descriptions.{NamedBoard, board_in, IsRectangleBoard, IsHexagonBoard, IsGraphBoard, VertexIs, BoardIs, directions_named}
@@ -168,6 +169,6 @@ no_game_with_fault d _ (many_pieces many) other game is = absurd (omega (arith, 
 no_game_with_fault d _ (many_variables many) other game is = absurd (omega (arith, length-map (holders_of d) (λ (h : SpeltBounded). h.name.text), ap length is.variables, is.lawful.limits.variables))
 no_game_with_fault d error (in_board h) other game is =
     board_fault_fails (board_in game) d.board error (subst (λ pieces. HasBoardFault pieces d.board error) (sym is.pieces) h) other is.lawful.piece_names.differ is.lawful.limits.directions is.board
-no_game_with_fault d error (in_rules h) other game is =
-    rule_fault_fails (names_in game) d.rules error game.rules (rule_fault_by (names_in game) (names_spelt d) d.rules error (names_among d game is) h) other is.lawful.limits.positions is.lawful.limits.nesting is.lawful.switches is.rules
+no_game_with_fault d _ (in_rules {error = error} h) other game is =
+    rule_fault_fails (names_in game) d.rules error game.rules (rule_fault_by (names_in game) (names_spelt d) d.rules error (names_among d game is) h) (λ memory. other (ap game_error_of memory)) is.lawful.limits.positions is.lawful.limits.nesting is.lawful.switches is.rules
 no_game_with_fault d _ memory other game is = other refl

@@ -10,8 +10,8 @@ use Rattle.rbg_grammar.specs.Tree.{SpeltName, SpeltEdge, SpeltVertex, graph}
 use Rattle.rbg_grammar.specs.Views.{edge_of, vertex_of}
 use Rattle.rbg_grammar.specs.declared.description.Edge.{Edge}
 use Rattle.rbg_grammar.specs.declared.description.Vertex.{Vertex}
-use Rattle.rbg_numbering.specs.declared.error.GameError.{GameError}
-use Rattle.rbg_numbering.specs.declared.error.GameError.TheVariants as errors
+use Rattle.rbg_numbering.specs.declared.error.NumberingError.{NumberingError}
+use Rattle.rbg_numbering.specs.declared.error.NumberingError.TheVariants as errors
 use Rattle.rbg_numbering.specs.Names.{IsNumberOf}
 use Rattle.rbg_numbering.specs.NameTables.{HasLookUpFault, not_there, no_memory}
 use Rattle.rbg_base.proofs.CallerLemmas.{map-take_more, slice_get-map_at, Contains-map}
@@ -86,7 +86,7 @@ name_new vertices i vertex old new n below is before joins later =
     ]
 
 -- a name that is known is found, unless memory runs out
-pub known_found : (known : List (List ℕ)) (name : SpeltName) (error : GameError) → Contains known name.text → HasLookUpFault known (name ∷ []) error → error ≡ errors.Memory
+pub known_found : (known : List (List ℕ)) (name : SpeltName) (error : NumberingError) → Contains known name.text → HasLookUpFault known (name ∷ []) error → error ≡ errors.Memory
 known_found known name _ there (not_there h) = absurd (h.unknown (subst (λ (n : SpeltName). Contains known n.text) (Contains-one name h.name h.stands) there))
 known_found known name _ there no_memory = refl
 

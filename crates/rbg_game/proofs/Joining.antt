@@ -11,8 +11,8 @@ use Rattle.rbg_base.proofs.CallerLemmas.{AllZip-weaker, Contains-from_get, get_f
 use Rattle.rbg_board.specs.Cells.{AreDifferent}
 use Rattle.rbg_grammar.specs.Tree.{SpeltName}
 use Rattle.rbg_rules.specs.LawfulNames.{AreDifferentNames}
-use Rattle.rbg_numbering.specs.declared.error.GameError.{GameError}
-use Rattle.rbg_numbering.specs.declared.error.GameError.TheVariants as errors
+use Rattle.rbg_numbering.specs.declared.error.NumberingError.{NumberingError}
+use Rattle.rbg_numbering.specs.declared.error.NumberingError.TheVariants as errors
 use Rattle.rbg_numbering.specs.Names.{IsNumberOf}
 use Rattle.rbg_game.specs.Descriptions.{IsOrderOfFirstUse}
 use Rattle.rbg_numbering.specs.NameTables.{HasNameFault, same_name, no_memory}
@@ -31,7 +31,7 @@ pub joins_new : (table : List (List ℕ)) (text : List ℕ) → ¬ Contains tabl
 joins_new table text new = record { number = slice_get-last table text; table = inr (refl, refl, new) }
 
 -- a new name is added, unless memory runs out
-pub new_name_fault : (known : List (List ℕ)) (name : SpeltName) (error : GameError) → ¬ Contains known name.text → HasNameFault known (name ∷ []) error → error ≡ errors.Memory
+pub new_name_fault : (known : List (List ℕ)) (name : SpeltName) (error : NumberingError) → ¬ Contains known name.text → HasNameFault known (name ∷ []) error → error ≡ errors.Memory
 new_name_fault known name _ fresh (same_name {at = at} h) = absurd (fresh (again_alone known name at h).0)
 new_name_fault known name _ fresh no_memory = refl
 

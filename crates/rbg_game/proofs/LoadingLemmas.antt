@@ -19,8 +19,8 @@ use Rattle.rbg_syntax.specs.declared.error.SyntaxError.TheVariants.{Memory as Sy
 use Rattle.rbg_rules.specs.State.{AbstractGame}
 use Rattle.rbg_game.specs.Descriptions.{IsGameOf}
 use Rattle.rbg_game.specs.Faults.{HasFault}
-use Rattle.rbg_numbering.specs.declared.error.GameError.{GameError}
-use Rattle.rbg_numbering.specs.declared.error.GameError.TheVariants.{Memory as GameMemory}
+use Rattle.rbg_game.specs.declared.game_error.GameError.{GameError}
+use Rattle.rbg_game.specs.declared.game_error.GameError.TheVariants.{Memory as GameMemory}
 use Rattle.rbg_game.specs.declared.error.LoadError.{LoadError}
 use Rattle.rbg_game.specs.declared.error.LoadError.TheVariants as errors
 use Rattle.rbg_game.specs.Loading.{HasSectionsOf, Describes, IsRefused}
@@ -32,6 +32,10 @@ one_source text a b x y = sections_once y.tokens a b (subst (λ ts. HasSections 
 -- a text spells one description
 pub one_spelt : (text : List ℕ) (a b : SpeltDescription) → Describes text a → Describes text b → a ≡ b
 one_spelt text a b x y = one_description y.sections a b (subst (λ ss. Spells ss a) (one_source text x.sections y.sections x.has y.has) x.spells) y.spells
+
+-- The sections of a text's tokens are the text's.
+pub sections_of_text : (text : List ℕ) (tokens : List Lexeme) (sections : List SectionTokens) → HasTokens text tokens → HasSections tokens sections → HasSectionsOf text sections
+sections_of_text text tokens sections cut expanded = record { tokens = tokens; cut = cut; expanded = expanded }
 
 -- What the sections of a text spell is what the text spells.
 pub described : (text : List ℕ) (sections : List SectionTokens) (d : SpeltDescription) → HasSectionsOf text sections → Spells sections d → Describes text d

@@ -7,7 +7,9 @@ use Rattle.std.proofs.lemmas.List.Elements.{All-append, Contains-append_left, Co
 use Rattle.std.proofs.lemmas.Option.{slice_get_within}
 use Rattle.rbg_grammar.specs.Tree.{SpeltName, SpeltBounded, SpeltDescription}
 use Rattle.rbg_rules.specs.Limits.{greatest_bound}
-use Rattle.rbg_numbering.specs.declared.error.GameError.{GameError}
+use Rattle.rbg_game.specs.declared.game_error.GameError.{GameError}
+use Rattle.rbg_numbering.specs.declared.error.NumberingError.{NumberingError}
+use Rattle.rbg_game.specs.GameErrors.{game_error_of}
 use Rattle.rbg_numbering.specs.Names.{texts_of}
 use Rattle.rbg_game.specs.Descriptions.{holder_names, holders_of}
 use Rattle.rbg_game.specs.Faults.{StandsAgain, HasGreatBound, names_of_holders, HasFault}
@@ -35,7 +37,7 @@ names_before earlier table holders k before =
 
 -- The same of players and variables.
 pub holder_fault_at : (earlier table : List (List ℕ)) (holders : List SpeltBounded) (k : ℕ) (holder : SpeltBounded) (error : GameError) → slice_get holders k ≡ Some holder → table ≡ earlier ++ holder_names (take k holders) → HasHolderFault table (holder ∷ []) error → HasHolderFault earlier holders error
-holder_fault_at earlier table holders k holder error there before (by_name h) =
+holder_fault_at earlier table holders k holder _ there before (by_name {error = error} h) =
     by_name (name_fault_at earlier table (names_in_list holders) k holder.name error (slice_get-map_at (λ (h : SpeltBounded). h.name) holders k holder there) (names_before earlier table holders k before) h)
 holder_fault_at earlier table holders k holder _ there before (by_bound h) =
     by_bound (record { holder = h.holder; stands = subst (Contains holders) (Contains-one holder h.holder h.stands) (Contains-from_get holders k holder there); too_great = h.too_great; place = h.place })
@@ -102,12 +104,12 @@ module _ (d : SpeltDescription) (before here after : List SpeltBounded) (all : h
         place = h.place;
       }
 
-  names_fault : (error : GameError) → HasNameFault (holder_names before) (names_in_list here) error → HasFault d error
+  names_fault : (error : NumberingError) → HasNameFault (holder_names before) (names_in_list here) error → HasFault d (game_error_of error)
   names_fault _ (same_name {at = at} h) = same_holder (again_there at h)
   names_fault _ no_memory = memory
 
   pub holders_fault : (error : GameError) → HasHolderFault (holder_names before) here error → HasFault d error
-  holders_fault error (by_name h) = names_fault error h
+  holders_fault _ (by_name {error = error} h) = names_fault error h
   holders_fault _ (by_bound {at = at} h) = great_bound (bound_there at h)
 
 pub players_fault : (d : SpeltDescription) (error : GameError) → HasHolderFault [] d.players error → HasFault d error
@@ -116,7 +118,7 @@ players_fault d = holders_fault d [] d.players d.variables refl
 pub variables_fault : (d : SpeltDescription) (error : GameError) → HasHolderFault (holder_names d.players) d.variables error → HasFault d error
 variables_fault d = holders_fault d d.players d.variables [] (sym (append-nil (d.players ++ d.variables)))
 
-pub pieces_fault : (d : SpeltDescription) (error : GameError) → HasNameFault [] d.pieces error → HasFault d error
+pub pieces_fault : (d : SpeltDescription) (error : NumberingError) → HasNameFault [] d.pieces error → HasFault d (game_error_of error)
 pieces_fault d _ (same_name {at = at} h) =
     let P : List SpeltName → Type 0 = λ l. StandsAgain l at in
     same_piece (subst P (append-nil d.pieces) (again_in_all [] d.pieces [] at h))

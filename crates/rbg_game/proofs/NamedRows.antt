@@ -12,8 +12,9 @@ use Rattle.rbg_board.specs.Hexagon.{IsHexagon, MakesHexagon}
 use Rattle.rbg_board.specs.declared.error.BoardError.{BoardError}
 use Rattle.rbg_board.specs.declared.error.BoardError.TheVariants as board_errors
 use Rattle.rbg_rules.specs.LawfulNames.{AreDifferentNames, AreLawfulNames}
-use Rattle.rbg_numbering.specs.declared.error.GameError.{GameError}
-use Rattle.rbg_numbering.specs.declared.error.GameError.TheVariants as errors
+use Rattle.rbg_numbering.specs.declared.error.NumberingError.{NumberingError}
+use Rattle.rbg_game.specs.GameErrors.{game_error_of}
+use Rattle.rbg_game.specs.declared.game_error.GameError.TheVariants as errors
 use Rattle.rbg_numbering.specs.Names.{IsNumberOf, texts_of}
 use Rattle.rbg_game.specs.Faults.{board_pieces, HasRowsFault, HasBoardFault, unknown_piece, board_memory}
 use Rattle.rbg_numbering.specs.NameTables.{HasLookUpFault, not_there, no_memory as look_up_memory}
@@ -90,7 +91,7 @@ module _ (pieces : List (List ℕ)) (names : List SpeltName) (rows : List (List 
 -- Faults.
 
 -- an unknown piece is a fault of the board
-pub cells_fault : (pieces : List (List ℕ)) (board : SpeltBoard) (error : GameError) → HasLookUpFault pieces (board_pieces board) error → HasBoardFault pieces board error
+pub cells_fault : (pieces : List (List ℕ)) (board : SpeltBoard) (error : NumberingError) → HasLookUpFault pieces (board_pieces board) error → HasBoardFault pieces board (game_error_of error)
 cells_fault pieces board _ (not_there h) = unknown_piece h
 cells_fault pieces board _ look_up_memory = board_memory
 

@@ -11,11 +11,13 @@ use Rattle.rbg_grammar.specs.Tree.{SpeltName, SpeltNumber, SpeltBounded, SpeltEd
 use Rattle.rbg_grammar.specs.Tree.{SpeltBoard, rectangle, hexagon, graph, SpeltDescription}
 use Rattle.rbg_rules.specs.Limits.{most_players, most_pieces, most_variables}
 use Rattle.rbg_rules.specs.Limits.{greatest_bound, most_directions, most_vertices}
-use Rattle.rbg_numbering.specs.declared.error.GameError.{GameError}
-use Rattle.rbg_numbering.specs.declared.error.GameError.TheVariants.{UnknownName, SameName, Bound, TooMany, Memory, Board}
-use Rattle.rbg_numbering.specs.declared.error.Thing.TheVariants.{Players, Pieces, Variables, Directions}
+use Rattle.rbg_game.specs.declared.game_error.GameError.{GameError}
+use Rattle.rbg_game.specs.declared.game_error.GameError.TheVariants.{UnknownName, SameName, Bound, TooMany, Memory, Board}
+use Rattle.rbg_game.specs.declared.game_error.Thing.TheVariants.{Players, Pieces, Variables, Directions}
+use Rattle.rbg_numbering.specs.declared.error.NumberingError.{NumberingError}
 use Rattle.rbg_numbering.specs.Names.{Names, IsNumberOf, texts_of}
 use Rattle.rbg_numbering.specs.Faults.{HasUnknown, HasRuleFault}
+use Rattle.rbg_game.specs.GameErrors.{game_error_of}
 use Rattle.rbg_game.specs.Descriptions.{holder_names, holders_of, vertex_names, directions_named, IsOrderOfFirstUse}
 
 -- The name stands in the list at this offset, and before it the same name.
@@ -169,8 +171,8 @@ pub data HasFault (d : SpeltDescription) : GameError → Type 0 where
   in_board : {error : GameError}
       → HasBoardFault (texts_of d.pieces) d.board error
       → HasFault d error
-  in_rules : {error : GameError}
+  in_rules : {error : NumberingError}
       → HasRuleFault (names_spelt d) d.rules error
-      → HasFault d error
+      → HasFault d (game_error_of error)
   memory :
       HasFault d Memory

@@ -13,7 +13,7 @@ use Rattle.rbg_syntax.specs.declared.error.SyntaxError.TheVariants.{Memory as Sy
 use Rattle.rbg_rules.specs.State.{AbstractGame}
 use Rattle.rbg_game.specs.Descriptions.{IsGameOf}
 use Rattle.rbg_game.specs.Faults.{HasFault}
-use Rattle.rbg_numbering.specs.declared.error.GameError.TheVariants.{Memory as GameMemory}
+use Rattle.rbg_game.specs.declared.game_error.GameError.TheVariants.{Memory as GameMemory}
 use Rattle.rbg_game.specs.declared.error.LoadError.{LoadError}
 use Rattle.rbg_game.specs.declared.error.LoadError.TheVariants as errors
 

@@ -2,8 +2,8 @@
 use Rattle.std.specs.Prelude.{◌≡◌, ◌≢◌, ℕ, List}
 use Rattle.rbg_grammar.specs.Tree.{SpeltDescription}
 use Rattle.rbg_rules.specs.State.{AbstractGame}
-use Rattle.rbg_numbering.specs.declared.error.GameError.{GameError}
-use Rattle.rbg_numbering.specs.declared.error.GameError.TheVariants.{Memory}
+use Rattle.rbg_game.specs.declared.game_error.GameError.{GameError}
+use Rattle.rbg_game.specs.declared.game_error.GameError.TheVariants.{Memory}
 use Rattle.rbg_game.specs.Descriptions.{IsGameOf}
 use Rattle.rbg_game.specs.Faults.{HasFault}
 use Rattle.rbg_game.specs.Loading.{Loads}

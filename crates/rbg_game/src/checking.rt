@@ -15,10 +15,11 @@ mod directions;
 mod graphs;
 mod names;
 
+use crate::game_error::GameError;
 use boards::{NamedBoard, make_board};
 use names::{Things, number_things};
 use rbg_grammar::{Description, DescriptionParts};
-use rbg_numbering::{GameError, NameTables, number_rules};
+use rbg_numbering::{NameTables, number_rules};
 use rbg_rules::{Game, Parts, Rules};
 use std::alloc::{AllocError, Global};
 

@@ -3,8 +3,8 @@ ghost use Rattle.std.specs.Prelude.{◌≡◌, ◌↔◌, IsTrue};
 ghost use Rattle.rbg_game.specs.declared.error.LoadError.TheVariants as load_errors;
 ghost use Rattle.rbg_game.specs.Loading.{IsMemory};
 
+use crate::game_error::GameError;
 use rbg_macro::MacroError;
-use rbg_numbering::GameError;
 use rbg_syntax::SyntaxError;
 use rbg_tokens::TextError;
 use std::fmt;

@@ -3,11 +3,14 @@
 
 mod checking;
 mod error;
+mod game_error;
 pub mod laws;
+mod layout;
 mod loading;
 
 pub use checking::check;
 pub use error::LoadError;
-pub use loading::load;
-pub use rbg_numbering::{GameError, Thing};
+pub use game_error::{GameError, Thing};
+pub use layout::Layout;
+pub use loading::{LoadedGame, load, load_with_layout};
 pub use rbg_rules::{Action, Arithmetic, Game, Operation, Operator, Relation, Rule, Rules, limits};

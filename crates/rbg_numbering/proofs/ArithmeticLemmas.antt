@@ -25,8 +25,8 @@ use Rattle.rbg_rules.specs.declared.arithmetic.Arithmetic.{Arithmetic}
 use Rattle.rbg_rules.specs.declared.arithmetic.Arithmetic.TheVariants as arithmetics
 use Rattle.rbg_rules.specs.declared.arithmetic.Operation.{Operation}
 use Rattle.rbg_rules.proofs.Bridge.{arithmetic_of-Negated, arithmetic_of-Chain, operation_of_roll}
-use Rattle.rbg_numbering.specs.declared.error.GameError.{GameError}
-use Rattle.rbg_numbering.specs.declared.error.GameError.TheVariants.{Bound}
+use Rattle.rbg_numbering.specs.declared.error.NumberingError.{NumberingError}
+use Rattle.rbg_numbering.specs.declared.error.NumberingError.TheVariants.{NumberTooGreat}
 use Rattle.rbg_numbering.specs.Names.{Names}
 use Rattle.rbg_numbering.specs.Rules.{added, multiplied, ArithmeticIs, SumIs, ProductIs}
 use Rattle.rbg_numbering.specs.Faults.{HasPart, itself, in_negated, in_sum, in_product, SomeTermHasPart, earlier_term, last_term, SomeFactorHasPart, earlier_factor, last_factor, HasArithmeticFault, unknown_value, great_number, arithmetic_memory}
@@ -38,7 +38,7 @@ use Rattle.rbg_numbering.proofs.Lists.{Contains-one}
 -- Faults.
 
 -- What is wrong with a part is wrong with the expression.
-pub fault_of_part : (names : Names) (e part : SpeltExpression) (error : GameError) → ((f : SpeltExpression) → HasPart part f → HasPart e f) → HasArithmeticFault names part error → HasArithmeticFault names e error
+pub fault_of_part : (names : Names) (e part : SpeltExpression) (error : NumberingError) → ((f : SpeltExpression) → HasPart part f → HasPart e f) → HasArithmeticFault names part error → HasArithmeticFault names e error
 fault_of_part names e part _ within (unknown_value h) = unknown_value (record { name = h.name; stands = within _ h.stands; no_variable = h.no_variable; no_piece = h.no_piece; place = h.place })
 fault_of_part names e part _ within (great_number h) = great_number (record { number = h.number; stands = within _ h.stands; too_great = h.too_great; place = h.place })
 fault_of_part names e part _ within arithmetic_memory = arithmetic_memory
@@ -62,14 +62,14 @@ factor_stands first (f ∷ fs) zero d part below h = factor_after (more_factors 
 factor_stands first (f ∷ fs) (suc k) d part below h = factor_stands (more_factors first f.0 f.1) fs k d part (omega arith) h
 
 -- The fault of a term is one of the sum.
-pub fault_of_term : (names : Names) (terms : List Term) (k : ℕ) (t d : Term) (error : GameError) → k < length terms → t ≡ get_or terms k d → HasArithmeticFault names (expression_of t.value) error → HasArithmeticFault names (SpeltExpression.sum (terms_after no_terms (map term_of terms))) error
+pub fault_of_term : (names : Names) (terms : List Term) (k : ℕ) (t d : Term) (error : NumberingError) → k < length terms → t ≡ get_or terms k d → HasArithmeticFault names (expression_of t.value) error → HasArithmeticFault names (SpeltExpression.sum (terms_after no_terms (map term_of terms))) error
 fault_of_term names terms k t d error below is fault =
     let same : get_or (map term_of terms) k (term_of t) ≡ term_of t = get_or-map term_of terms k d (term_of t) below ∙ ap term_of (sym is) in
     fault_of_part names (SpeltExpression.sum (terms_after no_terms (map term_of terms))) (expression_of t.value) error
     (λ f h. in_sum (term_stands no_terms (map term_of terms) k (term_of t) f (omega (arith, length-map terms term_of)) (subst (λ (s : Additive × SpeltExpression). HasPart s.1 f) (sym same) h)))
     fault
 
-pub fault_of_factor : (names : Names) (factors : List Factor) (k : ℕ) (t d : Factor) (error : GameError) → k < length factors → t ≡ get_or factors k d → HasArithmeticFault names (expression_of t.value) error → HasArithmeticFault names (SpeltExpression.product (factors_after no_factors (map factor_of factors))) error
+pub fault_of_factor : (names : Names) (factors : List Factor) (k : ℕ) (t d : Factor) (error : NumberingError) → k < length factors → t ≡ get_or factors k d → HasArithmeticFault names (expression_of t.value) error → HasArithmeticFault names (SpeltExpression.product (factors_after no_factors (map factor_of factors))) error
 fault_of_factor names factors k t d error below is fault =
     let same : get_or (map factor_of factors) k (factor_of t) ≡ factor_of t = get_or-map factor_of factors k d (factor_of t) below ∙ ap factor_of (sym is) in
     fault_of_part names (SpeltExpression.product (factors_after no_factors (map factor_of factors))) (expression_of t.value) error
@@ -78,11 +78,11 @@ fault_of_factor names factors k t d error below is fault =
 
 -- Numbers and names.
 
-pub too_great_alone : (names : Names) (n : SpeltNumber) → ((value : ℕ) → n.value ≡ Some value → 2 ^ 63 ≤ value) → HasArithmeticFault names (SpeltExpression.number n) (Bound n.at)
+pub too_great_alone : (names : Names) (n : SpeltNumber) → ((value : ℕ) → n.value ≡ Some value → 2 ^ 63 ≤ value) → HasArithmeticFault names (SpeltExpression.number n) (NumberTooGreat n.at)
 too_great_alone names n great = great_number (record { number = n; stands = itself; too_great = great; place = refl })
 
 -- A name that is no variable and isn't found among the pieces.
-pub unknown_alone : (names : Names) (n : SpeltName) (error : GameError) → ¬ Contains names.variables n.text → HasLookUpFault names.pieces (n ∷ []) error → HasArithmeticFault names (SpeltExpression.name n) error
+pub unknown_alone : (names : Names) (n : SpeltName) (error : NumberingError) → ¬ Contains names.variables n.text → HasLookUpFault names.pieces (n ∷ []) error → HasArithmeticFault names (SpeltExpression.name n) error
 unknown_alone names n _ no_variable (not_there h) =
     let same : n ≡ h.name = Contains-one n h.name h.stands in
     unknown_value (record {
@@ -197,7 +197,7 @@ module _ (e f : Expression) (b : Box Expression Global) (is : e ≡ expressions.
   pub operand_formed : is_formed_expression (expression_of e) ≡ true → is_formed_expression (expression_of f) ≡ true
   operand_formed formed = sym (ap is_formed_expression negated_is) ∙ formed
 
-  pub fault_of_operand : (names : Names) (error : GameError) → HasArithmeticFault names (expression_of f) error → HasArithmeticFault names (expression_of e) error
+  pub fault_of_operand : (names : Names) (error : NumberingError) → HasArithmeticFault names (expression_of f) error → HasArithmeticFault names (expression_of e) error
   fault_of_operand names error h = fault_of_part names (expression_of e) (expression_of f) error (λ part has. subst (λ g. HasPart g part) (sym negated_is) (in_negated has)) h
 
   pub negated_made : (names : Names) (a : Arithmetic) (box : Box Arithmetic Global) → box.value ≡ a → ArithmeticIs names (expression_of f) (arithmetic_of a) → ArithmeticIs names (expression_of e) (arithmetic_of (arithmetics.Negated box))

@@ -2,8 +2,8 @@
 use Rattle.std.specs.Prelude.{◌≡◌, ◌≢◌}
 use Rattle.rbg_grammar.specs.Tree.{SpeltRule}
 use Rattle.rbg_rules.specs.Expression.{Expression}
-use Rattle.rbg_numbering.specs.declared.error.GameError.{GameError}
-use Rattle.rbg_numbering.specs.declared.error.GameError.TheVariants.{Memory}
+use Rattle.rbg_numbering.specs.declared.error.NumberingError.{NumberingError}
+use Rattle.rbg_numbering.specs.declared.error.NumberingError.TheVariants.{Memory}
 use Rattle.rbg_numbering.specs.Names.{Names, HasDifferentNames}
 use Rattle.rbg_numbering.specs.Faults.{HasRuleFault}
 use Rattle.rbg_numbering.specs.Numbered.{IsRuleByNumbers}
@@ -20,7 +20,7 @@ OneNumberingLaw =
 -- A rule with a fault has no numbers.
 abbrev pub NoNumbersWithFaultLaw : Type 0
 NoNumbersWithFaultLaw =
-    (names : Names) (rule : SpeltRule) (error : GameError)
+    (names : Names) (rule : SpeltRule) (error : NumberingError)
     → HasRuleFault names rule error
     → error ≢ Memory
     → (x : Expression)

@@ -13,7 +13,7 @@ ghost use Rattle.rbg_rules.specs.declared.rule.Rule.TheVariants as rules;
 ghost use Rattle.rbg_grammar.specs.Tree.{act};
 
 use crate::arithmetic::number_expression;
-use crate::error::{GameError, Thing};
+use crate::error::NumberingError;
 use crate::name_table::NameTable;
 use crate::tables::NameTables;
 use rbg_grammar::Name;
@@ -28,7 +28,7 @@ pub(crate) fn add_action(
     patterns_left: usize,
     action: &rbg_grammar::Action<'_>,
     actions: &mut Vec<Action>,
-) -> Result<u32, GameError>
+) -> Result<u32, NumberingError>
     requires plain { is_spelt_pattern (spelt_action_of action.now) ≡ false }
     requires formed { is_formed_action (spelt_action_of action.now) ≡ true }
     requires limits { IsWithinLimits (names_of names.now) }
@@ -42,9 +42,7 @@ pub(crate) fn add_action(
         (act (spelt_action_of action.now))) }
 {
     if actions.len() == MAX_POSITIONS {
-        return Err(GameError::TooMany {
-            what: Thing::Positions,
-        });
+        return Err(NumberingError::TooManyPositions);
     }
     actions.push(number_action(alloc, names, patterns_left, action)?)?;
     Ok(actions.len() as u32)
@@ -56,19 +54,17 @@ pub(crate) fn open_pattern(
     at: usize,
     pattern: Action,
     actions: &mut Vec<Action>,
-) -> Result<u32, GameError>
+) -> Result<u32, NumberingError>
     requires room { length actions.old.items ≤ MAX_POSITIONS }
     ensures opened { IfOk result (OpensPattern patterns_left pattern actions.old.items
         actions.new.items) }
     ensures fault { IfErr result (HasOpeningFault patterns_left at (length actions.old.items)) }
 {
     if actions.len() == MAX_POSITIONS {
-        return Err(GameError::TooMany {
-            what: Thing::Positions,
-        });
+        return Err(NumberingError::TooManyPositions);
     }
     if patterns_left == 0 {
-        return Err(GameError::PatternTooDeep { at });
+        return Err(NumberingError::PatternTooDeep { at });
     }
     actions.push(pattern)?;
     Ok(actions.len() as u32)
@@ -79,7 +75,7 @@ fn number_action(
     names: &NameTables<'_>,
     patterns_left: usize,
     action: &rbg_grammar::Action<'_>,
-) -> Result<Action, GameError>
+) -> Result<Action, NumberingError>
     requires plain { is_spelt_pattern (spelt_action_of action.now) ≡ false }
     requires formed { is_formed_action (spelt_action_of action.now) ≡ true }
     requires limits { IsWithinLimits (names_of names.now) }
@@ -114,7 +110,7 @@ fn number_action(
         }),
         rbg_grammar::Action::Switch { at, player } => {
             if patterns_left < MAX_NESTED_PATTERNS {
-                return Err(GameError::SwitchInPattern { at: *at });
+                return Err(NumberingError::SwitchInPattern { at: *at });
             }
             Ok(Action::Switch {
                 player: number_of_player(names.players, player)?,
@@ -126,7 +122,7 @@ fn number_action(
 }
 
 /// The number of a player, from 1 on. None is the keeper.
-fn number_of_player(table: &NameTable, player: &Option<Name<'_>>) -> Result<u16, GameError>
+fn number_of_player(table: &NameTable, player: &Option<Name<'_>>) -> Result<u16, NumberingError>
     requires { length table.now < 2 ^ 16 }
     ensures number { IfOk result (IsPlayer table.now (option_map name_of player.now)) }
     ensures fault { IfErr result (HasLookUpFault table.now

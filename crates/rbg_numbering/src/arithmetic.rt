@@ -10,7 +10,7 @@ ghost use Rattle.rbg_numbering.specs.Faults.{HasArithmeticFault};
 ghost use Rattle.rbg_numbering.specs.Numbered.{names_of, IsWithinLimits};
 ghost use Rattle.rbg_numbering.specs.internal.Arithmetic.{term_of, factor_of, AddsTerm, AddsFactor};
 
-use crate::error::GameError;
+use crate::error::NumberingError;
 use crate::tables::NameTables;
 use rbg_grammar::{Additive, Expression, Factor, Multiplicative, Name, Number, Term};
 use rbg_rules::{Arithmetic, Operation, Operator};
@@ -22,7 +22,7 @@ pub(crate) fn number_expression(
     alloc: Global,
     names: &NameTables<'_>,
     expression: &Expression<'_>,
-) -> Result<Arithmetic, GameError>
+) -> Result<Arithmetic, NumberingError>
     requires formed { is_formed_expression (expression_of expression.now) ≡ true }
     requires limits { IsWithinLimits (names_of names.now) }
     ensures value { IfOk result (λ a.
@@ -48,7 +48,7 @@ fn number_terms(
     alloc: Global,
     names: &NameTables<'_>,
     terms: &[Term<'_>],
-) -> Result<Arithmetic, GameError>
+) -> Result<Arithmetic, NumberingError>
     requires some { 0 < length terms.now }
     requires formed { All (λ t. is_formed_expression (expression_of t.value) ≡ true) terms.now }
     requires limits { IsWithinLimits (names_of names.now) }
@@ -75,7 +75,7 @@ fn number_term(
     alloc: Global,
     names: &NameTables<'_>,
     term: &Term<'_>,
-) -> Result<Operation, GameError>
+) -> Result<Operation, NumberingError>
     requires formed { is_formed_expression (expression_of term.now.value) ≡ true }
     requires limits { IsWithinLimits (names_of names.now) }
     ensures value { IfOk result (AddsTerm (names_of names.now) (term_of term.now)) }
@@ -97,7 +97,7 @@ fn number_factors(
     alloc: Global,
     names: &NameTables<'_>,
     factors: &[Factor<'_>],
-) -> Result<Arithmetic, GameError>
+) -> Result<Arithmetic, NumberingError>
     requires some { 0 < length factors.now }
     requires formed { All (λ f. is_formed_expression (expression_of f.value) ≡ true) factors.now }
     requires limits { IsWithinLimits (names_of names.now) }
@@ -124,7 +124,7 @@ fn number_factor(
     alloc: Global,
     names: &NameTables<'_>,
     factor: &Factor<'_>,
-) -> Result<Operation, GameError>
+) -> Result<Operation, NumberingError>
     requires formed { is_formed_expression (expression_of factor.now.value) ≡ true }
     requires limits { IsWithinLimits (names_of names.now) }
     ensures value { IfOk result (AddsFactor (names_of names.now) (factor_of factor.now)) }
@@ -141,7 +141,7 @@ fn number_factor(
 }
 
 /// The number that is spelt, if it fits signed 64 bits.
-fn number_number(number: Number) -> Result<Arithmetic, GameError>
+fn number_number(number: Number) -> Result<Arithmetic, NumberingError>
     ensures value { (names : Names)
         → IfOk result (λ a.
         ArithmeticIs names (SpeltExpression.number (number_of number)) (arithmetic_of a)) }
@@ -150,12 +150,12 @@ fn number_number(number: Number) -> Result<Arithmetic, GameError>
 {
     match number.value {
         Some(value) if value <= i64::MAX as u64 => Ok(Arithmetic::Number(value)),
-        _ => Err(GameError::Bound { at: number.at }),
+        _ => Err(NumberingError::NumberTooGreat { at: number.at }),
     }
 }
 
 /// The variable of a name, or else the piece.
-fn number_name(names: &NameTables<'_>, name: &Name<'_>) -> Result<Arithmetic, GameError>
+fn number_name(names: &NameTables<'_>, name: &Name<'_>) -> Result<Arithmetic, NumberingError>
     requires { IsWithinLimits (names_of names.now) }
     ensures value { IfOk result (λ a.
         ArithmeticIs (names_of names.now) (SpeltExpression.name (name_of name.now))

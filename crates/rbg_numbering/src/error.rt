@@ -1,74 +1,47 @@
-//! Why a description is no game.
+//! Why names and rules have no numbers.
 ghost use Rattle.std.specs.Prelude.{◌≡◌};
-ghost use Rattle.rbg_numbering.specs.declared.error.GameError.TheVariants as game_errors;
+ghost use Rattle.rbg_numbering.specs.declared.error.NumberingError.TheVariants as numbering_errors;
 
-use rbg_board::BoardError;
 use std::alloc::{AllocError, AllocFailed};
-use std::fmt;
 use thiserror::Error;
 
-/// Why a description is no game. Offsets are those of the text.
+/// Why names and rules have no numbers. Offsets are those of the text.
 #[derive(Clone, Copy, Debug, PartialEq, Eq, Error)]
-pub enum GameError {
+pub enum NumberingError {
     /// The name at this offset is not that of a direction, piece, player or variable, whichever is needed there.
     #[error("the name at byte {at} is unknown")]
     UnknownName { at: usize },
-    /// The name at this offset was given before to a player, a variable or a piece.
+    /// The name at this offset is in the table to which it is added.
     #[error("the name at byte {at} was given before")]
     SameName { at: usize },
-    /// The number at this offset is greater than the greatest bound, or in arithmetic greater than 2^63 - 1.
+    /// The number at this offset is greater than 2^63 - 1.
     #[error("the number at byte {at} is too great")]
-    Bound { at: usize },
+    NumberTooGreat { at: usize },
     /// The switch at this offset is in a pattern.
     #[error("the switch at byte {at} is in a pattern")]
     SwitchInPattern { at: usize },
     /// The pattern at this offset is inside too many others.
     #[error("the pattern at byte {at} is nested too deep")]
     PatternTooDeep { at: usize },
-    /// There are more of the things than a game may have.
-    #[error("there are too many {what}")]
-    TooMany { what: Thing },
+    /// There are more actions than a game may have.
+    #[error("there are too many positions")]
+    TooManyPositions,
     #[error("out of memory")]
     Memory,
-    /// The board has a fault of its own.
-    #[error("{error}")]
-    Board { error: BoardError },
 }
 
-/// What there may be too many of.
-#[derive(Clone, Copy, Debug, PartialEq, Eq)]
-pub enum Thing {
-    Players,
-    Pieces,
-    Variables,
-    Directions,
-    Positions,
-}
+impl From<AllocError> for NumberingError {
+    ghost from_gives = { λ _ error. error ≡ numbering_errors.Memory };
 
-impl fmt::Display for Thing {
-    fn fmt<W: fmt::Write>(&self, f: &mut fmt::Formatter<W>) -> fmt::Result {
-        match self {
-            Thing::Players => write!(f, "players"),
-            Thing::Pieces => write!(f, "pieces"),
-            Thing::Variables => write!(f, "variables"),
-            Thing::Directions => write!(f, "directions"),
-            Thing::Positions => write!(f, "positions"),
-        }
+    fn from(_error: AllocError) -> NumberingError {
+        NumberingError::Memory
     }
 }
 
-impl From<AllocError> for GameError {
-    ghost from_gives = { λ _ error. error ≡ game_errors.Memory };
+impl<T: Drop> From<AllocFailed<T>> for NumberingError {
+    ghost from_gives = { λ _ error. error ≡ numbering_errors.Memory };
 
-    fn from(_error: AllocError) -> GameError {
-        GameError::Memory
-    }
-}
-
-impl<T: Drop> From<AllocFailed<T>> for GameError {
-    ghost from_gives = { λ _ error. error ≡ game_errors.Memory };
-
-    fn from(_error: AllocFailed<T>) -> GameError {
-        GameError::Memory
+    fn from(_error: AllocFailed<T>) -> NumberingError {
+        NumberingError::Memory
     }
 }

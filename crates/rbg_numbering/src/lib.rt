@@ -9,7 +9,7 @@ mod name_table;
 mod rules;
 mod tables;
 
-pub use error::{GameError, Thing};
+pub use error::NumberingError;
 pub use name_table::NameTable;
 pub use rules::number_rules;
 pub use tables::NameTables;

@@ -9,7 +9,7 @@ ghost use Rattle.rbg_rules.specs.LawfulNames.{AreLawfulNames};
 ghost use Rattle.rbg_numbering.specs.Names.{IsNumberOf};
 ghost use Rattle.rbg_numbering.specs.NameTables.{HasLookUpFault, HasNameFault};
 
-use crate::error::GameError;
+use crate::error::NumberingError;
 use rbg_grammar::Name;
 use std::alloc::{AllocError, Global};
 use std::collections::BTreeMap;
@@ -64,19 +64,19 @@ impl NameTable {
     }
 
     /// The number of a name that a description uses.
-    pub fn find(&self, name: &Name<'_>) -> Result<u16, GameError>
+    pub fn find(&self, name: &Name<'_>) -> Result<u16, NumberingError>
         requires { length self.now ≤ 2 ^ 16 }
         ensures number { IfOk result (IsNumberOf self.now (name_of name.now)) }
         ensures fault { IfErr result (HasLookUpFault self.now (name_of name.now ∷ [])) }
     {
         match self.number_of(name.text) {
             Some(number) => Ok(number as u16),
-            None => Err(GameError::UnknownName { at: name.at }),
+            None => Err(NumberingError::UnknownName { at: name.at }),
         }
     }
 
     /// The numbers of names that a description uses.
-    pub fn find_all(&self, alloc: Global, names: &[Name<'_>]) -> Result<Vec<u16>, GameError>
+    pub fn find_all(&self, alloc: Global, names: &[Name<'_>]) -> Result<Vec<u16>, NumberingError>
         requires { length self.now ≤ 2 ^ 16 }
         ensures numbers { IfOk result (λ ns.
             AllZip (IsNumberOf self.now) (map name_of names.now) ns.items) }
@@ -90,13 +90,13 @@ impl NameTable {
     }
 
     /// Adds a name after the others.
-    pub fn insert(&mut self, name: &Name<'_>) -> Result<(), GameError>
+    pub fn insert(&mut self, name: &Name<'_>) -> Result<(), NumberingError>
         ensures ok { OnOk result (self.new ≡ self.old ++ name.now.text.now ∷ []) }
         ensures kept { OnErr result (self.new ≡ self.old) }
         ensures fault { IfErr result (HasNameFault self.old (name_of name.now ∷ [])) }
     {
         if self.number_of(name.text).is_some() {
-            return Err(GameError::SameName { at: name.at });
+            return Err(NumberingError::SameName { at: name.at });
         }
         self.push(name.text)?;
         Ok(())

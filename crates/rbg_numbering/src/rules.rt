@@ -8,7 +8,7 @@ ghost use Rattle.rbg_numbering.specs.Numbered.{names_of, IsWithinLimits, AreRule
 ghost use Rattle.rbg_numbering.specs.internal.Steps.{AddsRule, AddsParts, HasFaultFrom};
 
 use crate::actions::{add_action, open_pattern};
-use crate::error::GameError;
+use crate::error::NumberingError;
 use crate::tables::NameTables;
 use rbg_rules::limits::{MAX_NESTED_PATTERNS, MAX_POSITIONS};
 use rbg_rules::{Action, Rule, Rules};
@@ -19,7 +19,7 @@ pub fn number_rules(
     alloc: Global,
     names: &NameTables<'_>,
     rule: &rbg_grammar::Rule<'_>,
-) -> Result<Rules, GameError>
+) -> Result<Rules, NumberingError>
     requires formed { is_formed (rule_of rule.now) ≡ true }
     requires limits { IsWithinLimits (names_of names.now) }
     ensures rules { IfOk result (AreRulesByNumbers (names_of names.now) (rule_of rule.now)) }
@@ -38,7 +38,7 @@ fn number_rule(
     patterns_left: usize,
     rule: &rbg_grammar::Rule<'_>,
     actions: &mut Vec<Action>,
-) -> Result<Rule, GameError>
+) -> Result<Rule, NumberingError>
     requires formed { is_formed (rule_of rule.now) ≡ true }
     requires limits { IsWithinLimits (names_of names.now) }
     requires room { length actions.old.items ≤ MAX_POSITIONS }
@@ -73,7 +73,7 @@ fn number_parts(
     patterns_left: usize,
     parts: &[rbg_grammar::Rule<'_>],
     actions: &mut Vec<Action>,
-) -> Result<Vec<Rule>, GameError>
+) -> Result<Vec<Rule>, NumberingError>
     requires formed { All (λ part. is_formed (rule_of part) ≡ true) parts.now }
     requires limits { IsWithinLimits (names_of names.now) }
     requires room { length actions.old.items ≤ MAX_POSITIONS }
@@ -100,7 +100,7 @@ fn number_act(
     patterns_left: usize,
     action: &rbg_grammar::Action<'_>,
     actions: &mut Vec<Action>,
-) -> Result<Rule, GameError>
+) -> Result<Rule, NumberingError>
     requires formed { is_formed_action (action_of action.now) ≡ true }
     requires limits { IsWithinLimits (names_of names.now) }
     requires room { length actions.old.items ≤ MAX_POSITIONS }

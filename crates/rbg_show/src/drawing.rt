@@ -1,8 +1,8 @@
 //! Boards as text.
 
-use crate::layout::Layout;
 use crate::signs::Signs;
 use rbg_base::Piece;
+use rbg_game::Layout;
 use std::alloc::{AllocError, Global};
 
 /// About how many bytes a line of a graph's vertices has.
@@ -12,7 +12,7 @@ const GRAPH_LINE: usize = 72;
 #[derive(Drop)]
 pub(crate) struct Drawing<'a> {
     pub alloc: Global,
-    pub layout: Layout,
+    pub layout: &'a Layout,
     pub signs: Signs<'a>,
 }
 
@@ -23,7 +23,7 @@ impl Drawing<'_> {
         output: &mut Vec<u8>,
         pieces: &[Piece],
     ) -> Result<(), AllocError> {
-        match &self.layout {
+        match self.layout {
             Layout::Rectangle { rows } => {
                 self.push_rows(
                     output,
@@ -112,7 +112,7 @@ impl Drawing<'_> {
         output: &mut Vec<u8>,
         vertex: usize,
     ) -> Result<(), AllocError> {
-        if let Layout::Graph { names } = &self.layout
+        if let Layout::Graph { names } = self.layout
             && let Some(name) = names.get(vertex)
         {
             return output.extend_from_slice(name);

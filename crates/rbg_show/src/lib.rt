@@ -2,13 +2,10 @@
 #![tactic(auto)]
 
 mod drawing;
-mod error;
-mod layout;
 mod line;
 mod play;
 mod showing;
 mod signs;
 mod stop;
 
-pub use error::ShowError;
 pub use showing::{Shown, show};

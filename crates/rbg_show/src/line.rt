@@ -15,7 +15,7 @@ pub(crate) enum Lead {
 
 /// What a line holds.
 #[derive(Clone, Copy)]
-pub(crate) enum Line<'a> {
+pub(crate) enum ListLine<'a> {
     /// No move: a blank line, the head or the end of a record, another event of a script.
     Other,
     /// The first line of a record, whose moves are written in this way.
@@ -34,17 +34,17 @@ pub(crate) struct Reading {
     pub pairs: Move,
 }
 
-impl<'a> Line<'a> {
+impl<'a> ListLine<'a> {
     /// Reads a line, without its line feed.
-    pub(crate) fn read(line: &'a [u8]) -> Line<'a> {
+    pub(crate) fn read(line: &'a [u8]) -> ListLine<'a> {
         if line == b"rbg 1".as_slice() {
-            return Line::Head(Lead::Player);
+            return ListLine::Head(Lead::Player);
         }
         if line == b"rbg 2".as_slice() {
-            return Line::Head(Lead::MomentAndPlayer);
+            return ListLine::Head(Lead::MomentAndPlayer);
         }
         if let Some(message) = read_message(line) {
-            return Line::Said {
+            return ListLine::Said {
                 seat: message.seat,
                 text: message.text,
             };
@@ -54,8 +54,8 @@ impl<'a> Line<'a> {
             None => line,
         };
         match text.first() {
-            Some(b'0'..=b'9' | b'M') => Line::Numbers(line),
-            _ => Line::Other,
+            Some(b'0'..=b'9' | b'M') => ListLine::Numbers(line),
+            _ => ListLine::Other,
         }
     }
 
@@ -67,13 +67,13 @@ impl<'a> Line<'a> {
     ) -> Result<Vec<Reading>, AllocError> {
         let mut readings = Vec::new(alloc);
         match self {
-            Line::Other | Line::Head(_) => {}
-            Line::Said { seat, text } => {
+            ListLine::Other | ListLine::Head(_) => {}
+            ListLine::Said { seat, text } => {
                 if let Some(reading) = Reading::new(Some(*seat), text) {
                     readings.push(reading)?;
                 }
             }
-            Line::Numbers(text) => {
+            ListLine::Numbers(text) => {
                 for known in [Lead::Nothing, Lead::Player, Lead::MomentAndPlayer] {
                     if lead.unwrap_or(known) == known
                         && let Some(reading) = Reading::behind(known, text)

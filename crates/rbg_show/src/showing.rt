@@ -1,14 +1,12 @@
 //! Moves that are followed on the board.
 
 use crate::drawing::Drawing;
-use crate::error::ShowError;
-use crate::layout::Layout;
-use crate::line::{Lead, Line, Reading};
+use crate::line::{Lead, ListLine, Reading};
 use crate::play::Play;
 use crate::signs::Signs;
 use crate::stop::Stop;
 use rbg_base::{Piece, Player};
-use rbg_game::{Game, load};
+use rbg_game::LoadedGame;
 use std::alloc::{AllocError, Global};
 
 /// The most moves that the keeper makes in a row.
@@ -22,36 +20,29 @@ pub struct Shown {
     pub is_whole: bool,
 }
 
-/// Shows the moves of a list on the board of the game that a text describes: for each of them what it changes, and the
-/// board after it with the values of the variables. With `only_last` only the last of a player's moves is shown.
+/// Shows the moves of a list on the board of a game: for each of them what it changes, and the board after it with the
+/// values of the variables. With `only_last` only the last of a player's moves is shown.
 ///
 /// A move is a line: its pairs, perhaps behind a player, or behind a moment and a player, or a message of a script.
 /// What is no move is passed over. Where the keeper is to move and the list doesn't have its move, it makes the one
 /// that the referee would make. A seat's message that is no legal move is said to be refused. Any other move that isn't
 /// legal is the last one that is looked at.
-pub fn show(alloc: Global, text: &[u8], moves: &[u8], only_last: bool) -> Result<Shown, ShowError> {
-    let game = load(alloc, text)?;
-    let layout = Layout::of(alloc, text)?;
-    Ok(show_game(alloc, &game, layout, moves, only_last)?)
-}
-
-fn show_game(
+pub fn show(
     alloc: Global,
-    game: &Game,
-    layout: Layout,
+    loaded: &LoadedGame,
     moves: &[u8],
     only_last: bool,
 ) -> Result<Shown, AllocError> {
-    let signs = Signs::of(alloc, game)?;
+    let signs = Signs::of(alloc, &loaded.game)?;
     let mut text = Vec::new(alloc);
     signs.push_legend(&mut text)?;
     let kept = text.len();
     let mut showing = Showing {
         alloc,
-        play: Play::start(alloc, game)?,
+        play: Play::start(alloc, &loaded.game)?,
         drawing: Drawing {
             alloc,
-            layout,
+            layout: &loaded.layout,
             signs,
         },
         text,
@@ -91,8 +82,8 @@ impl Showing<'_> {
     fn show_list(&mut self, moves: &[u8]) -> Result<bool, AllocError> {
         let mut lead = None;
         for (index, line) in moves.split(|byte| *byte == b'\n').enumerate() {
-            let line = Line::read(line);
-            if let Line::Head(known) = line {
+            let line = ListLine::read(line);
+            if let ListLine::Head(known) = line {
                 lead = Some(known);
             }
             let number = index.saturating_add(1);
@@ -108,20 +99,20 @@ impl Showing<'_> {
     /// Shows the move of a line, if it has one.
     fn show_line(
         &mut self,
-        line: &Line<'_>,
+        line: &ListLine<'_>,
         lead: Option<Lead>,
         number: usize,
     ) -> Result<(), Stop> {
         let readings = line.readings(self.alloc, lead)?;
         match line {
-            Line::Other | Line::Head(_) => Ok(()),
-            Line::Said { seat, .. } => {
+            ListLine::Other | ListLine::Head(_) => Ok(()),
+            ListLine::Said { seat, .. } => {
                 if !self.make_one(&readings)? {
                     self.push_refusal(number, *seat)?;
                 }
                 Ok(())
             }
-            Line::Numbers(_) => {
+            ListLine::Numbers(_) => {
                 if self.make_one(&readings)? {
                     Ok(())
                 } else {

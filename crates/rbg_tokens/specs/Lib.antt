@@ -4,5 +4,6 @@ pub mod Token
 pub mod Kinds
 pub mod Spelling
 pub mod Text
+pub mod Lines
 pub mod Laws
 pub mod internal

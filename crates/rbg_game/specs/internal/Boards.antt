@@ -8,8 +8,8 @@ use Rattle.rbg_board.specs.declared.error.BoardError.TheVariants as board_errors
 use Rattle.rbg_grammar.specs.Tree.{SpeltName, SpeltBoard}
 use Rattle.rbg_rules.specs.Limits.{most_directions, most_vertices}
 use Rattle.rbg_rules.specs.LawfulNames.{AreDifferentNames, AreLawfulNames}
-use Rattle.rbg_numbering.specs.declared.error.GameError.{GameError}
-use Rattle.rbg_numbering.specs.declared.error.GameError.TheVariants as errors
+use Rattle.rbg_game.specs.declared.game_error.GameError.{GameError}
+use Rattle.rbg_game.specs.declared.game_error.GameError.TheVariants as errors
 use Rattle.rbg_numbering.specs.Names.{IsNumberOf, texts_of}
 use Rattle.rbg_game.specs.Descriptions.{BoardIs}
 

@@ -12,9 +12,10 @@ ghost use Rattle.rbg_game.specs.internal.Boards.{MakesBoard, HasVertices, refusa
 
 use crate::checking::directions::number_directions;
 use crate::checking::graphs::make_graph;
+use crate::game_error::GameError;
 use rbg_board::{Board, BoardError, MAX_VERTICES, hexagon, rectangle};
 use rbg_grammar::Name;
-use rbg_numbering::{GameError, NameTable};
+use rbg_numbering::{NameTable, NumberingError};
 use rbg_rules::limits::MAX_PIECES;
 use std::alloc::Global;
 
@@ -30,7 +31,7 @@ fn number_rows(
     alloc: Global,
     pieces: &NameTable,
     rows: &[Vec<Name<'_>>],
-) -> Result<Vec<Vec<u16>>, GameError>
+) -> Result<Vec<Vec<u16>>, NumberingError>
     requires { length pieces.now ≤ 2 ^ 16 }
     ensures numbers { IfOk result (λ ns.
         AllZip (AllZip (IsNumberOf pieces.now)) (map names_of rows.now) (rows_of ns.items)) }

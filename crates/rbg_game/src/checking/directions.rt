@@ -4,14 +4,14 @@ ghost use Rattle.rbg_grammar.specs.Views.{name_of};
 ghost use Rattle.rbg_game.specs.internal.Boards.{Joins, NumbersDirections};
 
 use rbg_grammar::Name;
-use rbg_numbering::{GameError, NameTable};
+use rbg_numbering::{NameTable, NumberingError};
 use rbg_rules::limits::MAX_DIRECTIONS;
 use std::alloc::Global;
 
 /// The number of a name. A name that is new joins the table.
-pub(crate) fn join(table: &mut NameTable, name: &Name<'_>) -> Result<usize, GameError>
+pub(crate) fn join(table: &mut NameTable, name: &Name<'_>) -> Result<usize, NumberingError>
     ensures number { IfOk result (Joins table.old table.new name.now.text.now) }
-    ensures memory { IfErr result (λ error. error ≡ GameError.Memory) }
+    ensures memory { IfErr result (λ error. error ≡ NumberingError.Memory) }
 {
     match table.number_of(name.text) {
         Some(number) => Ok(number),
@@ -28,11 +28,11 @@ pub(crate) fn number_directions(
     alloc: Global,
     names: &[Name<'_>],
     numbers: &mut [u16],
-) -> Result<NameTable, GameError>
+) -> Result<NameTable, NumberingError>
     requires one_each { length numbers.old ≡ length names.now }
     requires few { length names.now ≤ MAX_DIRECTIONS }
     ensures numbers { IfOk result (NumbersDirections (map name_of names.now) numbers.new) }
-    ensures memory { IfErr result (λ error. error ≡ GameError.Memory) }
+    ensures memory { IfErr result (λ error. error ≡ NumberingError.Memory) }
 {
     let mut table = NameTable::new(alloc);
     for (place, name) in names.iter().enumerate() {

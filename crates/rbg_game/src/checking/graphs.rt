@@ -14,9 +14,10 @@ ghost use Rattle.rbg_game.specs.internal.Graphs.{AddsInOrder, edge_directions, I
 
 use crate::checking::boards::{NamedBoard, name_board, refusal_of};
 use crate::checking::directions::join;
+use crate::game_error::{GameError, Thing};
 use rbg_board::{BoardError, Cell, MAX_VERTICES, graph};
 use rbg_grammar::{Edge, Vertex};
-use rbg_numbering::{GameError, NameTable, Thing};
+use rbg_numbering::{NameTable, NumberingError};
 use rbg_rules::limits::{MAX_DIRECTIONS, MAX_PIECES};
 use std::alloc::Global;
 
@@ -25,7 +26,7 @@ fn number_pieces(
     alloc: Global,
     pieces: &NameTable,
     vertices: &[Vertex<'_>],
-) -> Result<Vec<u16>, GameError>
+) -> Result<Vec<u16>, NumberingError>
     requires { length pieces.now ≤ 2 ^ 16 }
     ensures numbers { IfOk result
         (λ ns. AllZip (IsNumberOf pieces.now) (board_pieces (graph (map vertex_of vertices.now)))
@@ -41,10 +42,10 @@ fn number_pieces(
 }
 
 /// Adds the directions of edges that are new to the table.
-fn join_directions(table: &mut NameTable, edges: &[Edge<'_>]) -> Result<(), GameError>
+fn join_directions(table: &mut NameTable, edges: &[Edge<'_>]) -> Result<(), NumberingError>
     ensures order { OnOk result (AddsInOrder (edge_directions (map edge_of edges.now)) table.old
         table.new) }
-    ensures memory { IfErr result (λ error. error ≡ GameError.Memory) }
+    ensures memory { IfErr result (λ error. error ≡ NumberingError.Memory) }
 {
     for edge in edges {
         join(table, &edge.direction)?;
@@ -53,10 +54,10 @@ fn join_directions(table: &mut NameTable, edges: &[Edge<'_>]) -> Result<(), Game
 }
 
 /// The directions of vertices in order of first use.
-fn name_directions(alloc: Global, vertices: &[Vertex<'_>]) -> Result<NameTable, GameError>
+fn name_directions(alloc: Global, vertices: &[Vertex<'_>]) -> Result<NameTable, NumberingError>
     ensures order { IfOk result (IsOrderOfFirstUse
         (directions_named (map vertex_of vertices.now))) }
-    ensures memory { IfErr result (λ error. error ≡ GameError.Memory) }
+    ensures memory { IfErr result (λ error. error ≡ NumberingError.Memory) }
 {
     let mut table = NameTable::new(alloc);
     for vertex in vertices {
@@ -90,13 +91,13 @@ fn number_edges(
     directions: &NameTable,
     names: &NameTable,
     edges: &[Edge<'_>],
-) -> Result<Vec<(u16, u32)>, GameError>
+) -> Result<Vec<(u16, u32)>, NumberingError>
     requires few { length directions.now ≤ MAX_DIRECTIONS }
     requires known { All (λ edge. Contains directions.now edge.direction.text.now) edges.now }
     requires vertices { length names.now ≤ MAX_VERTICES }
     ensures edges { IfOk result (λ es.
         AllZip (IsEdge directions.now names.now) (map edge_of edges.now) es.items) }
-    ensures memory { IfErr result (λ error. error ≡ GameError.Memory) }
+    ensures memory { IfErr result (λ error. error ≡ NumberingError.Memory) }
 {
     let mut numbers = Vec::with_capacity(alloc, edges.len())?;
     for edge in edges {
@@ -114,7 +115,7 @@ fn number_cells(
     directions: &NameTable,
     names: &NameTable,
     vertices: &[Vertex<'_>],
-) -> Result<Vec<Cell>, GameError>
+) -> Result<Vec<Cell>, NumberingError>
     requires few { length directions.now ≤ MAX_DIRECTIONS }
     requires known { IsOrderOfFirstUse (directions_named (map vertex_of vertices.now))
         directions.now }
@@ -125,7 +126,7 @@ fn number_cells(
         AllZip (IsNumberOf table) (board_pieces (graph (map vertex_of vertices.now))) pieces.now →
         AllZip (IsCell table directions.now names.now) (map vertex_of vertices.now)
         (written_of cells.items)) }
-    ensures memory { IfErr result (λ error. error ≡ GameError.Memory) }
+    ensures memory { IfErr result (λ error. error ≡ NumberingError.Memory) }
 {
     let mut cells = Vec::with_capacity(alloc, vertices.len())?;
     for (place, vertex) in vertices.iter().enumerate() {

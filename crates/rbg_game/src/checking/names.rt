@@ -9,8 +9,9 @@ ghost use Rattle.rbg_numbering.specs.NameTables.{HasNameFault};
 ghost use Rattle.rbg_game.specs.internal.Holders.{HasHolderFault};
 ghost use Rattle.rbg_game.specs.internal.Things.{AddsBounds, AreThingsOf};
 
+use crate::game_error::{GameError, Thing};
 use rbg_grammar::{Bounded, DescriptionParts, Name, Number};
-use rbg_numbering::{GameError, NameTable, Thing};
+use rbg_numbering::{NameTable, NumberingError};
 use rbg_rules::limits::{MAX_BOUND, MAX_PIECES, MAX_PLAYERS, MAX_VARIABLES};
 use std::alloc::Global;
 
@@ -67,7 +68,7 @@ pub(crate) fn number_things(
 }
 
 /// Adds names after those of the table.
-fn add_names(table: &mut NameTable, names: &[Name<'_>]) -> Result<(), GameError>
+fn add_names(table: &mut NameTable, names: &[Name<'_>]) -> Result<(), NumberingError>
     ensures names { OnOk result (table.new ≡ table.old ++ texts_of (map name_of names.now)) }
     ensures fault { IfErr result (HasNameFault table.old (map name_of names.now)) }
 {

@@ -5,9 +5,8 @@ use Rattle.rbg_rules.specs.Expression.{skip}
 use Rattle.rbg_rules.specs.Limits.{most_positions, most_nested_patterns}
 use Rattle.rbg_rules.specs.Translation.{action_of, shows_pattern}
 use Rattle.rbg_rules.specs.declared.rule.Action.{Action}
-use Rattle.rbg_numbering.specs.declared.error.GameError.{GameError}
-use Rattle.rbg_numbering.specs.declared.error.GameError.TheVariants.{SwitchInPattern, PatternTooDeep, TooMany, Memory}
-use Rattle.rbg_numbering.specs.declared.error.Thing.TheVariants.{Positions}
+use Rattle.rbg_numbering.specs.declared.error.NumberingError.{NumberingError}
+use Rattle.rbg_numbering.specs.declared.error.NumberingError.TheVariants.{SwitchInPattern, PatternTooDeep, TooManyPositions, Memory}
 use Rattle.rbg_numbering.specs.Names.{Names, IsNumberOf}
 use Rattle.rbg_numbering.specs.Rules.{ActionIs}
 use Rattle.rbg_numbering.specs.Faults.{Purpose, names_for, Uses, HasExpression, HasArithmeticFault}
@@ -31,12 +30,12 @@ player_names None = []
 player_names (Some name) = name ∷ []
 
 -- What is wrong with an action, where so many patterns may still be opened.
-pub data HasActionFault (names : Names) (left : ℕ) : SpeltAction → GameError → Type 0 where
-  of_use : {action : SpeltAction} {purpose : Purpose} {used : List SpeltName} {error : GameError}
+pub data HasActionFault (names : Names) (left : ℕ) : SpeltAction → NumberingError → Type 0 where
+  of_use : {action : SpeltAction} {purpose : Purpose} {used : List SpeltName} {error : NumberingError}
       → Uses action purpose used
       → HasLookUpFault (names_for names purpose) used error
       → HasActionFault names left action error
-  of_expression : {action : SpeltAction} {e : SpeltExpression} {error : GameError}
+  of_expression : {action : SpeltAction} {e : SpeltExpression} {error : NumberingError}
       → HasExpression action e
       → HasArithmeticFault names e error
       → HasActionFault names left action error
@@ -60,10 +59,10 @@ pub record OpensPattern (left : ℕ) (pattern : Action) (old new : List Action) 
   pub position : p ≡ length new
 
 -- Why the pattern at this offset is not added to a table of so many actions.
-pub data HasOpeningFault (left at before : ℕ) : GameError → Type 0 where
+pub data HasOpeningFault (left at before : ℕ) : NumberingError → Type 0 where
   too_many :
       most_positions ≤ before
-      → HasOpeningFault left at before (TooMany Positions)
+      → HasOpeningFault left at before TooManyPositions
   too_deep :
       left ≡ 0
       → HasOpeningFault left at before (PatternTooDeep at)

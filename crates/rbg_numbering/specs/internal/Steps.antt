@@ -9,9 +9,8 @@ use Rattle.rbg_rules.specs.Table.{IsWithin}
 use Rattle.rbg_rules.specs.Translation.{expression_of}
 use Rattle.rbg_rules.specs.declared.rule.Action.{Action}
 use Rattle.rbg_rules.specs.declared.rule.Rule.{Rule}
-use Rattle.rbg_numbering.specs.declared.error.GameError.{GameError}
-use Rattle.rbg_numbering.specs.declared.error.GameError.TheVariants.{UnknownName, SwitchInPattern, PatternTooDeep, TooMany, Memory}
-use Rattle.rbg_numbering.specs.declared.error.Thing.TheVariants.{Positions}
+use Rattle.rbg_numbering.specs.declared.error.NumberingError.{NumberingError}
+use Rattle.rbg_numbering.specs.declared.error.NumberingError.TheVariants.{UnknownName, SwitchInPattern, PatternTooDeep, TooManyPositions, Memory}
 use Rattle.rbg_numbering.specs.Names.{Names}
 use Rattle.rbg_numbering.specs.Rules.{RuleIs}
 use Rattle.rbg_numbering.specs.Faults.{HasUnknown, Purpose, names_for, Uses, HasExpression, HasArithmeticFault, HasSpeltAction, HasPattern, HasPatternInside, HasSwitch, actions_in}
@@ -73,13 +72,13 @@ pub record AddsParts (names : Names) (left : ℕ) (rs : List SpeltRule) (old new
   pub numbers : AreNumbered names left rs (length old) (map (expression_of new) xs)
 
 -- What is wrong with a rule that stands after so many actions, where so many patterns may still be opened.
-pub data HasFaultFrom (names : Names) (left before : ℕ) (rule : SpeltRule) : GameError → Type 0 where
+pub data HasFaultFrom (names : Names) (left before : ℕ) (rule : SpeltRule) : NumberingError → Type 0 where
   from_use : {action : SpeltAction} {purpose : Purpose} {used : List SpeltName} {at : ℕ}
       → HasSpeltAction rule action
       → Uses action purpose used
       → HasUnknown (names_for names purpose) used at
       → HasFaultFrom names left before rule (UnknownName at)
-  from_arithmetic : {action : SpeltAction} {e : SpeltExpression} {error : GameError}
+  from_arithmetic : {action : SpeltAction} {e : SpeltExpression} {error : NumberingError}
       → HasSpeltAction rule action
       → HasExpression action e
       → HasArithmeticFault names e error
@@ -97,6 +96,6 @@ pub data HasFaultFrom (names : Names) (left before : ℕ) (rule : SpeltRule) : G
       → HasFaultFrom names left before rule (PatternTooDeep at)
   from_positions :
       most_positions < before + actions_in rule
-      → HasFaultFrom names left before rule (TooMany Positions)
+      → HasFaultFrom names left before rule TooManyPositions
   from_memory :
       HasFaultFrom names left before rule Memory

@@ -4,7 +4,7 @@ use Rattle.std.proofs.lemmas.Result.{IfErr-weaker}
 use Rattle.rbg_grammar.specs.Tree.{SpeltDescription}
 use Rattle.rbg_grammar.specs.Descriptions.{description_of}
 use Rattle.rbg_rules.specs.State.{AbstractGame}
-use Rattle.rbg_numbering.specs.declared.error.GameError.TheVariants.{Memory}
+use Rattle.rbg_game.specs.declared.game_error.GameError.TheVariants.{Memory}
 use Rattle.rbg_game.specs.Descriptions.{IsGameOf}
 use Rattle.rbg_game.specs.Faults.{HasFault}
 use Rattle.rbg_game.proofs.FaultLaw.{no_game_with_fault}

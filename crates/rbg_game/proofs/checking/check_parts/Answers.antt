@@ -2,7 +2,8 @@ use Rattle.std.proofs.Common.{sym, subst}
 use Rattle.rbg_grammar.specs.Descriptions.{description_of_parts}
 use Rattle.rbg_rules.specs.State.{AbstractGame}
 use Rattle.rbg_rules.specs.Translation.{rules_of}
-use Rattle.rbg_numbering.specs.declared.error.GameError.TheVariants.{Memory}
+use Rattle.rbg_game.specs.declared.game_error.GameError.TheVariants.{Memory}
+use Rattle.rbg_game.specs.GameErrors.{game_error_of}
 use Rattle.rbg_game.specs.Descriptions.{IsGameOf}
 use Rattle.rbg_game.specs.Faults.{HasFault, memory}
 use Rattle.rbg_numbering.proofs.LookUps.{passed_on}
@@ -20,7 +21,7 @@ pub returns-in_err-rules-clause-fault : goal.returns-in_err-rules-clause-fault
 returns-in_err-rules-clause-fault c =
     let d = description_of_parts c.args.parts.now in
     let error = c.in_err-rules.field-0.0 in
-    passed_on c.from_residual-in_err-rules.result error (HasFault d) c.from_residual-in_err-rules.ensures.1
+    passed_on c.from_residual-in_err-rules.result (game_error_of error) (HasFault d) c.from_residual-in_err-rules.ensures.1
     (rules_unlawful d c.in_ok-things.things c.in_ok-board.board c.requires c.in_ok-things.ensures.things c.in_ok-board.ensures.board error c.in_err-rules.ensures.fault)
 
 pub assemble-requires-clause-lawful : goal.assemble-requires-clause-lawful

@@ -1,7 +1,7 @@
 use Rattle.std.proofs.Common.{length, arith}
 use Rattle.rbg_grammar.specs.Tree.{SpeltRule}
 use Rattle.rbg_grammar.specs.Views.{action_of as spelt_action_of}
-use Rattle.rbg_numbering.specs.declared.error.GameError.TheVariants.{Memory}
+use Rattle.rbg_numbering.specs.declared.error.NumberingError.TheVariants.{Memory}
 use Rattle.rbg_numbering.specs.Numbered.{names_of}
 use Rattle.rbg_numbering.specs.internal.Steps.{HasFaultFrom, from_positions, from_memory}
 use Rattle.rbg_numbering.proofs.LookUps.{passed_on}

@@ -4,7 +4,7 @@ use Rattle.rbg_grammar.specs.Tree.{SpeltExpression, no_terms, terms_after, no_fa
 use Rattle.rbg_grammar.specs.Views.{expression_of}
 use Rattle.rbg_grammar.specs.Formed.{is_formed_expression}
 use Rattle.rbg_rules.specs.Translation.{arithmetic_of}
-use Rattle.rbg_numbering.specs.declared.error.GameError.TheVariants.{Memory}
+use Rattle.rbg_numbering.specs.declared.error.NumberingError.TheVariants.{Memory}
 use Rattle.rbg_numbering.specs.Numbered.{names_of}
 use Rattle.rbg_numbering.specs.Faults.{HasArithmeticFault, arithmetic_memory}
 use Rattle.rbg_numbering.specs.internal.Arithmetic.{term_of, factor_of}

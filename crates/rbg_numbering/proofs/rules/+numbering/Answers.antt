@@ -5,7 +5,7 @@ use Rattle.rbg_grammar.specs.Views.{rule_of, action_of}
 use Rattle.rbg_grammar.specs.declared.rule.Rule.{the_lemmas}
 use Rattle.rbg_grammar.proofs.Trees.{action_of-Shift, action_of-On, action_of-Off, action_of-Assign, action_of-Compare, action_of-Switch}
 use Rattle.rbg_rules.specs.declared.rule.Action.TheVariants.{Positive, Negative}
-use Rattle.rbg_numbering.specs.declared.error.GameError.TheVariants.{Memory}
+use Rattle.rbg_numbering.specs.declared.error.NumberingError.TheVariants.{Memory}
 use Rattle.rbg_numbering.specs.Numbered.{names_of}
 use Rattle.rbg_numbering.specs.internal.Actions.{is_spelt_pattern}
 use Rattle.rbg_numbering.specs.internal.Steps.{HasFaultFrom, from_memory}

@@ -4,7 +4,8 @@ use Rattle.rbg_board.specs.Cells.{rows_of}
 use Rattle.rbg_board.specs.Rectangle.{IsRectangle, MakesRectangle, RectangleRefusal}
 use Rattle.rbg_grammar.specs.Views.{name_of, names_of}
 use Rattle.rbg_grammar.specs.Tree.{rectangle}
-use Rattle.rbg_numbering.specs.declared.error.GameError.{GameError}
+use Rattle.rbg_game.specs.GameErrors.{game_error_of}
+use Rattle.rbg_game.specs.declared.game_error.GameError.{GameError}
 use Rattle.rbg_numbering.proofs.LookUps.{passed_on}
 use Rattle.rbg_game.specs.Faults.{HasBoardFault, no_rectangle, board_memory}
 use Rattle.rbg_game.proofs.NamedRows.{cells_fault, rectangle_made, by_refusal, rows_fault}
@@ -13,14 +14,14 @@ use Rattle.rbg_game.proofs.checking.boards.make_rectangle.Goals as goal
 pub returns-in_err-cells-clause-fault : goal.returns-in_err-cells-clause-fault
 returns-in_err-cells-clause-fault c =
     let P : GameError → Type 0 = λ e. HasBoardFault c.args.pieces.now (rectangle (map name_of c.args.names.now) (map names_of c.args.rows.now)) e in
-    passed_on c.from_residual.result c.in_err-cells.field-0.0 P c.from_residual.ensures.1
+    passed_on c.from_residual.result (game_error_of c.in_err-cells.field-0.0) P c.from_residual.ensures.1
     (cells_fault c.args.pieces.now (rectangle (map name_of c.args.names.now) (map names_of c.args.rows.now)) c.in_err-cells.field-0.0 c.in_err-cells.ensures.fault)
 
 pub returns-in_err-directions-clause-fault : goal.returns-in_err-directions-clause-fault
 returns-in_err-directions-clause-fault c =
     let P : GameError → Type 0 = λ e. HasBoardFault c.args.pieces.now (rectangle (map name_of c.args.names.now) (map names_of c.args.rows.now)) e in
-    passed_on c.from_residual-in_err-directions.result c.in_err-directions.field-0.0 P c.from_residual-in_err-directions.ensures.1
-    (subst P (sym c.in_err-directions.ensures.memory) board_memory)
+    passed_on c.from_residual-in_err-directions.result (game_error_of c.in_err-directions.field-0.0) P c.from_residual-in_err-directions.ensures.1
+    (subst (λ e. P (game_error_of e)) (sym c.in_err-directions.ensures.memory) board_memory)
 
 pub returns-in-Ok-clause-board : goal.returns-in-Ok-clause-board
 returns-in-Ok-clause-board c =

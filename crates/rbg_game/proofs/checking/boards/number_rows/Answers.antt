@@ -4,7 +4,7 @@ use Rattle.std.proofs.lemmas.List.{map-append}
 use Rattle.rbg_board.specs.Cells.{rows_of}
 use Rattle.rbg_grammar.specs.Tree.{SpeltName}
 use Rattle.rbg_grammar.specs.Views.{name_of, names_of}
-use Rattle.rbg_numbering.specs.declared.error.GameError.TheVariants.{Memory}
+use Rattle.rbg_numbering.specs.declared.error.NumberingError.TheVariants.{Memory}
 use Rattle.rbg_numbering.specs.Names.{IsNumberOf}
 use Rattle.rbg_numbering.specs.NameTables.{HasLookUpFault, no_memory}
 use Rattle.rbg_numbering.proofs.Lists.{AllZip-step, Contains-flat_map, Contains-map_read}

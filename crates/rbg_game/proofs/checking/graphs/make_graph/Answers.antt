@@ -10,7 +10,8 @@ use Rattle.rbg_board.specs.declared.graphs.Cell.{Cell}
 use Rattle.rbg_grammar.specs.Tree.{SpeltVertex, graph}
 use Rattle.rbg_grammar.specs.Views.{vertex_of}
 use Rattle.rbg_rules.specs.LawfulNames.{AreDifferentNames}
-use Rattle.rbg_numbering.specs.declared.error.GameError.{GameError}
+use Rattle.rbg_game.specs.GameErrors.{game_error_of}
+use Rattle.rbg_game.specs.declared.game_error.GameError.{GameError}
 use Rattle.rbg_numbering.specs.Names.{IsNumberOf}
 use Rattle.rbg_numbering.proofs.LookUps.{passed_on}
 use Rattle.rbg_game.specs.Descriptions.{vertex_names}
@@ -23,12 +24,12 @@ use Rattle.rbg_game.proofs.checking.graphs.make_graph.Goals as goal
 pub returns-in_err-first-clause-fault : goal.returns-in_err-first-clause-fault
 returns-in_err-first-clause-fault c =
     let P : GameError → Type 0 = λ e. HasBoardFault c.args.pieces.now (graph (map vertex_of c.args.vertices.now)) e in
-    passed_on c.from_residual.result c.in_err-first.field-0.0 P c.from_residual.ensures.1 (cells_fault c.args.pieces.now (graph (map vertex_of c.args.vertices.now)) c.in_err-first.field-0.0 c.in_err-first.ensures.fault)
+    passed_on c.from_residual.result (game_error_of c.in_err-first.field-0.0) P c.from_residual.ensures.1 (cells_fault c.args.pieces.now (graph (map vertex_of c.args.vertices.now)) c.in_err-first.field-0.0 c.in_err-first.ensures.fault)
 
 pub returns-in_err-directions-clause-fault : goal.returns-in_err-directions-clause-fault
 returns-in_err-directions-clause-fault c =
     let P : GameError → Type 0 = λ e. HasBoardFault c.args.pieces.now (graph (map vertex_of c.args.vertices.now)) e in
-    passed_on c.from_residual-in_err-directions.result c.in_err-directions.field-0.0 P c.from_residual-in_err-directions.ensures.1 (subst P (sym c.in_err-directions.ensures.memory) board_memory)
+    passed_on c.from_residual-in_err-directions.result (game_error_of c.in_err-directions.field-0.0) P c.from_residual-in_err-directions.ensures.1 (subst (λ e. P (game_error_of e)) (sym c.in_err-directions.ensures.memory) board_memory)
 
 pub returns-then-len-gt-MAX_DIRECTIONS-clause-fault : goal.returns-then-len-gt-MAX_DIRECTIONS-clause-fault
 returns-then-len-gt-MAX_DIRECTIONS-clause-fault c = many_directions c.in_ok-directions.ensures.order (omega (arith, c.if-len-gt-MAX_DIRECTIONS.true, c.len.ensures.count))
@@ -47,7 +48,7 @@ number_cells-requires-clause-pieces c =
 pub returns-in_err-cells-clause-fault : goal.returns-in_err-cells-clause-fault
 returns-in_err-cells-clause-fault c =
     let P : GameError → Type 0 = λ e. HasBoardFault c.args.pieces.now (graph (map vertex_of c.args.vertices.now)) e in
-    passed_on c.from_residual-in_err-cells.result c.in_err-cells.field-0.0 P c.from_residual-in_err-cells.ensures.1 (subst P (sym c.in_err-cells.ensures.memory) board_memory)
+    passed_on c.from_residual-in_err-cells.result (game_error_of c.in_err-cells.field-0.0) P c.from_residual-in_err-cells.ensures.1 (subst (λ e. P (game_error_of e)) (sym c.in_err-cells.ensures.memory) board_memory)
 
 -- the cells are numbered by the names of the vertices
 numbered_cells : (pieces directions names : List (List ℕ)) (vertices : List SpeltVertex) (written : List Written) → names ≡ vertex_names vertices → AllZip (IsCell pieces directions names) vertices written → AllZip (IsCell pieces directions (vertex_names vertices)) vertices written

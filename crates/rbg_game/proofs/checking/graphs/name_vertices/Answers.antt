@@ -1,7 +1,8 @@
 use Rattle.std.proofs.Common.{ℕ, List, map, subst, sym}
 use Rattle.rbg_grammar.specs.Tree.{graph}
 use Rattle.rbg_grammar.specs.Views.{vertex_of}
-use Rattle.rbg_numbering.specs.declared.error.GameError.{GameError}
+use Rattle.rbg_game.specs.GameErrors.{game_error_of}
+use Rattle.rbg_game.specs.declared.game_error.GameError.{GameError}
 use Rattle.rbg_numbering.proofs.LookUps.{passed_on}
 use Rattle.rbg_game.specs.Faults.{HasBoardFault, board_memory, no_graph}
 use Rattle.rbg_game.proofs.GraphSteps.{name_again}
@@ -10,7 +11,7 @@ use Rattle.rbg_game.proofs.checking.graphs.name_vertices.Goals as goal
 pub returns-in_err-join-clause-fault : goal.returns-in_err-join-clause-fault
 returns-in_err-join-clause-fault c =
     let P : GameError → Type 0 = λ e. (pieces : List (List ℕ)) → HasBoardFault pieces (graph (map vertex_of c.args.vertices.now)) e in
-    passed_on c.from_residual.result c.in_err-join.field-0.0 P c.from_residual.ensures.1 (subst P (sym c.in_err-join.ensures.memory) (λ pieces. board_memory))
+    passed_on c.from_residual.result (game_error_of c.in_err-join.field-0.0) P c.from_residual.ensures.1 (subst (λ e. P (game_error_of e)) (sym c.in_err-join.ensures.memory) (λ pieces. board_memory))
 
 pub returns-then-branch-vertex-clause-fault : goal.returns-then-branch-vertex-clause-fault
 returns-then-branch-vertex-clause-fault c = λ pieces. no_graph

@@ -3,7 +3,7 @@ use Rattle.std.specs.List.{AllZip}
 use Rattle.rbg_base.proofs.CallerLemmas.{AllZip-push_one, Contains-map}
 use Rattle.rbg_grammar.specs.Tree.{SpeltName, SpeltVertex, graph}
 use Rattle.rbg_grammar.specs.Views.{name_of, vertex_of}
-use Rattle.rbg_numbering.specs.declared.error.GameError.TheVariants.{Memory}
+use Rattle.rbg_numbering.specs.declared.error.NumberingError.TheVariants.{Memory}
 use Rattle.rbg_numbering.specs.Names.{IsNumberOf}
 use Rattle.rbg_numbering.specs.NameTables.{HasLookUpFault, no_memory}
 use Rattle.rbg_numbering.proofs.Lists.{Contains-map_read}

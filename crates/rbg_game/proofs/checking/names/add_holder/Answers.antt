@@ -1,7 +1,8 @@
 use Rattle.std.proofs.Common.{[], ◌∷◌, refl, subst, sym, arith}
 use Rattle.rbg_grammar.specs.Views.{bounded_of}
-use Rattle.rbg_numbering.specs.declared.error.GameError.{GameError}
-use Rattle.rbg_numbering.specs.declared.error.GameError.TheVariants.{Memory}
+use Rattle.rbg_game.specs.GameErrors.{game_error_of}
+use Rattle.rbg_game.specs.declared.game_error.GameError.{GameError}
+use Rattle.rbg_game.specs.declared.game_error.GameError.TheVariants.{Memory}
 use Rattle.rbg_numbering.specs.NameTables.{no_memory}
 use Rattle.rbg_game.specs.internal.Holders.{HasHolderFault, by_name, by_bound}
 use Rattle.rbg_numbering.proofs.LookUps.{passed_on}
@@ -9,7 +10,7 @@ use Rattle.rbg_game.proofs.checking.names.add_holder.Goals as goal
 
 pub returns-in_err-insert-clause-fault : goal.returns-in_err-insert-clause-fault
 returns-in_err-insert-clause-fault c =
-    passed_on c.from_residual.result c.in_err-insert.field-0.0 (HasHolderFault c.args.table.now (bounded_of c.args.holder.now ∷ [])) c.from_residual.ensures.1
+    passed_on c.from_residual.result (game_error_of c.in_err-insert.field-0.0) (HasHolderFault c.args.table.now (bounded_of c.args.holder.now ∷ [])) c.from_residual.ensures.1
     (by_name c.in_err-insert.ensures.fault)
 
 pub returns-in_err-read_bound-clause-fault : goal.returns-in_err-read_bound-clause-fault

@@ -5,7 +5,9 @@ use Rattle.rbg_grammar.specs.Views.{name_of, bounded_of}
 use Rattle.rbg_grammar.specs.Tree.{SpeltBounded, SpeltName, SpeltDescription}
 use Rattle.rbg_grammar.specs.declared.names.Name.{Name}
 use Rattle.rbg_grammar.specs.declared.description.Bounded.{Bounded}
-use Rattle.rbg_numbering.specs.declared.error.GameError.{GameError}
+use Rattle.rbg_game.specs.declared.game_error.GameError.{GameError}
+use Rattle.rbg_numbering.specs.declared.error.NumberingError.{NumberingError}
+use Rattle.rbg_game.specs.GameErrors.{game_error_of}
 use Rattle.rbg_numbering.specs.Names.{texts_of}
 use Rattle.rbg_game.specs.Descriptions.{holder_names, holders_of}
 use Rattle.rbg_numbering.specs.NameTables.{HasNameFault}
@@ -24,7 +26,7 @@ module _ (table earlier : List (List ℕ)) (begins : table ≡ earlier) where
       let Q : List (List ℕ) → Type 0 = λ l. HasHolderFault l given error in
       subst P same (subst Q begins h)
 
-  names_given : (given names : List SpeltName) → given ≡ names → (error : GameError) → HasNameFault table given error → HasNameFault earlier names error
+  names_given : (given names : List SpeltName) → given ≡ names → (error : NumberingError) → HasNameFault table given error → HasNameFault earlier names error
   names_given given names same error h =
       let P : List SpeltName → Type 0 = λ l. HasNameFault earlier l error in
       let Q : List (List ℕ) → Type 0 = λ l. HasNameFault l given error in
@@ -65,7 +67,7 @@ returns-in_err-add_names-clause-fault c =
     let d = description_of_parts c.args.description.now in
     let error = c.in_err-add_names.field-0.0 in
     let fault = names_given c.new-pieces.result [] c.new-pieces.ensures (map name_of c.deref-3.result.now) d.pieces (ap (map name_of) c.deref-3.ensures.value) error c.in_err-add_names.ensures.fault in
-    passed_on c.from_residual-in_err-add_names.result error (HasFault d) c.from_residual-in_err-add_names.ensures.1 (pieces_fault d error fault)
+    passed_on c.from_residual-in_err-add_names.result (game_error_of error) (HasFault d) c.from_residual-in_err-add_names.ensures.1 (pieces_fault d error fault)
 
 pub returns-in_err-add_players-clause-fault : goal.returns-in_err-add_players-clause-fault
 returns-in_err-add_players-clause-fault c =

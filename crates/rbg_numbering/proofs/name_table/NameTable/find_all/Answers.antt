@@ -1,6 +1,6 @@
 use Rattle.std.proofs.Common.{map}
 use Rattle.rbg_grammar.specs.Views.{name_of}
-use Rattle.rbg_numbering.specs.declared.error.GameError.TheVariants.{Memory}
+use Rattle.rbg_numbering.specs.declared.error.NumberingError.TheVariants.{Memory}
 use Rattle.rbg_numbering.specs.Names.{IsNumberOf}
 use Rattle.rbg_numbering.specs.NameTables.{HasLookUpFault, no_memory}
 use Rattle.rbg_numbering.proofs.Lists.{AllZip-step, Contains-map_read}

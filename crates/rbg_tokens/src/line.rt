@@ -1,10 +1,10 @@
 //! The line of a text on which an offset is.
 ghost use Rattle.std.specs.Prelude.{◌≡◌, ◌≤◌, ◌+◌, ◌-◌, take, drop, length};
-ghost use Rattle.rbg_author.specs.Places.{line_feeds, IsOneLine};
+ghost use Rattle.rbg_tokens.specs.Lines.{line_feeds, IsOneLine};
 
 /// A line of a text.
 #[derive(Clone, Copy, Debug)]
-pub struct Line<'a> {
+pub struct TextLine<'a> {
     /// Its number, from 1.
     pub number: usize,
     /// The offset of its first byte.
@@ -13,9 +13,9 @@ pub struct Line<'a> {
     pub bytes: &'a [u8],
 }
 
-impl<'a> Line<'a> {
+impl<'a> TextLine<'a> {
     /// The line that holds an offset.
-    pub fn of(text: &'a [u8], at: usize) -> Line<'a>
+    pub fn of(text: &'a [u8], at: usize) -> TextLine<'a>
         requires { at ≤ length text.now }
         ensures number { result.number ≡ 1 + line_feeds (take at text.now) }
 
@@ -25,7 +25,7 @@ impl<'a> Line<'a> {
     {
         let start = line_start(text, at);
         let end = line_end(text, at);
-        Line {
+        TextLine {
             number: count_line_feeds(&text[..at]) + 1,
             start,
             bytes: &text[start..end],

@@ -1,0 +1,9 @@
+use Rattle.rbg_grammar.specs.Descriptions.{description_of}
+use Rattle.rbg_numbering.proofs.LookUps.{passed_on}
+use Rattle.rbg_game.specs.declared.game_error.GameError.TheVariants.{Memory}
+use Rattle.rbg_game.specs.Faults.{HasFault, memory}
+use Rattle.rbg_game.proofs.loading.check_with_layout.Goals as goal
+
+pub returns-in_err-layout-clause-fault : goal.returns-in_err-layout-clause-fault
+returns-in_err-layout-clause-fault c =
+    passed_on c.from_residual.result Memory (HasFault (description_of c.args.description)) c.from_residual.ensures.1 memory

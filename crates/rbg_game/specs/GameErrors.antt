@@ -1,0 +1,15 @@
+-- What a refusal of names or of rules is called as a refusal of the description.
+use Rattle.rbg_numbering.specs.declared.error.NumberingError.{NumberingError}
+use Rattle.rbg_numbering.specs.declared.error.NumberingError.TheVariants as causes
+use Rattle.rbg_game.specs.declared.game_error.GameError.{GameError}
+use Rattle.rbg_game.specs.declared.game_error.GameError.TheVariants.{UnknownName, SameName, Bound, SwitchInPattern, PatternTooDeep, TooMany, Memory}
+use Rattle.rbg_game.specs.declared.game_error.Thing.TheVariants.{Positions}
+
+abbrev pub game_error_of : NumberingError → GameError
+game_error_of (causes.UnknownName at) = UnknownName at
+game_error_of (causes.SameName at) = SameName at
+game_error_of (causes.NumberTooGreat at) = Bound at
+game_error_of (causes.SwitchInPattern at) = SwitchInPattern at
+game_error_of (causes.PatternTooDeep at) = PatternTooDeep at
+game_error_of causes.TooManyPositions = TooMany Positions
+game_error_of causes.Memory = Memory

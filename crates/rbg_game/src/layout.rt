@@ -1,0 +1,60 @@
+//! How the vertices of a board lie, as its description writes them.
+ghost use Rattle.std.specs.Prelude.{◌≡◌, map, length, IfOk};
+ghost use Rattle.rbg_grammar.specs.Views.{names_of, vertex_of, board_of};
+ghost use Rattle.rbg_numbering.specs.NameTables.{bytes_of};
+ghost use Rattle.rbg_game.specs.Descriptions.{vertex_names};
+ghost use Rattle.rbg_game.specs.Layouts.{IsLayoutOf};
+
+use rbg_grammar::{Board, Name, Vertex};
+use std::alloc::{AllocError, Global};
+
+/// How the vertices of a board lie, as its description writes them. Vertices are numbered in this order.
+#[derive(Debug, Drop)]
+pub enum Layout {
+    /// Rows of squares from top to bottom, each with its length.
+    Rectangle { rows: Vec<usize> },
+    /// Rows from top to bottom with their lengths, each of them shifted by half a cell.
+    Hexagon { rows: Vec<usize> },
+    /// Vertices with names.
+    Graph { names: Vec<Vec<u8>> },
+}
+
+/// The layout of a board.
+pub(crate) fn layout_of(alloc: Global, board: &Board<'_>) -> Result<Layout, AllocError>
+    ensures { IfOk result (IsLayoutOf (board_of board.now)) }
+{
+    match board {
+        Board::Rectangle { rows, .. } => Ok(Layout::Rectangle {
+            rows: row_lengths(alloc, rows)?,
+        }),
+        Board::Hexagon { rows, .. } => Ok(Layout::Hexagon {
+            rows: row_lengths(alloc, rows)?,
+        }),
+        Board::Graph { vertices } => Ok(Layout::Graph {
+            names: copy_names(alloc, vertices)?,
+        }),
+    }
+}
+
+/// The lengths of rows.
+fn row_lengths(alloc: Global, rows: &[Vec<Name<'_>>]) -> Result<Vec<usize>, AllocError>
+    ensures { IfOk result (λ lengths. lengths.items ≡ map length (map names_of rows.now)) }
+{
+    let mut lengths = Vec::with_capacity(alloc, rows.len())?;
+    for row in rows {
+        lengths.push(row.len())?;
+    }
+    Ok(lengths)
+}
+
+/// The names of vertices.
+fn copy_names(alloc: Global, vertices: &[Vertex<'_>]) -> Result<Vec<Vec<u8>>, AllocError>
+    ensures { IfOk result (λ names.
+        bytes_of names.items ≡ vertex_names (map vertex_of vertices.now)) }
+{
+    let mut names = Vec::with_capacity(alloc, vertices.len())?;
+    for vertex in vertices {
+        names.push(Vec::from_slice(alloc, vertex.name.text)?)?;
+    }
+    Ok(names)
+}
