@@ -6,7 +6,7 @@ use Rattle.rbg_rules.specs.State.{AbstractGame}
 use Rattle.rbg_rules.specs.Moves.{AbstractPlace, Legal}
 use Rattle.rbg_rules.specs.Moves as moves
 use Rattle.rbg_rules.specs.Heavy.{IsHeavyToFind}
-use Rattle.rbg_match.specs.Limits.{most_keeper_moves}
+use Rattle.rbg_moves.specs.Limits.{most_keeper_moves}
 use Rattle.rbg_match.specs.Deliveries.{Delivery, delivered, to_each}
 use Rattle.rbg_match.specs.Play.{AbstractPlay, mover_of, scores_of, ended}
 use Rattle.rbg_match.specs.PlayingOn.{PlaysOn, endless, heavy, finished, keeper, seats_of, MayBeAsked}

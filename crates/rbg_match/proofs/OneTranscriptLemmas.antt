@@ -18,7 +18,8 @@ use Rattle.rbg_rules.proofs.PlaceLemmas.{one_place_law}
 use Rattle.rbg_match.specs.declared.config.Config.{Config}
 use Rattle.rbg_match.specs.declared.made.Made.{Made}
 use Rattle.rbg_match.specs.Deliveries.{Delivery, to_each, queued}
-use Rattle.rbg_match.specs.Limits.{most_keeper_moves, most_pairs}
+use Rattle.rbg_moves.specs.Limits.{most_keeper_moves}
+use Rattle.rbg_match.specs.Limits.{most_pairs}
 use Rattle.rbg_match.specs.Play.{AbstractPlay, mover_of, ended, moved}
 use Rattle.rbg_match.specs.PlayingOn.{PlaysOn, MayBeAsked, seats_of}
 use Rattle.rbg_match.specs.PlayingOn as on

@@ -13,10 +13,6 @@ longest_turn = 3600000
 abbrev pub most_refusals : ℕ
 most_refusals = 100
 
--- the keeper makes at most this many moves in a row
-abbrev pub most_keeper_moves : ℕ
-most_keeper_moves = 1000
-
 -- a move has at most this many pairs
 abbrev pub most_pairs : ℕ
 most_pairs = 200

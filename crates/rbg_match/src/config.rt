@@ -3,6 +3,9 @@
 /// The longest time for a turn, in milliseconds: one hour.
 pub const MAX_TURN_MS: u64 = 3_600_000;
 
+/// The latest moment that is counted. It leaves room for the longest turn, so that each due moment is a `u64`.
+pub const LATEST_MOMENT: u64 = u64::MAX - MAX_TURN_MS;
+
 /// The most refused messages that may be allowed to a seat.
 pub const MAX_REFUSALS: u32 = 100;
 

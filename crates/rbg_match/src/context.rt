@@ -4,7 +4,7 @@ ghost use Rattle.rbg_match.specs.Config.{IsWithinLimits, IsWithinLimits-prop};
 ghost use Rattle.rbg_match.specs.Limits.{latest_moment};
 
 use crate::Config;
-use crate::played::PlayedGame;
+use rbg_moves::PlayedGame;
 
 /// The game and config of a match, and the counted moment of the input.
 #[derive(Clone, Copy, Debug)]

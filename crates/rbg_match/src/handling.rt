@@ -11,10 +11,10 @@ ghost use Rattle.rbg_match.specs.PlayingOn.{seats_of};
 ghost use Rattle.rbg_match.specs.internal.Saying.{Says};
 
 use crate::Outbox;
+use crate::asking::{above_limits, try_move};
 use crate::context::Context;
 use crate::input::Input;
 use crate::play::Play;
-use crate::played::above_limits;
 use crate::turns::{end, leave, make, play_on};
 use rbg_base::Memory;
 use rbg_moves::Move;
@@ -68,10 +68,7 @@ fn judge(
         pairs
         (play_of play.new) said) }
 {
-    match context
-        .game
-        .try_move(&play.place, &pairs, &mut play.workspace)
-    {
+    match try_move(context.game, &play.place, &pairs, &mut play.workspace) {
         Ok(None) => {
             let seat = play.mover() as usize;
             refuse(context, play, seat, Reason::NotLegal, outbox)

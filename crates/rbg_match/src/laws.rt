@@ -1,13 +1,12 @@
 //! Laws of a whole match. The contract of each function is a law; its body does nothing.
 ghost use Rattle.std.specs.Prelude.{◌≡◌};
-ghost use Rattle.rbg_match.specs.Limits.{most_seats, longest_turn, most_refusals, most_keeper_moves, most_pairs, message_limit, latest_moment};
+ghost use Rattle.rbg_moves.specs.Limits.{most_keeper_moves};
+ghost use Rattle.rbg_match.specs.Limits.{most_seats, longest_turn, most_refusals, most_pairs, message_limit, latest_moment};
 ghost use Rattle.rbg_match.specs.Laws.{Cutting, EndedPlayStays, EndedMatchStays, OneOutbox, OneTranscript, OneUntilHeavy, SteppedIsTranscript, TickAtStart, TickBehind, TranscriptHasHistory};
 
-use crate::matches::LATEST_MOMENT;
 use crate::opening::MESSAGE_LIMIT;
-use crate::turns::MAX_KEEPER_MOVES;
-use crate::{MAX_REFUSALS, MAX_SEATS, MAX_TURN_MS};
-use rbg_moves::MAX_PAIRS;
+use crate::{LATEST_MOMENT, MAX_REFUSALS, MAX_SEATS, MAX_TURN_MS};
+use rbg_moves::{MAX_KEEPER_MOVES, MAX_PAIRS};
 use rbg_rules::limits::MAX_PLAYERS;
 
 /// The limits are the numbers that the definitions state. There is a seat for each player that a game may have.

@@ -2,6 +2,7 @@
 //! queues for each seat the messages of the match.
 #![tactic(auto)]
 
+mod asking;
 mod config;
 mod context;
 mod dispatch;
@@ -15,11 +16,10 @@ mod matches;
 mod opening;
 mod outbox;
 mod play;
-mod played;
 mod refereeing;
 mod turns;
 
-pub use config::{Config, MAX_REFUSALS, MAX_TURN_MS};
+pub use config::{Config, LATEST_MOMENT, MAX_REFUSALS, MAX_TURN_MS};
 pub use error::{MatchError, RefereeError};
 pub use event::Event;
 pub use made::Made;

@@ -11,18 +11,14 @@ use crate::context::Context;
 use crate::dispatch::handle_event;
 use crate::opening::{greet, new_inboxes, start};
 use crate::play::Play;
-use crate::played::PlayedGame;
 use crate::turns::play_on;
-use crate::{Config, Event, MAX_TURN_MS, Made, MatchError, Outbox};
+use crate::{Config, Event, LATEST_MOMENT, Made, MatchError, Outbox};
 use rbg_base::Memory;
-use rbg_moves::{Listed, Over, Place};
+use rbg_moves::{Listed, Over, Place, PlayedGame};
 use rbg_rules::Game;
 use rbg_wire::{Inbox, Outcome};
 use std::alloc::Global;
 use std::marker::Model;
-
-/// The latest moment that is counted. It leaves room for the longest turn, so that each due moment is a `u64`.
-pub(crate) const LATEST_MOMENT: u64 = u64::MAX - MAX_TURN_MS;
 
 /// A match of a game.
 #[derive(Debug, Drop)]

@@ -11,12 +11,12 @@ ghost use Rattle.rbg_match.specs.PlayingOn.{PlaysOn, seats_of};
 ghost use Rattle.rbg_match.specs.internal.OneStep.{PlaysOnOnce};
 ghost use Rattle.rbg_base.specs.Move.{IsMoveLength};
 
+use crate::asking::{above_limits, find_pairs};
 use crate::context::Context;
 use crate::play::Play;
-use crate::played::above_limits;
 use crate::{Made, Outbox};
 use rbg_base::{Memory, Pair};
-use rbg_moves::{Move, Place};
+use rbg_moves::{MAX_KEEPER_MOVES, Move, Place};
 use rbg_rules::Game;
 use rbg_wire::{Message, Outcome, Scores};
 use std::mem::replace;
@@ -99,9 +99,6 @@ fn scores(game: &Game, place: &Place) -> Scores
     scores
 }
 
-/// The most moves that the keeper makes in a row.
-pub(crate) const MAX_KEEPER_MOVES: u32 = 1000;
-
 /// What one step of play was.
 #[derive(Clone, Copy, Debug, PartialEq, Eq)]
 pub(crate) enum Progress {
@@ -131,7 +128,7 @@ fn play_on_once(
         end(play, Outcome::Heavy, outbox)?;
         return Ok(Progress::Settled);
     }
-    match context.game.find_pairs(&play.place, &mut play.workspace) {
+    match find_pairs(context.game, &play.place, &mut play.workspace) {
         Ok(None) => {
             let scores = scores(context.game.as_game(), &play.place);
             end(play, Outcome::Finished { scores }, outbox)?;
@@ -145,7 +142,7 @@ fn play_on_once(
             }
             let to = context
                 .game
-                .make_move(&play.place, &pairs, &mut play.workspace)?;
+                .make_move_with(&play.place, &pairs, &mut play.workspace)?;
             make(context, play, move_of(&pairs), to, outbox)?;
             play.workspace.keep_pairs(pairs);
             Ok(Progress::KeeperMoved)

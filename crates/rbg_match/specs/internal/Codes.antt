@@ -6,27 +6,14 @@ use Rattle.std.specs.Coded.{Coded, coded_ℕ, coded_bool, coded_list, coded_opti
 use Rattle.rbg_wire.specs.declared.outcome.Outcome.{Outcome}
 use Rattle.rbg_wire.specs.declared.outcome.Outcome.TheVariants.{Finished, Time, Refusals, Gone, Heavy}
 use Rattle.rbg_wire.specs.Streams.{Rest, incomplete, dropping}
-use Rattle.rbg_rules.specs.State.{AbstractGame, AbstractState}
+use Rattle.rbg_rules.specs.State.{AbstractGame}
 use Rattle.rbg_rules.specs.Moves.{AbstractPlace}
 use Rattle.rbg_rules.specs.Codes.{coded_game}
+use Rattle.rbg_rules.specs.PlaceCodes.{coded_place}
 use Rattle.rbg_match.specs.declared.made.Made.{Made}
 use Rattle.rbg_match.specs.Play.{AbstractPlay}
 use Rattle.rbg_match.specs.Inputs.{Streams}
 use Rattle.rbg_match.specs.Matches.{MatchState}
-
-abbrev coded_state : Coded AbstractState
-coded_state = code_by ((ℕ × List ℕ) × (List ℕ × ℕ))
-    (coded× (coded× coded_ℕ (coded_list coded_ℕ)) (coded× (coded_list coded_ℕ) coded_ℕ))
-    (λ s. ((s.player, s.pieces), (s.values, s.vertex)))
-    (λ p. record { player = p.0.0; pieces = p.0.1; values = p.1.0; vertex = p.1.1 })
-    (λ _. refl)
-
-abbrev coded_place : Coded AbstractPlace
-coded_place = code_by (AbstractState × Option ℕ)
-    (coded× coded_state (coded_option coded_ℕ))
-    (λ p. (p.state, p.last))
-    (λ p. record { state = p.0; last = p.1 })
-    (λ _. refl)
 
 abbrev coded_made : Coded Made
 coded_made = code_by (ℕ × (ℕ × List (ℕ × ℕ)))

@@ -6,7 +6,8 @@ use Rattle.rbg_rules.specs.Moves.{AbstractPlace, Legal}
 use Rattle.rbg_match.specs.declared.turns.Progress.{Progress}
 use Rattle.rbg_match.specs.declared.turns.Progress.TheVariants.{KeeperMoved, Settled}
 use Rattle.rbg_match.specs.Deliveries.{Delivery, to_each}
-use Rattle.rbg_match.specs.Limits.{most_keeper_moves, most_pairs}
+use Rattle.rbg_moves.specs.Limits.{most_keeper_moves}
+use Rattle.rbg_match.specs.Limits.{most_pairs}
 use Rattle.rbg_match.specs.Play.{AbstractPlay, mover_of, moved}
 use Rattle.rbg_match.specs.PlayingOn.{PlaysOn, seats_of}
 

@@ -40,6 +40,6 @@ returns-in_err-to-in-Ok-Some-clause-says c = nothing_err _ c.from_residual-in_er
 pub returns-in_ok-end-in-Ok-None-clause-says : goal.returns-in_ok-end-in-Ok-None-clause-says
 returns-in_ok-end-in-Ok-None-clause-says c =
     let nothing = rw c.in-Ok-None.field-0-is at c.in-Ok-None.ensures.finished in
-    let values = rw c.as_game.ensures at c.scores-scores.ensures.values in
+    let values = rw c.as_game.ensures.game at c.scores-scores.ensures.values in
     said_so c.in_ok-end-in-Ok-None.ensures.says Settled _
     (λ said tells. is_finished c.args.context.game.now c.args.context.moment c.args.in_a_row (play_of c.args.play.now) _ _ said c.requires.seats (may_be_asked (goal.at.returns-in_ok-end-in-Ok-None-clause-says c).After-find_pairs) nothing c.scores-scores.result values c.in_ok-end-in-Ok-None.ensures.play tells)
