@@ -11,7 +11,6 @@ mod fields;
 mod input;
 pub mod laws;
 mod script;
-mod undo;
 mod writer;
 
 pub use config::ScriptConfig;
