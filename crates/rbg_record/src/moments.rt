@@ -11,12 +11,9 @@ ghost use Rattle.rbg_record.specs.internal.Reading.{standing_of};
 
 use crate::reached::Standing;
 use rbg_lines::{Entry, Start, Timed};
-use rbg_match::{Config, MAX_TURN_MS};
+use rbg_match::{Config, LATEST_MOMENT};
 use rbg_moves::PlayedGame;
 use rbg_wire::Outcome;
-
-/// The latest moment that is counted. It leaves room for the longest turn, so that each due moment is a `u64`.
-pub(crate) const LATEST_MOMENT: u64 = u64::MAX - MAX_TURN_MS;
 
 /// The moment of an entry that is written without one.
 pub(crate) fn unwritten(entry: &Entry) -> u64

@@ -26,11 +26,12 @@ ghost use Rattle.rbg_record.specs.internal.Reading.{
 
 use crate::asking::{are_players, are_scores, is_finished, try_move};
 use crate::fault::Fault;
-use crate::moments::{LATEST_MOMENT, is_lawful, unwritten};
+use crate::moments::{is_lawful, unwritten};
 use crate::reached::{Reached, Standing};
 use rbg_lines::{
     Entry, Timed, Version, read_entry, read_players, read_start, read_timed, read_version,
 };
+use rbg_match::LATEST_MOMENT;
 use rbg_moves::{Move, PlayedGame};
 use rbg_wire::{Outcome, Scores};
 
