@@ -1,5 +1,5 @@
 -- Each text spells one thing at most.
-use Rattle.std.proofs.Common.{◌≡◌, ◌≢◌, ℕ, ◌<◌, ◌^◌, Option, Some, None, List, [], ◌∷◌, ◌++◌, decimal, codes, All, ap, sym, ◌∙◌, refl, arith, append_assoc}
+use Rattle.std.proofs.Common.{◌≡◌, ℕ, Option, Some, None, List, [], ◌∷◌, ◌++◌, decimal, codes, All, ap, sym, ◌∙◌, refl, arith, append_assoc}
 use Rattle.std.specs.Prelude.{IsTrue}
 use Rattle.std.specs.List.{flat_map, AllByRecursion}
 use Rattle.std.proofs.lemmas.Fmt.{decimal_injective}
@@ -14,6 +14,9 @@ use Rattle.rbg_wire.proofs.NumberLemmas.{lacks_byte-decimal}
 use Rattle.rbg_wire.proofs.OutcomeLemmas.{outcome_text-kind, one_outcome}
 use Rattle.rbg_wire.proofs.PairLemmas.{one_spelled}
 use Rattle.rbg_wire.proofs.WordLemmas.{words_of-spaced, same_words, some_word}
+use Rattle.rbg_wire.specs.Lines.{line_of, lines_of}
+use Rattle.rbg_wire.proofs.ByteLemmas.{different, other_first, same_cut, same_end}
+use Rattle.rbg_wire.proofs.FieldLemmas.{same_fields}
 use Rattle.rbg_lines.specs.declared.entry.Entry.{Entry}
 use Rattle.rbg_lines.specs.declared.entry.Entry.TheVariants.{Move, End}
 use Rattle.rbg_lines.specs.declared.entry.Timed.{Timed}
@@ -23,9 +26,7 @@ use Rattle.rbg_lines.specs.declared.heading.Version.TheVariants.{One, Two}
 use Rattle.rbg_lines.specs.Entries.{SpellsEntry, SpellsTimed, entry_text, timed_text}
 use Rattle.rbg_lines.specs.Heading.{version_text, start_text, SpellsPlayers, SpellsStart}
 use Rattle.rbg_lines.specs.Laws.{EntriesAreApart, HeadingsAreApart, LinesAreApart}
-use Rattle.rbg_lines.specs.Lines.{line_of, lines_of}
-use Rattle.rbg_lines.proofs.Cuts.{same_cut, other_first}
-use Rattle.rbg_lines.proofs.Lacking.{number_lacks, no_letter-decimal, name_lacks}
+use Rattle.rbg_lines.proofs.Lacking.{no_letter-decimal, name_lacks}
 
 -- The fields of a line.
 
@@ -50,15 +51,6 @@ start_fields start =
     append_assoc (codes "start " ++ decimal start.turn_ms) (codes " ") (decimal start.now)
     ∙ append_assoc (codes "start ") (decimal start.turn_ms) (32 ∷ decimal start.now)
 
-pub space_lacks : (n : ℕ) → n < 2 ^ 64 → LacksByte 32 (decimal n)
-space_lacks n small = number_lacks 32 n (omega arith) small
-
--- Two texts of a number, a space and more are the same in both parts.
-pub same_fields : (text x y : List ℕ) (m n : ℕ) → m < 2 ^ 64 → n < 2 ^ 64 → text ≡ decimal m ++ 32 ∷ x → text ≡ decimal n ++ 32 ∷ y → (m ≡ n) × (x ≡ y)
-same_fields text x y m n first second h k =
-    let parts = same_cut 32 (decimal m) (decimal n) x y (space_lacks m first) (space_lacks n second) (sym h ∙ k) in
-    (decimal_injective m n first second parts.0, parts.1)
-
 -- an outcome begins with its letter, and a move with a digit
 no_move_ends : (text : List ℕ) (player : ℕ) (pairs : List (ℕ × ℕ)) (outcome : Option Outcome) → SpellsEntry text (Move player pairs) → SpellsEntry text (End outcome) → ⊥
 no_move_ends text player pairs None h k =
@@ -68,9 +60,6 @@ no_move_ends text player pairs (Some outcome) h k =
     let parts = outcome_text-kind outcome in
     other_first 32 69 (decimal player) (pairs_text pairs) (parts.0 ∷ parts.1) (no_letter-decimal 69 player (omega arith) h.has.0) (λ e. absurd (omega arith))
     (sym (h.is ∙ move_text player pairs) ∙ (k.is ∙ (end_text outcome ∙ parts.2)))
-
-different : (a b : ℕ) → a ≢ b → (x y : List ℕ) → a ∷ x ≡ b ∷ y → ⊥
-different a b apart x y same = apart (cc)
 
 no_dash : (text : List ℕ) (outcome : Outcome) → SpellsEntry text (End None) → SpellsEntry text (End (Some outcome)) → ⊥
 no_dash text outcome h k =
@@ -104,10 +93,6 @@ pub entries_apart : EntriesAreApart
 entries_apart = record { entries = one_entry; timed = one_timed; ends = no_move_ends }
 
 -- The first lines.
-
-pub same_end : (a x y : List ℕ) → a ++ x ≡ a ++ y → x ≡ y
-same_end [] x y same = same
-same_end (byte ∷ a) x y same = let parts : byte ∷ (a ++ x) ≡ byte ∷ (a ++ y) = same in same_end a x y cc
 
 pub one_version : (a b : Version) → version_text a ≡ version_text b → a ≡ b
 unfolding version_text

@@ -1,5 +1,4 @@
 -- What the proofs of this crate share.
 pub mod Apart
-pub mod Cuts
 pub mod Lacking
 pub mod Reading

@@ -1,18 +1,14 @@
 -- What the calls find that read a line, and what they leave out.
-use Rattle.std.proofs.Common.{◌≡◌, ℕ, ◌<◌, ◌≤◌, ◌^◌, true, false, Option, Some, None, IfSome, IfNone, Result, Ok, Err, IfOk, List, [], ◌∷◌, ◌++◌, length, take, drop, decimal, codes, All, ap, sym, ◌∙◌, refl, subst}
+use Rattle.std.proofs.Common.{◌≡◌, ℕ, ◌<◌, ◌≤◌, ◌^◌, Option, Some, None, IfSome, IfNone, Result, Ok, Err, IfOk, List, [], ◌∷◌, ◌++◌, length, decimal, codes, All, ap, sym, ◌∙◌, refl, subst}
 use Rattle.std.specs.Prelude.{IsTrue}
 use Rattle.std.specs.Result.{result_ok}
-use Rattle.std.specs.Str.{bytes_eq}
-use Rattle.std.proofs.lemmas.Slice.Eq.{bytes_eq-Decides}
-use Rattle.std.proofs.lemmas.List.{take-append-drop}
-use Rattle.std.proofs.Math.Seq.{take-append_seam}
 use Rattle.rbg_base.specs.Names.{is_name}
 use Rattle.rbg_wire.specs.declared.error.WireError.{WireError}
 use Rattle.rbg_wire.specs.declared.outcome.Outcome.{Outcome}
-use Rattle.rbg_wire.specs.Bytes.{LacksByte}
 use Rattle.rbg_wire.specs.Messages.{ArePairs, pairs_text}
 use Rattle.rbg_wire.specs.Reading.{SpellsPairs, SpellsOutcome}
 use Rattle.rbg_wire.specs.Words.{words_of}
+use Rattle.rbg_wire.proofs.ByteLemmas.{same_end}
 use Rattle.rbg_lines.specs.declared.entry.Entry.{Entry}
 use Rattle.rbg_lines.specs.declared.entry.Entry.TheVariants.{Move, End}
 use Rattle.rbg_lines.specs.declared.entry.Timed.{Timed}
@@ -21,32 +17,7 @@ use Rattle.rbg_lines.specs.declared.heading.Version.{Version}
 use Rattle.rbg_lines.specs.declared.heading.Version.TheVariants.{One, Two}
 use Rattle.rbg_lines.specs.Entries.{SpellsEntry, SpellsTimed}
 use Rattle.rbg_lines.specs.Heading.{version_text, SpellsPlayers, SpellsStart}
-use Rattle.rbg_lines.proofs.Cuts.{no_cut, same_cut}
-use Rattle.rbg_lines.proofs.Apart.{move_text, play_text, end_text, start_fields, space_lacks, spells_outcome, one_entry, one_timed, one_start, one_version, same_end, spelled_names, names_spelled}
-
--- bytes behind a text
-pub prefix_found : (text bytes rest : List ℕ) → bytes_eq (take (length text) bytes) text ≡ true → rest ≡ drop (length text) bytes → bytes ≡ text ++ rest
-prefix_found text bytes rest test is =
-    let front : take (length text) bytes ≡ text = (bytes_eq-Decides (take (length text) bytes) text).0 test in
-    sym (take-append-drop (length text) bytes) ∙ (ap (λ f. f ++ drop (length text) bytes) front ∙ ap (λ r. text ++ r) (sym is))
-
-pub prefix_none : (text bytes : List ℕ) → bytes_eq (take (length text) bytes) text ≡ false → (rest : List ℕ) → bytes ≡ text ++ rest → ⊥
-prefix_none text bytes test rest is =
-    let front : take (length text) bytes ≡ text = ap (take (length text)) is ∙ take-append_seam text rest in
-    let apart : false ≡ true = sym test ∙ (bytes_eq-Decides (take (length text) bytes) text).1 front in
-    cc
-
--- A text that is cut at its first space, where it is a number, a space and more.
-module _ (text word rest : List ℕ) (cut : text ≡ word ++ 32 ∷ rest) (lacks : LacksByte 32 word) where
-  pub cut_fields : (n : ℕ) (more : List ℕ) → n < 2 ^ 64 → text ≡ decimal n ++ 32 ∷ more → (word ≡ decimal n) × (rest ≡ more)
-  cut_fields n more small is = same_cut 32 word (decimal n) rest more lacks (space_lacks n small) (sym cut ∙ is)
-
-pub no_fields : (text more : List ℕ) (n : ℕ) → LacksByte 32 text → text ≡ decimal n ++ 32 ∷ more → ⊥
-no_fields text more n lacks is = no_cut 32 (decimal n) more (subst (LacksByte 32) is lacks)
-
--- a number, a space and more
-pub with_number : (text word rest more : List ℕ) (n : ℕ) → text ≡ word ++ 32 ∷ rest → word ≡ decimal n → rest ≡ more → text ≡ decimal n ++ 32 ∷ more
-with_number text word rest more n cut number is = cut ∙ (ap (λ w. w ++ 32 ∷ rest) number ∙ ap (λ r. decimal n ++ 32 ∷ r) is)
+use Rattle.rbg_lines.proofs.Apart.{move_text, play_text, end_text, start_fields, spells_outcome, one_entry, one_timed, one_start, one_version, spelled_names, names_spelled}
 
 -- What an entry's fields are.
 pub move_fields : (text : List ℕ) (player : ℕ) (pairs : List (ℕ × ℕ)) → SpellsEntry text (Move player pairs) → text ≡ decimal player ++ 32 ∷ pairs_text pairs
@@ -85,13 +56,6 @@ pairs_not_read text answer pairs only none are few is =
 
 pub spells_move : (text : List ℕ) (player : ℕ) (pairs : List (ℕ × ℕ)) → player < 2 ^ 64 → ArePairs pairs → length pairs ≤ 200 → text ≡ decimal player ++ 32 ∷ pairs_text pairs → SpellsEntry text (Move player pairs)
 spells_move text player pairs small are few is = record { has = (small, are, few); is = is ∙ sym (move_text player pairs) }
-
--- texts that were compared
-pub same_bytes : (text other : List ℕ) → true ≡ bytes_eq text other → text ≡ other
-same_bytes text other test = (bytes_eq-Decides text other).0 (sym test)
-
-pub other_bytes : (text other : List ℕ) → false ≡ bytes_eq text other → text ≡ other → ⊥
-other_bytes text other test same = let apart : false ≡ true = test ∙ (bytes_eq-Decides text other).1 same in cc
 
 -- no entry but these
 pub no_entry : (text : List ℕ) (answer : Result Outcome WireError) (error : WireError) → (text ≡ 45 ∷ [] → ⊥) → answer ≡ Err error → ((outcome : Outcome) → SpellsOutcome text outcome → answer ≡ Ok outcome) → ((player : ℕ) (pairs : List (ℕ × ℕ)) → SpellsEntry text (Move player pairs) → ⊥) → (entry : Entry) → SpellsEntry text entry → ⊥

@@ -2,6 +2,7 @@
 use Rattle.std.specs.Prelude.{◌≡◌, ℕ, List, Option, All}
 use Rattle.rbg_wire.specs.declared.outcome.Outcome.{Outcome}
 use Rattle.rbg_wire.specs.Bytes.{LacksByte}
+use Rattle.rbg_wire.specs.Lines.{line_feed, lines_of}
 use Rattle.rbg_lines.specs.declared.entry.Entry.{Entry}
 use Rattle.rbg_lines.specs.declared.entry.Entry.TheVariants.{Move, End}
 use Rattle.rbg_lines.specs.declared.entry.Timed.{Timed}
@@ -9,7 +10,6 @@ use Rattle.rbg_lines.specs.declared.heading.Start.{Start}
 use Rattle.rbg_lines.specs.declared.heading.Version.{Version}
 use Rattle.rbg_lines.specs.Entries.{SpellsEntry, SpellsTimed}
 use Rattle.rbg_lines.specs.Heading.{version_text, SpellsPlayers, SpellsStart}
-use Rattle.rbg_lines.specs.Lines.{line_feed, lines_of}
 
 -- A text spells at most one entry, and at most one with a moment. So no move's text is that of an end.
 pub record EntriesAreApart : Type 0 where

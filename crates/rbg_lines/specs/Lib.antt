@@ -3,4 +3,3 @@ pub mod Entries
 pub mod Heading
 pub mod Laws
 pub mod Lines
-pub mod Names

@@ -4,10 +4,9 @@ ghost use Rattle.rbg_lines.specs.declared.entry.Entry.{Entry as AnyEntry};
 ghost use Rattle.rbg_lines.specs.declared.entry.Timed.{Timed as AnyTimed};
 ghost use Rattle.rbg_lines.specs.Entries.{SpellsEntry, SpellsTimed};
 
-use crate::cutting::cut_at;
 use crate::{Entry, Timed};
 use rbg_base::number_of_decimal;
-use rbg_wire::{read_outcome, read_pairs};
+use rbg_wire::{cut_at, read_outcome, read_pairs};
 
 /// The entry of which the whole text is the spelling.
 ///

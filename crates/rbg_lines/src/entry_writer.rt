@@ -1,13 +1,12 @@
 //! The calls that write an entry as a line, with its moment in version 2, at the end of a list of bytes.
-ghost use Rattle.std.specs.Prelude.{◌≡◌, ◌++◌, OnOk, OnErr};
-ghost use Rattle.rbg_wire.specs.Writing.{Appends};
+ghost use Rattle.std.specs.Prelude.{◌++◌};
+ghost use Rattle.rbg_wire.specs.Writing.{Appends, AppendsAll};
+ghost use Rattle.rbg_wire.specs.Lines.{line_of};
 ghost use Rattle.rbg_lines.specs.declared.entry.Entry.TheVariants.{Move as MoveEntry, End as EndEntry};
 ghost use Rattle.rbg_lines.specs.Entries.{entry_text, moment_text};
-ghost use Rattle.rbg_lines.specs.Lines.{line_of};
 
-use crate::undo::all_or_nothing;
 use rbg_base::{Memory, Move};
-use rbg_wire::{Outcome, write_number, write_outcome, write_pairs};
+use rbg_wire::{Outcome, all_or_nothing, write_number, write_outcome, write_pairs};
 
 /// Appends the line of a move, with its moment if there is one. On an error the bytes are unchanged.
 pub fn write_move(
@@ -16,10 +15,8 @@ pub fn write_move(
     pairs: &Move,
     out: &mut Vec<u8>,
 ) -> Result<(), Memory>
-    ensures ok { OnOk result
-        (out.new.items ≡ out.old.items
-        ++ line_of (moment_text at ++ entry_text (MoveEntry player pairs.now))) }
-    ensures err { OnErr result (out.new.items ≡ out.old.items) }
+    ensures { AppendsAll out.old.items out.new.items
+        (line_of (moment_text at ++ entry_text (MoveEntry player pairs.now))) result }
 {
     let len = out.len();
     let written = put_move(at, player, pairs, out);
@@ -28,10 +25,8 @@ pub fn write_move(
 
 /// Appends the line of the end, with its moment if there is one. On an error the bytes are unchanged.
 pub fn write_end(at: Option<u64>, outcome: Option<Outcome>, out: &mut Vec<u8>) -> Result<(), Memory>
-    ensures ok { OnOk result
-        (out.new.items ≡ out.old.items
-        ++ line_of (moment_text at ++ entry_text (EndEntry outcome))) }
-    ensures err { OnErr result (out.new.items ≡ out.old.items) }
+    ensures { AppendsAll out.old.items out.new.items
+        (line_of (moment_text at ++ entry_text (EndEntry outcome))) result }
 {
     let len = out.len();
     let written = put_end(at, outcome, out);

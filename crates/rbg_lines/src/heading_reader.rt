@@ -2,15 +2,14 @@
 ghost use Rattle.std.specs.Prelude.{◌≡◌, ◌↔◌, ℕ, List, IfSome, IfNone, IsTrue, All};
 ghost use Rattle.std.specs.Option.{IsSomeAnd};
 ghost use Rattle.rbg_base.specs.Names.{is_name};
-ghost use Rattle.rbg_wire.specs.Words.{words_of};
+ghost use Rattle.rbg_wire.specs.Words.{words_left, words_of};
 ghost use Rattle.rbg_lines.specs.declared.heading.Start.{Start as AnyStart};
 ghost use Rattle.rbg_lines.specs.declared.heading.Version.{Version as AnyVersion};
 ghost use Rattle.rbg_lines.specs.Heading.{version_text, SpellsPlayers, SpellsStart};
-ghost use Rattle.rbg_lines.specs.Names.{names_left};
 
-use crate::cutting::{after_text, cut_at};
-use crate::{Names, Start, Version};
+use crate::{Start, Version};
 use rbg_base::{is_name, number_of_decimal};
+use rbg_wire::{Words, after_text, cut_at};
 
 /// The version of which the whole text is the spelling.
 ///
@@ -34,17 +33,17 @@ pub fn read_version(line: &[u8]) -> Option<Version>
 /// The names of the players of which the whole text is the spelling. They are borrowed from it.
 ///
 /// Returns None if it is that of no players.
-pub fn read_players(line: &[u8]) -> Option<Names<'_>>
+pub fn read_players(line: &[u8]) -> Option<Words<'_>>
     // The text is that of the names that are returned.
-    ensures found { IfSome result (λ names. SpellsPlayers line.now (names_left names)) }
+    ensures found { IfSome result (λ names. SpellsPlayers line.now (words_left names)) }
     // The names are returned whose text this is.
     ensures only { (names : List (List ℕ))
         → SpellsPlayers line.now names
-        → IsSomeAnd result (λ found. names_left found ≡ names) }
+        → IsSomeAnd result (λ found. words_left found ≡ names) }
 {
     let text = after_text(b"players ", line)?;
     if are_names(text) {
-        Some(Names::of(text))
+        Some(Words::of(text))
     } else {
         None
     }
@@ -54,7 +53,7 @@ pub fn read_players(line: &[u8]) -> Option<Names<'_>>
 fn are_names(text: &[u8]) -> bool
     ensures { IsTrue result ↔ All (λ name. IsTrue (is_name name)) (words_of text.now) }
 {
-    Names::of(text).all(|name| is_name(name))
+    Words::of(text).all(|name| is_name(name))
 }
 
 /// The start of which the whole text is the spelling.

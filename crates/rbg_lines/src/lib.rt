@@ -10,8 +10,6 @@ mod heading;
 mod heading_reader;
 mod heading_writer;
 pub mod laws;
-mod names;
-mod undo;
 
 pub use cutting::next_line;
 pub use entry::{Entry, Timed};
@@ -20,4 +18,3 @@ pub use entry_writer::{write_end, write_move};
 pub use heading::{Start, Version};
 pub use heading_reader::{read_players, read_start, read_version};
 pub use heading_writer::{begin_players, end_line, write_player, write_start, write_version};
-pub use names::Names;

@@ -1,34 +1,28 @@
 //! A seat in a game, whose player follows play and chooses its moves.
-ghost use Rattle.std.specs.Prelude.{◌≡◌, ◌↔◌, ◌==◌, ℕ, [], length, Contains, None, IfErr, IfNone, IfOk, IfSome, IsTrue, OnOk};
+ghost use Rattle.std.specs.Prelude.{◌≡◌, ◌==◌, ℕ, [], length, Contains, IfErr, IfNone, IfOk, IfSome, OnOk};
 ghost use Rattle.rbg_base.specs.Move.{IsMoveLength};
 ghost use Rattle.rbg_game.specs.Loading.{Loads};
 ghost use Rattle.rbg_rules.specs.Games.{IsGame};
 ghost use Rattle.rbg_rules.specs.Places.{IsPlaceOf};
-ghost use Rattle.rbg_rules.specs.State.{start_of};
 ghost use Rattle.rbg_wire.specs.Messages.{game_message, move_message};
 ghost use Rattle.rbg_player.specs.Players.{named, playing, seated};
-ghost use Rattle.rbg_player.specs.Hearing.{HasFault, HasMoveToMake, Hears, IsMover, IsPlayerOf};
+ghost use Rattle.rbg_player.specs.Hearing.{HasFault, HasMoveToMake, Hears, IsMover};
 ghost use Rattle.rbg_player.specs.internal.Sitting.{Follows, IsAnswer, IsUnanswered, Lists};
 
 use crate::{Chooser, PlayerError};
-use rbg_auto::{Compact, Steps, compact};
-use rbg_base::Memory;
-use rbg_game::{Game, load};
-use rbg_moves::{Move, Place, list_moves, try_move};
+use rbg_game::load;
+use rbg_moves::{Move, Place, PlayedGame};
 use std::alloc::Global;
 use std::marker::Model;
 
 /// The most legal moves among which a player chooses.
 pub const MAX_CHOICES: usize = 64;
 
-/// A seat in a game. Contracts see the number of its player, the game and the place that play has reached. The
-/// automaton of the game's rules is made once.
+/// A seat in a game. Contracts see the number of its player, the game and the place that play has reached.
 #[derive(Debug, Drop)]
 pub(crate) struct Seat {
-    alloc: Global,
     player: u64,
-    game: Game,
-    automaton: Compact,
+    game: PlayedGame,
     place: Place,
 }
 
@@ -43,11 +37,9 @@ impl Model for Seat {
 
     ghost view = { λ s. record { player = s.player; game = s.game; place = s.place } };
 
-    ghost use Rattle.rbg_rules.specs.Games.{IsGame};
     ghost use Rattle.rbg_rules.specs.Places.{IsPlaceOf};
 
-    ghost invariant = { λ s.
-        IsGame s.game × ⟦<Compact as Steps>⟧.of_rules s.automaton s.game.rules × IsPlaceOf s.game s.place };
+    ghost invariant = { λ s. IsPlaceOf s.game s.place };
 }
 
 impl Seat {
@@ -58,15 +50,13 @@ impl Seat {
         ensures fault { IfErr result (HasFault (named player) (game_message text.now)) }
     {
         let game = load_game(alloc, text)?;
-        if !is_player(&game, player) {
+        if !game.has_player(player) {
             return Err(PlayerError::BadMessage);
         }
-        let (automaton, place) = prepare(alloc, &game)?;
+        let place = game.start()?;
         Ok(Seat {
-            alloc,
             player,
             game,
-            automaton,
             place,
         })
     }
@@ -76,7 +66,7 @@ impl Seat {
         ensures ok { OnOk result (Follows self.old pairs.now self.new) }
         ensures fault { IfErr result (HasFault (playing self.old) (move_message pairs.now)) }
     {
-        let to = try_move(self.alloc, &self.game, &self.automaton, &self.place, pairs)?;
+        let to = self.game.try_move(&self.place, pairs)?;
         match to {
             Some(place) => {
                 self.place = place;
@@ -116,13 +106,8 @@ impl Seat {
         ensures lawful { IsGame self.now.game }
         ensures fits { IsPlaceOf self.now.game self.now.place }
     {
-        let listed = list_moves(
-            self.alloc,
-            &self.game,
-            &self.automaton,
-            &self.place,
-            MAX_CHOICES,
-        )?;
+        let _game = self.game.as_game();
+        let listed = self.game.list_moves(&self.place, MAX_CHOICES)?;
         Ok(listed.moves)
     }
 }
@@ -142,34 +127,13 @@ fn choose_among<C: Chooser>(mut moves: Vec<Move>, chooser: &mut C) -> Option<Mov
     Some(answer)
 }
 
-/// The automaton of the game's rules, and the place where play begins.
-fn prepare(alloc: Global, game: &Game) -> Result<(Compact, Place), Memory>
-    ensures automaton { IfOk result (λ made. ⟦<Compact as Steps>⟧.of_rules made.0 game.now.rules) }
-    ensures start { IfOk result (λ made.
-        made.1 ≡ record { state = start_of game.now; last = None }) }
-    ensures lawful { IsGame game.now }
-    ensures fits { IfOk result (λ made. IsPlaceOf game.now made.1) }
-{
-    let _positions = game.positions();
-    let automaton = compact(alloc, game)?;
-    let place = Place::start(alloc, game)?;
-    Ok((automaton, place))
-}
-
-/// Whether the game has a player of that number.
-fn is_player(game: &Game, player: u64) -> bool
-    ensures { IsTrue result ↔ IsPlayerOf game.now player }
-{
-    1 <= player && player <= game.players() as u64
-}
-
-/// The game of a text.
-fn load_game(alloc: Global, text: &[u8]) -> Result<Game, PlayerError>
+/// The game of a text, made ready for play.
+fn load_game(alloc: Global, text: &[u8]) -> Result<PlayedGame, PlayerError>
     ensures game { IfOk result (Loads text.now) }
     ensures fault { (player : ℕ) → IfErr result (HasFault (named player) (game_message text.now)) }
 {
     match load(alloc, text) {
-        Ok(game) => Ok(game),
+        Ok(game) => Ok(PlayedGame::new(alloc, game)?),
         Err(error) => {
             if error.is_memory() {
                 return Err(PlayerError::Memory);

@@ -4,6 +4,7 @@ use crate::fault::Fault;
 use crate::inputs::{read_within, record_of, text_of};
 use rbg_console::{Files, MAX_INPUT};
 use rbg_game::{Game, load};
+use rbg_moves::PlayedGame;
 use rbg_record::{Checked, check_record, migrate};
 use rbg_tokens::MAX_TEXT;
 use std::alloc::Global;
@@ -17,7 +18,7 @@ pub fn replay_files<F: Files>(
 ) -> Result<Vec<u8>, Fault> {
     let files = read_files(alloc, files, file, record)?;
     let game = game_of(alloc, files.description)?;
-    replay(alloc, &game, files.record)
+    replay(alloc, game, files.record)
 }
 
 /// The record of version 2 that a record of version 1 becomes.
@@ -59,9 +60,10 @@ fn game_of(alloc: Global, description: Option<Vec<u8>>) -> Result<Game, Fault> {
     Ok(load(alloc, text.as_slice())?)
 }
 
-fn replay(alloc: Global, game: &Game, record: Option<Vec<u8>>) -> Result<Vec<u8>, Fault> {
+fn replay(alloc: Global, game: Game, record: Option<Vec<u8>>) -> Result<Vec<u8>, Fault> {
     let record = record_of(record)?;
-    match check_record(alloc, game, record.as_slice())? {
+    let game = PlayedGame::new(alloc, game)?;
+    match check_record(&game, record.as_slice())? {
         Checked::Good => Ok(b"good\n".to_vec(alloc)?),
         Checked::Bad { line } => Err(Fault::BadRecord(line)),
     }

@@ -13,7 +13,7 @@ use Rattle.rbg_lines.specs.declared.entry.Timed.{Timed}
 use Rattle.rbg_lines.specs.declared.heading.Version.{Version}
 use Rattle.rbg_lines.specs.declared.heading.Version.TheVariants.{One, Two}
 use Rattle.rbg_lines.specs.Heading.{version_text}
-use Rattle.rbg_lines.specs.Lines.{line_feed, line_of, lines_of}
+use Rattle.rbg_wire.specs.Lines.{line_feed, line_of, lines_of}
 use Rattle.rbg_lines.proofs.Apart.{entries_apart, headings_apart, one_start}
 use Rattle.rbg_record.specs.declared.checked.Checked.{Checked}
 use Rattle.rbg_record.specs.declared.checked.Checked.TheVariants.{Good, Bad}

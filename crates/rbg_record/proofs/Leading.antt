@@ -12,7 +12,7 @@ use Rattle.rbg_lines.specs.declared.entry.Timed.{Timed}
 use Rattle.rbg_lines.specs.declared.heading.Version.TheVariants.{One, Two}
 use Rattle.rbg_lines.specs.Entries.{entry_text, timed_text, EntryHasSpelling, TimedHasSpelling}
 use Rattle.rbg_lines.specs.Heading.{version_text, players_text, start_text, SpellsPlayers}
-use Rattle.rbg_lines.specs.Lines.{line_feed, lines_of}
+use Rattle.rbg_wire.specs.Lines.{line_feed, lines_of}
 use Rattle.rbg_lines.proofs.Lacking.{version_feedless, players_feedless, start_feedless, entry_feedless, timed_feedless}
 use Rattle.rbg_match.specs.declared.config.Config.{Config}
 use Rattle.rbg_match.specs.declared.made.Made.{Made}

@@ -16,8 +16,9 @@ use Rattle.rbg_lines.specs.declared.heading.Version.{Version}
 use Rattle.rbg_lines.specs.declared.heading.Version.TheVariants.{One, Two}
 use Rattle.rbg_lines.specs.Entries.{entry_text, timed_text, EntryHasSpelling, TimedHasSpelling, SpellsEntry}
 use Rattle.rbg_lines.specs.Heading.{version_text, players_text, start_text, HaveNames}
-use Rattle.rbg_lines.specs.Lines.{line_feed, line_of, lines_of, IsFirstLine}
-use Rattle.rbg_lines.proofs.Cuts.{no_cut}
+use Rattle.rbg_lines.specs.Lines.{IsFirstLine}
+use Rattle.rbg_wire.specs.Lines.{line_feed, line_of, lines_of}
+use Rattle.rbg_wire.proofs.ByteLemmas.{no_cut}
 use Rattle.rbg_match.specs.declared.made.Made.{Made}
 use Rattle.rbg_match.specs.History.{LeadsTo, MadeInTurn}
 use Rattle.rbg_match.specs.History as history

@@ -6,7 +6,7 @@ use Rattle.rbg_lines.specs.declared.entry.Entry.TheVariants.{Move, End as Ends}
 use Rattle.rbg_lines.specs.declared.heading.Version.TheVariants.{One}
 use Rattle.rbg_lines.specs.Entries.{SpellsEntry, EntryHasSpelling, entry_text}
 use Rattle.rbg_lines.specs.Heading.{version_text}
-use Rattle.rbg_lines.specs.Lines.{lines_of}
+use Rattle.rbg_wire.specs.Lines.{lines_of}
 use Rattle.rbg_lines.proofs.Apart.{entries_apart}
 use Rattle.std.proofs.lemmas.List.Elements.{All-head, All-tail}
 use Rattle.rbg_record.specs.Laws.{OnePlainFault}

@@ -6,8 +6,9 @@ use Rattle.std.proofs.lemmas.List.{length-append}
 use Rattle.std.proofs.lemmas.List.Elements.{All-nil, All-push}
 use Rattle.rbg_wire.specs.Bytes.{LacksByte}
 use Rattle.rbg_rules.specs.State.{AbstractGame}
-use Rattle.rbg_lines.specs.Lines.{line_feed, lines_of, IsFirstLine}
-use Rattle.rbg_lines.proofs.Cuts.{no_cut}
+use Rattle.rbg_lines.specs.Lines.{IsFirstLine}
+use Rattle.rbg_wire.specs.Lines.{line_feed, lines_of}
+use Rattle.rbg_wire.proofs.ByteLemmas.{no_cut}
 use Rattle.rbg_record.specs.declared.fault.Fault.{Fault}
 use Rattle.rbg_record.specs.declared.fault.Fault.TheVariants.{Form, Bad, Over, Memory}
 use Rattle.rbg_record.specs.Lines.{Reached, version_next, nothing_next, entry_next, HasForm, Leads, LeadTo}

@@ -12,7 +12,7 @@ use Rattle.rbg_lines.specs.declared.heading.Version.{Version}
 use Rattle.rbg_lines.specs.declared.heading.Version.TheVariants.{One, Two}
 use Rattle.rbg_lines.specs.Entries.{entry_text, timed_text, EntryHasSpelling, TimedHasSpelling, SpellsEntry, SpellsTimed}
 use Rattle.rbg_lines.specs.Heading.{version_text, players_text, start_text, HaveNames, StartHasSpelling}
-use Rattle.rbg_lines.specs.Lines.{lines_of}
+use Rattle.rbg_wire.specs.Lines.{lines_of}
 use Rattle.rbg_match.specs.declared.made.Made.{Made}
 use Rattle.rbg_match.specs.Config.{IsWithinLimits}
 use Rattle.rbg_match.specs.History.{LeadsTo, MadeInTurn, start_place, FitsOutcome}

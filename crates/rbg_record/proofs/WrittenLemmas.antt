@@ -13,7 +13,7 @@ use Rattle.rbg_lines.specs.declared.entry.Entry.TheVariants.{End}
 use Rattle.rbg_lines.specs.declared.heading.Version.TheVariants.{One, Two}
 use Rattle.rbg_lines.specs.Entries.{entry_text, timed_text}
 use Rattle.rbg_lines.specs.Heading.{version_text, players_text, start_text}
-use Rattle.rbg_lines.specs.Lines.{line_of, lines_of}
+use Rattle.rbg_wire.specs.Lines.{line_of, lines_of}
 use Rattle.rbg_record.specs.internal.Written.{made_text, told_text, entries_bytes}
 use Rattle.rbg_record.specs.OfMatch.{record_of, plain_record_of, plain_move}
 use Rattle.rbg_record.specs.Records.{plain, timed, plain_entry, made_entry, Spells}

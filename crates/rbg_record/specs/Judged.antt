@@ -10,7 +10,8 @@ use Rattle.rbg_match.specs.PlayingOn.{seats_of}
 use Rattle.rbg_lines.specs.declared.entry.Entry.{Entry}
 use Rattle.rbg_lines.specs.declared.entry.Entry.TheVariants.{Move, End}
 use Rattle.rbg_lines.specs.declared.entry.Timed.{Timed}
-use Rattle.rbg_lines.specs.Lines.{line_feed, lines_of, IsFirstLine}
+use Rattle.rbg_lines.specs.Lines.{IsFirstLine}
+use Rattle.rbg_wire.specs.Lines.{line_feed, lines_of}
 use Rattle.rbg_record.specs.Lines.{
   Standing,
   Reached,

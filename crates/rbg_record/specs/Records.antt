@@ -9,7 +9,7 @@ use Rattle.rbg_lines.specs.declared.heading.Start.{Start}
 use Rattle.rbg_lines.specs.declared.heading.Version.TheVariants.{One, Two}
 use Rattle.rbg_lines.specs.Entries.{entry_text, timed_text, EntryHasSpelling, TimedHasSpelling}
 use Rattle.rbg_lines.specs.Heading.{version_text, players_text, start_text, HaveNames, StartHasSpelling}
-use Rattle.rbg_lines.specs.Lines.{lines_of}
+use Rattle.rbg_wire.specs.Lines.{lines_of}
 
 -- a move without its moment: who made it, and its pairs
 pub record PlainMove : Type 0 where

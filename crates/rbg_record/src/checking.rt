@@ -5,18 +5,16 @@ ghost use Rattle.rbg_record.specs.Right.{IsRightRecord};
 
 use crate::reached::{Reached, is_over};
 use crate::reading::read_line;
-use crate::recorded::RecordedGame;
 use crate::{Checked, RecordError};
 use rbg_lines::next_line;
-use rbg_rules::Game;
-use std::alloc::Global;
+use rbg_moves::PlayedGame;
 
 /// Tells whether a record is right, of either version.
 ///
 /// The lines are taken in order, and each is read before it is judged. The first line decides that is not of the form,
 /// not right, or asks a question above the limits. What a line tells without a question is looked at before its
 /// question. No question is asked twice.
-pub fn check_record(alloc: Global, game: &Game, bytes: &[u8]) -> Result<Checked, RecordError>
+pub fn check_record(game: &PlayedGame, bytes: &[u8]) -> Result<Checked, RecordError>
     ensures good { IfOk result (λ checked.
         (checked ≡ Checked.Good) ↔ IsRightRecord game.now bytes.now) }
     ensures bad { (line : ℕ) → result ≡ Ok (Checked.Bad line) → IsBadLine game.now bytes.now line }
@@ -25,20 +23,12 @@ pub fn check_record(alloc: Global, game: &Game, bytes: &[u8]) -> Result<Checked,
     ensures over { (line : ℕ) → result ≡ Err (RecordError.Over line)
         → IsHeavyLine game.now bytes.now line }
 {
-    let _positions = game.positions();
-    judge_record(alloc, game, bytes)
-}
-
-/// What is told of a record.
-fn judge_record(alloc: Global, game: &Game, bytes: &[u8]) -> Result<Checked, RecordError>
-    ensures { IsJudged game.now bytes.now result }
-{
-    let recorded = RecordedGame::new(alloc, game)?;
-    judge_lines(&recorded, bytes)
+    let _game = game.as_game();
+    judge_lines(game, bytes)
 }
 
 /// Judges the lines of a record in turn.
-fn judge_lines(game: &RecordedGame<'_>, bytes: &[u8]) -> Result<Checked, RecordError>
+fn judge_lines(game: &PlayedGame, bytes: &[u8]) -> Result<Checked, RecordError>
     ensures { IsJudged game.now bytes.now result }
 {
     let mut reached = Reached::Version;

@@ -1,6 +1,7 @@
 //! Records of matches: whether a record is right, and how a record of version 1 becomes one of version 2.
 #![tactic(auto)]
 
+mod asking;
 mod checked;
 mod checking;
 mod error;
@@ -8,9 +9,9 @@ mod fault;
 pub mod laws;
 mod migrating;
 mod moments;
+mod players;
 mod reached;
 mod reading;
-mod recorded;
 mod writing;
 
 pub use checked::Checked;

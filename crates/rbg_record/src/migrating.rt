@@ -1,9 +1,7 @@
 //! Making version 2 of a record of version 1.
 ghost use Rattle.std.specs.Prelude.{◌≡◌, ◌++◌, ◌↔◌, ℕ, take, codes, Err, IfOk, IfSome, IfNone, OnOk, IsTrue};
-ghost use Rattle.std.specs.List.{flat_map};
 ghost use Rattle.rbg_lines.specs.Entries.{timed_text};
-ghost use Rattle.rbg_lines.specs.Heading.{players_text};
-ghost use Rattle.rbg_lines.specs.Lines.{line_of, lines_of};
+ghost use Rattle.rbg_wire.specs.Lines.{line_of, lines_of};
 ghost use Rattle.rbg_rules.specs.State.{AbstractGame};
 ghost use Rattle.rbg_record.specs.Lines.{with_moment};
 ghost use Rattle.rbg_record.specs.Migration.{HasPlainForm, IsMigrated, IsPlainFault, behind_end};
@@ -12,10 +10,11 @@ ghost use Rattle.rbg_record.specs.internal.Migrating.{Migrates, head_texts, part
 
 use crate::RecordError;
 use crate::moments::unwritten;
+use crate::players::write_players;
 use rbg_base::Memory;
 use rbg_lines::{
-    Entry, Start, Version, begin_players, end_line, next_line, read_entry, read_version, write_end,
-    write_move, write_player, write_start, write_version,
+    Entry, Start, Version, next_line, read_entry, read_version, write_end, write_move, write_start,
+    write_version,
 };
 use rbg_rules::Game;
 use std::alloc::Global;
@@ -110,27 +109,6 @@ fn write_head(game: &Game, out: &mut Vec<u8>) -> Result<(), Memory>
     write_version(Version::Two, out)?;
     write_players(game, out)?;
     write_start(Start { turn_ms: 1, now: 0 }, out)
-}
-
-/// Appends the line of the players.
-fn write_players(game: &Game, out: &mut Vec<u8>) -> Result<(), Memory>
-    ensures { OnOk result (out.new.items
-        ≡ out.old.items ++ line_of (players_text game.now.players)) }
-{
-    begin_players(out)?;
-    write_names(game, out)?;
-    end_line(out)
-}
-
-/// Appends the players' names, with a space before each.
-fn write_names(game: &Game, out: &mut Vec<u8>) -> Result<(), Memory>
-    ensures { OnOk result (out.new.items
-        ≡ out.old.items ++ flat_map (λ name. codes " " ++ name) game.now.players) }
-{
-    for index in 0..game.players() {
-        write_player(game.player_name(index as u16 + 1).as_bytes(), out)?;
-    }
-    Ok(())
 }
 
 /// Appends a move or the end with its moment, if the text is that of one.

@@ -10,13 +10,10 @@ ghost use Rattle.rbg_record.specs.Right.{turn_config};
 ghost use Rattle.rbg_record.specs.internal.Reading.{standing_of};
 
 use crate::reached::Standing;
-use crate::recorded::RecordedGame;
 use rbg_lines::{Entry, Start, Timed};
-use rbg_match::{Config, MAX_TURN_MS};
+use rbg_match::{Config, LATEST_MOMENT};
+use rbg_moves::PlayedGame;
 use rbg_wire::Outcome;
-
-/// The latest moment that is counted. It leaves room for the longest turn, so that each due moment is a `u64`.
-pub(crate) const LATEST_MOMENT: u64 = u64::MAX - MAX_TURN_MS;
 
 /// The moment of an entry that is written without one.
 pub(crate) fn unwritten(entry: &Entry) -> u64
@@ -83,7 +80,7 @@ impl Standing {
     }
 
     /// Whether what an entry tells without a question is right in a game.
-    pub(crate) fn fits(&self, game: &RecordedGame<'_>, told: &Timed) -> bool
+    pub(crate) fn fits(&self, game: &PlayedGame, told: &Timed) -> bool
         ensures { IsTrue result
             ↔ FitsUnasked game.now (standing_of self.now) told.now.at told.now.entry }
     {
@@ -97,7 +94,7 @@ impl Standing {
         }
     }
 
-    fn fits_outcome(&self, game: &RecordedGame<'_>, at: u64, outcome: Outcome) -> bool
+    fn fits_outcome(&self, game: &PlayedGame, at: u64, outcome: Outcome) -> bool
         ensures { IsTrue result
             ↔ FitsUnasked game.now (standing_of self.now) at (EndEntry (Some outcome)) }
     {

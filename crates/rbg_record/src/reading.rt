@@ -24,22 +24,19 @@ ghost use Rattle.rbg_record.specs.internal.Reading.{
   standing_of,
 };
 
+use crate::asking::{are_players, are_scores, is_finished, try_move};
 use crate::fault::Fault;
-use crate::moments::{LATEST_MOMENT, is_lawful, unwritten};
+use crate::moments::{is_lawful, unwritten};
 use crate::reached::{Reached, Standing};
-use crate::recorded::RecordedGame;
 use rbg_lines::{
     Entry, Timed, Version, read_entry, read_players, read_start, read_timed, read_version,
 };
-use rbg_moves::Move;
+use rbg_match::LATEST_MOMENT;
+use rbg_moves::{Move, PlayedGame};
 use rbg_wire::{Outcome, Scores};
 
 /// What a line leads to behind the lines so far.
-pub(crate) fn read_line(
-    game: &RecordedGame<'_>,
-    reached: Reached,
-    text: &[u8],
-) -> Result<Reached, Fault>
+pub(crate) fn read_line(game: &PlayedGame, reached: Reached, text: &[u8]) -> Result<Reached, Fault>
     requires { IsReachedIn game.now (reached_of reached) }
     ensures leads { IfOk result (λ to.
         Leads game.now (reached_of reached) text.now (reached_of to)) }
@@ -56,7 +53,7 @@ pub(crate) fn read_line(
 }
 
 /// Reads the version.
-fn begin(game: &RecordedGame<'_>, text: &[u8]) -> Result<Reached, Fault>
+fn begin(game: &PlayedGame, text: &[u8]) -> Result<Reached, Fault>
     ensures leads { IfOk result (λ to. Leads game.now version_next text.now (reached_of to)) }
     ensures in_game { IfOk result (λ to. IsReachedIn game.now (reached_of to)) }
     ensures refused { IfErr result (Refuses game.now version_next text.now) }
@@ -74,7 +71,7 @@ fn begin(game: &RecordedGame<'_>, text: &[u8]) -> Result<Reached, Fault>
 }
 
 /// Reads the players, and compares them with those of the game.
-fn compare_players(game: &RecordedGame<'_>, text: &[u8]) -> Result<Reached, Fault>
+fn compare_players(game: &PlayedGame, text: &[u8]) -> Result<Reached, Fault>
     ensures leads { IfOk result (λ to. Leads game.now players_next text.now (reached_of to)) }
     ensures in_game { IfOk result (λ to. IsReachedIn game.now (reached_of to)) }
     ensures refused { IfErr result (Refuses game.now players_next text.now) }
@@ -82,7 +79,7 @@ fn compare_players(game: &RecordedGame<'_>, text: &[u8]) -> Result<Reached, Faul
     let Some(names) = read_players(text) else {
         return Err(Fault::Form);
     };
-    if game.are_players(names) {
+    if are_players(game.as_game(), names) {
         Ok(Reached::Start)
     } else {
         Err(Fault::Bad)
@@ -90,7 +87,7 @@ fn compare_players(game: &RecordedGame<'_>, text: &[u8]) -> Result<Reached, Faul
 }
 
 /// Reads the start.
-fn start(game: &RecordedGame<'_>, text: &[u8]) -> Result<Reached, Fault>
+fn start(game: &PlayedGame, text: &[u8]) -> Result<Reached, Fault>
     ensures leads { IfOk result (λ to. Leads game.now start_next text.now (reached_of to)) }
     ensures in_game { IfOk result (λ to. IsReachedIn game.now (reached_of to)) }
     ensures refused { IfErr result (Refuses game.now start_next text.now) }
@@ -110,7 +107,7 @@ fn start(game: &RecordedGame<'_>, text: &[u8]) -> Result<Reached, Fault>
 }
 
 /// Reads a move or the end.
-fn go_on(game: &RecordedGame<'_>, standing: Standing, text: &[u8]) -> Result<Reached, Fault>
+fn go_on(game: &PlayedGame, standing: Standing, text: &[u8]) -> Result<Reached, Fault>
     requires { IsPlaceOf game.now standing.place }
     ensures leads { IfOk result (λ to.
         Leads game.now (entry_next (standing_of standing)) text.now (reached_of to)) }
@@ -141,7 +138,7 @@ fn read_in(version: Version, text: &[u8]) -> Option<Timed>
 }
 
 /// What an entry leads to. What needs no question is looked at first.
-fn judge(game: &RecordedGame<'_>, standing: Standing, told: &Timed) -> Result<Reached, Fault>
+fn judge(game: &PlayedGame, standing: Standing, told: &Timed) -> Result<Reached, Fault>
     requires { IsPlaceOf game.now standing.place }
     ensures leads { IfOk result (λ to.
         EntryLeads game.now (standing_of standing) told.now (reached_of to)) }
@@ -159,7 +156,7 @@ fn judge(game: &RecordedGame<'_>, standing: Standing, told: &Timed) -> Result<Re
 
 /// What a move leads to, if it is legal.
 fn make_move(
-    game: &RecordedGame<'_>,
+    game: &PlayedGame,
     standing: Standing,
     at: u64,
     player: u64,
@@ -174,7 +171,7 @@ fn make_move(
     ensures refused { IfErr result (RefusesEntry game.now (standing_of standing)
         (record { at = at; entry = MoveEntry player pairs.now })) }
 {
-    match game.try_move(&standing.place, pairs)? {
+    match try_move(game, &standing.place, pairs)? {
         None => Err(Fault::Bad),
         Some(place) => Ok(Reached::Entry(Standing {
             version: standing.version,
@@ -187,7 +184,7 @@ fn make_move(
 
 /// Nothing comes next, if the outcome fits the place.
 fn end(
-    game: &RecordedGame<'_>,
+    game: &PlayedGame,
     standing: &Standing,
     at: u64,
     outcome: Option<Outcome>,
@@ -209,7 +206,7 @@ fn end(
 
 /// Nothing comes next, if the match could end so.
 fn end_with(
-    game: &RecordedGame<'_>,
+    game: &PlayedGame,
     standing: &Standing,
     at: u64,
     outcome: Outcome,
@@ -233,12 +230,7 @@ fn end_with(
 }
 
 /// Nothing comes next, if play is finished with these scores.
-fn finish(
-    game: &RecordedGame<'_>,
-    standing: &Standing,
-    at: u64,
-    scores: Scores,
-) -> Result<Reached, Fault>
+fn finish(game: &PlayedGame, standing: &Standing, at: u64, scores: Scores) -> Result<Reached, Fault>
     requires place { IsPlaceOf game.now standing.now.place }
     requires counted { at ≤ latest_moment }
     requires fits { at ≡ standing.now.last }
@@ -248,8 +240,8 @@ fn finish(
     ensures refused { IfErr result (RefusesEntry game.now (standing_of standing.now)
         (record { at = at; entry = EndEntry (Some (Finished scores)) })) }
 {
-    let finished = game.is_finished(&standing.place)?;
-    if finished && game.are_scores(&standing.place, &scores) {
+    let finished = is_finished(game, &standing.place)?;
+    if finished && are_scores(game, &standing.place, &scores) {
         Ok(Reached::Nothing)
     } else {
         Err(Fault::Bad)
@@ -258,7 +250,7 @@ fn finish(
 
 /// Nothing comes next, if a player that is to move has a legal move.
 fn leave(
-    game: &RecordedGame<'_>,
+    game: &PlayedGame,
     standing: &Standing,
     at: u64,
     outcome: Option<Outcome>,
@@ -273,7 +265,7 @@ fn leave(
     ensures refused { IfErr result (RefusesEntry game.now (standing_of standing.now)
         (record { at = at; entry = EndEntry outcome })) }
 {
-    if game.is_finished(&standing.place)? {
+    if is_finished(game, &standing.place)? {
         Err(Fault::Bad)
     } else {
         Ok(Reached::Nothing)

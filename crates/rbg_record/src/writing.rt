@@ -2,18 +2,15 @@
 ghost use Rattle.std.specs.Prelude.{◌≡◌, ◌++◌, IfOk, OnOk, codes};
 ghost use Rattle.std.specs.List.{flat_map};
 ghost use Rattle.rbg_match.specs.Matches.{HasHistory};
-ghost use Rattle.rbg_lines.specs.Heading.{players_text};
-ghost use Rattle.rbg_lines.specs.Lines.{line_of};
+ghost use Rattle.rbg_wire.specs.Lines.{line_of};
 ghost use Rattle.rbg_record.specs.OfMatch.{record_of, plain_record_of};
 ghost use Rattle.rbg_record.specs.Records.{plain, timed, Spells};
 ghost use Rattle.rbg_record.specs.Right.{IsRightRecord};
 ghost use Rattle.rbg_record.specs.internal.Written.{entries_bytes, made_text, told_moment};
 
+use crate::players::write_players;
 use rbg_base::Memory;
-use rbg_lines::{
-    Start, Version, begin_players, end_line, write_end, write_move, write_player, write_start,
-    write_version,
-};
+use rbg_lines::{Start, Version, write_end, write_move, write_start, write_version};
 use rbg_match::{Made, Match};
 use std::alloc::Global;
 
@@ -49,28 +46,6 @@ pub fn write_record_1(alloc: Global, played: &Match) -> Result<Vec<u8>, Memory>
     write_version(Version::One, &mut out)?;
     write_entries(Version::One, played, &mut out)?;
     Ok(out)
-}
-
-// Appends the line of the players.
-fn write_players(played: &Match, out: &mut Vec<u8>) -> Result<(), Memory>
-    ensures { OnOk result
-        (out.new.items ≡ out.old.items ++ line_of (players_text played.now.game.players)) }
-{
-    begin_players(out)?;
-    write_names(played, out)?;
-    end_line(out)
-}
-
-// Appends the players' names, with a space before each.
-fn write_names(played: &Match, out: &mut Vec<u8>) -> Result<(), Memory>
-    ensures { OnOk result
-        (out.new.items ≡ out.old.items
-        ++ flat_map (λ name. codes " " ++ name) played.now.game.players) }
-{
-    for index in 0..played.players() {
-        write_player(played.player_name(index as u16 + 1).as_bytes(), out)?;
-    }
-    Ok(())
 }
 
 // Appends the lines of the moves and of the end, with their moments in version 2.

@@ -3,7 +3,7 @@ ghost use Rattle.std.specs.Prelude.{◌≡◌, ◌++◌, List, ℕ, IfOk, OnOk, 
 ghost use Rattle.rbg_refereeing.specs.Printed.{AreMessages, IsPrinted, message_line, printed_message, seat_lines};
 
 use rbg_match::Outbox;
-use rbg_script::{after_text, cut_at};
+use rbg_wire::{after_text, cut_at};
 use std::alloc::{AllocError, Global};
 
 /// `<seat> <message>` for each message, with its line feed; the description is `<seat> G <its bytes>`.

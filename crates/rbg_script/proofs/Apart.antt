@@ -2,15 +2,16 @@
 use Rattle.std.proofs.Common.{◌≡◌, ◌≢◌, ℕ, ◌<◌, ◌^◌, Option, Some, None, IfSome, IfNone, Result, Ok, Err, IfOk, List, [], ◌∷◌, ◌++◌, decimal, codes, ap, sym, ◌∙◌, refl, subst, arith}
 use Rattle.std.specs.Option.{IsSomeAnd}
 use Rattle.std.proofs.lemmas.Fmt.{decimal_injective}
+use Rattle.rbg_wire.proofs.ByteLemmas.{same_end}
+use Rattle.rbg_wire.proofs.FieldLemmas.{same_fields}
 use Rattle.rbg_script.specs.declared.config.ScriptConfig.{ScriptConfig}
 use Rattle.rbg_script.specs.declared.event.Message.{Message}
 use Rattle.rbg_script.specs.declared.event.ScriptEvent.{ScriptEvent}
-use Rattle.rbg_script.specs.Config.{SpellsConfig, config_text}
+use Rattle.rbg_script.specs.Config.{SpellsConfig}
 use Rattle.rbg_script.specs.Events.{AbstractEvent, piece_event, end_event, tick_event, AreNumbers, HasFields, SpellsBytes, SpellsEvent, SpellsMessage, by_message, by_digits, by_end, by_tick, end_text, tick_text, event_of}
 use Rattle.rbg_script.specs.Laws.{SpellingsAreApart}
-use Rattle.rbg_script.proofs.Cuts.{same_end}
 use Rattle.rbg_script.proofs.Digits.{one_bytes}
-use Rattle.rbg_script.proofs.Parts.{same_fields, one_fields, fields_shape, end_shape, tick_shape, config_shape, turn_small, refusals_small}
+use Rattle.rbg_script.proofs.Parts.{one_fields, fields_shape, end_shape, tick_shape, config_shape, turn_small, refusals_small}
 
 -- The clause `only`, from the two others.
 pub only_from : {T : Type 0} (Spells : T → Type 0) → ((a b : T) → Spells a → Spells b → a ≡ b) → (answer : Option T) → IfSome answer Spells → IfNone answer ((x : T) → Spells x → ⊥) → (x : T) → Spells x → answer ≡ Some x

@@ -1,6 +1,5 @@
 -- What the proofs of this crate share.
 pub mod Apart
-pub mod Cuts
 pub mod Digits
 pub mod Lacking
 pub mod LineLemmas

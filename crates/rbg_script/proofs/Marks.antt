@@ -1,15 +1,15 @@
 -- Inputs that are cut at the line `%%`.
-use Rattle.std.proofs.Common.{◌≡◌, ◌≢◌, ℕ, ◌+◌, ◌-◌, ◌≤◌, ◌⊎◌, inl, inr, true, List, [], ◌∷◌, ◌++◌, length, take, codes, ap, sym, ◌∙◌, refl, subst, append_assoc, append-nil, arith}
+use Rattle.std.proofs.Common.{◌≡◌, ◌≢◌, ℕ, ◌+◌, ◌-◌, ◌≤◌, inl, inr, List, [], ◌∷◌, ◌++◌, length, take, ap, sym, ◌∙◌, refl, subst, append_assoc, arith}
 use Rattle.std.specs.Prelude.{All}
 use Rattle.std.proofs.lemmas.List.{length-append}
 use Rattle.std.proofs.lemmas.List.Elements.{All-nil, All-cons, All-append, All-head, All-tail}
 use Rattle.std.proofs.Math.Seq.{take-append_seam}
 use Rattle.rbg_wire.specs.Bytes.{LacksByte}
+use Rattle.rbg_wire.specs.Lines.{line_of, lines_of}
+use Rattle.rbg_wire.proofs.ByteLemmas.{no_cut, same_cut}
 use Rattle.rbg_script.specs.Inputs.{IsInput, mark}
 use Rattle.rbg_script.specs.Laws.{InputsAreApart}
-use Rattle.rbg_script.specs.Lines.{line_of, lines_of}
 use Rattle.rbg_script.specs.internal.Reading.{Unmarked}
-use Rattle.rbg_script.proofs.Cuts.{no_cut, same_cut, same_end}
 use Rattle.rbg_script.proofs.LineLemmas.{first_shape, more_lines, same_lines}
 
 mark_lacks : LacksByte 10 mark

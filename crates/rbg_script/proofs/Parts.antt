@@ -1,28 +1,10 @@
 -- The fields of a line.
-use Rattle.std.proofs.Common.{◌≡◌, ℕ, ◌<◌, ◌^◌, List, [], ◌∷◌, ◌++◌, decimal, codes, ap, sym, ◌∙◌, subst, arith, append_assoc}
-use Rattle.std.proofs.lemmas.Fmt.{decimal_injective}
-use Rattle.rbg_wire.specs.Bytes.{LacksByte}
-use Rattle.rbg_wire.proofs.NumberLemmas.{lacks_byte-decimal}
+use Rattle.std.proofs.Common.{◌≡◌, ℕ, ◌<◌, ◌^◌, List, ◌∷◌, ◌++◌, decimal, codes, ap, sym, ◌∙◌, arith, append_assoc}
+use Rattle.rbg_wire.proofs.ByteLemmas.{same_end}
+use Rattle.rbg_wire.proofs.FieldLemmas.{same_fields}
 use Rattle.rbg_script.specs.declared.config.ScriptConfig.{ScriptConfig}
 use Rattle.rbg_script.specs.Config.{AreWithinLimits, SpellsConfig, config_text}
 use Rattle.rbg_script.specs.Events.{HasFields, SpellsEvent, by_end, by_tick, end_event, tick_event, fields_text, end_text, tick_text}
-use Rattle.rbg_script.proofs.Cuts.{no_cut, same_cut, same_end}
-
-pub space_lacks : (n : ℕ) → n < 2 ^ 64 → LacksByte 32 (decimal n)
-space_lacks n small = lacks_byte-decimal 32 n (omega arith) small
-
--- A text that is cut at its first space, where it is a number, a space and more.
-pub cut_fields : (text word rest : List ℕ) → text ≡ word ++ 32 ∷ rest → LacksByte 32 word → (n : ℕ) (more : List ℕ) → n < 2 ^ 64 → text ≡ decimal n ++ 32 ∷ more → (word ≡ decimal n) × (rest ≡ more)
-cut_fields text word rest cut lacks n more small is = same_cut 32 word (decimal n) rest more lacks (space_lacks n small) (sym cut ∙ is)
-
-pub no_fields : (text more : List ℕ) (n : ℕ) → LacksByte 32 text → text ≡ decimal n ++ 32 ∷ more → ⊥
-no_fields text more n lacks is = no_cut 32 (decimal n) more (subst (LacksByte 32) is lacks)
-
--- Two texts of a number, a space and more are the same in both parts.
-pub same_fields : (text x y : List ℕ) (m n : ℕ) → m < 2 ^ 64 → n < 2 ^ 64 → text ≡ decimal m ++ 32 ∷ x → text ≡ decimal n ++ 32 ∷ y → (m ≡ n) × (x ≡ y)
-same_fields text x y m n first second h k =
-    let parts = same_cut 32 (decimal m) (decimal n) x y (space_lacks m first) (space_lacks n second) (sym h ∙ k) in
-    (decimal_injective m n first second parts.0, parts.1)
 
 -- a word, two fields with a space behind each, and more
 two_fields : (word a b rest : List ℕ) → word ++ a ++ codes " " ++ b ++ codes " " ++ rest ≡ word ++ (a ++ 32 ∷ (b ++ 32 ∷ rest))
@@ -34,10 +16,6 @@ two_fields word a b rest =
 -- what is left behind a first field, of a text of numbers
 pub behind_first : (fields rest more : List ℕ) (m n : ℕ) → m < 2 ^ 64 → n < 2 ^ 64 → fields ≡ decimal m ++ 32 ∷ rest → fields ≡ decimal n ++ 32 ∷ more → rest ≡ more
 behind_first fields rest more m n first second is other = (same_fields fields rest more m n first second is other).1
-
--- a number, a space and more
-pub with_number : (text word rest more : List ℕ) (n : ℕ) → text ≡ word ++ 32 ∷ rest → word ≡ decimal n → rest ≡ more → text ≡ decimal n ++ 32 ∷ more
-with_number text word rest more n cut number is = cut ∙ (ap (λ w. w ++ 32 ∷ rest) number ∙ ap (λ r. decimal n ++ 32 ∷ r) is)
 
 -- The fields of a line with a seat and a moment.
 pub fields_shape : (word : List ℕ) (seat at : ℕ) (rest : List ℕ) → fields_text word seat at rest ≡ word ++ (decimal seat ++ 32 ∷ (decimal at ++ 32 ∷ rest))

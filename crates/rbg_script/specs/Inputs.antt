@@ -1,7 +1,7 @@
 -- A description, the line `%%` and a script, in one text.
 use Rattle.std.specs.Prelude.{◌≡◌, ◌≢◌, ℕ, ◌⊎◌, List, [], ◌++◌, codes, All}
 use Rattle.rbg_wire.specs.Bytes.{LacksByte}
-use Rattle.rbg_script.specs.Lines.{line_feed, line_of, lines_of}
+use Rattle.rbg_wire.specs.Lines.{line_feed, line_of, lines_of}
 
 -- the line between the description and the script
 abbrev pub mark : List ℕ

@@ -1,11 +1,12 @@
 -- Laws of the lines of a script.
-use Rattle.std.specs.Prelude.{◌≡◌, ℕ, List, All}
+use Rattle.std.specs.Prelude.{◌≡◌, ℕ, List}
 use Rattle.rbg_wire.specs.Bytes.{LacksByte}
+use Rattle.rbg_wire.specs.Lines.{line_feed}
 use Rattle.rbg_script.specs.declared.config.ScriptConfig.{ScriptConfig}
 use Rattle.rbg_script.specs.Config.{ConfigHasSpelling, SpellsConfig, config_text}
 use Rattle.rbg_script.specs.Events.{AbstractEvent, EventHasSpelling, SpellsBytes, SpellsEvent, event_text}
 use Rattle.rbg_script.specs.Inputs.{IsInput}
-use Rattle.rbg_script.specs.Lines.{HasLines, line_feed}
+use Rattle.rbg_script.specs.Lines.{HasLines}
 use Rattle.rbg_script.specs.Scripts.{AbstractScript, HasMisfit, ScriptHasSpelling, SpellsScript, script_text}
 
 -- A text spells at most one config or one event, and none spells both. Digits spell at most one list of bytes.

@@ -1,19 +1,7 @@
 -- The lines of a text. Each line ends with a line feed; the last one may lack it.
 use Rattle.std.specs.Prelude.{◌≡◌, ℕ, List, [], ◌∷◌, ◌++◌, All}
-use Rattle.std.specs.List.{flat_map}
 use Rattle.rbg_wire.specs.Bytes.{LacksByte}
-
--- the byte of a line feed
-abbrev pub line_feed : ℕ
-line_feed = 10
-
--- the line of a text: the text, and a line feed
-abbrev pub line_of : List ℕ → List ℕ
-line_of text = text ++ line_feed ∷ []
-
--- the lines of these texts, one after the other
-abbrev pub lines_of : List (List ℕ) → List ℕ
-lines_of texts = flat_map line_of texts
+use Rattle.rbg_wire.specs.Lines.{line_feed, lines_of}
 
 -- what stands behind the last line feed: one more line, or nothing
 abbrev pub last_line : List ℕ → List (List ℕ)

@@ -1,13 +1,14 @@
 -- Scripts: a config and events, each on a line.
-use Rattle.std.specs.Prelude.{◌≡◌, ℕ, ◌+◌, List, [], ◌∷◌, ◌++◌, length, map, All}
+use Rattle.std.specs.Prelude.{ℕ, ◌+◌, List, [], ◌∷◌, ◌++◌, length, map, All}
 use Rattle.std.specs.List.{AllZip}
+use Rattle.rbg_wire.specs.Lines.{lines_of}
 use Rattle.rbg_script.specs.declared.config.ScriptConfig.{ScriptConfig}
 use Rattle.rbg_script.specs.declared.error.ScriptError.{ScriptError}
 use Rattle.rbg_script.specs.declared.error.ScriptError.TheVariants.{Line, Memory}
 use Rattle.rbg_script.specs.declared.script.Script.{Script}
 use Rattle.rbg_script.specs.Config.{ConfigHasSpelling, SpellsConfig, config_text}
 use Rattle.rbg_script.specs.Events.{AbstractEvent, event_of, EventHasSpelling, SpellsEvent, event_text}
-use Rattle.rbg_script.specs.Lines.{HasLines, lines_of}
+use Rattle.rbg_script.specs.Lines.{HasLines}
 
 -- a script, apart from where the bytes of its pieces are in memory
 pub record AbstractScript : Type 0 where

@@ -5,8 +5,9 @@ ghost use Rattle.rbg_script.specs.Config.{AreWithinLimits, SpellsConfig};
 
 use crate::ScriptConfig;
 use crate::config::{MAX_REFUSALS, MAX_TURN_MS};
-use crate::fields::{after_text, cut_number};
+use crate::fields::cut_number;
 use rbg_base::number_of_decimal;
+use rbg_wire::after_text;
 
 /// The config of which the whole text is the spelling.
 ///

@@ -16,10 +16,11 @@ ghost use Rattle.rbg_script.specs.Events.{
   tick_text,
 };
 
-use crate::fields::{after_text, cut_number, fields_in};
+use crate::fields::{cut_number, fields_in};
 use crate::{Message, ScriptEvent};
 use hex::FromHexError;
 use rbg_base::{Memory, number_of_decimal};
+use rbg_wire::after_text;
 use std::alloc::Global;
 
 /// The message of an `m` line that is the whole text. It allocates nothing.

@@ -2,7 +2,7 @@
 ghost use Rattle.std.specs.Prelude.{◌≡◌, ℕ, ◌-◌, ◌≤◌, List, length, take, IfSome, IfNone};
 ghost use Rattle.rbg_script.specs.Inputs.{IsInput};
 
-use crate::fields::cut_at;
+use rbg_wire::cut_at;
 
 /// The line between the description and the script.
 const MARK: &[u8] = b"%%";

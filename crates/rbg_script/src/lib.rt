@@ -11,7 +11,6 @@ mod fields;
 mod input;
 pub mod laws;
 mod script;
-mod undo;
 mod writer;
 
 pub use config::ScriptConfig;
@@ -19,7 +18,6 @@ pub use config_reader::read_config;
 pub use error::ScriptError;
 pub use event::{Message, ScriptEvent};
 pub use event_reader::{read_event, read_message};
-pub use fields::{after_text, cut_at};
 pub use input::{TwoTexts, cut_at_mark};
 pub use script::{Script, read_script};
 pub use writer::{write_config, write_event};

@@ -7,9 +7,9 @@ ghost use Rattle.rbg_script.specs.internal.Reading.{BeginsWith, SpellsEvents, Is
 
 use crate::config_reader::read_config;
 use crate::event_reader::read_event;
-use crate::fields::cut_at;
 use crate::{ScriptConfig, ScriptError, ScriptEvent};
 use rbg_base::Memory;
+use rbg_wire::cut_at;
 use std::alloc::Global;
 
 /// A script: the config, and the events in order.

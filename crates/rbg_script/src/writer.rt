@@ -1,24 +1,22 @@
 //! The calls that write a line of a script at the end of a list of bytes.
-ghost use Rattle.std.specs.Prelude.{◌≡◌, ◌++◌, ◌<◌, OnOk, OnErr, codes, decimal, slice_index};
+ghost use Rattle.std.specs.Prelude.{◌≡◌, ◌++◌, ◌<◌, codes, decimal, slice_index};
 ghost use Rattle.std.specs.List.{flat_map};
 ghost use Rattle.hex.specs.Hex.{lower_digits};
-ghost use Rattle.rbg_wire.specs.Writing.{Appends};
+ghost use Rattle.rbg_wire.specs.Writing.{Appends, AppendsAll};
+ghost use Rattle.rbg_wire.specs.Lines.{line_of};
 ghost use Rattle.rbg_script.specs.Config.{config_text};
 ghost use Rattle.rbg_script.specs.Events.{byte_text, end_text, event_of, event_text, fields_text, tick_text};
-ghost use Rattle.rbg_script.specs.Lines.{line_of};
 
-use crate::undo::all_or_nothing;
 use crate::{ScriptConfig, ScriptEvent};
 use rbg_base::Memory;
-use rbg_wire::write_number;
+use rbg_wire::{all_or_nothing, write_number};
 
 /// The hexadecimal digits that are written.
 const DIGITS: &[u8; 16] = b"0123456789abcdef";
 
 /// Appends the line of a config. On an error the bytes are unchanged.
 pub fn write_config(config: ScriptConfig, out: &mut Vec<u8>) -> Result<(), Memory>
-    ensures ok { OnOk result (out.new.items ≡ out.old.items ++ line_of (config_text config)) }
-    ensures err { OnErr result (out.new.items ≡ out.old.items) }
+    ensures { AppendsAll out.old.items out.new.items (line_of (config_text config)) result }
 {
     let len = out.len();
     let written = put_config(config, out);
@@ -27,9 +25,8 @@ pub fn write_config(config: ScriptConfig, out: &mut Vec<u8>) -> Result<(), Memor
 
 /// Appends the line of an event. A piece is written in small hexadecimal digits. On an error the bytes are unchanged.
 pub fn write_event(event: &ScriptEvent, out: &mut Vec<u8>) -> Result<(), Memory>
-    ensures ok { OnOk result
-        (out.new.items ≡ out.old.items ++ line_of (event_text (event_of event.now))) }
-    ensures err { OnErr result (out.new.items ≡ out.old.items) }
+    ensures { AppendsAll out.old.items out.new.items
+        (line_of (event_text (event_of event.now))) result }
 {
     let len = out.len();
     let written = put_event(event, out);

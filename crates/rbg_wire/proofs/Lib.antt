@@ -1,6 +1,8 @@
 -- What the proofs of this crate share.
+pub mod ByteLemmas
 pub mod CursorLemmas
 pub mod CutLemmas
+pub mod FieldLemmas
 pub mod InboxLemmas
 pub mod Kept
 pub mod LawLemmas

@@ -1,9 +1,11 @@
 -- Messages and streams.
 pub mod Bytes
+pub mod Codes
 pub mod Cursors
 pub mod Inboxes
 pub mod Laws
 pub mod Limits
+pub mod Lines
 pub mod Messages
 pub mod Reading
 pub mod Scores

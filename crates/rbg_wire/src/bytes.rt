@@ -1,5 +1,5 @@
-//! Where a byte occurs in a text.
-ghost use Rattle.std.specs.Prelude.{◌≡◌, ℕ, List, ◌∷◌, IfSome, IfNone};
+//! Where a byte occurs in a text, and texts that are cut there or behind another text.
+ghost use Rattle.std.specs.Prelude.{◌≡◌, ℕ, List, ◌∷◌, ◌++◌, IfSome, IfNone};
 ghost use Rattle.rbg_wire.specs.Bytes.{LacksByte, IsFirstPlace};
 
 /// The index at which the byte occurs first.
@@ -8,6 +8,25 @@ pub(crate) fn first_place(byte: u8, text: &[u8]) -> Option<usize>
     ensures none { IfNone result (LacksByte byte text.now) }
 {
     text.iter().position(|other| *other == byte)
+}
+
+/// The bytes before the first such byte, and those behind it.
+pub fn cut_at(byte: u8, bytes: &[u8]) -> Option<(&[u8], &[u8])>
+    ensures found { IfSome result (λ parts.
+        (bytes.now ≡ parts.0.now ++ byte ∷ parts.1.now) × LacksByte byte parts.0.now) }
+    ensures none { IfNone result (LacksByte byte bytes.now) }
+{
+    let at = first_place(byte, bytes)?;
+    Some((&bytes[..at], &bytes[at + 1..]))
+}
+
+/// The bytes behind a text, if they begin with it.
+pub fn after_text<'a>(text: &[u8], bytes: &'a [u8]) -> Option<&'a [u8]>
+    ensures found { IfSome result (λ rest. bytes.now ≡ text.now ++ rest.now) }
+    ensures none { IfNone result ((rest : List ℕ) → bytes.now ≡ text.now ++ rest → ⊥) }
+{
+    let rest = bytes.strip_prefix(text)?;
+    Some(rest)
 }
 
 /// The text after the byte, if the text begins with it.

@@ -15,8 +15,10 @@ mod number_reader;
 mod outcome;
 mod outcome_reader;
 mod scores;
+mod undo;
 mod words;
 
+pub use bytes::{after_text, cut_at};
 pub use error::WireError;
 pub use inbox::{Inbox, Took};
 pub use message::{Message, Reason};
@@ -27,3 +29,5 @@ pub use number_reader::read_number;
 pub use outcome::Outcome;
 pub use outcome_reader::read_outcome;
 pub use scores::{MAX_SCORES, Scores};
+pub use undo::all_or_nothing;
+pub use words::Words;

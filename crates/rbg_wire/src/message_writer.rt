@@ -1,5 +1,5 @@
 //! The calls that write a message, or a field of one, at the end of a list of bytes.
-ghost use Rattle.std.specs.Prelude.{◌≡◌, ℕ, ◌++◌, OnOk, OnErr, codes, decimal, take};
+ghost use Rattle.std.specs.Prelude.{ℕ, ◌++◌, codes, decimal};
 ghost use Rattle.std.specs.List.{flat_map};
 ghost use Rattle.rbg_wire.specs.Messages.{
   message_of,
@@ -12,8 +12,9 @@ ghost use Rattle.rbg_wire.specs.Messages.{
   pairs_text,
   pair_text,
 };
-ghost use Rattle.rbg_wire.specs.Writing.{Appends};
+ghost use Rattle.rbg_wire.specs.Writing.{Appends, AppendsAll};
 
+use crate::undo::all_or_nothing;
 use crate::{Message, Outcome};
 use itoa::Buffer;
 use rbg_base::{Memory, Pair};
@@ -21,8 +22,7 @@ use rbg_base::{Memory, Pair};
 /// Appends the message with its zero byte. On an error the bytes are unchanged.
 pub fn write_message(message: &Message<'_>, out: &mut Vec<u8>) -> Result<(), Memory>
     requires { HasSpelling (message_of message.now) }
-    ensures ok { OnOk result (out.new.items ≡ out.old.items ++ spelling (message_of message.now)) }
-    ensures err { OnErr result (out.new.items ≡ out.old.items) }
+    ensures { AppendsAll out.old.items out.new.items (spelling (message_of message.now)) result }
 {
     let len = out.len();
     let written = put_message(message, out);
@@ -32,8 +32,7 @@ pub fn write_message(message: &Message<'_>, out: &mut Vec<u8>) -> Result<(), Mem
 /// Appends the message of the move of these pairs, with its zero byte. On an error the bytes are unchanged.
 pub fn write_move(pairs: &[Pair], out: &mut Vec<u8>) -> Result<(), Memory>
     requires { ArePairs pairs.now }
-    ensures ok { OnOk result (out.new.items ≡ out.old.items ++ spelling (move_message pairs.now)) }
-    ensures err { OnErr result (out.new.items ≡ out.old.items) }
+    ensures { AppendsAll out.old.items out.new.items (spelling (move_message pairs.now)) result }
 {
     let len = out.len();
     let written = put_move(pairs, out);
@@ -42,8 +41,7 @@ pub fn write_move(pairs: &[Pair], out: &mut Vec<u8>) -> Result<(), Memory>
 
 /// Appends the digits of the number. On an error the bytes are unchanged.
 pub fn write_number(number: u64, out: &mut Vec<u8>) -> Result<(), Memory>
-    ensures ok { OnOk result (out.new.items ≡ out.old.items ++ decimal number) }
-    ensures err { OnErr result (out.new.items ≡ out.old.items) }
+    ensures { AppendsAll out.old.items out.new.items (decimal number) result }
 {
     let mut buffer = Buffer::new();
     out.extend_from_slice(buffer.format(number).as_bytes())
@@ -52,8 +50,7 @@ pub fn write_number(number: u64, out: &mut Vec<u8>) -> Result<(), Memory>
 /// Appends the pairs, as in a message of a move, also where no such message is theirs. On an error the bytes are
 /// unchanged.
 pub fn write_pairs(pairs: &[Pair], out: &mut Vec<u8>) -> Result<(), Memory>
-    ensures ok { OnOk result (out.new.items ≡ out.old.items ++ pairs_text pairs.now) }
-    ensures err { OnErr result (out.new.items ≡ out.old.items) }
+    ensures { AppendsAll out.old.items out.new.items (pairs_text pairs.now) result }
 {
     let len = out.len();
     let written = put_pairs(pairs, out);
@@ -62,24 +59,11 @@ pub fn write_pairs(pairs: &[Pair], out: &mut Vec<u8>) -> Result<(), Memory>
 
 /// Appends the outcome, as in its message, also where no such message is its own. On an error the bytes are unchanged.
 pub fn write_outcome(outcome: &Outcome, out: &mut Vec<u8>) -> Result<(), Memory>
-    ensures ok { OnOk result (out.new.items ≡ out.old.items ++ outcome_text outcome.now) }
-    ensures err { OnErr result (out.new.items ≡ out.old.items) }
+    ensures { AppendsAll out.old.items out.new.items (outcome_text outcome.now) result }
 {
     let len = out.len();
     let written = put_outcome(outcome, out);
     all_or_nothing(written, len, out)
-}
-
-// Takes back what was written, if the writing failed.
-fn all_or_nothing(written: Result<(), Memory>, len: usize, out: &mut Vec<u8>) -> Result<(), Memory>
-    ensures same { result ≡ written }
-    ensures ok { OnOk written (out.new.items ≡ out.old.items) }
-    ensures err { OnErr written (out.new.items ≡ take len out.old.items) }
-{
-    if written.is_err() {
-        out.truncate(len);
-    }
-    written
 }
 
 #[tactic(auto, unfolding(crate::specs::Messages::spelling))]

@@ -3,17 +3,18 @@ ghost use Rattle.std.specs.Prelude.{◌≡◌, ℕ, [], ◌∷◌, ◌++◌, IfS
 ghost use Rattle.std.specs.Iterator.{YieldsFirstBy, item_count};
 ghost use Rattle.rbg_wire.specs.Words.{space, words_of, words_left};
 
-use crate::bytes::first_place;
+use crate::bytes::cut_at;
 
 /// The words of a text, borrowed from it. A text without a space is one word.
-#[derive(Drop)]
-pub(crate) struct Words<'a> {
+#[derive(Clone, Debug, Drop)]
+pub struct Words<'a> {
     // The text after the words that were returned, or None after the last one.
     left: Option<&'a [u8]>,
 }
 
 impl<'a> Words<'a> {
-    pub(crate) fn of(text: &'a [u8]) -> Words<'a>
+    /// The words of this text.
+    pub fn of(text: &'a [u8]) -> Words<'a>
         ensures { words_left result ≡ words_of text.now }
     {
         Words { left: Some(text) }
@@ -49,6 +50,6 @@ pub(crate) fn cut_at_space(text: &[u8]) -> Option<(&[u8], &[u8])>
         × (text.now ≡ parts.0.now ++ space ∷ parts.1.now)) }
     ensures none { IfNone result (words_of text.now ≡ text.now ∷ []) }
 {
-    let at = first_place(b' ', text)?;
-    Some((&text[..at], &text[at + 1..]))
+    let (word, rest) = cut_at(b' ', text)?;
+    Some((word, rest))
 }

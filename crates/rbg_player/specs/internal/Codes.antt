@@ -1,14 +1,15 @@
--- Players as pairs, sums and lists of numbers, one to one. Proofs tell players apart by them.
-use Rattle.std.specs.Prelude.{◌≡◌, ◌⊎◌, ◌==◌, if◌then◌else◌, ℕ, List, Option, refl}
+-- Players as pairs and sums of numbers and lists, one to one. Proofs tell players apart by them.
+use Rattle.std.specs.Prelude.{◌≡◌, ◌⊎◌, ◌==◌, if◌then◌else◌, ℕ, refl}
 use mathlib.Core.Logic.{inl, inr}
 use base.Stored.{coded_unit}
-use Rattle.std.specs.Coded.{Coded, coded_ℕ, coded_list, coded_option, coded×, coded⊎, code_by}
+use Rattle.std.specs.Coded.{Coded, coded_ℕ, coded×, coded⊎, code_by}
 use Rattle.rbg_wire.specs.declared.outcome.Outcome.{Outcome}
-use Rattle.rbg_wire.specs.declared.outcome.Outcome.TheVariants.{Finished, Time, Refusals, Gone, Heavy}
-use Rattle.rbg_wire.specs.Streams.{Rest, incomplete, dropping}
-use Rattle.rbg_rules.specs.State.{AbstractGame, AbstractState}
+use Rattle.rbg_wire.specs.Codes.{coded_outcome, coded_rest}
+use Rattle.rbg_wire.specs.Streams.{Rest}
+use Rattle.rbg_rules.specs.State.{AbstractGame}
 use Rattle.rbg_rules.specs.Moves.{AbstractPlace}
 use Rattle.rbg_rules.specs.Codes.{coded_game}
+use Rattle.rbg_rules.specs.PlaceCodes.{coded_place}
 use Rattle.rbg_player.specs.declared.error.PlayerError.{PlayerError}
 use Rattle.rbg_player.specs.declared.error.PlayerError.TheVariants as errors
 use Rattle.rbg_player.specs.Players.{
@@ -23,54 +24,12 @@ use Rattle.rbg_player.specs.Players.{
   failed,
 }
 
-abbrev coded_state : Coded AbstractState
-coded_state = code_by ((ℕ × List ℕ) × (List ℕ × ℕ))
-    (coded× (coded× coded_ℕ (coded_list coded_ℕ)) (coded× (coded_list coded_ℕ) coded_ℕ))
-    (λ s. ((s.player, s.pieces), (s.values, s.vertex)))
-    (λ p. record { player = p.0.0; pieces = p.0.1; values = p.1.0; vertex = p.1.1 })
-    (λ _. refl)
-
-abbrev coded_place : Coded AbstractPlace
-coded_place = code_by (AbstractState × Option ℕ)
-    (coded× coded_state (coded_option coded_ℕ))
-    (λ p. (p.state, p.last))
-    (λ p. record { state = p.0; last = p.1 })
-    (λ _. refl)
-
 abbrev pub coded_seat : Coded AbstractSeat
 coded_seat = code_by (ℕ × (AbstractGame × AbstractPlace))
     (coded× coded_ℕ (coded× coded_game coded_place))
     (λ s. (s.player, (s.game, s.place)))
     (λ p. record { player = p.0; game = p.1.0; place = p.1.1 })
     (λ _. refl)
-
-abbrev outcome_parts : Outcome → List ℕ ⊎ (ℕ ⊎ (ℕ ⊎ (ℕ ⊎ Unit {0})))
-outcome_parts (Finished scores) = inl scores
-outcome_parts (Time player) = inr (inl player)
-outcome_parts (Refusals player) = inr (inr (inl player))
-outcome_parts (Gone player) = inr (inr (inr (inl player)))
-outcome_parts Heavy = inr (inr (inr (inr tt)))
-
-abbrev outcome_from : List ℕ ⊎ (ℕ ⊎ (ℕ ⊎ (ℕ ⊎ Unit {0}))) → Outcome
-outcome_from (inl scores) = Finished scores
-outcome_from (inr (inl player)) = Time player
-outcome_from (inr (inr (inl player))) = Refusals player
-outcome_from (inr (inr (inr (inl player)))) = Gone player
-outcome_from (inr (inr (inr (inr _)))) = Heavy
-
-pub outcome_from-parts : (o : Outcome) → outcome_from (outcome_parts o) ≡ o
-outcome_from-parts (Finished scores) = refl
-outcome_from-parts (Time player) = refl
-outcome_from-parts (Refusals player) = refl
-outcome_from-parts (Gone player) = refl
-outcome_from-parts Heavy = refl
-
-abbrev coded_outcome : Coded Outcome
-coded_outcome = code_by (List ℕ ⊎ (ℕ ⊎ (ℕ ⊎ (ℕ ⊎ Unit {0}))))
-    (coded⊎ (coded_list coded_ℕ) (coded⊎ coded_ℕ (coded⊎ coded_ℕ (coded⊎ coded_ℕ coded_unit))))
-    outcome_parts
-    outcome_from
-    outcome_from-parts
 
 abbrev error_number : PlayerError → ℕ
 error_number errors.BadMessage = 1
@@ -131,21 +90,6 @@ coded_stage = code_by StageParts
     stage_parts
     stage_from
     stage_from-parts
-
-abbrev rest_parts : Rest → List ℕ ⊎ Unit {0}
-rest_parts (incomplete bytes) = inl bytes
-rest_parts dropping = inr tt
-
-abbrev rest_from : List ℕ ⊎ Unit {0} → Rest
-rest_from (inl bytes) = incomplete bytes
-rest_from (inr _) = dropping
-
-pub rest_from-parts : (r : Rest) → rest_from (rest_parts r) ≡ r
-rest_from-parts (incomplete bytes) = refl
-rest_from-parts dropping = refl
-
-abbrev coded_rest : Coded Rest
-coded_rest = code_by (List ℕ ⊎ Unit {0}) (coded⊎ (coded_list coded_ℕ) coded_unit) rest_parts rest_from rest_from-parts
 
 abbrev pub coded_player : Coded AbstractPlayer
 coded_player = code_by (Stage × Rest)

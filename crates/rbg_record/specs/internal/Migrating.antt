@@ -7,7 +7,7 @@ use Rattle.rbg_lines.specs.declared.entry.Entry.TheVariants.{Move, End}
 use Rattle.rbg_lines.specs.declared.heading.Version.TheVariants.{One, Two}
 use Rattle.rbg_lines.specs.Entries.{entry_text, timed_text, EntryHasSpelling, SpellsEntry}
 use Rattle.rbg_lines.specs.Heading.{version_text, players_text, start_text}
-use Rattle.rbg_lines.specs.Lines.{line_of, lines_of}
+use Rattle.rbg_wire.specs.Lines.{line_of, lines_of}
 use Rattle.rbg_record.specs.declared.migrating.Part.{Part}
 use Rattle.rbg_record.specs.declared.migrating.Part.TheVariants.{Version, Moves, Nothing}
 use Rattle.rbg_record.specs.Judged.{BeginsWith}

@@ -8,7 +8,7 @@ use Rattle.rbg_lines.specs.declared.entry.Entry.TheVariants.{Move, End}
 use Rattle.rbg_lines.specs.declared.heading.Version.{Version}
 use Rattle.rbg_lines.specs.declared.heading.Version.TheVariants.{One, Two}
 use Rattle.rbg_lines.specs.Entries.{entry_text, moment_text}
-use Rattle.rbg_lines.specs.Lines.{line_of}
+use Rattle.rbg_wire.specs.Lines.{line_of}
 
 -- the moment as a version tells it: version 1 tells none
 abbrev pub told_moment : Version → ℕ → Option ℕ

@@ -1,12 +1,13 @@
 -- Where the calls stand that read line by line.
-use Rattle.std.specs.Prelude.{◌≡◌, ◌≢◌, ℕ, ◌+◌, Bool, true, false, List, [], ◌∷◌, ◌++◌, length, codes, All}
+use Rattle.std.specs.Prelude.{◌≡◌, ◌≢◌, ℕ, ◌+◌, Bool, true, false, List, [], ◌∷◌, ◌++◌, length, All}
 use Rattle.std.specs.List.{AllZip}
 use Rattle.rbg_wire.specs.Bytes.{LacksByte}
+use Rattle.rbg_wire.specs.Lines.{line_feed, lines_of}
 use Rattle.rbg_script.specs.declared.error.ScriptError.{ScriptError}
 use Rattle.rbg_script.specs.declared.error.ScriptError.TheVariants.{Line, Memory}
 use Rattle.rbg_script.specs.Events.{AbstractEvent, SpellsEvent}
 use Rattle.rbg_script.specs.Inputs.{mark}
-use Rattle.rbg_script.specs.Lines.{HasLines, line_feed, lines_of}
+use Rattle.rbg_script.specs.Lines.{HasLines}
 use Rattle.rbg_script.specs.Scripts.{IsNoEvent}
 
 -- the text begins with the line, and the rest is behind it

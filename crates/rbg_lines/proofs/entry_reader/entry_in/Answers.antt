@@ -1,6 +1,7 @@
 -- A dash, an outcome or a move.
 use Rattle.std.proofs.Common.{◌∙◌, sym}
-use Rattle.rbg_lines.proofs.Reading.{same_bytes, other_bytes, spells_play, spells_end, no_entry, when_none}
+use Rattle.rbg_wire.proofs.ByteLemmas.{same_bytes, other_bytes}
+use Rattle.rbg_lines.proofs.Reading.{spells_play, spells_end, no_entry, when_none}
 use Rattle.rbg_lines.proofs.entry_reader.entry_in.Goals as goal
 
 pub returns-then-eq-clause-found : goal.returns-then-eq-clause-found

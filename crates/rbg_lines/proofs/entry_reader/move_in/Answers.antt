@@ -1,5 +1,6 @@
 -- The player is before the first space, and the pairs are behind it.
-use Rattle.rbg_lines.proofs.Reading.{move_fields, no_fields, cut_fields, with_number, pairs_read, pairs_not_read, spells_move}
+use Rattle.rbg_wire.proofs.FieldLemmas.{no_fields, cut_fields, with_number}
+use Rattle.rbg_lines.proofs.Reading.{move_fields, pairs_read, pairs_not_read, spells_move}
 use Rattle.rbg_lines.proofs.entry_reader.move_in.Goals as goal
 
 pub returns-in_err-player-clause-none : goal.returns-in_err-player-clause-none

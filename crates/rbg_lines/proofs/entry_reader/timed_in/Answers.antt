@@ -1,7 +1,7 @@
 -- The moment is before the first space, and the entry is behind it.
 use Rattle.std.proofs.Common.{◌∙◌}
+use Rattle.rbg_wire.proofs.FieldLemmas.{cut_fields}
 use Rattle.rbg_lines.proofs.Apart.{timed_fields}
-use Rattle.rbg_lines.proofs.Reading.{cut_fields}
 use Rattle.rbg_lines.proofs.entry_reader.timed_in.Goals as goal
 
 pub returns-in_err-at-2-clause-none : goal.returns-in_err-at-2-clause-none

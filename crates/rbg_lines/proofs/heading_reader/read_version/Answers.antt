@@ -1,6 +1,7 @@
 -- Each version has its own text.
 use Rattle.std.proofs.Common.{◌∙◌, sym}
-use Rattle.rbg_lines.proofs.Reading.{same_bytes, other_bytes, text_one, text_two, version_only, no_version}
+use Rattle.rbg_wire.proofs.ByteLemmas.{same_bytes, other_bytes}
+use Rattle.rbg_lines.proofs.Reading.{text_one, text_two, version_only, no_version}
 use Rattle.rbg_lines.proofs.heading_reader.read_version.Goals as goal
 
 pub returns-then-eq-clause-found : goal.returns-then-eq-clause-found

@@ -1,7 +1,8 @@
 -- Two numbers stand behind the word, the first before the first space.
 use Rattle.std.proofs.Common.{◌∙◌}
+use Rattle.rbg_wire.proofs.FieldLemmas.{no_fields, cut_fields, with_number}
 use Rattle.rbg_lines.proofs.Apart.{start_fields}
-use Rattle.rbg_lines.proofs.Reading.{no_fields, cut_fields, with_number, fields_of_start, spells_start}
+use Rattle.rbg_lines.proofs.Reading.{fields_of_start, spells_start}
 use Rattle.rbg_lines.proofs.heading_reader.start_in.Goals as goal
 
 pub returns-in_err-fields-clause-none : goal.returns-in_err-fields-clause-none

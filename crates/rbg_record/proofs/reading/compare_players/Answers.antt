@@ -1,8 +1,9 @@
-use Rattle.std.proofs.Common.{List, ℕ, subst}
+use Rattle.std.proofs.Common.{List, ℕ, subst, ap, ◌∙◌}
+use Rattle.rbg_rules.specs.State.{AbstractGame}
 use Rattle.rbg_lines.specs.Heading.{SpellsPlayers}
 use Rattle.rbg_record.specs.Lines as lines
 use Rattle.rbg_record.proofs.reading.compare_players.Goals as goal
 
 pub returns-then-are_players-clause-leads : goal.returns-then-are_players-clause-leads
 returns-then-are_players-clause-leads c =
-    lines.players (subst (λ (names : List (List ℕ)). SpellsPlayers c.args.text.now names) (c.are_players.ensures.0 c.if-are_players.true) c.in-Some.ensures.found)
+    lines.players (subst (λ (names : List (List ℕ)). SpellsPlayers c.args.text.now names) (c.are_players.ensures.0 c.if-are_players.true ∙ ap (λ (game : AbstractGame). game.players) c.as_game.ensures.game) c.in-Some.ensures.found)

@@ -1,6 +1,5 @@
 -- Three numbers stand behind the word, and two of them have limits.
-use Rattle.std.proofs.Common.{◌∙◌, sym, ◌≡◌, true, false, subst}
-use Rattle.rbg_script.specs.Config.{AreWithinLimits}
+use Rattle.std.proofs.Common.{◌∙◌, sym, ◌≡◌, true, false}
 use Rattle.rbg_script.proofs.Parts.{config_shape, config_fields, config_last, behind_first, turn_small, refusals_small, spells_config, other_limits}
 use Rattle.rbg_script.proofs.config_reader.config_in.Goals as goal
 

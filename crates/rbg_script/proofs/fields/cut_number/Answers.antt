@@ -1,5 +1,5 @@
 -- The digits are before the first space.
-use Rattle.rbg_script.proofs.Parts.{no_fields, cut_fields}
+use Rattle.rbg_wire.proofs.FieldLemmas.{no_fields, cut_fields}
 use Rattle.rbg_script.proofs.fields.cut_number.Goals as goal
 
 pub returns-in_err-digits-clause-none : goal.returns-in_err-digits-clause-none

@@ -1,5 +1,5 @@
 -- The first line that is the mark ends the description.
-use Rattle.rbg_script.proofs.Cuts.{same_bytes, other_bytes}
+use Rattle.rbg_wire.proofs.ByteLemmas.{same_bytes, other_bytes}
 use Rattle.rbg_script.proofs.Marks.{found_mark, found_last, not_marked, passed_more}
 use Rattle.rbg_script.proofs.input.cut_at_mark.Goals as goal
 

@@ -1,7 +1,7 @@
 -- The names so far are those of the first players.
 use Rattle.std.proofs.Common.{◌≡◌, ◌++◌, take, codes}
 use Rattle.std.specs.List.{flat_map}
-use Rattle.rbg_record.proofs.writing.write_names.Given as goal
+use Rattle.rbg_record.proofs.players.write_names.Given as goal
 
 abbrev pub invariant-loop-index : goal.invariant-loop-index
-invariant-loop-index l = l.out.items ≡ l.fn.out.items ++ flat_map (λ name. codes " " ++ name) (take l.index l.played.game.players)
+invariant-loop-index g l = l.out.items ≡ l.fn.out.items ++ flat_map (λ name. codes " " ++ name) (take l.index (g.G.HasPlayers.game l.game).players)

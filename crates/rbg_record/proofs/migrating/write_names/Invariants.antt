@@ -1,7 +1,0 @@
--- The names so far are those of the first players.
-use Rattle.std.proofs.Common.{◌≡◌, ◌++◌, take, codes}
-use Rattle.std.specs.List.{flat_map}
-use Rattle.rbg_record.proofs.migrating.write_names.Given as goal
-
-abbrev pub invariant-loop-index : goal.invariant-loop-index
-invariant-loop-index l = l.out.items ≡ l.fn.out.items ++ flat_map (λ name. codes " " ++ name) (take l.index l.game.players)
