@@ -66,7 +66,8 @@ def stored_case(chance, case):
 
 @functools.cache
 def stored_cases():
-    return [case for case, _ in stored.cases() if b"tokens" not in case.name and b"openings" not in case.name]
+    long = (b"tokens", b"openings", b"16777")
+    return [case for case, _ in stored.cases() if not any(word in case.name for word in long)]
 
 
 def soup_case(chance, case):

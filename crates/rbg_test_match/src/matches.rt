@@ -1,17 +1,17 @@
-//! Matches: what an open match tells of itself, its last due moment, and why one isn't made.
+//! Matches: what an open match tells of itself, its last due moment, why one isn't made, and all bytes of whole ones.
 use rbg_game::load;
 use rbg_match::{
     Config, Event, MAX_REFUSALS, MAX_TURN_MS, Match, MatchError, RefereeError, referee,
 };
 use rbg_wire::Outcome;
-use std::alloc::Global;
+use std::alloc::{AllocError, Global};
 use std::test::Fail;
 
-/// The small game of docs/LANGUAGE.md: white takes its cell, and then black takes its own.
+/// White takes its cell and scores, and then black takes its own cell.
 const TEXT: &[u8] = b"#players = white(100), black(100)
 #pieces = e, w, b
 #board = rectangle(up,down,left,right,[e,e])
-#rules = ->white {e}[w] ->black right {e}[b] ->> {}
+#rules = ->white {e}[w][$ white=100] ->black right {e}[b] ->> {}
 ";
 
 const CONFIG: Config = Config {
@@ -28,10 +28,35 @@ fn an_open_match_tells_its_state(rt: HostRuntime) -> Result<(), Fail> {
         CONFIG,
         7,
     )?;
-    let stepped = opened.step(Event::Tick { at: 8 }, &mut outbox);
-    assert!(rt; stepped.is_ok());
-    assert_eq!(rt; (opened.players(), opened.made().len()), (2, 1));
-    assert_eq!(rt; (opened.due(), opened.outcome()), (Some(1007), None));
+    let events = [
+        Event::Tick { at: 8 },
+        Event::Piece {
+            seat: 2,
+            at: 9,
+            bytes: b"x\0x\0",
+        },
+        Event::Piece {
+            seat: 1,
+            at: 10,
+            bytes: b"x\0M0 3 0 4 0 5\0",
+        },
+    ];
+    for event in events {
+        let stepped = opened.step(event, &mut outbox);
+        assert!(rt; stepped.is_ok());
+    }
+    assert!(rt; opened.players() == 2);
+    assert_eq!(rt; (opened.refusals(1), opened.refusals(2)), (1, 2));
+    assert_eq!(rt;
+        (opened.player_name(1), opened.player_name(2)),
+        ("white", "black")
+    );
+    assert_eq!(rt; (opened.config(), opened.began()), (CONFIG, 7));
+    assert_eq!(rt; (opened.due(), opened.outcome()), (Some(1010), None));
+    assert_eq!(rt; opened.made().len(), 2);
+    for (made, told) in opened.made().iter().zip([(0, 7, 1), (1, 10, 3)]) {
+        assert_eq!(rt; (made.player, made.at, made.pairs.len()), told);
+    }
     Ok(())
 }
 
@@ -46,7 +71,7 @@ fn an_ended_match_stays_as_it_is(rt: HostRuntime) -> Result<(), Fail> {
     let stranger = Event::Piece {
         seat: 3,
         at: 2000,
-        bytes: b"M0 3 0 4\0",
+        bytes: b"M0 3 0 4 0 5\0",
     };
     ended.step(stranger, &mut outbox)?;
     ended.step(Event::Ended { seat: 2, at: 2001 }, &mut outbox)?;
@@ -85,19 +110,105 @@ fn what_is_outside_the_limits_is_refused(rt: HostRuntime) -> Result<(), Fail> {
     Ok(())
 }
 
-/// The small game's opening, and white's move: what seat 2 is sent.
-#[test]
-fn a_match_is_refereed(rt: HostRuntime) -> Result<(), Fail> {
-    let events = [Event::Piece {
+/// The moves of white and of black.
+const MOVES: [Event<'static>; 2] = [
+    Event::Piece {
         seat: 1,
         at: 10,
-        bytes: b"M0 3 0 4\0",
-    }];
-    let outbox = referee(rt.alloc(), TEXT, CONFIG, 0, &events)?;
-    let mut sent = b"W2 black\0G".to_vec(rt.alloc())?;
-    sent.extend_from_slice(TEXT)?;
-    sent.extend_from_slice(b"\0L1000 3\0M0 1\0M0 3 0 4\0")?;
-    assert_eq!(rt; outbox.seats(), 2);
-    assert_eq!(rt; outbox.bytes(2), sent.as_slice());
+        bytes: b"M0 3 0 4 0 5\0",
+    },
+    Event::Piece {
+        seat: 2,
+        at: 20,
+        bytes: b"M1 8 1 9\0",
+    },
+];
+
+/// What a seat is sent: its name, the text, and then `said`.
+fn sent(alloc: Global, name: &[u8], said: &[u8]) -> Result<Vec<u8>, AllocError> {
+    let mut bytes = Vec::from_slice(alloc, name)?;
+    bytes.extend_from_slice(b"\0G")?;
+    bytes.extend_from_slice(TEXT)?;
+    bytes.push(0)?;
+    bytes.extend_from_slice(said)?;
+    Ok(bytes)
+}
+
+/// The opening, white's move and black's: all bytes that each seat is sent.
+#[test]
+fn a_match_is_refereed(rt: HostRuntime) -> Result<(), Fail> {
+    for (events, said, length) in [
+        (&MOVES[..0], b"L1000 3\0M0 1\0".as_slice(), 186),
+        (
+            &MOVES[..1],
+            b"L1000 3\0M0 1\0M0 3 0 4 0 5\0".as_slice(),
+            199,
+        ),
+        (
+            &MOVES[..2],
+            b"L1000 3\0M0 1\0M0 3 0 4 0 5\0M1 8 1 9\0E0 100 0\0".as_slice(),
+            217,
+        ),
+    ] {
+        let outbox = referee(rt.alloc(), TEXT, CONFIG, 0, events)?;
+        assert_eq!(rt; outbox.seats(), 2);
+        let white = sent(rt.alloc(), b"W1 white", said)?;
+        let black = sent(rt.alloc(), b"W2 black", said)?;
+        assert_eq!(rt; outbox.bytes(1), white.as_slice());
+        assert_eq!(rt; outbox.bytes(2), black.as_slice());
+        assert_eq!(rt; (white.len(), black.len()), (length, length));
+    }
+    Ok(())
+}
+
+/// The bytes that a message may have are cut into three, so that no more than 100 messages are refused in a match.
+const THIRDS: [u8; 3] = [1, 86, 171];
+
+/// The 85 messages of a byte and one of those from `from` on.
+fn messages_of_two(alloc: Global, first: u8, from: u8) -> Result<Vec<u8>, AllocError> {
+    let mut messages = Vec::new(alloc);
+    for more in 0..85 {
+        messages.extend_from_slice(&[first, from.saturating_add(more), 0])?;
+    }
+    Ok(messages)
+}
+
+/// What the mover and the other seat are sent where the mover says the messages, in one piece.
+fn said_by_mover(alloc: Global, messages: &[u8]) -> Result<[Vec<u8>; 2], Fail> {
+    let config = Config {
+        turn_ms: 1000,
+        refusals: MAX_REFUSALS,
+    };
+    let piece = Event::Piece {
+        seat: 1,
+        at: 1,
+        bytes: messages,
+    };
+    let outbox = referee(alloc, TEXT, config, 0, &[piece])?;
+    if outbox.seats() != 2 {
+        Err("the game has two players")?;
+    }
+    Ok([
+        outbox.bytes(1).to_vec(alloc)?,
+        outbox.bytes(2).to_vec(alloc)?,
+    ])
+}
+
+/// Each message of two bytes is refused, in a match of its mover, and the other seat isn't told.
+#[test]
+fn messages_of_two_bytes_are_refused(rt: HostRuntime) -> Result<(), Fail> {
+    let opening = b"L1000 100\0M0 1\0";
+    let other = sent(rt.alloc(), b"W2 black", opening)?;
+    let mut mover = sent(rt.alloc(), b"W1 white", opening)?;
+    for _ in 0..85 {
+        mover.extend_from_slice(b"R1\0")?;
+    }
+    for first in 1..=u8::MAX {
+        for from in THIRDS {
+            let messages = messages_of_two(rt.alloc(), first, from)?;
+            let [to_mover, to_other] = said_by_mover(rt.alloc(), &messages)?;
+            assert!(rt; to_mover == mover && to_other == other, "at {first} {from}");
+        }
+    }
     Ok(())
 }

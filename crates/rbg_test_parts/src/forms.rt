@@ -73,10 +73,10 @@ fn lends_all<S: Steps>(automaton: &S, game: &Game) -> bool
     same
 }
 
-/// How many entries the array of a game with these rules has, where both forms agree.
-fn entries(rt: &impl Abort, alloc: Global, rules: &str) -> Result<usize, AllocError> {
+/// How many entries the array of a game on this row with these rules has, where both forms agree.
+fn entries(rt: &impl Abort, alloc: Global, row: &str, rules: &str) -> Result<usize, AllocError> {
     let text = format!(in alloc;
-        "#players = white(100), black(100)\n#pieces = e, w, b\n#variables = n(3)\n#board = rectangle(up,down,left,right,[w,e])\n#rules = {rules}"
+        "#players = white(100), black(100)\n#pieces = e, w, b\n#variables = n(3)\n#board = rectangle(up,down,left,right,{row})\n#rules = {rules}"
     )?;
     let Ok(game) = load(alloc, text.as_bytes()) else {
         return Ok(0);
@@ -92,20 +92,52 @@ fn entries(rt: &impl Abort, alloc: Global, rules: &str) -> Result<usize, AllocEr
     Ok(compact.entries())
 }
 
+/// Rules, and how many entries the different lists of their positions have in all.
+const RULES: [(&str, usize); 23] = [
+    ("->white {w} right [w] ->black", 5),
+    ("->white ([w])* ->black", 3),
+    ("->white (([w])* ([e])*)* ->black", 4),
+    ("->white ([w] + ([e])* right)* [$ n = n + 1] ->>", 8),
+    ("->white {? right [w]} right {e} [w] ->black", 8),
+    (
+        "->white (right + left)* {! {? right} {! left}} [w] ->black",
+        10,
+    ),
+    (
+        "->white {e}[w][$ white=100] ->black right {e}[b] ->> {}",
+        10,
+    ),
+    ("->white {e}[w] ->black right {e}[b] ->> {}", 9),
+    ("->white ([e])* ->black", 3),
+    ("->white ([w])* {}", 3),
+    ("->white ([$ n=n+1])* ->black", 3),
+    ("->white {! right [w] {w}} [w] ->black", 7),
+    ("(->>)*", 1),
+    (
+        "->white {$ 7/2*2 == 6} {$ (0-7)/2 == -3} [$ white = e*3] ->black",
+        5,
+    ),
+    ("->white ([w] + [e] ->white) ->black", 5),
+    ("->white (right + left)* [w] ->black", 5),
+    ("([w] ->white + ->white)", 3),
+    ("->white ([w] ->black + ([w])* {})", 7),
+    (
+        "->white (right + left)* {! left [w] {w}} {? right {e}} [w] ->black",
+        12,
+    ),
+    ("->white {! ([w])*} [w] ->black", 5),
+    (
+        "->white {! [w] right [w] {$ w == 2} {}} {$ w == 0} [w] {$ w == 1} ->black",
+        11,
+    ),
+    ("->white {! ([w] + [e]) {}} ->black", 6),
+    ("->white {! ([w])* {}} [w] ->black", 6),
+];
+
 #[test]
 fn both_forms_agree_on_games(rt: HostRuntime) -> Result<(), Fail> {
-    for (rules, want) in [
-        ("->white {w} right [w] ->black", 5),
-        ("->white ([w])* ->black", 3),
-        ("->white (([w])* ([e])*)* ->black", 4),
-        ("->white ([w] + ([e])* right)* [$ n = n + 1] ->>", 8),
-        ("->white {? right [w]} right {e} [w] ->black", 8),
-        (
-            "->white (right + left)* {! {? right} {! left}} [w] ->black",
-            10,
-        ),
-    ] {
-        let found = entries(&rt, rt.alloc(), rules)?;
+    for (rules, want) in RULES {
+        let found = entries(&rt, rt.alloc(), "[w,e]", rules)?;
         assert_eq!(rt; found, want, "at {rules}");
     }
     Ok(())
@@ -156,7 +188,7 @@ fn sum_of_offs(alloc: Global, count: usize) -> Result<String, AllocError> {
 fn a_starred_sum_of_a_game_shares_one_list(rt: HostRuntime) -> Result<(), Fail> {
     let sum = sum_of_offs(rt.alloc(), 1_000)?;
     let rules = format!(in rt.alloc(); "->white ({sum})* ->black")?;
-    let found = entries(&rt, rt.alloc(), rules.as_str())?;
+    let found = entries(&rt, rt.alloc(), "[e]", rules.as_str())?;
     assert_eq!(rt; found, 1_002);
     Ok(())
 }

@@ -1,5 +1,5 @@
 //! A player hears the small game of docs/PROTOCOL.md, and streams that have a fault.
-use rbg_player::{FirstChooser, Heard, Player, PlayerError};
+use rbg_player::{Chooser, FirstChooser, Heard, MAX_CHOICES, Player, PlayerError};
 use rbg_wire::read_outcome;
 use std::alloc::Global;
 use std::test::Fail;
@@ -123,6 +123,57 @@ fn answers_error(alloc: Global, parts: [&[u8]; 3], error: PlayerError) -> Result
 fn each_error_is_answered_from_then_on(rt: HostRuntime) -> Result<(), Fail> {
     for (parts, error) in FAULTS {
         assert!(rt; answers_error(rt.alloc(), parts, error)?, "{parts:?}");
+    }
+    Ok(())
+}
+
+/// Chooses the move of a number, and keeps how many it had to choose from.
+#[derive(Drop)]
+struct Nth {
+    chosen: usize,
+    choices: usize,
+}
+
+impl Chooser for Nth {
+    fn choose(&mut self, n: usize) -> usize
+        requires { 0 < n }
+        ensures { result < n }
+    {
+        self.choices = n;
+        self.chosen.min(n - 1)
+    }
+}
+
+/// A game in which white has 70 moves. The least one is found last.
+fn game_of_choices(alloc: Global) -> Result<Vec<u8>, Fail> {
+    let mut text = Vec::from_slice(
+        alloc,
+        b"#players = white(100), black(100)\n#pieces = e, w\n#board = rectangle(up,down,left,right,[e])\n#rules = ->white ([w] ->black",
+    )?;
+    for _ in 1..70 {
+        text.extend_from_slice(b" + ->black")?;
+    }
+    text.extend_from_slice(b") {}\n")?;
+    Ok(text)
+}
+
+/// The moves are those of the 64 that are found first, in order of their pairs.
+#[test]
+fn the_chosen_move_is_said(rt: HostRuntime) -> Result<(), Fail> {
+    let game = game_of_choices(rt.alloc())?;
+    for (chosen, says) in [
+        (0, b"M0 4\0".as_slice()),
+        (40, b"M0 44\0".as_slice()),
+        (63, b"M0 67\0".as_slice()),
+        (64, b"M0 67\0".as_slice()),
+    ] {
+        let stream = stream_of(rt.alloc(), [b"W1 white\0G", &game, b"\0L1000 3\0M0 1\0"])?;
+        let mut chooser = Nth { chosen, choices: 0 };
+        let mut said = Vec::new(rt.alloc());
+        let heard = Player::new(rt.alloc()).hear(&stream, &mut chooser, &mut said);
+        assert_eq!(rt; heard, Ok(Heard::Going));
+        assert_eq!(rt; said.as_slice(), says);
+        assert_eq!(rt; chooser.choices, MAX_CHOICES);
     }
     Ok(())
 }

@@ -3,21 +3,22 @@ use rbg_base::Memory;
 use rbg_game::load;
 use rbg_hall::{Faulty, Give, Line, ListClock, MemoryLine, ServeError, Served, Take, serve};
 use rbg_match::{Config, Match, Outbox};
+use rbg_record::write_record;
 use std::alloc::{AllocError, Global};
 use std::test::Fail;
 
-/// The small game of docs/LANGUAGE.md: white takes its cell, and then black takes its own.
+/// White takes its cell and scores, and then black takes its own cell.
 const TEXT: &[u8] = b"#players = white(100), black(100)
 #pieces = e, w, b
 #board = rectangle(up,down,left,right,[e,e])
-#rules = ->white {e}[w] ->black right {e}[b] ->> {}
+#rules = ->white {e}[w][$ white=100] ->black right {e}[b] ->> {}
 ";
 
 /// A game that is finished at the start.
 const FINISHED: &[u8] = b"#players = white(100), black(100)
-#pieces = e, w, b
+#pieces = e, w
 #board = rectangle(up,down,left,right,[e,e])
-#rules = ->white {b}[w] ->black
+#rules = ->white {! right [w] {w}} [w] ->black
 ";
 
 const CONFIG: Config = Config {
@@ -25,14 +26,39 @@ const CONFIG: Config = Config {
     refusals: 3,
 };
 
-/// What each seat is sent behind its greeting, in the whole small game.
-const PLAYED: &[u8] = b"M0 1\0M0 3 0 4\0M1 7 1 8\0E0 0 0\0";
+/// The names of the seats, before the text.
+const NAMES: [&[u8]; 2] = [b"W1 white\0G", b"W2 black\0G"];
+
+/// What each seat is sent behind the text, before the first move of a player.
+const OPENING: &[u8] = b"\0L1000 3\0M0 1\0";
+
+/// What each seat is sent behind that, in the whole match.
+const PLAYED: &[u8] = b"M0 3 0 4 0 5\0M1 8 1 9\0E0 100 0\0";
 
 /// The moves of the two players.
-const MOVES: [&[u8]; 2] = [b"M0 3 0 4\0", b"M1 7 1 8\0"];
+const MOVES: [&[u8]; 2] = [b"M0 3 0 4 0 5\0", b"M1 8 1 9\0"];
 
-/// How many bytes a seat is sent in the whole small game.
-const SENT: usize = 198;
+/// How many bytes a seat is sent in the whole match.
+const SENT: usize = 217;
+
+/// The record of the match whose moves are made at 10 and at 20.
+const RECORD: &[u8] = b"rbg 2
+players white black
+start 1000 0
+0 0 0 1
+10 1 0 3 0 4 0 5
+20 2 1 8 1 9
+20 E0 100 0
+";
+
+/// What a seat is sent up to the opening, and then `said`.
+fn sent(alloc: Global, name: &[u8], said: &[u8]) -> Result<Vec<u8>, AllocError> {
+    let mut bytes = Vec::from_slice(alloc, name)?;
+    bytes.extend_from_slice(TEXT)?;
+    bytes.extend_from_slice(OPENING)?;
+    bytes.extend_from_slice(said)?;
+    Ok(bytes)
+}
 
 /// Serves a match of the game over the lines, and returns the answer with the outbox.
 fn run<L: Line>(
@@ -100,12 +126,10 @@ fn a_match_is_served_whole(rt: HostRuntime) -> Result<(), Fail> {
                 whole: true
             })
         );
-        for (line, name) in lines.iter().zip([b"W1 white\0G", b"W2 black\0G"]) {
-            let mut sent = Vec::from_slice(alloc, name)?;
-            sent.extend_from_slice(TEXT)?;
-            sent.extend_from_slice(b"\0L1000 3\0")?;
-            sent.extend_from_slice(PLAYED)?;
-            assert_eq!(rt; line.took(), sent.as_slice());
+        for (line, name) in lines.iter().zip(NAMES) {
+            let all = sent(alloc, name, PLAYED)?;
+            assert_eq!(rt; all.len(), SENT);
+            assert_eq!(rt; line.took(), all.as_slice());
         }
     }
     Ok(())
@@ -131,6 +155,7 @@ fn a_line_fails_at_each_call(rt: HostRuntime) -> Result<(), Fail> {
             "call {call}"
         );
         if call == 0 {
+            assert_eq!(rt; took.len(), SENT);
             whole.extend_from_slice(took)?;
         } else if lines[1].failures() == 0 {
             assert_eq!(rt; took, whole.as_slice());
@@ -155,37 +180,141 @@ fn rounds_and_clocks(rt: HostRuntime) -> Result<(), Fail> {
         rounds,
         whole: true,
     });
-    for (text, room, moments, rounds, answer) in [
-        (FINISHED, SENT, [0, 0, 0, 0].as_slice(), 0, over(0)),
-        (
-            FINISHED,
-            0,
-            [0, 0, 0, 0].as_slice(),
-            3,
-            Err(ServeError::Rounds),
-        ),
-        (TEXT, SENT, [0, 0, 0, 1000].as_slice(), 100, over(1)),
-        (
-            TEXT,
-            SENT,
-            [0, 0, 0, 999].as_slice(),
-            100,
-            Err(ServeError::Rounds),
-        ),
-        (
-            TEXT,
-            SENT,
-            [0, 0, 0, 1000].as_slice(),
-            0,
-            Err(ServeError::Rounds),
-        ),
+    let early = Err(ServeError::Rounds);
+    for (text, room, moments, rounds, answer, last) in [
+        (FINISHED, SENT, [0, 0, 0, 0], 0, over(0), "M0 1\0E0 0 0\0"),
+        (FINISHED, 0, [0, 0, 0, 0], 3, early, "M0 1\0E0 0 0\0"),
+        (TEXT, SENT, [0, 0, 0, 1000], 100, over(1), "M0 1\0E1 1\0"),
+        (TEXT, SENT, [0, 0, 0, 999], 100, early, "M0 1\0"),
+        (TEXT, SENT, [0, 0, 0, 1000], 0, early, "M0 1\0"),
     ] {
         let mut lines = [
             MemoryLine::new(alloc, Vec::new(alloc), Vec::new(alloc), room)?,
             MemoryLine::new(alloc, Vec::new(alloc), Vec::new(alloc), room)?,
         ];
-        let (served, _) = run(alloc, text, &mut lines, moments, rounds)?;
+        let (served, outbox) = run(alloc, text, &mut lines, &moments, rounds)?;
         assert_eq!(rt; served, answer);
+        assert_eq!(rt; outbox.seats(), 2);
+        for (line, bytes) in lines.iter().zip([outbox.bytes(1), outbox.bytes(2)]) {
+            assert!(rt; bytes.ends_with(last.as_bytes()));
+            assert!(rt; line.took() == if room == 0 { &[] } else { bytes });
+        }
     }
+    Ok(())
+}
+
+/// Seat 2's line ends, fails, takes nothing or fails at its second put: how serving ends, what seat 1 takes before it is
+/// told, and how many bytes seat 2's line takes.
+#[test]
+fn a_line_ends_or_fails(rt: HostRuntime) -> Result<(), Fail> {
+    let alloc = rt.alloc();
+    let all = Take::UpTo(SENT);
+    for (give, takes, said, rounds, whole, told, took) in [
+        (
+            Give::Ended,
+            [all, all],
+            b"".as_slice(),
+            1,
+            true,
+            b"".as_slice(),
+            186,
+        ),
+        (
+            Give::Failed,
+            [all, all],
+            b"".as_slice(),
+            1,
+            true,
+            b"".as_slice(),
+            186,
+        ),
+        (
+            Give::Nothing,
+            [Take::Fail, all],
+            b"".as_slice(),
+            0,
+            false,
+            b"".as_slice(),
+            0,
+        ),
+        (
+            Give::Nothing,
+            [all, Take::Fail],
+            MOVES[0],
+            1,
+            false,
+            MOVES[0],
+            186,
+        ),
+    ] {
+        let mut gives = Vec::new(alloc);
+        gives.push(give)?;
+        let takes = Vec::from_slice(alloc, &takes)?;
+        let mut lines = [
+            line(alloc, 0, said, 100, Vec::new(alloc))?,
+            MemoryLine::new(alloc, gives, takes, SENT)?,
+        ];
+        let (served, _) = run(alloc, TEXT, &mut lines, &[], 100)?;
+        assert_eq!(rt; served, Ok(Served { rounds, whole }));
+        let mut first = sent(alloc, NAMES[0], told)?;
+        first.extend_from_slice(b"E3 2\0")?;
+        let second = sent(alloc, NAMES[1], b"")?;
+        assert_eq!(rt; lines[0].took(), first.as_slice());
+        assert!(rt; took <= second.len());
+        assert_eq!(rt; lines[1].took(), &second[..took]);
+    }
+    Ok(())
+}
+
+/// Two lines that give these bytes.
+fn two_lines(alloc: Global, gives: [&[u8]; 2]) -> Result<[MemoryLine; 2], Fail> {
+    Ok([
+        line(alloc, 0, gives[0], 100, Vec::new(alloc))?,
+        line(alloc, 0, gives[1], 100, Vec::new(alloc))?,
+    ])
+}
+
+/// A match is served three times: before its moves, with them at the moments 10 and 20, and when it has ended. Each time
+/// its lines take all from the first byte on.
+#[test]
+fn a_match_is_served_again(rt: HostRuntime) -> Result<(), Fail> {
+    let alloc = rt.alloc();
+    let (mut opened, mut outbox) = Match::new(alloc, load(alloc, TEXT)?, TEXT, CONFIG, 0)?;
+    let again = Ok(Served {
+        rounds: 1,
+        whole: true,
+    });
+    let ended = Ok(Served {
+        rounds: 0,
+        whole: true,
+    });
+    for (gives, rounds, answer, said) in [
+        (
+            [b"".as_slice(), b"".as_slice()],
+            0,
+            Err(ServeError::Rounds),
+            b"".as_slice(),
+        ),
+        (MOVES, 9, again, PLAYED),
+        (MOVES, 0, ended, PLAYED),
+    ] {
+        let mut lines = two_lines(alloc, gives)?;
+        let mut clock = ListClock::new(Vec::from_slice(alloc, &[0, 10, 20])?);
+        assert!(rt; opened.players() == 2 && outbox.seats() == 2);
+        let served = serve(
+            alloc,
+            &mut lines,
+            &mut opened,
+            &mut outbox,
+            &mut clock,
+            rounds,
+        );
+        assert_eq!(rt; served, answer);
+        for (line, name) in lines.iter().zip(NAMES) {
+            assert_eq!(rt; line.took(), sent(alloc, name, said)?.as_slice());
+        }
+    }
+    let record = write_record(alloc, &opened)?;
+    assert_eq!(rt; record.as_slice(), RECORD);
     Ok(())
 }

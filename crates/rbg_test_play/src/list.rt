@@ -4,7 +4,7 @@ ghost use Rattle.std.specs.Prelude.{◌<◌};
 use rbg_auto::compact;
 use rbg_base::{Position, Vertex};
 use rbg_game::load;
-use rbg_moves::{Listed, Over, Pair, Place, list_moves};
+use rbg_moves::{Listed, Move, Over, Pair, Place, list_moves, try_move};
 use std::alloc::Global;
 use std::process::Abort;
 use std::test::Fail;
@@ -30,6 +30,13 @@ const ENDLESS: &[u8] = b"#players = white(100), black(100)
 #rules = [w]* ->white
 ";
 
+/// The same once white is to move, and then no move at all.
+const DEEPEST: &[u8] = b"#players = white(100), black(100)
+#pieces = e, w
+#board = rectangle(up,down,left,right,[e])
+#rules = ->white ([w])* ->black
+";
+
 /// No move at all.
 const NONE: &[u8] = b"#players = white(100), black(100)
 #pieces = e, w
@@ -44,6 +51,22 @@ fn listed(alloc: Global, text: &[u8], max: usize) -> Result<Result<Listed, Over>
     let game = load(alloc, text)?;
     let steps = compact(alloc, &game)?;
     let place = Place::start(alloc, &game)?;
+    Ok(list_moves(alloc, &game, &steps, &place, max))
+}
+
+/// The moves of white, to whom the keeper's switch at position 1 gives the turn.
+fn listed_for_white(alloc: Global, text: &[u8], max: usize) -> Result<Result<Listed, Over>, Fail>
+    requires { 0 < max }
+{
+    let game = load(alloc, text)?;
+    let steps = compact(alloc, &game)?;
+    let start = Place::start(alloc, &game)?;
+    let switch = Move::new(Pair {
+        vertex: 0,
+        position: 1,
+    });
+    let to = try_move(alloc, &game, &steps, &start, &switch)?;
+    let place = to.ok_or("the rules begin with a switch")?;
     Ok(list_moves(alloc, &game, &steps, &place, max))
 }
 
@@ -131,6 +154,14 @@ fn two_hundred_modifiers_are_too_deep(rt: HostRuntime) -> Result<(), Fail> {
     assert_eq!(rt; found.moves.len(), 199);
     let Err(over) = listed(rt.alloc(), ENDLESS, 200)? else {
         panic!(rt; "the moves have no end");
+    };
+    assert_eq!(rt; over, Over::Deep);
+    let Ok(found) = listed_for_white(rt.alloc(), DEEPEST, 199)? else {
+        panic!(rt; "white's list is cut before that");
+    };
+    assert_eq!(rt; (found.moves.len(), found.cut), (199, true));
+    let Err(over) = listed_for_white(rt.alloc(), DEEPEST, 200)? else {
+        panic!(rt; "white's moves have no end");
     };
     assert_eq!(rt; over, Over::Deep);
     Ok(())

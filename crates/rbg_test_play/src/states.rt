@@ -15,11 +15,11 @@ const TURNS: &[u8] = b"#players = white(100), black(100)
 #rules = {e} [w] ->white right {e} left up [b] ->black
 ";
 
-/// Each player takes a cell in turn, and play ends.
+/// Each player takes a cell in turn, white scores, and play ends.
 const ENDS: &[u8] = b"#players = white(100), black(100)
 #pieces = e, w, b
 #board = rectangle(up,down,left,right,[e,e])
-#rules = ->white {e}[w] ->black right {e}[b] ->> {}
+#rules = ->white {e}[w][$ white=100] ->black right {e}[b] ->> {}
 ";
 
 /// Applies the action at a position of the game.
@@ -91,15 +91,15 @@ fn there_and_back(
 #[test]
 fn every_list_of_four_actions_is_taken_back(rt: HostRuntime) -> Result<(), Fail> {
     let game = load(rt.alloc(), ENDS)?;
-    assert_eq!(rt; game.positions(), 9);
-    for list in 0..6_561u32 {
+    assert_eq!(rt; game.positions(), 10);
+    for list in 0..10_000u32 {
         let mut state = SemiState::start(rt.alloc(), &game)?;
         state.reserve(4)?;
         let positions = [
-            list / 729 + 1,
-            list / 81 % 9 + 1,
-            list / 9 % 9 + 1,
-            list % 9 + 1,
+            list / 1_000 + 1,
+            list / 100 % 10 + 1,
+            list / 10 % 10 + 1,
+            list % 10 + 1,
         ];
         there_and_back(&rt, &mut state, &game, positions)?;
     }

@@ -83,26 +83,28 @@ fn a_pattern_takes_up_its_openings_and_no_more_than_allowed(rt: HostRuntime) -> 
     let behind_a_shift = "->white {! (right {! {e}} + {! [w] {}}) {}} ->black";
     let beside_an_end = "->white {? ({e} + {! [w] {}})} ->black";
     let may_end = "->white {? ([w])*} ->black";
-    for (rules, openings, modifiers, valid, opened, taken) in [
-        (choice, 3, 200, Ok(true), 3, 4),
-        (choice, 3, 2, Ok(true), 3, 4),
-        (choice, 2, 200, Err(Over::Wide), 2, 3),
-        (choice, 1, 200, Err(Over::Wide), 1, 2),
-        (choice, 0, 200, Err(Over::Wide), 0, 0),
-        (choice, 3, 1, Err(Over::Deep), 1, 2),
-        (choice, 3, 0, Err(Over::Deep), 1, 2),
-        (choice, 1, 1, Err(Over::Deep), 1, 2),
-        (heavy_first, 2, 1, Err(Over::Deep), 2, 1),
-        (light_first, 2, 1, Err(Over::Wide), 2, 1),
-        (behind_a_shift, 2, 1, Err(Over::Deep), 2, 1),
-        (beside_an_end, 2, 1, Err(Over::Deep), 2, 1),
-        (may_end, 1, 1, Ok(true), 1, 1),
+    let one = "[e]";
+    let two = "[e,e]";
+    for (row, rules, openings, modifiers, valid, opened, taken) in [
+        (one, choice, 3, 200, Ok(true), 3, 4),
+        (one, choice, 3, 2, Ok(true), 3, 4),
+        (one, choice, 2, 200, Err(Over::Wide), 2, 3),
+        (one, choice, 1, 200, Err(Over::Wide), 1, 2),
+        (one, choice, 0, 200, Err(Over::Wide), 0, 0),
+        (one, choice, 3, 1, Err(Over::Deep), 1, 2),
+        (one, choice, 3, 0, Err(Over::Deep), 1, 2),
+        (one, choice, 1, 1, Err(Over::Deep), 1, 2),
+        (two, heavy_first, 2, 1, Err(Over::Deep), 2, 1),
+        (two, light_first, 2, 1, Err(Over::Wide), 2, 1),
+        (two, behind_a_shift, 2, 1, Err(Over::Deep), 2, 1),
+        (two, beside_an_end, 2, 1, Err(Over::Deep), 2, 1),
+        (one, may_end, 1, 1, Ok(true), 1, 1),
     ] {
         let budget = Budget {
             openings,
             modifiers,
         };
-        let answer = ask(rt.alloc(), "[e,e]", rules, budget)?;
+        let answer = ask(rt.alloc(), row, rules, budget)?;
         let wanted = Answer {
             valid,
             opened,
