@@ -16,7 +16,7 @@ N := 10000
 SEED := 1
 RBG := ./rbg
 # How many requests of each run `make refusals` refuses one after the other, and how many of the later ones, spread out.
-FIRST := 1000
+FIRST := 5000
 SPREAD := 100
 # How long a test may take without the proof: its build checks each step.
 SECONDS := 600

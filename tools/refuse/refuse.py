@@ -162,7 +162,7 @@ def main():
     parser.add_argument("allocator", help="the shared library of refuse.c")
     parser.add_argument("--rbg", help="the program rbg")
     parser.add_argument("--refusals", help="the program rbg_refusals")
-    parser.add_argument("--first", type=int, default=1000, help="how many requests of a run are refused, from the first one on (1000)")
+    parser.add_argument("--first", type=int, default=5000, help="how many requests of a run are refused, from the first one on (5000)")
     parser.add_argument("--spread", type=int, default=100, help="how many of the later ones (100)")
     parser.add_argument("--only", default="", help="a part of the names of the runs that are tried")
     given = parser.parse_args()

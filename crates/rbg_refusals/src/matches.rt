@@ -1,10 +1,12 @@
 //! Runs of messages, streams and matches.
+ghost use Rattle.std.specs.Prelude.{◌≡◌, length};
+ghost use Rattle.rbg_match.specs.PlayingOn.{seats_of};
 
 use crate::games::{CONFIG, GAME};
 use crate::stop::Stop;
 use crate::telling::{tell_again, tell_kept, tell_memory, tell_messages};
 use rbg_game::load;
-use rbg_hall::{Give, ListClock, MemoryLine, ServeError, Take, serve};
+use rbg_hall::{Give, ListClock, MemoryLine, ServeError, Served, Take, serve};
 use rbg_match::{Event, Match, MatchError, Outbox, RefereeError, referee};
 use rbg_wire::{Inbox, Took, read_message, write_message};
 use std::alloc::Global;
@@ -151,15 +153,25 @@ fn step<W: Write>(alloc: Global, output: &mut W) -> Result<(), Stop> {
     let game = load(alloc, GAME)?;
     let (mut opened, mut outbox) = Match::new(alloc, game, GAME, CONFIG, 0)?;
     let before = Sent::copy_of(alloc, &outbox)?;
-    if opened.step(EVENTS[0], &mut outbox).is_ok() {
-        tell_outbox(&outbox, output)?;
-        return Ok(());
+    Ok(tell_step(&mut opened, &mut outbox, &before, output)?)
+}
+
+/// Lets white move. Where memory is refused, it does so again.
+fn tell_step<W: Write>(
+    opened: &mut Match,
+    outbox: &mut Outbox,
+    before: &Sent,
+    output: &mut W,
+) -> io::Result<()>
+    requires { length outbox.old ≡ seats_of opened.old.game }
+{
+    if opened.step(EVENTS[0], outbox).is_ok() {
+        return tell_outbox(outbox, output);
     }
     tell_memory(output)?;
-    tell_kept("outbox is", before.is_in(&outbox), output)?;
-    let again = opened.step(EVENTS[0], &mut outbox).is_err();
-    tell_again(again && before.is_in(&outbox), output)?;
-    Ok(())
+    tell_kept("outbox is", before.is_in(outbox), output)?;
+    let again = opened.step(EVENTS[0], outbox).is_err();
+    tell_again(again && before.is_in(outbox), output)
 }
 
 /// A match of the small game that was played to its end.
@@ -214,20 +226,27 @@ fn serve_lines<W: Write>(alloc: Global, output: &mut W) -> Result<(), Stop> {
         &mut clock,
         ROUNDS,
     );
+    Ok(tell_served(served, &lines, &outbox, output)?)
+}
+
+fn tell_served<W: Write>(
+    served: Result<Served, ServeError>,
+    lines: &[MemoryLine; 2],
+    outbox: &Outbox,
+    output: &mut W,
+) -> io::Result<()> {
     match served {
         Ok(served) => {
             writeln!(output, "rounds {}, whole {}", served.rounds, served.whole)?;
-            for line in &lines {
-                tell_messages(line.took(), output)?;
-            }
+            tell_messages(lines[0].took(), output)?;
+            tell_messages(lines[1].took(), output)
         }
         Err(ServeError::Memory) => {
             tell_memory(output)?;
-            tell_beginnings(&lines, &outbox, output)?;
+            tell_beginnings(lines, outbox, output)
         }
-        Err(error) => writeln!(output, "{error}")?,
+        Err(error) => writeln!(output, "{error}"),
     }
-    Ok(())
 }
 
 /// Says whether each line took the beginning of what is queued for its seat.

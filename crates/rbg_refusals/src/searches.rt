@@ -1,16 +1,18 @@
 //! Runs of questions about moves, and of the counting of their sequences.
-ghost use Rattle.std.specs.Prelude.{◌<◌, IfOk};
+ghost use Rattle.std.specs.Prelude.{IfOk};
 ghost use Rattle.rbg_rules.specs.Places.{IsPlaceOf};
+ghost use Rattle.rbg_rules.specs.State.{IsStateOf};
 
 use crate::games::{PATTERN, SQUARES, STAR, WALK, played};
 use crate::stop::Stop;
 use crate::telling::{tell_kept, tell_memory};
-use rbg_auto::{Expr, compact};
+use rbg_auto::{Compact, Expr, Steps, compact};
 use rbg_base::{Move, Pair, Position};
 use rbg_game::{Game, load};
-use rbg_moves::{Over, Place, PlayedGame, Workspace};
+use rbg_moves::{Listed, Over, Place, PlayedGame, Workspace};
 use rbg_perft::{CountError, count_from_start};
 use rbg_search::{Budget, Origin, Reached, Search};
+use rbg_state::SemiState;
 use std::alloc::Global;
 use std::io::{self, Write};
 
@@ -88,12 +90,17 @@ fn white_to_move(game: &PlayedGame) -> Result<Place, Stop>
 fn find<W: Write>(alloc: Global, text: &[u8], output: &mut W) -> Result<(), Stop> {
     let game = played(alloc, text)?;
     let place = white_to_move(&game)?;
-    match game.find_move(&place) {
-        Ok(Some(pairs)) => tell_move(&pairs, output)?,
-        Ok(None) => output.write_all(b"no move\n")?,
-        Err(over) => tell_over(over, output)?,
+    Ok(tell_found(&game, &place, output)?)
+}
+
+fn tell_found<W: Write>(game: &PlayedGame, place: &Place, output: &mut W) -> io::Result<()>
+    requires { IsPlaceOf game.now place.now }
+{
+    match game.find_move(place) {
+        Ok(Some(pairs)) => tell_move(&pairs, output),
+        Ok(None) => output.write_all(b"no move\n"),
+        Err(over) => tell_over(over, output),
     }
-    Ok(())
 }
 
 /// Tries a move of white.
@@ -103,15 +110,25 @@ fn try_pairs<W: Write>(
     pairs: &[(u32, Position)],
     output: &mut W,
 ) -> Result<(), Stop> {
+    let pairs = move_of(pairs)?;
     let game = played(alloc, text)?;
     let place = white_to_move(&game)?;
-    let pairs = move_of(pairs)?;
-    match game.try_move(&place, &pairs) {
-        Ok(Some(to)) => tell_place(&to, output)?,
-        Ok(None) => output.write_all(b"not legal\n")?,
-        Err(over) => tell_over(over, output)?,
+    Ok(tell_tried(&game, &place, &pairs, output)?)
+}
+
+fn tell_tried<W: Write>(
+    game: &PlayedGame,
+    place: &Place,
+    pairs: &Move,
+    output: &mut W,
+) -> io::Result<()>
+    requires { IsPlaceOf game.now place.now }
+{
+    match game.try_move(place, pairs) {
+        Ok(Some(to)) => tell_place(&to, output),
+        Ok(None) => output.write_all(b"not legal\n"),
+        Err(over) => tell_over(over, output),
     }
-    Ok(())
 }
 
 /// The move of these pairs. It takes no memory.
@@ -150,31 +167,52 @@ fn tell_place<W: Write>(place: &Place, output: &mut W) -> io::Result<()> {
 fn list<W: Write>(alloc: Global, text: &[u8], output: &mut W) -> Result<(), Stop> {
     let game = played(alloc, text)?;
     let place = white_to_move(&game)?;
-    match game.list_moves(&place, LISTED) {
-        Ok(listed) => {
-            for pairs in &listed.moves {
-                tell_move(pairs, output)?;
-            }
-            writeln!(output, "cut {}", listed.cut)?;
-        }
-        Err(over) => tell_over(over, output)?,
-    }
-    Ok(())
+    Ok(tell_list(&game, &place, output)?)
 }
 
-/// Asks what is reached from the start, and compares the semi-state that was lent with a copy taken before.
+fn tell_list<W: Write>(game: &PlayedGame, place: &Place, output: &mut W) -> io::Result<()>
+    requires { IsPlaceOf game.now place.now }
+{
+    match game.list_moves(place, LISTED) {
+        Ok(listed) => tell_listed(&listed, output),
+        Err(over) => tell_over(over, output),
+    }
+}
+
+fn tell_listed<W: Write>(listed: &Listed, output: &mut W) -> io::Result<()> {
+    for pairs in &listed.moves {
+        tell_move(pairs, output)?;
+    }
+    writeln!(output, "cut {}", listed.cut)
+}
+
+/// Asks what is reached from the start.
 fn reach<W: Write>(alloc: Global, output: &mut W) -> Result<(), Stop> {
     let game = load(alloc, WALK)?;
     let steps = compact(alloc, &game)?;
     let mut place = Place::start(alloc, &game)?;
-    let copy = place.state.try_clone()?;
-    let mut search = Search::new(alloc, &game, &steps, BUDGET);
-    match search.reach(&mut place.state, Origin::Begin(Expr::Rules)) {
+    reach_from(alloc, &game, &steps, &mut place.state, output)
+}
+
+/// Asks what is reached, and compares the semi-state that is lent with a copy taken before.
+fn reach_from<W: Write>(
+    alloc: Global,
+    game: &Game,
+    steps: &Compact,
+    state: &mut SemiState,
+    output: &mut W,
+) -> Result<(), Stop>
+    requires steps { ⟦<Compact as Steps>⟧.of_rules steps.now game.now.rules }
+    requires state { IsStateOf game.now state.old.state }
+{
+    let _positions = game.positions();
+    let copy = state.try_clone()?;
+    let answer = Search::new(alloc, game, steps, BUDGET).reach(state, Origin::Begin(Expr::Rules));
+    match answer {
         Ok(reached) => tell_reached(&reached, output)?,
         Err(over) => tell_over(over, output)?,
     }
-    tell_kept("semi-state is", place.state == copy, output)?;
-    Ok(())
+    Ok(tell_kept("semi-state is", *state == copy, output)?)
 }
 
 fn tell_reached<W: Write>(reached: &Reached, output: &mut W) -> io::Result<()> {
@@ -184,35 +222,51 @@ fn tell_reached<W: Write>(reached: &Reached, output: &mut W) -> io::Result<()> {
     writeln!(output, "ends {}", reached.ends)
 }
 
-/// Asks a pattern at the start, and compares the semi-state that was lent with a copy taken before.
+/// Asks a pattern at the start.
 fn pattern<W: Write>(alloc: Global, output: &mut W) -> Result<(), Stop> {
     let game = load(alloc, WALK)?;
+    let steps = compact(alloc, &game)?;
+    let mut place = Place::start(alloc, &game)?;
+    ask_pattern(alloc, &game, &steps, &mut place.state, output)
+}
+
+/// Asks a pattern, and compares the semi-state that is lent with a copy taken before.
+fn ask_pattern<W: Write>(
+    alloc: Global,
+    game: &Game,
+    steps: &Compact,
+    state: &mut SemiState,
+    output: &mut W,
+) -> Result<(), Stop>
+    requires steps { ⟦<Compact as Steps>⟧.of_rules steps.now game.now.rules }
+    requires state { IsStateOf game.now state.old.state }
+{
     if game.positions() < ASKED as usize || !game.is_pattern(ASKED) {
         return Err(Stop::Wrong);
     }
-    let steps = compact(alloc, &game)?;
-    let mut place = Place::start(alloc, &game)?;
-    let copy = place.state.try_clone()?;
-    let mut search = Search::new(alloc, &game, &steps, BUDGET);
-    match search.pattern(&mut place.state, ASKED) {
+    let copy = state.try_clone()?;
+    let answer = Search::new(alloc, game, steps, BUDGET).pattern(state, ASKED);
+    match answer {
         Ok(valid) => writeln!(output, "valid {valid}")?,
         Err(over) => tell_over(over, output)?,
     }
-    tell_kept("semi-state is", place.state == copy, output)?;
-    Ok(())
+    Ok(tell_kept("semi-state is", *state == copy, output)?)
 }
 
 /// Counts the sequences of three moves from the beginning of play.
 fn count<W: Write>(alloc: Global, output: &mut W) -> Result<(), Stop> {
     let game = played(alloc, SQUARES)?;
-    match count_from_start(&game, COUNTED, &mut Workspace::new(alloc)) {
+    Ok(tell_count(alloc, &game, output)?)
+}
+
+fn tell_count<W: Write>(alloc: Global, game: &PlayedGame, output: &mut W) -> io::Result<()> {
+    match count_from_start(game, COUNTED, &mut Workspace::new(alloc)) {
         Ok(counts) => writeln!(
             output,
             "sequences {}, ended {}",
             counts.sequences, counts.ended
-        )?,
-        Err(CountError::Memory) => tell_memory(output)?,
-        Err(error) => writeln!(output, "{error:?}")?,
+        ),
+        Err(CountError::Memory) => tell_memory(output),
+        Err(error) => writeln!(output, "{error:?}"),
     }
-    Ok(())
 }
