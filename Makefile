@@ -2,6 +2,7 @@
 RT ?= rt
 PROGRAM := crates/rbg_manager
 AUTHOR := crates/rbg_author_main
+REFUSALS := crates/rbg_refusals
 CRATES := $(wildcard crates/*)
 # The programs with a stored run, and the crates with tests. Stored runs with words of their own are the gate's, and so
 # is rbg_test_search, whose 2,000 games take too long where each step is checked.
@@ -14,10 +15,13 @@ PORT := 4710
 N := 10000
 SEED := 1
 RBG := ./rbg
+# How many requests of each run `make refusals` refuses one after the other, and how many of the later ones, spread out.
+FIRST := 5000
+SPREAD := 100
 # How long a test may take without the proof: its build checks each step.
 SECONDS := 600
 
-.PHONY: help run demo games clients compare try build bench test check fmt clean
+.PHONY: help run demo games clients compare refusals try build bench test check fmt clean
 
 help:
 	@echo 'make run      referees the first match of README.md (crates/rbg_manager/stdin), with no proof'
@@ -25,6 +29,7 @@ help:
 	@echo 'make games    checks each of the games that come with it, counts its first moves and referees a match, with no proof'
 	@echo 'make clients  lets two example clients play a match over ./rbg serve, and checks its record (after make build)'
 	@echo 'make compare  compares ./rbg with the interpreter of tools/slow, on stored cases and N=10000 others of SEED=1 (after make build)'
+	@echo 'make refusals refuses each request for memory in turn, and checks each answer; this alone needs gcc (after make build)'
 	@echo 'make try      runs the stored runs and the tests, with no proof; make -j4 try runs four at once'
 	@echo 'make build    proves the programs and what they stand on, and leaves them as ./rbg and ./rbg_author'
 	@echo 'make bench    prints the tables of docs/COSTS.md, by valgrind (after make build); SECTIONS="texts search" prints some'
@@ -54,6 +59,14 @@ clients:
 compare:
 	@test -x $(RBG) || { echo 'make compare needs $(RBG): run make build first, or give RBG=path'; exit 1; }
 	@python3 tools/slow/compare.py --rbg $(RBG) --count $(N) --seed $(SEED)
+
+refusals:
+	@test -x $(RBG) || { echo 'make refusals needs $(RBG): run make build first, or give RBG=path'; exit 1; }
+	@cd $(REFUSALS) && printed=$$(mktemp) && $(RT) run < stdin > $$printed && diff stdout $$printed && rm $$printed
+	@folder=$$(mktemp -d) && \
+	gcc -O2 -Wall -Wextra -shared -fPIC -o $$folder/refuse.so tools/refuse/refuse.c && \
+	python3 tools/refuse/refuse.py $$folder/refuse.so --rbg $(RBG) --refusals $(REFUSALS)/out/rbg_refusals --first $(FIRST) --spread $(SPREAD); \
+	status=$$?; rm -rf $$folder; exit $$status
 
 try: $(STORED:%=try-run-%) $(TESTED:%=try-test-%)
 
