@@ -2,12 +2,13 @@
 
 use crate::games::GAME;
 use crate::stop::Stop;
-use crate::telling::tell_memory;
 use rbg_console::{Files, Input, read_input};
+use rbg_game::{LoadError, load_with_layout};
 use rbg_program::{SystemNetwork, run};
-use rbg_show::{ShowError, show};
+use rbg_show::{Shown, show};
+use rbg_tokens::tokens;
 use std::alloc::{AllocError, Global};
-use std::io::{self, Write};
+use std::io::Write;
 
 /// A match of the small game.
 const SCRIPT: &[u8] = b"config 1000 3 0
@@ -68,29 +69,32 @@ fn run_words<W: Write>(rt: &HostRuntime, words: &[&str], output: &mut W) -> Resu
 /// Runs `rbg`, and gives its status.
 fn status_of<W: Write>(rt: &HostRuntime, words: &[String], output: &mut W) -> u8 {
     let mut input = SCRIPT;
-    run(
+    let status = run(
         rt.alloc(),
         words,
         &mut GameFiles,
         &mut SystemNetwork::new(rt),
         &mut input,
         output,
-    )
+    );
+    status.code()
 }
 
 /// Shows the moves of a match on the board.
-fn show_moves<W: Write>(alloc: Global, output: &mut W) -> io::Result<()> {
-    match show(alloc, GAME, SCRIPT, false) {
-        Ok(shown) => {
-            output.write_all(shown.text.as_slice())?;
-            writeln!(output, "whole {}", shown.is_whole)
+fn show_moves<W: Write>(alloc: Global, output: &mut W) -> Result<(), Stop> {
+    let shown = shown(alloc)?;
+    output.write_all(shown.text.as_slice())?;
+    writeln!(output, "whole {}", shown.is_whole)?;
+    Ok(())
+}
+
+/// The moves of a match of the small game, as they are shown.
+fn shown(alloc: Global) -> Result<Shown, Stop> {
+    match tokens(alloc, GAME) {
+        Ok(tokens) => {
+            let loaded = load_with_layout(alloc, &tokens)?;
+            Ok(show(alloc, &loaded, SCRIPT, false)?)
         }
-        Err(ShowError::Memory(_)) => tell_memory(output),
-        Err(ShowError::Load(error)) => {
-            if error.is_memory() {
-                return tell_memory(output);
-            }
-            writeln!(output, "refused {error}")
-        }
+        Err(error) => Err(Stop::from(LoadError::Text(error))),
     }
 }

@@ -5,6 +5,7 @@ use crate::matches::played_match;
 use crate::stop::Stop;
 use crate::telling::tell_memory;
 use rbg_game::{Game, load};
+use rbg_moves::PlayedGame;
 use rbg_record::{Checked, RecordError, check_record, migrate, write_record, write_record_1};
 use std::alloc::{AllocError, Global};
 use std::io::{self, Write};
@@ -87,7 +88,8 @@ fn recorded(alloc: Global) -> Result<Game, Stop> {
 /// Checks a record of the small game.
 fn check<W: Write>(alloc: Global, record: &[u8], output: &mut W) -> Result<(), Stop> {
     let game = recorded(alloc)?;
-    match check_record(alloc, &game, record) {
+    let game = PlayedGame::new(alloc, game)?;
+    match check_record(&game, record) {
         Ok(Checked::Good) => output.write_all(b"good\n")?,
         Ok(Checked::Bad { line }) => writeln!(output, "bad {line}")?,
         Err(error) => tell_error(error, output)?,
