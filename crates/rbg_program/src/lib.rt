@@ -6,6 +6,7 @@ mod client;
 mod commands;
 mod fault;
 mod inputs;
+pub mod laws;
 mod moves;
 mod network;
 mod player_refusal;
