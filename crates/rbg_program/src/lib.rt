@@ -5,6 +5,7 @@
 mod commands;
 mod fault;
 mod inputs;
+pub mod laws;
 mod moves;
 mod player_refusal;
 mod printed;

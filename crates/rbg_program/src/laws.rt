@@ -1,0 +1,10 @@
+//! Laws that tie what two crates say apart. The contract of each function is a law; its body does nothing.
+ghost use Rattle.std.specs.Prelude.{◌≡◌};
+ghost use Rattle.rbg_match.specs.Limits.{longest_turn, most_refusals};
+ghost use Rattle.rbg_script.specs.Limits.{longest_turn as longest_written, most_refusals as most_written};
+
+/// The limits of the config of a script are those of the config of a match.
+pub fn scripts_have_the_limits_of_matches()
+    ensures turn { longest_written ≡ longest_turn }
+    ensures refusals { most_written ≡ most_refusals }
+{}
