@@ -42,6 +42,7 @@ fn an_open_match_tells_its_state(rt: HostRuntime) -> Result<(), Fail> {
         },
     ];
     for event in events {
+        assert!(rt; opened.players() == outbox.seats());
         let stepped = opened.step(event, &mut outbox);
         assert!(rt; stepped.is_ok());
     }
