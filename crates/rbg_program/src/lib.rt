@@ -5,7 +5,6 @@
 mod commands;
 mod fault;
 mod inputs;
-pub mod laws;
 mod moves;
 mod player_refusal;
 mod printed;

@@ -2,6 +2,7 @@
 #![tactic(auto)]
 
 mod error;
+pub mod laws;
 mod printed;
 mod refereeing;
 mod script_events;
