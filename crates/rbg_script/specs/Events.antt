@@ -34,7 +34,7 @@ fields_text word seat at rest = word ++ decimal seat ++ codes " " ++ decimal at 
 abbrev pub AreNumbers : ℕ → ℕ → Type 0
 AreNumbers seat at = (seat < 2 ^ 64) × (at < 2 ^ 64)
 
--- the text is such a line
+-- the text has these fields
 pub record HasFields (text word : List ℕ) (seat at : ℕ) (rest : List ℕ) : Type 0 where
   pub numbers : AreNumbers seat at
   pub is : text ≡ fields_text word seat at rest
@@ -60,7 +60,7 @@ pub data SpellsEvent (text : List ℕ) : AbstractEvent → Type 0 where
   by_end : (seat at : ℕ) → AreNumbers seat at → text ≡ end_text seat at → SpellsEvent text (end_event seat at)
   by_tick : (at : ℕ) → at < 2 ^ 64 → text ≡ tick_text at → SpellsEvent text (tick_event at)
 
--- the text is an `m` line with this message
+-- the text is that of an `m` line with this message
 abbrev pub SpellsMessage : List ℕ → Message → Type 0
 SpellsMessage text message = HasFields text (codes "m ") message.seat message.at message.text.now
 

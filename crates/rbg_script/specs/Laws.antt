@@ -27,8 +27,8 @@ pub record WrittenIsRead : Type 0 where
   pub event_lines : (event : AbstractEvent) → EventHasSpelling event → LacksByte line_feed (event_text event)
   pub scripts : (script : AbstractScript) → ScriptHasSpelling script → SpellsScript (script_text script) script
 
--- Each text has one list of lines. It spells at most one script; or one line is the first that isn't of its form, and
--- then it spells none.
+-- A text has at most one list of lines and spells at most one script. At most one line is the first that isn't of its
+-- form, and then the text spells no script.
 pub record ScriptsAreApart : Type 0 where
   pub lines : (text : List ℕ) (a b : List (List ℕ)) → HasLines text a → HasLines text b → a ≡ b
   pub scripts : (text : List ℕ) (a b : AbstractScript) → SpellsScript text a → SpellsScript text b → a ≡ b

@@ -11,7 +11,7 @@ pub fn written_is_read()
     ensures { WrittenIsRead }
 {}
 
-/// A text spells at most one script, or one line of it is the first that isn't of its form.
+/// A text spells at most one script, and none if a line of it isn't of its form.
 pub fn scripts_are_apart()
     ensures { ScriptsAreApart }
 {}

@@ -14,7 +14,7 @@ use rbg_wire::{all_or_nothing, write_number};
 /// The hexadecimal digits that are written.
 const DIGITS: &[u8; 16] = b"0123456789abcdef";
 
-/// Appends the line of a config. On an error the bytes are unchanged.
+/// Appends the line of a config, which spells it if it is within its limits. On an error the bytes are unchanged.
 pub fn write_config(config: ScriptConfig, out: &mut Vec<u8>) -> Result<(), Memory>
     ensures { AppendsAll out.old.items out.new.items (line_of (config_text config)) result }
 {
