@@ -5,7 +5,7 @@ use Rattle.rbg_macro.specs.declared.macros.Template.{Template}
 use Rattle.rbg_macro.specs.Call.{arguments, Calls, meets, called}
 use Rattle.rbg_macro.specs.internal.Calls.{AreArguments, begins_with_parenthesis}
 use Rattle.rbg_macro.specs.Macro.{Macro, filled}
-use Rattle.rbg_macro.specs.internal.Template.{piece_in, macro_of, IsNamed}
+use Rattle.rbg_macro.specs.internal.Template.{item_in, macro_of, IsNamed}
 use Rattle.rbg_tokens.specs.Token.{Lexeme}
 
 called_with : (m : Macro) (behind rest : List Lexeme) (lists : List (List Lexeme)) (n : ℕ) → begins_with_parenthesis behind ≡ true → rest ≡ drop 1 behind →
@@ -21,7 +21,7 @@ called_with m (t ∷ ts) rest lists n opens is found many =
 pub call_meets : (macros : List Macro) (t : Lexeme) (template : Template) (behind : List Lexeme) (rest : List Lexeme) (lists : List (List Lexeme)) (n : ℕ) →
     IsNamed macros t template → (template.parameters ≡ 0 → ⊥) → begins_with_parenthesis behind ≡ true → rest ≡ drop 1 behind →
     AreArguments rest lists n → length lists ≡ template.parameters →
-    meets macros t behind ≡ Calls (filled (map piece_in template.body.items) lists) (drop (n + 1) behind)
+    meets macros t behind ≡ Calls (filled (map item_in template.body.items) lists) (drop (n + 1) behind)
 call_meets macros t template behind rest lists n is some opens is_rest found many =
     let none : nat_eq template.parameters 0 ≡ false = grind (arith, nat_tests) in
     rw (is.named, none) (called_with (macro_of is.name template) behind rest lists n opens is_rest found many)

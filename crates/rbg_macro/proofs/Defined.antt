@@ -13,7 +13,7 @@ use Rattle.rbg_macro.specs.internal.Defines.{AddsDefined, with_one_more, BeginsD
 use Rattle.rbg_macro.specs.Definition.{Definitions, Defined, A_Section, A_Macro, Part, expect, behind_equals, behind_name, section_named, defined, definitions, definitions_of, parts, part_of, is_hash_token, first_at, with_section}
 use Rattle.rbg_tokens.specs.Kinds.{is_name_kind, is_hash}
 use Rattle.rbg_macro.specs.Macro.{Macro, body_of}
-use Rattle.rbg_macro.specs.internal.Template.{macro_of, piece_in}
+use Rattle.rbg_macro.specs.internal.Template.{macro_of, item_in}
 use Rattle.rbg_tokens.specs.Token.{Lexeme, lexeme_of}
 use Rattle.rbg_macro.specs.Sections.{SectionTokens}
 
@@ -26,7 +26,7 @@ defined_section earlier part name ts body kind named is equals = rw (named, ← 
 pub defined_macro : (earlier : List Macro) (part : Part) (name : Lexeme) (ts body : List Lexeme) (parameters : List (List ℕ)) (t : Template) →
     expect (λ t. is_name_kind t.kind) part.end part.tokens ≡ Ok (name, ts) → None ≡ section_named name.text →
     list_any (λ m. bytes_eq name.text m.name) earlier ≡ false → behind_name part.end ts ≡ Ok (parameters, body) →
-    t.parameters ≡ length parameters → map piece_in t.body.items ≡ body_of parameters body →
+    t.parameters ≡ length parameters → map item_in t.body.items ≡ body_of parameters body →
     defined earlier part ≡ Ok (A_Macro (macro_of name.text t))
 defined_macro earlier part name ts body parameters t named is fresh behind many filled =
     rw (named, ← is, fresh, behind, ← many, ← filled) refl

@@ -8,13 +8,13 @@ use Rattle.std.specs.List.{All, AllZip, slice_range}
 use Rattle.std.specs.Map.{lookup}
 use Rattle.std.specs.Str.{bytes_eq}
 use Rattle.rbg_base.proofs.CallerLemmas.{AllZip-push_one, none_of_not_some}
-use Rattle.rbg_macro.specs.declared.macros.Piece.{Piece as KeptPiece}
+use Rattle.rbg_macro.specs.declared.macros.BodyItem.{BodyItem as KeptItem}
 use Rattle.rbg_macro.specs.declared.macros.Template.{Template}
 use Rattle.rbg_macro.specs.declared.read_token.ReadToken.{ReadToken}
 use Rattle.rbg_tokens.specs.Kinds.{is_name_kind}
 use Rattle.rbg_macro.specs.Macro.{Macro, macro_named}
-use Rattle.rbg_macro.specs.internal.Marks.{AreMarkedLists, FillsMarks, IsMarkedWord, KeepsMarks, Word, lexeme_in_word, word_of, IsNumberOf, IsMarked, IsMarkedPiece, IsMarkedTemplate, IsTemplateAt}
-use Rattle.rbg_macro.specs.internal.Template.{macro_of, macro_in, piece_in, IsNamed}
+use Rattle.rbg_macro.specs.internal.Marks.{AreMarkedLists, FillsMarks, IsMarkedWord, KeepsMarks, Word, lexeme_in_word, word_of, IsNumberOf, IsMarked, IsMarkedItem, IsMarkedTemplate, IsTemplateAt}
+use Rattle.rbg_macro.specs.internal.Template.{macro_of, macro_in, item_in, IsNamed}
 use Rattle.rbg_macro.specs.internal.ReadTokens.{read_lexeme}
 use Rattle.rbg_tokens.specs.Token.{Lexeme}
 use Rattle.rbg_macro.proofs.Names.{lookup_none, lookup_some}
@@ -59,7 +59,7 @@ zip_at R (a ∷ xs) (b ∷ ys) (suc n) x all is = zip_at R xs ys n x all.1 is
 
 -- the template with the number of a mark
 template_of : (macros : List Macro) (templates : List Template) (t : Lexeme) (n : ℕ) → AllZip (IsMarkedTemplate macros) macros templates →
-    IsNumberOf macros t n → (u : Template) × (slice_get templates n ≡ Some u) × IsNamed macros t u × All (IsMarkedPiece macros) u.body.items
+    IsNumberOf macros t n → (u : Template) × (slice_get templates n ≡ Some u) × IsNamed macros t u × All (IsMarkedItem macros) u.body.items
 template_of macros templates t n all is =
     let (u, found, fits) = zip_at (IsMarkedTemplate macros) macros templates n is.numbered all is.stands in
     let same : record is.numbered { name = is.name } ≡ macro_of is.name u = rw (fits.parameters, fits.body) refl in
@@ -78,15 +78,15 @@ named_at macros templates t n u all is read =
     subst (IsNamed macros t) (sym (read ∙ get_or_from_slice_get templates n v u found)) named
 
 pub marked_at : (macros : List Macro) (templates : List Template) (t : Lexeme) (n : ℕ) (u : Template) → AllZip (IsMarkedTemplate macros) macros templates →
-    IsNumberOf macros t n → u ≡ get_or templates n u → All (IsMarkedPiece macros) u.body.items
+    IsNumberOf macros t n → u ≡ get_or templates n u → All (IsMarkedItem macros) u.body.items
 marked_at macros templates t n u all is read =
     let (v, found, named, marked) = template_of macros templates t n all is in
-    subst (λ (w : Template). All (IsMarkedPiece macros) w.body.items) (sym (read ∙ get_or_from_slice_get templates n v u found)) marked
+    subst (λ (w : Template). All (IsMarkedItem macros) w.body.items) (sym (read ∙ get_or_from_slice_get templates n v u found)) marked
 
 -- one more template is marked
 pub marked_more : (macros : List Macro) (templates new : List Template) (template marked : Template) → AllZip (IsMarkedTemplate macros) (take (length templates) macros) templates →
-    IsTemplateAt macros (length templates) template → marked.parameters ≡ template.parameters → map piece_in marked.body.items ≡ map piece_in template.body.items →
-    All (IsMarkedPiece macros) marked.body.items → new ≡ templates ++ marked ∷ [] → AllZip (IsMarkedTemplate macros) (take (length new) macros) new
+    IsTemplateAt macros (length templates) template → marked.parameters ≡ template.parameters → map item_in marked.body.items ≡ map item_in template.body.items →
+    All (IsMarkedItem macros) marked.body.items → new ≡ templates ++ marked ∷ [] → AllZip (IsMarkedTemplate macros) (take (length new) macros) new
 marked_more macros templates new template marked all at parameters body marks added =
     let m : Macro = macro_of at.name template in
     let below = slice_get_within macros (length templates) m at.stands in
@@ -115,12 +115,12 @@ keeps_one_more tokens start at argument found new so_far cut added = record {
 pub keeps_none : (tokens : List ReadToken) → KeepsMarks tokens []
 keeps_none tokens = record { keeps = λ macros all. All-nil (λ l. All (IsMarked macros) l.now) }
 
--- one more piece
-pub fills_more : (body : List KeptPiece) (arguments : List (Bor (List ReadToken))) (i : ℕ) (d : KeptPiece) (old new : List ReadToken) → i < length body → FillsMarks body arguments old →
-    ((macros : List Macro) → All (IsMarked macros) old → IsMarkedPiece macros (get_or body i d) → AreMarkedLists macros arguments → All (IsMarked macros) new) →
+-- one more item
+pub fills_more : (body : List KeptItem) (arguments : List (Bor (List ReadToken))) (i : ℕ) (d : KeptItem) (old new : List ReadToken) → i < length body → FillsMarks body arguments old →
+    ((macros : List Macro) → All (IsMarked macros) old → IsMarkedItem macros (get_or body i d) → AreMarkedLists macros arguments → All (IsMarked macros) new) →
     FillsMarks body arguments new
 fills_more body arguments i d old new below so_far more = record {
-  fills = λ macros pieces lists. more macros (so_far.fills macros pieces lists) (All-get_or (IsMarkedPiece macros) body i d below pieces) lists;
+  fills = λ macros items lists. more macros (so_far.fills macros items lists) (All-get_or (IsMarkedItem macros) body i d below items) lists;
 }
 
 -- words and their tokens

@@ -10,7 +10,7 @@ use Rattle.std.specs.Str.{bytes_eq}
 use Rattle.indexmap.specs.IndexMap.{insert_entry}
 use Rattle.rbg_macro.specs.declared.macros.Template.{Template}
 use Rattle.rbg_tokens.specs.Kinds.{is_name_kind}
-use Rattle.rbg_macro.specs.Macro.{macro_named, piece_of, Word, Place}
+use Rattle.rbg_macro.specs.Macro.{macro_named, item_of, Word, Place}
 use Rattle.rbg_macro.specs.internal.Template.{macro_of, macro_in, texts_in, IsNamed}
 use Rattle.rbg_tokens.specs.Token.{Lexeme}
 
@@ -74,12 +74,12 @@ pub position-texts : (test : List ℕ → Bool) (keys : List (Bor (List ℕ))) �
 position-texts test keys =
     rw (prefix_len-texts test keys, ← length-map keys (λ k. k.now)) refl
 
-pub place_of : (t : Lexeme) (keys : List (Bor (List ℕ))) (k : ℕ) → is_name_kind t.kind ≡ true → Some k ≡ position (λ q. bytes_eq t.text q.now) keys → Place k ≡ piece_of (texts_in keys) t
+pub place_of : (t : Lexeme) (keys : List (Bor (List ℕ))) (k : ℕ) → is_name_kind t.kind ≡ true → Some k ≡ position (λ q. bytes_eq t.text q.now) keys → Place k ≡ item_of (texts_in keys) t
 place_of t keys k is found =
     let same : position (bytes_eq t.text) (texts_in keys) ≡ Some k = sym (found ∙ position-texts (bytes_eq t.text) keys) in
     rw (is, same) refl
 
-pub word_of : (t : Lexeme) (keys : List (Bor (List ℕ))) → is_name_kind t.kind ≡ true → None ≡ position (λ q. bytes_eq t.text q.now) keys → Word t ≡ piece_of (texts_in keys) t
+pub word_of : (t : Lexeme) (keys : List (Bor (List ℕ))) → is_name_kind t.kind ≡ true → None ≡ position (λ q. bytes_eq t.text q.now) keys → Word t ≡ item_of (texts_in keys) t
 word_of t keys is none =
     let same : position (bytes_eq t.text) (texts_in keys) ≡ None = sym (none ∙ position-texts (bytes_eq t.text) keys) in
     rw (is, same) refl

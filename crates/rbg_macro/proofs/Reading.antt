@@ -3,19 +3,19 @@ use Rattle.std.proofs.Common.{ℕ, ◌≡◌, ◌+◌, ◌<◌, ◌≤◌, List,
 use Rattle.std.proofs.Math.ListN.{drop_of_length-le}
 use Rattle.std.proofs.lemmas.List.{append-nil, drop-map, drop-drop, length-map}
 use Rattle.rbg_macro.specs.declared.error.MacroError.{MacroError}
-use Rattle.rbg_macro.specs.declared.expansion.Progress.{Progress}
+use Rattle.rbg_macro.specs.declared.expansion.ExpandedTokens.{ExpandedTokens}
 use Rattle.rbg_macro.specs.declared.limits.TheConstants.{MAX_KEPT}
 use Rattle.rbg_macro.specs.declared.read_token.ReadToken.{ReadToken}
 use Rattle.rbg_macro.specs.Call.{Stays, meets}
 use Rattle.rbg_macro.specs.Expansion.{Expands, list, Reads, nothing, stays, call, Fails, no_join, reading, FailsReading, too_many_kept, behind_kept, in_call, behind_call}
 use Rattle.rbg_macro.specs.Macro.{Macro}
-use Rattle.rbg_macro.specs.internal.Progress.{IsWithinLimits, ReadsOn, ReadsJoined, FailsJoined, GivesWay, IsTooMany, no_join as joins_not, reading as fails_reading}
+use Rattle.rbg_macro.specs.internal.ExpandedTokens.{IsWithinLimits, ReadsOn, ReadsJoined, FailsJoined, GivesWay, IsTooMany, no_join as joins_not, reading as fails_reading}
 use Rattle.rbg_macro.specs.internal.ReadTokens.{read_lexeme}
 use Rattle.rbg_tokens.specs.Token.{Lexeme}
 
 -- The list was read up to a place. If the rest expands to something, then the list expands to what was kept, followed
 -- by it, and a fault of the rest is a fault of the list.
-pub record HasRead (macros : List Macro) (d : ℕ) (tokens : List ReadToken) (at : ℕ) (old now : Progress) : Type 0 where
+pub record HasRead (macros : List Macro) (d : ℕ) (tokens : List ReadToken) (at : ℕ) (old now : ExpandedTokens) : Type 0 where
   pub within : at ≤ length tokens
   pub limits : IsWithinLimits now
   pub added : List Lexeme
@@ -25,7 +25,7 @@ pub record HasRead (macros : List Macro) (d : ℕ) (tokens : List ReadToken) (at
   pub reads : (us : List Lexeme) (m : ℕ) → Reads macros d (map read_lexeme (drop at tokens)) us m → Reads macros d (map read_lexeme tokens) (added ++ us) (spent + m)
   pub fails : (e : MacroError) → FailsReading macros d now.read (length now.kept) (map read_lexeme (drop at tokens)) e → FailsReading macros d old.read (length old.kept) (map read_lexeme tokens) e
 
-pub nothing_read : (macros : List Macro) (d : ℕ) (tokens : List ReadToken) (now : Progress) → IsWithinLimits now → HasRead macros d tokens 0 now now
+pub nothing_read : (macros : List Macro) (d : ℕ) (tokens : List ReadToken) (now : ExpandedTokens) → IsWithinLimits now → HasRead macros d tokens 0 now now
 nothing_read macros d tokens now limits = record {
   within = omega arith;
   limits = limits;
@@ -42,7 +42,7 @@ next_token : (tokens behind : List ReadToken) (at : ℕ) (d : ReadToken) → at 
     map read_lexeme (drop at tokens) ≡ read_lexeme (get_or tokens at d) ∷ map read_lexeme behind
 next_token tokens behind at d below is = ap (map read_lexeme) (drop-cons tokens at d below) ∙ rw (is, add-one) refl
 
-pub token_kept : (macros : List Macro) (l : ℕ) (tokens behind : List ReadToken) (at : ℕ) (d : ReadToken) (old now new : Progress) → HasRead macros l tokens at old now →
+pub token_kept : (macros : List Macro) (l : ℕ) (tokens behind : List ReadToken) (at : ℕ) (d : ReadToken) (old now new : ExpandedTokens) → HasRead macros l tokens at old now →
     at < length tokens → behind ≡ drop (at + 1) tokens → meets macros (read_lexeme (get_or tokens at d)) (map read_lexeme behind) ≡ Stays →
     new ≡ record now { kept = now.kept ++ read_lexeme (get_or tokens at d) ∷ [] } → length now.kept < MAX_KEPT →
     HasRead macros l tokens (at + 1) old new
@@ -50,19 +50,19 @@ token_kept macros l tokens behind at d old now new so_far below is met kept room
   within = omega arith;
   limits = record {
     read = rw kept so_far.limits.read;
-    kept = omega (arith, ap (λ (p : Progress). length p.kept) kept, length-append now.kept (t ∷ []));
+    kept = omega (arith, ap (λ (p : ExpandedTokens). length p.kept) kept, length-append now.kept (t ∷ []));
   };
   added = so_far.added ++ t ∷ [];
   spent = so_far.spent;
-  kept = ap (λ (p : Progress). p.kept) kept ∙ ap (λ (ts : List Lexeme). ts ++ t ∷ []) so_far.kept ∙ append_assoc old.kept so_far.added (t ∷ []);
-  read = ap (λ (p : Progress). p.read) kept ∙ so_far.read;
+  kept = ap (λ (p : ExpandedTokens). p.kept) kept ∙ ap (λ (ts : List Lexeme). ts ++ t ∷ []) so_far.kept ∙ append_assoc old.kept so_far.added (t ∷ []);
+  read = ap (λ (p : ExpandedTokens). p.read) kept ∙ so_far.read;
   reads = λ us m r.
       let here : Reads macros l (map read_lexeme (drop at tokens)) (t ∷ us) m = rw begins (stays l t (map read_lexeme behind) us m met (rw is r)) in
       rw (append_assoc so_far.added (t ∷ []) us) (so_far.reads (t ∷ us) m here);
   fails = λ e f.
       let one_more : length new.kept ≡ length now.kept + 1 =
-      ap (λ (p : Progress). length p.kept) kept ∙ length-append now.kept (t ∷ []) in
-      let same_read : new.read ≡ now.read = ap (λ (p : Progress). p.read) kept in
+      ap (λ (p : ExpandedTokens). length p.kept) kept ∙ length-append now.kept (t ∷ []) in
+      let same_read : new.read ≡ now.read = ap (λ (p : ExpandedTokens). p.read) kept in
       let behind_it : FailsReading macros l now.read (length now.kept + 1) (map read_lexeme behind) e = rw (← one_more, ← same_read, is) f in
       so_far.fails e (rw begins (behind_kept l now.read (length now.kept) t (map read_lexeme behind) e met room behind_it));
 }
@@ -74,11 +74,11 @@ token_kept macros l tokens behind at d old now new so_far below is met kept room
     begins = next_token tokens behind at d below is
 
 -- a body that was counted and read expands
-body_expands : (macros : List Macro) (d : ℕ) (body : List Lexeme) (counted new : Progress) (reads : ReadsJoined macros d body counted new) →
+body_expands : (macros : List Macro) (d : ℕ) (body : List Lexeme) (counted new : ExpandedTokens) (reads : ReadsJoined macros d body counted new) →
     Expands macros d body reads.reads.added (length body + reads.reads.spent)
 body_expands macros d body counted new reads = list d body reads.js reads.reads.added reads.reads.spent reads.joins reads.reads.reads
 
-pub call_read : (macros : List Macro) (l : ℕ) (tokens behind : List ReadToken) (at n : ℕ) (d : ReadToken) (body : List Lexeme) (old now counted new : Progress) → HasRead macros l tokens at old now →
+pub call_read : (macros : List Macro) (l : ℕ) (tokens behind : List ReadToken) (at n : ℕ) (d : ReadToken) (body : List Lexeme) (old now counted new : ExpandedTokens) → HasRead macros l tokens at old now →
     at < length tokens → behind ≡ drop (at + 1) tokens →
     GivesWay macros l (read_lexeme (get_or tokens at d)) (map read_lexeme behind) now.read body n →
     counted ≡ record now { read = now.read + length body } → ReadsJoined macros (l + 1) body counted new →
@@ -123,13 +123,13 @@ call_read macros l tokens behind at n d body old now counted new so_far below is
     expands = body_expands macros (l + 1) body counted new reads
 
     new_kept : new.kept ≡ now.kept ++ reads.reads.added
-    new_kept = reads.reads.kept ∙ ap (λ (p : Progress). p.kept ++ reads.reads.added) counts
+    new_kept = reads.reads.kept ∙ ap (λ (p : ExpandedTokens). p.kept ++ reads.reads.added) counts
 
     new_read : new.read ≡ now.read + (length body + reads.reads.spent)
-    new_read = omega (arith, reads.reads.read, ap (λ (p : Progress). p.read) counts)
+    new_read = omega (arith, reads.reads.read, ap (λ (p : ExpandedTokens). p.read) counts)
 
 -- a fault in a call's body
-pub call_fails : (macros : List Macro) (l : ℕ) (tokens behind : List ReadToken) (at n : ℕ) (d : ReadToken) (body : List Lexeme) (old now counted : Progress) (e : MacroError) → HasRead macros l tokens at old now →
+pub call_fails : (macros : List Macro) (l : ℕ) (tokens behind : List ReadToken) (at n : ℕ) (d : ReadToken) (body : List Lexeme) (old now counted : ExpandedTokens) (e : MacroError) → HasRead macros l tokens at old now →
     at < length tokens → behind ≡ drop (at + 1) tokens →
     GivesWay macros l (read_lexeme (get_or tokens at d)) (map read_lexeme behind) now.read body n →
     counted ≡ record now { read = now.read + length body } → FailsJoined macros (l + 1) body counted e →
@@ -141,25 +141,25 @@ call_fails macros l tokens behind at n d body old now counted e so_far below is 
     inside : FailsJoined macros (l + 1) body counted e → Fails macros (l + 1) now.read (length now.kept) body e
     inside (joins_not joins) = no_join (l + 1) now.read (length now.kept) body e way.counted joins
     inside (fails_reading js joins f) =
-        let read_is : counted.read ≡ now.read + length body = ap (λ (p : Progress). p.read) counts in
-        let kept_is : length counted.kept ≡ length now.kept = ap (λ (p : Progress). length p.kept) counts in
+        let read_is : counted.read ≡ now.read + length body = ap (λ (p : ExpandedTokens). p.read) counts in
+        let kept_is : length counted.kept ≡ length now.kept = ap (λ (p : ExpandedTokens). length p.kept) counts in
         reading (l + 1) now.read (length now.kept) body js e way.counted joins (rw (← read_is, ← kept_is) f)
 
 -- a fault at a token
-pub token_fails : (macros : List Macro) (l : ℕ) (tokens behind : List ReadToken) (at : ℕ) (d : ReadToken) (old now : Progress) (e : MacroError) → HasRead macros l tokens at old now →
+pub token_fails : (macros : List Macro) (l : ℕ) (tokens behind : List ReadToken) (at : ℕ) (d : ReadToken) (old now : ExpandedTokens) (e : MacroError) → HasRead macros l tokens at old now →
     at < length tokens → behind ≡ drop (at + 1) tokens →
     FailsReading macros l now.read (length now.kept) (read_lexeme (get_or tokens at d) ∷ map read_lexeme behind) e →
     FailsReading macros l old.read (length old.kept) (map read_lexeme tokens) e
 token_fails macros l tokens behind at d old now e so_far below is f = so_far.fails e (rw (next_token tokens behind at d below is) f)
 
-pub token_too_many : (macros : List Macro) (l : ℕ) (tokens behind : List ReadToken) (at : ℕ) (d : ReadToken) (old now : Progress) (e : MacroError) → HasRead macros l tokens at old now →
+pub token_too_many : (macros : List Macro) (l : ℕ) (tokens behind : List ReadToken) (at : ℕ) (d : ReadToken) (old now : ExpandedTokens) (e : MacroError) → HasRead macros l tokens at old now →
     at < length tokens → behind ≡ drop (at + 1) tokens → meets macros (read_lexeme (get_or tokens at d)) (map read_lexeme behind) ≡ Stays →
     IsTooMany e (MAX_KEPT ≤ length now.kept) → FailsReading macros l old.read (length old.kept) (map read_lexeme tokens) e
 token_too_many macros l tokens behind at d old now e so_far below is met many =
     token_fails macros l tokens behind at d old now e so_far below is
     (rw many.is (too_many_kept l now.read (length now.kept) (read_lexeme (get_or tokens at d)) (map read_lexeme behind) met many.holds))
 
-pub all_read : (macros : List Macro) (l : ℕ) (tokens : List ReadToken) (at : ℕ) (old now : Progress) → HasRead macros l tokens at old now → length tokens ≤ at →
+pub all_read : (macros : List Macro) (l : ℕ) (tokens : List ReadToken) (at : ℕ) (old now : ExpandedTokens) → HasRead macros l tokens at old now → length tokens ≤ at →
     ReadsOn macros l (map read_lexeme tokens) old now
 all_read macros l tokens at old now so_far all = record {
   added = so_far.added;

@@ -8,14 +8,14 @@ use Rattle.std.specs.List.{All}
 use Rattle.rbg_macro.specs.declared.definition.SectionBody.{SectionBody}
 use Rattle.rbg_macro.specs.declared.error.MacroError.{MacroError}
 use Rattle.rbg_macro.specs.declared.error.MacroError.TheVariants.{TooManyTokens}
-use Rattle.rbg_macro.specs.declared.expansion.Progress.{Progress}
+use Rattle.rbg_macro.specs.declared.expansion.ExpandedTokens.{ExpandedTokens}
 use Rattle.rbg_macro.specs.declared.limits.TheConstants.{MAX_READ}
 use Rattle.rbg_macro.specs.declared.source.SectionSpan.{SectionSpan}
 use Rattle.rbg_macro.specs.internal.Defines.{section_of}
 use Rattle.rbg_macro.specs.Expansion.{list, Fails, too_many_read, no_join, reading, ExpandsAll, none, one_more, FailsAll, here, later, kept, ExpandsWithin}
 use Rattle.rbg_macro.specs.Errors.{UnlessMemory}
 use Rattle.rbg_macro.specs.Macro.{Macro}
-use Rattle.rbg_macro.specs.internal.Progress.{IsWithinLimits, ReadsJoined, FailsJoined, ReadsSection, no_join as joins_not, reading as fails_reading}
+use Rattle.rbg_macro.specs.internal.ExpandedTokens.{IsWithinLimits, ReadsJoined, FailsJoined, ReadsSection, no_join as joins_not, reading as fails_reading}
 use Rattle.rbg_macro.specs.internal.Span.{section_in, IsSectionWithin}
 use Rattle.rbg_tokens.specs.Token.{Lexeme}
 use Rattle.rbg_macro.specs.Sections.{SectionTokens}
@@ -23,36 +23,36 @@ use Rattle.rbg_macro.proofs.Exits.{unless_weaker}
 use Rattle.rbg_macro.proofs.Spans.{slice_of_front, slice_of_end}
 
 -- a section that has too many tokens itself
-pub section_too_long : (macros : List Macro) (tokens : List Lexeme) (now : Progress) → now.read ≤ MAX_READ → MAX_READ - now.read < length tokens →
+pub section_too_long : (macros : List Macro) (tokens : List Lexeme) (now : ExpandedTokens) → now.read ≤ MAX_READ → MAX_READ - now.read < length tokens →
     Fails macros 0 now.read (length now.kept) tokens TooManyTokens
 section_too_long macros tokens now within over = too_many_read 0 now.read (length now.kept) tokens (omega arith)
 
 -- a section's list, counted and read
-pub section_read : (macros : List Macro) (s : SectionTokens) (old counted new : Progress) (span : SectionSpan) → counted ≡ record old { read = old.read + length s.tokens } →
+pub section_read : (macros : List Macro) (s : SectionTokens) (old counted new : ExpandedTokens) (span : SectionSpan) → counted ≡ record old { read = old.read + length s.tokens } →
     ReadsJoined macros 0 s.tokens counted new → span ≡ record { kind = s.kind; at = s.at; start = length old.kept; end = length new.kept } →
     ReadsSection macros s old new span
 section_read macros s old counted new span counts reads is = record {
   added = reads.reads.added;
   spent = length s.tokens + reads.reads.spent;
   expands = list 0 s.tokens reads.js reads.reads.added reads.reads.spent reads.joins reads.reads.reads;
-  kept = reads.reads.kept ∙ ap (λ (p : Progress). p.kept ++ reads.reads.added) counts;
-  read = omega (arith, reads.reads.read, ap (λ (p : Progress). p.read) counts);
+  kept = reads.reads.kept ∙ ap (λ (p : ExpandedTokens). p.kept ++ reads.reads.added) counts;
+  read = omega (arith, reads.reads.read, ap (λ (p : ExpandedTokens). p.read) counts);
   within = reads.reads.within;
   span_is = is;
 }
 
-pub section_fails : (macros : List Macro) (tokens : List Lexeme) (old counted : Progress) (e : MacroError) → counted ≡ record old { read = old.read + length tokens } →
+pub section_fails : (macros : List Macro) (tokens : List Lexeme) (old counted : ExpandedTokens) (e : MacroError) → counted ≡ record old { read = old.read + length tokens } →
     old.read + length tokens ≤ MAX_READ → FailsJoined macros 0 tokens counted e → Fails macros 0 old.read (length old.kept) tokens e
 section_fails macros tokens old counted e counts within (joins_not joins) = no_join 0 old.read (length old.kept) tokens e within joins
 section_fails macros tokens old counted e counts within (fails_reading js joins f) =
-    let read_is : counted.read ≡ old.read + length tokens = ap (λ (p : Progress). p.read) counts in
-    let kept_is : length counted.kept ≡ length old.kept = ap (λ (p : Progress). length p.kept) counts in
+    let read_is : counted.read ≡ old.read + length tokens = ap (λ (p : ExpandedTokens). p.read) counts in
+    let kept_is : length counted.kept ≡ length old.kept = ap (λ (p : ExpandedTokens). length p.kept) counts in
     reading 0 old.read (length old.kept) tokens js e within joins (rw (← read_is, ← kept_is) f)
 
 -- The sections up to a place were expanded, and their tokens are in these ranges of the kept tokens. If the other
 -- sections expand to something, then all sections expand to the two together, and a fault of the others is a fault of
 -- all.
-pub record HasExpanded (macros : List Macro) (bodies : List SectionBody) (i : ℕ) (now : Progress) (spans : List SectionSpan) : Type 0 where
+pub record HasExpanded (macros : List Macro) (bodies : List SectionBody) (i : ℕ) (now : ExpandedTokens) (spans : List SectionSpan) : Type 0 where
   pub limits : IsWithinLimits now
   pub places : All (IsSectionWithin (length now.kept)) spans
   pub total : kept (map (section_in now.kept) spans) ≡ length now.kept
@@ -60,7 +60,7 @@ pub record HasExpanded (macros : List Macro) (bodies : List SectionBody) (i : �
       ExpandsAll macros (map section_of bodies) (map (section_in now.kept) spans ++ ts) (now.read + m)
   pub fails : (e : MacroError) → FailsAll macros now.read (length now.kept) (map section_of (drop i bodies)) e → FailsAll macros 0 0 (map section_of bodies) e
 
-pub none_expanded : (macros : List Macro) (bodies : List SectionBody) (now : Progress) (spans : List SectionSpan) → now.read ≡ 0 → now.kept ≡ [] → spans ≡ [] → HasExpanded macros bodies 0 now spans
+pub none_expanded : (macros : List Macro) (bodies : List SectionBody) (now : ExpandedTokens) (spans : List SectionSpan) → now.read ≡ 0 → now.kept ≡ [] → spans ≡ [] → HasExpanded macros bodies 0 now spans
 none_expanded macros bodies now spans no_read no_kept no_spans = record {
   limits = record { read = omega (arith, no_read); kept = omega (arith, ap length no_kept) };
   places = rw no_spans (λ k d below. absurd (omega arith));
@@ -99,7 +99,7 @@ places_grown len more spans s all longer ordered within =
     (All-weaker (IsSectionWithin len) (IsSectionWithin more) (λ x is. record { ordered = is.ordered; within = omega (arith, is.within) }) spans all)
     (record { ordered = ordered; within = within })
 
-pub section_expanded : (macros : List Macro) (bodies : List SectionBody) (i : ℕ) (d : SectionBody) (now new : Progress) (spans new_spans : List SectionSpan) (span : SectionSpan) →
+pub section_expanded : (macros : List Macro) (bodies : List SectionBody) (i : ℕ) (d : SectionBody) (now new : ExpandedTokens) (spans new_spans : List SectionSpan) (span : SectionSpan) →
     HasExpanded macros bodies i now spans → i < length bodies → ReadsSection macros (section_of (get_or bodies i d)) now new span → new_spans ≡ spans ++ span ∷ [] →
     HasExpanded macros bodies (i + 1) new new_spans
 section_expanded macros bodies i d now new spans new_spans span so_far below reads added = record {
@@ -137,7 +137,7 @@ section_expanded macros bodies i d now new spans new_spans span so_far below rea
     all_spans : map (section_in new.kept) new_spans ≡ map (section_in now.kept) spans ++ record (section_of (get_or bodies i d)) { tokens = reads.added } ∷ []
     all_spans = rw (added, reads.span_is, reads.kept) (sections_grown now.kept reads.added spans (section_of (get_or bodies i d)) so_far.places)
 
-pub section_fault : (macros : List Macro) (bodies : List SectionBody) (i : ℕ) (d : SectionBody) (now : Progress) (spans : List SectionSpan) (e : MacroError) →
+pub section_fault : (macros : List Macro) (bodies : List SectionBody) (i : ℕ) (d : SectionBody) (now : ExpandedTokens) (spans : List SectionSpan) (e : MacroError) →
     HasExpanded macros bodies i now spans → i < length bodies → UnlessMemory (Fails macros 0 now.read (length now.kept) (section_of (get_or bodies i d)).tokens) e →
     UnlessMemory (FailsAll macros 0 0 (map section_of bodies)) e
 section_fault macros bodies i d now spans e so_far below fails =
@@ -145,7 +145,7 @@ section_fault macros bodies i d now spans e so_far below fails =
     unless_weaker (Fails macros 0 now.read (length now.kept) (section_of (get_or bodies i d)).tokens) (FailsAll macros 0 0 (map section_of bodies))
     (λ f fault. so_far.fails f (rw begins (here now.read (length now.kept) (section_of (get_or bodies i d)) (map section_of (drop (suc i) bodies)) f fault))) e fails
 
-pub all_expanded : (macros : List Macro) (bodies : List SectionBody) (i : ℕ) (now : Progress) (spans : List SectionSpan) → HasExpanded macros bodies i now spans → length bodies ≤ i →
+pub all_expanded : (macros : List Macro) (bodies : List SectionBody) (i : ℕ) (now : ExpandedTokens) (spans : List SectionSpan) → HasExpanded macros bodies i now spans → length bodies ≤ i →
     ExpandsWithin macros (map section_of bodies) (map (section_in now.kept) spans)
 all_expanded macros bodies i now spans so_far all = record {
   read = now.read;

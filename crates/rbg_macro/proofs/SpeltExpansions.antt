@@ -13,7 +13,7 @@ use Rattle.rbg_macro.specs.Definition.{Part, parts, part_of, is_hash_token, expe
 use Rattle.rbg_macro.specs.Expansion.{Expands, list, Reads, nothing, stays, call, ExpandsAll, none, one_more, HasSections}
 use Rattle.rbg_macro.specs.Steps.{◌>>=◌}
 use Rattle.rbg_tokens.specs.Kinds.{is_name_kind, is_hash, is_equals, is_semicolon, is_open_parenthesis, is_close_parenthesis}
-use Rattle.rbg_macro.specs.Macro.{Piece, Word, Place, Macro, parameter_named, word_or_place, body_of, filled, macro_named}
+use Rattle.rbg_macro.specs.Macro.{BodyItem, Word, Place, Macro, parameter_named, word_or_place, body_of, filled, macro_named}
 use Rattle.rbg_macro.specs.internal.Span.{section_in, IsSectionWithin, IsSectionIn}
 use Rattle.rbg_tokens.specs.Spelling.{IsLexeme}
 use Rattle.rbg_macro.specs.Sections.{AreLexemes, SectionTokens}
@@ -104,21 +104,21 @@ body_behind_name end (t ∷ ts) found is spelt = by_tests (is_equals t.kind) (is
     by_tests false false is = cc
 
 -- bodies
-abbrev PieceSpelt : Piece → Type 0
-PieceSpelt (Word t) = IsLexeme t
-PieceSpelt (Place k) = Unit {0}
+abbrev ItemSpelt : BodyItem → Type 0
+ItemSpelt (Word t) = IsLexeme t
+ItemSpelt (Place k) = Unit {0}
 
 abbrev MacroSpelt : Macro → Type 0
-MacroSpelt m = AllByRecursion PieceSpelt m.body
+MacroSpelt m = AllByRecursion ItemSpelt m.body
 
 abbrev SectionSpelt : SectionTokens → Type 0
 SectionSpelt s = Spelt s.tokens
 
-body_spelt : (parameters : List (List ℕ)) (ts : List Lexeme) → Spelt ts → AllByRecursion PieceSpelt (body_of parameters ts)
+body_spelt : (parameters : List (List ℕ)) (ts : List Lexeme) → Spelt ts → AllByRecursion ItemSpelt (body_of parameters ts)
 body_spelt parameters [] spelt = tt
 body_spelt parameters (t ∷ ts) spelt = (by_place (parameter_named parameters t), body_spelt parameters ts spelt.1)
   where
-    by_place : (place : Option ℕ) → PieceSpelt (word_or_place t place)
+    by_place : (place : Option ℕ) → ItemSpelt (word_or_place t place)
     by_place None = spelt.0
     by_place (Some k) = tt
 
@@ -187,7 +187,7 @@ argument_spelt [] k all = tt
 argument_spelt (l ∷ lists) zero all = all.0
 argument_spelt (l ∷ lists) (suc k) all = argument_spelt lists k all.1
 
-filled_spelt : (body : List Piece) (lists : List (List Lexeme)) → AllByRecursion PieceSpelt body → AllByRecursion Spelt lists → Spelt (filled body lists)
+filled_spelt : (body : List BodyItem) (lists : List (List Lexeme)) → AllByRecursion ItemSpelt body → AllByRecursion Spelt lists → Spelt (filled body lists)
 filled_spelt [] lists body_is all = tt
 filled_spelt (Word t ∷ body) lists body_is all = (body_is.0, filled_spelt body lists body_is.1 all)
 filled_spelt (Place k ∷ body) lists body_is all =

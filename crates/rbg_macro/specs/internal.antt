@@ -4,7 +4,7 @@ pub mod Defines
 pub mod Gives
 pub mod Joined
 pub mod Marks
-pub mod Progress
+pub mod ExpandedTokens
 pub mod ReadTokens
 pub mod Span
 pub mod Template

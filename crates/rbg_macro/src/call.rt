@@ -4,13 +4,13 @@ ghost use Rattle.std.specs.Prelude.{All, Err, IfOk, IfErr, IfSome, MatchOption, 
 ghost use Rattle.rbg_macro.specs.Call.{Stays, NoCall, arguments, closing, meets, nesting};
 ghost use Rattle.rbg_macro.specs.internal.Calls.{nesting_of, AreArguments, IsCall, IsNoCall, begins_with_parenthesis};
 ghost use Rattle.rbg_macro.specs.Errors.{UnlessMemory};
-ghost use Rattle.rbg_macro.specs.Macro.{filled, filled_piece};
+ghost use Rattle.rbg_macro.specs.Macro.{filled, filled_item};
 ghost use Rattle.rbg_macro.specs.internal.Marks.{IsMarked, IsMarkedCall, KeepsMarks};
 ghost use Rattle.rbg_macro.specs.internal.ReadTokens.{read_lexeme};
-ghost use Rattle.rbg_macro.specs.internal.Template.{piece_in, lists_in};
+ghost use Rattle.rbg_macro.specs.internal.Template.{item_in, lists_in};
 
 use crate::error::MacroError;
-use crate::macros::Piece;
+use crate::macros::BodyItem;
 use crate::marking::MarkedMacros;
 use crate::read_token::ReadToken;
 use rbg_base::Memory;
@@ -24,7 +24,7 @@ pub(crate) type Arguments<'t, 'j> = SmallVec<&'j [ReadToken<'t, 'j>], 4>;
 /// A call of a macro: the macro's body, the arguments, and the number of tokens of the call after the macro's name.
 #[derive(Drop)]
 pub(crate) struct Call<'m, 't, 'j> {
-    pub(crate) body: &'m [Piece<'t>],
+    pub(crate) body: &'m [BodyItem<'t>],
     pub(crate) arguments: Arguments<'t, 'j>,
     pub(crate) len: usize,
 }

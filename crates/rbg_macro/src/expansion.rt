@@ -8,8 +8,8 @@ ghost use Rattle.rbg_macro.specs.internal.Defines.{section_of};
 ghost use Rattle.rbg_macro.specs.Errors.{UnlessMemory};
 ghost use Rattle.rbg_tokens.specs.Kinds.{is_tilde};
 ghost use Rattle.rbg_macro.specs.internal.Marks.{IsMarked, IsMarkedWord};
-ghost use Rattle.rbg_macro.specs.internal.Progress.{ReadsOn, ReadsJoined, ReadsSection, FailsJoined, GivesWay};
-ghost use Rattle.rbg_macro.specs.internal.Progress.{IsTooMany, IsWithinLimits};
+ghost use Rattle.rbg_macro.specs.internal.ExpandedTokens.{ReadsOn, ReadsJoined, ReadsSection, FailsJoined, GivesWay};
+ghost use Rattle.rbg_macro.specs.internal.ExpandedTokens.{IsTooMany, IsWithinLimits};
 ghost use Rattle.rbg_macro.specs.internal.Span.{section_in, IsSectionWithin};
 ghost use Rattle.rbg_macro.specs.internal.ReadTokens.{read_lexeme};
 
@@ -28,12 +28,12 @@ use std::alloc::Global;
 
 /// How far an expansion has come: how many tokens were read, and which were kept.
 #[derive(Debug, Drop)]
-struct Progress<'t> {
+struct ExpandedTokens<'t> {
     read: usize,
     kept: TokenBuffer<'t>,
 }
 
-impl<'t> Progress<'t> {
+impl<'t> ExpandedTokens<'t> {
     /// Counts the tokens of a list.
     fn count(&mut self, len: usize)
         requires { self.old.read + len ≤ MAX_READ }
@@ -108,22 +108,22 @@ fn read_list<'t, 'j>(
     macros: &MarkedMacros<'t>,
     level: usize,
     list: &'j [ReadToken<'t, 'j>],
-    progress: &mut Progress<'t>,
+    expanded: &mut ExpandedTokens<'t>,
 ) -> Result<(), MacroError>
     requires level { level ≤ MAX_LEVEL }
-    requires within { IsWithinLimits progress.old }
+    requires within { IsWithinLimits expanded.old }
     requires marked { All (IsMarked macros.now) list.now }
-    ensures ok { OnOk result (ReadsJoined macros.now level (map read_lexeme list.now) progress.old
-        progress.new) }
+    ensures ok { OnOk result (ReadsJoined macros.now level (map read_lexeme list.now) expanded.old
+        expanded.new) }
     ensures err { IfErr result (UnlessMemory
-        (FailsJoined macros.now level (map read_lexeme list.now) progress.old)) }
+        (FailsJoined macros.now level (map read_lexeme list.now) expanded.old)) }
 {
     if !has_tilde(list) {
-        return read_joined(alloc, macros, level, list, progress);
+        return read_joined(alloc, macros, level, list, expanded);
     }
     let joined = join(alloc, macros, list)?;
     let tokens = joined.tokens(alloc)?;
-    read_joined(alloc, macros, level, &tokens, progress)
+    read_joined(alloc, macros, level, &tokens, expanded)
 }
 
 /// Reads a joined list: keeps the tokens that stay, and expands the calls.
@@ -133,15 +133,15 @@ fn read_joined<'t, 'j>(
     macros: &MarkedMacros<'t>,
     level: usize,
     list: &'j [ReadToken<'t, 'j>],
-    progress: &mut Progress<'t>,
+    expanded: &mut ExpandedTokens<'t>,
 ) -> Result<(), MacroError>
     requires level { level ≤ MAX_LEVEL }
-    requires within { IsWithinLimits progress.old }
+    requires within { IsWithinLimits expanded.old }
     requires marked { All (IsMarked macros.now) list.now }
-    ensures ok { OnOk result (ReadsOn macros.now level (map read_lexeme list.now) progress.old
-        progress.new) }
-    ensures err { IfErr result (UnlessMemory (FailsReading macros.now level progress.old.read
-        (length progress.old.kept) (map read_lexeme list.now))) }
+    ensures ok { OnOk result (ReadsOn macros.now level (map read_lexeme list.now) expanded.old
+        expanded.new) }
+    ensures err { IfErr result (UnlessMemory (FailsReading macros.now level expanded.old.read
+        (length expanded.old.kept) (map read_lexeme list.now))) }
 {
     let mut at = 0;
     while at < list.len() {
@@ -151,15 +151,15 @@ fn read_joined<'t, 'j>(
             level,
             &list[at],
             &list[at + 1..],
-            progress.read,
+            expanded.read,
         )? {
             None => {
-                progress.keep(&list[at])?;
+                expanded.keep(&list[at])?;
                 at += 1;
             }
             Some((body, len)) => {
-                progress.count(body.len());
-                read_list(alloc, macros, level + 1, &body, progress)?;
+                expanded.count(body.len());
+                read_list(alloc, macros, level + 1, &body, expanded)?;
                 at += len + 1;
             }
         }
@@ -172,27 +172,27 @@ fn read_section<'t>(
     alloc: Global,
     macros: &MarkedMacros<'t>,
     section: &SectionBody<'t, '_>,
-    progress: &mut Progress<'t>,
+    expanded: &mut ExpandedTokens<'t>,
 ) -> Result<SectionSpan, MacroError>
-    requires { IsWithinLimits progress.old }
-    ensures ok { IfOk result (ReadsSection macros.now (section_of section.now) progress.old
-        progress.new) }
+    requires { IsWithinLimits expanded.old }
+    ensures ok { IfOk result (ReadsSection macros.now (section_of section.now) expanded.old
+        expanded.new) }
     ensures err { IfErr result (UnlessMemory
-        (Fails macros.now 0 progress.old.read (length progress.old.kept)
+        (Fails macros.now 0 expanded.old.read (length expanded.old.kept)
         (section_of section.now).tokens)) }
 {
-    if section.tokens.len() > MAX_READ - progress.read {
+    if section.tokens.len() > MAX_READ - expanded.read {
         return Err(MacroError::TooManyTokens);
     }
     let tokens = macros.mark_all(alloc, section.tokens)?;
-    let start = progress.kept.len();
-    progress.count(tokens.len());
-    read_list(alloc, macros, 0, &tokens, progress)?;
+    let start = expanded.kept.len();
+    expanded.count(tokens.len());
+    read_list(alloc, macros, 0, &tokens, expanded)?;
     Ok(SectionSpan {
         kind: section.kind,
         at: section.at,
         start,
-        end: progress.kept.len(),
+        end: expanded.kept.len(),
     })
 }
 
@@ -209,16 +209,16 @@ fn expand_sections<'t>(
     ensures err { IfErr result (UnlessMemory
         (FailsAll macros.now 0 0 (map section_of bodies.now))) }
 {
-    let mut progress = Progress {
+    let mut expanded = ExpandedTokens {
         read: 0,
         kept: TokenBuffer::new(alloc),
     };
     let mut sections = Vec::with_capacity(alloc, bodies.len())?;
     for body in bodies {
-        let section = read_section(alloc, macros, body, &mut progress)?;
+        let section = read_section(alloc, macros, body, &mut expanded)?;
         sections.push(section)?;
     }
-    Ok((progress.kept, sections))
+    Ok((expanded.kept, sections))
 }
 
 /// The sections that the tokens define, expanded: each macro call is replaced by the macro's body with

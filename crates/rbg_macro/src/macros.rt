@@ -4,8 +4,8 @@ ghost use Rattle.std.specs.Prelude.{OnOk, IfOk};
 ghost use Rattle.std.specs.Bool.{IsFalse};
 ghost use Rattle.std.specs.List.{list_any};
 ghost use Rattle.std.specs.Str.{bytes_eq};
-ghost use Rattle.rbg_macro.specs.Macro.{macro_named, piece_of, body_of};
-ghost use Rattle.rbg_macro.specs.internal.Template.{macro_of, piece_in, texts_in};
+ghost use Rattle.rbg_macro.specs.Macro.{macro_named, item_of, body_of};
+ghost use Rattle.rbg_macro.specs.internal.Template.{macro_of, item_in, texts_in};
 ghost use Rattle.rbg_macro.specs.internal.Marks.{IsNumberOf, IsTemplateAt};
 ghost use Rattle.rbg_macro.specs.internal.ReadTokens.{read_lexeme};
 ghost use Rattle.rbg_tokens.specs.Token.{lexeme_of};
@@ -19,7 +19,7 @@ use std::marker::Model;
 
 /// What a macro's body is made of: its own tokens, and the places where an argument is put.
 #[derive(Clone, Copy, Debug)]
-pub(crate) enum Piece<'t> {
+pub(crate) enum BodyItem<'t> {
     Word(ReadToken<'t, 't>),
     Place(usize),
 }
@@ -28,7 +28,7 @@ pub(crate) enum Piece<'t> {
 #[derive(Debug, Drop)]
 pub(crate) struct Template<'t> {
     pub(crate) parameters: usize,
-    pub(crate) body: Vec<Piece<'t>>,
+    pub(crate) body: Vec<BodyItem<'t>>,
 }
 
 /// The macros by name, in order of the text.
@@ -58,7 +58,7 @@ impl<'t> Template<'t> {
         ensures parameters { IfOk result (λ t.
             t.parameters ≡ length (texts_in parameters.now.keys)) }
         ensures body { IfOk result (λ t.
-            map piece_in t.body.items ≡ body_of (texts_in parameters.now.keys)
+            map item_in t.body.items ≡ body_of (texts_in parameters.now.keys)
             (map lexeme_of tokens.now)) }
     {
         let mut body = Vec::with_capacity(alloc, tokens.len())?;
@@ -73,15 +73,15 @@ impl<'t> Template<'t> {
 }
 
 /// What the token is in the body of a macro with these parameters.
-fn word_or_place<'t>(parameters: &IndexSet<&'t [u8]>, token: &Token<'t>) -> Piece<'t>
-    ensures { piece_in result ≡ piece_of (texts_in parameters.now.keys) (lexeme_of token.now) }
+fn word_or_place<'t>(parameters: &IndexSet<&'t [u8]>, token: &Token<'t>) -> BodyItem<'t>
+    ensures { item_in result ≡ item_of (texts_in parameters.now.keys) (lexeme_of token.now) }
 {
     if !token.kind.is_name() {
-        return Piece::Word(ReadToken::of_text(token));
+        return BodyItem::Word(ReadToken::of_text(token));
     }
     match parameters.get_index_of(token.text) {
-        Some(index) => Piece::Place(index),
-        None => Piece::Word(ReadToken::of_text(token)),
+        Some(index) => BodyItem::Place(index),
+        None => BodyItem::Word(ReadToken::of_text(token)),
     }
 }
 

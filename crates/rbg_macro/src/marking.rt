@@ -2,12 +2,12 @@
 //! read.
 ghost use Rattle.std.specs.Prelude.{◌≡◌, ◌≤◌, List, length, map, None, Some, MatchOption, IfOk, IfSome, All};
 ghost use Rattle.rbg_macro.specs.Macro.{macro_named};
-ghost use Rattle.rbg_macro.specs.internal.Marks.{IsMarked, IsMarkedPiece, IsMarkedTemplate};
+ghost use Rattle.rbg_macro.specs.internal.Marks.{IsMarked, IsMarkedItem, IsMarkedTemplate};
 ghost use Rattle.rbg_macro.specs.internal.ReadTokens.{read_lexeme};
-ghost use Rattle.rbg_macro.specs.internal.Template.{piece_in, IsNamed};
+ghost use Rattle.rbg_macro.specs.internal.Template.{item_in, IsNamed};
 ghost use Rattle.rbg_tokens.specs.Token.{lexeme_of};
 
-use crate::macros::{Macros, Piece, Template};
+use crate::macros::{BodyItem, Macros, Template};
 use crate::read_token::ReadToken;
 use rbg_base::Memory;
 use rbg_tokens::Token;
@@ -47,14 +47,14 @@ impl<'t> Macros<'t> {
         }
     }
 
-    /// The piece with its mark.
-    fn mark_piece(&self, piece: &Piece<'t>) -> Piece<'t>
-        ensures piece { piece_in result ≡ piece_in piece.now }
-        ensures marked { IsMarkedPiece self.now result }
+    /// The item with its mark.
+    fn mark_item(&self, item: &BodyItem<'t>) -> BodyItem<'t>
+        ensures item { item_in result ≡ item_in item.now }
+        ensures marked { IsMarkedItem self.now result }
     {
-        match piece {
-            Piece::Word(token) => Piece::Word(self.mark(token)),
-            Piece::Place(index) => Piece::Place(*index),
+        match item {
+            BodyItem::Word(token) => BodyItem::Word(self.mark(token)),
+            BodyItem::Place(index) => BodyItem::Place(*index),
         }
     }
 
@@ -62,12 +62,12 @@ impl<'t> Macros<'t> {
     fn mark_template(&self, alloc: Global, template: &Template<'t>) -> Result<Template<'t>, Memory>
         ensures parameters { IfOk result (λ t. t.parameters ≡ template.now.parameters) }
         ensures body { IfOk result (λ t.
-            map piece_in t.body.items ≡ map piece_in template.now.body.items) }
-        ensures marked { IfOk result (λ t. All (IsMarkedPiece self.now) t.body.items) }
+            map item_in t.body.items ≡ map item_in template.now.body.items) }
+        ensures marked { IfOk result (λ t. All (IsMarkedItem self.now) t.body.items) }
     {
         let mut body = Vec::with_capacity(alloc, template.body.len())?;
-        for piece in &template.body {
-            body.push(self.mark_piece(piece))?;
+        for item in &template.body {
+            body.push(self.mark_item(item))?;
         }
         Ok(Template {
             parameters: template.parameters,
@@ -118,7 +118,7 @@ impl<'t> MarkedMacros<'t> {
         requires { IsMarked self.now token.now }
         ensures named { MatchOption result (macro_named self.now (read_lexeme token.now) ≡ None)
             (λ t. IsNamed self.now (read_lexeme token.now) t.now) }
-        ensures marked { IfSome result (λ t. All (IsMarkedPiece self.now) t.now.body.items) }
+        ensures marked { IfSome result (λ t. All (IsMarkedItem self.now) t.now.body.items) }
     {
         match token.macro_number {
             Some(number) => Some(&self.templates[number]),

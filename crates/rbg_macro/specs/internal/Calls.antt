@@ -8,7 +8,7 @@ use Rattle.rbg_macro.specs.declared.error.MacroError.TheVariants.{ArgumentCount}
 use Rattle.rbg_tokens.specs.Kinds.{is_open_parenthesis}
 use Rattle.rbg_macro.specs.Call.{Arguments, arguments, Nesting, Within, Cuts, Ends, Mismatched, Calls, NoCall, meets}
 use Rattle.rbg_macro.specs.Macro.{Macro, filled}
-use Rattle.rbg_macro.specs.internal.Template.{piece_in, lists_in}
+use Rattle.rbg_macro.specs.internal.Template.{item_in, lists_in}
 use Rattle.rbg_tokens.specs.Token.{Lexeme}
 
 abbrev pub nesting_of : Effect → Nesting
@@ -27,7 +27,7 @@ pub record AreArguments (ts : List Lexeme) (lists : List (List Lexeme)) (n : ℕ
 
 -- a call that reading meets at a token
 pub record IsCall (macros : List Macro) (t : Lexeme) (ts : List Lexeme) (call : Call) : Type 0 where
-  pub meets : meets macros t ts ≡ Calls (filled (map piece_in call.body.now) (lists_in call.arguments.items))
+  pub meets : meets macros t ts ≡ Calls (filled (map item_in call.body.now) (lists_in call.arguments.items))
       (drop call.len ts)
   pub within : call.len ≤ length ts
 

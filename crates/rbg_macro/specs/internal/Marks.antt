@@ -3,12 +3,12 @@ use Rattle.std.specs.Prelude.{ℕ, ◌≡◌, List, map, Option, None, Some, Mat
 use Rattle.std.specs.Borrow.{Bor}
 use Rattle.std.specs.List.{All}
 use Rattle.rbg_macro.specs.declared.call.Call.{Call}
-use Rattle.rbg_macro.specs.declared.macros.Piece.{Piece as KeptPiece}
-use Rattle.rbg_macro.specs.declared.macros.Piece.TheVariants as kept
+use Rattle.rbg_macro.specs.declared.macros.BodyItem.{BodyItem as KeptItem}
+use Rattle.rbg_macro.specs.declared.macros.BodyItem.TheVariants as kept
 use Rattle.rbg_macro.specs.declared.macros.Template.{Template}
 use Rattle.rbg_macro.specs.declared.read_token.ReadToken.{ReadToken}
 use Rattle.rbg_macro.specs.Macro.{Macro, macro_named}
-use Rattle.rbg_macro.specs.internal.Template.{macro_of, piece_in}
+use Rattle.rbg_macro.specs.internal.Template.{macro_of, item_in}
 use Rattle.rbg_macro.specs.internal.ReadTokens.{read_lexeme}
 use Rattle.rbg_tokens.specs.Token.{Lexeme}
 
@@ -38,15 +38,15 @@ pub record IsMarkedWord (macros : List Macro) (w : Word) : Type 0 where
 abbrev pub IsMarked : List Macro → ReadToken → Type 0
 IsMarked macros t = IsMarkedWord macros (word_of t)
 
-abbrev pub IsMarkedPiece : List Macro → KeptPiece → Type 0
-IsMarkedPiece macros (kept.Word t) = IsMarked macros t
-IsMarkedPiece macros (kept.Place k) = Unit {0}
+abbrev pub IsMarkedItem : List Macro → KeptItem → Type 0
+IsMarkedItem macros (kept.Word t) = IsMarked macros t
+IsMarkedItem macros (kept.Place k) = Unit {0}
 
 -- the template is that of the macro, and its tokens are marked
 pub record IsMarkedTemplate (macros : List Macro) (m : Macro) (template : Template) : Type 0 where
   pub parameters : template.parameters ≡ m.parameters
-  pub body : map piece_in template.body.items ≡ m.body
-  pub marked : All (IsMarkedPiece macros) template.body.items
+  pub body : map item_in template.body.items ≡ m.body
+  pub marked : All (IsMarkedItem macros) template.body.items
 
 -- the macro with this number has this template
 pub record IsTemplateAt (macros : List Macro) (n : ℕ) (template : Template) : Type 0 where
@@ -61,12 +61,12 @@ AreMarkedLists macros lists = All (λ l. All (IsMarked macros) l.now) lists
 pub record KeepsMarks (tokens : List ReadToken) (lists : List (Bor (List ReadToken))) : Type 0 where
   pub keeps : (macros : List Macro) → All (IsMarked macros) tokens → AreMarkedLists macros lists
 
--- the tokens are made of pieces and arguments, and where those are marked these are
-pub record FillsMarks (body : List KeptPiece) (arguments : List (Bor (List ReadToken))) (tokens : List ReadToken) : Type 0 where
-  pub fills : (macros : List Macro) → All (IsMarkedPiece macros) body → AreMarkedLists macros arguments →
+-- the tokens are made of items and arguments, and where those are marked these are
+pub record FillsMarks (body : List KeptItem) (arguments : List (Bor (List ReadToken))) (tokens : List ReadToken) : Type 0 where
+  pub fills : (macros : List Macro) → All (IsMarkedItem macros) body → AreMarkedLists macros arguments →
       All (IsMarked macros) tokens
 
 -- the body of the call and its arguments are marked
 pub record IsMarkedCall (macros : List Macro) (call : Call) : Type 0 where
-  pub body : All (IsMarkedPiece macros) call.body.now
+  pub body : All (IsMarkedItem macros) call.body.now
   pub arguments : AreMarkedLists macros call.arguments.items

@@ -1,20 +1,20 @@
 -- Macros and their bodies as the code represents them.
 use Rattle.std.specs.Prelude.{ℕ, ◌≡◌, List, map, Some}
 use Rattle.std.specs.Borrow.{Bor}
-use Rattle.rbg_macro.specs.declared.macros.Piece.{Piece as KeptPiece}
-use Rattle.rbg_macro.specs.declared.macros.Piece.TheVariants as kept
+use Rattle.rbg_macro.specs.declared.macros.BodyItem.{BodyItem as KeptItem}
+use Rattle.rbg_macro.specs.declared.macros.BodyItem.TheVariants as kept
 use Rattle.rbg_macro.specs.declared.macros.Template.{Template}
 use Rattle.rbg_macro.specs.declared.read_token.ReadToken.{ReadToken}
-use Rattle.rbg_macro.specs.Macro.{Macro, Piece, Word, Place, macro_named}
+use Rattle.rbg_macro.specs.Macro.{Macro, BodyItem, Word, Place, macro_named}
 use Rattle.rbg_macro.specs.internal.ReadTokens.{read_lexeme}
 use Rattle.rbg_tokens.specs.Token.{Lexeme}
 
-abbrev pub piece_in : KeptPiece → Piece
-piece_in (kept.Word t) = Word (read_lexeme t)
-piece_in (kept.Place k) = Place k
+abbrev pub item_in : KeptItem → BodyItem
+item_in (kept.Word t) = Word (read_lexeme t)
+item_in (kept.Place k) = Place k
 
 abbrev pub macro_of : List ℕ → Template → Macro
-macro_of name t = record { name = name; parameters = t.parameters; body = map piece_in t.body.items }
+macro_of name t = record { name = name; parameters = t.parameters; body = map item_in t.body.items }
 
 abbrev pub macro_in : Bor (List ℕ) × Template → Macro
 macro_in e = macro_of e.0.now e.1

@@ -4,7 +4,7 @@ use Rattle.std.proofs.lemmas.List.{length-map, take_rest}
 use Rattle.std.proofs.lemmas.Result.{err_from_is_err_and, IfErr-weaker, on_ok_weaker}
 use Rattle.rbg_macro.specs.Expansion.{FailsReading}
 use Rattle.rbg_macro.specs.Errors.{UnlessMemory}
-use Rattle.rbg_macro.specs.internal.Progress.{FailsJoined, reading}
+use Rattle.rbg_macro.specs.internal.ExpandedTokens.{FailsJoined, reading}
 use Rattle.rbg_macro.specs.internal.ReadTokens.{read_lexeme}
 use Rattle.rbg_macro.proofs.Exits.{unless_weaker}
 use Rattle.rbg_macro.proofs.JoinedLists.{joined_already}
@@ -13,7 +13,7 @@ use Rattle.rbg_macro.proofs.Reading.{nothing_read, token_kept, call_read, call_f
 use Rattle.rbg_macro.proofs.expansion.+expansion.Goals as goal
 
 pub read_joined-loop-at-init : goal.read_joined-loop-at-init
-read_joined-loop-at-init t c = nothing_read c.args.macros.now c.args.level c.args.list.now c.args.progress.now c.requires.within
+read_joined-loop-at-init t c = nothing_read c.args.macros.now c.args.level c.args.list.now c.args.expanded.now c.requires.within
 
 pub read_joined-returns-in_err-keep-in-None-clause-err :
     goal.read_joined-returns-in_err-keep-in-None-clause-err
@@ -21,8 +21,8 @@ read_joined-returns-in_err-keep-in-None-clause-err t c =
     let p = err_from_is_err_and c.from_residual-in_err-keep-in-None.result c.from_residual-in_err-keep-in-None.ensures.1 in
     let within : c.loop-at.at + 1 ≤ length c.args.list.now = omega arith in
     let met = rw c.in-None.is at c.in_ok-body_of_call.ensures.ok in
-    rw (p.1, p.2) (unless_weaker _ (FailsReading c.args.macros.now c.args.level c.args.progress.now.read (length c.args.progress.now.kept) (map read_lexeme c.args.list.now))
-    (λ f many. token_too_many c.args.macros.now c.args.level c.args.list.now _ c.loop-at.at _ c.args.progress.now c.loop-at.progress f c.loop-at.invariant c.loop-at-test.true
+    rw (p.1, p.2) (unless_weaker _ (FailsReading c.args.macros.now c.args.level c.args.expanded.now.read (length c.args.expanded.now.kept) (map read_lexeme c.args.list.now))
+    (λ f many. token_too_many c.args.macros.now c.args.level c.args.list.now _ c.loop-at.at _ c.args.expanded.now c.loop-at.expanded f c.loop-at.invariant c.loop-at-test.true
     (take_rest c.args.list.now (c.loop-at.at + 1)) met many)
     c.in_err-keep-in-None.field-0.0 c.in_err-keep-in-None.ensures.err)
 
@@ -30,7 +30,7 @@ pub read_joined-loop-at-preserved-in-None : goal.read_joined-loop-at-preserved-i
 read_joined-loop-at-preserved-in-None t c =
     let within : c.loop-at.at + 1 ≤ length c.args.list.now = omega arith in
     let met = rw c.in-None.is at c.in_ok-body_of_call.ensures.ok in
-    token_kept c.args.macros.now c.args.level c.args.list.now _ c.loop-at.at _ c.args.progress.now c.loop-at.progress c.keep.new.self c.loop-at.invariant c.loop-at-test.true
+    token_kept c.args.macros.now c.args.level c.args.list.now _ c.loop-at.at _ c.args.expanded.now c.loop-at.expanded c.keep.new.self c.loop-at.invariant c.loop-at-test.true
     (take_rest c.args.list.now (c.loop-at.at + 1)) met c.in_ok-keep-in-None.ensures.ok c.in_ok-keep-in-None.ensures.fits
 
 pub read_joined-returns-in_err-read_list-in-Some-clause-err :
@@ -39,11 +39,11 @@ read_joined-returns-in_err-read_list-in-Some-clause-err t c =
     let p = err_from_is_err_and c.from_residual-in_err-read_list-in-Some.result c.from_residual-in_err-read_list-in-Some.ensures.1 in
     let within : c.loop-at.at + 1 ≤ length c.args.list.now = omega arith in
     let way = rw c.in-Some.is at c.in_ok-body_of_call.ensures.ok in
-    let counted : c.count.new.self ≡ record c.loop-at.progress { read = c.loop-at.progress.read + length (map read_lexeme c.in-Some.body.items) } =
-    c.count.ensures ∙ ap (λ (n : ℕ). record c.loop-at.progress { read = c.loop-at.progress.read + n })
+    let counted : c.count.new.self ≡ record c.loop-at.expanded { read = c.loop-at.expanded.read + length (map read_lexeme c.in-Some.body.items) } =
+    c.count.ensures ∙ ap (λ (n : ℕ). record c.loop-at.expanded { read = c.loop-at.expanded.read + n })
     (c.len.ensures ∙ c.in-Some.body.ok.0 ∙ sym (length-map c.in-Some.body.items read_lexeme)) in
-    rw (p.1, p.2) (unless_weaker _ (FailsReading c.args.macros.now c.args.level c.args.progress.now.read (length c.args.progress.now.kept) (map read_lexeme c.args.list.now))
-    (λ f fails. call_fails c.args.macros.now c.args.level c.args.list.now _ c.loop-at.at c.in-Some.len _ (map read_lexeme c.in-Some.body.items) c.args.progress.now c.loop-at.progress
+    rw (p.1, p.2) (unless_weaker _ (FailsReading c.args.macros.now c.args.level c.args.expanded.now.read (length c.args.expanded.now.kept) (map read_lexeme c.args.list.now))
+    (λ f fails. call_fails c.args.macros.now c.args.level c.args.list.now _ c.loop-at.at c.in-Some.len _ (map read_lexeme c.in-Some.body.items) c.args.expanded.now c.loop-at.expanded
     c.count.new.self f c.loop-at.invariant c.loop-at-test.true (take_rest c.args.list.now (c.loop-at.at + 1)) way counted fails)
     c.in_err-read_list-in-Some.field-0.0 (rw c.deref.ensures.value at c.in_err-read_list-in-Some.ensures.err))
 
@@ -51,15 +51,15 @@ pub read_joined-loop-at-preserved : goal.read_joined-loop-at-preserved
 read_joined-loop-at-preserved t c =
     let within : c.loop-at.at + 1 ≤ length c.args.list.now = omega arith in
     let way = rw c.in-Some.is at c.in_ok-body_of_call.ensures.ok in
-    let counted : c.count.new.self ≡ record c.loop-at.progress { read = c.loop-at.progress.read + length (map read_lexeme c.in-Some.body.items) } =
-    c.count.ensures ∙ ap (λ (n : ℕ). record c.loop-at.progress { read = c.loop-at.progress.read + n })
+    let counted : c.count.new.self ≡ record c.loop-at.expanded { read = c.loop-at.expanded.read + length (map read_lexeme c.in-Some.body.items) } =
+    c.count.ensures ∙ ap (λ (n : ℕ). record c.loop-at.expanded { read = c.loop-at.expanded.read + n })
     (c.len.ensures ∙ c.in-Some.body.ok.0 ∙ sym (length-map c.in-Some.body.items read_lexeme)) in
-    call_read c.args.macros.now c.args.level c.args.list.now _ c.loop-at.at c.in-Some.len _ (map read_lexeme c.in-Some.body.items) c.args.progress.now c.loop-at.progress
-    c.count.new.self c.read_list.new.progress c.loop-at.invariant c.loop-at-test.true (take_rest c.args.list.now (c.loop-at.at + 1)) way counted (rw c.deref.ensures.value at c.in_ok-read_list-in-Some.ensures.ok)
+    call_read c.args.macros.now c.args.level c.args.list.now _ c.loop-at.at c.in-Some.len _ (map read_lexeme c.in-Some.body.items) c.args.expanded.now c.loop-at.expanded
+    c.count.new.self c.read_list.new.expanded c.loop-at.invariant c.loop-at-test.true (take_rest c.args.list.now (c.loop-at.at + 1)) way counted (rw c.deref.ensures.value at c.in_ok-read_list-in-Some.ensures.ok)
 
 pub read_joined-returns-clause-ok : goal.read_joined-returns-clause-ok
 read_joined-returns-clause-ok t c =
-    all_read c.args.macros.now c.args.level c.args.list.now c.loop-at.at c.args.progress.now c.loop-at.progress c.loop-at.invariant c.loop-at-test.false
+    all_read c.args.macros.now c.args.level c.args.list.now c.loop-at.at c.args.expanded.now c.loop-at.expanded c.loop-at.invariant c.loop-at-test.false
 
 pub read_list-returns-then-not-has_tilde-clause-ok : goal.read_list-returns-then-not-has_tilde-clause-ok
 read_list-returns-then-not-has_tilde-clause-ok t c =
@@ -69,8 +69,8 @@ read_list-returns-then-not-has_tilde-clause-ok t c =
 
 pub read_list-returns-then-not-has_tilde-clause-err : goal.read_list-returns-then-not-has_tilde-clause-err
 read_list-returns-then-not-has_tilde-clause-err t c =
-    IfErr-weaker c.read_joined.result _ (UnlessMemory (FailsJoined c.args.macros.now c.args.level (map read_lexeme c.args.list.now) c.args.progress.now))
-    (λ e fails. unless_weaker _ (FailsJoined c.args.macros.now c.args.level (map read_lexeme c.args.list.now) c.args.progress.now)
+    IfErr-weaker c.read_joined.result _ (UnlessMemory (FailsJoined c.args.macros.now c.args.level (map read_lexeme c.args.list.now) c.args.expanded.now))
+    (λ e fails. unless_weaker _ (FailsJoined c.args.macros.now c.args.level (map read_lexeme c.args.list.now) c.args.expanded.now)
     (λ f h. reading _ (joined_already c.args.list.now (sym c.has_tilde.ensures ∙ c.if-not-has_tilde.true)) h) e fails)
     c.read_joined.ensures.err
 
@@ -94,7 +94,7 @@ read_list-returns-clause-ok t c =
 
 pub read_list-returns-clause-err : goal.read_list-returns-clause-err
 read_list-returns-clause-err t c =
-    IfErr-weaker c.read_joined-2.result _ (UnlessMemory (FailsJoined c.args.macros.now c.args.level (map read_lexeme c.args.list.now) c.args.progress.now))
-    (λ e fails. unless_weaker _ (FailsJoined c.args.macros.now c.args.level (map read_lexeme c.args.list.now) c.args.progress.now)
+    IfErr-weaker c.read_joined-2.result _ (UnlessMemory (FailsJoined c.args.macros.now c.args.level (map read_lexeme c.args.list.now) c.args.expanded.now))
+    (λ e fails. unless_weaker _ (FailsJoined c.args.macros.now c.args.level (map read_lexeme c.args.list.now) c.args.expanded.now)
     (λ f h. reading _ c.in_ok-joined.ensures.joined (rw (← lexemes_of_words c.in_ok-tokens.tokens.items c.in_ok-joined.joined c.in_ok-tokens.ensures) h)) e fails)
     (rw c.deref.ensures.value at c.read_joined-2.ensures.err)

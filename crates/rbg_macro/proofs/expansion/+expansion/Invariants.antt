@@ -11,7 +11,7 @@ abbrev pub decreases-read_joined : goal.decreases-read_joined
 decreases-read_joined l = 2 * (MAX_LEVEL - l.level)
 
 abbrev pub invariant-read_joined-loop-at : goal.invariant-read_joined-loop-at
-invariant-read_joined-loop-at l = HasRead l.macros l.level l.list l.at l.fn.progress l.progress
+invariant-read_joined-loop-at l = HasRead l.macros l.level l.list l.at l.fn.expanded l.expanded
 
 abbrev pub decreases-read_joined-loop-at : goal.decreases-read_joined-loop-at
 decreases-read_joined-loop-at l = length l.list - l.at

@@ -1,10 +1,10 @@
--- The tokens so far are those of the pieces so far.
+-- The tokens so far are those of the items so far.
 use Rattle.std.proofs.Common.{◌≡◌, map, take}
 use Rattle.rbg_macro.specs.Macro.{filled}
 use Rattle.rbg_macro.specs.internal.Marks.{FillsMarks}
-use Rattle.rbg_macro.specs.internal.Template.{piece_in, lists_in}
+use Rattle.rbg_macro.specs.internal.Template.{item_in, lists_in}
 use Rattle.rbg_macro.specs.internal.ReadTokens.{read_lexeme}
 use Rattle.rbg_macro.proofs.filling.fill.Given as goal
 
-abbrev pub invariant-loop-piece : goal.invariant-loop-piece
-invariant-loop-piece l = (map read_lexeme l.tokens.items ≡ filled (map piece_in (take l.piece-index l.body)) (lists_in l.arguments)) × FillsMarks l.body l.arguments l.tokens.items
+abbrev pub invariant-loop-item : goal.invariant-loop-item
+invariant-loop-item l = (map read_lexeme l.tokens.items ≡ filled (map item_in (take l.item-index l.body)) (lists_in l.arguments)) × FillsMarks l.body l.arguments l.tokens.items

@@ -1,8 +1,8 @@
--- If a piece doesn't fit, the body doesn't.
+-- If an item doesn't fit, the body doesn't.
 use Rattle.rbg_macro.proofs.Filled.{too_long}
 use Rattle.rbg_macro.proofs.filling.filled_len.Goals as goal
 
 pub returns-then-more-room : goal.returns-then-more-room
 returns-then-more-room c =
-    too_long c.args.body.now c.args.arguments.now c.loop-piece.piece-index c.loop-piece.len c.args.room c.piece_len-more.result _
-    c.loop-piece.invariant c.loop-piece-test.true c.piece_len-more.ensures c.if-more-room.true
+    too_long c.args.body.now c.args.arguments.now c.loop-item.item-index c.loop-item.len c.args.room c.item_len-more.result _
+    c.loop-item.invariant c.loop-item-test.true c.item_len-more.ensures c.if-more-room.true

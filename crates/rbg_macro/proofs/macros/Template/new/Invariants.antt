@@ -1,9 +1,9 @@
 -- The body so far is that of the tokens so far.
 use Rattle.std.proofs.Common.{◌≡◌, map, take}
 use Rattle.rbg_macro.specs.Macro.{body_of}
-use Rattle.rbg_macro.specs.internal.Template.{piece_in, texts_in}
+use Rattle.rbg_macro.specs.internal.Template.{item_in, texts_in}
 use Rattle.rbg_tokens.specs.Token.{lexeme_of}
 use Rattle.rbg_macro.proofs.macros.Template.new.Given as goal
 
 abbrev pub invariant-loop-token : goal.invariant-loop-token
-invariant-loop-token l = map piece_in l.body.items ≡ body_of (texts_in l.parameters.keys) (map lexeme_of (take l.token-index l.tokens))
+invariant-loop-token l = map item_in l.body.items ≡ body_of (texts_in l.parameters.keys) (map lexeme_of (take l.token-index l.tokens))

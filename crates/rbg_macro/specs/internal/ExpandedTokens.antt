@@ -2,7 +2,7 @@
 use Rattle.std.specs.Prelude.{ℕ, ◌≡◌, ◌+◌, ◌<◌, ◌≤◌, List, ◌++◌, length, drop, Ok, Err}
 use Rattle.rbg_macro.specs.declared.error.MacroError.{MacroError}
 use Rattle.rbg_macro.specs.declared.error.MacroError.TheVariants.{TooManyTokens}
-use Rattle.rbg_macro.specs.declared.expansion.Progress.{Progress}
+use Rattle.rbg_macro.specs.declared.expansion.ExpandedTokens.{ExpandedTokens}
 use Rattle.rbg_macro.specs.Limits.{most_kept, deepest_level, most_read}
 use Rattle.rbg_macro.specs.declared.source.SectionSpan.{SectionSpan}
 use Rattle.rbg_macro.specs.Call.{Calls, meets}
@@ -13,12 +13,12 @@ use Rattle.rbg_tokens.specs.Token.{Lexeme}
 use Rattle.rbg_macro.specs.Sections.{SectionTokens}
 
 -- no more tokens were read and kept than the limits allow
-pub record IsWithinLimits (p : Progress) : Type 0 where
+pub record IsWithinLimits (p : ExpandedTokens) : Type 0 where
   pub read : p.read ≤ most_read
   pub kept : length p.kept ≤ most_kept
 
--- a joined list of level d was read from the old progress to the new one
-pub record ReadsOn (macros : List Macro) (d : ℕ) (js : List Lexeme) (old new : Progress) : Type 0 where
+-- a joined list of level d was read from the old expanded to the new one
+pub record ReadsOn (macros : List Macro) (d : ℕ) (js : List Lexeme) (old new : ExpandedTokens) : Type 0 where
   pub added : List Lexeme
   pub spent : ℕ
   pub reads : Reads macros d js added spent
@@ -27,13 +27,13 @@ pub record ReadsOn (macros : List Macro) (d : ℕ) (js : List Lexeme) (old new :
   pub within : IsWithinLimits new
 
 -- the same of a list that was counted but isn't joined yet
-pub record ReadsJoined (macros : List Macro) (d : ℕ) (ts : List Lexeme) (old new : Progress) : Type 0 where
+pub record ReadsJoined (macros : List Macro) (d : ℕ) (ts : List Lexeme) (old new : ExpandedTokens) : Type 0 where
   pub js : List Lexeme
   pub joins : joined ts ≡ Ok js
   pub reads : ReadsOn macros d js old new
 
 -- the first fault of such a list
-pub data FailsJoined (macros : List Macro) (d : ℕ) (ts : List Lexeme) (old : Progress) (e : MacroError) : Type 0 where
+pub data FailsJoined (macros : List Macro) (d : ℕ) (ts : List Lexeme) (old : ExpandedTokens) (e : MacroError) : Type 0 where
   no_join : joined ts ≡ Err e → FailsJoined macros d ts old e
   reading : (js : List Lexeme) → joined ts ≡ Ok js → FailsReading macros d old.read (length old.kept) js e →
       FailsJoined macros d ts old e
@@ -52,7 +52,7 @@ pub record IsTooMany (e : MacroError) (P : Type 0) : Type 0 where
   pub holds : P
 
 -- a section was expanded, and its tokens are at this place
-pub record ReadsSection (macros : List Macro) (s : SectionTokens) (old new : Progress)
+pub record ReadsSection (macros : List Macro) (s : SectionTokens) (old new : ExpandedTokens)
     (span : SectionSpan) : Type 0 where
   pub added : List Lexeme
   pub spent : ℕ
