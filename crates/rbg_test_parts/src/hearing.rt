@@ -1,4 +1,6 @@
 //! A player hears the small game of docs/PROTOCOL.md, and streams that have a fault.
+ghost use Rattle.std.specs.Prelude.{◌<◌};
+
 use rbg_player::{Chooser, FirstChooser, Heard, MAX_CHOICES, Player, PlayerError};
 use rbg_wire::read_outcome;
 use std::alloc::Global;
