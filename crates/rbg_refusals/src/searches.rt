@@ -1,0 +1,272 @@
+//! Runs of questions about moves, and of the counting of their sequences.
+ghost use Rattle.std.specs.Prelude.{IfOk};
+ghost use Rattle.rbg_rules.specs.Places.{IsPlaceOf};
+ghost use Rattle.rbg_rules.specs.State.{IsStateOf};
+
+use crate::games::{PATTERN, SQUARES, STAR, WALK, played};
+use crate::stop::Stop;
+use crate::telling::{tell_kept, tell_memory};
+use rbg_auto::{Compact, Expr, Steps, compact};
+use rbg_base::{Move, Pair, Position};
+use rbg_game::{Game, load};
+use rbg_moves::{Listed, Over, Place, PlayedGame, Workspace};
+use rbg_perft::{CountError, count_from_start};
+use rbg_search::{Budget, Origin, Reached, Search};
+use rbg_state::SemiState;
+use std::alloc::Global;
+use std::io::{self, Write};
+
+/// The move that is tried in the game of the star: two offs, and the switch.
+const STAR_MOVE: [(u32, Position); 3] = [(0, 2), (0, 2), (0, 3)];
+
+/// The move that is tried in the game of the pattern.
+const PATTERN_MOVE: [(u32, Position); 2] = [(1, 7), (1, 8)];
+
+/// How many moves are listed at most.
+const LISTED: usize = 20;
+
+/// How many moves the sequences have that are counted.
+const COUNTED: u8 = 3;
+
+/// What a search may take up.
+const BUDGET: Budget = Budget {
+    openings: 100_000,
+    modifiers: 200,
+};
+
+/// Where the pattern stands that is asked alone.
+const ASKED: Position = 3;
+
+/// Makes the run of a name, if it is one of these, and tells whether it is.
+pub fn run<W: Write>(alloc: Global, name: &str, output: &mut W) -> Result<bool, Stop> {
+    match name {
+        "find-star" => find(alloc, STAR, output)?,
+        "try-star" => try_pairs(alloc, STAR, &STAR_MOVE, output)?,
+        "list-star" => list(alloc, STAR, output)?,
+        "find-pattern" => find(alloc, PATTERN, output)?,
+        "try-pattern" => try_pairs(alloc, PATTERN, &PATTERN_MOVE, output)?,
+        "list-pattern" => list(alloc, PATTERN, output)?,
+        "reach" => reach(alloc, output)?,
+        "pattern" => pattern(alloc, output)?,
+        "count" => count(alloc, output)?,
+        _ => return Ok(false),
+    }
+    Ok(true)
+}
+
+/// Says why there is no answer.
+fn tell_over<W: Write>(over: Over, output: &mut W) -> io::Result<()> {
+    match over {
+        Over::Memory => tell_memory(output),
+        Over::Deep => output.write_all(b"too deep\n"),
+        Over::Wide => output.write_all(b"too wide\n"),
+    }
+}
+
+/// The pairs of a move, in a line.
+fn tell_move<W: Write>(pairs: &Move, output: &mut W) -> io::Result<()> {
+    output.write_all(b"move")?;
+    for pair in pairs.as_slice() {
+        write!(output, " {} {}", pair.vertex, pair.position)?;
+    }
+    output.write_all(b"\n")
+}
+
+/// The place after the keeper's switch to white, at position 1.
+fn white_to_move(game: &PlayedGame) -> Result<Place, Stop>
+    ensures { IfOk result (IsPlaceOf game.now) }
+{
+    let start = game.start()?;
+    let switch = Move::new(Pair {
+        vertex: 0,
+        position: 1,
+    });
+    let to = game.try_move(&start, &switch)?;
+    let place = to.ok_or(Stop::Wrong)?;
+    Ok(place)
+}
+
+/// Finds a move of white.
+fn find<W: Write>(alloc: Global, text: &[u8], output: &mut W) -> Result<(), Stop> {
+    let game = played(alloc, text)?;
+    let place = white_to_move(&game)?;
+    Ok(tell_found(&game, &place, output)?)
+}
+
+fn tell_found<W: Write>(game: &PlayedGame, place: &Place, output: &mut W) -> io::Result<()>
+    requires { IsPlaceOf game.now place.now }
+{
+    match game.find_move(place) {
+        Ok(Some(pairs)) => tell_move(&pairs, output),
+        Ok(None) => output.write_all(b"no move\n"),
+        Err(over) => tell_over(over, output),
+    }
+}
+
+/// Tries a move of white.
+fn try_pairs<W: Write>(
+    alloc: Global,
+    text: &[u8],
+    pairs: &[(u32, Position)],
+    output: &mut W,
+) -> Result<(), Stop> {
+    let pairs = move_of(pairs)?;
+    let game = played(alloc, text)?;
+    let place = white_to_move(&game)?;
+    Ok(tell_tried(&game, &place, &pairs, output)?)
+}
+
+fn tell_tried<W: Write>(
+    game: &PlayedGame,
+    place: &Place,
+    pairs: &Move,
+    output: &mut W,
+) -> io::Result<()>
+    requires { IsPlaceOf game.now place.now }
+{
+    match game.try_move(place, pairs) {
+        Ok(Some(to)) => tell_place(&to, output),
+        Ok(None) => output.write_all(b"not legal\n"),
+        Err(over) => tell_over(over, output),
+    }
+}
+
+/// The move of these pairs. It takes no memory.
+fn move_of(pairs: &[(u32, Position)]) -> Result<Move, Stop> {
+    let Some(((vertex, position), others)) = pairs.split_first() else {
+        return Err(Stop::Wrong);
+    };
+    let mut whole = Move::new(Pair {
+        vertex: *vertex,
+        position: *position,
+    });
+    for (vertex, position) in others {
+        if whole.is_full() {
+            return Err(Stop::Wrong);
+        }
+        whole.push(Pair {
+            vertex: *vertex,
+            position: *position,
+        });
+    }
+    Ok(whole)
+}
+
+/// Who is to move at a place, where, and what stands on the board.
+fn tell_place<W: Write>(place: &Place, output: &mut W) -> io::Result<()> {
+    writeln!(output, "player {}", place.state.player())?;
+    writeln!(output, "vertex {}", place.state.vertex())?;
+    writeln!(output, "after {:?}", place.after)?;
+    for piece in place.state.pieces() {
+        writeln!(output, "piece {piece}")?;
+    }
+    Ok(())
+}
+
+/// Lists the moves of white.
+fn list<W: Write>(alloc: Global, text: &[u8], output: &mut W) -> Result<(), Stop> {
+    let game = played(alloc, text)?;
+    let place = white_to_move(&game)?;
+    Ok(tell_list(&game, &place, output)?)
+}
+
+fn tell_list<W: Write>(game: &PlayedGame, place: &Place, output: &mut W) -> io::Result<()>
+    requires { IsPlaceOf game.now place.now }
+{
+    match game.list_moves(place, LISTED) {
+        Ok(listed) => tell_listed(&listed, output),
+        Err(over) => tell_over(over, output),
+    }
+}
+
+fn tell_listed<W: Write>(listed: &Listed, output: &mut W) -> io::Result<()> {
+    for pairs in &listed.moves {
+        tell_move(pairs, output)?;
+    }
+    writeln!(output, "cut {}", listed.cut)
+}
+
+/// Asks what is reached from the start.
+fn reach<W: Write>(alloc: Global, output: &mut W) -> Result<(), Stop> {
+    let game = load(alloc, WALK)?;
+    let steps = compact(alloc, &game)?;
+    let mut place = Place::start(alloc, &game)?;
+    reach_from(alloc, &game, &steps, &mut place.state, output)
+}
+
+/// Asks what is reached, and compares the semi-state that is lent with a copy taken before.
+fn reach_from<W: Write>(
+    alloc: Global,
+    game: &Game,
+    steps: &Compact,
+    state: &mut SemiState,
+    output: &mut W,
+) -> Result<(), Stop>
+    requires steps { ⟦<Compact as Steps>⟧.of_rules steps.now game.now.rules }
+    requires state { IsStateOf game.now state.old.state }
+{
+    let _positions = game.positions();
+    let copy = state.try_clone()?;
+    let answer = Search::new(alloc, game, steps, BUDGET).reach(state, Origin::Begin(Expr::Rules));
+    match answer {
+        Ok(reached) => tell_reached(&reached, output)?,
+        Err(over) => tell_over(over, output)?,
+    }
+    Ok(tell_kept("semi-state is", *state == copy, output)?)
+}
+
+fn tell_reached<W: Write>(reached: &Reached, output: &mut W) -> io::Result<()> {
+    for (vertex, position) in &reached.pairs {
+        writeln!(output, "reached {vertex} {position}")?;
+    }
+    writeln!(output, "ends {}", reached.ends)
+}
+
+/// Asks a pattern at the start.
+fn pattern<W: Write>(alloc: Global, output: &mut W) -> Result<(), Stop> {
+    let game = load(alloc, WALK)?;
+    let steps = compact(alloc, &game)?;
+    let mut place = Place::start(alloc, &game)?;
+    ask_pattern(alloc, &game, &steps, &mut place.state, output)
+}
+
+/// Asks a pattern, and compares the semi-state that is lent with a copy taken before.
+fn ask_pattern<W: Write>(
+    alloc: Global,
+    game: &Game,
+    steps: &Compact,
+    state: &mut SemiState,
+    output: &mut W,
+) -> Result<(), Stop>
+    requires steps { ⟦<Compact as Steps>⟧.of_rules steps.now game.now.rules }
+    requires state { IsStateOf game.now state.old.state }
+{
+    if game.positions() < ASKED as usize || !game.is_pattern(ASKED) {
+        return Err(Stop::Wrong);
+    }
+    let copy = state.try_clone()?;
+    let answer = Search::new(alloc, game, steps, BUDGET).pattern(state, ASKED);
+    match answer {
+        Ok(valid) => writeln!(output, "valid {valid}")?,
+        Err(over) => tell_over(over, output)?,
+    }
+    Ok(tell_kept("semi-state is", *state == copy, output)?)
+}
+
+/// Counts the sequences of three moves from the beginning of play.
+fn count<W: Write>(alloc: Global, output: &mut W) -> Result<(), Stop> {
+    let game = played(alloc, SQUARES)?;
+    Ok(tell_count(alloc, &game, output)?)
+}
+
+fn tell_count<W: Write>(alloc: Global, game: &PlayedGame, output: &mut W) -> io::Result<()> {
+    match count_from_start(game, COUNTED, &mut Workspace::new(alloc)) {
+        Ok(counts) => writeln!(
+            output,
+            "sequences {}, ended {}",
+            counts.sequences, counts.ended
+        ),
+        Err(CountError::Memory) => tell_memory(output),
+        Err(error) => writeln!(output, "{error:?}"),
+    }
+}

@@ -1,0 +1,72 @@
+//! Why a run tells no more.
+
+use rbg_base::Memory;
+use rbg_game::LoadError;
+use rbg_match::MatchError;
+use rbg_moves::Over;
+use rbg_wire::WireError;
+use std::alloc::AllocFailed;
+use std::io;
+
+/// Why a run tells no more.
+#[derive(Debug, Drop)]
+pub enum Stop {
+    /// Memory was refused before the call that the run is about.
+    Setup,
+    /// What comes before that call answers otherwise than it does with ample memory.
+    Wrong,
+    /// The output can't be written.
+    Output(io::Error),
+}
+
+impl From<io::Error> for Stop {
+    fn from(error: io::Error) -> Stop {
+        Stop::Output(error)
+    }
+}
+
+impl From<Memory> for Stop {
+    fn from(_memory: Memory) -> Stop {
+        Stop::Setup
+    }
+}
+
+impl<T: Drop> From<AllocFailed<T>> for Stop {
+    fn from(_error: AllocFailed<T>) -> Stop {
+        Stop::Setup
+    }
+}
+
+impl From<LoadError> for Stop {
+    fn from(error: LoadError) -> Stop {
+        if error.is_memory() {
+            Stop::Setup
+        } else {
+            Stop::Wrong
+        }
+    }
+}
+
+impl From<Over> for Stop {
+    fn from(over: Over) -> Stop {
+        match over {
+            Over::Memory => Stop::Setup,
+            Over::Deep | Over::Wide => Stop::Wrong,
+        }
+    }
+}
+
+impl From<MatchError> for Stop {
+    fn from(error: MatchError) -> Stop {
+        match error {
+            MatchError::Memory => Stop::Setup,
+            MatchError::Config => Stop::Wrong,
+        }
+    }
+}
+
+impl From<WireError> for Stop {
+    fn from(_error: WireError) -> Stop {
+        Stop::Wrong
+    }
+}

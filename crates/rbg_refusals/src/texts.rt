@@ -1,0 +1,135 @@
+//! Runs of what reads a description: `load`, `expand`, and the two forms of the automaton.
+
+use crate::games::{GAME, MACROS, WALK};
+use crate::limits::{DEEPEST, MOST_KEPT, MOST_READ, TOO_DEEP, TOO_MANY_KEPT, TOO_MANY_READ};
+use crate::stop::Stop;
+use crate::telling::{tell_memory, tell_numbers};
+use rbg_auto::{Expr, Steps, compact, compile};
+use rbg_base::Position;
+use rbg_game::{Game, load};
+use rbg_macro::{MacroError, Source, expand};
+use rbg_tokens::{TextError, Tokens, tokens};
+use std::alloc::Global;
+use std::io::{self, Write};
+
+/// A join that makes the name of a macro.
+const NAMES: &[u8] = b"#right2 = right right\n#k(n) = right~n\n#rules = k(2)";
+
+/// An argument whose name is a part of a longer one.
+const ARGUMENTS: &[u8] = b"#h(a) = ab a\n#rules = h(x)";
+
+/// How many tokens of a section are shown.
+const SHOWN: usize = 4;
+
+/// Makes the run of a name, if it is one of these, and tells whether it is.
+pub fn run<W: Write>(alloc: Global, name: &str, output: &mut W) -> Result<bool, Stop> {
+    match name {
+        "load" => tell_load(alloc, GAME, output)?,
+        "load-macros" => tell_load(alloc, MACROS, output)?,
+        "expand-names" => tell_expand(alloc, NAMES, output)?,
+        "expand-arguments" => tell_expand(alloc, ARGUMENTS, output)?,
+        "expand-deepest" => tell_expand(alloc, DEEPEST, output)?,
+        "expand-too-deep" => tell_expand(alloc, TOO_DEEP, output)?,
+        "expand-most-kept" => tell_expand(alloc, MOST_KEPT, output)?,
+        "expand-too-many-kept" => tell_expand(alloc, TOO_MANY_KEPT, output)?,
+        "expand-most-read" => tell_expand(alloc, MOST_READ, output)?,
+        "expand-too-many-read" => tell_expand(alloc, TOO_MANY_READ, output)?,
+        "compile" => tell_compile(alloc, output)?,
+        "compact" => tell_compact(alloc, output)?,
+        _ => return Ok(false),
+    }
+    Ok(true)
+}
+
+/// Loads a text, and tells its game.
+fn tell_load<W: Write>(alloc: Global, text: &[u8], output: &mut W) -> io::Result<()> {
+    match load(alloc, text) {
+        Ok(game) => tell_game(&game, output),
+        Err(error) => {
+            if error.is_memory() {
+                return tell_memory(output);
+            }
+            writeln!(output, "refused {error}")
+        }
+    }
+}
+
+/// How much a game has of everything, its board and its actions.
+fn tell_game<W: Write>(game: &Game, output: &mut W) -> io::Result<()> {
+    let board = game.board();
+    writeln!(output, "players {}", game.players())?;
+    writeln!(output, "pieces {}", game.pieces())?;
+    writeln!(output, "variables {}", game.variables())?;
+    writeln!(output, "directions {}", game.directions())?;
+    for vertex in 0..board.len() {
+        writeln!(output, "vertex {}", board.piece_at_start(vertex as u32))?;
+    }
+    for position in 1..=game.positions() {
+        writeln!(output, "{:?}", game.action(position as Position))?;
+    }
+    Ok(())
+}
+
+/// Expands the sections of a text, and tells them.
+fn tell_expand<W: Write>(alloc: Global, text: &[u8], output: &mut W) -> Result<(), Stop> {
+    let tokens = match tokens(alloc, text) {
+        Ok(tokens) => tokens,
+        Err(TextError::Memory) => return Err(Stop::Setup),
+        Err(_) => return Err(Stop::Wrong),
+    };
+    Ok(tell_expansion(alloc, &tokens, output)?)
+}
+
+fn tell_expansion<W: Write>(alloc: Global, tokens: &Tokens<'_>, output: &mut W) -> io::Result<()> {
+    match expand(alloc, tokens) {
+        Ok(source) => tell_sections(&source, output),
+        Err(MacroError::Memory) => tell_memory(output),
+        Err(error) => writeln!(output, "refused {error}"),
+    }
+}
+
+/// How many tokens each section has, and the first ones.
+fn tell_sections<W: Write>(source: &Source<'_>, output: &mut W) -> io::Result<()> {
+    for index in 0..source.len() {
+        let section = source.section(index);
+        writeln!(output, "tokens of {}: {}", section.kind(), section.len())?;
+        for at in 0..section.len().min(SHOWN) {
+            output.write_all(section.token(at).text)?;
+            output.write_all(b"\n")?;
+        }
+    }
+    Ok(())
+}
+
+/// Makes the plain form of an automaton, and tells it.
+fn tell_compile<W: Write>(alloc: Global, output: &mut W) -> Result<(), Stop> {
+    let game = load(alloc, WALK)?;
+    let positions = game.positions() as Position;
+    match compile(alloc, &game) {
+        Ok(automaton) => tell_steps(&automaton, positions, output)?,
+        Err(_) => tell_memory(output)?,
+    }
+    Ok(())
+}
+
+/// Makes the compact form of an automaton, and tells it.
+fn tell_compact<W: Write>(alloc: Global, output: &mut W) -> Result<(), Stop> {
+    let game = load(alloc, WALK)?;
+    let positions = game.positions() as Position;
+    match compact(alloc, &game) {
+        Ok(automaton) => tell_steps(&automaton, positions, output)?,
+        Err(_) => tell_memory(output)?,
+    }
+    Ok(())
+}
+
+/// What comes first, and what comes next behind each position to the last.
+fn tell_steps<S: Steps, W: Write>(steps: &S, last: Position, output: &mut W) -> io::Result<()> {
+    tell_numbers("first", steps.first(Expr::Rules), output)?;
+    for position in 0..=last {
+        tell_numbers("next", steps.next(position), output)?;
+        tell_numbers("inside", steps.first(Expr::Inside(position)), output)?;
+        writeln!(output, "may end {}", steps.may_end(position))?;
+    }
+    Ok(())
+}
