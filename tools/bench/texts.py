@@ -122,7 +122,7 @@ def at_the_limit(size):
     row = "[" + ",".join("e" * size) + "]"
     return (
         "#players = white(100), black(100)\n#pieces = e, w\n#variables = c(100)\n"
-        f"#board = rectangle(up,down,left,right,{','.join([row] * size)})\n"
+        f"#board = rectangle(up,down,left,right,{''.join([row] * size)})\n"
         "#rules = ->white ((up + down + left + right)* {$ c < 3} [w] [$ c = c + 1])* {} ->black\n"
     )
 
