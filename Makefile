@@ -8,8 +8,9 @@ CRATES := $(wildcard crates/*)
 # is rbg_test_search, whose 2,000 games take too long where each step is checked.
 STORED := $(filter-out $(patsubst crates/%/args,%,$(wildcard crates/*/args)) rbg_games,$(patsubst crates/%/stdin,%,$(wildcard crates/*/stdin)))
 TESTED := $(filter-out rbg_test_search,$(sort $(foreach file,$(shell grep -rl --include='*.rt' '^ *#\[test\]' crates),$(word 2,$(subst /, ,$(file))))))
-# The game of `make demo` and of `make clients`, and the port on which the clients' match is served.
+# The game of `make demo`, the games of `make clients`, and the port on which the clients' matches are served.
 GAME := crates/rbg_games/data/tictactoe.rbg
+GAMES := tictactoe connect_four breakthrough hex reversi
 PORT := 4710
 # How many cases `make compare` makes by chance, the seed of the first one, and the program that it runs.
 N := 10000
@@ -20,17 +21,19 @@ FIRST := 5000
 SPREAD := 100
 # How long a test may take without the proof: its build checks each step.
 SECONDS := 600
+# The requests for memory of the first match that `make try` refuses, one in each of ten runs.
+REFUSED := 1 2 5 10 20 50 100 150 200 300
 
-.PHONY: help run demo games clients compare refusals try build bench test check fmt clean
+.PHONY: help run demo games clients clients-match compare refusals try build bench test check fmt clean
 
 help:
 	@echo 'make run      referees the first match of README.md (crates/rbg_manager/stdin), with no proof'
 	@echo 'make demo     referees a match between two players over connections, and prints its record, with no proof'
-	@echo 'make games    checks each of the games that come with it, counts its first moves and referees a match, with no proof'
-	@echo 'make clients  lets two example clients play a match over ./rbg serve, and checks its record (after make build)'
+	@echo 'make games    checks each of the games that come with it, counts its first moves, compares both forms of its automaton and referees a match, with no proof'
+	@echo 'make clients  lets two example clients play matches of five games over ./rbg serve, and checks their records (after make build)'
 	@echo 'make compare  compares ./rbg with the interpreter of tools/slow, on stored cases and N=10000 others of SEED=1 (after make build)'
 	@echo 'make refusals refuses each request for memory in turn, and checks each answer; this alone needs gcc (after make build)'
-	@echo 'make try      runs the stored runs and the tests, with no proof; make -j4 try runs four at once'
+	@echo 'make try      runs the stored runs, ten with a request for memory refused, and the tests, with no proof; make -j4 try runs four at once'
 	@echo 'make build    proves the programs and what they stand on, and leaves them as ./rbg and ./rbg_author'
 	@echo 'make bench    prints the tables of docs/COSTS.md, by valgrind (after make build); SECTIONS="texts search" prints some'
 	@echo 'make test     the gate: every proof from nothing, the must-fail edits, each test, each program'
@@ -49,12 +52,17 @@ games:
 
 clients:
 	@test -x ./rbg || { echo 'make clients needs ./rbg: run make build first'; exit 1; }
+	@python3 -m doctest clients/rbg_rules.py
+	@for game in $(GAMES); do $(MAKE) --no-print-directory clients-match GAME=crates/rbg_games/data/$$game.rbg || exit 1; done
+
+# One match: the first player thinks, the second one chooses by chance.
+clients-match:
 	@record=$$(mktemp) && \
 	{ ./rbg serve $(GAME) --port $(PORT) > $$record & served=$$!; sleep 1; \
-	  python3 clients/rbg_player.py $(PORT) & first=$$!; sleep 1; \
+	  python3 clients/rbg_player.py $(PORT) --think 200 & first=$$!; sleep 1; \
 	  python3 clients/rbg_player.py $(PORT) --random 1 && wait $$first && wait $$served || \
 	  { kill $$first $$served 2> /dev/null; false; }; } && \
-	cat $$record && ./rbg replay $(GAME) $$record; status=$$?; rm -f $$record; exit $$status
+	echo $(notdir $(GAME)): $$(tail -1 $$record) && ./rbg replay $(GAME) $$record; status=$$?; rm -f $$record; exit $$status
 
 compare:
 	@test -x $(RBG) || { echo 'make compare needs $(RBG): run make build first, or give RBG=path'; exit 1; }
@@ -68,7 +76,15 @@ refusals:
 	python3 tools/refuse/refuse.py $$folder/refuse.so --rbg $(RBG) --refusals $(REFUSALS)/out/rbg_refusals --first $(FIRST) --spread $(SPREAD); \
 	status=$$?; rm -rf $$folder; exit $$status
 
-try: $(STORED:%=try-run-%) $(TESTED:%=try-test-%)
+try: $(STORED:%=try-run-%) $(REFUSED:%=try-memory-%) $(TESTED:%=try-test-%)
+
+try-memory-%:
+	@cd $(PROGRAM) && printed=$$(mktemp) && \
+	{ $(RT) try --seconds $(SECONDS) --fail-alloc $* < stdin > $$printed; status=$$?; \
+	  test $$status = 0 && cmp -s stdout $$printed && answer='what is wanted' || \
+	  { test $$status = 4 && echo memory | cmp -s - $$printed && answer=memory; } || \
+	  answer="status $$status, which may not be"; \
+	  rm $$printed; echo "request $* refused: $$answer"; test "$${answer%, *}" = "$$answer"; }
 
 try-run-%:
 	@cd crates/$* && printed=$$(mktemp) && $(RT) try --seconds $(SECONDS) < stdin > $$printed && diff stdout $$printed && rm $$printed

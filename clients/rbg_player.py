@@ -1,15 +1,21 @@
 #!/usr/bin/env python3
 """A player for `rbg serve`, as an example for authors of playing programs.
 
-It speaks the protocol of docs/PROTOCOL.md. By itself it plays only tic-tac-toe (crates/rbg_games/data/tictactoe.rbg):
-the first empty square, or one by chance. With --record it plays any game: it says the moves that a record has for it,
-as long as the match goes as the record says. If a move is refused, it says so and stops.
+It speaks the protocol of docs/PROTOCOL.md, and asks `rbg ask` for the rules, so it plays every game: by the first legal
+move, by chance (--random), or by playouts (--think). With --record it says the moves that a record has for it, as long
+as the match goes as the record says. If a move is refused, it says so and stops.
 """
 
 import argparse
+import itertools
 import random
 import socket
+import statistics
 import sys
+import tempfile
+import time
+
+from rbg_rules import Refused, Rules
 
 
 class Stream:
@@ -40,8 +46,6 @@ class Match:
         self.player = 0
         self.name = ""
         self.text = b""
-        self.turn_ms = 0
-        self.refusals = 0
         self.moves = []  # the pairs of each move that was made, the keeper's too
         self.refused = []  # the reasons of the refusals
         self.end = None
@@ -54,8 +58,6 @@ class Match:
             self.player, self.name = int(number), name
         elif letter == b"G":
             self.text = text
-        elif letter == b"L":
-            self.turn_ms, self.refusals = map(int, text.split())
         elif letter == b"M":
             self.moves.append(text.decode())
             return True
@@ -63,33 +65,72 @@ class Match:
             self.refused.append(int(text))
         elif letter == b"E":
             self.end = message.decode()
-        else:
+        elif letter != b"L":
             raise ValueError("not a message: %r" % message)
         return False
 
 
-class TicTacToe:
-    """Chooses moves of tic-tac-toe, whose rules have these positions.
+class Follower:
+    """Follows a match by the rules, and chooses a move where this player is to move.
 
-    The first player's mark is put by position 9 and followed by position 10, which ends the turn; the second player's
-    are 73 and 74. The keeper gives the turn to the first player by 3 and 131, and to the second by 67.
+    The referee tells the keeper's moves too, which the rules have made already: they are no legal moves of the player
+    who is then to move, and are passed over.
     """
 
-    MARKS = {1: (9, 10), 2: (73, 74)}
-    TURNS = {1: (3, 131), 2: (67,)}
-
-    def __init__(self, choose):
+    def __init__(self, choose, program):
         self.choose = choose
+        self.program = program
+        self.rules = None
+        self.followed = 0
+        self.has_said = False
+
+    def begin(self, text):
+        with tempfile.NamedTemporaryFile(suffix=".rbg") as file:
+            file.write(text)
+            file.flush()
+            self.rules = Rules(file.name, self.program)
+
+    def follow(self, pairs, player):
+        own = self.rules.player == player
+        try:
+            self.rules.make(pairs)
+        except Refused as refused:
+            if refused.args[0] != "illegal":
+                raise
+        else:
+            self.has_said = self.has_said and not own
 
     def move(self, match):
         """The pairs to say now, or None where it isn't this player's turn."""
-        moves = [list(map(int, pairs.split(" "))) for pairs in match.moves]
-        taken = [move[0] for move in moves if move[1] in (9, 73)]
-        if not moves or moves[-1][-1] not in self.TURNS[match.player] or len(taken) == 9:
+        if self.rules is None:
+            self.begin(match.text)
+        for pairs in match.moves[self.followed :]:
+            self.follow(pairs, match.player)
+        self.followed = len(match.moves)
+        if self.has_said or self.rules.player != match.player:
             return None
-        square = self.choose([v for v in range(9) if v not in taken])
-        mark, end = self.MARKS[match.player]
-        return "%d %d %d %d" % (square, mark, square, end)
+        self.has_said = True
+        return self.choose(self.rules)
+
+
+class Thinker:
+    """Chooses by playouts: each legal move in turn is played on by chance, until the time is over."""
+
+    def __init__(self, think_ms, chance):
+        self.seconds = think_ms / 1000
+        self.chance = chance
+
+    def __call__(self, rules):
+        end = time.monotonic() + self.seconds
+        player, moves = rules.player, rules.moves()
+        scores = {move: [] for move in moves}
+        for move in itertools.cycle(moves):
+            rules.make(move)
+            scores[move].append(rules.playout(self.chance)[player - 1])
+            rules.back()
+            if time.monotonic() >= end:
+                break
+        return max((move for move in moves if scores[move]), key=lambda move: statistics.mean(scores[move]))
 
 
 class Recorded:
@@ -128,11 +169,19 @@ def play(stream, chooser):
 def main():
     parser = argparse.ArgumentParser(description=__doc__.splitlines()[0])
     parser.add_argument("port", type=int, help="the port on 127.0.0.1 on which the match is served")
-    parser.add_argument("--random", type=int, metavar="SEED", help="choose squares by chance")
+    parser.add_argument("--random", type=int, metavar="SEED", help="choose by chance; the seed of --think")
+    parser.add_argument("--think", type=int, metavar="MS", help="choose by playouts for so long")
+    parser.add_argument("--rbg", default="./rbg", metavar="PROGRAM", help="the program rbg")
     parser.add_argument("--record", metavar="FILE", help="say the moves of a record")
     words = parser.parse_args()
-    choose = min if words.random is None else random.Random(words.random).choice
-    chooser = TicTacToe(choose)
+    chance = random.Random(words.random)
+    if words.think is not None:
+        choose = Thinker(words.think, chance)
+    elif words.random is not None:
+        choose = lambda rules: chance.choice(rules.moves())
+    else:
+        choose = lambda rules: rules.moves()[0]
+    chooser = Follower(choose, words.rbg)
     if words.record is not None:
         with open(words.record, encoding="ascii") as file:
             chooser = Recorded(file.read().splitlines())

@@ -7,7 +7,8 @@ ends with N above its requests, so that nothing was refused. Of a run with very 
 and then some that are spread over the rest.
 
 Each answer must be that of ample memory, byte for byte, or say that memory was refused, as told in `refusals_of`. A fault of
-the machine, a line on standard error or any other answer is printed, and the status is 1.
+the machine, a line on standard error or any other answer is printed, and the status is 1. Where each request of `referee` was
+refused in turn, each of its refusals must have been answered: one that says `Memory` and nothing of the match fails.
 """
 
 import argparse
@@ -112,6 +113,14 @@ class Refuser:
         return Answer(ran.returncode, ran.stdout.decode(errors="replace"), ran.stderr.decode(errors="replace"), requests)
 
 
+def never_answered(run, answers):
+    """The refusals of `referee` that no answer is. What comes before it need not be refused."""
+    if run.name != "referee":
+        return []
+    met = {(answer.status, answer.printed) for answer in answers}
+    return sorted(text for status, text in run.refusals if (status, text) not in met and "setup memory" not in text)
+
+
 def numbers_to_refuse(requests, first, spread):
     """The requests that are refused: the first ones, then some of the others at equal distances, and one that isn't made."""
     chosen = set(range(1, min(requests, first) + 1))
@@ -153,6 +162,9 @@ def try_run(refuser, run, pool, first, spread):
         if fault:
             faults += 1
             print(f"{run.name}: request {at} refused {way}: {fault}: status {answer.status}, {answer.printed!r} {answer.complained!r}")
+    for text in never_answered(run, answers) if len(numbers) > ample.requests else []:
+        faults += 1
+        print(f"{run.name}: no refused request is answered by {text!r}")
     tried = "each" if len(numbers) > ample.requests else f"{len(numbers) - 1} of them"
     told = ", ".join(f"{refused[way]} answered Memory where refused {way}" for way in WAYS)
     print(f"{run.name}: {ample.requests} requests, {tried} refused in turn; {told}", flush=True)

@@ -1,4 +1,6 @@
 //! Reading a whole input or a file, up to a limit.
+ghost use Rattle.std.specs.Prelude.{◌<◌, IfOk, length};
+ghost use Rattle.rbg_console.specs.Inputs.{IsReading};
 
 use std::alloc::{AllocError, Global};
 use std::io::{ErrorKind, Read};
@@ -30,17 +32,28 @@ pub trait Files {
 }
 
 /// Reads to the end, or until more than `limit` bytes have come.
-pub fn read_input<R: Read>(
+pub fn read_input<R: Read>(alloc: Global, reader: &mut R, limit: usize) -> Result<Input, AllocError>
+    ensures { IfOk result (IsReading limit (R.remaining reader.old) (R.remaining reader.new)) }
+{
+    let mut chunk = vec![in alloc; 0u8; CHUNK]?;
+    read_chunks(alloc, reader, chunk.as_mut_slice(), limit)
+}
+
+/// Reads as much at once as the room holds.
+fn read_chunks<R: Read>(
     alloc: Global,
     reader: &mut R,
+    room: &mut [u8],
     limit: usize,
-) -> Result<Input, AllocError> {
-    let mut chunk = vec![in alloc; 0u8; CHUNK]?;
+) -> Result<Input, AllocError>
+    requires { 0 < length room.old }
+    ensures { IfOk result (IsReading limit (R.remaining reader.old) (R.remaining reader.new)) }
+{
     let mut bytes = Vec::new(alloc);
     for _ in 0..MAX_READS {
-        match reader.read(chunk.as_mut_slice()) {
+        match reader.read(room) {
             Ok(0) => return Ok(Input::Whole(bytes)),
-            Ok(count) => bytes.extend_from_slice(&chunk[..count])?,
+            Ok(count) => bytes.extend_from_slice(&room[..count])?,
             Err(fault) => {
                 if fault.kind() != ErrorKind::Interrupted {
                     return Ok(Input::Device);

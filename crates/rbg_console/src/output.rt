@@ -1,17 +1,51 @@
 //! Writing what a program says.
+ghost use Rattle.std.specs.Prelude.{OnErr, OnOk};
+ghost use Rattle.std.specs.Io.KnownBytes.{Appends};
+ghost use Rattle.rbg_console.specs.Outputs.{AppendsFront, IsWritten};
 
 use crate::status::Status;
-use std::io::{self, Write};
+use std::io::{self, ErrorKind, Write};
+
+/// A writing ends as a fault of the device after this many writes.
+const MAX_WRITES: u32 = 20_000_000;
 
 /// Writes the text and returns the status, or `Status::Device` if the output fails.
-pub fn write_text<W: Write>(output: &mut W, text: &[u8], status: Status) -> Status {
+pub fn write_text<W: Write>(output: &mut W, text: &[u8], status: Status) -> Status
+    ensures { IsWritten (W.contents output.old) (W.contents output.new) text.now status result }
+{
     match write_and_flush(output, text) {
         Ok(()) => status,
         Err(_) => Status::Device,
     }
 }
 
-fn write_and_flush<W: Write>(output: &mut W, text: &[u8]) -> io::Result<()> {
-    output.write_all(text)?;
+fn write_and_flush<W: Write>(output: &mut W, text: &[u8]) -> io::Result<()>
+    ensures ok { OnOk result (Appends (W.contents output.old) (W.contents output.new) text.now) }
+    ensures err { OnErr result (AppendsFront (W.contents output.old) (W.contents output.new) text.now) }
+{
+    write_whole(output, text)?;
     output.flush()
+}
+
+/// Writes the text. Where a write fails, the front part before it stays written.
+fn write_whole<W: Write>(output: &mut W, text: &[u8]) -> io::Result<()>
+    ensures ok { OnOk result (Appends (W.contents output.old) (W.contents output.new) text.now) }
+    ensures err { OnErr result (AppendsFront (W.contents output.old) (W.contents output.new) text.now) }
+{
+    let mut rest = text;
+    for _ in 0..MAX_WRITES {
+        if rest.is_empty() {
+            return Ok(());
+        }
+        match output.write(rest) {
+            Ok(0) => return Err(io::Error::from(ErrorKind::WriteZero)),
+            Ok(count) => rest = &rest[count..],
+            Err(error) => {
+                if error.kind() != ErrorKind::Interrupted {
+                    return Err(error);
+                }
+            }
+        }
+    }
+    Err(io::Error::from(ErrorKind::TimedOut))
 }

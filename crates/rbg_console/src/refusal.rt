@@ -1,9 +1,23 @@
 //! A refused description as it is printed: the layer, the number and the name of the refusal, and its place or thing.
 
+ghost use Rattle.std.specs.Fmt.{DisplaysOnOk};
+ghost use Rattle.std.specs.Prelude.{◌≡◌, Some};
+ghost use Rattle.rbg_console.specs.Refusals.{
+  board_refusal,
+  game_refusal,
+  macro_refusal,
+  part_name,
+  refusal_text,
+  section_name,
+  syntax_refusal,
+  text_refusal,
+  thing_name,
+};
+
 use rbg_board::BoardError;
-use rbg_game::{GameError, LoadError};
-use rbg_macro::MacroError;
-use rbg_syntax::SyntaxError;
+use rbg_game::{GameError, LoadError, Thing};
+use rbg_macro::{MacroError, SectionKind};
+use rbg_syntax::{Expectation, SyntaxError};
 use rbg_tokens::TextError;
 use std::fmt::{self, Formatter};
 
@@ -12,6 +26,9 @@ use std::fmt::{self, Formatter};
 pub struct Refusal(pub LoadError);
 
 impl fmt::Display for Refusal {
+    ghost output = { λ refusal. Some (refusal_text refusal.0) };
+
+    #[tactic(auto, unfolding(crate::specs::Refusals::refusal_text))]
     fn fmt<W: fmt::Write>(&self, f: &mut Formatter<W>) -> fmt::Result {
         match &self.0 {
             LoadError::Text(error) => write_text(f, error),
@@ -22,7 +39,10 @@ impl fmt::Display for Refusal {
     }
 }
 
-fn write_text<W: fmt::Write>(f: &mut Formatter<W>, error: &TextError) -> fmt::Result {
+#[tactic(auto, unfolding(crate::specs::Refusals::text_refusal))]
+fn write_text<W: fmt::Write>(f: &mut Formatter<W>, error: &TextError) -> fmt::Result
+    ensures { DisplaysOnOk W.write_str_gives f.old result (Some (text_refusal error.now)) f.new }
+{
     match error {
         TextError::TooLong => write!(f, "text 1 TooLong"),
         TextError::ZeroByte => write!(f, "text 2 ZeroByte"),
@@ -31,7 +51,10 @@ fn write_text<W: fmt::Write>(f: &mut Formatter<W>, error: &TextError) -> fmt::Re
     }
 }
 
-fn write_macro<W: fmt::Write>(f: &mut Formatter<W>, error: &MacroError) -> fmt::Result {
+#[tactic(auto, unfolding(crate::specs::Refusals::macro_refusal))]
+fn write_macro<W: fmt::Write>(f: &mut Formatter<W>, error: &MacroError) -> fmt::Result
+    ensures { DisplaysOnOk W.write_str_gives f.old result (Some (macro_refusal error.now)) f.new }
+{
     match error {
         MacroError::BadDefinition { at } => write!(f, "macro 1 BadDefinition {at}"),
         MacroError::Twice { at } => write!(f, "macro 2 Twice {at}"),
@@ -43,30 +66,51 @@ fn write_macro<W: fmt::Write>(f: &mut Formatter<W>, error: &MacroError) -> fmt::
     }
 }
 
-fn write_syntax<W: fmt::Write>(f: &mut Formatter<W>, error: &SyntaxError) -> fmt::Result {
+#[tactic(auto, unfolding(crate::specs::Refusals::syntax_refusal))]
+fn write_syntax<W: fmt::Write>(f: &mut Formatter<W>, error: &SyntaxError) -> fmt::Result
+    ensures { DisplaysOnOk W.write_str_gives f.old result (Some (syntax_refusal error.now)) f.new }
+{
     match error {
-        SyntaxError::Expected { at, what } => { write!(f, "syntax 1 Expected {at} {what}") }
-        SyntaxError::MissingSection { which } => { write!(f, "syntax 2 MissingSection {which}") }
-        SyntaxError::SectionTwice { which } => { write!(f, "syntax 3 SectionTwice {which}") }
+        SyntaxError::Expected { at, what } => {
+            let part = name_of_part(*what);
+            write!(f, "syntax 1 Expected {at} {part}")
+        }
+        SyntaxError::MissingSection { which } => {
+            let name = name_of_section(*which);
+            write!(f, "syntax 2 MissingSection {name}")
+        }
+        SyntaxError::SectionTwice { which } => {
+            let name = name_of_section(*which);
+            write!(f, "syntax 3 SectionTwice {name}")
+        }
         SyntaxError::TooDeep { at } => write!(f, "syntax 4 TooDeep {at}"),
         SyntaxError::Memory => write!(f, "syntax Memory"),
     }
 }
 
-fn write_game<W: fmt::Write>(f: &mut Formatter<W>, error: &GameError) -> fmt::Result {
+#[tactic(auto, unfolding(crate::specs::Refusals::game_refusal))]
+fn write_game<W: fmt::Write>(f: &mut Formatter<W>, error: &GameError) -> fmt::Result
+    ensures { DisplaysOnOk W.write_str_gives f.old result (Some (game_refusal error.now)) f.new }
+{
     match error {
         GameError::UnknownName { at } => write!(f, "game 1 UnknownName {at}"),
         GameError::SameName { at } => write!(f, "game 2 SameName {at}"),
         GameError::Bound { at } => write!(f, "game 3 Bound {at}"),
         GameError::SwitchInPattern { at } => write!(f, "game 4 SwitchInPattern {at}"),
         GameError::PatternTooDeep { at } => write!(f, "game 5 PatternTooDeep {at}"),
-        GameError::TooMany { what } => write!(f, "game 6 TooMany {what}"),
+        GameError::TooMany { what } => {
+            let thing = name_of_thing(*what);
+            write!(f, "game 6 TooMany {thing}")
+        }
         GameError::Memory => write!(f, "game Memory"),
         GameError::Board { error } => write_board(f, error),
     }
 }
 
-fn write_board<W: fmt::Write>(f: &mut Formatter<W>, error: &BoardError) -> fmt::Result {
+#[tactic(auto, unfolding(crate::specs::Refusals::board_refusal))]
+fn write_board<W: fmt::Write>(f: &mut Formatter<W>, error: &BoardError) -> fmt::Result
+    ensures { DisplaysOnOk W.write_str_gives f.old result (Some (board_refusal error.now)) f.new }
+{
     match error {
         BoardError::NoCell => write!(f, "board 1 NoCell"),
         BoardError::RowLength { row } => write!(f, "board 2 RowLength {row}"),
@@ -75,5 +119,54 @@ fn write_board<W: fmt::Write>(f: &mut Formatter<W>, error: &BoardError) -> fmt::
         BoardError::UnknownVertex => write!(f, "board 5 UnknownVertex"),
         BoardError::SameVertex => write!(f, "board 6 SameVertex"),
         BoardError::Memory => write!(f, "board Memory"),
+    }
+}
+
+/// What is needed where a token does not fit.
+#[tactic(auto, unfolding(crate::specs::Refusals::part_name))]
+fn name_of_part(part: Expectation) -> &'static str
+    ensures { result.now ≡ part_name part }
+{
+    match part {
+        Expectation::Name => "Name",
+        Expectation::Number => "Number",
+        Expectation::Opening => "Opening",
+        Expectation::Closing => "Closing",
+        Expectation::Equals => "Equals",
+        Expectation::Comma => "Comma",
+        Expectation::Colon => "Colon",
+        Expectation::Item => "Item",
+        Expectation::Factor => "Factor",
+        Expectation::Relation => "Relation",
+        Expectation::Generator => "Generator",
+        Expectation::End => "End",
+    }
+}
+
+/// A section as it is named in a text.
+#[tactic(auto, unfolding(crate::specs::Refusals::section_name))]
+fn name_of_section(section: SectionKind) -> &'static str
+    ensures { result.now ≡ section_name section }
+{
+    match section {
+        SectionKind::Players => "players",
+        SectionKind::Pieces => "pieces",
+        SectionKind::Variables => "variables",
+        SectionKind::Board => "board",
+        SectionKind::Rules => "rules",
+    }
+}
+
+/// What there are too many of.
+#[tactic(auto, unfolding(crate::specs::Refusals::thing_name))]
+fn name_of_thing(thing: Thing) -> &'static str
+    ensures { result.now ≡ thing_name thing }
+{
+    match thing {
+        Thing::Players => "players",
+        Thing::Pieces => "pieces",
+        Thing::Variables => "variables",
+        Thing::Directions => "directions",
+        Thing::Positions => "positions",
     }
 }

@@ -1,15 +1,20 @@
 //! Checks the games that come with the program, counts their moves, follows a whole match of each and referees it.
 //!
-//! Standard input has two words a line: the file of a game, and a depth or the file of a match. For a depth the file's
-//! name is printed, then what `rbg check` prints of it, and then what `rbg_author perft` prints up to that depth. For a
-//! match the name of its file is printed, and then what `rbg_author show --last` prints of a list of moves, or what
-//! `rbg referee` prints of a script. A game's file may also be that of another board for it (`GameFiles`).
+//! Standard input has two words a line: the file of a game, and a depth, the file of a match, or `forms`. For a depth the
+//! file's name is printed, then what `rbg check` prints of it, and then what `rbg_author perft` prints up to that depth.
+//! For a match the name of its file is printed, and then what `rbg_author show --last` prints of a list of moves, or what
+//! `rbg referee` prints of a script. For `forms` the file's name is printed, and then at how many positions both forms of
+//! the automaton of its rules give the same answers, or `the forms differ`. A game's file may also be that of another
+//! board for it (`GameFiles`).
 #![tactic(auto)]
 
 mod boards;
+mod forms;
 
 use boards::GameFiles;
+use forms::forms_agree;
 use rbg_console::{Files, Input, MAX_INPUT, Status, SystemFiles, read_input};
+use rbg_game::load;
 use rbg_program::SystemNetwork;
 use std::alloc::{AllocError, Global};
 use std::io::{self, Write};
@@ -88,6 +93,25 @@ fn follow_match(
     }
 }
 
+/// Compares both forms of the automaton of the game, and says whether they give the same answers.
+fn compare_forms(rt: &HostRuntime, name: &str, output: &mut Vec<u8>) -> Result<bool, AllocError> {
+    let Input::Whole(text) = GameFiles::new(rt).read_file(rt.alloc(), name, MAX_INPUT)? else {
+        return Ok(false);
+    };
+    let Ok(game) = load(rt.alloc(), text.as_slice()) else {
+        return Ok(false);
+    };
+    let agree = forms_agree(rt.alloc(), &game)?;
+    if agree {
+        let positions = game.positions();
+        let line = format!(in rt.alloc(); "the forms agree at {positions} positions\n")?;
+        output.extend_from_slice(line.as_bytes())?;
+    } else {
+        output.extend_from_slice(b"the forms differ\n")?;
+    }
+    Ok(agree)
+}
+
 /// Does the task of a line, and says whether all went well.
 fn do_line(rt: &HostRuntime, line: &[u8], output: &mut Vec<u8>) -> Result<bool, AllocError> {
     let Ok(line) = str::from_utf8(line) else {
@@ -102,6 +126,8 @@ fn do_line(rt: &HostRuntime, line: &[u8], output: &mut Vec<u8>) -> Result<bool, 
     output.push(b'\n')?;
     if is_match {
         follow_match(rt, name, task, output)
+    } else if task == "forms" {
+        compare_forms(rt, name, output)
     } else {
         check_and_count(rt, name, task, output)
     }

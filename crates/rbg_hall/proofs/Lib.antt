@@ -1,9 +1,7 @@
-pub mod ClockLemmas
-pub mod EndLemmas
-pub mod HeardLemmas
-pub mod InCallLemmas
-pub mod LinesLemmas
-pub mod PassingLemmas
-pub mod PollLemmas
-pub mod SaidLemmas
-pub mod MemoryLemmas
+-- What the proofs of this crate share.
+mod Emptying
+mod Holding
+mod Phases
+mod Places
+mod Seated
+mod Telling

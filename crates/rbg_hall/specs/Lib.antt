@@ -1,9 +1,8 @@
-pub mod Told
-pub mod Answers
-pub mod Heard
-pub mod Passing
-pub mod Serving
+-- A table of a hall: its seats, its match, and what it tells the lines of the hall.
+pub mod Failing
+pub mod Hearing
 pub mod internal
-pub mod FaultyLines
-pub mod ListClocks
-pub mod MemoryLines
+pub mod Laws
+pub mod Limits
+pub mod Tables
+pub mod Tellings

@@ -1,4 +1,6 @@
 -- Definitions that only the contracts of private functions and the proofs use.
-pub mod InCall
-pub mod Lines
-pub mod Polling
+pub mod Codes
+pub mod Hearing
+pub mod Parts
+pub mod Running
+pub mod Undoing

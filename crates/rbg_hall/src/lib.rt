@@ -1,26 +1,15 @@
-//! Lines to players and clocks, and the serving of a match over them.
+//! Tables of a hall: what one table does with what its own lines send and with the clock. The table seats the lines that
+//! ask for it, refuses what they say before its match begins, and hands it to the match afterwards. It touches no other
+//! table and the queues of its own lines alone.
 #![tactic(auto)]
 
-mod answer;
-mod clock;
-mod ending;
-mod faulty;
-mod give;
-mod line;
-mod line_state;
-mod list_clock;
-mod memory_line;
-mod passing;
-mod rounds;
-mod served;
-mod serving;
+mod input;
+pub mod laws;
+mod queues;
+mod running;
+mod seating;
+mod table;
 
-pub use answer::{Polled, Put};
-pub use clock::Clock;
-pub use faulty::Faulty;
-pub use give::{Give, Take};
-pub use line::Line;
-pub use list_clock::ListClock;
-pub use memory_line::MemoryLine;
-pub use served::{ServeError, Served};
-pub use serving::serve;
+pub use input::TableInput;
+pub use queues::{HallOut, LINES};
+pub use table::HallTable;

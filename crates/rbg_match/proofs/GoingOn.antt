@@ -1,57 +1,49 @@
--- How play goes on, by what the code has found.
-use Rattle.std.proofs.Common.{◌≡◌, ℕ, suc, ◌+◌, ◌≤◌, List, [], ◌++◌, sym, subst, arith, add-one, add-one-le, append_assoc}
-use Rattle.rbg_wire.specs.declared.outcome.Outcome.TheVariants.{Finished, Heavy}
-use Rattle.rbg_wire.specs.Messages.{end_message}
-use Rattle.rbg_rules.specs.State.{AbstractGame}
-use Rattle.rbg_rules.specs.Moves.{AbstractPlace, Legal}
-use Rattle.rbg_rules.specs.Moves as moves
-use Rattle.rbg_rules.specs.Heavy.{IsHeavyToFind}
+-- How play goes on, step by step.
+use Rattle.std.proofs.Common.{◌≡◌, ℕ, suc, ◌+◌, ◌≤◌, List, [], ◌++◌, ◌∙◌, subst, arith, add-one, add-one-le, append_assoc, Ok}
 use Rattle.rbg_moves.specs.Limits.{most_keeper_moves}
-use Rattle.rbg_match.specs.Deliveries.{Delivery, delivered, to_each}
-use Rattle.rbg_match.specs.Play.{AbstractPlay, mover_of, scores_of, ended}
-use Rattle.rbg_match.specs.PlayingOn.{PlaysOn, endless, heavy, finished, keeper, seats_of, MayBeAsked}
-use Rattle.rbg_match.specs.internal.Playable.{IsPlayOf}
-use Rattle.rbg_match.specs.internal.OneStep.{KeeperMoves}
-use Rattle.rbg_match.proofs.Delivering.{delivered-none}
-use Rattle.rbg_match.proofs.Sayings.{said_more}
-
-module _ (game : AbstractGame) (moment in_a_row : ℕ) (play after : AbstractPlay) (seats : ℕ) (said : List Delivery) (all : seats ≡ seats_of game) where
-  pub is_endless : mover_of play ≡ 0 → most_keeper_moves ≤ in_a_row → after ≡ ended play Heavy → said ≡ to_each seats (end_message Heavy) → PlaysOn game moment in_a_row play after said
-  is_endless is_keeper many ends tells = rw (ends, tells, all) (endless is_keeper many)
-
-  pub is_heavy : MayBeAsked in_a_row play → IsHeavyToFind game play.place → after ≡ ended play Heavy → said ≡ to_each seats (end_message Heavy) → PlaysOn game moment in_a_row play after said
-  is_heavy may is_hard ends tells = rw (ends, tells, all) (heavy may is_hard)
-
-  pub is_finished : MayBeAsked in_a_row play → moves.Finished game play.place → (scores : List ℕ) → scores ≡ scores_of game play → after ≡ ended play (Finished scores) → said ≡ to_each seats (end_message (Finished scores)) → PlaysOn game moment in_a_row play after said
-  is_finished may nothing scores are ends tells = rw (ends, tells, all, are) (finished may nothing)
+use Rattle.rbg_match.specs.declared.turns.Progress.TheVariants.{KeeperMoved, Settled}
+use Rattle.rbg_match.specs.Deliveries.{Delivery}
+use Rattle.rbg_match.specs.Play.{AbstractPlay}
+use Rattle.rbg_match.specs.PlayingOn.{PlaysOn, keeper}
+use Rattle.rbg_match.specs.internal.Replies.{RefereeState, Replies, PlaysOnOnce, gone_on}
+use Rattle.rbg_match.proofs.Replying.{nothing_done, gone_on-twice}
 
 -- Play has come from its start to this state by so many keeper moves in a row: what it goes on to from here, it goes on to from
 -- the start, with what was said so far in front.
-pub record HasCome (game : AbstractGame) (moment in_a_row : ℕ) (start play : AbstractPlay) (old new : List (List ℕ)) : Type 0 where
+pub record HasCome (start : RefereeState) (in_a_row : ℕ) (referee : RefereeState) : Type 0 where
   pub few : in_a_row ≤ most_keeper_moves
-  pub play_of_game : IsPlayOf game play
+  pub play : AbstractPlay
   pub said : List Delivery
-  pub behind : new ≡ delivered old said
-  pub on : (after : AbstractPlay) (more : List Delivery) → PlaysOn game moment in_a_row play after more → PlaysOn game moment 0 start after (said ++ more)
+  pub becomes : referee ≡ gone_on start play said
+  pub on : (after : AbstractPlay) (more : List Delivery) → PlaysOn start.game start.moment in_a_row play after more → PlaysOn start.game start.moment 0 start.play after (said ++ more)
 
-pub not_yet_come : (game : AbstractGame) (moment : ℕ) (play : AbstractPlay) (outbox : List (List ℕ)) → IsPlayOf game play → HasCome game moment 0 play play outbox outbox
-not_yet_come game moment play outbox is_of = record {
-  few = omega arith;
-  play_of_game = is_of;
-  said = [];
-  behind = sym (delivered-none outbox);
-  on = λ after more goes. goes;
-}
+pub not_yet_come : (start : RefereeState) → HasCome start 0 start
+not_yet_come start = record { few = omega arith; play = start.play; said = []; becomes = nothing_done start; on = λ after more goes. goes }
 
--- the keeper moves once more
-pub come_further : (game : AbstractGame) (moment in_a_row : ℕ) (start play next : AbstractPlay) (old middle new : List (List ℕ)) (told : List Delivery) → HasCome game moment in_a_row start play old middle → IsPlayOf game next → KeeperMoves game moment in_a_row play next told → new ≡ delivered middle told → HasCome game moment (in_a_row + 1) start next old new
-come_further game moment in_a_row start play next old middle new told come is_of moves told_then = record {
-  few = add-one-le moves.may;
-  play_of_game = is_of;
-  said = come.said ++ told;
-  behind = said_more old come.said told come.behind told_then;
-  on = λ after more goes.
-      let from_here : PlaysOn game moment in_a_row play after (told ++ more) =
-      rw moves.told (keeper moves.keeper moves.may moves.legal moves.short (subst (λ state. PlaysOn game moment (suc in_a_row) state after more) moves.makes (rw add-one at goes))) in
-      rw append_assoc (come.on after (told ++ more) from_here);
-}
+module _ {E : Type 0} {start referee next : RefereeState} {in_a_row : ℕ} (come : HasCome start in_a_row referee) where
+  -- the keeper moves once more
+  pub come_further : Replies {E = E} referee next (Ok KeeperMoved) (PlaysOnOnce in_a_row) → HasCome start (in_a_row + 1) next
+  come_further replies =
+      let goes = subst (λ one. Replies {E = E} one next (Ok KeeperMoved) (PlaysOnOnce in_a_row)) come.becomes replies in
+      let moves = goes.whole in
+      record {
+        few = add-one-le moves.may;
+        play = goes.after;
+        said = come.said ++ goes.said;
+        becomes = goes.becomes ∙ gone_on-twice start come.play goes.after come.said goes.said;
+        on = λ after more then.
+            let from_here : PlaysOn start.game start.moment in_a_row come.play after (goes.said ++ more) =
+            rw moves.makes.told (keeper moves.keeper moves.may moves.makes.legal moves.short (subst (λ state. PlaysOn start.game start.moment (suc in_a_row) state after more) moves.makes.makes (rw add-one at then))) in
+            rw append_assoc (come.on after (goes.said ++ more) from_here);
+      }
+
+  -- play has settled
+  pub come_to_rest : Replies {E = E} referee next (Ok Settled) (PlaysOnOnce in_a_row) → Replies {T = Unit {0}} {E = E} start next (Ok tt) (λ one _. PlaysOn one.game one.moment 0 one.play)
+  come_to_rest replies =
+      let goes = subst (λ one. Replies {E = E} one next (Ok Settled) (PlaysOnOnce in_a_row)) come.becomes replies in
+      record {
+        after = goes.after;
+        said = come.said ++ goes.said;
+        becomes = goes.becomes ∙ gone_on-twice start come.play goes.after come.said goes.said;
+        whole = come.on goes.after goes.said goes.whole;
+      }

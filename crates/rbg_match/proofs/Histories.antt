@@ -1,7 +1,7 @@
 -- The history of a match is kept, whatever its inputs are.
-use Rattle.std.proofs.Common.{◌≡◌, ℕ, ◌≤◌, List, [], ◌∷◌, ◌++◌, length, map, true, false, Bool, Option, Some, None, is_some, Result, Ok, Err, refl, sym, ap, ◌∙◌, subst, arith}
+use Rattle.std.proofs.Common.{◌≡◌, ℕ, ◌≤◌, List, [], ◌∷◌, ◌++◌, length, map, true, false, Bool, Some, None, Result, Ok, Err, refl, sym, ap, ◌∙◌, subst, arith}
 use Rattle.std.specs.Prelude.{◌≢◌, IfOk, OnOk, All, nat_le, if◌then◌else◌}
-use Rattle.std.proofs.lemmas.Bool.{and_parts, leb-true, true≢false}
+use Rattle.std.proofs.lemmas.Bool.{and_parts, leb-true}
 use Rattle.std.proofs.lemmas.Option.{none-some}
 use Rattle.std.proofs.Math.Nat.{min-le_right}
 use Rattle.std.proofs.lemmas.List.{length-map}
@@ -20,7 +20,8 @@ use Rattle.rbg_match.specs.History as history
 use Rattle.rbg_match.specs.History.{LeadsTo, FitsOutcome, HasTurnSince, IsInTurn, IsHistory, MadeInTurn}
 use Rattle.rbg_match.specs.Inputs.{AbstractEvent, piece, end_of_stream, moment_alone, TimedInput, Streams, counted_first, has_seat, cut_of, inputs_in, inputs_at}
 use Rattle.rbg_match.specs.internal.Inboxes.{rests_of}
-use Rattle.rbg_match.specs.Limits.{most_pairs, latest_moment}
+use Rattle.rbg_base.specs.Move.{most_pairs}
+use Rattle.rbg_match.specs.Limits.{latest_moment}
 use Rattle.rbg_match.specs.Matches.{MatchState, Opens, HasHistory}
 use Rattle.rbg_match.specs.Play.{AbstractPlay, mover_of, refused, turn_begun}
 use Rattle.rbg_match.specs.PlayingOn as on
@@ -224,11 +225,6 @@ pub opened_with : (game : AbstractGame) (text : List ℕ) (config : Config) (now
 opened_with game text config now state outbox opens =
     let moment : state.streams.moment ≡ counted_first now = ap (λ (streams : Streams). streams.moment) opens.streams in
     rw (opens.of_game, opens.of_config, opens.begins, moment) (plays_on_keeps opens.lawful (min-le_right now latest_moment) opens.opens refl history.none history.nothing)
-
--- what has not ended has no outcome
-pub no_outcome_yet : (outcome : Option Outcome) → is_some outcome ≡ false → outcome ≡ None
-no_outcome_yet None is = refl
-no_outcome_yet (Some outcome) is = absurd (true≢false is)
 
 -- what a fact on `Ok` gives there
 pub on_ok : {T E A B : Type 0} (result : Result T E) → IfOk result (λ (_ : T). A) → (A → B) → OnOk result B

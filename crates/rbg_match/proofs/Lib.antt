@@ -1,9 +1,8 @@
 pub mod Delivering
 pub mod Sayings
-pub mod Scoring
+pub mod Replying
+pub mod Questions
 pub mod GoingOn
-pub mod Refusing
-pub mod Judging
 pub mod HandlingLemmas
 pub mod Marking
 pub mod Taking

@@ -19,7 +19,7 @@ use Rattle.rbg_match.specs.declared.config.Config.{Config}
 use Rattle.rbg_match.specs.declared.made.Made.{Made}
 use Rattle.rbg_match.specs.Deliveries.{Delivery, to_each, queued}
 use Rattle.rbg_moves.specs.Limits.{most_keeper_moves}
-use Rattle.rbg_match.specs.Limits.{most_pairs}
+use Rattle.rbg_base.specs.Move.{most_pairs}
 use Rattle.rbg_match.specs.Play.{AbstractPlay, mover_of, ended, moved}
 use Rattle.rbg_match.specs.PlayingOn.{PlaysOn, MayBeAsked, seats_of}
 use Rattle.rbg_match.specs.PlayingOn as on

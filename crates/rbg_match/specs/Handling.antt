@@ -12,7 +12,7 @@ use Rattle.rbg_rules.specs.Moves.{AbstractPlace, Legal}
 use Rattle.rbg_match.specs.declared.config.Config.{Config}
 use Rattle.rbg_match.specs.Deliveries.{Delivery, to_seat, to_each, to_others}
 use Rattle.rbg_rules.specs.Heavy.{IsHeavyToTry}
-use Rattle.rbg_match.specs.Limits.{most_pairs}
+use Rattle.rbg_base.specs.Move.{most_pairs}
 use Rattle.rbg_match.specs.Play.{AbstractPlay, mover_of, due_of, refusals_of, ended, moved, refused}
 use Rattle.rbg_match.specs.PlayingOn.{PlaysOn, seats_of}
 

@@ -9,7 +9,8 @@ use Rattle.rbg_rules.specs.Moves as moves
 use Rattle.rbg_match.specs.declared.config.Config.{Config}
 use Rattle.rbg_match.specs.declared.made.Made.{Made}
 use Rattle.rbg_match.specs.Config.{IsWithinLimits}
-use Rattle.rbg_match.specs.Limits.{most_pairs, latest_moment}
+use Rattle.rbg_base.specs.Move.{most_pairs}
+use Rattle.rbg_match.specs.Limits.{latest_moment}
 use Rattle.rbg_match.specs.Play.{AbstractPlay, mover_of, scores_of}
 use Rattle.rbg_match.specs.PlayingOn.{seats_of}
 

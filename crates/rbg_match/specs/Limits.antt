@@ -13,10 +13,6 @@ longest_turn = 3600000
 abbrev pub most_refusals : ℕ
 most_refusals = 100
 
--- a move has at most this many pairs
-abbrev pub most_pairs : ℕ
-most_pairs = 200
-
 -- a seat's message has at most this many bytes, without its zero byte
 abbrev pub message_limit : ℕ
 message_limit = 4096

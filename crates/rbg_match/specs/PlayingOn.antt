@@ -8,7 +8,7 @@ use Rattle.rbg_rules.specs.Moves as moves
 use Rattle.rbg_match.specs.Deliveries.{Delivery, to_each}
 use Rattle.rbg_rules.specs.Heavy.{IsHeavyToFind}
 use Rattle.rbg_moves.specs.Limits.{most_keeper_moves}
-use Rattle.rbg_match.specs.Limits.{most_pairs}
+use Rattle.rbg_base.specs.Move.{most_pairs}
 use Rattle.rbg_match.specs.Play.{AbstractPlay, mover_of, scores_of, ended, moved, turn_begun}
 
 -- a seat for each player

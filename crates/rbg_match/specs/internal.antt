@@ -2,7 +2,7 @@
 pub mod Codes
 pub mod InputOf
 pub mod Inboxes
-pub mod OneStep
 pub mod PlayOf
 pub mod Playable
+pub mod Replies
 pub mod Saying

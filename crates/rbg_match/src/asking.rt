@@ -1,12 +1,12 @@
 //! The questions that play asks of the rules.
-ghost use Rattle.std.specs.Prelude.{◌≡◌, ◌≤◌, ◌⊎◌, length, Err, IfNone, IfOk, IfSome};
+ghost use Rattle.std.specs.Prelude.{◌≡◌, ◌⊎◌, length, IfErr, IfNone, IfOk, IfSome};
 ghost use Rattle.rbg_base.specs.Move.{IsMoveLength};
 ghost use Rattle.rbg_rules.specs.Heavy.{IsHeavyToFind, IsHeavyToTry};
 ghost use Rattle.rbg_rules.specs.Moves.{AbstractPlace, Finished, IsLegal, Legal};
 ghost use Rattle.rbg_rules.specs.Places.{IsPlaceOf};
 ghost use Rattle.rbg_wire.specs.Messages.{ArePairs};
 
-use rbg_base::{Memory, Pair};
+use rbg_base::Pair;
 use rbg_moves::{Move, Over, Place, PlayedGame, Workspace};
 
 /// The pairs of a legal move at a place, which a message can tell, or None if play is finished. The workspace takes them
@@ -23,8 +23,8 @@ pub(crate) fn find_pairs(
     ensures length { IfOk result (λ found.
         IfSome found (λ pairs. IsMoveLength (length pairs.items))) }
     ensures finished { IfOk result (λ found. IfNone found (Finished game.now place.now)) }
-    ensures heavy { (result ≡ Err Over.Deep) ⊎ (result ≡ Err Over.Wide)
-        → IsHeavyToFind game.now place.now }
+    ensures heavy { IfErr result (λ over. (over ≡ Over.Deep) ⊎ (over ≡ Over.Wide)
+        → IsHeavyToFind game.now place.now) }
 {
     let _game = game.as_game();
     game.find_pairs(place, workspace)
@@ -42,19 +42,8 @@ pub(crate) fn try_move(
     ensures in_game { IfOk result (λ after. IfSome after (IsPlaceOf game.now)) }
     ensures illegal { IfOk result (λ after.
         IfNone after ((to : AbstractPlace) → ¬ Legal game.now place.now pairs.now to)) }
-    ensures heavy { (result ≡ Err Over.Deep) ⊎ (result ≡ Err Over.Wide)
-        → IsHeavyToTry game.now place.now pairs.now }
+    ensures heavy { IfErr result (λ over. (over ≡ Over.Deep) ⊎ (over ≡ Over.Wide)
+        → IsHeavyToTry game.now place.now pairs.now) }
 {
     game.try_move_with(place, pairs, workspace)
-}
-
-/// Ok where a question is above the limits. A want of memory is passed on.
-pub(crate) fn above_limits(over: Over) -> Result<(), Memory>
-    ensures { IfOk result (λ _. (over ≡ Over.Deep) ⊎ (over ≡ Over.Wide)) }
-{
-    match over {
-        Over::Deep => Ok(()),
-        Over::Wide => Ok(()),
-        Over::Memory => Err(Memory),
-    }
 }

@@ -1,21 +1,19 @@
-//! How a match handles an event: the inputs that the event stands for, in turn.
-ghost use Rattle.std.specs.Prelude.{◌≡◌, ◌≤◌, ◌<◌, ◌&&◌, ◌↔◌, nat_le, IsTrue, IsOk, length, map, None, OnOk};
+//! How a referee handles an event: the inputs that the event stands for, in turn.
+ghost use Rattle.std.specs.Prelude.{◌≡◌, ◌≤◌, ◌<◌, ◌&&◌, ◌↔◌, max, min, nat_le, IsTrue, IsOk, length, map, OnOk};
 ghost use Rattle.rbg_wire.specs.Streams.{cut};
 ghost use Rattle.rbg_match.specs.Handling.{sent};
-ghost use Rattle.rbg_match.specs.internal.Inboxes.{IsReady, AreReady, rests_of};
-ghost use Rattle.rbg_match.specs.Inputs.{IsTickAlone, event_of, inputs_in, inputs_at, rests_after};
-ghost use Rattle.rbg_match.specs.Limits.{message_limit};
+ghost use Rattle.rbg_match.specs.Inputs.{IsTickAlone, event_of, inputs_at, inputs_in, moment_of, rests_after};
+ghost use Rattle.rbg_match.specs.Limits.{latest_moment, message_limit};
 ghost use Rattle.rbg_match.specs.Play.{due_of};
-ghost use Rattle.rbg_match.specs.internal.PlayOf.{play_of};
-ghost use Rattle.rbg_match.specs.internal.Playable.{IsPlayOf};
 ghost use Rattle.rbg_match.specs.PlayingOn.{seats_of};
+ghost use Rattle.rbg_match.specs.internal.Inboxes.{IsReady, AreReady, rests_of};
+ghost use Rattle.rbg_match.specs.internal.InputOf.{IsSeatOf};
+ghost use Rattle.rbg_match.specs.internal.Replies.{HandlesNow, Replies};
 ghost use Rattle.rbg_match.specs.internal.Saying.{Says};
 ghost use Rattle.rbg_match.specs.Transcript.{HandlesAll};
 
-use crate::context::Context;
-use crate::handling::handle;
 use crate::input::Input;
-use crate::play::Play;
+use crate::state::Referee;
 use crate::{Event, Outbox};
 use rbg_base::Memory;
 use rbg_wire::Inbox;
@@ -28,79 +26,93 @@ fn is_seat(seat: u64, seats: usize) -> bool
     1 <= seat && seat <= seats as u64
 }
 
-/// Handles a piece of a seat's stream: the items that it completes, in turn.
-fn handle_piece(
-    context: Context<'_>,
-    play: &mut Play,
-    inbox: &mut Inbox,
-    seat: usize,
-    bytes: &[u8],
-    outbox: &mut Outbox,
-) -> Result<(), Memory>
-    requires play { IsPlayOf context.game.now (play_of play.old) }
-    requires seats { length outbox.old ≡ seats_of context.game.now }
-    requires some { 1 ≤ seat }
-    requires most { seat ≤ seats_of context.game.now }
-    requires ready { IsReady inbox.old }
-    ensures play { IsPlayOf context.entry.game.now (play_of play.new) }
-    ensures says { Says outbox.old outbox.new result (λ _ said.
-        HandlesAll context.entry.game.now context.entry.config (play_of play.old)
-        (inputs_at context.entry.moment
-        (map (sent seat) (cut message_limit inbox.old.rest bytes.now).items))
-        (play_of play.new) said) }
-    ensures ready { OnOk result (IsReady inbox.new) }
-    ensures rest { OnOk result (inbox.new.rest
-        ≡ (cut message_limit inbox.old.rest bytes.now).rest) }
-{
-    inbox.feed(bytes)?;
-    while let Some(took) = inbox.take() {
-        handle(context, play, Input::Sent { seat, took }, outbox)?;
+impl Referee {
+    /// Handles a piece of a seat's stream: the items that it completes, in turn.
+    fn handle_piece(&mut self, inbox: &mut Inbox, seat: usize, bytes: &[u8]) -> Result<(), Memory>
+        requires seat { IsSeatOf (seats_of self.old.game) seat }
+        requires ready { IsReady inbox.old }
+        ensures replies { Replies self.old self.new result (λ referee _.
+            HandlesNow (map (sent seat) (cut message_limit inbox.old.rest bytes.now).items) referee) }
+        ensures ready { OnOk result (IsReady inbox.new) }
+        ensures rest { OnOk result (inbox.new.rest
+            ≡ (cut message_limit inbox.old.rest bytes.now).rest) }
+    {
+        inbox.feed(bytes)?;
+        while let Some(took) = inbox.take() {
+            self.handle(Input::Sent { seat, took })?;
+        }
+        Ok(())
     }
-    Ok(())
-}
 
-/// Handles an event at its counted moment: the inputs that it stands for, in turn.
-pub(crate) fn handle_event(
-    context: Context<'_>,
-    play: &mut Play,
-    inboxes: &mut [Inbox],
-    event: Event<'_>,
-    outbox: &mut Outbox,
-) -> Result<(), Memory>
-    requires play { IsPlayOf context.game.now (play_of play.old) }
-    requires seats { length outbox.old ≡ seats_of context.game.now }
-    requires inboxes { length inboxes.old ≡ seats_of context.game.now }
-    requires ready { AreReady inboxes.old }
-    ensures play { IsPlayOf context.entry.game.now (play_of play.new) }
-    ensures says { Says outbox.old outbox.new result (λ _ said.
-        HandlesAll context.entry.game.now context.entry.config (play_of play.old)
-        (inputs_at context.entry.moment (inputs_in (rests_of inboxes.old) (event_of event.entry)))
-        (play_of play.new) said) }
-    ensures quiet { IsTickAlone (rests_of inboxes.old) (event_of event.entry) →
-        context.entry.moment < due_of context.entry.config (play_of play.old) →
-        IsOk result }
-    ensures ready { OnOk result (AreReady inboxes.new) }
-    ensures rests { OnOk result (rests_of inboxes.new
-        ≡ rests_after (rests_of inboxes.old) (event_of event.entry)) }
-{
-    match event {
-        Event::Piece { seat, bytes, .. } => {
-            handle(context, play, Input::Tick, outbox)?;
-            if is_seat(seat, inboxes.len()) {
-                let seat = seat as usize;
-                let inbox = &mut inboxes[seat - 1];
-                handle_piece(context, play, inbox, seat, bytes, outbox)?;
+    /// Handles an event at the counted moment: the inputs that it stands for, in turn.
+    pub(crate) fn handle_event(
+        &mut self,
+        inboxes: &mut [Inbox],
+        event: Event<'_>,
+    ) -> Result<(), Memory>
+        requires inboxes { length inboxes.old ≡ seats_of self.old.game }
+        requires ready { AreReady inboxes.old }
+        ensures replies { Replies self.old self.new result (λ referee _.
+            HandlesNow (inputs_in (rests_of inboxes.old) (event_of event.entry)) referee) }
+        ensures quiet { IsTickAlone (rests_of inboxes.old) (event_of event.entry) →
+            self.old.moment < due_of self.old.config self.old.play →
+            IsOk result }
+        ensures ready { OnOk result (AreReady inboxes.new) }
+        ensures rests { OnOk result (rests_of inboxes.new
+            ≡ rests_after (rests_of inboxes.old) (event_of event.entry)) }
+    {
+        match event {
+            Event::Piece { seat, bytes, .. } => {
+                self.handle(Input::Tick)?;
+                if is_seat(seat, inboxes.len()) {
+                    let seat = seat as usize;
+                    let inbox = &mut inboxes[seat - 1];
+                    self.handle_piece(inbox, seat, bytes)?;
+                }
+                Ok(())
             }
-            Ok(())
-        }
-        Event::Ended { seat, .. } => {
-            if is_seat(seat, inboxes.len()) {
-                let seat = seat as usize;
-                handle(context, play, Input::Gone { seat }, outbox)
-            } else {
-                handle(context, play, Input::Tick, outbox)
+            Event::Ended { seat, .. } => {
+                if is_seat(seat, inboxes.len()) {
+                    let seat = seat as usize;
+                    self.handle(Input::Gone { seat })
+                } else {
+                    self.handle(Input::Tick)
+                }
             }
+            Event::Tick { .. } => self.handle(Input::Tick),
         }
-        Event::Tick { .. } => handle(context, play, Input::Tick, outbox),
+    }
+
+    /// Counts the moment of an event and handles the event. Its messages go to the given outbox.
+    pub(crate) fn step(
+        &mut self,
+        inboxes: &mut [Inbox],
+        event: Event<'_>,
+        outbox: &mut Outbox,
+    ) -> Result<(), Memory>
+        requires outbox { length outbox.old ≡ seats_of self.old.game }
+        requires inboxes { length inboxes.old ≡ seats_of self.old.game }
+        requires ready { AreReady inboxes.old }
+        ensures game { self.new.game ≡ self.old.game }
+        ensures config { self.new.config ≡ self.old.config }
+        ensures moment { self.new.moment
+            ≡ max self.old.moment (min (moment_of (event_of event.entry)) latest_moment) }
+        ensures latest { self.new.moment ≤ latest_moment }
+        ensures says { Says outbox.old outbox.new result (λ _ said.
+            HandlesAll self.old.game self.old.config self.old.play
+            (inputs_at self.new.moment (inputs_in (rests_of inboxes.old) (event_of event.entry)))
+            self.new.play said) }
+        ensures quiet { IsTickAlone (rests_of inboxes.old) (event_of event.entry) →
+            self.new.moment < due_of self.old.config self.old.play →
+            IsOk result }
+        ensures ready { OnOk result (AreReady inboxes.new) }
+        ensures rests { OnOk result (rests_of inboxes.new
+            ≡ rests_after (rests_of inboxes.old) (event_of event.entry)) }
+    {
+        self.count(event.at());
+        self.exchange(outbox);
+        let handled = self.handle_event(inboxes, event);
+        self.exchange(outbox);
+        handled
     }
 }

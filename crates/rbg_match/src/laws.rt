@@ -1,7 +1,8 @@
 //! Laws of a whole match. The contract of each function is a law; its body does nothing.
 ghost use Rattle.std.specs.Prelude.{◌≡◌};
+ghost use Rattle.rbg_base.specs.Move.{most_pairs};
 ghost use Rattle.rbg_moves.specs.Limits.{most_keeper_moves};
-ghost use Rattle.rbg_match.specs.Limits.{most_seats, longest_turn, most_refusals, most_pairs, message_limit, latest_moment};
+ghost use Rattle.rbg_match.specs.Limits.{most_seats, longest_turn, most_refusals, message_limit, latest_moment};
 ghost use Rattle.rbg_match.specs.Laws.{Cutting, EndedPlayStays, EndedMatchStays, OneOutbox, OneTranscript, OneUntilHeavy, SteppedIsTranscript, TickAtStart, TickBehind, TranscriptHasHistory};
 
 use crate::opening::MESSAGE_LIMIT;

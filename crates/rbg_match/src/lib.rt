@@ -4,7 +4,6 @@
 
 mod asking;
 mod config;
-mod context;
 mod dispatch;
 mod error;
 mod event;
@@ -17,6 +16,7 @@ mod opening;
 mod outbox;
 mod play;
 mod refereeing;
+mod state;
 mod turns;
 
 pub use config::{Config, LATEST_MOMENT, MAX_REFUSALS, MAX_TURN_MS};

@@ -7,11 +7,8 @@ ghost use Rattle.rbg_match.specs.Limits.{latest_moment};
 ghost use Rattle.rbg_match.specs.Matches.{Opens};
 ghost use Rattle.rbg_match.specs.PlayingOn.{seats_of};
 
-use crate::context::Context;
-use crate::dispatch::handle_event;
 use crate::opening::{greet, new_inboxes, start};
-use crate::play::Play;
-use crate::turns::play_on;
+use crate::state::Referee;
 use crate::{Config, Event, LATEST_MOMENT, Made, MatchError, Outbox};
 use rbg_base::Memory;
 use rbg_moves::{Listed, Over, Place, PlayedGame};
@@ -23,15 +20,12 @@ use std::marker::Model;
 /// A match of a game.
 #[derive(Debug, Drop)]
 pub struct Match {
-    game: PlayedGame,
-    config: Config,
+    /// Its moment is the greatest counted one. Once the match has ended it stays the moment of the end.
+    referee: Referee,
     /// The counted moment at which the match began.
     began: u64,
-    play: Play,
     /// The stream of each seat, seat 1 first.
     inboxes: Vec<Inbox>,
-    /// The greatest counted moment. Once the match has ended it stays the moment of the end.
-    moment: u64,
     /// Whether a step ran out of memory.
     failed: bool,
 }
@@ -46,20 +40,19 @@ impl Model for Match {
     ghost coded = { coded_match };
 
     ghost use Rattle.rbg_match.specs.internal.Inboxes.{rests_of};
-    ghost use Rattle.rbg_match.specs.internal.PlayOf.{play_of};
 
     ghost view = { λ m. record {
-      game = m.game;
-      config = m.config;
+      game = m.referee.game;
+      config = m.referee.config;
       began = m.began;
-      play = play_of m.play;
-      streams = record { moment = m.moment; rests = rests_of m.inboxes.items };
+      play = m.referee.play;
+      streams = record { moment = m.referee.moment; rests = rests_of m.inboxes.items };
       failed = m.failed;
     } };
 
     ghost use Rattle.rbg_match.specs.internal.Playable.{IsMatch};
 
-    ghost invariant = { λ m. IsMatch m.game m.config (play_of m.play) m.inboxes.items m.moment m.failed };
+    ghost invariant = { λ m. IsMatch m.referee.game m.inboxes.items m.failed };
 }
 
 impl Match {
@@ -142,18 +135,11 @@ impl Match {
         if self.failed {
             return Err(Memory);
         }
-        if self.play.outcome.is_some() {
+        if self.referee.has_ended() {
             return Ok(());
         }
         let marks = outbox.marks();
-        let moment = self.moment.max(event.at().min(LATEST_MOMENT));
-        self.moment = moment;
-        let context = Context {
-            game: &self.game,
-            config: self.config,
-            moment,
-        };
-        let handled = handle_event(context, &mut self.play, &mut self.inboxes, event, outbox);
+        let handled = self.referee.step(&mut self.inboxes, event, outbox);
         if handled.is_err() {
             self.failed = true;
             outbox.cut_back(&marks);
@@ -166,7 +152,7 @@ impl Match {
         ensures place { result.now ≡ self.now.play.place }
         ensures in_game { IsPlaceOf self.now.game self.now.play.place }
     {
-        &self.play.place
+        &self.referee.play.place
     }
 
     /// The legal moves at the place that play has reached, or `max` of them where there are more. `Deep` and `Wide` say
@@ -180,14 +166,14 @@ impl Match {
         ensures fits { IfOk result (λ listed.
             FitsLimits self.now.game listed.cut listing_moves self.now.play.place) }
     {
-        self.game.list_moves(&self.play.place, max)
+        self.referee.game.list_moves(&self.referee.play.place, max)
     }
 
     /// The moves so far.
     pub fn made(&self) -> &[Made]
         ensures { result.now ≡ self.now.play.made }
     {
-        self.play.made.as_slice()
+        self.referee.play.made.as_slice()
     }
 
     /// How the match ended, once it has. A message that was read may name any number as a player's, so an `Outcome` has
@@ -195,7 +181,7 @@ impl Match {
     pub fn outcome(&self) -> Option<Outcome>
         ensures { result ≡ self.now.play.outcome }
     {
-        self.play.outcome
+        self.referee.play.outcome
     }
 
     /// The number of players, which is that of seats.
@@ -203,7 +189,7 @@ impl Match {
         ensures count { result ≡ seats_of self.now.game }
         ensures lawful { IsGame self.now.game }
     {
-        self.game.as_game().players()
+        self.referee.game.as_game().players()
     }
 
     /// The name of a player. It must be one of the match's.
@@ -212,14 +198,14 @@ impl Match {
         requires there { player ≤ seats_of self.now.game }
         ensures { slice_get self.now.game.players (player - 1) ≡ Some result.now }
     {
-        self.game.as_game().player_name(player)
+        self.referee.game.as_game().player_name(player)
     }
 
     /// The config that the match was made with.
     pub fn config(&self) -> Config
         ensures { result ≡ self.now.config }
     {
-        self.config
+        self.referee.config
     }
 
     /// The counted moment at which the match began.
@@ -233,7 +219,7 @@ impl Match {
     pub fn moment(&self) -> u64
         ensures { result ≡ self.now.streams.moment }
     {
-        self.moment
+        self.referee.moment
     }
 
     /// The moment at which the mover's time is over. None once the match has ended.
@@ -242,10 +228,10 @@ impl Match {
             (result ≡ Some (due_of self.now.config self.now.play))
             (λ _. result ≡ None) }
     {
-        if self.play.outcome.is_some() {
+        if self.referee.play.outcome.is_some() {
             return None;
         }
-        Some(self.play.turn_began + self.config.turn_ms)
+        Some(self.referee.play.turn_began + self.referee.config.turn_ms)
     }
 
     /// How many messages of a seat were refused. It must be one of the seats.
@@ -254,7 +240,7 @@ impl Match {
         requires is_there { seat ≤ seats_of self.now.game }
         ensures { result ≡ refusals_of self.now.play seat }
     {
-        self.play.refusals[seat - 1]
+        self.referee.play.refusals[seat - 1]
     }
 }
 
@@ -275,22 +261,23 @@ fn open(
     let seats = game.players();
     let mut outbox = Outbox::new(alloc, seats)?;
     greet(&game, text, config, &mut outbox)?;
-    let mut play = start(alloc, &game, moment)?;
+    let play = start(alloc, &game, moment)?;
     let game = PlayedGame::new(alloc, game)?;
-    let context = Context {
-        game: &game,
-        config,
-        moment,
-    };
-    play_on(context, &mut play, &mut outbox)?;
-    let inboxes = new_inboxes(alloc, seats)?;
-    let opened = Match {
+    let mut referee = Referee {
         game,
         config,
-        began: moment,
-        play,
-        inboxes,
         moment,
+        play,
+        outbox,
+    };
+    referee.play_on()?;
+    let mut outbox = Outbox::new(alloc, seats)?;
+    referee.exchange(&mut outbox);
+    let inboxes = new_inboxes(alloc, seats)?;
+    let opened = Match {
+        referee,
+        began: moment,
+        inboxes,
         failed: false,
     };
     Ok((opened, outbox))

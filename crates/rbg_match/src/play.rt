@@ -1,8 +1,10 @@
 //! The state of play, apart from streams and the clock.
 
 use crate::Made;
-use rbg_moves::{Place, Workspace};
+use rbg_base::Memory;
+use rbg_moves::{Move, Place, Workspace};
 use rbg_wire::Outcome;
+use std::mem::replace;
 
 /// The state of play. Contracts see it by `play_of`.
 #[derive(Debug, Drop)]
@@ -21,9 +23,10 @@ pub(crate) struct Play {
 }
 
 impl Play {
-    ghost use Rattle.std.specs.Prelude.{◌≡◌, ◌≤◌, length, All};
+    ghost use Rattle.std.specs.Prelude.{◌≡◌, ◌<◌, ◌≤◌, length, All, OnErr, OnOk, true, false};
     ghost use Rattle.rbg_match.specs.Limits.{most_refusals};
-    ghost use Rattle.rbg_match.specs.Play.{mover_of, refusals_of, refused};
+    ghost use Rattle.rbg_match.specs.Play.{ended, moved, mover_of, refusals_of, refused};
+    ghost use Rattle.rbg_match.specs.internal.InputOf.{IsSeatOf};
     ghost use Rattle.rbg_match.specs.internal.PlayOf.{play_of};
 
     /// The current player; 0 is the keeper.
@@ -33,16 +36,38 @@ impl Play {
         u64::from(self.place.state.player())
     }
 
-    /// Counts one more refused message of a seat. Returns how many there were before.
-    pub(crate) fn count_refusal(&mut self, seat: usize) -> u32
-        requires some { 1 ≤ seat }
-        requires most { seat ≤ length self.old.refusals.items }
+    /// Makes the mover's move, which leads to the given place.
+    pub(crate) fn make(&mut self, pairs: Move, to: Place, at: u64) -> Result<(), Memory>
+        ensures made { OnOk result (play_of self.new ≡ moved (play_of self.old) at pairs to) }
+        ensures err { OnErr result (play_of self.new ≡ play_of self.old) }
+    {
+        let player = self.place.state.player();
+        self.made.push(Made { player, at, pairs })?;
+        let left = replace(&mut self.place, to);
+        self.workspace.keep(left);
+        Ok(())
+    }
+
+    /// Counts one more refused message of a seat. The match ends if the count passes the allowed number. Returns whether
+    /// it does.
+    pub(crate) fn refuse(&mut self, seat: usize, allowed: u32) -> bool
+        requires seat { IsSeatOf (length self.old.refusals.items) seat }
         requires few { All (λ count. count ≤ most_refusals) self.old.refusals.items }
-        ensures before { result ≡ refusals_of (play_of self.old) seat }
-        ensures after { play_of self.new ≡ refused (play_of self.old) seat }
+        ensures spent { result ≡ true →
+            (allowed ≤ refusals_of (play_of self.old) seat)
+            × (play_of self.new ≡ ended (refused (play_of self.old) seat) (Outcome.Refusals seat)) }
+        ensures counted { result ≡ false →
+            (refusals_of (play_of self.old) seat < allowed)
+            × (play_of self.new ≡ refused (play_of self.old) seat) }
     {
         let before = self.refusals[seat - 1];
         self.refusals[seat - 1] = before + 1;
-        before
+        if before < allowed {
+            return false;
+        }
+        self.outcome = Some(Outcome::Refusals {
+            player: seat as u64,
+        });
+        true
     }
 }

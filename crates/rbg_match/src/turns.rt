@@ -1,78 +1,158 @@
 //! How play goes on, until a player is to move or the match has ended.
-ghost use Rattle.std.specs.Prelude.{◌≡◌, length, take, OnOk, OnErr};
-ghost use Rattle.rbg_wire.specs.Messages.{move_message, end_message, ArePairs, OutcomeHasSpelling};
-ghost use Rattle.rbg_match.specs.Deliveries.{to_each, to_others};
-ghost use Rattle.rbg_match.specs.internal.Saying.{Says};
-ghost use Rattle.rbg_match.specs.Play.{scores_of, ended, moved};
-ghost use Rattle.rbg_match.specs.internal.PlayOf.{play_of};
-ghost use Rattle.rbg_rules.specs.Places.{IsPlaceOf};
-ghost use Rattle.rbg_match.specs.internal.Playable.{IsPlayOf};
-ghost use Rattle.rbg_match.specs.PlayingOn.{PlaysOn, seats_of};
-ghost use Rattle.rbg_match.specs.internal.OneStep.{PlaysOnOnce};
+ghost use Rattle.std.specs.Prelude.{◌≡◌, ◌⊎◌, length, take};
 ghost use Rattle.rbg_base.specs.Move.{IsMoveLength};
+ghost use Rattle.rbg_rules.specs.Moves.{IsLegal, Legal};
+ghost use Rattle.rbg_rules.specs.Places.{IsPlaceOf};
+ghost use Rattle.rbg_wire.specs.Messages.{ArePairs, OutcomeHasSpelling, end_message};
+ghost use Rattle.rbg_match.specs.Deliveries.{to_others};
+ghost use Rattle.rbg_match.specs.Play.{ended, scores_of, turn_begun};
+ghost use Rattle.rbg_match.specs.PlayingOn.{PlaysOn, seats_of};
+ghost use Rattle.rbg_match.specs.internal.Replies.{Ends, Makes, PlaysOnOnce, Replies};
 
-use crate::asking::{above_limits, find_pairs};
-use crate::context::Context;
-use crate::play::Play;
-use crate::{Made, Outbox};
+use crate::asking::find_pairs;
+use crate::state::Referee;
 use rbg_base::{Memory, Pair};
-use rbg_moves::{MAX_KEEPER_MOVES, Move, Place};
-use rbg_rules::Game;
+use rbg_moves::{MAX_KEEPER_MOVES, Move, Over, Place, PlayedGame};
 use rbg_wire::{Message, Outcome, Scores};
-use std::mem::replace;
 
-/// Ends the match and tells every seat how it ended.
-pub(crate) fn end(play: &mut Play, outcome: Outcome, outbox: &mut Outbox) -> Result<(), Memory>
-    requires { OutcomeHasSpelling outcome }
-    ensures play { play_of play.new ≡ ended (play_of play.old) outcome }
-    ensures says { Says outbox.old outbox.new result (λ _ said.
-        said ≡ to_each (length outbox.old) (end_message outcome)) }
-{
-    let told = outcome;
-    play.outcome = Some(told);
-    let ending = Message::Ended { outcome };
-    outbox.tell_each(&ending)?;
-    Ok(())
+/// What one step of play was.
+#[derive(Clone, Copy, Debug, PartialEq, Eq)]
+pub(crate) enum Progress {
+    /// The keeper has moved, so play goes on.
+    KeeperMoved,
+    /// A player is to move, or the match has ended.
+    Settled,
 }
 
-/// Ends the match because a seat's stream has ended, and tells every other seat so.
-pub(crate) fn leave(play: &mut Play, seat: usize, outbox: &mut Outbox) -> Result<(), Memory>
-    ensures play { play_of play.new ≡ ended (play_of play.old) (Outcome.Gone seat) }
-    ensures says { Says outbox.old outbox.new result (λ _ said.
-        said ≡ to_others (length outbox.old) seat (end_message (Outcome.Gone seat))) }
-{
-    let outcome = Outcome::Gone {
-        player: seat as u64,
-    };
-    let told = outcome;
-    play.outcome = Some(told);
-    let ending = Message::Ended { outcome };
-    outbox.tell_others(seat, &ending)?;
-    Ok(())
-}
+impl Referee {
+    /// Ends the match and tells every seat how it ended.
+    pub(crate) fn end(&mut self, outcome: Outcome) -> Result<(), Memory>
+        requires { OutcomeHasSpelling outcome }
+        ensures { Replies self.old self.new result (Ends outcome) }
+    {
+        let told = outcome;
+        self.play.outcome = Some(told);
+        let ending = Message::Ended { outcome };
+        self.outbox.tell_each(&ending)?;
+        Ok(())
+    }
 
-/// Makes the mover's move, which leads to the given place, and sends it to every seat.
-pub(crate) fn make(
-    context: Context<'_>,
-    play: &mut Play,
-    pairs: Move,
-    to: Place,
-    outbox: &mut Outbox,
-) -> Result<(), Memory>
-    requires { ArePairs pairs }
-    ensures play { OnOk result (play_of play.new
-        ≡ moved (play_of play.old) context.entry.moment pairs to) }
-    ensures err { OnErr result (play_of play.new ≡ play_of play.old) }
-    ensures says { Says outbox.old outbox.new result (λ _ said.
-        said ≡ to_each (length outbox.old) (move_message pairs)) }
-{
-    outbox.tell_move(pairs.as_slice())?;
-    let player = play.place.state.player();
-    let at = context.moment;
-    play.made.push(Made { player, at, pairs })?;
-    let left = replace(&mut play.place, to);
-    play.workspace.keep(left);
-    Ok(())
+    /// Ends the match because a seat's stream has ended, and tells every other seat so.
+    pub(crate) fn leave(&mut self, seat: usize) -> Result<(), Memory>
+        ensures { Replies self.old self.new result (λ referee _ after said.
+            (after ≡ ended referee.play (Outcome.Gone seat))
+            × (said ≡ to_others (seats_of referee.game) seat (end_message (Outcome.Gone seat)))) }
+    {
+        let outcome = Outcome::Gone {
+            player: seat as u64,
+        };
+        let told = outcome;
+        self.play.outcome = Some(told);
+        let ending = Message::Ended { outcome };
+        self.outbox.tell_others(seat, &ending)?;
+        Ok(())
+    }
+
+    /// Ends the match because a question is above the limits. A want of memory is passed on.
+    pub(crate) fn end_heavy(&mut self, over: Over) -> Result<(), Memory>
+        ensures { Replies self.old self.new result (λ referee value after said.
+            ((over ≡ Over.Deep) ⊎ (over ≡ Over.Wide))
+            × Ends Outcome.Heavy referee value after said) }
+    {
+        match over {
+            Over::Deep => self.end(Outcome::Heavy),
+            Over::Wide => self.end(Outcome::Heavy),
+            Over::Memory => Err(Memory),
+        }
+    }
+
+    /// Ends the match with the players' scores.
+    fn end_finished(&mut self) -> Result<(), Memory>
+        ensures { Replies self.old self.new result (λ referee.
+            Ends (Outcome.Finished (scores_of referee.game referee.play)) referee) }
+    {
+        let scores = scores(&self.game, &self.play.place);
+        self.end(Outcome::Finished { scores })
+    }
+
+    /// Makes the mover's legal move, which leads to the given place, and sends it to every seat.
+    pub(crate) fn make(&mut self, pairs: Move, to: Place) -> Result<(), Memory>
+        requires spelled { ArePairs pairs }
+        requires legal { Legal self.old.game self.old.play.place pairs to }
+        requires in_game { IsPlaceOf self.old.game to }
+        ensures { Replies self.old self.new result (λ referee _. Makes referee pairs) }
+    {
+        self.outbox.tell_move(pairs.as_slice())?;
+        self.play.make(pairs, to, self.moment)?;
+        Ok(())
+    }
+
+    /// Makes a legal move of the keeper, and sends it to every seat.
+    fn make_for_keeper(&mut self, pairs: Vec<Pair>) -> Result<(), Memory>
+        requires legal { IsLegal self.old.game self.old.play.place pairs.items }
+        requires spelled { ArePairs pairs.items }
+        requires length { IsMoveLength (length pairs.items) }
+        ensures { Replies self.old self.new result (λ referee _. Makes referee pairs.items) }
+    {
+        let to = self
+            .game
+            .make_move_with(&self.play.place, &pairs, &mut self.play.workspace)?;
+        self.make(move_of(&pairs), to)?;
+        self.play.workspace.keep_pairs(pairs);
+        Ok(())
+    }
+
+    /// Begins the turn of the player who is to move.
+    fn begin_turn(&mut self)
+        ensures { self.new ≡ record self.old { play = turn_begun self.old.play self.old.moment } }
+    {
+        self.play.turn_began = self.moment;
+    }
+
+    /// Plays one step after that many keeper moves in a row: ends the match, makes a move of the keeper, or begins a
+    /// player's turn.
+    fn play_on_once(&mut self, in_a_row: u32) -> Result<Progress, Memory>
+        ensures { Replies self.old self.new result (PlaysOnOnce in_a_row) }
+    {
+        let mover = self.play.mover();
+        if mover == 0 && in_a_row >= MAX_KEEPER_MOVES {
+            self.end(Outcome::Heavy)?;
+            return Ok(Progress::Settled);
+        }
+        match find_pairs(&self.game, &self.play.place, &mut self.play.workspace) {
+            Ok(None) => {
+                self.end_finished()?;
+                Ok(Progress::Settled)
+            }
+            Ok(Some(pairs)) => {
+                if mover != 0 {
+                    self.play.workspace.keep_pairs(pairs);
+                    self.begin_turn();
+                    return Ok(Progress::Settled);
+                }
+                self.make_for_keeper(pairs)?;
+                Ok(Progress::KeeperMoved)
+            }
+            Err(over) => {
+                self.end_heavy(over)?;
+                Ok(Progress::Settled)
+            }
+        }
+    }
+
+    /// Plays on until a player is to move or the match has ended.
+    pub(crate) fn play_on(&mut self) -> Result<(), Memory>
+        ensures { Replies self.old self.new result (λ referee _.
+            PlaysOn referee.game referee.moment 0 referee.play) }
+    {
+        let mut in_a_row = 0;
+        loop {
+            match self.play_on_once(in_a_row)? {
+                Progress::KeeperMoved => in_a_row += 1,
+                Progress::Settled => return Ok(()),
+            }
+        }
+    }
 }
 
 /// The move of these pairs.
@@ -87,92 +167,15 @@ fn move_of(pairs: &[Pair]) -> Move
 }
 
 /// The players' scores at a place.
-fn scores(game: &Game, place: &Place) -> Scores
+fn scores(game: &PlayedGame, place: &Place) -> Scores
     requires { IsPlaceOf game.now place.now }
     ensures values { result ≡ take (length game.now.players) place.now.state.values }
     ensures spelled { OutcomeHasSpelling (Outcome.Finished result) }
 {
+    let found = game.scores(place);
     let mut scores = Scores::new();
-    for index in 0..game.players() {
-        scores.push(u64::from(place.state.score(index as u16 + 1)));
+    for index in 0..found.len() {
+        scores.push(found.as_slice()[index]);
     }
     scores
-}
-
-/// What one step of play was.
-#[derive(Clone, Copy, Debug, PartialEq, Eq)]
-pub(crate) enum Progress {
-    /// The keeper has moved, so play goes on.
-    KeeperMoved,
-    /// A player is to move, or the match has ended.
-    Settled,
-}
-
-/// Plays one step after that many keeper moves in a row: ends the match, makes a move of the keeper, or begins a
-/// player's turn.
-fn play_on_once(
-    context: Context<'_>,
-    play: &mut Play,
-    in_a_row: u32,
-    outbox: &mut Outbox,
-) -> Result<Progress, Memory>
-    requires play { IsPlayOf context.game.now (play_of play.old) }
-    requires seats { length outbox.old ≡ seats_of context.game.now }
-    ensures play { IsPlayOf context.entry.game.now (play_of play.new) }
-    ensures says { Says outbox.old outbox.new result
-        (PlaysOnOnce context.entry.game.now context.entry.moment in_a_row (play_of play.old)
-        (play_of play.new)) }
-{
-    let mover = play.mover();
-    if mover == 0 && in_a_row >= MAX_KEEPER_MOVES {
-        end(play, Outcome::Heavy, outbox)?;
-        return Ok(Progress::Settled);
-    }
-    match find_pairs(context.game, &play.place, &mut play.workspace) {
-        Ok(None) => {
-            let scores = scores(context.game.as_game(), &play.place);
-            end(play, Outcome::Finished { scores }, outbox)?;
-            Ok(Progress::Settled)
-        }
-        Ok(Some(pairs)) => {
-            if mover != 0 {
-                play.turn_began = context.moment;
-                play.workspace.keep_pairs(pairs);
-                return Ok(Progress::Settled);
-            }
-            let to = context
-                .game
-                .make_move_with(&play.place, &pairs, &mut play.workspace)?;
-            make(context, play, move_of(&pairs), to, outbox)?;
-            play.workspace.keep_pairs(pairs);
-            Ok(Progress::KeeperMoved)
-        }
-        Err(over) => {
-            above_limits(over)?;
-            end(play, Outcome::Heavy, outbox)?;
-            Ok(Progress::Settled)
-        }
-    }
-}
-
-/// Plays on until a player is to move or the match has ended.
-pub(crate) fn play_on(
-    context: Context<'_>,
-    play: &mut Play,
-    outbox: &mut Outbox,
-) -> Result<(), Memory>
-    requires play { IsPlayOf context.game.now (play_of play.old) }
-    requires seats { length outbox.old ≡ seats_of context.game.now }
-    ensures play { IsPlayOf context.entry.game.now (play_of play.new) }
-    ensures says { Says outbox.old outbox.new result (λ _ said.
-        PlaysOn context.entry.game.now context.entry.moment 0 (play_of play.old) (play_of play.new)
-        said) }
-{
-    let mut in_a_row = 0;
-    loop {
-        match play_on_once(context, play, in_a_row, outbox)? {
-            Progress::KeeperMoved => in_a_row += 1,
-            Progress::Settled => return Ok(()),
-        }
-    }
 }

@@ -1,5 +1,5 @@
 -- One more pair of those that come next, behind which moves were listed.
-use Rattle.std.proofs.Common.{◌≡◌, ℕ, suc, ◌+◌, ◌<◌, List, [], length, take, get_or, Bool, true, false, sym, ◌∙◌, subst}
+use Rattle.std.proofs.Common.{◌≡◌, ℕ, suc, ◌+◌, ◌<◌, List, [], length, take, get_or, Bool, true, false, refl, sym, ◌∙◌, subst}
 use Rattle.std.specs.Prelude.{IsTrue, ◌↔◌, Result, Err}
 use Rattle.rbg_rules.specs.Positions.{IsNumbered, IsSwitchAt}
 use Rattle.rbg_rules.specs.Words.{Start, after}
@@ -11,6 +11,8 @@ use Rattle.rbg_rules.specs.Questions.{list_moves, try_move, reach, IsDeep}
 use Rattle.rbg_rules.proofs.MoveLemmas.{Applies_one}
 use Rattle.rbg_search.specs.Flat.{IsNext, IsFlatPart}
 use Rattle.rbg_search.specs.Counting.{CountsOpenings, IsOverBudget}
+use Rattle.rbg_search.specs.Taken.{CountsPairs}
+use Rattle.rbg_moves.proofs.Tallies.{more_takes}
 use Rattle.rbg_search.specs.Passing.{listing, GoesOn, CountsUpTo, IsTooDeep, from_here, somewhere}
 use Rattle.rbg_search.proofs.CallerLemmas.{list_begins, counts_begin, counts_taken, counts_end, over_begin, over_taken, deep_begin, deep_more, row_one}
 use Rattle.rbg_moves.specs.internal.Gathering.{Gathers, IsBehind, IsLegalBy, IsSwitchOr, ListsSwitches, GathersBehind}
@@ -65,6 +67,12 @@ further_counted game game' numbered place s' pairs ends part k q under is plain 
     let next = next_at game place pairs ends part k q under is in
     counts_taken game numbered pairs k so_far part.different under is (goes_on game numbered place q next plain)
     (at_later (λ g later. CountsOpenings g list_moves later (after q.1) b c) game game' numbered place s' q next same same_state behind)
+
+pub further_paired : (game game' : AbstractGame) → IsNumbered game.rules → (place : AbstractPlace) (s' : AbstractState) (pairs : List (ℕ × ℕ)) (ends : Bool) → Part game place pairs ends → (k : ℕ) (q : ℕ × ℕ) → k < length pairs → get_or pairs k q ≡ q → ¬ IsSwitchAt game.rules q.1 → game' ≡ game → s' ≡ place.state → (a b c t u w : ℕ) → CountsPairs game list_moves place.state (stand_of place.last) a b t u (Unit {0}) → ((later : AbstractState) → Applies game' q.1 (standing_at s' q.0) later → CountsPairs game' list_moves later (after q.1) b c u w (Unit {0})) → CountsPairs game list_moves place.state (stand_of place.last) a c t w (Unit {0})
+further_paired game game' numbered place s' pairs ends part k q under is plain same same_state a b c t u w so_far behind =
+    let next = next_at game place pairs ends part k q under is in
+    more_takes game game list_moves list_moves place.state next.later (stand_of place.last) q.0 q.1 a b c t u w refl (goes_on game numbered place q next plain) so_far
+    (at_later (λ g later. CountsPairs g list_moves later (after q.1) b c u w (Unit {0})) game game' numbered place s' q next same same_state behind)
 
 pub further_wide : (game game' : AbstractGame) → IsNumbered game.rules → (place : AbstractPlace) (s' : AbstractState) (pairs : List (ℕ × ℕ)) (ends : Bool) → Part game place pairs ends → (k : ℕ) (q : ℕ × ℕ) → k < length pairs → get_or pairs k q ≡ q → ¬ IsSwitchAt game.rules q.1 → game' ≡ game → s' ≡ place.state → (a b most most' : ℕ) → most' ≡ most → CountsUpTo game list_moves place.state (stand_of place.last) (take k pairs) a b → ((later : AbstractState) → Applies game' q.1 (standing_at s' q.0) later → IsOverBudget game' list_moves later (after q.1) b most') → IsOverBudget game list_moves place.state (stand_of place.last) a most
 further_wide game game' numbered place s' pairs ends part k q under is plain same same_state a b most most' same_most so_far behind =

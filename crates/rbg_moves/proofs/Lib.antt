@@ -10,3 +10,5 @@ pub mod Seeking
 pub mod Forcing
 pub mod Copies
 pub mod Scoring
+pub mod Tallies
+pub mod Results

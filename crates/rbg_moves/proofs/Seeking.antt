@@ -24,17 +24,17 @@ use Rattle.rbg_moves.specs.internal.Stepping.{standing_at, place_behind, GoesOnB
 use Rattle.rbg_moves.proofs.Steps.{next_applies, legal_on}
 
 -- A search and a semi-state that were given back are of the game and of the semi-state that they were.
-pub onward : (P : AbstractGame → AbstractState → Type 0) (a b : Searching) (h k : History) → b ≡ (record a { opened = b.opened }) → k ≡ (record h { room = k.room }) → P a.game h.state → P b.game k.state
+pub onward : (P : AbstractGame → AbstractState → Type 0) (a b : Searching) (h k : History) → b ≡ (record a { opened = b.opened; taken = b.taken }) → k ≡ (record h { room = k.room }) → P a.game h.state → P b.game k.state
 onward P a b h k kept given fact =
     subst (λ (g : AbstractGame). P g k.state) (sym (ap (λ (x : Searching). x.game) kept))
     (subst (λ (u : AbstractState). P a.game u) (sym (ap (λ (x : History). x.state) given)) fact)
 
-pub before : (P : AbstractGame → AbstractState → Type 0) (a b : Searching) (h k : History) → b ≡ (record a { opened = b.opened }) → k ≡ (record h { room = k.room }) → P b.game k.state → P a.game h.state
+pub before : (P : AbstractGame → AbstractState → Type 0) (a b : Searching) (h k : History) → b ≡ (record a { opened = b.opened; taken = b.taken }) → k ≡ (record h { room = k.room }) → P b.game k.state → P a.game h.state
 before P a b h k kept given fact =
     subst (λ (g : AbstractGame). P g h.state) (ap (λ (x : Searching). x.game) kept)
     (subst (λ (u : AbstractState). P b.game u) (ap (λ (x : History). x.state) given) fact)
 
-pub kept_twice : (a b c : Searching) → b ≡ (record a { opened = b.opened }) → c ≡ (record b { opened = c.opened }) → c ≡ (record a { opened = c.opened })
+pub kept_twice : (a b c : Searching) → b ≡ (record a { opened = b.opened; taken = b.taken }) → c ≡ (record b { opened = c.opened; taken = c.taken }) → c ≡ (record a { opened = c.opened; taken = c.taken })
 kept_twice a b c one other = cc
 
 pub room_twice : (a b c : History) → b ≡ (record a { room = b.room }) → c ≡ (record b { room = c.room }) → c ≡ (record a { room = c.room })
@@ -86,7 +86,7 @@ module _ (game : AbstractGame) (s : AbstractState) (f : Start) (xs : List (ℕ �
   pub pair_applies : Applies game q.1 (standing_at s q.0) pair_next.later
   pair_applies = next_applies game here.lawful.numbered s f q.0 q.1 pair_next
 
-  pair_on : GoesOn game find_move s f q.0 q.1 find_move pair_next.later
+  pub pair_on : GoesOn game find_move s f q.0 q.1 find_move pair_next.later
   pair_on = record {
     next = pair_next;
     applies = pair_applies;

@@ -3,4 +3,5 @@ pub mod Equality
 pub mod Listing
 pub mod Limits
 pub mod Settling
+pub mod Tallying
 pub mod internal

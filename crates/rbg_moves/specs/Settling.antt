@@ -17,6 +17,12 @@ pub data KeeperMoves (game : AbstractGame) (from : AbstractPlace) : (many : ℕ)
       IsMoveLength (length pairs) →
       KeeperMoves game from (suc many) to
 
+-- Moves of the keeper, at most 1,000, lead from one place to the other.
+pub record SomeKeeperMoves (game : AbstractGame) (from to : AbstractPlace) : Type 0 where
+  pub many : ℕ
+  pub few : many ≤ most_keeper_moves
+  pub moves : KeeperMoves game from many to
+
 -- The keeper's moves, at most 1,000, lead from one place to the other. There a player is to move, or play is finished
 -- after fewer than 1,000: after 1,000 the keeper is asked no more.
 pub record Settles (game : AbstractGame) (from to : AbstractPlace) : Type 0 where

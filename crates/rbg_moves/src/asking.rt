@@ -27,6 +27,8 @@ pub(crate) fn search_in<'a, S: Steps>(
     ensures openings { result.openings ≡ most_openings }
     ensures modifiers { result.modifiers ≡ most_modifiers }
     ensures opened { result.opened ≡ 0 }
+    ensures taken { result.taken ≡ 0 }
+    ensures tally { workspace.new ≡ workspace.old }
 {
     let budget = Budget {
         openings: MAX_OPENINGS as u32,

@@ -1,5 +1,5 @@
 //! Some legal move, where there is one.
-ghost use Rattle.std.specs.Prelude.{◌≡◌, ◌⊎◌, ◌+◌, ◌-◌, ◌<◌, ◌≤◌, length, All, Contains, IfOk, IfSome, IfNone, IsTrue, not, OnOk, Err, Bool, false};
+ghost use Rattle.std.specs.Prelude.{◌≡◌, ◌⊎◌, ◌+◌, ◌-◌, ◌<◌, ◌≤◌, length, All, Contains, IfOk, IfSome, IfNone, IsTrue, not, OnOk, OnErr, Err, Bool, false};
 ghost use Rattle.rbg_base.specs.Move.{most_pairs, IsMoveLength};
 ghost use Rattle.rbg_rules.specs.State.{AbstractState, IsStateOf};
 ghost use Rattle.rbg_rules.specs.Positions.{IsSwitchAt};
@@ -14,7 +14,10 @@ ghost use Rattle.rbg_search.specs.Start.{IsPositionOf};
 ghost use Rattle.rbg_search.specs.Counting.{CountsOpenings, IsOverBudget};
 ghost use Rattle.rbg_search.specs.Passing.{IsTooDeep};
 ghost use Rattle.rbg_search.specs.Forced.{CountsForced};
+ghost use Rattle.rbg_search.specs.Taken.{CountsPairs};
+ghost use Rattle.rbg_state.specs.History.{IsAfter};
 ghost use Rattle.rbg_moves.specs.Limits.{IsDeepAt, IsWideAt, FitsLimits};
+ghost use Rattle.rbg_moves.specs.Tallying.{IsTallied};
 ghost use Rattle.rbg_moves.specs.internal.Stepping.{standing_at, place_behind, IsValidAt, GoesOnByMove, GoesOnBehind};
 
 use crate::asking::{budget_is_kept, game_is_accepted, join, move_of, origin_after, search_in};
@@ -74,6 +77,9 @@ pub fn find_move_with<S: Steps>(
     ensures deep { result ≡ Err Over.Deep → IsDeepAt game.now find_move place.now }
     ensures wide { result ≡ Err Over.Wide → IsWideAt game.now find_move place.now }
     ensures fits { OnOk result ((cut : Bool) → FitsLimits game.now cut find_move place.now) }
+    ensures tally { OnOk result (IsTallied game.now find_move place.now
+        workspace.old.searches workspace.new.searches) }
+    ensures untallied { OnErr result (workspace.new.searches ≡ workspace.old.searches) }
 {
     let Some(pairs) = find_pairs_with(alloc, game, steps, place, workspace)? else {
         return Ok(None);
@@ -84,7 +90,7 @@ pub fn find_move_with<S: Steps>(
 }
 
 /// As `find_move_with`, with the pairs of the move in a list, which `Workspace::keep_pairs` takes back.
-pub fn find_pairs_with<S: Steps>(
+pub(crate) fn find_pairs_with<S: Steps>(
     alloc: Global,
     game: &Game,
     steps: &S,
@@ -103,6 +109,9 @@ pub fn find_pairs_with<S: Steps>(
     ensures deep { result ≡ Err Over.Deep → IsDeepAt game.now find_move place.now }
     ensures wide { result ≡ Err Over.Wide → IsWideAt game.now find_move place.now }
     ensures fits { OnOk result ((cut : Bool) → FitsLimits game.now cut find_move place.now) }
+    ensures tally { OnOk result (IsTallied game.now find_move place.now
+        workspace.old.searches workspace.new.searches) }
+    ensures untallied { OnErr result (workspace.new.searches ≡ workspace.old.searches) }
 {
     workspace.asked.copy_from(&place.state)?;
     let found = find_from(
@@ -118,9 +127,8 @@ pub fn find_pairs_with<S: Steps>(
     Ok(found)
 }
 
-/// As `find_pairs_with`, but asked on the place's own semi-state, which is given back. Where there is no answer, what is
-/// left there is no use.
-pub fn find_pairs_on<S: Steps>(
+/// As `find_pairs_with`, but asked on the place's own semi-state, which is given back, also where there is no answer.
+pub(crate) fn find_pairs_on<S: Steps>(
     alloc: Global,
     game: &Game,
     steps: &S,
@@ -134,12 +142,15 @@ pub fn find_pairs_on<S: Steps>(
     ensures length { IfOk result (λ found.
         IfSome found (λ pairs. IsMoveLength (length pairs.items))) }
     ensures finished { IfOk result (λ found. IfNone found (Finished game.now place.old)) }
-    ensures kept { OnOk result (place.new ≡ place.old) }
+    ensures kept { place.new ≡ place.old }
     ensures heavy { (result ≡ Err Over.Deep) ⊎ (result ≡ Err Over.Wide)
         → IsHeavyToFind game.now place.old }
     ensures deep { result ≡ Err Over.Deep → IsDeepAt game.now find_move place.old }
     ensures wide { result ≡ Err Over.Wide → IsWideAt game.now find_move place.old }
     ensures fits { OnOk result ((cut : Bool) → FitsLimits game.now cut find_move place.old) }
+    ensures tally { OnOk result (IsTallied game.now find_move place.old
+        workspace.old.searches workspace.new.searches) }
+    ensures untallied { OnErr result (workspace.new.searches ≡ workspace.old.searches) }
 {
     let after = place.after;
     let found = find_from(
@@ -174,18 +185,24 @@ fn find_from<S: Steps>(
         IfSome found (λ pairs. IsMoveLength (length pairs.items))) }
     ensures finished { IfOk result (λ found. IfNone found
         (Finished game.now (record { state = state.old.state; last = after }))) }
-    ensures kept { OnOk result (state.new.state ≡ state.old.state) }
+    ensures kept { state.new.state ≡ state.old.state }
     ensures deep { result ≡ Err Over.Deep
         → IsDeepAt game.now find_move (record { state = state.old.state; last = after }) }
     ensures wide { result ≡ Err Over.Wide
         → IsWideAt game.now find_move (record { state = state.old.state; last = after }) }
     ensures fits { OnOk result ((cut : Bool)
         → FitsLimits game.now cut find_move (record { state = state.old.state; last = after })) }
+    ensures tally { OnOk result (IsTallied game.now find_move
+        (record { state = state.old.state; last = after }) searches.old searches.new) }
+    ensures untallied { OnErr result (searches.new ≡ searches.old) }
 {
     game_is_accepted(game);
     front.clear();
+    let mark = state.mark();
     let mut search = search_in(alloc, game, steps, searches);
-    let found = find(&mut search, state, front, whole, after)?;
+    let found = find(&mut search, state, front, whole, after);
+    state.undo_to(mark);
+    let found = found?;
     budget_is_kept(&search);
     search.leave(searches);
     if !found {
@@ -206,9 +223,10 @@ fn find<S: Steps>(
 ) -> Result<bool, Over>
     requires place { IsPlaceOf search.old.game (record { state = state.old.state; last = after }) }
     requires short { length front.old.items < most_pairs }
-    ensures search { search.new ≡ record search.old { opened = search.new.opened } }
+    ensures search { search.new ≡ record search.old { opened = search.new.opened; taken = search.new.taken } }
     ensures state { OnOk result (state.new ≡ record state.old { room = state.new.room }) }
     ensures room { OnOk result (state.old.room ≤ state.new.room) }
+    ensures after { OnErr result (IsAfter state.old state.new) }
     ensures front { OnOk result (front.new.items ≡ front.old.items) }
     ensures found { IfOk result (λ found. IsTrue found → GoesOnByMove search.old.game
         (record { state = state.old.state; last = after }) front.old.items whole.new.items) }
@@ -217,6 +235,9 @@ fn find<S: Steps>(
         (record { state = state.old.state; last = after })) }
     ensures counted { OnOk result (CountsOpenings search.old.game find_move state.old.state
         (stand_of after) search.old.opened search.new.opened) }
+    ensures paired { OnOk result (CountsPairs search.old.game find_move state.old.state
+        (stand_of after) search.old.opened search.new.opened
+        search.old.taken search.new.taken (Unit {0})) }
     ensures deep { result ≡ Err Over.Deep
         → IsTooDeep search.old.game find_move state.old.state (stand_of after)
         (most_pairs - length front.old.items) search.old.modifiers }
@@ -269,9 +290,10 @@ fn find_behind<S: Steps>(
     requires valid { IsValidAt game.now state.old.state vertex position }
     requires room { 2 ≤ state.old.room }
     requires short { length front.old.items + 1 < most_pairs }
-    ensures search { search.new ≡ record search.old { opened = search.new.opened } }
+    ensures search { search.new ≡ record search.old { opened = search.new.opened; taken = search.new.taken } }
     ensures state { OnOk result (state.new ≡ record state.old { room = state.new.room }) }
     ensures room { OnOk result (state.old.room ≤ state.new.room) }
+    ensures after { OnErr result (IsAfter state.old state.new) }
     ensures front { OnOk result (front.new.items ≡ front.old.items) }
     ensures found { IfOk result (λ found. IsTrue found → GoesOnBehind game.now state.old.state
         vertex position front.old.items whole.new.items) }
@@ -283,6 +305,10 @@ fn find_behind<S: Steps>(
         → Applies game.now position (standing_at state.old.state vertex) later
         → CountsOpenings game.now find_move later (after position)
         search.old.opened search.new.opened) }
+    ensures paired { OnOk result ((later : AbstractState)
+        → Applies game.now position (standing_at state.old.state vertex) later
+        → CountsPairs game.now find_move later (after position)
+        search.old.opened search.new.opened search.old.taken search.new.taken (Unit {0})) }
     ensures deep { result ≡ Err Over.Deep → (later : AbstractState)
         → Applies game.now position (standing_at state.old.state vertex) later
         → IsTooDeep game.now find_move later (after position)

@@ -1,5 +1,5 @@
 //! The legal moves of a place.
-ghost use Rattle.std.specs.Prelude.{◌≡◌, ◌≢◌, ◌⊎◌, ℕ, ◌+◌, ◌-◌, ◌<◌, ◌≤◌, [], ◌∷◌, ◌++◌, length, All, AllPairs, IfOk, OnOk, Err, Some, Bool};
+ghost use Rattle.std.specs.Prelude.{◌≡◌, ◌≢◌, ◌⊎◌, ℕ, ◌+◌, ◌-◌, ◌<◌, ◌≤◌, [], ◌∷◌, ◌++◌, length, All, AllPairs, IfOk, OnOk, OnErr, IsOk, Err, Some, Bool};
 ghost use Rattle.std.specs.List.Sorted.{IsPermutation};
 ghost use Rattle.rbg_base.specs.Move.{most_pairs};
 ghost use Rattle.rbg_rules.specs.State.{AbstractState, IsStateOf};
@@ -16,8 +16,10 @@ ghost use Rattle.rbg_search.specs.Flat.{IsFlatPart};
 ghost use Rattle.rbg_search.specs.Counting.{CountsOpenings, IsOverBudget};
 ghost use Rattle.rbg_search.specs.Passing.{IsTooDeep};
 ghost use Rattle.rbg_search.specs.Forced.{CountsForced};
+ghost use Rattle.rbg_search.specs.Taken.{CountsPairs};
 ghost use Rattle.rbg_moves.specs.Limits.{IsDeepAt, IsWideAt, FitsLimits};
 ghost use Rattle.rbg_moves.specs.Listing.{IsGathered, IsListed, IsMoveBefore};
+ghost use Rattle.rbg_moves.specs.Tallying.{IsTallied};
 ghost use Rattle.rbg_moves.specs.internal.Gathering.{Gathers, GathersBehind, ListsSwitches};
 ghost use Rattle.rbg_moves.specs.internal.Stepping.{standing_at, IsValidAt};
 
@@ -75,7 +77,7 @@ pub fn list_moves<S: Steps>(
 
 /// As `list_moves`, with the buffers of a workspace, which also counts what is taken up. Where there is no answer, its
 /// buffers are lost.
-pub fn list_moves_with<S: Steps>(
+pub(crate) fn list_moves_with<S: Steps>(
     alloc: Global,
     game: &Game,
     steps: &S,
@@ -104,7 +106,7 @@ pub fn list_moves_with<S: Steps>(
 
 /// As `list_moves_with`, but the moves stand in the order in which they were found, in a list that
 /// `Workspace::keep_moves` takes back.
-pub fn gather_moves_with<S: Steps>(
+pub(crate) fn gather_moves_with<S: Steps>(
     alloc: Global,
     game: &Game,
     steps: &S,
@@ -123,6 +125,9 @@ pub fn gather_moves_with<S: Steps>(
     ensures wide { result ≡ Err Over.Wide → IsWideAt game.now listing_moves place.now }
     ensures fits { IfOk result (λ gathered.
         FitsLimits game.now gathered.cut listing_moves place.now) }
+    ensures tally { OnOk result (IsTallied game.now listing_moves place.now
+        workspace.old.searches workspace.new.searches) }
+    ensures untallied { OnErr result (workspace.new.searches ≡ workspace.old.searches) }
 {
     let found = gather(alloc, game, steps, place, max, false, workspace)?;
     Ok(found)
@@ -149,6 +154,9 @@ fn gather<S: Steps>(
     ensures wide { result ≡ Err Over.Wide → IsWideAt game.now listing_moves place.now }
     ensures fits { IfOk result (λ gathered.
         FitsLimits game.now gathered.cut listing_moves place.now) }
+    ensures tally { OnOk result (IsTallied game.now listing_moves place.now
+        workspace.old.searches workspace.new.searches) }
+    ensures untallied { OnErr result (workspace.new.searches ≡ workspace.old.searches) }
 {
     let moves = workspace.take_moves();
     let mut found = Found {
@@ -243,7 +251,7 @@ fn reach_next<S: Steps>(
 ) -> Result<bool, Over>
     requires fits { IsStateOf search.old.game state.old.state }
     requires stands { IsStart search.old.game.rules (start_of origin) }
-    ensures kept { search.new ≡ record search.old { opened = search.new.opened } }
+    ensures kept { search.new ≡ record search.old { opened = search.new.opened; taken = search.new.taken } }
     ensures given_back { state.new ≡ record state.old { room = state.new.room } }
     ensures room { state.old.room ≤ state.new.room }
     ensures enough { OnOk result (2 ≤ state.new.room) }
@@ -254,6 +262,8 @@ fn reach_next<S: Steps>(
         pairs.new.items) }
     ensures counted { CountsOpenings search.old.game reach state.old.state (start_of origin)
         search.old.opened search.new.opened }
+    ensures paired { CountsPairs search.old.game reach state.old.state (start_of origin)
+        search.old.opened search.new.opened search.old.taken search.new.taken (IsOk result) }
     ensures deep { result ≡ Err Over.Deep
         → IsDeep search.old.game reach state.old.state (start_of origin) search.old.modifiers }
     ensures wide { result ≡ Err Over.Wide
@@ -290,7 +300,7 @@ fn list<S: Steps>(
     requires short { length front.old.items < most_pairs }
     requires few { length found.old.moves ≤ found.old.max }
     ensures lawful { IsGame search.old.game }
-    ensures search { search.new ≡ record search.old { opened = search.new.opened } }
+    ensures search { search.new ≡ record search.old { opened = search.new.opened; taken = search.new.taken } }
     ensures state { OnOk result (state.new ≡ record state.old { room = state.new.room }) }
     ensures room { OnOk result (state.old.room ≤ state.new.room) }
     ensures front { OnOk result (front.new.items ≡ front.old.items) }
@@ -300,6 +310,9 @@ fn list<S: Steps>(
         front.old.items found.old.max found.old.moves found.new.moves cut) }
     ensures counted { OnOk result (CountsOpenings search.old.game listing_moves state.old.state
         (stand_of after) search.old.opened search.new.opened) }
+    ensures paired { OnOk result (CountsPairs search.old.game listing_moves state.old.state
+        (stand_of after) search.old.opened search.new.opened
+        search.old.taken search.new.taken (Unit {0})) }
     ensures deep { result ≡ Err Over.Deep
         → IsTooDeep search.old.game listing_moves state.old.state (stand_of after)
         (most_pairs - length front.old.items) search.old.modifiers }
@@ -351,7 +364,7 @@ fn list_behind<S: Steps>(
     requires room { 2 ≤ state.old.room }
     requires short { length front.old.items + 1 < most_pairs }
     requires few { length found.old.moves ≤ found.old.max }
-    ensures search { search.new ≡ record search.old { opened = search.new.opened } }
+    ensures search { search.new ≡ record search.old { opened = search.new.opened; taken = search.new.taken } }
     ensures state { OnOk result (state.new ≡ record state.old { room = state.new.room }) }
     ensures room { OnOk result (state.old.room ≤ state.new.room) }
     ensures front { OnOk result (front.new.items ≡ front.old.items) }
@@ -363,6 +376,10 @@ fn list_behind<S: Steps>(
         → Applies search.old.game pair.1 (standing_at state.old.state pair.0) later
         → CountsOpenings search.old.game listing_moves later (after pair.1)
         search.old.opened search.new.opened) }
+    ensures paired { OnOk result ((later : AbstractState)
+        → Applies search.old.game pair.1 (standing_at state.old.state pair.0) later
+        → CountsPairs search.old.game listing_moves later (after pair.1)
+        search.old.opened search.new.opened search.old.taken search.new.taken (Unit {0})) }
     ensures deep { result ≡ Err Over.Deep → (later : AbstractState)
         → Applies search.old.game pair.1 (standing_at state.old.state pair.0) later
         → IsTooDeep search.old.game listing_moves later (after pair.1)

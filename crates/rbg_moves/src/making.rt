@@ -1,7 +1,8 @@
 //! Moves that are known to be legal.
-ghost use Rattle.std.specs.Prelude.{IfOk};
+ghost use Rattle.std.specs.Prelude.{◌≡◌, IfOk, OnErr};
 ghost use Rattle.rbg_rules.specs.Moves.{Legal, IsLegal};
 ghost use Rattle.rbg_rules.specs.Places.{IsPlaceOf};
+ghost use Rattle.rbg_state.specs.History.{IsAfter};
 
 use crate::asking::game_is_accepted;
 use crate::place::Place;
@@ -24,7 +25,7 @@ pub fn make_move(game: &Game, place: &Place, pairs: &Move) -> Result<Place, Memo
 }
 
 /// As `make_move`, with the pairs of the move and with the buffers of a workspace.
-pub fn make_move_with(
+pub(crate) fn make_move_with(
     game: &Game,
     place: &Place,
     pairs: &[Pair],
@@ -40,38 +41,40 @@ pub fn make_move_with(
     Ok(Place { state, after })
 }
 
-/// As `make_move`, with the pairs of the move, and in the buffers of another place, which becomes the place to which the
-/// move leads. Where memory is refused, what is left there is no use.
-pub fn make_move_into(
+/// As `make_move`, with the pairs of the move, and in the buffers of another place, which are let go where memory is
+/// refused.
+pub(crate) fn make_move_into(
     game: &Game,
     place: &Place,
     pairs: &[Pair],
-    to: &mut Place,
-) -> Result<(), Memory>
+    to: Place,
+) -> Result<Place, Memory>
     requires place { IsPlaceOf game.now place.now }
     requires legal { IsLegal game.now place.now pairs.now }
-    ensures to { IfOk result (λ _. Legal game.now place.now pairs.now to.new) }
-    ensures in_game { IfOk result (λ _. IsPlaceOf game.now to.new) }
+    ensures to { IfOk result (Legal game.now place.now pairs.now) }
+    ensures in_game { IfOk result (IsPlaceOf game.now) }
 {
-    to.state.copy_from(&place.state)?;
-    let after = make_all(game, &mut to.state, place.after, pairs)?;
-    to.after = after;
-    Ok(())
+    let mut state = to.state;
+    state.copy_from(&place.state)?;
+    let after = make_all(game, &mut state, place.after, pairs)?;
+    Ok(Place { state, after })
 }
 
 /// As `make_move`, with the pairs of the move, and in place. Its changes stay on the list of the place's semi-state.
-/// Where memory is refused, what is left is no use.
-pub fn make_move_on(game: &Game, place: &mut Place, pairs: &[Pair]) -> Result<(), Memory>
+/// Where memory is refused, the place stays as it is.
+pub(crate) fn make_move_on(game: &Game, place: &mut Place, pairs: &[Pair]) -> Result<(), Memory>
     requires place { IsPlaceOf game.now place.old }
     requires legal { IsLegal game.now place.old pairs.now }
     ensures to { IfOk result (λ _. Legal game.now place.old pairs.now place.new) }
     ensures in_game { IfOk result (λ _. IsPlaceOf game.now place.new) }
+    ensures refused { OnErr result (place.new ≡ place.old) }
 {
     place.after = make_all(game, &mut place.state, place.after, pairs)?;
     Ok(())
 }
 
-/// Applies the pairs of a legal move, and returns the position of the last one.
+/// Applies the pairs of a legal move, and returns the position of the last one. Where memory is refused, the semi-state
+/// stays as it is.
 fn make_all(
     game: &Game,
     state: &mut SemiState,
@@ -85,6 +88,33 @@ fn make_all(
         (record { state = state.new.state; last = last })) }
     ensures in_game { IfOk result (λ last.
         IsPlaceOf game.now (record { state = state.new.state; last = last })) }
+    ensures refused { OnErr result (state.new.state ≡ state.old.state) }
+{
+    let mark = state.mark();
+    match make_each(game, state, after, pairs) {
+        Ok(last) => Ok(last),
+        Err(memory) => {
+            state.undo_to(mark);
+            Err(memory)
+        }
+    }
+}
+
+/// Applies the pairs of a legal move one by one, and returns the position of the last one.
+fn make_each(
+    game: &Game,
+    state: &mut SemiState,
+    after: Option<Position>,
+    pairs: &[Pair],
+) -> Result<Option<Position>, Memory>
+    requires place { IsPlaceOf game.now (record { state = state.old.state; last = after }) }
+    requires legal { IsLegal game.now (record { state = state.old.state; last = after }) pairs.now }
+    ensures to { IfOk result (λ last.
+        Legal game.now (record { state = state.old.state; last = after }) pairs.now
+        (record { state = state.new.state; last = last })) }
+    ensures in_game { IfOk result (λ last.
+        IsPlaceOf game.now (record { state = state.new.state; last = last })) }
+    ensures after { OnErr result (IsAfter state.old state.new) }
 {
     game_is_accepted(game);
     let mut after = after;

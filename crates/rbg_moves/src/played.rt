@@ -12,11 +12,11 @@ ghost use Rattle.std.specs.Prelude.{
   length,
   take,
   All,
-  IfErr,
   IfNone,
   IfOk,
   IfSome,
   IsTrue,
+  OnErr,
   OnOk,
 };
 ghost use Rattle.rbg_base.specs.Move.{IsMoveLength};
@@ -29,6 +29,7 @@ ghost use Rattle.rbg_rules.specs.Questions.{find_move, list_moves as listing_mov
 ghost use Rattle.rbg_rules.specs.State.{start_of};
 ghost use Rattle.rbg_moves.specs.Limits.{FitsLimits, IsDeepAt, IsWideAt};
 ghost use Rattle.rbg_moves.specs.Listing.{IsGathered, IsListed};
+ghost use Rattle.rbg_moves.specs.Tallying.{IsTallied};
 
 use crate::asking::game_is_accepted;
 use crate::finding::{find_move, find_pairs_on, find_pairs_with};
@@ -158,12 +159,14 @@ impl PlayedGame {
         ensures deep { result ≡ Err Over.Deep → IsDeepAt self.now find_move place.now }
         ensures wide { result ≡ Err Over.Wide → IsWideAt self.now find_move place.now }
         ensures fits { OnOk result ((cut : Bool) → FitsLimits self.now cut find_move place.now) }
+        ensures tally { OnOk result (IsTallied self.now find_move place.now
+            workspace.old.searches workspace.new.searches) }
+        ensures untallied { OnErr result (workspace.new.searches ≡ workspace.old.searches) }
     {
         find_pairs_with(self.alloc, &self.game, &self.automaton, place, workspace)
     }
 
-    /// As `find_pairs`, but asked on the place's own semi-state, which is given back. Where there is no answer, what is
-    /// left there is no use.
+    /// As `find_pairs`, but asked on the place's own semi-state, which is given back, also where there is no answer.
     pub fn find_pairs_on(
         &self,
         place: &mut Place,
@@ -175,12 +178,15 @@ impl PlayedGame {
         ensures length { IfOk result (λ found.
             IfSome found (λ pairs. IsMoveLength (length pairs.items))) }
         ensures finished { IfOk result (λ found. IfNone found (Finished self.now place.old)) }
-        ensures kept { OnOk result (place.new ≡ place.old) }
+        ensures kept { place.new ≡ place.old }
         ensures heavy { (result ≡ Err Over.Deep) ⊎ (result ≡ Err Over.Wide)
             → IsHeavyToFind self.now place.old }
         ensures deep { result ≡ Err Over.Deep → IsDeepAt self.now find_move place.old }
         ensures wide { result ≡ Err Over.Wide → IsWideAt self.now find_move place.old }
         ensures fits { OnOk result ((cut : Bool) → FitsLimits self.now cut find_move place.old) }
+        ensures tally { OnOk result (IsTallied self.now find_move place.old
+            workspace.old.searches workspace.new.searches) }
+        ensures untallied { OnErr result (workspace.new.searches ≡ workspace.old.searches) }
     {
         find_pairs_on(self.alloc, &self.game, &self.automaton, place, workspace)
     }
@@ -224,6 +230,9 @@ impl PlayedGame {
         ensures wide { result ≡ Err Over.Wide → IsWideAt self.now (try_move pairs.now) place.now }
         ensures fits { OnOk result ((cut : Bool)
             → FitsLimits self.now cut (try_move pairs.now) place.now) }
+        ensures tally { OnOk result (IsTallied self.now (try_move pairs.now) place.now
+            workspace.old.searches workspace.new.searches) }
+        ensures untallied { OnErr result (workspace.new.searches ≡ workspace.old.searches) }
     {
         try_move_with(
             self.alloc,
@@ -269,6 +278,9 @@ impl PlayedGame {
         ensures wide { result ≡ Err Over.Wide → IsWideAt self.now listing_moves place.now }
         ensures fits { IfOk result (λ gathered.
             FitsLimits self.now gathered.cut listing_moves place.now) }
+        ensures tally { OnOk result (IsTallied self.now listing_moves place.now
+            workspace.old.searches workspace.new.searches) }
+        ensures untallied { OnErr result (workspace.new.searches ≡ workspace.old.searches) }
     {
         gather_moves_with(
             self.alloc,
@@ -305,28 +317,24 @@ impl PlayedGame {
         make_move_with(&self.game, place, pairs, workspace)
     }
 
-    /// As `make_move`, with the pairs of the move, and in the buffers of another place, which becomes the place to which
-    /// the move leads. Where memory is refused, what is left there is no use.
-    pub fn make_move_into(
-        &self,
-        place: &Place,
-        pairs: &[Pair],
-        to: &mut Place,
-    ) -> Result<(), Memory>
+    /// As `make_move`, with the pairs of the move, and in the buffers of another place, which are let go where memory is
+    /// refused.
+    pub fn make_move_into(&self, place: &Place, pairs: &[Pair], to: Place) -> Result<Place, Memory>
         requires place { IsPlaceOf self.now place.now }
         requires legal { IsLegal self.now place.now pairs.now }
-        ensures to { IfOk result (λ _. Legal self.now place.now pairs.now to.new) }
-        ensures in_game { IfOk result (λ _. IsPlaceOf self.now to.new) }
+        ensures to { IfOk result (Legal self.now place.now pairs.now) }
+        ensures in_game { IfOk result (IsPlaceOf self.now) }
     {
         make_move_into(&self.game, place, pairs, to)
     }
 
-    /// As `make_move`, with the pairs of the move, and in place. Where memory is refused, what is left is no use.
+    /// As `make_move`, with the pairs of the move, and in place. Where memory is refused, the place stays as it is.
     pub fn make_move_on(&self, place: &mut Place, pairs: &[Pair]) -> Result<(), Memory>
         requires place { IsPlaceOf self.now place.old }
         requires legal { IsLegal self.now place.old pairs.now }
         ensures to { IfOk result (λ _. Legal self.now place.old pairs.now place.new) }
         ensures in_game { IfOk result (λ _. IsPlaceOf self.now place.new) }
+        ensures refused { OnErr result (place.new ≡ place.old) }
     {
         make_move_on(&self.game, place, pairs)
     }

@@ -3,7 +3,7 @@ ghost use Rattle.std.specs.Prelude.{◌≡◌, ◌≢◌, Err, IfOk, OnErr};
 ghost use Rattle.rbg_rules.specs.Moves.{Legal, IsLegal};
 ghost use Rattle.rbg_rules.specs.Places.{IsPlaceOf};
 ghost use Rattle.rbg_moves.specs.Limits.{most_keeper_moves};
-ghost use Rattle.rbg_moves.specs.Settling.{IsEndless, MeetsHeavy, Settles};
+ghost use Rattle.rbg_moves.specs.Settling.{IsEndless, MeetsHeavy, Settles, SomeKeeperMoves};
 
 use crate::place::Place;
 use crate::played::PlayedGame;
@@ -16,11 +16,12 @@ pub const MAX_KEEPER_MOVES: u32 = 1000;
 
 impl PlayedGame {
     /// Leads a place, by moves of the keeper, to one where a player is to move or play is finished. Where there is no
-    /// such place, what is left is no use.
+    /// such place, some place of the game is left, to which moves of the keeper led.
     pub fn settle(&self, place: &mut Place, workspace: &mut Workspace) -> Result<(), Unsettled>
         requires place { IsPlaceOf self.now place.old }
         ensures settles { IfOk result (λ _. Settles self.now place.old place.new) }
-        ensures place { IfOk result (λ _. IsPlaceOf self.now place.new) }
+        ensures place { IsPlaceOf self.now place.new }
+        ensures led { SomeKeeperMoves self.now place.old place.new }
         ensures heavy { result ≡ Err Unsettled.Heavy → MeetsHeavy self.now place.old }
         ensures endless { result ≡ Err Unsettled.Endless → IsEndless self.now place.old }
     {
@@ -47,6 +48,7 @@ impl PlayedGame {
         requires legal { IsLegal self.now place.old pairs.items }
         ensures to { IfOk result (λ _. Legal self.now place.old pairs.items place.new) }
         ensures in_game { IfOk result (λ _. IsPlaceOf self.now place.new) }
+        ensures refused { OnErr result (place.new ≡ place.old) }
     {
         self.make_move_on(place, pairs.as_slice())?;
         workspace.keep_pairs(pairs);

@@ -10,6 +10,7 @@ ghost use Rattle.rbg_state.specs.History.{capacity_of, IsAfter};
 ghost use Rattle.rbg_search.specs.Flat.{IsNext};
 ghost use Rattle.rbg_search.specs.Counting.{CountsOpenings, IsOverBudget};
 ghost use Rattle.rbg_search.specs.Forced.{CountsForced};
+ghost use Rattle.rbg_search.specs.Taken.{CountsPairs};
 ghost use Rattle.rbg_search.specs.Start.{IsPositionOf};
 ghost use Rattle.rbg_moves.specs.internal.Stepping.{standing_at, place_behind, IsStep, IsValidAt};
 
@@ -44,7 +45,7 @@ pub(crate) fn take<S: Steps>(
     pair: Pair,
 ) -> Result<bool, Over>
     requires place { IsPlaceOf search.old.game (record { state = state.old.state; last = after }) }
-    ensures kept { search.new ≡ record search.old { opened = search.new.opened } }
+    ensures kept { search.new ≡ record search.old { opened = search.new.opened; taken = search.new.taken } }
     ensures taken { IfOk result (λ taken. IsTrue taken
         → IsStep search.old.game state.old.state (stand_of after) pair.0 pair.1 state.new.state) }
     ensures in_game { IfOk result (λ taken. IsTrue taken
@@ -55,6 +56,8 @@ pub(crate) fn take<S: Steps>(
         → IsPositionOf search.old.game.rules pair.1) }
     ensures counted { CountsOpenings search.old.game reach state.old.state (stand_of after)
         search.old.opened search.new.opened }
+    ensures paired { OnOk result (CountsPairs search.old.game reach state.old.state (stand_of after)
+        search.old.opened search.new.opened search.old.taken search.new.taken (Unit {0})) }
     ensures deep { result ≡ Err Over.Deep
         → IsDeep search.old.game reach state.old.state (stand_of after) search.old.modifiers }
     ensures wide { result ≡ Err Over.Wide

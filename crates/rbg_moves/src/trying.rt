@@ -1,12 +1,14 @@
 //! Whether a list of pairs is a legal move.
-ghost use Rattle.std.specs.Prelude.{◌≡◌, ◌⊎◌, length, IfOk, IfSome, IfNone, OnOk, Err, Bool, false};
+ghost use Rattle.std.specs.Prelude.{◌≡◌, ◌⊎◌, length, IfOk, IfSome, IfNone, OnOk, OnErr, Err, Bool, false};
 ghost use Rattle.rbg_rules.specs.Moves.{AbstractPlace, stand_of, Legal};
 ghost use Rattle.rbg_rules.specs.Places.{IsPlaceOf};
 ghost use Rattle.rbg_rules.specs.Heavy.{IsHeavyToTry};
 ghost use Rattle.rbg_rules.specs.Questions.{try_move, IsDeep};
-ghost use Rattle.rbg_search.specs.Counting.{IsOverBudget};
+ghost use Rattle.rbg_search.specs.Counting.{CountsOpenings, IsOverBudget};
 ghost use Rattle.rbg_search.specs.Forced.{CountsForced};
+ghost use Rattle.rbg_search.specs.Taken.{CountsPairs};
 ghost use Rattle.rbg_moves.specs.Limits.{IsDeepAt, IsWideAt, FitsLimits};
+ghost use Rattle.rbg_moves.specs.Tallying.{IsTallied};
 ghost use Rattle.rbg_moves.specs.internal.Stepping.{place_behind, IsTried};
 
 use crate::asking::{budget_is_kept, game_is_accepted, is_switch, search_in};
@@ -52,7 +54,7 @@ pub fn try_move<S: Steps>(
 
 /// As `try_move`, with the buffers of a workspace, which also counts what is taken up. Where there is no answer, its
 /// buffers are lost.
-pub fn try_move_with<S: Steps>(
+pub(crate) fn try_move_with<S: Steps>(
     alloc: Global,
     game: &Game,
     steps: &S,
@@ -74,6 +76,9 @@ pub fn try_move_with<S: Steps>(
     ensures wide { result ≡ Err Over.Wide → IsWideAt game.now (try_move pairs.now) place.now }
     ensures fits { OnOk result ((cut : Bool)
         → FitsLimits game.now cut (try_move pairs.now) place.now) }
+    ensures tally { OnOk result (IsTallied game.now (try_move pairs.now) place.now
+        workspace.old.searches workspace.new.searches) }
+    ensures untallied { OnErr result (workspace.new.searches ≡ workspace.old.searches) }
 {
     game_is_accepted(game);
     let mut search = search_in(alloc, game, steps, &mut workspace.searches);
@@ -108,7 +113,12 @@ fn follow<S: Steps>(
         search.old.modifiers }
     ensures wide { result ≡ Err Over.Wide → IsOverBudget search.old.game (try_move pairs.now)
         state.old.state (stand_of after) search.old.opened search.old.openings }
-    ensures kept { search.new ≡ record search.old { opened = search.new.opened } }
+    ensures kept { search.new ≡ record search.old { opened = search.new.opened; taken = search.new.taken } }
+    ensures counted { OnOk result (CountsOpenings search.old.game (try_move pairs.now)
+        state.old.state (stand_of after) search.old.opened search.new.opened) }
+    ensures paired { OnOk result (CountsPairs search.old.game (try_move pairs.now)
+        state.old.state (stand_of after) search.old.opened search.new.opened
+        search.old.taken search.new.taken (Unit {0})) }
     ensures forced { IfOk result (λ end.
         IfSome end (λ _. CountsForced search.old.game false (try_move pairs.now)
         state.old.state (stand_of after) search.old.opened search.new.opened

@@ -25,7 +25,9 @@ pub struct Workspace {
 
 impl Workspace {
     /// A workspace that no question has used.
-    pub fn new(alloc: Global) -> Workspace {
+    pub fn new(alloc: Global) -> Workspace
+        ensures { result.searches ≡ record { openings = 0; pairs = 0 } }
+    {
         Workspace {
             searches: SearchWorkspace::new(alloc),
             asked: SemiState::empty(alloc),
@@ -37,24 +39,32 @@ impl Workspace {
     }
 
     /// How many openings the questions took up.
-    pub fn openings(&self) -> u64 {
+    pub fn openings(&self) -> u64
+        ensures { result ≡ self.now.searches.openings }
+    {
         self.searches.openings()
     }
 
     /// How many pairs of a position and a vertex the questions tried.
-    pub fn pairs(&self) -> u64 {
+    pub fn pairs(&self) -> u64
+        ensures { result ≡ self.now.searches.pairs }
+    {
         self.searches.pairs()
     }
 
     /// Keeps the buffers of a place that is no longer needed.
-    pub fn keep(&mut self, place: Place) {
+    pub fn keep(&mut self, place: Place)
+        ensures tally { self.new.searches ≡ self.old.searches }
+    {
         // where there is no memory, it is let go
         let _kept = self.states.push(place.state);
     }
 
     /// Some place, whose buffers are of use for another one: one that was kept, where there is one. It may be a place of
     /// no game.
-    pub fn spare(&mut self) -> Place {
+    pub fn spare(&mut self) -> Place
+        ensures tally { self.new.searches ≡ self.old.searches }
+    {
         let state = match self.states.pop() {
             Some(state) => state,
             None => SemiState::empty(*self.states.allocator()),
@@ -63,12 +73,16 @@ impl Workspace {
     }
 
     /// Keeps a list of pairs that is no longer needed.
-    pub fn keep_pairs(&mut self, pairs: Vec<Pair>) {
+    pub fn keep_pairs(&mut self, pairs: Vec<Pair>)
+        ensures tally { self.new.searches ≡ self.old.searches }
+    {
         self.buffer = pairs;
     }
 
     /// Keeps a list of moves that is no longer needed.
-    pub fn keep_moves(&mut self, moves: MoveList) {
+    pub fn keep_moves(&mut self, moves: MoveList)
+        ensures tally { self.new.searches ≡ self.old.searches }
+    {
         // where there is no memory, it is let go
         let _kept = self.lists.push(moves);
     }
@@ -77,6 +91,7 @@ impl Workspace {
     pub(crate) fn copy_of(&mut self, state: &SemiState) -> Result<SemiState, Memory>
         ensures state { IfOk result (λ copy. copy.state ≡ state.now.state) }
         ensures past { IfOk result (λ copy. copy.past ≡ []) }
+        ensures tally { self.new.searches ≡ self.old.searches }
     {
         let Some(mut copy) = self.states.pop() else {
             return state.try_clone();
@@ -87,7 +102,8 @@ impl Workspace {
 
     /// A list of no moves.
     pub(crate) fn take_moves(&mut self) -> MoveList
-        ensures { result ≡ [] }
+        ensures none { result ≡ [] }
+        ensures tally { self.new.searches ≡ self.old.searches }
     {
         match self.lists.pop() {
             Some(moves) => emptied(moves),

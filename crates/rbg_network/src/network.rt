@@ -1,6 +1,6 @@
 //! The network as the program sees it: connections on this machine, each to a port.
 
-use rbg_hall::Clock;
+use rbg_serving::Clock;
 use std::io::{self, ErrorKind, Read, Write};
 
 /// Connections on this machine, and the clock by which matches over them are played.

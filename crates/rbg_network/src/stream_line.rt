@@ -3,7 +3,7 @@ ghost use Rattle.std.specs.Prelude.{◌≡◌, ◌+◌, true, false};
 
 use crate::client::Client;
 use crate::network::is_nothing_yet;
-use rbg_hall::{Line, Polled, Put};
+use rbg_serving::{Line, Polled, Put};
 use std::io::{Read, Write};
 
 /// A line over a stream.

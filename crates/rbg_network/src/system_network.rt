@@ -1,7 +1,7 @@
 //! The connections and the clock of the system.
 
 use crate::network::Network;
-use rbg_hall::Clock;
+use rbg_serving::Clock;
 use std::io;
 use std::net::{Ipv4Addr, TcpListener, TcpStream};
 use std::time::{Duration, Instant};

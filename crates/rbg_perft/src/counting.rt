@@ -108,7 +108,7 @@ fn count_behind(
     let mut to = workspace.spare();
     for index in 0..firsts.len() {
         let pairs = firsts.get(index);
-        game.make_move_into(place, pairs, &mut to)?;
+        to = game.make_move_into(place, pairs, to)?;
         let behind = count_from(game, &mut to, further, workspace)?;
         counts = counts.join(behind).ok_or(CountError::TooMany)?;
     }

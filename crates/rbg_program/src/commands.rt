@@ -14,6 +14,7 @@ pub fn rbg_command<'a>(alloc: Global) -> Result<Command<'a>, AllocError> {
     );
     let command = add(command, check_command(alloc));
     let command = add(command, moves_command(alloc));
+    let command = add(command, ask_command(alloc));
     let command = add(command, referee_command(alloc));
     let command = add(command, replay_command(alloc));
     let command = add(command, migrate_command(alloc));
@@ -41,6 +42,12 @@ fn moves_command<'a>(alloc: Global) -> Result<Command<'a>, AllocError> {
         .about(
             "Prints the moves of the game's opening, and then the legal moves of the player to move",
         )
+        .arg(game_argument(alloc))
+}
+
+fn ask_command<'a>(alloc: Global) -> Result<Command<'a>, AllocError> {
+    Command::new(alloc, "ask")
+        .about("Answers questions about the game, each a line of standard input")
         .arg(game_argument(alloc))
 }
 

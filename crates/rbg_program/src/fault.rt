@@ -3,12 +3,12 @@
 use crate::player_refusal::PlayerRefusal;
 use rbg_console::{Refusal, Status, WordsError, write_text};
 use rbg_game::LoadError;
-use rbg_hall::ServeError;
 use rbg_match::MatchError;
 use rbg_network::ClientError;
 use rbg_player::PlayerError;
 use rbg_record::RecordError;
 use rbg_refereeing::RefereeingError;
+use rbg_serving::ServeError;
 use std::alloc::AllocError;
 use std::io::{self, Write};
 use thiserror::Error;

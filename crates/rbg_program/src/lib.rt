@@ -2,6 +2,7 @@
 //! its status.
 #![tactic(auto)]
 
+mod ask;
 mod commands;
 mod fault;
 mod inputs;
@@ -17,5 +18,5 @@ mod task;
 pub use fault::{Fault, report};
 pub use program::run;
 pub use rbg_console::{Files, Input, Status};
-pub use rbg_hall::Clock;
 pub use rbg_network::{Network, SystemClock, SystemNetwork};
+pub use rbg_serving::Clock;

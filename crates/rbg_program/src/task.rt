@@ -32,6 +32,10 @@ pub enum Task<'a> {
     Moves {
         file: &'a str,
     },
+    /// To answer questions about the game that the file describes.
+    Ask {
+        file: &'a str,
+    },
     /// To referee a match. The description is in the file or, without one, before the script on standard input.
     Referee {
         file: Option<&'a str>,
@@ -80,6 +84,9 @@ impl<'a> Task<'a> {
                 file: text_of(words, "FILE"),
             },
             "moves" => Task::Moves {
+                file: text_of(words, "FILE"),
+            },
+            "ask" => Task::Ask {
                 file: text_of(words, "FILE"),
             },
             "replay" => Task::Replay {

@@ -1,3 +1,7 @@
 -- Lemmas, by topic.
+mod AnswerLemmas
+mod ApartLemmas
 mod ErrorLemmas
 mod PrintedLemmas
+mod SayableLemmas
+mod WholeLemmas

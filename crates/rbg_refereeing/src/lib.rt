@@ -1,11 +1,15 @@
 //! The match of a description and a script, from the bytes of an input to the bytes that are printed.
 #![tactic(auto)]
 
+mod answer;
 mod error;
 pub mod laws;
 mod printed;
 mod refereeing;
+mod run;
 mod script_events;
 
+pub use answer::{Answer, answer_input};
 pub use error::RefereeingError;
 pub use refereeing::{referee_input, referee_texts};
+pub use run::run_referee;

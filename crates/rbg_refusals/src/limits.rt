@@ -1,220 +1,25 @@
-//! Texts whose expansion is at a limit, and ones whose is just above it.
+//! Texts whose expansion is at a limit, or just above it.
 
-/// Macros of which each calls the next one, at all 64 levels.
-pub const DEEPEST: &[u8] = b"#m1 = m2
-#m2 = m3
-#m3 = m4
-#m4 = m5
-#m5 = m6
-#m6 = m7
-#m7 = m8
-#m8 = m9
-#m9 = m10
-#m10 = m11
-#m11 = m12
-#m12 = m13
-#m13 = m14
-#m14 = m15
-#m15 = m16
-#m16 = m17
-#m17 = m18
-#m18 = m19
-#m19 = m20
-#m20 = m21
-#m21 = m22
-#m22 = m23
-#m23 = m24
-#m24 = m25
-#m25 = m26
-#m26 = m27
-#m27 = m28
-#m28 = m29
-#m29 = m30
-#m30 = m31
-#m31 = m32
-#m32 = m33
-#m33 = m34
-#m34 = m35
-#m35 = m36
-#m36 = m37
-#m37 = m38
-#m38 = m39
-#m39 = m40
-#m40 = m41
-#m41 = m42
-#m42 = m43
-#m43 = m44
-#m44 = m45
-#m45 = m46
-#m46 = m47
-#m47 = m48
-#m48 = m49
-#m49 = m50
-#m50 = m51
-#m51 = m52
-#m52 = m53
-#m53 = m54
-#m54 = m55
-#m55 = m56
-#m56 = m57
-#m57 = m58
-#m58 = m59
-#m59 = m60
-#m60 = m61
-#m61 = m62
-#m62 = m63
-#m63 = m64
-#m64 = x
-#rules = m1";
+use std::alloc::{AllocError, Global};
 
-/// The same with a level more.
-pub const TOO_DEEP: &[u8] = b"#m1 = m2
-#m2 = m3
-#m3 = m4
-#m4 = m5
-#m5 = m6
-#m6 = m7
-#m7 = m8
-#m8 = m9
-#m9 = m10
-#m10 = m11
-#m11 = m12
-#m12 = m13
-#m13 = m14
-#m14 = m15
-#m15 = m16
-#m16 = m17
-#m17 = m18
-#m18 = m19
-#m19 = m20
-#m20 = m21
-#m21 = m22
-#m22 = m23
-#m23 = m24
-#m24 = m25
-#m25 = m26
-#m26 = m27
-#m27 = m28
-#m28 = m29
-#m29 = m30
-#m30 = m31
-#m31 = m32
-#m32 = m33
-#m33 = m34
-#m34 = m35
-#m35 = m36
-#m36 = m37
-#m37 = m38
-#m38 = m39
-#m39 = m40
-#m40 = m41
-#m41 = m42
-#m42 = m43
-#m43 = m44
-#m44 = m45
-#m45 = m46
-#m46 = m47
-#m47 = m48
-#m48 = m49
-#m49 = m50
-#m50 = m51
-#m51 = m52
-#m52 = m53
-#m53 = m54
-#m54 = m55
-#m55 = m56
-#m56 = m57
-#m57 = m58
-#m58 = m59
-#m59 = m60
-#m60 = m61
-#m61 = m62
-#m62 = m63
-#m63 = m64
-#m64 = m65
-#m65 = x
-#rules = m1";
+/// Macros of which each calls the next one, at this many levels.
+pub fn chain(alloc: Global, levels: u32) -> Result<String, AllocError> {
+    let mut text = String::new(alloc);
+    for level in 1..levels {
+        let next = level + 1;
+        text.push_str(&format!(in alloc; "#m{level} = m{next}\n")?)?;
+    }
+    text.push_str(&format!(in alloc; "#m{levels} = x\n#rules = m1")?)?;
+    Ok(text)
+}
 
-/// Each macro is the one before it twice: 65,536 tokens are kept, of 131,071 that are read.
-pub const MOST_KEPT: &[u8] = b"#a0 = e e
-#a1 = a0 a0
-#a2 = a1 a1
-#a3 = a2 a2
-#a4 = a3 a3
-#a5 = a4 a4
-#a6 = a5 a5
-#a7 = a6 a6
-#a8 = a7 a7
-#a9 = a8 a8
-#a10 = a9 a9
-#a11 = a10 a10
-#a12 = a11 a11
-#a13 = a12 a12
-#a14 = a13 a13
-#a15 = a14 a14
-#rules = a15";
-
-/// The same once more: 131,072 tokens would be kept.
-pub const TOO_MANY_KEPT: &[u8] = b"#a0 = e e
-#a1 = a0 a0
-#a2 = a1 a1
-#a3 = a2 a2
-#a4 = a3 a3
-#a5 = a4 a4
-#a6 = a5 a5
-#a7 = a6 a6
-#a8 = a7 a7
-#a9 = a8 a8
-#a10 = a9 a9
-#a11 = a10 a10
-#a12 = a11 a11
-#a13 = a12 a12
-#a14 = a13 a13
-#a15 = a14 a14
-#a16 = a15 a15
-#rules = a16";
-
-/// Doubled calls of a macro that is nothing: 524,287 tokens are read.
-pub const MOST_READ: &[u8] = b"#z =
-#a0 = z z
-#a1 = a0 a0
-#a2 = a1 a1
-#a3 = a2 a2
-#a4 = a3 a3
-#a5 = a4 a4
-#a6 = a5 a5
-#a7 = a6 a6
-#a8 = a7 a7
-#a9 = a8 a8
-#a10 = a9 a9
-#a11 = a10 a10
-#a12 = a11 a11
-#a13 = a12 a12
-#a14 = a13 a13
-#a15 = a14 a14
-#a16 = a15 a15
-#a17 = a16 a16
-#rules = a17";
-
-/// The same once more: 1,048,575 tokens would be read.
-pub const TOO_MANY_READ: &[u8] = b"#z =
-#a0 = z z
-#a1 = a0 a0
-#a2 = a1 a1
-#a3 = a2 a2
-#a4 = a3 a3
-#a5 = a4 a4
-#a6 = a5 a5
-#a7 = a6 a6
-#a8 = a7 a7
-#a9 = a8 a8
-#a10 = a9 a9
-#a11 = a10 a10
-#a12 = a11 a11
-#a13 = a12 a12
-#a14 = a13 a13
-#a15 = a14 a14
-#a16 = a15 a15
-#a17 = a16 a16
-#a18 = a17 a17
-#rules = a18";
+/// A text with the macro `a0`, and behind it macros of which each is the one before it twice, to the one of this number.
+pub fn doubled(alloc: Global, first: &str, last: u32) -> Result<String, AllocError> {
+    let mut text = String::from_str(alloc, first)?;
+    for level in 1..=last {
+        let before = level - 1;
+        text.push_str(&format!(in alloc; "#a{level} = a{before} a{before}\n")?)?;
+    }
+    text.push_str(&format!(in alloc; "#rules = a{last}")?)?;
+    Ok(text)
+}

@@ -1,7 +1,7 @@
 //! Runs of what reads a description: `load`, `expand`, and the two forms of the automaton.
 
 use crate::games::{GAME, MACROS, WALK};
-use crate::limits::{DEEPEST, MOST_KEPT, MOST_READ, TOO_DEEP, TOO_MANY_KEPT, TOO_MANY_READ};
+use crate::limits::{chain, doubled};
 use crate::stop::Stop;
 use crate::telling::{tell_memory, tell_numbers};
 use rbg_auto::{Expr, Steps, compact, compile};
@@ -9,7 +9,7 @@ use rbg_base::Position;
 use rbg_game::{Game, load};
 use rbg_macro::{MacroError, Source, expand};
 use rbg_tokens::{TextError, Tokens, tokens};
-use std::alloc::Global;
+use std::alloc::{AllocError, Global};
 use std::io::{self, Write};
 
 /// A join that makes the name of a macro.
@@ -17,6 +17,12 @@ const NAMES: &[u8] = b"#right2 = right right\n#k(n) = right~n\n#rules = k(2)";
 
 /// An argument whose name is a part of a longer one.
 const ARGUMENTS: &[u8] = b"#h(a) = ab a\n#rules = h(x)";
+
+/// A macro of two words. Behind 15 doublings 65,536 tokens are kept, of 131,071 that are read.
+const WORDS: &str = "#a0 = e e\n";
+
+/// A macro of two calls of one that is nothing. Behind 17 doublings 524,287 tokens are read, and none is kept.
+const NOTHING: &str = "#z =\n#a0 = z z\n";
 
 /// How many tokens of a section are shown.
 const SHOWN: usize = 4;
@@ -28,12 +34,12 @@ pub fn run<W: Write>(alloc: Global, name: &str, output: &mut W) -> Result<bool, 
         "load-macros" => tell_load(alloc, MACROS, output)?,
         "expand-names" => tell_expand(alloc, NAMES, output)?,
         "expand-arguments" => tell_expand(alloc, ARGUMENTS, output)?,
-        "expand-deepest" => tell_expand(alloc, DEEPEST, output)?,
-        "expand-too-deep" => tell_expand(alloc, TOO_DEEP, output)?,
-        "expand-most-kept" => tell_expand(alloc, MOST_KEPT, output)?,
-        "expand-too-many-kept" => tell_expand(alloc, TOO_MANY_KEPT, output)?,
-        "expand-most-read" => tell_expand(alloc, MOST_READ, output)?,
-        "expand-too-many-read" => tell_expand(alloc, TOO_MANY_READ, output)?,
+        "expand-deepest" => tell_built(alloc, chain(alloc, 64), output)?,
+        "expand-too-deep" => tell_built(alloc, chain(alloc, 65), output)?,
+        "expand-most-kept" => tell_built(alloc, doubled(alloc, WORDS, 15), output)?,
+        "expand-too-many-kept" => tell_built(alloc, doubled(alloc, WORDS, 16), output)?,
+        "expand-most-read" => tell_built(alloc, doubled(alloc, NOTHING, 17), output)?,
+        "expand-too-many-read" => tell_built(alloc, doubled(alloc, NOTHING, 18), output)?,
         "compile" => tell_compile(alloc, output)?,
         "compact" => tell_compact(alloc, output)?,
         _ => return Ok(false),
@@ -78,6 +84,15 @@ fn tell_expand<W: Write>(alloc: Global, text: &[u8], output: &mut W) -> Result<(
         Err(_) => return Err(Stop::Wrong),
     };
     Ok(tell_expansion(alloc, &tokens, output)?)
+}
+
+/// Expands the sections of a text that was built, and tells them.
+fn tell_built<W: Write>(
+    alloc: Global,
+    text: Result<String, AllocError>,
+    output: &mut W,
+) -> Result<(), Stop> {
+    tell_expand(alloc, text?.as_bytes(), output)
 }
 
 fn tell_expansion<W: Write>(alloc: Global, tokens: &Tokens<'_>, output: &mut W) -> io::Result<()> {

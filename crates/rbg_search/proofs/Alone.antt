@@ -15,6 +15,8 @@ use Rattle.rbg_search.specs.internal.Meeting.{MeetsAll}
 use Rattle.rbg_search.specs.internal.Part.{IsOutcome, IsPart}
 use Rattle.rbg_search.specs.declared.outcome.Outcome.TheVariants.{Modifies}
 use Rattle.rbg_search.proofs.Glances.{no_pattern}
+use Rattle.rbg_search.specs.Taken.{HasPairs}
+use Rattle.rbg_search.proofs.Takings.{part_pairs}
 use Rattle.rbg_search.proofs.Starts.{follower_position}
 use Rattle.rbg_search.proofs.Meetings.{meets_none, meets_one}
 use Rattle.rbg_search.proofs.Parts.{begin_part, modifier_part, all_met, whole_part}
@@ -66,6 +68,10 @@ module _ (game : AbstractGame) (numbered : IsNumbered game.rules) (s : AbstractS
   pub alone_met : (v q : ℕ) → Reached game s f v q → Contains {X = ℕ × ℕ} ((s.vertex, p) ∷ []) (v, q)
   unfolding alone
   alone_met v q = all_met game s f numbered alone alone ends part v q
+
+  pub alone_pairs : HasPairs game s f 1
+  unfolding alone
+  alone_pairs = part_pairs game numbered s f alone alone ends part (λ i j d less within. absurd (omega (arith, less, within)))
 
   -- It is no pattern.
   pub alone_quiet : (w q : ℕ) → Contains {X = ℕ × ℕ} ((s.vertex, p) ∷ []) (w, q) → IsPatternAt game.rules q → Contains {X = ℕ × ℕ} [] (w, q)

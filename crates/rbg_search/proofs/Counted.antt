@@ -155,8 +155,8 @@ module _ (game : AbstractGame) where
 
 -- ---- from one moment of a search to another
 
-pub onward_search : (P : Searching → AbstractState → Type 0) (h k : Searching) (s t : History) → k ≡ record h { opened = k.opened } → t ≡ record s { room = t.room } → P (record h { opened = k.opened }) s.state → P k t.state
-onward_search P h k s t kept given x = subst (λ (y : Searching). P y t.state) (sym kept) (subst (λ (y : History). P (record h { opened = k.opened }) y.state) (sym given) x)
+pub onward_search : (P : Searching → AbstractState → Type 0) (h k : Searching) (s t : History) → k ≡ record h { opened = k.opened; taken = k.taken } → t ≡ record s { room = t.room } → P (record h { opened = k.opened; taken = k.taken }) s.state → P k t.state
+onward_search P h k s t kept given x = subst (λ (y : Searching). P y t.state) (sym kept) (subst (λ (y : History). P (record h { opened = k.opened; taken = k.taken }) y.state) (sym given) x)
 
-pub search_before : (P : Searching → AbstractState → Type 0) (h k : Searching) (s t : History) → k ≡ record h { opened = k.opened } → t ≡ record s { room = t.room } → P k t.state → P (record h { opened = k.opened }) s.state
-search_before P h k s t kept given x = subst (λ (y : History). P (record h { opened = k.opened }) y.state) given (subst (λ (y : Searching). P y t.state) kept x)
+pub search_before : (P : Searching → AbstractState → Type 0) (h k : Searching) (s t : History) → k ≡ record h { opened = k.opened; taken = k.taken } → t ≡ record s { room = t.room } → P k t.state → P (record h { opened = k.opened; taken = k.taken }) s.state
+search_before P h k s t kept given x = subst (λ (y : History). P (record h { opened = k.opened; taken = k.taken }) y.state) given (subst (λ (y : Searching). P y t.state) kept x)

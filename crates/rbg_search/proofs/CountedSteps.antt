@@ -54,7 +54,7 @@ pub record AskStep (h : Searching) (s : AbstractState) (f : Start) (done : List 
   pub counts : CountsAsked h.game s f done a b
   pub gave_up : IsCounted h.game reach s f a b h.modifiers h.openings h.modifiers D W
 
-pub ask_step : (h k : Searching) (s l u : History) (f : Start) (flat flat' : Flat) (v p a b : ℕ) (D W : Type 0) → k ≡ record h { opened = k.opened } → l ≡ record s { room = l.room } → u ≡ record s { room = u.room } → IsGame h.game → IsBegun k.game l.state f flat' → slice_get flat'.queue.pairs flat'.taken ≡ Some (v, p) → IsPatternAt k.game.rules p → ((x : ℕ × ℕ) → Contains (take flat.taken flat.queue.pairs) x → Contains (take flat'.taken flat'.queue.pairs) x) → ¬ Contains (take flat'.taken flat'.queue.pairs) (v, p) → CountsAsked h.game s.state f (take flat.taken flat.queue.pairs) a k.opened → IsCounted k.game pattern (at_vertex u.state v) (beginning (inside p)) k.opened b k.modifiers k.openings k.modifiers D W → AskStep h s.state f (take flat'.taken flat'.queue.pairs ++ (v, p) ∷ []) a b D W
+pub ask_step : (h k : Searching) (s l u : History) (f : Start) (flat flat' : Flat) (v p a b : ℕ) (D W : Type 0) → k ≡ record h { opened = k.opened; taken = k.taken } → l ≡ record s { room = l.room } → u ≡ record s { room = u.room } → IsGame h.game → IsBegun k.game l.state f flat' → slice_get flat'.queue.pairs flat'.taken ≡ Some (v, p) → IsPatternAt k.game.rules p → ((x : ℕ × ℕ) → Contains (take flat.taken flat.queue.pairs) x → Contains (take flat'.taken flat'.queue.pairs) x) → ¬ Contains (take flat'.taken flat'.queue.pairs) (v, p) → CountsAsked h.game s.state f (take flat.taken flat.queue.pairs) a k.opened → IsCounted k.game pattern (at_vertex u.state v) (beginning (inside p)) k.opened b k.modifiers k.openings k.modifiers D W → AskStep h s.state f (take flat'.taken flat'.queue.pairs ++ (v, p) ∷ []) a b D W
 ask_step h k s l u f flat flat' v p a b D W kept given given' lawful begun at is still fresh counts asked =
     let done : List (ℕ × ℕ) = take flat'.taken flat'.queue.pairs in
     let here : IsBegun h.game s.state f flat' = search_before (λ y w. IsBegun y.game w f flat') h k s l kept given begun in
@@ -104,7 +104,7 @@ asks_only game s f a b b' left most openings D W D' W' same counts deep wide =
     (subst (λ (x : ℕ). CountsOpenings game pattern s f a x) (sym same) (asks_reached game s f a b left most openings D W counts).counted) deep wide
 
 -- The search went on behind the modifiers that were found.
-pub behind_step : (h k : Searching) (s l : History) (f : Start) (pairs pairs' : List (ℕ × ℕ)) (ends : Bool) (b left : ℕ) (D W : Type 0) → k ≡ record h { opened = k.opened } → l ≡ record s { room = l.room } → pairs' ≡ pairs → IsGame h.game → StandsInPattern h.game.rules f → IsFlatPart h.game s.state f pairs ends → ends ≡ false → CountsOpenings h.game reach s.state f h.opened k.opened → ((e : Start) (a : ℕ) → GoesBehind k.game l.state e pairs' → CountsOpenings k.game reach l.state e a k.opened → IsCounted k.game pattern l.state e a b left k.openings k.modifiers D W) → IsCounted h.game pattern s.state f h.opened b left h.openings h.modifiers D W
+pub behind_step : (h k : Searching) (s l : History) (f : Start) (pairs pairs' : List (ℕ × ℕ)) (ends : Bool) (b left : ℕ) (D W : Type 0) → k ≡ record h { opened = k.opened; taken = k.taken } → l ≡ record s { room = l.room } → pairs' ≡ pairs → IsGame h.game → StandsInPattern h.game.rules f → IsFlatPart h.game s.state f pairs ends → ends ≡ false → CountsOpenings h.game reach s.state f h.opened k.opened → ((e : Start) (a : ℕ) → GoesBehind k.game l.state e pairs' → CountsOpenings k.game reach l.state e a k.opened → IsCounted k.game pattern l.state e a b left k.openings k.modifiers D W) → IsCounted h.game pattern s.state f h.opened b left h.openings h.modifiers D W
 behind_step h k s l f pairs pairs' ends b left D W kept given same lawful in_one part not_here counts behind =
     let goes : GoesBehind h.game s.state f pairs' = subst (λ (ps : List (ℕ × ℕ)). GoesBehind h.game s.state f ps) (sym same) (found_behind h.game lawful s.state f pairs ends in_one part not_here) in
     search_before (λ y w. IsCounted y.game pattern w f h.opened b left y.openings y.modifiers D W) h k s l kept given
@@ -112,7 +112,7 @@ behind_step h k s l f pairs pairs' ends b left D W kept given same lawful in_one
     (onward_search (λ y w. GoesBehind y.game w f pairs') h k s l kept given goes)
     (onward_search (λ y w. CountsOpenings y.game reach w f h.opened k.opened) h k s l kept given counts))
 
-pub inside_pairs : (h k : Searching) (s l : History) (f : Start) (pairs pairs' : List (ℕ × ℕ)) (ends : Bool) → k ≡ record h { opened = k.opened } → l ≡ record s { room = l.room } → pairs' ≡ pairs → IsGame h.game → StandsInPattern h.game.rules f → IsFlatPart h.game s.state f pairs ends → All (λ q. StandsInPattern k.game.rules (after q.1)) pairs'
+pub inside_pairs : (h k : Searching) (s l : History) (f : Start) (pairs pairs' : List (ℕ × ℕ)) (ends : Bool) → k ≡ record h { opened = k.opened; taken = k.taken } → l ≡ record s { room = l.room } → pairs' ≡ pairs → IsGame h.game → StandsInPattern h.game.rules f → IsFlatPart h.game s.state f pairs ends → All (λ q. StandsInPattern k.game.rules (after q.1)) pairs'
 inside_pairs h k s l f pairs pairs' ends kept given same lawful in_one part =
     subst (λ (ps : List (ℕ × ℕ)). All (λ q. StandsInPattern k.game.rules (after q.1)) ps) (sym same)
     (onward_search (λ y w. All (λ q. StandsInPattern y.game.rules (after q.1)) pairs) h k s l kept given (found_inside h.game lawful.numbered s.state f pairs ends in_one part))
@@ -127,7 +127,7 @@ less_one : (n : ℕ) → 0 < n → n ≡ suc (n - 1)
 less_one n some = omega (arith, some)
 
 -- The question was asked behind one more of the pairs.
-pub one_behind : (h k : Searching) (s l : History) (f : Start) (pairs : List (ℕ × ℕ)) (i : ℕ) (d : ℕ × ℕ) (a b left : ℕ) (later : AbstractState) (D W : Type 0) → k ≡ record h { opened = k.opened } → l ≡ record s { room = l.room } → GoesBehind h.game s.state f pairs → i < length pairs → Applies h.game (get_or pairs i d).1 (at_vertex s.state (get_or pairs i d).0) later → 0 < left → CountsUpTo h.game pattern s.state f (take i pairs) a k.opened → ((t : AbstractState) (n : ℕ) → Applies k.game (get_or pairs i d).1 (at_vertex l.state (get_or pairs i d).0) t → left ≡ suc n → IsCounted k.game pattern t (after (get_or pairs i d).1) k.opened b n k.openings k.modifiers D W) → BehindStep h s.state f (take (i + 1) pairs) a b left D W
+pub one_behind : (h k : Searching) (s l : History) (f : Start) (pairs : List (ℕ × ℕ)) (i : ℕ) (d : ℕ × ℕ) (a b left : ℕ) (later : AbstractState) (D W : Type 0) → k ≡ record h { opened = k.opened; taken = k.taken } → l ≡ record s { room = l.room } → GoesBehind h.game s.state f pairs → i < length pairs → Applies h.game (get_or pairs i d).1 (at_vertex s.state (get_or pairs i d).0) later → 0 < left → CountsUpTo h.game pattern s.state f (take i pairs) a k.opened → ((t : AbstractState) (n : ℕ) → Applies k.game (get_or pairs i d).1 (at_vertex l.state (get_or pairs i d).0) t → left ≡ suc n → IsCounted k.game pattern t (after (get_or pairs i d).1) k.opened b n k.openings k.modifiers D W) → BehindStep h s.state f (take (i + 1) pairs) a b left D W
 one_behind h k s l f pairs i d a b left later D W kept given goes under applies some counts behind =
     let x : ℕ × ℕ = get_or pairs i d in
     let there : get_or pairs i x ≡ x = get_or_default pairs i x d under in

@@ -14,7 +14,8 @@ use Rattle.rbg_rules.specs.Positions.{positions_of}
 use Rattle.rbg_rules.specs.Games.{IsWithinLimits}
 use Rattle.rbg_search.specs.internal.Meeting.{Met, HasMark, AreMarked}
 use Rattle.rbg_search.specs.internal.Part.{HasMarksOf}
-use Rattle.rbg_search.specs.internal.Spent.{IsSpent}
+use Rattle.rbg_search.specs.Taken.{most_pairs_of}
+use Rattle.rbg_search.specs.internal.Spent.{IsSpent, IsSpentButOne}
 use Rattle.rbg_search.proofs.Meetings.{one_pair}
 
 -- the number of a pair among those of the positions from 1 on
@@ -80,35 +81,38 @@ few_pairs game met many has few =
     let size : met.marks ≡ (length (positions_of game.rules) + 1) * length game.board.first = marks ∙ ap (λ (k : ℕ). (length (positions_of game.rules) + 1) * k) vertices in
     omega (arith, few, more, size, vertices)
 
--- One flat part more is found whole.
-pub one_more_whole : (game : AbstractGame) (opened finished taken more all : ℕ) → IsSpent game opened finished taken → finished < opened → more ≤ length (positions_of game.rules) * length game.board.first → all ≤ taken + more → IsSpent game opened (finished + 1) all
-one_more_whole game opened finished taken more all spent some few sum =
-    let product : ℕ = length (positions_of game.rules) * length game.board.first in
-    let times : (finished + 1) * product ≡ finished * product + product = grind arith in
-    record { among = omega (arith, some); few = omega (arith, times, spent.few, few, sum) }
+-- One flat part more is counted.
+pub one_more_whole : (game : AbstractGame) (opened taken more all : ℕ) → IsSpentButOne game opened taken → more ≤ most_pairs_of game → all ≤ taken + more → IsSpent game opened all
+one_more_whole game opened taken more all spent few sum = record { few = omega (arith, spent.few, few, sum) }
 
 -- The sum of all pairs is a number of 64 bits.
-pub sum_fits : (game : AbstractGame) (opened finished taken more : ℕ) → IsWithinLimits game → IsSpent game opened finished taken → finished < opened → opened < 2 ^ 32 → more ≤ length (positions_of game.rules) * length game.board.first → taken + more < 2 ^ 64
-sum_fits game opened finished taken more limits spent some small few =
-    let product : ℕ = length (positions_of game.rules) * length game.board.first in
+pub sum_fits : (game : AbstractGame) (opened taken more : ℕ) → IsWithinLimits game → IsSpentButOne game opened taken → opened < 2 ^ 32 → more ≤ most_pairs_of game → taken + more < 2 ^ 64
+sum_fits game opened taken more limits spent small few =
+    let product : ℕ = most_pairs_of game in
     let vertices : length game.board.first ≤ 4096 = limits.vertices in
     let positions : length (positions_of game.rules) ≤ 20000 = limits.positions in
     let least : product ≤ 20000 * 4096 = mul-le (length (positions_of game.rules)) (length game.board.first) 20000 4096 positions vertices in
-    let all : finished * product ≤ finished * (20000 * 4096) = mul-le finished product finished (20000 * 4096) (omega arith) least in
+    let all : opened * product ≤ opened * (20000 * 4096) = mul-le opened product opened (20000 * 4096) (omega arith) least in
     let sum = spent.few in
-    omega (arith, sum, all, few, least, some, small)
+    omega (arith, sum, all, few, least, small)
 
 -- All pairs together are no more than the openings have.
-pub spent_within : (game : AbstractGame) (opened finished taken : ℕ) → IsSpent game opened finished taken → taken ≤ opened * (length (positions_of game.rules) * length game.board.first)
-spent_within game opened finished taken spent =
-    let product : ℕ = length (positions_of game.rules) * length game.board.first in
-    let among = spent.among in
-    let few = spent.few in
-    let more : finished * product ≤ opened * product = grind arith in
-    omega (arith, few, more)
+pub spent_within : (game : AbstractGame) (opened taken : ℕ) → IsSpent game opened taken → taken ≤ opened * most_pairs_of game
+spent_within game opened taken spent = spent.few
 
-pub none_spent : (game : AbstractGame) (opened : ℕ) → IsSpent game opened 0 0
-none_spent game opened = record { among = omega arith; few = omega arith }
+pub none_spent : (game : AbstractGame) (opened : ℕ) → IsSpent game opened 0
+none_spent game opened = record { few = omega arith }
 
-pub opened_more : (game : AbstractGame) (opened finished taken more : ℕ) → IsSpent game opened finished taken → opened ≤ more → IsSpent game more finished taken
-opened_more game opened finished taken more spent least = record { among = omega (arith, spent.among, least); few = spent.few }
+pub opened_more : (game : AbstractGame) (opened taken more : ℕ) → IsSpent game opened taken → opened ≤ more → IsSpent game more taken
+opened_more game opened taken more spent least =
+    let product : ℕ = most_pairs_of game in
+    let longer : opened * product ≤ more * product = mul-le opened product more product least (omega arith) in
+    record { few = omega (arith, spent.few, longer) }
+
+-- One more was opened.
+pub one_opened : (game : AbstractGame) (opened taken more : ℕ) → IsSpent game opened taken → more ≡ opened + 1 → IsSpentButOne game more taken
+one_opened game opened taken more spent one =
+    let product : ℕ = most_pairs_of game in
+    let times : (opened + 1) * product ≡ opened * product + product = grind arith in
+    let same : more * product ≡ (opened + 1) * product = ap (λ (n : ℕ). n * product) one in
+    record { few = omega (arith, spent.few, times, same) }

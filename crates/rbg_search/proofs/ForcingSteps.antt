@@ -17,14 +17,14 @@ use Rattle.rbg_search.proofs.Counted.{onward_search, search_before}
 use Rattle.rbg_search.proofs.Forcing.{asks_more, asks_still, asks_end, takes_on, word_forced, no_word_forced}
 
 -- A pattern was asked in a flat part.
-pub ask_forced : (h k : Searching) (s u : History) (done done' : List (ℕ × ℕ)) (v p a b : ℕ) (cut : Bool) → k ≡ record h { opened = k.opened } → u ≡ record s { room = u.room } → IsNumbered h.game.rules → ((w q : ℕ) → Contains done' (w, q) → IsPatternAt k.game.rules q → Contains done (w, q)) → AsksForced h.game cut s.state done a k.opened h.modifiers → CountsForced k.game cut pattern (at_vertex u.state v) (beginning (inside p)) k.opened b k.modifiers k.modifiers → AsksForced h.game cut s.state (done' ++ (v, p) ∷ []) a b h.modifiers
+pub ask_forced : (h k : Searching) (s u : History) (done done' : List (ℕ × ℕ)) (v p a b : ℕ) (cut : Bool) → k ≡ record h { opened = k.opened; taken = k.taken } → u ≡ record s { room = u.room } → IsNumbered h.game.rules → ((w q : ℕ) → Contains done' (w, q) → IsPatternAt k.game.rules q → Contains done (w, q)) → AsksForced h.game cut s.state done a k.opened h.modifiers → CountsForced k.game cut pattern (at_vertex u.state v) (beginning (inside p)) k.opened b k.modifiers k.modifiers → AsksForced h.game cut s.state (done' ++ (v, p) ∷ []) a b h.modifiers
 ask_forced h k s u done done' v p a b cut kept given numbered quiet asks more =
     asks_more h.game numbered cut s.state done done' v p a k.opened b h.modifiers
     (search_before (λ y w. (x q : ℕ) → Contains done' (x, q) → IsPatternAt y.game.rules q → Contains done (x, q)) h k s u kept given quiet) asks
     (search_before (λ y w. CountsForced y.game cut pattern (at_vertex w v) (beginning (inside p)) k.opened b y.modifiers y.modifiers) h k s u kept given more)
 
 -- Each pattern was asked.
-pub flat_forced : (h k : Searching) (s l : History) (f : Start) (done done' : List (ℕ × ℕ)) (a left : ℕ) (cut : Bool) → k ≡ record h { opened = k.opened } → l ≡ record s { room = l.room } → IsNumbered h.game.rules → ((w q : ℕ) → Contains done' (w, q) → IsPatternAt k.game.rules q → Contains done (w, q)) → ((v p : ℕ) → Reached k.game l.state f v p → Contains done' (v, p)) → AsksForced h.game cut s.state done a k.opened h.modifiers → CountsForced h.game cut reach s.state f a k.opened left h.modifiers
+pub flat_forced : (h k : Searching) (s l : History) (f : Start) (done done' : List (ℕ × ℕ)) (a left : ℕ) (cut : Bool) → k ≡ record h { opened = k.opened; taken = k.taken } → l ≡ record s { room = l.room } → IsNumbered h.game.rules → ((w q : ℕ) → Contains done' (w, q) → IsPatternAt k.game.rules q → Contains done (w, q)) → ((v p : ℕ) → Reached k.game l.state f v p → Contains done' (v, p)) → AsksForced h.game cut s.state done a k.opened h.modifiers → CountsForced h.game cut reach s.state f a k.opened left h.modifiers
 flat_forced h k s l f done done' a left cut kept given numbered quiet met asks =
     asks_end h.game numbered cut s.state f done' a k.opened left h.modifiers
     (search_before (λ y w. (v p : ℕ) → Reached y.game w f v p → Contains done' (v, p)) h k s l kept given met)
@@ -36,7 +36,7 @@ pub record BehindForced (h : Searching) (s : AbstractState) (pairs : List (ℕ �
   pub grows : b ≤ c
   pub forced : (cut : Bool) → IsNumbered h.game.rules → TakesBehind h.game cut pattern s (take i pairs) a b left h.modifiers → TakesBehind h.game cut pattern s (take (i + 1) pairs) a c left h.modifiers
 
-pub one_forced : (h k : Searching) (s l : History) (pairs : List (ℕ × ℕ)) (i : ℕ) (d : ℕ × ℕ) (a b left : ℕ) (later : AbstractState) → k ≡ record h { opened = k.opened } → l ≡ record s { room = l.room } → i < length pairs → Applies h.game (get_or pairs i d).1 (at_vertex s.state (get_or pairs i d).0) later → 1 < left → ((cut : Bool) (t : AbstractState) → Applies k.game (get_or pairs i d).1 (at_vertex l.state (get_or pairs i d).0) t → CountsForced k.game cut pattern t (after (get_or pairs i d).1) k.opened b (left - 1) k.modifiers) → BehindForced h s.state pairs i a k.opened b left
+pub one_forced : (h k : Searching) (s l : History) (pairs : List (ℕ × ℕ)) (i : ℕ) (d : ℕ × ℕ) (a b left : ℕ) (later : AbstractState) → k ≡ record h { opened = k.opened; taken = k.taken } → l ≡ record s { room = l.room } → i < length pairs → Applies h.game (get_or pairs i d).1 (at_vertex s.state (get_or pairs i d).0) later → 1 < left → ((cut : Bool) (t : AbstractState) → Applies k.game (get_or pairs i d).1 (at_vertex l.state (get_or pairs i d).0) t → CountsForced k.game cut pattern t (after (get_or pairs i d).1) k.opened b (left - 1) k.modifiers) → BehindForced h s.state pairs i a k.opened b left
 one_forced h k s l pairs i d a b left later kept given under applies some behind =
     let x : ℕ × ℕ = get_or pairs i d in
     let applies' : Applies k.game x.1 (at_vertex l.state x.0) later = onward_search (λ y w. Applies y.game x.1 (at_vertex w x.0) later) h k s l kept given applies in

@@ -4,32 +4,32 @@ use Rattle.rbg_rules.specs.State.{AbstractGame, AbstractState}
 use Rattle.rbg_state.specs.History.{History}
 use Rattle.rbg_search.specs.Searching.{Searching}
 
-pub kept_same : (h k : Searching) → k ≡ h → k ≡ record h { opened = k.opened }
-kept_same h k same = same ∙ ap (λ (x : Searching). let y : Searching = record h { opened = x.opened } in y) (sym same)
+pub kept_same : (h k : Searching) → k ≡ h → k ≡ record h { opened = k.opened; taken = k.taken }
+kept_same h k same = same ∙ ap (λ (x : Searching). let y : Searching = record h { opened = x.opened; taken = x.taken } in y) (sym same)
 
-pub kept_twice : (h k l : Searching) → k ≡ record h { opened = k.opened } → l ≡ record k { opened = l.opened } → l ≡ record h { opened = l.opened }
-kept_twice h k l first second = second ∙ ap (λ (x : Searching). let y : Searching = record x { opened = l.opened } in y) first
+pub kept_twice : (h k l : Searching) → k ≡ record h { opened = k.opened; taken = k.taken } → l ≡ record k { opened = l.opened; taken = l.taken } → l ≡ record h { opened = l.opened; taken = l.taken }
+kept_twice h k l first second = second ∙ ap (λ (x : Searching). let y : Searching = record x { opened = l.opened; taken = l.taken } in y) first
 
-pub kept_since : (h k l : Searching) → k ≡ h → l ≡ record k { opened = l.opened } → l ≡ record h { opened = l.opened }
+pub kept_since : (h k l : Searching) → k ≡ h → l ≡ record k { opened = l.opened; taken = l.taken } → l ≡ record h { opened = l.opened; taken = l.taken }
 kept_since h k l same kept = kept_twice h k l (kept_same h k same) kept
 
-pub same_game : (h k : Searching) → k ≡ record h { opened = k.opened } → k.game ≡ h.game
+pub same_game : (h k : Searching) → k ≡ record h { opened = k.opened; taken = k.taken } → k.game ≡ h.game
 same_game h k kept = ap (λ (x : Searching). x.game) kept
 
 pub back_same : (h k : History) → k ≡ h → k ≡ record h { room = k.room }
 back_same h k same = same ∙ ap (λ (x : History). let y : History = record h { room = x.room } in y) (sym same)
 
 -- What holds of the game and of the semi-state goes on, and was so before.
-pub onward : (P : AbstractGame → AbstractState → Type 0) (h k : Searching) (s t : History) → k ≡ record h { opened = k.opened } → t ≡ record s { room = t.room } → P h.game s.state → P k.game t.state
+pub onward : (P : AbstractGame → AbstractState → Type 0) (h k : Searching) (s t : History) → k ≡ record h { opened = k.opened; taken = k.taken } → t ≡ record s { room = t.room } → P h.game s.state → P k.game t.state
 onward P h k s t kept given x = subst (λ (y : Searching). P y.game t.state) (sym kept) (subst (λ (y : History). P h.game y.state) (sym given) x)
 
-pub before : (P : AbstractGame → AbstractState → Type 0) (h k : Searching) (s t : History) → k ≡ record h { opened = k.opened } → t ≡ record s { room = t.room } → P k.game t.state → P h.game s.state
+pub before : (P : AbstractGame → AbstractState → Type 0) (h k : Searching) (s t : History) → k ≡ record h { opened = k.opened; taken = k.taken } → t ≡ record s { room = t.room } → P k.game t.state → P h.game s.state
 before P h k s t kept given x = subst (λ (y : History). P h.game y.state) given (subst (λ (y : Searching). P y.game t.state) kept x)
 
-pub onward_rules : (P : AbstractGame → Type 0) (h k : Searching) → k ≡ record h { opened = k.opened } → P h.game → P k.game
+pub onward_rules : (P : AbstractGame → Type 0) (h k : Searching) → k ≡ record h { opened = k.opened; taken = k.taken } → P h.game → P k.game
 onward_rules P h k kept x = subst (λ (y : Searching). P y.game) (sym kept) x
 
-pub rules_before : (P : AbstractGame → Type 0) (h k : Searching) → k ≡ record h { opened = k.opened } → P k.game → P h.game
+pub rules_before : (P : AbstractGame → Type 0) (h k : Searching) → k ≡ record h { opened = k.opened; taken = k.taken } → P k.game → P h.game
 rules_before P h k kept x = subst (λ (y : Searching). P y.game) kept x
 
 -- Of what is left of a whole some was taken.

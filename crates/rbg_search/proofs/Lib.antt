@@ -25,3 +25,5 @@ pub mod Fewness
 pub mod Straights
 pub mod Tolds
 pub mod Walking
+pub mod Takings
+pub mod TakingSteps

@@ -4,7 +4,7 @@ use Rattle.rbg_rules.specs.Positions.{IsSwitchAt}
 use Rattle.rbg_rules.specs.Words.{Start, after}
 use Rattle.rbg_rules.specs.State.{AbstractGame, AbstractState}
 use Rattle.rbg_rules.specs.Actions.{Applies}
-use Rattle.rbg_rules.specs.Questions.{Question, Item, modifier_at, pattern_at, HasForced, IsForcedDeep, Forced}
+use Rattle.rbg_rules.specs.Questions.{Question, Item, modifier_at, pattern_at, HasForced, Forced}
 
 -- The list has fewer than `left` modifiers in a row at its beginning, and fewer than `most` behind each pattern. (Where
 -- `left` or `most` is 0 that is said of 1: no modifier is there.)
@@ -28,10 +28,6 @@ pub record CountsForced
 abbrev pub CountsAllForced : AbstractGame → Bool → Question → AbstractState → Start → (old new : ℕ) → Type 0
 CountsAllForced game cut question s f old new =
     (many : ℕ) → HasForced game cut question s f many → old + many ≤ new
-
--- No forced opening has so many modifiers in a row. (There is none to be in a row of none.)
-abbrev pub IsNotForcedDeep : AbstractGame → Bool → Question → AbstractState → Start → (most : ℕ) → Type 0
-IsNotForcedDeep game cut question s f most = 0 < most → ¬ IsForcedDeep game cut question s f most
 
 -- All was taken up that is forced behind the modifiers among these pairs, switches left out, where the question goes on
 -- as this one.

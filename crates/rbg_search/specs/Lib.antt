@@ -5,4 +5,5 @@ pub mod Searching
 pub mod Counting
 pub mod Passing
 pub mod Forced
+pub mod Taken
 pub mod internal

@@ -1,6 +1,6 @@
 //! One flat part: the pairs that are reached without a modifier, the modifiers found among them, and whether a word may
 //! end.
-ghost use Rattle.std.specs.Prelude.{◌≡◌, ℕ, ◌<◌, ◌≤◌, ◌+◌, ◌-◌, ◌^◌, ◌↔◌, [], ◌∷◌, ◌++◌, length, take, slice_get, Contains, Some, IfOk, IfSome, IfNone, OnOk, IsTrue};
+ghost use Rattle.std.specs.Prelude.{◌≡◌, ℕ, ◌<◌, ◌≤◌, ◌+◌, ◌-◌, ◌^◌, ◌↔◌, ◌≢◌, [], ◌∷◌, ◌++◌, length, take, slice_get, AllPairs, Contains, Some, IfOk, IfSome, IfNone, OnOk, IsTrue};
 ghost use Rattle.rbg_rules.specs.Expression.{shift, on};
 ghost use Rattle.rbg_rules.specs.State.{AbstractGame, AbstractState, IsStateOf};
 ghost use Rattle.rbg_rules.specs.Positions.{IsNumbered, HasAction, IsPatternAt};
@@ -81,7 +81,9 @@ impl Flat {
 
     /// How many pairs were met: those that were taken, once none is left.
     pub(crate) fn pairs(&self) -> usize
+        ensures count { result ≡ length self.now.queue.pairs }
         ensures few { result ≤ self.now.queue.marks - self.now.queue.vertices }
+        ensures once { AllPairs (λ a b. a ≢ b) self.now.queue.pairs }
     {
         self.queue.len()
     }

@@ -1,5 +1,5 @@
 //! The pairs of a vertex and a position that a flat part meets, each once, in the order in which they are met.
-ghost use Rattle.std.specs.Prelude.{◌≡◌, ℕ, ◌<◌, ◌≤◌, ◌+◌, ◌-◌, ◌*◌, ◌/◌, ◌%◌, ◌^◌, [], length, slice_get, Some, take, replicate, ◌++◌, All, Contains, Bool, true, false, OnOk, OnErr, IfOk, IsTrue};
+ghost use Rattle.std.specs.Prelude.{◌≡◌, ◌≢◌, ℕ, ◌<◌, ◌≤◌, ◌+◌, ◌-◌, ◌*◌, ◌/◌, ◌%◌, ◌^◌, [], length, slice_get, Some, take, replicate, ◌++◌, All, AllPairs, Contains, Bool, true, false, OnOk, OnErr, IfOk, IsTrue};
 ghost use Rattle.rbg_rules.specs.Games.{IsGame};
 ghost use Rattle.rbg_rules.specs.Positions.{IsPatternAt};
 ghost use Rattle.rbg_rules.specs.State.{AbstractState};
@@ -76,6 +76,7 @@ impl Queue {
     pub(crate) fn len(&self) -> usize
         ensures count { result ≡ length self.now.pairs }
         ensures few { result ≤ self.now.marks - self.now.vertices }
+        ensures once { AllPairs (λ a b. a ≢ b) self.now.pairs }
     {
         self.met
     }

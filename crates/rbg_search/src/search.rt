@@ -1,15 +1,15 @@
 //! A search in a game: what is reached without a modifier, and whether patterns hold, on one budget.
-ghost use Rattle.std.specs.List.Sorted.{IsPermutation};
-ghost use Rattle.std.specs.Prelude.{◌≡◌, ◌≢◌, ℕ, ◌+◌, ◌-◌, ◌*◌, ◌^◌, ◌<◌, ◌≤◌, ◌↔◌, suc, length, slice_get, Some, All, AllPairs, IfOk, OnOk, IfSome, IfNone, IsTrue, [], ◌∷◌, ◌++◌, take, Contains, OnErr, IfErr, Err, Bool};
+ghost use Rattle.std.specs.Prelude.{◌≡◌, ◌≢◌, ℕ, ◌+◌, ◌-◌, ◌*◌, ◌^◌, ◌<◌, ◌≤◌, ◌↔◌, suc, length, slice_get, Some, All, AllPairs, IfOk, OnOk, IfSome, IfNone, IsTrue, [], ◌∷◌, ◌++◌, take, Contains, OnErr, IfErr, IsOk, Err, Bool, max, min};
 ghost use Rattle.rbg_rules.specs.State.{AbstractState, IsStateOf};
-ghost use Rattle.rbg_rules.specs.Positions.{positions_of, IsModifierAt, IsPatternAt, inside};
+ghost use Rattle.rbg_rules.specs.Positions.{IsModifierAt, IsPatternAt, inside};
 ghost use Rattle.rbg_rules.specs.Words.{Start, beginning, after};
 ghost use Rattle.rbg_rules.specs.Actions.{Applies};
-ghost use Rattle.rbg_rules.specs.Questions.{SomeWordRuns, reach, pattern, IsDeep};
+ghost use Rattle.rbg_rules.specs.Questions.{SomeWordRuns, reach, pattern, IsDeep, IsForcedDeep};
 ghost use Rattle.rbg_rules.specs.Games.{IsGame};
 ghost use Rattle.rbg_rules.specs.Laws.{IsStart};
 ghost use Rattle.rbg_search.specs.Counting.{CountsOpenings, IsOverBudget};
-ghost use Rattle.rbg_search.specs.Forced.{CountsForced, CountsAllForced, IsNotForcedDeep};
+ghost use Rattle.rbg_search.specs.Forced.{CountsForced, CountsAllForced};
+ghost use Rattle.rbg_search.specs.Taken.{CountsPairs, HasPairs, most_pairs_of};
 ghost use Rattle.rbg_search.specs.internal.Taking.{RanBehind};
 ghost use Rattle.rbg_search.specs.internal.Asked.{StandsInPattern, GoesBehind, IsCounted};
 ghost use Rattle.rbg_search.specs.Flat.{IsFlatPart, IsBefore};
@@ -21,6 +21,7 @@ ghost use Rattle.rbg_search.specs.internal.Closure.{at_vertex, Reached as Meets}
 ghost use Rattle.rbg_search.specs.internal.Nesting.{NestsFrom};
 ghost use Rattle.rbg_auto.specs.Steps.{AreAllThatFollow};
 ghost use Rattle.rbg_search.specs.internal.Part.{HasMarksOf, IsOutcome};
+ghost use Rattle.rbg_search.specs.internal.Spent.{IsSpent, IsSpentButOne};
 ghost use Rattle.rbg_search.specs.internal.Straight.{IsWalked};
 
 use crate::answer::{is_valid, outcome_of};
@@ -28,10 +29,12 @@ use crate::fitting::fitting;
 use crate::flat::Flat;
 use crate::game_steps::GameSteps;
 use crate::only::only_modifier;
+use crate::order::sort;
 use crate::origin::Origin;
 use crate::outcome::Outcome;
 use crate::over::Over;
 use crate::walk::{Walk, walk_inside};
+use crate::workspace::Workspace;
 use rbg_auto::{Expr, Steps};
 use rbg_base::{Memory, Position, Vertex};
 use rbg_rules::Game;
@@ -58,39 +61,6 @@ pub struct Reached {
     pub ends: bool,
 }
 
-/// What searches leave to later ones: their buffers, and what they took up in all.
-#[derive(Debug, Drop)]
-pub struct Workspace {
-    /// Flat parts that are not in use.
-    flats: Vec<Box<Flat>>,
-    /// Lists of modifiers that are not in use.
-    lists: Vec<Vec<(Vertex, Position)>>,
-    openings: u64,
-    pairs: u64,
-}
-
-impl Workspace {
-    /// A workspace that no search has used.
-    pub fn new(alloc: Global) -> Workspace {
-        Workspace {
-            flats: Vec::new(alloc),
-            lists: Vec::new(alloc),
-            openings: 0,
-            pairs: 0,
-        }
-    }
-
-    /// How many openings the searches took up.
-    pub fn openings(&self) -> u64 {
-        self.openings
-    }
-
-    /// How many pairs the searches tried.
-    pub fn pairs(&self) -> u64 {
-        self.pairs
-    }
-}
-
 /// A search in a game: it counts the openings that it takes up, and keeps its buffers for further use.
 #[derive(Drop)]
 pub struct Search<'a, S: Steps> {
@@ -98,8 +68,6 @@ pub struct Search<'a, S: Steps> {
     rules: GameSteps<'a, S>,
     budget: Budget,
     opened: u32,
-    /// How many flat parts were found whole, and how many pairs they tried.
-    finished: u32,
     taken: u64,
     /// Flat parts that are not in use.
     flats: Vec<Box<Flat>>,
@@ -119,15 +87,16 @@ impl<'a, S: Steps> Model for Search<'a, S> {
       openings = s.budget.openings;
       modifiers = s.budget.modifiers;
       opened = s.opened;
+      taken = s.taken;
     } };
 
-    ghost use Rattle.std.specs.Prelude.{All, ◌≤◌};
+    ghost use Rattle.std.specs.Prelude.{All, ◌<◌, ◌≤◌};
     ghost use Rattle.rbg_search.specs.internal.Part.{HasMarksOf};
     ghost use Rattle.rbg_search.specs.internal.Spent.{IsSpent};
 
     ghost invariant = { λ s.
         All (λ flat. HasMarksOf s.rules flat.value.queue) s.flats.items × (s.opened ≤ s.budget.openings)
-        × IsSpent s.rules s.opened s.finished s.taken };
+        × IsSpent s.rules s.opened s.taken × (0 < s.budget.modifiers) };
 }
 
 impl<'a, S: Steps> Search<'a, S> {
@@ -136,16 +105,19 @@ impl<'a, S: Steps> Search<'a, S> {
         requires { S.of_rules steps.now game.now.rules }
         ensures game { result.game ≡ game.now }
         ensures openings { result.openings ≡ budget.openings }
-        ensures modifiers { result.modifiers ≡ budget.modifiers }
+        ensures modifiers { result.modifiers ≡ max budget.modifiers 1 }
         ensures opened { result.opened ≡ 0 }
+        ensures taken { result.taken ≡ 0 }
     {
         let _positions = game.positions();
         Search {
             alloc,
             rules: GameSteps::new(game, steps),
-            budget,
+            budget: Budget {
+                openings: budget.openings,
+                modifiers: budget.modifiers.max(1),
+            },
             opened: 0,
-            finished: 0,
             taken: 0,
             flats: Vec::new(alloc),
             lists: Vec::new(alloc),
@@ -163,8 +135,10 @@ impl<'a, S: Steps> Search<'a, S> {
         requires { S.of_rules steps.now game.now.rules }
         ensures game { result.game ≡ game.now }
         ensures openings { result.openings ≡ budget.openings }
-        ensures modifiers { result.modifiers ≡ budget.modifiers }
+        ensures modifiers { result.modifiers ≡ max budget.modifiers 1 }
         ensures opened { result.opened ≡ 0 }
+        ensures taken { result.taken ≡ 0 }
+        ensures tally { workspace.new ≡ workspace.old }
     {
         let mut search = Search::new(alloc, game, steps, budget);
         let flats = replace(&mut workspace.flats, Vec::new(alloc));
@@ -173,8 +147,13 @@ impl<'a, S: Steps> Search<'a, S> {
         search
     }
 
-    /// Ends the search. A workspace gets its buffers, and counts what it took up.
-    pub fn leave(self, workspace: &mut Workspace) {
+    /// Ends the search. A workspace gets its buffers, and counts what it took up; at the greatest number it stays.
+    pub fn leave(self, workspace: &mut Workspace)
+        ensures openings { workspace.new.openings
+            ≡ min (workspace.old.openings + self.entry.opened) (2 ^ 64 - 1) }
+        ensures pairs { workspace.new.pairs
+            ≡ min (workspace.old.pairs + self.entry.taken) (2 ^ 64 - 1) }
+    {
         workspace.openings = workspace.openings.saturating_add(u64::from(self.opened));
         workspace.pairs = workspace.pairs.saturating_add(self.taken);
         workspace.flats = self.flats;
@@ -200,8 +179,8 @@ impl<'a, S: Steps> Search<'a, S> {
     /// How many pairs of a position and a vertex were tried in the flat parts that were found whole, those of patterns
     /// among them. Modifiers count too.
     pub fn taken(&self) -> u64
-        ensures { result ≤ self.now.opened * (length (positions_of self.now.game.rules)
-            * length self.now.game.board.first) }
+        ensures taken { result ≡ self.now.taken }
+        ensures few { self.now.taken ≤ self.now.opened * most_pairs_of self.now.game }
     {
         self.taken
     }
@@ -211,7 +190,7 @@ impl<'a, S: Steps> Search<'a, S> {
     pub fn reach(&mut self, state: &mut SemiState, origin: Origin) -> Result<Reached, Over>
         requires fits { IsStateOf self.old.game state.old.state }
         requires stands { IsStart self.old.game.rules (start_of origin) }
-        ensures kept { self.new ≡ record self.old { opened = self.new.opened } }
+        ensures kept { self.new ≡ record self.old { opened = self.new.opened; taken = self.new.taken } }
         ensures given_back { state.new ≡ record state.old { room = state.new.room } }
         ensures room { state.old.room ≤ state.new.room }
         ensures enough { OnOk result (2 ≤ state.new.room) }
@@ -236,8 +215,10 @@ impl<'a, S: Steps> Search<'a, S> {
             → CountsAllForced self.old.game cut reach state.old.state (start_of origin)
             self.old.opened self.new.opened) }
         ensures not_deep { OnOk result ((cut : Bool)
-            → IsNotForcedDeep self.old.game cut reach state.old.state (start_of origin)
+            → ¬ IsForcedDeep self.old.game cut reach state.old.state (start_of origin)
             self.old.modifiers) }
+        ensures taken { CountsPairs self.old.game reach state.old.state (start_of origin)
+            self.old.opened self.new.opened self.old.taken self.new.taken (IsOk result) }
     {
         let mut pairs = self.take_list();
         let ends = self.reach_into(state, origin, &mut pairs)?;
@@ -256,7 +237,7 @@ impl<'a, S: Steps> Search<'a, S> {
     ) -> Result<bool, Over>
         requires fits { IsStateOf self.old.game state.old.state }
         requires stands { IsStart self.old.game.rules (start_of origin) }
-        ensures kept { self.new ≡ record self.old { opened = self.new.opened } }
+        ensures kept { self.new ≡ record self.old { opened = self.new.opened; taken = self.new.taken } }
         ensures given_back { state.new ≡ record state.old { room = state.new.room } }
         ensures room { state.old.room ≤ state.new.room }
         ensures enough { OnOk result (2 ≤ state.new.room) }
@@ -279,8 +260,10 @@ impl<'a, S: Steps> Search<'a, S> {
             → CountsAllForced self.old.game cut reach state.old.state (start_of origin)
             self.old.opened self.new.opened) }
         ensures not_deep { OnOk result ((cut : Bool)
-            → IsNotForcedDeep self.old.game cut reach state.old.state (start_of origin)
+            → ¬ IsForcedDeep self.old.game cut reach state.old.state (start_of origin)
             self.old.modifiers) }
+        ensures taken { CountsPairs self.old.game reach state.old.state (start_of origin)
+            self.old.opened self.new.opened self.old.taken self.new.taken (IsOk result) }
     {
         if let Some(position) = only_modifier(&self.rules, state, origin) {
             return self.reach_only(state, origin, position, pairs);
@@ -304,7 +287,7 @@ impl<'a, S: Steps> Search<'a, S> {
         requires only { AreAllThatFollow self.old.game.rules (start_of origin) (position ∷ []) }
         requires modifies { IsOutcome self.old.game state.old.state state.old.state.vertex position
             Outcome.Modifies }
-        ensures kept { self.new ≡ record self.old { opened = self.new.opened } }
+        ensures kept { self.new ≡ record self.old { opened = self.new.opened; taken = self.new.taken } }
         ensures given_back { state.new ≡ record state.old { room = state.new.room } }
         ensures room { state.old.room ≤ state.new.room }
         ensures enough { OnOk result (2 ≤ state.new.room) }
@@ -319,6 +302,8 @@ impl<'a, S: Steps> Search<'a, S> {
         ensures forced { OnOk result ((cut : Bool) (left : ℕ)
             → CountsForced self.old.game cut reach state.old.state (start_of origin)
             self.old.opened self.new.opened left self.old.modifiers) }
+        ensures taken { CountsPairs self.old.game reach state.old.state (start_of origin)
+            self.old.opened self.new.opened self.old.taken self.new.taken (IsOk result) }
     {
         self.enter(state)?;
         let ends = self.rules.may_end(origin);
@@ -332,7 +317,7 @@ impl<'a, S: Steps> Search<'a, S> {
     pub fn pattern(&mut self, state: &mut SemiState, position: Position) -> Result<bool, Over>
         requires fits { IsStateOf self.old.game state.old.state }
         requires there { IsPatternAt self.old.game.rules position }
-        ensures kept { self.new ≡ record self.old { opened = self.new.opened } }
+        ensures kept { self.new ≡ record self.old { opened = self.new.opened; taken = self.new.taken } }
         ensures given_back { state.new ≡ record state.old { room = state.new.room } }
         ensures room { state.old.room ≤ state.new.room }
         ensures valid { IfOk result (λ valid.
@@ -351,9 +336,12 @@ impl<'a, S: Steps> Search<'a, S> {
             (beginning (inside position))
             self.old.opened self.new.opened) }
         ensures not_deep { OnOk result ((cut : Bool)
-            → IsNotForcedDeep self.old.game cut pattern state.old.state
+            → ¬ IsForcedDeep self.old.game cut pattern state.old.state
             (beginning (inside position))
             self.old.modifiers) }
+        ensures taken { CountsPairs self.old.game pattern state.old.state
+            (beginning (inside position))
+            self.old.opened self.new.opened self.old.taken self.new.taken (IsOk result) }
     {
         state.reserve(1)?;
         let nested = self.rules.nesting() + 1;
@@ -381,13 +369,15 @@ impl<'a, S: Steps> Search<'a, S> {
     }
 
     /// Takes one more opening up.
-    fn open(&mut self) -> Result<(), Over>
-        ensures kept { self.new ≡ record self.old { opened = self.new.opened } }
+    pub(crate) fn open(&mut self) -> Result<(), Over>
+        ensures kept { self.new ≡ record self.old { opened = self.new.opened; taken = self.new.taken } }
         ensures lawful { IsGame self.old.game }
         ensures opened { OnOk result (self.new.opened ≡ self.old.opened + 1) }
         ensures unopened { OnErr result (self.new.opened ≡ self.old.opened) }
         ensures wide { IfErr result (λ over. over ≡ Over.Wide) }
         ensures full { OnErr result (self.old.openings ≤ self.old.opened) }
+        ensures none_taken { self.new.taken ≡ self.old.taken }
+        ensures spent { IsSpent self.old.game self.old.opened self.old.taken }
     {
         // The game is lawful.
         let _game = self.rules.game();
@@ -410,25 +400,30 @@ impl<'a, S: Steps> Search<'a, S> {
         }
     }
 
-    /// Counts the pairs of a flat part that is found whole. Each of these was opened.
-    fn count_pairs(&mut self, pairs: usize)
-        requires { pairs ≤ length (positions_of self.old.game.rules) * length
-            self.old.game.board.first }
-        ensures kept { self.new ≡ self.old }
+    /// Counts the pairs of a flat part that is found whole. It was opened, and isn't counted yet.
+    pub(crate) fn count_pairs(&mut self, pairs: usize)
+        requires few { pairs ≤ most_pairs_of self.old.game }
+        requires one { IsSpentButOne self.old.game self.old.opened self.old.taken }
+        ensures kept { self.new ≡ record self.old { opened = self.new.opened; taken = self.new.taken } }
+        ensures opened { self.new.opened ≡ self.old.opened }
+        ensures taken { self.new.taken ≡ self.old.taken + pairs }
     {
-        // The game is lawful, so the sum is a number of 64 bits.
+        // The game is lawful and the openings are a number of 32 bits, so the sum is one of 64 bits.
         let _game = self.rules.game();
-        if self.finished < self.opened {
-            self.finished += 1;
-            self.taken += pairs as u64;
-        }
+        let _opened = self.opened;
+        self.taken += pairs as u64;
     }
 
     /// Hands out what a flat part found, in the list that is lent, and keeps the rest for further use, with the buffer
     /// that came. Returns whether a word may end with no modifier more.
     fn finish(&mut self, flat: Box<Flat>, pairs: &mut Vec<(Vertex, Position)>) -> Result<bool, Over>
-        requires { HasMarksOf self.old.game flat.value.queue }
-        ensures kept { self.new ≡ self.old }
+        requires marks { HasMarksOf self.old.game flat.value.queue }
+        requires one { IsSpentButOne self.old.game self.old.opened self.old.taken }
+        ensures kept { self.new ≡ record self.old { opened = self.new.opened; taken = self.new.taken } }
+        ensures opened { self.new.opened ≡ self.old.opened }
+        ensures taken { self.new.taken ≡ self.old.taken + length flat.value.queue.pairs }
+        ensures once { AllPairs (λ a b. a ≢ b) flat.value.queue.pairs }
+        ensures few { length flat.value.queue.pairs ≤ most_pairs_of self.old.game }
         ensures pairs { OnOk result (pairs.new.items ≡ flat.value.found.items) }
         ensures ends { IfOk result (λ ends. ends ≡ flat.value.ends) }
         ensures memory { IfErr result (λ over. over ≡ Over.Memory) }
@@ -443,7 +438,7 @@ impl<'a, S: Steps> Search<'a, S> {
 
     /// Takes one more opening up, and makes room for the changes of two actions.
     fn enter(&mut self, state: &mut SemiState) -> Result<(), Over>
-        ensures kept { self.new ≡ record self.old { opened = self.new.opened } }
+        ensures kept { self.new ≡ record self.old { opened = self.new.opened; taken = self.new.taken } }
         ensures given_back { state.new ≡ record state.old { room = state.new.room } }
         ensures room { state.old.room ≤ state.new.room }
         ensures enough { OnOk result (2 ≤ state.new.room) }
@@ -453,6 +448,9 @@ impl<'a, S: Steps> Search<'a, S> {
             → IsCounted self.old.game reach s f self.old.opened self.new.opened
             self.old.modifiers self.old.openings self.old.modifiers
             (result ≡ Err Over.Deep) (result ≡ Err Over.Wide) }
+        ensures none_taken { self.new.taken ≡ self.old.taken }
+        ensures spent { IsSpent self.old.game self.old.opened self.old.taken }
+        ensures grows { self.old.opened ≤ self.new.opened }
     {
         self.open()?;
         state.reserve(2)?;
@@ -565,7 +563,7 @@ impl<'a, S: Steps> Search<'a, S> {
     }
 
     /// Whether a pattern is valid where some word of its inside runs, or none.
-    fn is_valid(&self, position: Position, runs: bool) -> bool
+    pub(crate) fn is_valid(&self, position: Position, runs: bool) -> bool
         requires there { IsPatternAt self.now.game.rules position }
         ensures { (s : AbstractState)
             → IsTrue runs ↔ SomeWordRuns self.now.game s (beginning (inside position))
@@ -581,32 +579,12 @@ impl<'a, S: Steps> Search<'a, S> {
         ensures walked { IfSome result (λ walk.
             IsWalked self.now.game (at_vertex state.now.state vertex)
             (beginning (inside position)) walk.ends) }
-        ensures few { IfSome result (λ walk.
-            walk.pairs ≤ length (positions_of self.now.game.rules)) }
+        ensures few { IfSome result (λ walk. walk.pairs ≤ most_pairs_of self.now.game) }
+        ensures taken { IfSome result (λ walk.
+            HasPairs self.now.game (at_vertex state.now.state vertex)
+            (beginning (inside position)) walk.pairs) }
     {
         walk_inside(&self.rules, state, vertex, position)
-    }
-
-    /// Whether a pattern is valid by the walk along its inside, for which one more opening is taken up.
-    fn answer(&mut self, position: Position, walk: Walk) -> Result<bool, Over>
-        requires there { IsPatternAt self.old.game.rules position }
-        requires few { walk.pairs ≤ length (positions_of self.old.game.rules) }
-        ensures kept { self.new ≡ record self.old { opened = self.new.opened } }
-        ensures valid { IfOk result (λ valid. (s : AbstractState)
-            → IsWalked self.old.game s (beginning (inside position)) walk.ends
-            → IsTrue valid ↔ Applies self.old.game position s s) }
-        ensures counts { (s : AbstractState)
-            → IsCounted self.old.game pattern s (beginning (inside position))
-            self.old.opened self.new.opened self.old.modifiers self.old.openings self.old.modifiers
-            (result ≡ Err Over.Deep) (result ≡ Err Over.Wide) }
-        ensures forced { OnOk result ((s : AbstractState) (cut : Bool)
-            → IsWalked self.old.game s (beginning (inside position)) walk.ends
-            → CountsForced self.old.game cut pattern s (beginning (inside position))
-            self.old.opened self.new.opened self.old.modifiers self.old.modifiers) }
-    {
-        self.open()?;
-        self.count_pairs(walk.pairs);
-        Ok(self.is_valid(position, walk.ends))
     }
 
     /// What is reached, in a list that is lent, and whether a word may end with no modifier more. Patterns nest at most
@@ -622,7 +600,7 @@ impl<'a, S: Steps> Search<'a, S> {
         requires fits { IsStateOf self.old.game state.old.state }
         requires nested { NestsFrom self.old.game.rules nested (start_of origin) }
         requires start { IsStart self.old.game.rules (start_of origin) }
-        ensures kept { self.new ≡ record self.old { opened = self.new.opened } }
+        ensures kept { self.new ≡ record self.old { opened = self.new.opened; taken = self.new.taken } }
         ensures given_back { state.new ≡ record state.old { room = state.new.room } }
         ensures room { state.old.room ≤ state.new.room }
         ensures enough { OnOk result (2 ≤ state.new.room) }
@@ -637,6 +615,8 @@ impl<'a, S: Steps> Search<'a, S> {
         ensures forced { OnOk result ((cut : Bool) (left : ℕ)
             → CountsForced self.old.game cut reach state.old.state (start_of origin)
             self.old.opened self.new.opened left self.old.modifiers) }
+        ensures taken { CountsPairs self.old.game reach state.old.state (start_of origin)
+            self.old.opened self.new.opened self.old.taken self.new.taken (IsOk result) }
     {
         self.enter(state)?;
         let mut flat = self.begun(origin, state.vertex())?;
@@ -664,7 +644,7 @@ impl<'a, S: Steps> Search<'a, S> {
         requires some { 0 < nested }
         requires nested { (k : ℕ) → nested ≡ suc k
             → NestsFrom self.old.game.rules k (beginning (inside position)) }
-        ensures kept { self.new ≡ record self.old { opened = self.new.opened } }
+        ensures kept { self.new ≡ record self.old { opened = self.new.opened; taken = self.new.taken } }
         ensures given_back { state.new ≡ record state.old { room = state.new.room } }
         ensures room { state.old.room ≤ state.new.room }
         ensures valid { IfOk result (λ valid. IsTrue valid ↔ Applies self.old.game position
@@ -676,6 +656,9 @@ impl<'a, S: Steps> Search<'a, S> {
         ensures forced { OnOk result ((cut : Bool) → CountsForced self.old.game cut pattern
             (at_vertex state.old.state vertex) (beginning (inside position))
             self.old.opened self.new.opened self.old.modifiers self.old.modifiers) }
+        ensures taken { CountsPairs self.old.game pattern
+            (at_vertex state.old.state vertex) (beginning (inside position))
+            self.old.opened self.new.opened self.old.taken self.new.taken (IsOk result) }
     {
         if let Some(walk) = self.walk(state, vertex, position) {
             return self.answer(position, walk);
@@ -702,7 +685,7 @@ impl<'a, S: Steps> Search<'a, S> {
         requires fits { IsStateOf self.old.game state.old.state }
         requires nested { NestsFrom self.old.game.rules nested (start_of origin) }
         requires inside { StandsInPattern self.old.game.rules (start_of origin) }
-        ensures kept { self.new ≡ record self.old { opened = self.new.opened } }
+        ensures kept { self.new ≡ record self.old { opened = self.new.opened; taken = self.new.taken } }
         ensures given_back { state.new ≡ record state.old { room = state.new.room } }
         ensures room { state.old.room ≤ state.new.room }
         ensures answer { IfOk result (λ runs.
@@ -713,6 +696,8 @@ impl<'a, S: Steps> Search<'a, S> {
         ensures forced { OnOk result ((cut : Bool)
             → CountsForced self.old.game cut pattern state.old.state (start_of origin)
             self.old.opened self.new.opened modifiers self.old.modifiers) }
+        ensures taken { CountsPairs self.old.game pattern state.old.state (start_of origin)
+            self.old.opened self.new.opened self.old.taken self.new.taken (IsOk result) }
     {
         let mut pairs = self.take_list();
         let ends = self.flat_part(state, origin, nested, &mut pairs)?;
@@ -741,7 +726,7 @@ impl<'a, S: Steps> Search<'a, S> {
         requires room { 2 ≤ state.old.room }
         requires ready { All (IsReady self.old.game state.old.state nested) pairs.now }
         requires inside { All (λ q. StandsInPattern self.old.game.rules (after q.1)) pairs.now }
-        ensures kept { self.new ≡ record self.old { opened = self.new.opened } }
+        ensures kept { self.new ≡ record self.old { opened = self.new.opened; taken = self.new.taken } }
         ensures given_back { state.new ≡ record state.old { room = state.new.room } }
         ensures room { state.old.room ≤ state.new.room }
         ensures answer { IfOk result (λ runs.
@@ -753,6 +738,9 @@ impl<'a, S: Steps> Search<'a, S> {
             (result ≡ Err Over.Deep) (result ≡ Err Over.Wide) }
         ensures forced { IfOk result (λ runs. RanBehind self.old.game state.old.state pairs.now runs
             self.old.opened self.new.opened modifiers self.old.modifiers) }
+        ensures taken { (f : Start) → GoesBehind self.old.game state.old.state f pairs.now
+            → CountsPairs self.old.game pattern state.old.state f
+            self.old.opened self.new.opened self.old.taken self.new.taken (IsOk result) }
     {
         for (vertex, position) in pairs {
             if modifiers <= 1 {
@@ -780,7 +768,7 @@ impl<'a, S: Steps> Search<'a, S> {
         requires ready { IsReady self.old.game state.old.state nested (vertex, position) }
         requires inside { StandsInPattern self.old.game.rules (after position) }
         requires some { 0 < modifiers }
-        ensures kept { self.new ≡ record self.old { opened = self.new.opened } }
+        ensures kept { self.new ≡ record self.old { opened = self.new.opened; taken = self.new.taken } }
         ensures given_back { state.new ≡ record state.old { room = state.new.room } }
         ensures room { state.old.room ≤ state.new.room }
         ensures answer { IfOk result (λ runs.
@@ -795,23 +783,15 @@ impl<'a, S: Steps> Search<'a, S> {
             → Applies self.old.game position (at_vertex state.old.state vertex) later
             → CountsForced self.old.game cut pattern later (after position)
             self.old.opened self.new.opened (modifiers - 1) self.old.modifiers) }
+        ensures taken { (later : AbstractState)
+            → Applies self.old.game position (at_vertex state.old.state vertex) later
+            → CountsPairs self.old.game pattern later (after position)
+            self.old.opened self.new.opened self.old.taken self.new.taken (IsOk result) }
     {
         let mark = state.mark();
         self.apply_at(state, vertex, position);
         let runs = self.word_runs(state, Origin::After(position), nested, modifiers - 1);
         state.undo_to(mark);
         Ok(runs?)
-    }
-}
-
-/// Puts pairs in order: by vertex, then by position.
-#[inline(always)]
-fn sort(pairs: &mut Vec<(Vertex, Position)>)
-    requires { AllPairs (λ a b. a ≢ b) pairs.old.items }
-    ensures permutation { IsPermutation pairs.old.items pairs.new.items }
-    ensures order { AllPairs IsBefore pairs.new.items }
-{
-    if pairs.len() > 1 {
-        pairs.sort_unstable();
     }
 }

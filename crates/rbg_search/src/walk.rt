@@ -1,8 +1,9 @@
 //! A pattern whose inside is a straight line of actions: a walk along it, with no queue.
 ghost use Rattle.std.specs.Prelude.{◌≡◌, ◌<◌, ◌≤◌, [], ◌∷◌, length, IfSome, IsTrue, ◌↔◌};
 ghost use Rattle.rbg_rules.specs.State.{IsStateOf};
-ghost use Rattle.rbg_rules.specs.Positions.{positions_of, inside};
+ghost use Rattle.rbg_rules.specs.Positions.{inside};
 ghost use Rattle.rbg_rules.specs.Words.{beginning};
+ghost use Rattle.rbg_search.specs.Taken.{HasPairs, most_pairs_of};
 ghost use Rattle.rbg_search.specs.internal.Closure.{at_vertex};
 ghost use Rattle.rbg_search.specs.internal.Straight.{IsWalked};
 
@@ -36,7 +37,9 @@ pub(crate) fn walk_inside<S: Steps>(
     requires there { vertex < length rules.now.board.first }
     ensures walked { IfSome result (λ walk. IsWalked rules.now (at_vertex state.now.state vertex)
         (beginning (inside pattern)) walk.ends) }
-    ensures few { IfSome result (λ walk. walk.pairs ≤ length (positions_of rules.now.rules)) }
+    ensures few { IfSome result (λ walk. walk.pairs ≤ most_pairs_of rules.now) }
+    ensures taken { IfSome result (λ walk. HasPairs rules.now (at_vertex state.now.state vertex)
+        (beginning (inside pattern)) walk.pairs) }
 {
     let begin = Origin::Begin(Expr::Inside(pattern));
     let mut position = only(rules.following(begin))?;

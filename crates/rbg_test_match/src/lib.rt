@@ -8,4 +8,6 @@ mod messages;
 #[cfg(test)]
 mod programs;
 #[cfg(test)]
+mod scripts;
+#[cfg(test)]
 mod streams;

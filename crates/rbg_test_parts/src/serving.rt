@@ -1,9 +1,9 @@
 //! Matches that are served over lines in memory: whole ones, and ones whose lines are short or fail.
 use rbg_base::Memory;
 use rbg_game::load;
-use rbg_hall::{Faulty, Give, Line, ListClock, MemoryLine, ServeError, Served, Take, serve};
 use rbg_match::{Config, Match, Outbox};
 use rbg_record::write_record;
+use rbg_serving::{Faulty, Give, Line, ListClock, MemoryLine, ServeError, Served, Take, serve};
 use std::alloc::{AllocError, Global};
 use std::test::Fail;
 

@@ -6,6 +6,8 @@ mod list;
 #[cfg(test)]
 mod moves;
 #[cfg(test)]
+mod played;
+#[cfg(test)]
 mod playing;
 #[cfg(test)]
 mod states;

@@ -38,7 +38,7 @@ too_long_whole limit text rest lacks long =
     ∙ (ap (λ c. after_items c.items (cut limit c.rest (0 ∷ rest))) (too_long_once limit text lacks long)
     ∙ ap (after_items (too_long ∷ [])) (cut-dropped limit [] rest (All-nil (λ other. other ≢ 0))))
 
-one_item : (limit : ℕ) (text rest : List ℕ) → LacksByte 0 text → cut limit (incomplete []) (text ++ 0 ∷ rest) ≡ after_items (item_for limit text ∷ []) (cut limit (incomplete []) rest)
+pub one_item : (limit : ℕ) (text rest : List ℕ) → LacksByte 0 text → cut limit (incomplete []) (text ++ 0 ∷ rest) ≡ after_items (item_for limit text ∷ []) (cut limit (incomplete []) rest)
 one_item limit text rest lacks = elim (cases_lt limit (length text)) [
   | inl long ↦ (let test : nat_le (length text) limit ≡ false = grind (arith, common_steps) in rw test (too_long_whole limit text rest lacks long))
   | inr fits ↦ (let test : nat_le (length text) limit ≡ true = grind (arith, common_steps) in rw test (cut-message limit text rest lacks fits))
@@ -52,7 +52,7 @@ texts limit (text ∷ more) lack =
     ∙ ap (after_items (item_for limit text ∷ [])) (texts limit more (All-tail (LacksByte 0) text more lack)))
 
 -- one byte after a rest
-rest_more : (limit : ℕ) (rest : Rest) (byte : ℕ) → IsRest limit rest → IsRest limit (next_byte limit rest byte).rest
+pub rest_more : (limit : ℕ) (rest : Rest) (byte : ℕ) → IsRest limit rest → IsRest limit (next_byte limit rest byte).rest
 rest_more limit (incomplete bytes) byte h = elim (cases_lt 0 byte) [
   | inl above ↦ (let some : byte ≢ 0 = λ zero. absurd (omega arith) in elim (cases_lt (length bytes) limit) [
     | inl room ↦ subst (λ c. IsRest limit c.rest) (sym (next_kept limit bytes byte some room)) (omega (arith, length-append bytes (byte ∷ [])), All-push (λ other. other ≢ 0) bytes byte h.1 some)

@@ -11,4 +11,5 @@ pub mod NumberLemmas
 pub mod OutcomeLemmas
 pub mod PairLemmas
 pub mod ScoreLemmas
+pub mod WholeLemmas
 pub mod WordLemmas

@@ -10,5 +10,6 @@ pub mod Messages
 pub mod Reading
 pub mod Scores
 pub mod Streams
+pub mod Whole
 pub mod Words
 pub mod Writing

@@ -1,5 +1,6 @@
 //! Laws of messages and streams. The contract of each function is a law; its body does nothing.
 ghost use Rattle.rbg_wire.specs.Laws.{SpellingsAreApart, CutsAsItsPieces, ItemsAreTexts, SpellingsAreItems, TooLongComesOnce, RestsStayShort};
+ghost use Rattle.rbg_wire.specs.Whole.{ItemsAreCutAgain};
 
 /// No spelling is the beginning of another, so two messages with the same spelling are equal.
 pub fn spellings_are_apart()
@@ -29,4 +30,9 @@ pub fn too_long_comes_once()
 /// The part that is kept of an incomplete message is never longer than the limit.
 pub fn rests_stay_short()
     ensures { RestsStayShort }
+{}
+
+/// Each item of a stream, handed on as a piece of its own, completes itself alone.
+pub fn items_are_cut_again()
+    ensures { ItemsAreCutAgain }
 {}

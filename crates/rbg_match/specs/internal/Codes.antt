@@ -14,6 +14,7 @@ use Rattle.rbg_match.specs.declared.made.Made.{Made}
 use Rattle.rbg_match.specs.Play.{AbstractPlay}
 use Rattle.rbg_match.specs.Inputs.{Streams}
 use Rattle.rbg_match.specs.Matches.{MatchState}
+use Rattle.rbg_match.specs.internal.Replies.{RefereeState}
 
 abbrev coded_made : Coded Made
 coded_made = code_by (ℕ × (ℕ × List (ℕ × ℕ)))
@@ -94,5 +95,20 @@ coded_match = code_by ((AbstractGame × ((ℕ × ℕ) × ℕ)) × (AbstractPlay 
       play = p.1.0;
       streams = p.1.1.0;
       failed = p.1.1.1;
+    })
+    (λ _. refl)
+
+abbrev pub coded_referee : Coded RefereeState
+coded_referee = code_by ((AbstractGame × ((ℕ × ℕ) × ℕ)) × (AbstractPlay × List (List ℕ)))
+    (coded×
+    (coded× coded_game (coded× (coded× coded_ℕ coded_ℕ) coded_ℕ))
+    (coded× coded_play (coded_list (coded_list coded_ℕ))))
+    (λ r. ((r.game, ((r.config.turn_ms, r.config.refusals), r.moment)), (r.play, r.outbox)))
+    (λ p. record {
+      game = p.0.0;
+      config = record { turn_ms = p.0.1.0.0; refusals = p.0.1.0.1 };
+      moment = p.0.1.1;
+      play = p.1.0;
+      outbox = p.1.1;
     })
     (λ _. refl)

@@ -10,8 +10,12 @@ input_of Tick = tick
 input_of (Gone seat) = gone seat
 input_of (Sent seat took) = sent seat (item_of took)
 
--- the input is of no seat, or of one of the seats 1, 2, .. up to that number
-abbrev pub IsOfSeats : ℕ → Input → Type 0
+-- one of the seats 1, 2, .. up to that number
+abbrev pub IsSeatOf : (seats : ℕ) → (seat : ℕ) → Type 0
+IsSeatOf seats seat = (1 ≤ seat) × (seat ≤ seats)
+
+-- the input is of no seat, or of one of that many seats
+abbrev pub IsOfSeats : (seats : ℕ) → Input → Type 0
 IsOfSeats seats Tick = Unit {0}
-IsOfSeats seats (Gone seat) = (1 ≤ seat) × (seat ≤ seats)
-IsOfSeats seats (Sent seat took) = (1 ≤ seat) × (seat ≤ seats)
+IsOfSeats seats (Gone seat) = IsSeatOf seats seat
+IsOfSeats seats (Sent seat took) = IsSeatOf seats seat

@@ -1,10 +1,7 @@
--- What a match keeps of its game and of the state of play.
+-- What a match keeps of the state of play and of its streams.
 use Rattle.std.specs.Prelude.{◌≡◌, ℕ, ◌≤◌, List, length, None, Bool, false, All}
 use Rattle.rbg_rules.specs.State.{AbstractGame}
-use Rattle.rbg_rules.specs.Games.{IsGame}
 use Rattle.rbg_wire.specs.Streams.{Stream}
-use Rattle.rbg_match.specs.declared.config.Config.{Config}
-use Rattle.rbg_match.specs.Config.{IsWithinLimits}
 use Rattle.rbg_match.specs.Limits.{latest_moment, most_refusals}
 use Rattle.rbg_match.specs.internal.Inboxes.{AreReady}
 use Rattle.rbg_rules.specs.Places.{IsPlaceOf}
@@ -18,14 +15,8 @@ pub record IsPlayOf (game : AbstractGame) (play : AbstractPlay) : Type 0 where
   pub counts : length play.refusals ≡ length game.players
   pub few : play.outcome ≡ None → All (λ count. count ≤ most_refusals) play.refusals
 
--- What every match keeps: its game is an accepted one, its config is within the limits, its state of play is one of
--- the game, and there is an inbox for each seat. The greatest moment so far is a counted one. Unless the match failed,
+-- What every match keeps, apart from what its referee does: there is an inbox for each seat, and unless the match failed,
 -- no inbox holds a complete item.
-pub record IsMatch (game : AbstractGame) (config : Config) (play : AbstractPlay) (inboxes : List Stream)
-    (moment : ℕ) (failed : Bool) : Type 0 where
-  pub accepted : IsGame game
-  pub lawful : IsWithinLimits config
-  pub in_game : IsPlayOf game play
+pub record IsMatch (game : AbstractGame) (inboxes : List Stream) (failed : Bool) : Type 0 where
   pub seats : length inboxes ≡ length game.players
-  pub counted : moment ≤ latest_moment
   pub ready : failed ≡ false → AreReady inboxes

@@ -1,5 +1,5 @@
 -- A straight line of actions that is walked along.
-use Rattle.std.specs.Prelude.{ℕ, List, [], ◌∷◌, ◌++◌, All, Bool}
+use Rattle.std.specs.Prelude.{◌≡◌, ◌≢◌, ℕ, ◌<◌, List, [], ◌∷◌, ◌++◌, length, All, AllPairs, Bool}
 use Rattle.rbg_rules.specs.Positions.{IsPatternAt}
 use Rattle.rbg_rules.specs.Words.{Start}
 use Rattle.rbg_rules.specs.State.{AbstractGame, AbstractState}
@@ -12,11 +12,15 @@ pub record IsWalked (game : AbstractGame) (s : AbstractState) (f : Start) (ends 
   pub part : IsFlatPart game s f [] ends
   pub quiet : (v p : ℕ) → Reached game s f v p → ¬ IsPatternAt game.rules p
 
--- The pairs so far were tried, none at a pattern or a valid modifier, and position p at vertex v is all that is left.
+-- So many pairs were tried so far, none at a pattern or a valid modifier, each at a position before p; and position p at
+-- vertex v is all that is left.
 pub record IsWalking
-    (game : AbstractGame) (s : AbstractState) (f : Start) (v p : ℕ) (ends : Bool)
+    (game : AbstractGame) (s : AbstractState) (f : Start) (v p : ℕ) (ends : Bool) (many : ℕ)
     : Type 0
   where
     pub done : List (ℕ × ℕ)
+    pub count : length done ≡ many
+    pub different : AllPairs (λ a b. a ≢ b) done
+    pub before : All (λ q. q.1 < p) done
     pub part : IsPart game s f (done ++ (v, p) ∷ []) done [] ends
     pub quiet : All (λ q. ¬ IsPatternAt game.rules q.1) done

@@ -1,5 +1,9 @@
+use Rattle.rbg_match.proofs.Questions.{where_above}
 use Rattle.rbg_match.proofs.LegalPairs.{found_are_pairs}
 use Rattle.rbg_match.proofs.asking.find_pairs.Goals as goal
 
 pub returns-clause-spelled : goal.returns-clause-spelled
 returns-clause-spelled c = found_are_pairs (λ pairs. pairs.items) c.args.game.now c.as_game-game.ensures.lawful c.args.place.now c.requires.place c.find_pairs.result c.find_pairs.ensures.found c.find_pairs.ensures.length
+
+pub returns-clause-heavy : goal.returns-clause-heavy
+returns-clause-heavy c = where_above c.find_pairs.result _ _ c.find_pairs.ensures.heavy

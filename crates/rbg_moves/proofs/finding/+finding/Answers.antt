@@ -12,7 +12,9 @@ use Rattle.rbg_rules.specs.Places.{IsPlaceOf}
 use Rattle.rbg_rules.specs.Questions.{reach, find_move, IsDeep}
 use Rattle.rbg_rules.specs.Laws.{IsStart}
 use Rattle.rbg_rules.specs.Games.{IsGame}
-use Rattle.rbg_state.specs.History.{History}
+use Rattle.rbg_state.specs.History.{History, IsAfter}
+use Rattle.rbg_state.proofs.Histories.{after_nothing, after_both}
+use Rattle.rbg_search.proofs.Asking.{after_room}
 use Rattle.rbg_search.specs.Counting.{CountsOpenings, IsOverBudget}
 use Rattle.std.proofs.lemmas.List.Sorted.{length_permutation}
 use Rattle.rbg_search.specs.Passing.{IsTooDeep, somewhere, CountsUpTo}
@@ -23,10 +25,15 @@ use Rattle.rbg_search.proofs.Kept.{kept_since}
 use Rattle.rbg_search.proofs.CallerLemmas.{find_begins, counts_begin, counts_reached, counts_end, over_begin, deep_begin}
 use Rattle.rbg_moves.specs.internal.Stepping.{standing_at, place_behind, IsValidAt}
 use Rattle.rbg_moves.proofs.Steps.{place_start, place_after, next_applies, next_there, next_from, legal_end, none_found, valid_next}
-use Rattle.rbg_moves.proofs.Seeking.{kept_twice, room_twice, part_of, AtPair, at_turn, pair_is, pair_next, pair_plain, pair_applies, pair_row, pair_deep, pair_counts, pair_over, pair_more, behind_found, one_behind, applied_back, deep_as, over_as, counts_as, behind_as, plain_of, nothing_as}
+use Rattle.rbg_moves.proofs.Seeking.{kept_twice, room_twice, part_of, AtPair, at_turn, pair_is, pair_on, pair_next, pair_plain, pair_applies, pair_row, pair_deep, pair_counts, pair_over, pair_more, behind_found, one_behind, applied_back, deep_as, over_as, counts_as, behind_as, plain_of, nothing_as}
 use Rattle.rbg_rules.specs.Moves.{AbstractPlace}
 use Rattle.rbg_search.specs.Forced.{CountsForced}
 use Rattle.rbg_moves.proofs.Forcing.{TakenSoFar, so_far_begin, so_far_with, found_forced, found_so_far, finished_forced, forced_as}
+use Rattle.rbg_moves.proofs.Results.{on_err, err_of}
+use Rattle.std.specs.Prelude.{IsOk}
+use Rattle.rbg_search.specs.Taken.{CountsPairs}
+use Rattle.rbg_search.proofs.Takings.{is_answer}
+use Rattle.rbg_moves.proofs.Tallies.{begin_takes, more_takes, takes_in}
 use Rattle.rbg_moves.proofs.finding.+finding.Goals as goal
 
 pub find-reach_into-requires-clause-stands : goal.find-reach_into-requires-clause-stands
@@ -100,6 +107,7 @@ find-loop-index-init g t c =
       front = refl;
       nothing = λ k d below later applied. absurd (omega (arith, below));
       counted = counts_begin game numbered (find_begins game s f) (subst (λ (h : Start). CountsOpenings game reach s h c.args.search.now.opened c.reach_into.new.self.opened) c.origin_after.ensures (subst (λ (x : Searching). CountsOpenings x.game reach s (start_of c.origin_after.result) x.opened c.reach_into.new.self.opened) c.take_list-pairs.ensures c.reach_into.ensures.counted));
+      paired = begin_takes c.args.search.now c.take_list-pairs.new.self c.reach_into.new.self find_move c.args.state.now.state (stand_of c.args.after) (start_of c.origin_after.result) (IsOk c.reach_into.result) c.take_list-pairs.ensures c.origin_after.ensures c.reach_into.ensures.taken (is_answer c.reach_into.result c.in_ok-reach_into.field-0 c.in_ok-reach_into.was);
       forced =
           let left = most_pairs - length c.args.front.now.items in
           so_far_begin game numbered find_move s f c.args.search.now.opened c.reach_into.new.self.opened left c.args.search.now.modifiers
@@ -294,6 +302,26 @@ find-returns-then-found-clause-counted g t c =
     subst (λ (x : Searching). CountsOpenings game find_move s f c.args.search.now.opened x.opened) (sym c.keep_list-then-found.ensures)
     (counts_end game numbered (pair_counts game s f xs ends k q here c.args.search.now.opened now.search.opened c.find_behind.new.search.opened (subst (λ (ds : List (ℕ × ℕ)). CountsUpTo game find_move s f ds c.args.search.now.opened c.loop-index.search.opened) (sym c.put_in_turn.ensures.before) c.loop-index.invariant.counted) counted))
 
+pub find-returns-then-found-clause-paired : goal.find-returns-then-found-clause-paired
+find-returns-then-found-clause-paired g t c =
+    let game = c.args.search.now.game in
+    let s = c.args.state.now.state in
+    let f = stand_of c.args.after in
+    let numbered = c.game-game.ensures.lawful.numbered in
+    let xs : List (ℕ × ℕ) = c.put_in_turn.new.pairs.items in
+    let ends = c.loop-index.invariant.part.ends in
+    let k = c.loop-index.index in
+    let q : ℕ × ℕ = c.index.result.now in
+    let here : AtPair game s f xs ends k q = at_turn game s f c.loop-index.pairs.items xs ends k c.len-index-end.result q c.game-game.ensures.lawful c.loop-index.invariant.part.part c.loop-index.invariant.plain c.loop-index.invariant.size c.loop-index-test.true c.put_in_turn.ensures.permutation c.index.ensures in
+    let v = q.0 in
+    let p = q.1 in
+    let next = pair_next game s f xs ends k q here in
+    let now = c.loop-index in
+    let there : now.state.state ≡ s = ap (λ (x : History). x.state) c.loop-index.invariant.state in
+    let applied = applied_back game c.game-game.result.now s now.state.state next.later v p c.game-game.ensures.game there (pair_applies game s f xs ends k q here) in
+    subst (λ (x : Searching). CountsPairs game find_move s f c.args.search.now.opened x.opened c.args.search.now.taken x.taken (Unit {0})) (sym c.keep_list-then-found.ensures)
+    (more_takes game c.game-game.result.now find_move find_move s next.later f v p c.args.search.now.opened now.search.opened c.find_behind.new.search.opened c.args.search.now.taken now.search.taken c.find_behind.new.search.taken c.game-game.ensures.game (pair_on game s f xs ends k q here) c.loop-index.invariant.paired (c.in_ok-found.ensures.paired next.later applied))
+
 pub find-loop-index-preserved : goal.find-loop-index-preserved
 find-loop-index-preserved g t c =
     let game = c.args.search.now.game in
@@ -323,6 +351,7 @@ find-loop-index-preserved g t c =
       front = c.in_ok-found.ensures.front ∙ c.loop-index.invariant.front;
       nothing = pair_more game s f xs ends k q here (λ (q : ℕ × ℕ). (later : AbstractState) → Applies game q.1 (standing_at s q.0) later → Finished game (place_behind later q.1)) (subst (All (λ (q : ℕ × ℕ). (later : AbstractState) → Applies game q.1 (standing_at s q.0) later → Finished game (place_behind later q.1))) (sym c.put_in_turn.ensures.before) c.loop-index.invariant.nothing) (nothing_as game c.game-game.result.now s now.state.state v p c.game-game.ensures.game there nothing);
       counted = pair_counts game s f xs ends k q here c.args.search.now.opened now.search.opened c.find_behind.new.search.opened (subst (λ (ds : List (ℕ × ℕ)). CountsUpTo game find_move s f ds c.args.search.now.opened c.loop-index.search.opened) (sym c.put_in_turn.ensures.before) c.loop-index.invariant.counted) (counts_as game c.game-game.result.now next.later p now.search.opened c.find_behind.new.search.opened c.game-game.ensures.game (c.in_ok-found.ensures.counted next.later applied));
+      paired = more_takes game c.game-game.result.now find_move find_move s next.later f v p c.args.search.now.opened now.search.opened c.find_behind.new.search.opened c.args.search.now.taken now.search.taken c.find_behind.new.search.taken c.game-game.ensures.game (pair_on game s f xs ends k q here) c.loop-index.invariant.paired (c.in_ok-found.ensures.paired next.later applied);
       forced =
           let n = length c.args.front.now.items in
           let size : length now.front.items ≡ n = ap (λ (ys : List (ℕ × ℕ)). length ys) c.loop-index.invariant.front in
@@ -420,3 +449,48 @@ find-returns-in-Some-clause-length g t c _ =
 pub find-returns-then-found-clause-length : goal.find-returns-then-found-clause-length
 find-returns-then-found-clause-length g t c _ =
     c.in_ok-found.ensures.length c.if-found.true
+
+-- ---- after an error all changes can be taken back
+
+after_kept : (h k : History) → k ≡ record h { room = k.room } → IsAfter h k
+after_kept h k kept = after_room h h k (after_nothing h) kept
+
+pub find-returns-in_err-reach_into-clause-after : goal.find-returns-in_err-reach_into-clause-after
+find-returns-in_err-reach_into-clause-after g t c = on_err _ _ (after_kept c.args.state.now c.reach_into.new.state c.reach_into.ensures.given_back)
+
+pub find-returns-in_err-join-clause-after : goal.find-returns-in_err-join-clause-after
+find-returns-in_err-join-clause-after g t c = on_err _ _ (after_kept c.args.state.now c.reach_into.new.state c.reach_into.ensures.given_back)
+
+pub find-returns-then-len-eq-MAX_PAIRS-clause-after : goal.find-returns-then-len-eq-MAX_PAIRS-clause-after
+find-returns-then-len-eq-MAX_PAIRS-clause-after g t c = after_kept c.args.state.now c.loop-index.state c.loop-index.invariant.state
+
+pub find-returns-in_err-found-clause-after : goal.find-returns-in_err-found-clause-after
+find-returns-in_err-found-clause-after g t c =
+    on_err _ _
+    (after_both c.args.state.now c.loop-index.state c.find_behind.new.state (after_kept c.args.state.now c.loop-index.state c.loop-index.invariant.state)
+    (err_of c.find_behind.result c.in_err-found.field-0.0 _ c.in_err-found.was c.find_behind.ensures.after))
+
+pub find_behind-returns-in_err-push-clause-after : goal.find_behind-returns-in_err-push-clause-after
+find_behind-returns-in_err-push-clause-after g t c = on_err _ _ c.apply_at.ensures.after
+
+pub find_behind-returns-in_err-found-clause-after : goal.find_behind-returns-in_err-found-clause-after
+find_behind-returns-in_err-found-clause-after g t c =
+    on_err _ _ (after_both c.args.state.now c.apply_at.new.state c.find.new.state c.apply_at.ensures.after (err_of c.find.result c.in_err-found.field-0.0 _ c.in_err-found.was c.find.ensures.after))
+
+-- ---- which pairs are counted
+
+pub find-returns-in-Some-clause-paired : goal.find-returns-in-Some-clause-paired
+find-returns-in-Some-clause-paired g t c =
+    subst (λ (x : Searching). CountsPairs c.args.search.now.game find_move c.args.state.now.state (stand_of c.args.after) c.args.search.now.opened x.opened c.args.search.now.taken x.taken (Unit {0})) (sym c.keep_list.ensures)
+    (begin_takes c.args.search.now c.take_list-pairs.new.self c.reach_into.new.self find_move c.args.state.now.state (stand_of c.args.after) (start_of c.origin_after.result) (IsOk c.reach_into.result) c.take_list-pairs.ensures c.origin_after.ensures c.reach_into.ensures.taken (is_answer c.reach_into.result c.in_ok-reach_into.field-0 c.in_ok-reach_into.was))
+
+pub find-returns-clause-paired : goal.find-returns-clause-paired
+find-returns-clause-paired g t c =
+    subst (λ (x : Searching). CountsPairs c.args.search.now.game find_move c.args.state.now.state (stand_of c.args.after) c.args.search.now.opened x.opened c.args.search.now.taken x.taken (Unit {0})) (sym c.keep_list-2.ensures) c.loop-index.invariant.paired
+
+pub find_behind-returns-clause-paired : goal.find_behind-returns-clause-paired
+find_behind-returns-clause-paired g t c later applied =
+    let game = c.args.game.now in
+    let p = c.args.position in
+    one_behind game c.requires.lawful.numbered p (standing_at c.args.state.now.state c.args.vertex) c.apply_at.new.state.state later (λ (u : AbstractState). CountsPairs game find_move u (after p) c.args.search.now.opened c.find.new.search.opened c.args.search.now.taken c.find.new.search.taken (Unit {0})) c.apply_at.ensures.applied applied
+    (takes_in game c.args.search.now.game find_move c.apply_at.new.state.state (after p) c.args.search.now.opened c.find.new.search.opened c.args.search.now.taken c.find.new.search.taken (sym c.requires.game) c.in_ok-found.ensures.paired)

@@ -7,6 +7,7 @@ use Rattle.rbg_rules.specs.Moves.{stand_of, Finished}
 use Rattle.rbg_rules.specs.Questions.{find_move}
 use Rattle.rbg_rules.specs.Positions.{IsSwitchAt}
 use Rattle.rbg_search.specs.Passing.{CountsUpTo}
+use Rattle.rbg_search.specs.Taken.{CountsPairs}
 use Rattle.rbg_moves.specs.internal.Stepping.{standing_at, place_behind}
 use Rattle.rbg_moves.proofs.Forcing.{TakenSoFar}
 use Rattle.rbg_moves.proofs.Seeking.{IsWhole}
@@ -23,12 +24,13 @@ invariant-find-loop-index g l = record {
   part : IsWhole l.fn.search.game l.fn.state.state (stand_of l.fn.after) l.pairs.items;
   plain : All (λ (q : ℕ × ℕ). ¬ IsSwitchAt l.fn.search.game.rules q.1) l.pairs.items;
   size : length l.pairs.items ≡ l.index-end;
-  search : l.search ≡ record l.fn.search { opened = l.search.opened };
+  search : l.search ≡ record l.fn.search { opened = l.search.opened; taken = l.search.taken };
   state : l.state ≡ record l.fn.state { room = l.state.room };
   room : l.fn.state.room ≤ l.state.room;
   enough : 2 ≤ l.state.room;
   front : l.front.items ≡ l.fn.front.items;
   nothing : All (λ (q : ℕ × ℕ). (later : AbstractState) → Applies l.fn.search.game q.1 (standing_at l.fn.state.state q.0) later → Finished l.fn.search.game (place_behind later q.1)) (take l.index l.pairs.items);
   counted : CountsUpTo l.fn.search.game find_move l.fn.state.state (stand_of l.fn.after) (take l.index l.pairs.items) l.fn.search.opened l.search.opened;
+  paired : CountsPairs l.fn.search.game find_move l.fn.state.state (stand_of l.fn.after) l.fn.search.opened l.search.opened l.fn.search.taken l.search.taken (Unit {0});
   forced : TakenSoFar l.fn.search.game find_move l.fn.state.state (stand_of l.fn.after) (take l.index l.pairs.items) l.fn.search.opened l.search.opened (most_pairs - length l.fn.front.items) l.fn.search.modifiers;
 }

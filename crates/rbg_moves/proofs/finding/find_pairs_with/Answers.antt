@@ -1,5 +1,7 @@
 -- What is asked is asked at the place.
-use Rattle.std.proofs.Common.{◌≡◌, ap, ◌∙◌, subst}
+use Rattle.std.proofs.Common.{◌≡◌, refl, ap, ◌∙◌, subst}
+use Rattle.rbg_moves.specs.Tallying.{IsTallied}
+use Rattle.rbg_moves.proofs.Results.{on_err, err_of}
 use Rattle.rbg_rules.specs.State.{AbstractState}
 use Rattle.rbg_rules.specs.Moves.{AbstractPlace}
 use Rattle.rbg_rules.specs.Questions.{find_move}
@@ -11,3 +13,15 @@ returns-clause-fits g c = λ cut.
     let here : AbstractPlace = record { state = c.copy_from.new.self.state; last = c.place.inside.after } in
     let same_place : here ≡ c.args.place.now = ap (λ (s : AbstractState). let x : AbstractPlace = record { state = s; last = c.place.inside.after } in x) c.in_ok-copy_from.ensures.state ∙ c.place.view_is in
     subst (λ (p : AbstractPlace). FitsLimits c.args.game.now cut find_move p) same_place (c.in_ok-found.ensures.fits cut)
+
+pub returns-in_err-copy_from-clause-untallied : goal.returns-in_err-copy_from-clause-untallied
+returns-in_err-copy_from-clause-untallied g c = on_err _ _ refl
+
+pub returns-in_err-found-clause-untallied : goal.returns-in_err-found-clause-untallied
+returns-in_err-found-clause-untallied g c = on_err _ _ (err_of c.find_from.result c.in_err-found.field-0.0 _ c.in_err-found.was c.find_from.ensures.untallied)
+
+pub returns-clause-tally : goal.returns-clause-tally
+returns-clause-tally g c =
+    let here : AbstractPlace = record { state = c.copy_from.new.self.state; last = c.place.inside.after } in
+    let same_place : here ≡ c.args.place.now = ap (λ (s : AbstractState). let x : AbstractPlace = record { state = s; last = c.place.inside.after } in x) c.in_ok-copy_from.ensures.state ∙ c.place.view_is in
+    subst (λ (p : AbstractPlace). IsTallied c.args.game.now find_move p c.args.workspace.now.searches c.find_from.new.searches) same_place c.in_ok-found.ensures.tally

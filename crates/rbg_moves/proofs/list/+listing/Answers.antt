@@ -21,7 +21,7 @@ use Rattle.rbg_moves.specs.internal.Stepping.{place_behind}
 use Rattle.rbg_moves.proofs.Steps.{place_start, modifier_position}
 use Rattle.rbg_moves.proofs.Gathering.{gathers_behind}
 use Rattle.rbg_moves.proofs.Listing.{switches_cut, others_begin, others_skip, others_cut, others_end}
-use Rattle.rbg_moves.proofs.Further.{further_valid, further_gathered, further_counted, further_wide, further_deep, one_too_many, plain_told, switch_told, part_as, switches_as, reach_deep, reach_wide, reach_counts, reach_counted, made, err_same}
+use Rattle.rbg_moves.proofs.Further.{further_valid, further_gathered, further_counted, further_paired, further_wide, further_deep, one_too_many, plain_told, switch_told, part_as, switches_as, reach_deep, reach_wide, reach_counts, reach_counted, made, err_same}
 use Rattle.rbg_rules.specs.Actions.{Applies}
 use Rattle.rbg_rules.specs.Questions.{reach}
 use Rattle.rbg_search.specs.Flat.{IsNext, IsFlatPart}
@@ -32,6 +32,10 @@ use Rattle.rbg_moves.specs.internal.Stepping.{standing_at}
 use Rattle.rbg_moves.proofs.Steps.{next_applies}
 use Rattle.rbg_moves.proofs.Seeking.{applied_back}
 use Rattle.rbg_moves.proofs.Forcing.{TakenSoFar, behind_forced, so_far_begin, so_far_more, so_far_skipped, cut_forced, cut_so_far, listed_forced}
+use Rattle.std.specs.Prelude.{IsOk}
+use Rattle.rbg_search.specs.Taken.{CountsPairs}
+use Rattle.rbg_search.proofs.Takings.{is_answer}
+use Rattle.rbg_moves.proofs.Tallies.{begin_takes}
 use Rattle.rbg_moves.proofs.list.+listing.Goals as goal
 use Rattle.rbg_moves.proofs.list.+listing.Goals.{list-then-not-is_switch+else-len-eq-MAX_PAIRS+in_ok-list_behind+else-branch-2, list-else-not-is_switch}
 
@@ -99,6 +103,7 @@ list-loop-pair-init g t c =
       few = subst (λ (n : ℕ). length new ≤ n) (sym c.add_switches.ensures.max) gathered.few;
       gathered = gathered;
       counted = reach_counts game numbered place.state (start_of c.origin_after.result) (stand_of place.last) c.args.search.now.opened c.reach_next.new.search.opened c.origin_after.ensures (subst (λ (x : Searching). CountsOpenings x.game reach c.args.state.now.state (start_of c.origin_after.result) x.opened c.reach_next.new.search.opened) c.take_list-pairs.ensures c.reach_next.ensures.counted);
+      paired = begin_takes c.args.search.now c.take_list-pairs.new.self c.reach_next.new.search list_moves c.args.state.now.state (stand_of c.args.after) (start_of c.origin_after.result) (IsOk c.reach_next.result) c.take_list-pairs.ensures c.origin_after.ensures c.reach_next.ensures.paired (is_answer c.reach_next.result c.in_ok-reach_next.field-0 c.in_ok-reach_next.was);
       forced =
           let left = 200 - length c.args.front.now.items in
           so_far_begin game numbered list_moves place.state (stand_of place.last) c.args.search.now.opened c.reach_next.new.search.opened left c.args.search.now.modifiers
@@ -227,6 +232,23 @@ list-returns-then-branch-2-clause-counted g t c =
     (further_counted game now.search.game c.game-game.ensures.lawful.numbered place now.state.state xs ends part k q under (get_or_default xs k q (0, 0) under) plain same same_state
     c.args.search.now.opened now.search.opened c.list_behind.new.search.opened c.loop-pair.invariant.counted c.in_ok-list_behind.ensures.counted)
 
+pub list-returns-then-branch-2-clause-paired : goal.list-returns-then-branch-2-clause-paired
+list-returns-then-branch-2-clause-paired g t c =
+    let game = c.args.search.now.game in
+    let now = c.loop-pair in
+    let place : AbstractPlace = record { state = c.args.state.now.state; last = c.args.after } in
+    let xs : List (ℕ × ℕ) = c.deref-pair-items.result.now in
+    let k = c.loop-pair.pair-index in
+    let q : ℕ × ℕ = get_or xs k (0, 0) in
+    let under = c.loop-pair-test.true in
+    let ends = c.in_ok-reach_next.field-0 in
+    let part = part_as game place.state (start_of c.origin_after.result) (stand_of place.last) c.reach_next.new.pairs.items xs ends c.origin_after.ensures c.deref-pair-items.ensures.value (subst (λ (x : Searching). IsFlatPart x.game c.args.state.now.state (start_of c.origin_after.result) c.reach_next.new.pairs.items c.in_ok-reach_next.field-0) c.take_list-pairs.ensures c.in_ok-reach_next.ensures.reached) in
+    let plain = plain_told game c.game-game.result.now q.1 c.is_switch.result c.game-game.ensures.game c.is_switch.ensures c.if-not-is_switch.true in
+    let same = ap (λ (x : Searching). x.game) c.loop-pair.invariant.search in
+    let same_state = ap (λ (h : History). h.state) c.loop-pair.invariant.state in
+    further_paired game now.search.game c.game-game.ensures.lawful.numbered place now.state.state xs ends part k q under (get_or_default xs k q (0, 0) under) plain same same_state
+    c.args.search.now.opened now.search.opened c.list_behind.new.search.opened c.args.search.now.taken now.search.taken c.list_behind.new.search.taken c.loop-pair.invariant.paired c.in_ok-list_behind.ensures.paired
+
 pub list-loop-pair-preserved : goal.list-loop-pair-preserved
 list-loop-pair-preserved g t c =
     let game = c.args.search.now.game in
@@ -252,7 +274,7 @@ list-loop-pair-preserved g t c =
           let plain = plain_told game c.game-game.result.now q.1 c.is_switch.result c.game-game.ensures.game c.is_switch.ensures w.if-not-is_switch.true in
           let behind = subst (λ (b : Bool). GathersBehind now.search.game now.state.state q now.front.items now.found.max now.found.moves new b) w.if-branch-2.false done.gathered in
           rw (w.search-is, w.state-is, w.front-is, w.found-is) (record {
-            search = done.search ∙ ap (λ (x : Searching). let y : Searching = record x { opened = then.search.opened } in y) inv.search;
+            search = done.search ∙ ap (λ (x : Searching). let y : Searching = record x { opened = then.search.opened; taken = then.search.taken } in y) inv.search;
             state = done.state ∙ ap (λ (x : History). let y : History = record x { room = then.state.room } in y) inv.state;
             room = let first = inv.room in let second = done.room in omega (arith, first, second);
             enough = let first = inv.enough in let second = done.room in omega (arith, first, second);
@@ -261,6 +283,7 @@ list-loop-pair-preserved g t c =
             few = subst (λ (n : ℕ). length new ≤ n) (sym done.max) done.few;
             gathered = further_gathered game now.search.game c.game-game.ensures.lawful.numbered place now.state.state xs ends part front now.front.items max now.found.max old now.found.moves new false k q under (get_or_default xs k q (0, 0) under) plain same same_state inv.front inv.max inv.gathered behind;
             counted = further_counted game now.search.game c.game-game.ensures.lawful.numbered place now.state.state xs ends part k q under (get_or_default xs k q (0, 0) under) plain same same_state c.args.search.now.opened now.search.opened then.search.opened inv.counted done.counted;
+            paired = further_paired game now.search.game c.game-game.ensures.lawful.numbered place now.state.state xs ends part k q under (get_or_default xs k q (0, 0) under) plain same same_state c.args.search.now.opened now.search.opened then.search.opened c.args.search.now.taken now.search.taken then.search.taken inv.paired done.paired;
             forced =
                 let next : IsNext game place.state (stand_of place.last) q.0 q.1 = (part.next q.0 q.1).0 (k, under, get_or_default xs k q (0, 0) under) in
                 let applied = next_applies game c.game-game.ensures.lawful.numbered place.state (stand_of place.last) q.0 q.1 next in
@@ -286,6 +309,7 @@ list-loop-pair-preserved g t c =
             few = inv.few;
             gathered = others_skip game place xs front max old now.found.moves k q under (get_or_default xs k q (0, 0) under) switches inv.gathered;
             counted = counts_skipped game c.game-game.ensures.lawful.numbered xs k inv.counted under;
+            paired = inv.paired;
             forced = so_far_skipped game c.game-game.ensures.lawful.numbered list_moves place.state (stand_of place.last) xs k c.args.search.now.opened now.search.opened _ _ under switches inv.forced;
           })
     ]
@@ -429,3 +453,20 @@ list_behind-returns-clause-forced g t c = λ later applied.
     subst (λ (n : ℕ). CountsForced game cut list_moves later (after q.1) c.args.search.now.opened c.list.new.search.opened n most) size
     (made (λ s n. CountsForced game cut list_moves s (after n) c.args.search.now.opened c.list.new.search.opened (200 - length c.push.new.self.items) most) game c.game-game.result.now c.game-game.ensures.lawful.numbered c.args.state.now.state c.apply_at.new.state.state later q c.pair.inside.position c.game-game.ensures.game (ap (λ (x : ℕ × ℕ). x.1) c.pair.view_is) c.apply_at.ensures.applied applied
     c.in_ok-cut.ensures.forced)
+
+-- ---- which pairs are counted
+
+pub list-returns-then-branch-clause-paired : goal.list-returns-then-branch-clause-paired
+list-returns-then-branch-clause-paired g t c = begin_takes c.args.search.now c.take_list-pairs.new.self c.reach_next.new.search list_moves c.args.state.now.state (stand_of c.args.after) (start_of c.origin_after.result) (IsOk c.reach_next.result) c.take_list-pairs.ensures c.origin_after.ensures c.reach_next.ensures.paired (is_answer c.reach_next.result c.in_ok-reach_next.field-0 c.in_ok-reach_next.was)
+
+pub list-returns-clause-paired : goal.list-returns-clause-paired
+list-returns-clause-paired g t c =
+    subst (λ (x : Searching). CountsPairs c.args.search.now.game list_moves c.args.state.now.state (stand_of c.args.after) c.args.search.now.opened x.opened c.args.search.now.taken x.taken (Unit {0})) (sym c.keep_list.ensures) c.loop-pair.invariant.paired
+
+pub list_behind-returns-clause-paired : goal.list_behind-returns-clause-paired
+list_behind-returns-clause-paired g t c =
+    let game = c.args.search.now.game in
+    let q : ℕ × ℕ = c.args.pair in
+    λ later applied.
+    made (λ s n. CountsPairs game list_moves s (after n) c.args.search.now.opened c.list.new.search.opened c.args.search.now.taken c.list.new.search.taken (Unit {0})) game c.game-game.result.now c.game-game.ensures.lawful.numbered c.args.state.now.state c.apply_at.new.state.state later q c.pair.inside.position c.game-game.ensures.game (ap (λ (x : ℕ × ℕ). x.1) c.pair.view_is) c.apply_at.ensures.applied applied
+    c.in_ok-cut.ensures.paired

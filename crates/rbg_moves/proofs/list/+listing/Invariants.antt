@@ -4,6 +4,7 @@ use Rattle.rbg_base.specs.Move.{most_pairs}
 use Rattle.rbg_rules.specs.Moves.{stand_of}
 use Rattle.rbg_rules.specs.Questions.{list_moves}
 use Rattle.rbg_search.specs.Passing.{CountsUpTo}
+use Rattle.rbg_search.specs.Taken.{CountsPairs}
 use Rattle.rbg_moves.specs.internal.Gathering.{Gathers, IsLegalBy, IsSwitchOr}
 use Rattle.rbg_moves.proofs.Forcing.{TakenSoFar}
 use Rattle.rbg_moves.proofs.list.+listing.Given as goal
@@ -16,7 +17,7 @@ decreases-list_behind g l = 2 * (most_pairs - length l.front.now.items) - 1
 
 abbrev pub invariant-list-loop-pair : goal.invariant-list-loop-pair
 invariant-list-loop-pair g l = record {
-  search : l.search ≡ record l.fn.search { opened = l.search.opened };
+  search : l.search ≡ record l.fn.search { opened = l.search.opened; taken = l.search.taken };
   state : l.state ≡ record l.fn.state { room = l.state.room };
   room : l.fn.state.room ≤ l.state.room;
   enough : 2 ≤ l.state.room;
@@ -25,5 +26,6 @@ invariant-list-loop-pair g l = record {
   few : length l.found.moves ≤ l.found.max;
   gathered : Gathers (IsLegalBy l.fn.search.game (record { state = l.fn.state.state; last = l.fn.after }) (IsSwitchOr l.fn.search.game.rules (take l.pair-index l.pair-items))) l.fn.front.items l.fn.found.max l.fn.found.moves l.found.moves false;
   counted : CountsUpTo l.fn.search.game list_moves l.fn.state.state (stand_of l.fn.after) (take l.pair-index l.pair-items) l.fn.search.opened l.search.opened;
+  paired : CountsPairs l.fn.search.game list_moves l.fn.state.state (stand_of l.fn.after) l.fn.search.opened l.search.opened l.fn.search.taken l.search.taken (Unit {0});
   forced : TakenSoFar l.fn.search.game list_moves l.fn.state.state (stand_of l.fn.after) (take l.pair-index l.pair-items) l.fn.search.opened l.search.opened (most_pairs - length l.fn.front.items) l.fn.search.modifiers;
 }

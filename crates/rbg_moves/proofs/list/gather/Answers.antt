@@ -12,6 +12,9 @@ use Rattle.rbg_search.specs.Searching.{Searching}
 use Rattle.rbg_moves.proofs.Forcing.{fits_at}
 use Rattle.rbg_rules.specs.Moves.{AbstractPlace, stand_of}
 use Rattle.rbg_moves.proofs.Outcome.{gathered, gathered_at}
+use Rattle.rbg_moves.specs.Tallying.{IsTallied}
+use Rattle.rbg_moves.proofs.Results.{on_err}
+use Rattle.rbg_moves.proofs.Tallies.{tallied}
 use Rattle.rbg_moves.proofs.list.gather.Goals as goal
 
 deep_of : (g : AbstractGame) → IsNumbered g.rules → (s : AbstractState) (f : Start) (items : List (ℕ × ℕ)) (most : ℕ) → items ≡ [] → most ≡ most_modifiers → IsTooDeep g list_moves s f (200 - length items) most → IsDeep g list_moves s f most
@@ -53,7 +56,7 @@ returns-clause-gathered g c =
     let here : AbstractPlace = record { state = c.copy_from.new.self.state; last = c.place.inside.after } in
     let same_place : here ≡ place = ap (λ (s : AbstractState). let x : AbstractPlace = record { state = s; last = c.place.inside.after } in x) c.in_ok-copy_from.ensures.state ∙ c.place.view_is in
     gathered game place c.args.max c.list.new.found.moves c.in_ok-cut.cut
-    (gathered_at game c.search_in-search.result.game place here c.clear.new.self.items c.args.max c.take_moves-moves.result c.list.new.found.moves c.in_ok-cut.cut c.search_in-search.ensures.game same_place c.clear.ensures.items c.take_moves-moves.ensures c.in_ok-cut.ensures.gathered)
+    (gathered_at game c.search_in-search.result.game place here c.clear.new.self.items c.args.max c.take_moves-moves.result c.list.new.found.moves c.in_ok-cut.cut c.search_in-search.ensures.game same_place c.clear.ensures.items c.take_moves-moves.ensures.none c.in_ok-cut.ensures.gathered)
 
 pub returns-clause-fits : goal.returns-clause-fits
 returns-clause-fits g c =
@@ -69,3 +72,19 @@ returns-clause-fits g c =
     let none : length c.clear.new.self.items ≡ 0 = ap (λ (ps : List (ℕ × ℕ)). length ps) c.clear.ensures.items in
     fits_at game asked.game c.args.place.now s f c.in_ok-cut.cut list_moves asked.opened new.opened left asked.modifiers new.openings
     c.search_in-search.ensures.game state start c.search_in-search.ensures.opened c.budget_is_kept.ensures budget (omega (arith, none)) c.search_in-search.ensures.modifiers c.in_ok-cut.ensures.forced
+
+pub returns-in_err-copy_from-clause-untallied : goal.returns-in_err-copy_from-clause-untallied
+returns-in_err-copy_from-clause-untallied g c = on_err _ _ c.take_moves-moves.ensures.tally
+
+pub returns-in_err-cut-clause-untallied : goal.returns-in_err-cut-clause-untallied
+returns-in_err-cut-clause-untallied g c = on_err _ _ (c.search_in-search.ensures.tally ∙ c.take_moves-moves.ensures.tally)
+
+pub returns-clause-tally : goal.returns-clause-tally
+returns-clause-tally g c =
+    let game = c.args.game.now in
+    let place = c.args.place.now in
+    let here : AbstractPlace = record { state = c.copy_from.new.self.state; last = c.place.inside.after } in
+    let same_place : here ≡ place = ap (λ (s : AbstractState). let x : AbstractPlace = record { state = s; last = c.place.inside.after } in x) c.in_ok-copy_from.ensures.state ∙ c.place.view_is in
+    let asked = c.search_in-search in
+    subst (λ (p : AbstractPlace). IsTallied game list_moves p c.args.workspace.now.searches c.leave.new.workspace) same_place
+    (tallied game list_moves here asked.result c.list.new.search c.args.workspace.now.searches c.search_in-search.new.workspace c.leave.new.workspace asked.ensures.game asked.ensures.opened asked.ensures.taken (asked.ensures.tally ∙ c.take_moves-moves.ensures.tally) c.list.ensures.search c.in_ok-cut.ensures.counted c.in_ok-cut.ensures.paired c.leave.ensures.openings c.leave.ensures.pairs)

@@ -5,12 +5,17 @@ use Rattle.rbg_rules.specs.State.{AbstractGame, AbstractState, IsStateOf}
 use Rattle.rbg_rules.specs.Actions.{Applies}
 use Rattle.rbg_rules.specs.Moves.{stand_of}
 use Rattle.rbg_rules.specs.Laws.{IsStart}
+use Rattle.rbg_rules.specs.Questions.{reach}
 use Rattle.rbg_search.specs.Flat.{IsNext, IsFlatPart}
 use Rattle.rbg_search.specs.Searching.{Searching}
 use Rattle.rbg_search.specs.Start.{start_of, IsPositionOf}
 use Rattle.rbg_state.specs.History.{History}
 use Rattle.rbg_moves.specs.internal.Stepping.{standing_at, IsValidAt}
 use Rattle.rbg_moves.proofs.Steps.{place_start, place_after, valid_next, modifier_position, next_from, has_next}
+use Rattle.std.specs.Prelude.{IsOk}
+use Rattle.rbg_search.specs.Taken.{CountsPairs}
+use Rattle.rbg_search.proofs.Takings.{is_answer}
+use Rattle.rbg_moves.proofs.Tallies.{begin_takes}
 use Rattle.rbg_moves.proofs.stepping.take.Goals as goal
 
 valid_as : (game game' : AbstractGame) (s s' : AbstractState) (v p : ℕ) → game' ≡ game → s' ≡ s → IsValidAt game s v p → IsValidAt game' s' v p
@@ -93,3 +98,13 @@ returns-else-comes_next-clause-refused g c _ next =
     let is : c.deref.result.now ≡ items = c.deref.ensures.value in
     let has = has_next game s f _ c.deref.result.now items c.in_ok-reach_into.field-0 q (subst (λ (x : Searching). IsFlatPart x.game s (start_of c.origin_after.result) items c.in_ok-reach_into.field-0) c.take_list-pairs.ensures c.in_ok-reach_into.ensures.reached) c.origin_after.ensures is next in
     true_not_false (sym (c.has_pair-comes_next.ensures.1 has) ∙ c.if-comes_next.false)
+
+pub returns-then-comes_next-clause-paired : goal.returns-then-comes_next-clause-paired
+returns-then-comes_next-clause-paired g c =
+    subst (λ (x : Searching). CountsPairs c.args.search.now.game reach c.args.state.now.state (stand_of c.args.after) c.args.search.now.opened x.opened c.args.search.now.taken x.taken (Unit {0})) (sym c.keep_list.ensures)
+    (begin_takes c.args.search.now c.take_list-pairs.new.self c.reach_into.new.self reach c.args.state.now.state (stand_of c.args.after) (start_of c.origin_after.result) (IsOk c.reach_into.result) c.take_list-pairs.ensures c.origin_after.ensures c.reach_into.ensures.taken (is_answer c.reach_into.result c.in_ok-reach_into.field-0 c.in_ok-reach_into.was))
+
+pub returns-else-comes_next-clause-paired : goal.returns-else-comes_next-clause-paired
+returns-else-comes_next-clause-paired g c =
+    subst (λ (x : Searching). CountsPairs c.args.search.now.game reach c.args.state.now.state (stand_of c.args.after) c.args.search.now.opened x.opened c.args.search.now.taken x.taken (Unit {0})) (sym c.keep_list.ensures)
+    (begin_takes c.args.search.now c.take_list-pairs.new.self c.reach_into.new.self reach c.args.state.now.state (stand_of c.args.after) (start_of c.origin_after.result) (IsOk c.reach_into.result) c.take_list-pairs.ensures c.origin_after.ensures c.reach_into.ensures.taken (is_answer c.reach_into.result c.in_ok-reach_into.field-0 c.in_ok-reach_into.was))

@@ -1,5 +1,5 @@
 use Rattle.std.proofs.Common.{rules, ◌≡◌, ℕ, suc, ◌<◌, List, [], ◌∷◌, length, Bool, true, false, refl, sym, ap, ◌∙◌, subst, arith}
-use Rattle.std.specs.Prelude.{◌==◌, Option, Some, None, Result, Ok, Err, IfOk, IfSome}
+use Rattle.std.specs.Prelude.{◌==◌, Option, Some, None, Result, Ok, Err, IfOk, IfSome, OnOk}
 use Rattle.std.proofs.lemmas.Bool.Decides.{Decides-eqb}
 use Rattle.std.proofs.lemmas.Result.{IfOk-weaker}
 use Rattle.rbg_rules.specs.Positions.{IsNumbered, IsSwitchAt}
@@ -8,12 +8,17 @@ use Rattle.rbg_rules.specs.State.{AbstractGame, AbstractState}
 use Rattle.rbg_rules.specs.Moves.{AbstractPlace, stand_of, Legal}
 use Rattle.rbg_rules.specs.Questions.{reach, try_move, IsDeep}
 use Rattle.rbg_search.specs.Searching.{Searching}
-use Rattle.rbg_search.specs.Counting.{IsOverBudget}
-use Rattle.rbg_search.proofs.CallerLemmas.{try_begins, deep_begin, over_begin, deep_behind, over_on}
+use Rattle.rbg_search.specs.Counting.{CountsOpenings, IsOverBudget}
+use Rattle.rbg_search.specs.declared.over.Over.{Over}
+use Rattle.rbg_search.proofs.Countings.{none_counted}
+use Rattle.rbg_search.proofs.CallerLemmas.{try_begins, deep_begin, over_begin, deep_behind, over_on, counts_reached, counts_on}
 use Rattle.rbg_moves.specs.internal.Stepping.{place_behind, IsStep, IsTried}
 use Rattle.rbg_moves.proofs.Steps.{legal_some, none_at, none_after, step_ends, step_goes_on, tried_on}
 use Rattle.rbg_search.specs.Forced.{CountsForced}
 use Rattle.rbg_moves.proofs.Forcing.{legal_move, tried_forced, last_forced}
+use Rattle.rbg_search.specs.Taken.{CountsPairs}
+use Rattle.rbg_search.proofs.Takings.{any_part, takes_none_yet, takes_part_of}
+use Rattle.rbg_moves.proofs.Tallies.{more_takes}
 use Rattle.rbg_moves.proofs.trying.+follow.Goals as goal
 
 empty_when : (xs : List (ℕ × ℕ)) → length xs ≡ 0 → xs ≡ []
@@ -209,3 +214,89 @@ returns-then-is_empty-clause-forced g t c =
     let is : c.args.pairs.now ≡ (v, p) ∷ [] = first ∙ ap (λ (q : ℕ × ℕ). q ∷ qs) (sym c.pair.view_is) ∙ ap (λ (rs : List (ℕ × ℕ)). (v, p) ∷ rs) empty in
     subst (λ (ps : List (ℕ × ℕ)). CountsForced game false (try_move ps) s f c.args.search.now.opened c.take.new.search.opened (length ps) c.args.search.now.modifiers) (sym is)
     (last_forced game c.game-game.ensures.lawful.numbered s f (v, p) c.args.search.now.opened c.take.new.search.opened 1 c.args.search.now.modifiers (c.in_ok-taken.ensures.forced 1))
+
+-- ---- what is counted
+
+counts_at : (game : AbstractGame) → IsNumbered game.rules → (s : AbstractState) (f : Start) (q : ℕ × ℕ) (qs pairs : List (ℕ × ℕ)) (a b : ℕ) → pairs ≡ q ∷ qs → CountsOpenings game reach s f a b → CountsOpenings game (try_move pairs) s f a b
+counts_at game numbered s f q qs pairs a b is counts =
+    subst (λ (ps : List (ℕ × ℕ)). CountsOpenings game (try_move ps) s f a b) (sym is) (counts_reached game numbered (try_begins game s f q qs) counts)
+
+pub returns-in_default-clause-counted : goal.returns-in_default-clause-counted
+returns-in_default-clause-counted g t c = none_counted c.args.search.now.game (try_move c.args.pairs.now) c.args.state.now.state (stand_of c.args.after) c.args.search.now.opened c.args.search.now.opened refl
+
+pub returns-then-not-taken-clause-counted : goal.returns-then-not-taken-clause-counted
+returns-then-not-taken-clause-counted g t c =
+    let is : c.args.pairs.now ≡ c.in-Some.pair.now ∷ c.in-Some.rest.now = search rules in
+    counts_at c.args.search.now.game c.game-game.ensures.lawful.numbered c.args.state.now.state (stand_of c.args.after) c.in-Some.pair.now c.in-Some.rest.now c.args.pairs.now c.args.search.now.opened c.take.new.search.opened is c.take.ensures.counted
+
+pub returns-then-is_empty-clause-counted : goal.returns-then-is_empty-clause-counted
+returns-then-is_empty-clause-counted g t c =
+    let is : c.args.pairs.now ≡ c.in-Some.pair.now ∷ c.in-Some.rest.now = search rules in
+    counts_at c.args.search.now.game c.game-game.ensures.lawful.numbered c.args.state.now.state (stand_of c.args.after) c.in-Some.pair.now c.in-Some.rest.now c.args.pairs.now c.args.search.now.opened c.take.new.search.opened is c.take.ensures.counted
+
+pub returns-else-is_empty-clause-counted : goal.returns-else-is_empty-clause-counted
+returns-else-is_empty-clause-counted g t c =
+    let is : c.args.pairs.now ≡ c.in-Some.pair.now ∷ c.in-Some.rest.now = search rules in
+    counts_at c.args.search.now.game c.game-game.ensures.lawful.numbered c.args.state.now.state (stand_of c.args.after) c.in-Some.pair.now c.in-Some.rest.now c.args.pairs.now c.args.search.now.opened c.take.new.search.opened is c.take.ensures.counted
+
+on_ok : {X : Type 0} (r : Result X Over) (P Q : Type 0) → (P → Q) → OnOk r P → OnOk r Q
+on_ok (Ok x) P Q then h = then h
+on_ok (Err e) P Q then h = tt
+
+pub returns-then-not-is_switch-clause-counted : goal.returns-then-not-is_switch-clause-counted
+returns-then-not-is_switch-clause-counted g t c =
+    let game = c.args.search.now.game in
+    let s = c.args.state.now.state in
+    let f = stand_of c.args.after in
+    let v = c.pair.inside.vertex in
+    let p = c.pair.inside.position in
+    let qs : List (ℕ × ℕ) = c.in-Some.rest.now in
+    let later = c.take.new.state.state in
+    let first : c.args.pairs.now ≡ c.in-Some.pair.now ∷ qs = search rules in
+    let is : c.args.pairs.now ≡ (v, p) ∷ qs = first ∙ ap (λ (q : ℕ × ℕ). q ∷ qs) (sym c.pair.view_is) in
+    let taken : IsStep game s f v p later = c.in_ok-taken.ensures.taken (search rules) in
+    let other : c.is_switch.result ≡ false = search rules in
+    let plain : ¬ IsSwitchAt game.rules p = plain_by game c.game-game.result.now p c.is_switch.result c.game-game.ensures.game c.is_switch.ensures.1 other in
+    on_ok c.follow.result _ _
+    (λ counted. subst (λ (ps : List (ℕ × ℕ)). CountsOpenings game (try_move ps) s f c.args.search.now.opened c.follow.new.search.opened) (sym is)
+    (counts_on game c.game-game.ensures.lawful.numbered (try_begins game s f (v, p) qs) c.take.ensures.counted (step_goes_on game s f v p qs later taken plain)
+    (subst (λ (x : Searching). CountsOpenings x.game (try_move qs) later (after p) x.opened c.follow.new.search.opened) c.take.ensures.kept counted)))
+    c.follow.ensures.counted
+
+pub returns-in_default-clause-paired : goal.returns-in_default-clause-paired
+returns-in_default-clause-paired g t c = takes_none_yet c.args.search.now.game (try_move c.args.pairs.now) c.args.state.now.state (stand_of c.args.after) c.args.search.now.opened c.args.search.now.opened c.args.search.now.taken c.args.search.now.taken (Unit {0}) refl refl
+
+pub returns-then-not-taken-clause-paired : goal.returns-then-not-taken-clause-paired
+returns-then-not-taken-clause-paired g t c =
+    takes_part_of c.args.search.now.game (try_move c.args.pairs.now) c.args.state.now.state (stand_of c.args.after) reach c.args.state.now.state (stand_of c.args.after) c.args.search.now.opened c.take.new.search.opened c.args.search.now.taken c.take.new.search.taken (Unit {0}) (any_part c.args.search.now.game (try_move c.args.pairs.now) c.args.state.now.state (stand_of c.args.after)) c.in_ok-taken.ensures.paired
+
+pub returns-then-is_empty-clause-paired : goal.returns-then-is_empty-clause-paired
+returns-then-is_empty-clause-paired g t c =
+    takes_part_of c.args.search.now.game (try_move c.args.pairs.now) c.args.state.now.state (stand_of c.args.after) reach c.args.state.now.state (stand_of c.args.after) c.args.search.now.opened c.take.new.search.opened c.args.search.now.taken c.take.new.search.taken (Unit {0}) (any_part c.args.search.now.game (try_move c.args.pairs.now) c.args.state.now.state (stand_of c.args.after)) c.in_ok-taken.ensures.paired
+
+pub returns-else-is_empty-clause-paired : goal.returns-else-is_empty-clause-paired
+returns-else-is_empty-clause-paired g t c =
+    takes_part_of c.args.search.now.game (try_move c.args.pairs.now) c.args.state.now.state (stand_of c.args.after) reach c.args.state.now.state (stand_of c.args.after) c.args.search.now.opened c.take.new.search.opened c.args.search.now.taken c.take.new.search.taken (Unit {0}) (any_part c.args.search.now.game (try_move c.args.pairs.now) c.args.state.now.state (stand_of c.args.after)) c.in_ok-taken.ensures.paired
+
+pub returns-then-not-is_switch-clause-paired : goal.returns-then-not-is_switch-clause-paired
+returns-then-not-is_switch-clause-paired g t c =
+    let game = c.args.search.now.game in
+    let s = c.args.state.now.state in
+    let f = stand_of c.args.after in
+    let v = c.pair.inside.vertex in
+    let p = c.pair.inside.position in
+    let qs : List (ℕ × ℕ) = c.in-Some.rest.now in
+    let later = c.take.new.state.state in
+    let first : c.args.pairs.now ≡ c.in-Some.pair.now ∷ qs = search rules in
+    let is : c.args.pairs.now ≡ (v, p) ∷ qs = first ∙ ap (λ (q : ℕ × ℕ). q ∷ qs) (sym c.pair.view_is) in
+    let taken : IsStep game s f v p later = c.in_ok-taken.ensures.taken (search rules) in
+    let other : c.is_switch.result ≡ false = search rules in
+    let plain : ¬ IsSwitchAt game.rules p = plain_by game c.game-game.result.now p c.is_switch.result c.game-game.ensures.game c.is_switch.ensures.1 other in
+    let now = c.args.search.now in
+    let mid = c.take.new.search in
+    let last = c.follow.new.search in
+    on_ok c.follow.result _ _
+    (λ paired. subst (λ (ps : List (ℕ × ℕ)). CountsPairs game (try_move ps) s f now.opened last.opened now.taken last.taken (Unit {0})) (sym is)
+    (more_takes game mid.game (try_move ((v, p) ∷ qs)) (try_move qs) s later f v p now.opened mid.opened last.opened now.taken mid.taken last.taken (ap (λ (x : Searching). x.game) c.take.ensures.kept) (step_goes_on game s f v p qs later taken plain)
+    (takes_part_of game (try_move ((v, p) ∷ qs)) s f reach s f now.opened mid.opened now.taken mid.taken (Unit {0}) (any_part game (try_move ((v, p) ∷ qs)) s f) c.in_ok-taken.ensures.paired) paired))
+    c.follow.ensures.paired

@@ -12,6 +12,9 @@ use Rattle.rbg_moves.specs.Limits.{IsDeepAt, IsWideAt, FitsLimits}
 use Rattle.rbg_moves.proofs.Forcing.{counts_uncut, fits_at, illegal_fits}
 use Rattle.rbg_moves.proofs.Copies.{from_copy}
 use Rattle.rbg_moves.proofs.Steps.{deep_from, wide_from}
+use Rattle.rbg_moves.specs.Tallying.{IsTallied}
+use Rattle.rbg_moves.proofs.Results.{on_err}
+use Rattle.rbg_moves.proofs.Tallies.{tallied}
 use Rattle.rbg_moves.proofs.trying.try_move_with.Goals as goal
 
 tried_as : (game g : AbstractGame) (place from : AbstractPlace) (ps qs : List (ℕ × ℕ)) (new : AbstractState) (end end' : Option ℕ) → g ≡ game → from ≡ place → qs ≡ ps → end ≡ end' → IsTried g from qs new end → IsTried game place ps new end'
@@ -87,3 +90,35 @@ returns-in-None-clause-fits x c = λ cut.
     let there = from_copy c.args.place.now c.in_ok-state.state.state c.place.inside.state.state c.place.inside.after c.in_ok-state.ensures.state c.place.view_is in
     illegal_fits game cut c.args.place.now c.args.pairs.now
     (tried_as game c.search_in-search.result.game c.args.place.now _ c.args.pairs.now c.as_slice.result.now c.follow.new.state.state c.in_ok-end.end _ c.search_in-search.ensures.game there c.as_slice.ensures.pairs c.in-None.is c.in_ok-end.ensures.tried)
+
+pub returns-in-Some-clause-tally : goal.returns-in-Some-clause-tally
+returns-in-Some-clause-tally x c =
+    let game = c.args.game.now in
+    let there = from_copy c.args.place.now c.in_ok-state.state.state c.place.inside.state.state c.place.inside.after c.in_ok-state.ensures.state c.place.view_is in
+    let asked = c.search_in-search in
+    let ps : List (ℕ × ℕ) = c.as_slice.result.now in
+    let here : AbstractPlace = record { state = c.in_ok-state.state.state; last = c.place.inside.after } in
+    let old = c.args.workspace.now.searches in
+    let new = c.leave.new.workspace in
+    subst (λ (qs : List (ℕ × ℕ)). IsTallied game (try_move qs) c.args.place.now old new) c.as_slice.ensures.pairs
+    (subst (λ (p : AbstractPlace). IsTallied game (try_move ps) p old new) there
+    (tallied game (try_move ps) here asked.result c.follow.new.search old c.copy_of.new.self.searches new asked.ensures.game asked.ensures.opened asked.ensures.taken (c.copy_of.ensures.tally ∙ asked.ensures.tally) c.follow.ensures.kept c.in_ok-end.ensures.counted c.in_ok-end.ensures.paired c.leave.ensures.openings c.leave.ensures.pairs))
+
+pub returns-in-None-clause-tally : goal.returns-in-None-clause-tally
+returns-in-None-clause-tally x c =
+    let game = c.args.game.now in
+    let there = from_copy c.args.place.now c.in_ok-state.state.state c.place.inside.state.state c.place.inside.after c.in_ok-state.ensures.state c.place.view_is in
+    let asked = c.search_in-search in
+    let ps : List (ℕ × ℕ) = c.as_slice.result.now in
+    let here : AbstractPlace = record { state = c.in_ok-state.state.state; last = c.place.inside.after } in
+    let old = c.args.workspace.now.searches in
+    let new = c.leave.new.workspace in
+    subst (λ (qs : List (ℕ × ℕ)). IsTallied game (try_move qs) c.args.place.now old new) c.as_slice.ensures.pairs
+    (subst (λ (p : AbstractPlace). IsTallied game (try_move ps) p old new) there
+    (tallied game (try_move ps) here asked.result c.follow.new.search old c.copy_of.new.self.searches new asked.ensures.game asked.ensures.opened asked.ensures.taken (c.copy_of.ensures.tally ∙ asked.ensures.tally) c.follow.ensures.kept c.in_ok-end.ensures.counted c.in_ok-end.ensures.paired c.leave.ensures.openings c.leave.ensures.pairs))
+
+pub returns-in_err-state-clause-untallied : goal.returns-in_err-state-clause-untallied
+returns-in_err-state-clause-untallied x c = on_err _ _ (c.copy_of.ensures.tally ∙ c.search_in-search.ensures.tally)
+
+pub returns-in_err-end-clause-untallied : goal.returns-in_err-end-clause-untallied
+returns-in_err-end-clause-untallied x c = on_err _ _ (c.copy_of.ensures.tally ∙ c.search_in-search.ensures.tally)

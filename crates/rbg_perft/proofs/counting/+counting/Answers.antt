@@ -18,7 +18,7 @@ count_behind-make_move_into-requires-clause-legal t c =
 
 pub count_behind-count_from-requires : goal.count_behind-count_from-requires
 count_behind-count_from-requires t c =
-    (search rules, c.in_ok-make_move_into.ensures.in_game)
+    (search rules, c.in_ok-to.ensures.in_game)
 
 pub count_behind-loop-index-preserved : goal.count_behind-loop-index-preserved
 count_behind-loop-index-preserved t c =
@@ -30,7 +30,7 @@ count_behind-loop-index-preserved t c =
     let ended : c.in_ok-counts.counts.ended ≡ c.loop-index.counts.ended + c.in_ok-behind.behind.ended = subst (λ o. IfSome o (λ s. s.ended ≡ c.loop-index.counts.ended + c.in_ok-behind.behind.ended)) sum c.join.ensures.ended in
     sums_more (AreCountedBehind c.args.game.now c.args.further c.args.place.now) firsts k pairs c.loop-index.counts.sequences c.loop-index.counts.ended c.in_ok-behind.behind.sequences c.in_ok-behind.behind.ended c.in_ok-counts.counts.sequences c.in_ok-counts.counts.ended
     (slice_get_within firsts k pairs c.get-pairs.ensures.pairs) (sym (get_or_from_slice_get firsts k pairs pairs c.get-pairs.ensures.pairs)) c.loop-index.invariant
-    (c.make_move_into.new.to, c.in_ok-make_move_into.ensures.to, c.in_ok-behind.ensures.counted)
+    (c.in_ok-to.to, c.in_ok-to.ensures.to, c.in_ok-behind.ensures.counted)
     sequences ended
 
 pub count_behind-returns : goal.count_behind-returns
@@ -41,7 +41,7 @@ count_behind-returns t c =
 pub count_from-count_behind-requires : goal.count_from-count_behind-requires
 count_from-count_behind-requires t c =
     let some : 0 < c.args.moves = omega (arith, c.if-moves-eq0.false) in
-    (search rules, (c.in_ok-settle.ensures.place, c.in_ok-listed.ensures.all.legal))
+    (search rules, (c.settle.ensures.place, c.in_ok-listed.ensures.all.legal))
 
 pub count_from-returns : goal.count_from-returns
 count_from-returns t c =

@@ -9,7 +9,7 @@ use Rattle.rbg_search.proofs.walk.walk_inside.Given as goal
 
 abbrev pub invariant-loop-to : goal.invariant-loop-to
 invariant-loop-to g l = record {
-  walking : IsWalking l.rules (at_vertex l.state.state l.fn.vertex) (beginning (inside l.pattern)) l.vertex l.position l.ends;
+  walking : IsWalking l.rules (at_vertex l.state.state l.fn.vertex) (beginning (inside l.pattern)) l.vertex l.position l.ends l.pairs;
   there : l.vertex < length l.rules.board.first;
   position : IsPositionOf l.rules.rules l.position;
   few : l.pairs < l.position;

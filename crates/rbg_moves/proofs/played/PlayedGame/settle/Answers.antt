@@ -1,11 +1,14 @@
 -- The keeper's moves lead from the first place to the present one.
-use Rattle.std.proofs.Common.{IfSome, length, ℕ, ◌≡◌, ◌+◌, ◌≤◌, inl, ap, ◌∙◌, sym, subst, arith, add-one}
+use Rattle.std.proofs.Common.{IfSome, length, ℕ, ◌≡◌, ◌≤◌, inl, ap, ◌∙◌, sym, subst, arith, add-one}
 use Rattle.std.proofs.lemmas.Result.{IfOk-weaker}
 use Rattle.rbg_base.specs.Move.{IsMoveLength}
+use Rattle.rbg_rules.specs.State.{AbstractGame}
 use Rattle.rbg_rules.specs.Moves.{AbstractPlace, Legal}
+use Rattle.rbg_rules.specs.Places.{IsPlaceOf}
 use Rattle.rbg_moves.specs.Limits.{most_keeper_moves}
-use Rattle.rbg_moves.specs.Settling.{KeeperMoves, Settles}
+use Rattle.rbg_moves.specs.Settling.{KeeperMoves, Settles, SomeKeeperMoves}
 use Rattle.rbg_moves.specs.Settling.KeeperMoves.{none, more}
+use Rattle.rbg_moves.proofs.Results.{err_of}
 use Rattle.rbg_moves.proofs.played.PlayedGame.settle.Goals as goal
 
 pub loop-init : goal.loop-init
@@ -14,7 +17,7 @@ loop-init c = (c.requires.place, none)
 pub loop-preserved : goal.loop-preserved
 loop-preserved c =
     let found : Legal c.args.self.now c.loop.place c.in-Some.pairs.items c.make_found.new.place =
-    subst (λ (p : AbstractPlace). Legal c.args.self.now p c.in-Some.pairs.items c.make_found.new.place) c.in_ok-pairs.ensures.kept c.in_ok-make_found-in-Some.ensures.to in
+    subst (λ (p : AbstractPlace). Legal c.args.self.now p c.in-Some.pairs.items c.make_found.new.place) c.find_pairs_on.ensures.kept c.in_ok-make_found-in-Some.ensures.to in
     let keeper : c.loop.place.state.player ≡ 0 =
     sym (ap (λ p. p.state.player) c.place.view_is) ∙ sym c.player.ensures ∙ c.if-player-ne0.false in
     let long : IsMoveLength (length c.in-Some.pairs.items) =
@@ -27,3 +30,23 @@ returns-clause-settles c =
     IfOk-weaker c.rest.result _ (λ _. Settles c.args.self.now c.args.place.now c.loop.place)
     (λ _ rests. record { many = c.loop.counter; few = few; moves = c.loop.invariant.1; rests = inl rests })
     c.rest.ensures.player
+
+-- After an error, too, moves of the keeper have led to the place that is left.
+led : (game : AbstractGame) (from here to : AbstractPlace) (many : ℕ) → many ≤ most_keeper_moves → KeeperMoves game from many here → to ≡ here → SomeKeeperMoves game from to
+led game from here to many few moves same = record { many = many; few = few; moves = subst (λ (p : AbstractPlace). KeeperMoves game from many p) (sym same) moves }
+
+pub returns-in_err-pairs-clause-place : goal.returns-in_err-pairs-clause-place
+returns-in_err-pairs-clause-place c = subst (IsPlaceOf c.args.self.now) (sym c.find_pairs_on.ensures.kept) c.loop.invariant.0
+
+pub returns-in_err-pairs-clause-led : goal.returns-in_err-pairs-clause-led
+returns-in_err-pairs-clause-led c = led c.args.self.now c.args.place.now c.loop.place c.find_pairs_on.new.place c.loop.counter (omega arith) c.loop.invariant.1 c.find_pairs_on.ensures.kept
+
+pub returns-in_err-make_found-in-Some-clause-place : goal.returns-in_err-make_found-in-Some-clause-place
+returns-in_err-make_found-in-Some-clause-place c =
+    let same = err_of c.make_found.result c.in_err-make_found-in-Some.field-0.0 _ c.in_err-make_found-in-Some.was c.make_found.ensures.refused in
+    subst (IsPlaceOf c.args.self.now) (sym (same ∙ c.find_pairs_on.ensures.kept)) c.loop.invariant.0
+
+pub returns-in_err-make_found-in-Some-clause-led : goal.returns-in_err-make_found-in-Some-clause-led
+returns-in_err-make_found-in-Some-clause-led c =
+    let same = err_of c.make_found.result c.in_err-make_found-in-Some.field-0.0 _ c.in_err-make_found-in-Some.was c.make_found.ensures.refused in
+    led c.args.self.now c.args.place.now c.loop.place _ c.loop.counter (omega arith) c.loop.invariant.1 (same ∙ c.find_pairs_on.ensures.kept)

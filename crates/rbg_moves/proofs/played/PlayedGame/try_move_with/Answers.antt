@@ -8,3 +8,6 @@ returns-clause-illegal c = rw (← c.self.view_is) c.try_move_with.ensures.illeg
 
 pub returns-clause-fits : goal.returns-clause-fits
 returns-clause-fits c = rw (← c.self.view_is) c.try_move_with.ensures.fits
+
+pub returns-clause-tally : goal.returns-clause-tally
+returns-clause-tally c = rw (← c.self.view_is) c.try_move_with.ensures.tally

@@ -1,5 +1,5 @@
 use Rattle.std.proofs.Common.{rules, ◌≡◌, ℕ, ◌^◌, ◌<◌, ◌≤◌, List, length, get_or, take, Bool, sym, ap, ◌∙◌, subst, arith, [], ◌∷◌, ◌++◌, ◌-◌, refl, ◌+◌, false, true}
-use Rattle.std.specs.Prelude.{IsTrue, ◌↔◌, All, Some, slice_get, Contains, Err}
+use Rattle.std.specs.Prelude.{IsTrue, IsOk, ◌↔◌, All, Some, slice_get, Contains, Err}
 use Rattle.rbg_rules.specs.Positions.{inside, IsPatternAt}
 use Rattle.rbg_rules.specs.Words.{Start, beginning, after}
 use Rattle.rbg_rules.specs.State.{AbstractState, IsStateOf}
@@ -34,6 +34,10 @@ use Rattle.rbg_search.proofs.Countings.{asked_begin, reach_pairs}
 use Rattle.rbg_search.proofs.Counted.{memory_not_deep, memory_not_wide, deep_not_wide, ok_not_err, same_error, counted_as, counted_only, opened_one, asked_only, behind_begin, behind_only}
 use Rattle.rbg_search.proofs.CountedSteps.{given_up, not_memory, ask_step, asks_reached, asks_only, behind_step, inside_pairs, one_behind, one_too_many, counted_there}
 use Rattle.rbg_search.specs.Searching.{Searching}
+use Rattle.rbg_search.specs.Taken.{CountsPairs}
+use Rattle.rbg_search.specs.internal.Spent.{IsSpentButOne}
+use Rattle.rbg_search.proofs.Takings.{not_ok, is_answer, any_part, takes_nothing, takes_none_yet, takes_own, takes_unfinished, takes_as, takes_part_of, room_for_own}
+use Rattle.rbg_search.proofs.TakingSteps.{asked_takes, whole_takes, behind_takes, one_takes}
 use Rattle.rbg_search.proofs.search.Search.+search.Goals as goal
 
 pub ask-undo_to-requires : goal.ask-undo_to-requires
@@ -97,6 +101,10 @@ flat_part-loop-flat-init g t c =
           let first : c.begun.new.self.opened ≡ c.args.self.now.opened + 1 = ap (λ (x : Searching). x.opened) c.begun.ensures.kept ∙ c.in_ok-enter.ensures.opened in
           subst (λ (n : ℕ). AsksForced c.args.self.now.game cut c.args.state.now.state (take n c.in_ok-flat.flat.value.queue.pairs) c.args.self.now.opened c.begun.new.self.opened c.args.self.now.modifiers) (sym c.in_ok-flat.ensures.none_taken)
           (asks_begin c.args.self.now.game c.enter.ensures.lawful.numbered cut c.args.state.now.state c.args.self.now.opened c.begun.new.self.opened c.args.self.now.modifiers first);
+      spent = c.enter.ensures.spent;
+      taken =
+          takes_none_yet c.args.self.now.game reach c.args.state.now.state (start_of c.args.origin) (c.args.self.now.opened + 1) c.begun.new.self.opened c.args.self.now.taken c.begun.new.self.taken (Unit {0})
+          (sym (ap (λ (x : Searching). x.opened) c.begun.ensures.kept ∙ c.in_ok-enter.ensures.opened)) (ap (λ (x : Searching). x.taken) c.begun.ensures.kept ∙ c.enter.ensures.none_taken);
     }
 
 pub flat_part-advance-requires-clause-fits : goal.flat_part-advance-requires-clause-fits
@@ -171,7 +179,7 @@ flat_part-loop-flat-preserved g t c =
     let v : ℕ = c.in-Some.vertex in
     let same : c.advance.new.state.room ≡ c.loop-flat.state.room = ap (λ (h : History). h.room) c.advance.ensures.given_back in
     let given : c.advance.new.state ≡ (record c.args.state.now { room = c.advance.new.state.room }) = room_twice c.args.state.now c.loop-flat.state c.advance.new.state c.loop-flat.invariant.given_back (back_same c.loop-flat.state c.advance.new.state c.advance.ensures.given_back) in
-    let kept : c.ask.new.self ≡ (record c.args.self.now { opened = c.ask.new.self.opened }) = kept_twice c.args.self.now c.loop-flat.self c.ask.new.self c.loop-flat.invariant.kept c.ask.ensures.kept in
+    let kept : c.ask.new.self ≡ (record c.args.self.now { opened = c.ask.new.self.opened; taken = c.ask.new.self.taken }) = kept_twice c.args.self.now c.loop-flat.self c.ask.new.self c.loop-flat.invariant.kept c.ask.ensures.kept in
     let there : AbstractState = at_vertex c.advance.new.state.state v in
     let decides : IsTrue c.in_ok-valid.valid ↔ Applies c.ask.new.self.game c.in-Some.position there there = onward_rules (λ x. IsTrue c.in_ok-valid.valid ↔ Applies x c.in-Some.position there there) c.loop-flat.self c.ask.new.self c.ask.ensures.kept c.in_ok-valid.ensures.valid in
     let begun : IsBegun c.loop-flat.self.game c.loop-flat.state.state f c.advance.new.flat.value = c.in_ok-vertex.ensures.begun f
@@ -195,6 +203,11 @@ flat_part-loop-flat-preserved g t c =
       forced = λ cut.
           subst (λ (ds : List (ℕ × ℕ)). AsksForced c.args.self.now.game cut c.args.state.now.state ds c.args.self.now.opened c.ask.new.self.opened c.args.self.now.modifiers) (sym c.in_ok-take.ensures.done)
           (ask_forced c.args.self.now c.loop-flat.self c.args.state.now c.advance.new.state (take c.loop-flat.flat.value.taken c.loop-flat.flat.value.queue.pairs) (take c.advance.new.flat.value.taken c.advance.new.flat.value.queue.pairs) c.in-Some.vertex c.in-Some.position c.args.self.now.opened c.ask.new.self.opened cut c.loop-flat.invariant.kept given c.loop-flat.invariant.lawful.numbered c.in_ok-vertex.ensures.quiet (c.loop-flat.invariant.forced cut) (c.in_ok-valid.ensures.forced cut));
+      spent = c.loop-flat.invariant.spent;
+      taken =
+          let pair : (slice_get c.advance.new.flat.value.queue.pairs c.advance.new.flat.value.taken ≡ Some (c.in-Some.vertex, c.in-Some.position)) × (c.in-Some.vertex < length c.loop-flat.self.game.board.first) × IsPatternAt c.loop-flat.self.game.rules c.in-Some.position = search rules in
+          asked_takes c.args.self.now c.loop-flat.self c.args.state.now c.loop-flat.state c.advance.new.state f c.advance.new.flat.value v c.in-Some.position c.ask.new.self.opened c.ask.new.self.taken (Unit {0}) c.loop-flat.invariant.kept c.loop-flat.invariant.given_back given c.loop-flat.invariant.lawful begun pair.0 pair.2 c.loop-flat.invariant.taken
+          (takes_as c.loop-flat.self.game pattern there (beginning (inside c.in-Some.position)) c.loop-flat.self.opened c.ask.new.self.opened c.loop-flat.self.taken c.ask.new.self.taken (IsOk c.ask.result) (Unit {0}) c.ask.ensures.taken (λ _. is_answer c.ask.result c.in_ok-valid.valid c.in_ok-valid.was));
     }
 
 pub flat_part-returns-in_err-take-clause-kept : goal.flat_part-returns-in_err-take-clause-kept
@@ -211,12 +224,17 @@ flat_part-returns-in_err-take-clause-room g t c =
     let same : c.advance.new.state.room ≡ c.loop-flat.state.room = ap (λ (h : History). h.room) c.advance.ensures.given_back in
     omega (arith, same, c.loop-flat.invariant.room, c.ask.ensures.room)
 
-pub flat_part-finish-requires : goal.flat_part-finish-requires
-flat_part-finish-requires g t c = c.advance.ensures.marks
+pub flat_part-finish-requires-clause-marks : goal.flat_part-finish-requires-clause-marks
+flat_part-finish-requires-clause-marks g t c = c.advance.ensures.marks
+
+pub flat_part-finish-requires-clause-one : goal.flat_part-finish-requires-clause-one
+flat_part-finish-requires-clause-one g t c =
+    onward_rules (λ x. IsSpentButOne x c.loop-flat.self.opened c.loop-flat.self.taken) c.args.self.now c.loop-flat.self c.loop-flat.invariant.kept
+    (room_for_own c.args.self.now.game reach c.args.state.now.state (start_of c.args.origin) c.args.self.now.opened c.loop-flat.self.opened c.args.self.now.taken c.loop-flat.self.taken (Unit {0}) c.loop-flat.invariant.spent c.loop-flat.invariant.taken)
 
 pub flat_part-returns-in_err-ends-clause-kept : goal.flat_part-returns-in_err-ends-clause-kept
 flat_part-returns-in_err-ends-clause-kept g t c =
-    kept_twice c.args.self.now c.loop-flat.self c.finish.new.self c.loop-flat.invariant.kept (kept_same c.loop-flat.self c.finish.new.self c.finish.ensures.kept)
+    kept_twice c.args.self.now c.loop-flat.self c.finish.new.self c.loop-flat.invariant.kept c.finish.ensures.kept
 
 pub flat_part-returns-in_err-ends-clause-given_back : goal.flat_part-returns-in_err-ends-clause-given_back
 flat_part-returns-in_err-ends-clause-given_back g t c =
@@ -229,7 +247,7 @@ flat_part-returns-in_err-ends-clause-room g t c =
 
 pub flat_part-returns-clause-kept : goal.flat_part-returns-clause-kept
 flat_part-returns-clause-kept g t c =
-    kept_twice c.args.self.now c.loop-flat.self c.finish.new.self c.loop-flat.invariant.kept (kept_same c.loop-flat.self c.finish.new.self c.finish.ensures.kept)
+    kept_twice c.args.self.now c.loop-flat.self c.finish.new.self c.loop-flat.invariant.kept c.finish.ensures.kept
 
 pub flat_part-returns-clause-given_back : goal.flat_part-returns-clause-given_back
 flat_part-returns-clause-given_back g t c =
@@ -323,6 +341,10 @@ runs_behind-loop-vertex-preserved g t c =
           let ready = c.requires.ready c.loop-vertex.vertex-index (0, 0) c.loop-vertex-test.true in
           let one = one_forced c.args.self.now c.loop-vertex.self c.args.state.now c.loop-vertex.state c.args.pairs.now c.loop-vertex.vertex-index (0, 0) c.args.self.now.opened c.runs_behind_one.new.self.opened c.args.modifiers ready.later c.loop-vertex.invariant.kept c.loop-vertex.invariant.given_back c.loop-vertex-test.true ready.applies (omega (arith, c.if-modifiers-le1.false)) c.in_ok-runs_behind_one.ensures.forced in
           one.forced cut numbered (c.loop-vertex.invariant.forced cut numbered);
+      taken = λ f goes.
+          let ready = c.requires.ready c.loop-vertex.vertex-index (0, 0) c.loop-vertex-test.true in
+          one_takes c.args.self.now c.loop-vertex.self c.args.state.now c.loop-vertex.state f c.args.pairs.now c.loop-vertex.vertex-index (0, 0) c.runs_behind_one.new.self.opened c.runs_behind_one.new.self.taken ready.later (Unit {0}) c.loop-vertex.invariant.kept c.loop-vertex.invariant.given_back goes c.loop-vertex-test.true ready.applies (c.loop-vertex.invariant.taken f goes)
+          (λ later applies. takes_as c.loop-vertex.self.game pattern later (after (get_or c.args.pairs.now c.loop-vertex.vertex-index (0, 0)).1) c.loop-vertex.self.opened c.runs_behind_one.new.self.opened c.loop-vertex.self.taken c.runs_behind_one.new.self.taken (IsOk c.runs_behind_one.result) (Unit {0}) (c.runs_behind_one.ensures.taken later applies) (λ _. is_answer c.runs_behind_one.result c.in_ok-runs_behind_one.field-0 c.in_ok-runs_behind_one.was));
     }
 
 pub runs_behind-returns-clause-answer : goal.runs_behind-returns-clause-answer
@@ -361,7 +383,7 @@ word_runs-sort-requires g t c = c.in_ok-ends.ensures.reached.different
 pub word_runs-runs_behind-requires : goal.word_runs-runs_behind-requires
 word_runs-runs_behind-requires g t c κs within =
     let here : c.take_list-pairs.new.self ≡ c.args.self.now = c.take_list-pairs.ensures in
-    let kept : c.flat_part.new.self ≡ (record c.args.self.now { opened = c.flat_part.new.self.opened }) = kept_since c.args.self.now c.take_list-pairs.new.self c.flat_part.new.self here c.flat_part.ensures.kept in
+    let kept : c.flat_part.new.self ≡ (record c.args.self.now { opened = c.flat_part.new.self.opened; taken = c.flat_part.new.self.taken }) = kept_since c.args.self.now c.take_list-pairs.new.self c.flat_part.new.self here c.flat_part.ensures.kept in
     let lawful : IsGame c.args.self.now.game = subst (λ (x : Searching). IsGame x.game) here c.in_ok-ends.ensures.lawful in
     let reached : IsFlatPart c.args.self.now.game c.args.state.now.state (start_of c.args.origin) c.flat_part.new.pairs.items c.in_ok-ends.ends = subst (λ (x : Searching). IsFlatPart x.game c.args.state.now.state (start_of c.args.origin) c.flat_part.new.pairs.items c.in_ok-ends.ends) here c.in_ok-ends.ensures.reached in
     let sorted = flat_permuted c.args.self.now.game c.args.state.now.state (start_of c.args.origin) c.flat_part.new.pairs.items c.sort.new.pairs.items c.in_ok-ends.ends c.sort.ensures.permutation reached in
@@ -387,7 +409,7 @@ word_runs-runs_behind-requires g t c κs within =
 pub word_runs-returns-clause-answer : goal.word_runs-returns-clause-answer
 word_runs-returns-clause-answer g t c =
     let here : c.take_list-pairs.new.self ≡ c.args.self.now = c.take_list-pairs.ensures in
-    let kept : c.flat_part.new.self ≡ (record c.args.self.now { opened = c.flat_part.new.self.opened }) = kept_since c.args.self.now c.take_list-pairs.new.self c.flat_part.new.self here c.flat_part.ensures.kept in
+    let kept : c.flat_part.new.self ≡ (record c.args.self.now { opened = c.flat_part.new.self.opened; taken = c.flat_part.new.self.taken }) = kept_since c.args.self.now c.take_list-pairs.new.self c.flat_part.new.self here c.flat_part.ensures.kept in
     let lawful : IsGame c.args.self.now.game = subst (λ (x : Searching). IsGame x.game) here c.in_ok-ends.ensures.lawful in
     let reached : IsFlatPart c.args.self.now.game c.args.state.now.state (start_of c.args.origin) c.flat_part.new.pairs.items c.in_ok-ends.ends = subst (λ (x : Searching). IsFlatPart x.game c.args.state.now.state (start_of c.args.origin) c.flat_part.new.pairs.items c.in_ok-ends.ends) here c.in_ok-ends.ensures.reached in
     let sorted = flat_permuted c.args.self.now.game c.args.state.now.state (start_of c.args.origin) c.flat_part.new.pairs.items c.sort.new.pairs.items c.in_ok-ends.ends c.sort.ensures.permutation reached in
@@ -482,7 +504,7 @@ flat_part-returns-in_err-ends-clause-counts g t c =
     let f : Start = start_of c.args.origin in
     let done : List (ℕ × ℕ) = take c.loop-flat.flat.value.taken c.loop-flat.flat.value.queue.pairs in
     asked_only c.args.self.now.game c.args.state.now.state f done c.args.self.now.opened c.finish.new.self.opened c.args.self.now.modifiers c.args.self.now.openings c.args.self.now.modifiers _ _
-    (subst (λ (x : ℕ). CountsAsked c.args.self.now.game c.args.state.now.state f done c.args.self.now.opened x) (sym (ap (λ (x : Searching). x.opened) c.finish.ensures.kept)) c.loop-flat.invariant.counted)
+    (subst (λ (x : ℕ). CountsAsked c.args.self.now.game c.args.state.now.state f done c.args.self.now.opened x) (sym c.finish.ensures.opened) c.loop-flat.invariant.counted)
     (not_memory c.from_residual-in_err-ends.result c.in_err-ends.field-0.0 Deep c.from_residual-in_err-ends.ensures.1 c.in_err-ends.ensures.memory memory_not_deep)
     (not_memory c.from_residual-in_err-ends.result c.in_err-ends.field-0.0 Wide c.from_residual-in_err-ends.ensures.1 c.in_err-ends.ensures.memory memory_not_wide)
 
@@ -491,7 +513,7 @@ flat_part-returns-clause-counts g t c =
     let f : Start = start_of c.args.origin in
     let done : List (ℕ × ℕ) = take c.loop-flat.flat.value.taken c.loop-flat.flat.value.queue.pairs in
     asked_only c.args.self.now.game c.args.state.now.state f done c.args.self.now.opened c.finish.new.self.opened c.args.self.now.modifiers c.args.self.now.openings c.args.self.now.modifiers _ _
-    (subst (λ (x : ℕ). CountsAsked c.args.self.now.game c.args.state.now.state f done c.args.self.now.opened x) (sym (ap (λ (x : Searching). x.opened) c.finish.ensures.kept)) c.loop-flat.invariant.counted)
+    (subst (λ (x : ℕ). CountsAsked c.args.self.now.game c.args.state.now.state f done c.args.self.now.opened x) (sym c.finish.ensures.opened) c.loop-flat.invariant.counted)
     (ok_not_err c.in_ok-ends.ends Deep) (ok_not_err c.in_ok-ends.ends Wide)
 
 pub runs_behind-loop-vertex-init : goal.runs_behind-loop-vertex-init
@@ -503,6 +525,7 @@ runs_behind-loop-vertex-init g t c = record {
   counted = λ f a goes counts. behind_begin c.args.self.now.game goes.lawful.numbered c.args.state.now.state f a c.args.self.now.opened counts;
   grows = omega arith;
   forced = λ cut numbered. takes_none c.args.self.now.game numbered cut pattern c.args.state.now.state c.args.self.now.opened c.args.self.now.opened c.args.modifiers c.args.self.now.modifiers (omega arith);
+  taken = λ f goes. takes_none_yet c.args.self.now.game pattern c.args.state.now.state f c.args.self.now.opened c.args.self.now.opened c.args.self.now.taken c.args.self.now.taken (Unit {0}) refl refl;
 }
 
 pub runs_behind-returns-then-modifiers-le1-clause-counts :
@@ -583,7 +606,7 @@ word_runs-returns-then-ends-clause-counts g t c =
 pub word_runs-returns-in_err-runs-clause-counts : goal.word_runs-returns-in_err-runs-clause-counts
 word_runs-returns-in_err-runs-clause-counts g t c =
     let here : c.take_list-pairs.new.self ≡ c.args.self.now = c.take_list-pairs.ensures in
-    let kept : c.flat_part.new.self ≡ (record c.args.self.now { opened = c.flat_part.new.self.opened }) = kept_since c.args.self.now c.take_list-pairs.new.self c.flat_part.new.self here c.flat_part.ensures.kept in
+    let kept : c.flat_part.new.self ≡ (record c.args.self.now { opened = c.flat_part.new.self.opened; taken = c.flat_part.new.self.taken }) = kept_since c.args.self.now c.take_list-pairs.new.self c.flat_part.new.self here c.flat_part.ensures.kept in
     let lawful : IsGame c.args.self.now.game = subst (λ (x : Searching). IsGame x.game) here c.in_ok-ends.ensures.lawful in
     let reached : IsFlatPart c.args.self.now.game c.args.state.now.state (start_of c.args.origin) c.flat_part.new.pairs.items c.in_ok-ends.ends = subst (λ (x : Searching). IsFlatPart x.game c.args.state.now.state (start_of c.args.origin) c.flat_part.new.pairs.items c.in_ok-ends.ends) here c.in_ok-ends.ensures.reached in
     let sorted = flat_permuted c.args.self.now.game c.args.state.now.state (start_of c.args.origin) c.flat_part.new.pairs.items c.sort.new.pairs.items c.in_ok-ends.ends c.sort.ensures.permutation reached in
@@ -597,7 +620,7 @@ word_runs-returns-in_err-runs-clause-counts g t c =
 pub word_runs-returns-clause-counts : goal.word_runs-returns-clause-counts
 word_runs-returns-clause-counts g t c =
     let here : c.take_list-pairs.new.self ≡ c.args.self.now = c.take_list-pairs.ensures in
-    let kept : c.flat_part.new.self ≡ (record c.args.self.now { opened = c.flat_part.new.self.opened }) = kept_since c.args.self.now c.take_list-pairs.new.self c.flat_part.new.self here c.flat_part.ensures.kept in
+    let kept : c.flat_part.new.self ≡ (record c.args.self.now { opened = c.flat_part.new.self.opened; taken = c.flat_part.new.self.taken }) = kept_since c.args.self.now c.take_list-pairs.new.self c.flat_part.new.self here c.flat_part.ensures.kept in
     let lawful : IsGame c.args.self.now.game = subst (λ (x : Searching). IsGame x.game) here c.in_ok-ends.ensures.lawful in
     let reached : IsFlatPart c.args.self.now.game c.args.state.now.state (start_of c.args.origin) c.flat_part.new.pairs.items c.in_ok-ends.ends = subst (λ (x : Searching). IsFlatPart x.game c.args.state.now.state (start_of c.args.origin) c.flat_part.new.pairs.items c.in_ok-ends.ends) here c.in_ok-ends.ensures.reached in
     let sorted = flat_permuted c.args.self.now.game c.args.state.now.state (start_of c.args.origin) c.flat_part.new.pairs.items c.sort.new.pairs.items c.in_ok-ends.ends c.sort.ensures.permutation reached in
@@ -618,7 +641,7 @@ flat_part-returns-clause-forced g t c = λ cut left.
     let last : List (ℕ × ℕ) = take c.advance.new.flat.value.taken c.advance.new.flat.value.queue.pairs in
     let met : (e : Start) → IsBegun here.game c.loop-flat.state.state e c.loop-flat.flat.value → (v p : ℕ) → Reached here.game c.loop-flat.state.state e v p → Contains last (v, p) = search rules in
     let begun = onward (λ x u. IsBegun x u f c.loop-flat.flat.value) c.args.self.now here c.args.state.now c.loop-flat.state c.loop-flat.invariant.kept c.loop-flat.invariant.given_back c.loop-flat.invariant.begun in
-    subst (λ (n : ℕ). CountsForced c.args.self.now.game cut reach c.args.state.now.state f c.args.self.now.opened n left c.args.self.now.modifiers) (sym (ap (λ (x : Searching). x.opened) c.finish.ensures.kept))
+    subst (λ (n : ℕ). CountsForced c.args.self.now.game cut reach c.args.state.now.state f c.args.self.now.opened n left c.args.self.now.modifiers) (sym c.finish.ensures.opened)
     (flat_forced c.args.self.now here c.args.state.now c.loop-flat.state f done last c.args.self.now.opened left cut c.loop-flat.invariant.kept c.loop-flat.invariant.given_back c.loop-flat.invariant.lawful.numbered c.in_ok-vertex.ensures.quiet (met f begun) (c.loop-flat.invariant.forced cut))
 
 pub runs_behind-returns-then-branch-clause-forced : goal.runs_behind-returns-then-branch-clause-forced
@@ -652,7 +675,7 @@ word_runs-returns-then-ends-clause-forced g t c = λ cut.
 pub word_runs-returns-clause-forced : goal.word_runs-returns-clause-forced
 word_runs-returns-clause-forced g t c = λ cut.
     let here : c.take_list-pairs.new.self ≡ c.args.self.now = c.take_list-pairs.ensures in
-    let kept : c.flat_part.new.self ≡ (record c.args.self.now { opened = c.flat_part.new.self.opened }) = kept_since c.args.self.now c.take_list-pairs.new.self c.flat_part.new.self here c.flat_part.ensures.kept in
+    let kept : c.flat_part.new.self ≡ (record c.args.self.now { opened = c.flat_part.new.self.opened; taken = c.flat_part.new.self.taken }) = kept_since c.args.self.now c.take_list-pairs.new.self c.flat_part.new.self here c.flat_part.ensures.kept in
     let lawful : IsGame c.args.self.now.game = subst (λ (x : Searching). IsGame x.game) here c.in_ok-ends.ensures.lawful in
     let reached : IsFlatPart c.args.self.now.game c.args.state.now.state (start_of c.args.origin) c.flat_part.new.pairs.items c.in_ok-ends.ends = subst (λ (x : Searching). IsFlatPart x.game c.args.state.now.state (start_of c.args.origin) c.flat_part.new.pairs.items c.in_ok-ends.ends) here c.in_ok-ends.ensures.reached in
     let sorted = flat_permuted c.args.self.now.game c.args.state.now.state (start_of c.args.origin) c.flat_part.new.pairs.items c.sort.new.pairs.items c.in_ok-ends.ends c.sort.ensures.permutation reached in
@@ -676,3 +699,178 @@ word_runs-returns-clause-forced g t c = λ cut.
     (subst (λ (ps : List (ℕ × ℕ)). RanBehind c.flat_part.new.self.game c.flat_part.new.state.state ps c.in_ok-runs.runs b last c.args.modifiers c.flat_part.new.self.modifiers) c.deref.ensures.value c.in_ok-runs.ensures.forced) in
     subst (λ (n : ℕ). CountsForced game cut pattern s f c.args.self.now.opened n c.args.modifiers most) (sym same)
     (asked_forced game numbered s f found c.in_ok-ends.ends c.in_ok-runs.runs c.args.self.now.opened b last c.args.modifiers most cut answer sorted counts_forced ran)
+
+-- ---- which pairs are counted
+
+pub flat_part-returns-in_err-enter-clause-taken : goal.flat_part-returns-in_err-enter-clause-taken
+flat_part-returns-in_err-enter-clause-taken g t c =
+    takes_nothing c.args.self.now.game reach c.args.state.now.state (start_of c.args.origin) c.args.self.now.opened c.enter.new.self.opened c.args.self.now.taken c.enter.new.self.taken _ c.enter.ensures.grows c.enter.ensures.none_taken
+    (not_ok c.from_residual.result c.in_err-enter.field-0.0 c.from_residual.ensures.1)
+
+pub flat_part-returns-in_err-flat-clause-taken : goal.flat_part-returns-in_err-flat-clause-taken
+flat_part-returns-in_err-flat-clause-taken g t c =
+    let opened : c.begun.new.self.opened ≡ c.args.self.now.opened + 1 = ap (λ (x : Searching). x.opened) c.begun.ensures.kept ∙ c.in_ok-enter.ensures.opened in
+    takes_nothing c.args.self.now.game reach c.args.state.now.state (start_of c.args.origin) c.args.self.now.opened c.begun.new.self.opened c.args.self.now.taken c.begun.new.self.taken _ (omega (arith, opened)) (ap (λ (x : Searching). x.taken) c.begun.ensures.kept ∙ c.enter.ensures.none_taken)
+    (not_ok c.from_residual-in_err-flat.result c.in_err-flat.field-0.0 c.from_residual-in_err-flat.ensures.1)
+
+pub flat_part-returns-in_err-vertex-clause-taken : goal.flat_part-returns-in_err-vertex-clause-taken
+flat_part-returns-in_err-vertex-clause-taken g t c =
+    takes_unfinished c.args.self.now.game reach c.args.state.now.state (start_of c.args.origin) c.args.self.now.opened c.loop-flat.self.opened c.args.self.now.taken c.loop-flat.self.taken (Unit {0}) _ c.loop-flat.invariant.taken
+    (not_ok c.from_residual-in_err-vertex.result Memory c.from_residual-in_err-vertex.ensures.1)
+
+pub flat_part-returns-in_err-valid-clause-taken : goal.flat_part-returns-in_err-valid-clause-taken
+flat_part-returns-in_err-valid-clause-taken g t c =
+    let f : Start = start_of c.args.origin in
+    let given : c.advance.new.state ≡ (record c.args.state.now { room = c.advance.new.state.room }) = room_twice c.args.state.now c.loop-flat.state c.advance.new.state c.loop-flat.invariant.given_back (back_same c.loop-flat.state c.advance.new.state c.advance.ensures.given_back) in
+    let asked : (slice_get c.advance.new.flat.value.queue.pairs c.advance.new.flat.value.taken ≡ Some (c.in-Some.vertex, c.in-Some.position)) × (c.in-Some.vertex < length c.loop-flat.self.game.board.first) × IsPatternAt c.loop-flat.self.game.rules c.in-Some.position = search rules in
+    let begun : IsBegun c.loop-flat.self.game c.loop-flat.state.state f c.advance.new.flat.value = c.in_ok-vertex.ensures.begun f
+    (onward (λ x s. IsBegun x s f c.loop-flat.flat.value) c.args.self.now c.loop-flat.self c.args.state.now c.loop-flat.state c.loop-flat.invariant.kept c.loop-flat.invariant.given_back c.loop-flat.invariant.begun) in
+    takes_unfinished c.args.self.now.game reach c.args.state.now.state (start_of c.args.origin) c.args.self.now.opened c.ask.new.self.opened c.args.self.now.taken c.ask.new.self.taken (IsOk c.ask.result) _
+    (asked_takes c.args.self.now c.loop-flat.self c.args.state.now c.loop-flat.state c.advance.new.state f c.advance.new.flat.value c.in-Some.vertex c.in-Some.position c.ask.new.self.opened c.ask.new.self.taken (IsOk c.ask.result) c.loop-flat.invariant.kept c.loop-flat.invariant.given_back given c.loop-flat.invariant.lawful begun asked.0 asked.2 c.loop-flat.invariant.taken c.ask.ensures.taken)
+    (not_ok c.from_residual-in_err-valid.result c.in_err-valid.field-0.0 c.from_residual-in_err-valid.ensures.1)
+
+pub flat_part-returns-in_err-take-clause-taken : goal.flat_part-returns-in_err-take-clause-taken
+flat_part-returns-in_err-take-clause-taken g t c =
+    let f : Start = start_of c.args.origin in
+    let given : c.advance.new.state ≡ (record c.args.state.now { room = c.advance.new.state.room }) = room_twice c.args.state.now c.loop-flat.state c.advance.new.state c.loop-flat.invariant.given_back (back_same c.loop-flat.state c.advance.new.state c.advance.ensures.given_back) in
+    let asked : (slice_get c.advance.new.flat.value.queue.pairs c.advance.new.flat.value.taken ≡ Some (c.in-Some.vertex, c.in-Some.position)) × (c.in-Some.vertex < length c.loop-flat.self.game.board.first) × IsPatternAt c.loop-flat.self.game.rules c.in-Some.position = search rules in
+    let begun : IsBegun c.loop-flat.self.game c.loop-flat.state.state f c.advance.new.flat.value = c.in_ok-vertex.ensures.begun f
+    (onward (λ x s. IsBegun x s f c.loop-flat.flat.value) c.args.self.now c.loop-flat.self c.args.state.now c.loop-flat.state c.loop-flat.invariant.kept c.loop-flat.invariant.given_back c.loop-flat.invariant.begun) in
+    takes_unfinished c.args.self.now.game reach c.args.state.now.state (start_of c.args.origin) c.args.self.now.opened c.ask.new.self.opened c.args.self.now.taken c.ask.new.self.taken (IsOk c.ask.result) _
+    (asked_takes c.args.self.now c.loop-flat.self c.args.state.now c.loop-flat.state c.advance.new.state f c.advance.new.flat.value c.in-Some.vertex c.in-Some.position c.ask.new.self.opened c.ask.new.self.taken (IsOk c.ask.result) c.loop-flat.invariant.kept c.loop-flat.invariant.given_back given c.loop-flat.invariant.lawful begun asked.0 asked.2 c.loop-flat.invariant.taken c.ask.ensures.taken)
+    (not_ok c.from_residual-in_err-take.result Memory c.from_residual-in_err-take.ensures.1)
+
+pub flat_part-returns-in_err-ends-clause-taken : goal.flat_part-returns-in_err-ends-clause-taken
+flat_part-returns-in_err-ends-clause-taken g t c =
+    let f : Start = start_of c.args.origin in
+    let here = c.loop-flat.self in
+    let last : List (ℕ × ℕ) = take c.advance.new.flat.value.taken c.advance.new.flat.value.queue.pairs in
+    let met : (e : Start) → IsBegun here.game c.loop-flat.state.state e c.loop-flat.flat.value → (v p : ℕ) → Reached here.game c.loop-flat.state.state e v p → Contains last (v, p) = search rules in
+    let begun = onward (λ x u. IsBegun x u f c.loop-flat.flat.value) c.args.self.now here c.args.state.now c.loop-flat.state c.loop-flat.invariant.kept c.loop-flat.invariant.given_back c.loop-flat.invariant.begun in
+    let part = whole_takes c.args.self.now here c.args.state.now c.loop-flat.state f c.advance.new.flat.value c.loop-flat.invariant.kept c.loop-flat.invariant.given_back c.loop-flat.invariant.lawful (c.in_ok-vertex.ensures.begun f begun) (met f begun) c.finish.ensures.once c.finish.ensures.few in
+    takes_as c.args.self.now.game reach c.args.state.now.state f c.args.self.now.opened c.finish.new.self.opened c.args.self.now.taken c.finish.new.self.taken (Unit {0}) _
+    (subst (λ (n : ℕ). CountsPairs c.args.self.now.game reach c.args.state.now.state f c.args.self.now.opened n c.args.self.now.taken c.finish.new.self.taken (Unit {0})) (sym c.finish.ensures.opened)
+    (takes_own c.args.self.now.game reach c.args.state.now.state f c.args.self.now.opened here.opened c.args.self.now.taken here.taken c.finish.new.self.taken (length c.advance.new.flat.value.queue.pairs) (Unit {0}) c.loop-flat.invariant.taken part c.finish.ensures.taken))
+    (λ _. tt)
+
+pub flat_part-returns-clause-taken : goal.flat_part-returns-clause-taken
+flat_part-returns-clause-taken g t c =
+    let f : Start = start_of c.args.origin in
+    let here = c.loop-flat.self in
+    let last : List (ℕ × ℕ) = take c.advance.new.flat.value.taken c.advance.new.flat.value.queue.pairs in
+    let met : (e : Start) → IsBegun here.game c.loop-flat.state.state e c.loop-flat.flat.value → (v p : ℕ) → Reached here.game c.loop-flat.state.state e v p → Contains last (v, p) = search rules in
+    let begun = onward (λ x u. IsBegun x u f c.loop-flat.flat.value) c.args.self.now here c.args.state.now c.loop-flat.state c.loop-flat.invariant.kept c.loop-flat.invariant.given_back c.loop-flat.invariant.begun in
+    let part = whole_takes c.args.self.now here c.args.state.now c.loop-flat.state f c.advance.new.flat.value c.loop-flat.invariant.kept c.loop-flat.invariant.given_back c.loop-flat.invariant.lawful (c.in_ok-vertex.ensures.begun f begun) (met f begun) c.finish.ensures.once c.finish.ensures.few in
+    takes_as c.args.self.now.game reach c.args.state.now.state f c.args.self.now.opened c.finish.new.self.opened c.args.self.now.taken c.finish.new.self.taken (Unit {0}) _
+    (subst (λ (n : ℕ). CountsPairs c.args.self.now.game reach c.args.state.now.state f c.args.self.now.opened n c.args.self.now.taken c.finish.new.self.taken (Unit {0})) (sym c.finish.ensures.opened)
+    (takes_own c.args.self.now.game reach c.args.state.now.state f c.args.self.now.opened here.opened c.args.self.now.taken here.taken c.finish.new.self.taken (length c.advance.new.flat.value.queue.pairs) (Unit {0}) c.loop-flat.invariant.taken part c.finish.ensures.taken))
+    (λ _. tt)
+
+pub ask-returns-in_err-runs-clause-taken : goal.ask-returns-in_err-runs-clause-taken
+ask-returns-in_err-runs-clause-taken g t c =
+    takes_as c.args.self.now.game pattern (at_vertex c.args.state.now.state c.args.vertex) (beginning (inside c.args.position)) c.args.self.now.opened c.word_runs-runs.new.self.opened c.args.self.now.taken c.word_runs-runs.new.self.taken (IsOk c.word_runs-runs.result) _
+    (subst (λ (u : AbstractState). CountsPairs c.args.self.now.game pattern u (beginning (inside c.args.position)) c.args.self.now.opened c.word_runs-runs.new.self.opened c.args.self.now.taken c.word_runs-runs.new.self.taken (IsOk c.word_runs-runs.result)) (ap (λ (h : History). h.state) c.stand_at.ensures.moved) c.word_runs-runs.ensures.taken)
+    (λ ok. absurd (not_ok c.from_residual.result c.in_err-runs.field-0.0 c.from_residual.ensures.1 ok))
+
+pub ask-returns-clause-taken : goal.ask-returns-clause-taken
+ask-returns-clause-taken g t c =
+    takes_as c.args.self.now.game pattern (at_vertex c.args.state.now.state c.args.vertex) (beginning (inside c.args.position)) c.args.self.now.opened c.word_runs-runs.new.self.opened c.args.self.now.taken c.word_runs-runs.new.self.taken (IsOk c.word_runs-runs.result) _
+    (subst (λ (u : AbstractState). CountsPairs c.args.self.now.game pattern u (beginning (inside c.args.position)) c.args.self.now.opened c.word_runs-runs.new.self.opened c.args.self.now.taken c.word_runs-runs.new.self.taken (IsOk c.word_runs-runs.result)) (ap (λ (h : History). h.state) c.stand_at.ensures.moved) c.word_runs-runs.ensures.taken)
+    (λ _. is_answer c.word_runs-runs.result c.in_ok-runs.field-0 c.in_ok-runs.was)
+
+pub runs_behind-returns-then-modifiers-le1-clause-taken :
+    goal.runs_behind-returns-then-modifiers-le1-clause-taken
+runs_behind-returns-then-modifiers-le1-clause-taken g t c = λ f goes.
+    takes_as c.args.self.now.game pattern c.args.state.now.state f c.args.self.now.opened c.loop-vertex.self.opened c.args.self.now.taken c.loop-vertex.self.taken (Unit {0}) _ (c.loop-vertex.invariant.taken f goes) (λ _. tt)
+
+pub runs_behind-returns-in_err-runs_behind_one-clause-taken :
+    goal.runs_behind-returns-in_err-runs_behind_one-clause-taken
+runs_behind-returns-in_err-runs_behind_one-clause-taken g t c = λ f goes.
+    let ready = c.requires.ready c.loop-vertex.vertex-index (0, 0) c.loop-vertex-test.true in
+    one_takes c.args.self.now c.loop-vertex.self c.args.state.now c.loop-vertex.state f c.args.pairs.now c.loop-vertex.vertex-index (0, 0) c.runs_behind_one.new.self.opened c.runs_behind_one.new.self.taken ready.later _ c.loop-vertex.invariant.kept c.loop-vertex.invariant.given_back goes c.loop-vertex-test.true ready.applies (c.loop-vertex.invariant.taken f goes)
+    (λ later applies. takes_as c.loop-vertex.self.game pattern later (after (get_or c.args.pairs.now c.loop-vertex.vertex-index (0, 0)).1) c.loop-vertex.self.opened c.runs_behind_one.new.self.opened c.loop-vertex.self.taken c.runs_behind_one.new.self.taken (IsOk c.runs_behind_one.result) _ (c.runs_behind_one.ensures.taken later applies) (λ ok. absurd (not_ok c.from_residual.result c.in_err-runs_behind_one.field-0.0 c.from_residual.ensures.1 ok)))
+
+pub runs_behind-returns-then-branch-clause-taken :
+    goal.runs_behind-returns-then-branch-clause-taken
+runs_behind-returns-then-branch-clause-taken g t c = λ f goes.
+    let ready = c.requires.ready c.loop-vertex.vertex-index (0, 0) c.loop-vertex-test.true in
+    one_takes c.args.self.now c.loop-vertex.self c.args.state.now c.loop-vertex.state f c.args.pairs.now c.loop-vertex.vertex-index (0, 0) c.runs_behind_one.new.self.opened c.runs_behind_one.new.self.taken ready.later _ c.loop-vertex.invariant.kept c.loop-vertex.invariant.given_back goes c.loop-vertex-test.true ready.applies (c.loop-vertex.invariant.taken f goes)
+    (λ later applies. takes_as c.loop-vertex.self.game pattern later (after (get_or c.args.pairs.now c.loop-vertex.vertex-index (0, 0)).1) c.loop-vertex.self.opened c.runs_behind_one.new.self.opened c.loop-vertex.self.taken c.runs_behind_one.new.self.taken (IsOk c.runs_behind_one.result) _ (c.runs_behind_one.ensures.taken later applies) (λ _. is_answer c.runs_behind_one.result c.in_ok-runs_behind_one.field-0 c.in_ok-runs_behind_one.was))
+
+pub runs_behind-returns-clause-taken : goal.runs_behind-returns-clause-taken
+runs_behind-returns-clause-taken g t c = λ f goes.
+    takes_as c.args.self.now.game pattern c.args.state.now.state f c.args.self.now.opened c.loop-vertex.self.opened c.args.self.now.taken c.loop-vertex.self.taken (Unit {0}) _ (c.loop-vertex.invariant.taken f goes) (λ _. tt)
+
+pub runs_behind_one-returns-in_err-runs-clause-taken : goal.runs_behind_one-returns-in_err-runs-clause-taken
+runs_behind_one-returns-in_err-runs-clause-taken g t c = λ later applies.
+    takes_as c.args.self.now.game pattern later (after c.args.position) c.args.self.now.opened c.word_runs-runs.new.self.opened c.args.self.now.taken c.word_runs-runs.new.self.taken (IsOk c.word_runs-runs.result) _
+    (subst (λ (u : AbstractState). CountsPairs c.args.self.now.game pattern u (after c.args.position) c.args.self.now.opened c.word_runs-runs.new.self.opened c.args.self.now.taken c.word_runs-runs.new.self.taken (IsOk c.word_runs-runs.result)) (sym (c.apply_at.ensures.only later applies)) c.word_runs-runs.ensures.taken)
+    (λ ok. absurd (not_ok c.from_residual.result c.in_err-runs.field-0.0 c.from_residual.ensures.1 ok))
+
+pub runs_behind_one-returns-clause-taken : goal.runs_behind_one-returns-clause-taken
+runs_behind_one-returns-clause-taken g t c = λ later applies.
+    takes_as c.args.self.now.game pattern later (after c.args.position) c.args.self.now.opened c.word_runs-runs.new.self.opened c.args.self.now.taken c.word_runs-runs.new.self.taken (IsOk c.word_runs-runs.result) _
+    (subst (λ (u : AbstractState). CountsPairs c.args.self.now.game pattern u (after c.args.position) c.args.self.now.opened c.word_runs-runs.new.self.opened c.args.self.now.taken c.word_runs-runs.new.self.taken (IsOk c.word_runs-runs.result)) (sym (c.apply_at.ensures.only later applies)) c.word_runs-runs.ensures.taken)
+    (λ _. is_answer c.word_runs-runs.result c.in_ok-runs.field-0 c.in_ok-runs.was)
+
+pub word_runs-returns-in_err-ends-clause-taken : goal.word_runs-returns-in_err-ends-clause-taken
+word_runs-returns-in_err-ends-clause-taken g t c =
+    let here : c.take_list-pairs.new.self ≡ c.args.self.now = c.take_list-pairs.ensures in
+    let f : Start = start_of c.args.origin in
+    let b = c.flat_part.new.self.opened in
+    let u = c.flat_part.new.self.taken in
+    let first : CountsPairs c.args.self.now.game reach c.args.state.now.state f c.args.self.now.opened b c.args.self.now.taken u (IsOk c.flat_part.result) =
+    subst (λ (x : Searching). CountsPairs x.game reach c.args.state.now.state f x.opened b x.taken u (IsOk c.flat_part.result)) here c.flat_part.ensures.taken in
+    takes_as c.args.self.now.game pattern c.args.state.now.state f c.args.self.now.opened b c.args.self.now.taken u (IsOk c.flat_part.result) _
+    (takes_part_of c.args.self.now.game pattern c.args.state.now.state f reach c.args.state.now.state f c.args.self.now.opened b c.args.self.now.taken u (IsOk c.flat_part.result) (any_part c.args.self.now.game pattern c.args.state.now.state f) first)
+    (λ ok. absurd (not_ok c.from_residual.result c.in_err-ends.field-0.0 c.from_residual.ensures.1 ok))
+
+pub word_runs-returns-then-ends-clause-taken : goal.word_runs-returns-then-ends-clause-taken
+word_runs-returns-then-ends-clause-taken g t c =
+    let here : c.take_list-pairs.new.self ≡ c.args.self.now = c.take_list-pairs.ensures in
+    let f : Start = start_of c.args.origin in
+    let b = c.flat_part.new.self.opened in
+    let u = c.flat_part.new.self.taken in
+    let first : CountsPairs c.args.self.now.game reach c.args.state.now.state f c.args.self.now.opened b c.args.self.now.taken u (IsOk c.flat_part.result) =
+    subst (λ (x : Searching). CountsPairs x.game reach c.args.state.now.state f x.opened b x.taken u (IsOk c.flat_part.result)) here c.flat_part.ensures.taken in
+    subst (λ (x : Searching). CountsPairs c.args.self.now.game pattern c.args.state.now.state f c.args.self.now.opened x.opened c.args.self.now.taken x.taken _) (sym c.keep_list.ensures)
+    (takes_as c.args.self.now.game pattern c.args.state.now.state f c.args.self.now.opened b c.args.self.now.taken u (IsOk c.flat_part.result) _
+    (takes_part_of c.args.self.now.game pattern c.args.state.now.state f reach c.args.state.now.state f c.args.self.now.opened b c.args.self.now.taken u (IsOk c.flat_part.result) (any_part c.args.self.now.game pattern c.args.state.now.state f) first)
+    (λ _. is_answer c.flat_part.result c.in_ok-ends.ends c.in_ok-ends.was))
+
+pub word_runs-returns-in_err-runs-clause-taken : goal.word_runs-returns-in_err-runs-clause-taken
+word_runs-returns-in_err-runs-clause-taken g t c =
+    let here : c.take_list-pairs.new.self ≡ c.args.self.now = c.take_list-pairs.ensures in
+    let f : Start = start_of c.args.origin in
+    let b = c.flat_part.new.self.opened in
+    let u = c.flat_part.new.self.taken in
+    let first : CountsPairs c.args.self.now.game reach c.args.state.now.state f c.args.self.now.opened b c.args.self.now.taken u (IsOk c.flat_part.result) =
+    subst (λ (x : Searching). CountsPairs x.game reach c.args.state.now.state f x.opened b x.taken u (IsOk c.flat_part.result)) here c.flat_part.ensures.taken in
+    let first_whole = takes_as c.args.self.now.game reach c.args.state.now.state f c.args.self.now.opened b c.args.self.now.taken u (IsOk c.flat_part.result) (Unit {0}) first (λ _. is_answer c.flat_part.result c.in_ok-ends.ends c.in_ok-ends.was) in
+    let kept : c.flat_part.new.self ≡ (record c.args.self.now { opened = c.flat_part.new.self.opened; taken = c.flat_part.new.self.taken }) = kept_since c.args.self.now c.take_list-pairs.new.self c.flat_part.new.self here c.flat_part.ensures.kept in
+    let lawful : IsGame c.args.self.now.game = subst (λ (x : Searching). IsGame x.game) here c.in_ok-ends.ensures.lawful in
+    let reached : IsFlatPart c.args.self.now.game c.args.state.now.state f c.flat_part.new.pairs.items c.in_ok-ends.ends = subst (λ (x : Searching). IsFlatPart x.game c.args.state.now.state f c.flat_part.new.pairs.items c.in_ok-ends.ends) here c.in_ok-ends.ensures.reached in
+    let sorted = flat_permuted c.args.self.now.game c.args.state.now.state f c.flat_part.new.pairs.items c.sort.new.pairs.items c.in_ok-ends.ends c.sort.ensures.permutation reached in
+    let all : CountsPairs c.args.self.now.game pattern c.args.state.now.state f c.args.self.now.opened c.runs_behind.new.self.opened c.args.self.now.taken c.runs_behind.new.self.taken (IsOk c.runs_behind.result) =
+    behind_takes c.args.self.now c.flat_part.new.self c.args.state.now c.flat_part.new.state f c.sort.new.pairs.items c.deref.result.now c.in_ok-ends.ends c.runs_behind.new.self.opened c.runs_behind.new.self.taken (IsOk c.runs_behind.result) kept c.flat_part.ensures.given_back c.deref.ensures.value lawful c.requires.inside sorted c.if-ends.false first_whole c.runs_behind.ensures.taken in
+    takes_as c.args.self.now.game pattern c.args.state.now.state f c.args.self.now.opened c.runs_behind.new.self.opened c.args.self.now.taken c.runs_behind.new.self.taken (IsOk c.runs_behind.result) _ all
+    (λ ok. absurd (not_ok c.from_residual-in_err-runs.result c.in_err-runs.field-0.0 c.from_residual-in_err-runs.ensures.1 ok))
+
+pub word_runs-returns-clause-taken : goal.word_runs-returns-clause-taken
+word_runs-returns-clause-taken g t c =
+    let here : c.take_list-pairs.new.self ≡ c.args.self.now = c.take_list-pairs.ensures in
+    let f : Start = start_of c.args.origin in
+    let b = c.flat_part.new.self.opened in
+    let u = c.flat_part.new.self.taken in
+    let first : CountsPairs c.args.self.now.game reach c.args.state.now.state f c.args.self.now.opened b c.args.self.now.taken u (IsOk c.flat_part.result) =
+    subst (λ (x : Searching). CountsPairs x.game reach c.args.state.now.state f x.opened b x.taken u (IsOk c.flat_part.result)) here c.flat_part.ensures.taken in
+    let first_whole = takes_as c.args.self.now.game reach c.args.state.now.state f c.args.self.now.opened b c.args.self.now.taken u (IsOk c.flat_part.result) (Unit {0}) first (λ _. is_answer c.flat_part.result c.in_ok-ends.ends c.in_ok-ends.was) in
+    let kept : c.flat_part.new.self ≡ (record c.args.self.now { opened = c.flat_part.new.self.opened; taken = c.flat_part.new.self.taken }) = kept_since c.args.self.now c.take_list-pairs.new.self c.flat_part.new.self here c.flat_part.ensures.kept in
+    let lawful : IsGame c.args.self.now.game = subst (λ (x : Searching). IsGame x.game) here c.in_ok-ends.ensures.lawful in
+    let reached : IsFlatPart c.args.self.now.game c.args.state.now.state f c.flat_part.new.pairs.items c.in_ok-ends.ends = subst (λ (x : Searching). IsFlatPart x.game c.args.state.now.state f c.flat_part.new.pairs.items c.in_ok-ends.ends) here c.in_ok-ends.ensures.reached in
+    let sorted = flat_permuted c.args.self.now.game c.args.state.now.state f c.flat_part.new.pairs.items c.sort.new.pairs.items c.in_ok-ends.ends c.sort.ensures.permutation reached in
+    let all : CountsPairs c.args.self.now.game pattern c.args.state.now.state f c.args.self.now.opened c.runs_behind.new.self.opened c.args.self.now.taken c.runs_behind.new.self.taken (IsOk c.runs_behind.result) =
+    behind_takes c.args.self.now c.flat_part.new.self c.args.state.now c.flat_part.new.state f c.sort.new.pairs.items c.deref.result.now c.in_ok-ends.ends c.runs_behind.new.self.opened c.runs_behind.new.self.taken (IsOk c.runs_behind.result) kept c.flat_part.ensures.given_back c.deref.ensures.value lawful c.requires.inside sorted c.if-ends.false first_whole c.runs_behind.ensures.taken in
+    subst (λ (x : Searching). CountsPairs c.args.self.now.game pattern c.args.state.now.state f c.args.self.now.opened x.opened c.args.self.now.taken x.taken _) (sym c.keep_list-2.ensures)
+    (takes_as c.args.self.now.game pattern c.args.state.now.state f c.args.self.now.opened c.runs_behind.new.self.opened c.args.self.now.taken c.runs_behind.new.self.taken (IsOk c.runs_behind.result) _ all
+    (λ _. is_answer c.runs_behind.result c.in_ok-runs.runs c.in_ok-runs.was))

@@ -13,6 +13,8 @@ use Rattle.rbg_search.specs.Passing.{CountsUpTo}
 use Rattle.rbg_search.specs.internal.Asked.{CountsAsked, GoesBehind}
 use Rattle.rbg_search.specs.internal.Taking.{AsksForced}
 use Rattle.rbg_search.specs.Forced.{TakesBehind}
+use Rattle.rbg_search.specs.Taken.{CountsPairs}
+use Rattle.rbg_search.specs.internal.Spent.{IsSpent}
 use Rattle.rbg_search.proofs.search.Search.+search.Given as goal
 
 abbrev pub decreases-flat_part : goal.decreases-flat_part
@@ -32,7 +34,7 @@ decreases-runs_behind_one g l = l.nested * 1000000 + l.modifiers * 10 + 3
 
 abbrev pub invariant-flat_part-loop-flat : goal.invariant-flat_part-loop-flat
 invariant-flat_part-loop-flat g l = record {
-  kept : l.self ≡ record l.fn.self { opened = l.self.opened };
+  kept : l.self ≡ record l.fn.self { opened = l.self.opened; taken = l.self.taken };
   given_back : l.state ≡ record l.fn.state { room = l.state.room };
   room : l.fn.state.room ≤ l.state.room;
   enough : 2 ≤ l.state.room;
@@ -42,6 +44,8 @@ invariant-flat_part-loop-flat g l = record {
   forced :
       (cut : Bool) →
       AsksForced l.fn.self.game cut l.fn.state.state (take l.flat.value.taken l.flat.value.queue.pairs) l.fn.self.opened l.self.opened l.fn.self.modifiers;
+  spent : IsSpent l.fn.self.game l.fn.self.opened l.fn.self.taken;
+  taken : CountsPairs l.fn.self.game reach l.fn.state.state (start_of l.fn.origin) (l.fn.self.opened + 1) l.self.opened l.fn.self.taken l.self.taken (Unit {0});
 }
 
 abbrev pub decreases-flat_part-loop-flat : goal.decreases-flat_part-loop-flat
@@ -49,7 +53,7 @@ decreases-flat_part-loop-flat g l = 2 ^ 64 - l.flat.value.taken
 
 abbrev pub invariant-runs_behind-loop-vertex : goal.invariant-runs_behind-loop-vertex
 invariant-runs_behind-loop-vertex g l = record {
-  kept : l.self ≡ record l.fn.self { opened = l.self.opened };
+  kept : l.self ≡ record l.fn.self { opened = l.self.opened; taken = l.self.taken };
   given_back : l.state ≡ record l.fn.state { room = l.state.room };
   room : l.fn.state.room ≤ l.state.room;
   none : All (λ q. ¬ RunsBehindPair l.fn.self.game l.fn.state.state q.0 q.1) (take l.vertex-index l.pairs);
@@ -63,4 +67,8 @@ invariant-runs_behind-loop-vertex g l = record {
       (cut : Bool) →
       IsNumbered l.fn.self.game.rules →
       TakesBehind l.fn.self.game cut pattern l.fn.state.state (take l.vertex-index l.pairs) l.fn.self.opened l.self.opened l.fn.modifiers l.fn.self.modifiers;
+  taken :
+      (f : Start) →
+      GoesBehind l.fn.self.game l.fn.state.state f l.pairs →
+      CountsPairs l.fn.self.game pattern l.fn.state.state f l.fn.self.opened l.self.opened l.fn.self.taken l.self.taken (Unit {0});
 }

@@ -1,16 +1,19 @@
-use Rattle.std.proofs.Common.{◌≡◌, ◌+◌, sym, ap, ◌∙◌}
+use Rattle.std.proofs.Common.{◌≡◌, ℕ, ◌+◌, ◌≤◌, sym, ◌∙◌, subst, arith}
+use Rattle.rbg_search.specs.Taken.{most_pairs_of}
+use Rattle.rbg_search.specs.internal.Spent.{IsSpentButOne}
+use Rattle.rbg_search.proofs.Fewness.{one_opened}
+use Rattle.rbg_search.proofs.Takings.{takes_nothing, takes_none_yet, takes_own, own_part, not_ok}
 use Rattle.std.specs.Prelude.{IsTrue, ◌↔◌}
 use Rattle.rbg_rules.specs.Positions.{inside}
 use Rattle.rbg_rules.specs.Words.{beginning}
 use Rattle.rbg_rules.specs.Actions.{Applies}
 use Rattle.rbg_rules.specs.Laws.{IsStart}
 use Rattle.rbg_rules.specs.Questions.{SomeWordRuns, pattern}
-use Rattle.rbg_search.specs.Searching.{Searching}
 use Rattle.rbg_search.specs.declared.over.Over.TheVariants.{Deep, Wide}
 use Rattle.rbg_search.proofs.Countings.{none_counted}
 use Rattle.rbg_search.proofs.Counted.{wide_not_deep, ok_not_err, counted_only, opened_one, refused_one}
 use Rattle.rbg_search.proofs.CountedSteps.{returned_is}
-use Rattle.rbg_search.proofs.Kept.{kept_same, kept_twice, onward_rules, rules_before}
+use Rattle.rbg_search.proofs.Kept.{kept_twice, onward_rules, rules_before}
 use Rattle.rbg_search.proofs.Patterns.{pattern_inside, inside_start}
 use Rattle.rbg_search.proofs.Walking.{pattern_pairs, walked_decides, walked_forced}
 use Rattle.rbg_search.proofs.search.Search.answer.Goals as goal
@@ -26,8 +29,8 @@ returns-in_err-open-clause-counts g c = λ s.
 
 pub returns-clause-valid : goal.returns-clause-valid
 returns-clause-valid g c = λ s walked.
-    let kept : c.count_pairs.new.self ≡ (record c.args.self.now { opened = c.count_pairs.new.self.opened }) =
-    kept_twice c.args.self.now c.open.new.self c.count_pairs.new.self c.open.ensures.kept (kept_same c.open.new.self c.count_pairs.new.self c.count_pairs.ensures.kept) in
+    let kept : c.count_pairs.new.self ≡ (record c.args.self.now { opened = c.count_pairs.new.self.opened; taken = c.count_pairs.new.self.taken }) =
+    kept_twice c.args.self.now c.open.new.self c.count_pairs.new.self c.open.ensures.kept c.count_pairs.ensures.kept in
     let decides : IsTrue c.args.walk.ends ↔ SomeWordRuns c.args.self.now.game s (beginning (inside c.args.position)) =
     walked_decides c.args.self.now.game c.open.ensures.lawful.numbered s (beginning (inside c.args.position)) c.args.walk.ends walked in
     rules_before (λ x. IsTrue c.is_valid.result ↔ Applies x c.args.position s s) c.args.self.now c.count_pairs.new.self kept
@@ -36,12 +39,36 @@ returns-clause-valid g c = λ s walked.
 pub returns-clause-counts : goal.returns-clause-counts
 returns-clause-counts g c = λ s.
     let start : IsStart c.args.self.now.game.rules (beginning (inside c.args.position)) = inside_start c.args.self.now.game.rules (beginning (inside c.args.position)) (pattern_inside c.args.self.now.game.rules c.args.position c.requires.there) in
-    let opened : c.count_pairs.new.self.opened ≡ c.args.self.now.opened + 1 = ap (λ (x : Searching). x.opened) c.count_pairs.ensures.kept ∙ c.in_ok-open.ensures.opened in
+    let opened : c.count_pairs.new.self.opened ≡ c.args.self.now.opened + 1 = c.count_pairs.ensures.opened ∙ c.in_ok-open.ensures.opened in
     counted_only c.args.self.now.game pattern s (beginning (inside c.args.position)) c.args.self.now.opened c.count_pairs.new.self.opened c.args.self.now.modifiers c.args.self.now.openings c.args.self.now.modifiers _ _
     (opened_one c.args.self.now.game c.open.ensures.lawful pattern pattern_pairs s (beginning (inside c.args.position)) start c.args.self.now.opened c.count_pairs.new.self.opened opened)
     (ok_not_err c.is_valid.result Deep) (ok_not_err c.is_valid.result Wide)
 
 pub returns-clause-forced : goal.returns-clause-forced
 returns-clause-forced g c = λ s cut walked.
-    let opened : c.count_pairs.new.self.opened ≡ c.args.self.now.opened + 1 = ap (λ (x : Searching). x.opened) c.count_pairs.ensures.kept ∙ c.in_ok-open.ensures.opened in
+    let opened : c.count_pairs.new.self.opened ≡ c.args.self.now.opened + 1 = c.count_pairs.ensures.opened ∙ c.in_ok-open.ensures.opened in
     walked_forced c.args.self.now.game c.open.ensures.lawful.numbered s (beginning (inside c.args.position)) cut c.args.walk.ends c.args.self.now.opened c.count_pairs.new.self.opened c.args.self.now.modifiers c.args.self.now.modifiers walked opened
+
+pub count_pairs-requires-clause-few : goal.count_pairs-requires-clause-few
+count_pairs-requires-clause-few g c = onward_rules (λ x. c.args.walk.pairs ≤ most_pairs_of x) c.args.self.now c.open.new.self c.open.ensures.kept c.requires.few
+
+pub count_pairs-requires-clause-one : goal.count_pairs-requires-clause-one
+count_pairs-requires-clause-one g c =
+    let now = c.args.self.now in
+    let opened = c.open.new.self.opened in
+    onward_rules (λ x. IsSpentButOne x opened c.open.new.self.taken) now c.open.new.self c.open.ensures.kept
+    (subst (λ (n : ℕ). IsSpentButOne now.game opened n) (sym c.open.ensures.none_taken) (one_opened now.game now.opened now.taken opened c.open.ensures.spent c.in_ok-open.ensures.opened))
+
+pub returns-in_err-open-clause-taken : goal.returns-in_err-open-clause-taken
+returns-in_err-open-clause-taken g c = λ s has.
+    takes_nothing c.args.self.now.game pattern s (beginning (inside c.args.position)) c.args.self.now.opened c.open.new.self.opened c.args.self.now.taken c.open.new.self.taken _ (omega (arith, c.in_err-open.ensures.unopened)) c.open.ensures.none_taken
+    (not_ok c.from_residual.result c.in_err-open.field-0.0 c.from_residual.ensures.1)
+
+pub returns-clause-taken : goal.returns-clause-taken
+returns-clause-taken g c = λ s has.
+    let now = c.args.self.now in
+    let f = beginning (inside c.args.position) in
+    let opened : c.count_pairs.new.self.opened ≡ now.opened + 1 = c.count_pairs.ensures.opened ∙ c.in_ok-open.ensures.opened in
+    takes_own now.game pattern s f now.opened c.count_pairs.new.self.opened now.taken c.open.new.self.taken c.count_pairs.new.self.taken c.args.walk.pairs _
+    (takes_none_yet now.game pattern s f (now.opened + 1) c.count_pairs.new.self.opened now.taken c.open.new.self.taken (Unit {0}) (sym opened) c.open.ensures.none_taken)
+    (own_part now.game pattern s f c.args.walk.pairs has c.requires.few) c.count_pairs.ensures.taken

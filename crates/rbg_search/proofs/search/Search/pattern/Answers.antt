@@ -1,5 +1,7 @@
-use Rattle.std.proofs.Common.{◌≡◌, ℕ, suc, ◌+◌, ap, ◌∙◌, subst, arith, refl}
-use Rattle.std.specs.Prelude.{IsTrue, ◌↔◌, Err}
+use Rattle.std.proofs.Common.{◌≡◌, ℕ, suc, ◌+◌, ◌<◌, ap, ◌∙◌, subst, arith, refl}
+use Rattle.std.specs.Prelude.{IsTrue, ◌↔◌, Err, IsOk}
+use Rattle.rbg_search.specs.Taken.{CountsPairs}
+use Rattle.rbg_search.proofs.Takings.{takes_nothing, takes_as, not_ok, is_answer}
 use Rattle.rbg_rules.specs.Positions.{inside}
 use Rattle.rbg_rules.specs.Words.{beginning}
 use Rattle.rbg_rules.specs.State.{AbstractGame, AbstractState}
@@ -103,4 +105,29 @@ returns-clause-not_deep g c = λ cut.
     let here : at_vertex c.reserve.new.self.state c.vertex-vertex.result ≡ c.args.state.now.state =
     ap (λ (v : ℕ). at_vertex c.reserve.new.self.state v) c.vertex-vertex.ensures ∙ ap (λ (h : History). h.state) c.reserve.ensures.kept in
     none_deep c.args.self.now.game cut pattern c.args.state.now.state (beginning (inside c.args.position)) c.args.self.now.opened c.ask.new.self.opened c.args.self.now.modifiers c.args.self.now.modifiers
-    (subst (λ (s : AbstractState). CountsForced c.args.self.now.game cut pattern s (beginning (inside c.args.position)) c.args.self.now.opened c.ask.new.self.opened c.args.self.now.modifiers c.args.self.now.modifiers) here (c.in_ok-valid.ensures.forced cut)) (omega arith)
+    (subst (λ (s : AbstractState). CountsForced c.args.self.now.game cut pattern s (beginning (inside c.args.position)) c.args.self.now.opened c.ask.new.self.opened c.args.self.now.modifiers c.args.self.now.modifiers) here (c.in_ok-valid.ensures.forced cut)) (omega arith) (subst (λ (m : ℕ). 0 < m) (ap (λ (x : Searching). x.modifiers) c.self.view_is) c.self.invariant.3)
+
+pub returns-in_err-reserve-clause-taken : goal.returns-in_err-reserve-clause-taken
+returns-in_err-reserve-clause-taken g c =
+    takes_nothing c.args.self.now.game pattern c.args.state.now.state (beginning (inside c.args.position)) c.args.self.now.opened c.args.self.now.opened c.args.self.now.taken c.args.self.now.taken _ (omega arith) refl
+    (not_ok c.from_residual.result Memory c.from_residual.ensures.1)
+
+pub returns-in_err-valid-clause-taken : goal.returns-in_err-valid-clause-taken
+returns-in_err-valid-clause-taken g c =
+    let here : at_vertex c.reserve.new.self.state c.vertex-vertex.result ≡ c.args.state.now.state =
+    ap (λ (v : ℕ). at_vertex c.reserve.new.self.state v) c.vertex-vertex.ensures ∙ ap (λ (h : History). h.state) c.reserve.ensures.kept in
+    let now = c.args.self.now in
+    let later = c.ask.new.self in
+    takes_as now.game pattern c.args.state.now.state (beginning (inside c.args.position)) now.opened later.opened now.taken later.taken (IsOk c.ask.result) _
+    (subst (λ (s : AbstractState). CountsPairs now.game pattern s (beginning (inside c.args.position)) now.opened later.opened now.taken later.taken (IsOk c.ask.result)) here c.ask.ensures.taken)
+    (λ ok. absurd (not_ok c.from_residual-in_err-valid.result c.in_err-valid.field-0.0 c.from_residual-in_err-valid.ensures.1 ok))
+
+pub returns-clause-taken : goal.returns-clause-taken
+returns-clause-taken g c =
+    let here : at_vertex c.reserve.new.self.state c.vertex-vertex.result ≡ c.args.state.now.state =
+    ap (λ (v : ℕ). at_vertex c.reserve.new.self.state v) c.vertex-vertex.ensures ∙ ap (λ (h : History). h.state) c.reserve.ensures.kept in
+    let now = c.args.self.now in
+    let later = c.ask.new.self in
+    takes_as now.game pattern c.args.state.now.state (beginning (inside c.args.position)) now.opened later.opened now.taken later.taken (IsOk c.ask.result) _
+    (subst (λ (s : AbstractState). CountsPairs now.game pattern s (beginning (inside c.args.position)) now.opened later.opened now.taken later.taken (IsOk c.ask.result)) here c.ask.ensures.taken)
+    (λ _. is_answer c.ask.result c.in_ok-valid.valid c.in_ok-valid.was)

@@ -1,9 +1,11 @@
 use Rattle.std.proofs.Common.{subst}
-use Rattle.std.specs.Prelude.{All, length, ◌<◌}
-use Rattle.rbg_rules.specs.Questions.{reach, IsDeep}
+use Rattle.std.specs.Prelude.{All, IsOk, length, ◌<◌}
+use Rattle.rbg_rules.specs.Questions.{reach, IsDeep, IsForcedDeep}
 use Rattle.rbg_search.specs.Counting.{IsOverBudget}
 use Rattle.rbg_search.specs.Flat.{IsFlatPart}
-use Rattle.rbg_search.specs.Forced.{CountsAllForced, IsNotForcedDeep}
+use Rattle.rbg_search.specs.Forced.{CountsAllForced}
+use Rattle.rbg_search.specs.Taken.{CountsPairs}
+use Rattle.rbg_search.proofs.Takings.{takes_as, not_ok, is_answer}
 use Rattle.rbg_search.specs.Searching.{Searching}
 use Rattle.rbg_search.specs.Start.{start_of, IsPositionOf}
 use Rattle.rbg_search.proofs.Orders.{flat_permuted, within_permuted}
@@ -48,4 +50,22 @@ returns-clause-all_forced g c = λ cut.
 
 pub returns-clause-not_deep : goal.returns-clause-not_deep
 returns-clause-not_deep g c = λ cut.
-    subst (λ (x : Searching). IsNotForcedDeep x.game cut reach c.args.state.now.state (start_of c.args.origin) x.modifiers) c.take_list-pairs.ensures (c.in_ok-ends.ensures.not_deep cut)
+    subst (λ (x : Searching). ¬ IsForcedDeep x.game cut reach c.args.state.now.state (start_of c.args.origin) x.modifiers) c.take_list-pairs.ensures (c.in_ok-ends.ensures.not_deep cut)
+
+pub returns-in_err-ends-clause-taken : goal.returns-in_err-ends-clause-taken
+returns-in_err-ends-clause-taken g c =
+    let f = start_of c.args.origin in
+    let s = c.args.state.now.state in
+    let later = c.reach_into.new.self in
+    takes_as c.args.self.now.game reach s f c.args.self.now.opened later.opened c.args.self.now.taken later.taken (IsOk c.reach_into.result) _
+    (subst (λ (x : Searching). CountsPairs x.game reach s f x.opened later.opened x.taken later.taken (IsOk c.reach_into.result)) c.take_list-pairs.ensures c.reach_into.ensures.taken)
+    (λ ok. absurd (not_ok c.from_residual.result c.in_err-ends.field-0.0 c.from_residual.ensures.1 ok))
+
+pub returns-clause-taken : goal.returns-clause-taken
+returns-clause-taken g c =
+    let f = start_of c.args.origin in
+    let s = c.args.state.now.state in
+    let later = c.reach_into.new.self in
+    takes_as c.args.self.now.game reach s f c.args.self.now.opened later.opened c.args.self.now.taken later.taken (IsOk c.reach_into.result) _
+    (subst (λ (x : Searching). CountsPairs x.game reach s f x.opened later.opened x.taken later.taken (IsOk c.reach_into.result)) c.take_list-pairs.ensures c.reach_into.ensures.taken)
+    (λ _. is_answer c.reach_into.result c.in_ok-ends.ends c.in_ok-ends.was)

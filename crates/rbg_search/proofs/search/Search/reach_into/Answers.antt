@@ -1,5 +1,6 @@
-use Rattle.std.proofs.Common.{◌≡◌, Bool, ap, subst, arith}
-use Rattle.std.specs.Prelude.{Result, Ok, Err, OnOk}
+use Rattle.std.proofs.Common.{◌≡◌, ℕ, ◌<◌, Bool, ap, subst, arith}
+use Rattle.rbg_search.proofs.Takings.{takes_as, not_ok, is_answer}
+use Rattle.std.specs.Prelude.{Result, Ok, Err, OnOk, IsOk}
 use Rattle.rbg_search.specs.declared.over.Over.{Over}
 use Rattle.rbg_rules.specs.State.{AbstractGame}
 use Rattle.rbg_search.specs.Searching.{Searching}
@@ -47,7 +48,7 @@ returns-clause-all_forced g c = λ cut.
 pub returns-clause-not_deep : goal.returns-clause-not_deep
 returns-clause-not_deep g c = λ cut.
     none_deep c.args.self.now.game cut reach c.args.state.now.state (start_of c.args.origin) c.args.self.now.opened c.flat_part.new.self.opened c.args.self.now.modifiers c.args.self.now.modifiers
-    (c.in_ok-ends.ensures.forced cut c.args.self.now.modifiers) (omega arith)
+    (c.in_ok-ends.ensures.forced cut c.args.self.now.modifiers) (omega arith) (subst (λ (m : ℕ). 0 < m) (ap (λ (x : Searching). x.modifiers) c.self.view_is) c.self.invariant.3)
 
 pub returns-clause-within : goal.returns-clause-within
 returns-clause-within g c =
@@ -70,5 +71,15 @@ returns-in-Some-clause-all_forced g c =
 pub returns-in-Some-clause-not_deep : goal.returns-in-Some-clause-not_deep
 returns-in-Some-clause-not_deep g c =
     on_ok c.reach_only.result _ _
-    (λ forced cut. none_deep c.args.self.now.game cut reach c.args.state.now.state (start_of c.args.origin) c.args.self.now.opened c.reach_only.new.self.opened c.args.self.now.modifiers c.args.self.now.modifiers (forced cut c.args.self.now.modifiers) (omega arith))
+    (λ forced cut. none_deep c.args.self.now.game cut reach c.args.state.now.state (start_of c.args.origin) c.args.self.now.opened c.reach_only.new.self.opened c.args.self.now.modifiers c.args.self.now.modifiers (forced cut c.args.self.now.modifiers) (omega arith) (subst (λ (m : ℕ). 0 < m) (ap (λ (x : Searching). x.modifiers) c.self.view_is) c.self.invariant.3))
     c.reach_only.ensures.forced
+
+pub returns-in_err-ends-clause-taken : goal.returns-in_err-ends-clause-taken
+returns-in_err-ends-clause-taken g c =
+    takes_as c.args.self.now.game reach c.args.state.now.state (start_of c.args.origin) c.args.self.now.opened c.flat_part.new.self.opened c.args.self.now.taken c.flat_part.new.self.taken (IsOk c.flat_part.result) _ c.flat_part.ensures.taken
+    (λ ok. absurd (not_ok c.from_residual.result c.in_err-ends.field-0.0 c.from_residual.ensures.1 ok))
+
+pub returns-clause-taken : goal.returns-clause-taken
+returns-clause-taken g c =
+    takes_as c.args.self.now.game reach c.args.state.now.state (start_of c.args.origin) c.args.self.now.opened c.flat_part.new.self.opened c.args.self.now.taken c.flat_part.new.self.taken (IsOk c.flat_part.result) _ c.flat_part.ensures.taken
+    (λ _. is_answer c.flat_part.result c.in_ok-ends.ends c.in_ok-ends.was)

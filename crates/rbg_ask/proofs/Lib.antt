@@ -1,0 +1,6 @@
+-- What the proofs of this crate share.
+mod Reading
+mod Answering
+mod Naming
+mod Places
+mod Faults

@@ -1,0 +1,17 @@
+-- A single word, or a word with a number or with pairs.
+use Rattle.rbg_ask.proofs.Reading.{no_question, spells_moves, spells_back, spells_make}
+use Rattle.rbg_ask.proofs.question_reader.read_question.Goals as goal
+
+pub returns-in-Some-count_behind-clause-found : goal.returns-in-Some-count_behind-clause-found
+returns-in-Some-count_behind-clause-found c = spells_moves _ _ c.in-Some-count_behind.ensures.found.0 c.in-Some-count_behind.ensures.found.1
+
+pub returns-in-Some-count_behind-2-clause-found : goal.returns-in-Some-count_behind-2-clause-found
+returns-in-Some-count_behind-2-clause-found c = spells_back _ _ c.in-Some-count_behind-2.ensures.found.0 c.in-Some-count_behind-2.ensures.found.1
+
+pub returns-clause-found : goal.returns-clause-found
+returns-clause-found c = let pairs = c.in_ok-pairs.ensures.found in spells_make _ _ pairs.0 pairs.1 pairs.2
+
+pub returns-in_err-pairs-clause-none : goal.returns-in_err-pairs-clause-none
+returns-in_err-pairs-clause-none c =
+    rw c.from_residual.ensures
+    (no_question _ c.in_default.ensures.none c.in_default-count_behind.ensures.none c.in_default-count_behind-2.ensures.none c.in_err-pairs.ensures.none)

@@ -1,0 +1,12 @@
+-- The places are cut behind the one at the index.
+use Rattle.std.proofs.Common.{sym, ◌∙◌}
+use Rattle.rbg_ask.proofs.Places.{reached_before, cut_behind, goes_back_to}
+use Rattle.rbg_ask.proofs.session.Session.return_to.Goals as goal
+
+pub invariant_of-self : goal.invariant_of-self
+invariant_of-self c = reached_before _ _ _ c.self.invariant _ _ _ (cut_behind _ _ _ c.args.index (sym c.truncate.ensures.items ∙ c.in-Some.ensures.items))
+
+pub returns-in-Some : goal.returns-in-Some
+returns-in-Some c =
+    rw (← c.self.view_is)
+    (goes_back_to _ _ _ _ (rw (← c.self.view_is) at c.requires) (cut_behind _ _ _ c.args.index (sym c.truncate.ensures.items ∙ c.in-Some.ensures.items)))

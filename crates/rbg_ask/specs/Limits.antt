@@ -1,0 +1,14 @@
+-- The limits of questions.
+use Rattle.std.specs.Prelude.{ℕ, ◌<◌, ◌≤◌}
+
+-- the greatest number of moves in a question
+abbrev pub most_counted : ℕ
+most_counted = 1000000
+
+-- a number of moves in a question: 1 to 1,000,000
+abbrev pub IsCount : ℕ → Type 0
+IsCount n = (0 < n) × (n ≤ most_counted)
+
+-- the most bytes of a line that is read as a question. The longest question has fewer.
+abbrev pub longest_line : ℕ
+longest_line = 4096

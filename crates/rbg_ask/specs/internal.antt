@@ -1,0 +1,5 @@
+-- Definitions that only this crate's own proofs and private contracts use.
+pub mod Codes
+pub mod Places
+pub mod Reading
+pub mod Refusing

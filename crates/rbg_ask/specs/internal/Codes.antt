@@ -1,0 +1,15 @@
+-- Sessions as pairs, one to one. Proofs tell sessions apart by them.
+use Rattle.std.specs.Prelude.{List, refl}
+use Rattle.std.specs.Coded.{Coded, coded_list, coded×, code_by}
+use Rattle.rbg_rules.specs.State.{AbstractGame}
+use Rattle.rbg_rules.specs.Moves.{AbstractPlace}
+use Rattle.rbg_rules.specs.Codes.{coded_game}
+use Rattle.rbg_rules.specs.PlaceCodes.{coded_place}
+use Rattle.rbg_ask.specs.Sessions.{AbstractSession}
+
+abbrev pub coded_session : Coded AbstractSession
+coded_session = code_by (AbstractGame × (List AbstractPlace × AbstractPlace))
+    (coded× coded_game (coded× (coded_list coded_place) coded_place))
+    (λ s. (s.game, (s.before, s.place)))
+    (λ p. record { game = p.0; before = p.1.0; place = p.1.1 })
+    (λ _. refl)

@@ -1,0 +1,175 @@
+//! The calls that write an answer or a refusal at the end of a list of bytes: the whole of it, or nothing.
+ghost use Rattle.std.specs.Prelude.{◌++◌, codes, decimal, length};
+ghost use Rattle.std.specs.List.{flat_map};
+ghost use Rattle.rbg_wire.specs.Lines.{line_of};
+ghost use Rattle.rbg_wire.specs.Messages.{pairs_text};
+ghost use Rattle.rbg_wire.specs.Writing.{Appends, AppendsAll};
+ghost use Rattle.rbg_ask.specs.Answers.{Answer, moves as moves_answer, values as values_answer, board as board_answer, answer_text, cut_text, numbers_text, refusal_text, standing_answer};
+
+use crate::refusal::Refusal;
+use crate::standing::Standing;
+use rbg_base::{Memory, Move, Piece};
+use rbg_wire::{all_or_nothing, write_number, write_pairs};
+
+/// Appends the lines of legal moves. On an error the bytes are unchanged.
+pub fn write_moves(moves: &[Move], cut: bool, out: &mut Vec<u8>) -> Result<(), Memory>
+    ensures { AppendsAll out.old.items out.new.items
+        (answer_text (moves_answer moves.now cut)) result }
+{
+    let len = out.len();
+    let written = put_moves(moves, cut, out);
+    all_or_nothing(written, len, out)
+}
+
+/// Appends the line of how play stands. On an error the bytes are unchanged.
+pub fn write_standing(standing: &Standing, out: &mut Vec<u8>) -> Result<(), Memory>
+    ensures { AppendsAll out.old.items out.new.items (answer_text (standing_answer standing.now)) result }
+{
+    let len = out.len();
+    let written = put_standing(standing, out);
+    all_or_nothing(written, len, out)
+}
+
+/// Appends the line of what the variables hold. On an error the bytes are unchanged.
+pub fn write_values(values: &[u32], out: &mut Vec<u8>) -> Result<(), Memory>
+    ensures { AppendsAll out.old.items out.new.items
+        (answer_text (values_answer values.now)) result }
+{
+    let len = out.len();
+    let written = put_values(values, out);
+    all_or_nothing(written, len, out)
+}
+
+/// Appends the line of the pieces on the vertices. On an error the bytes are unchanged.
+pub fn write_board(pieces: &[Piece], out: &mut Vec<u8>) -> Result<(), Memory>
+    ensures { AppendsAll out.old.items out.new.items
+        (answer_text (board_answer pieces.now)) result }
+{
+    let len = out.len();
+    let written = put_board(pieces, out);
+    all_or_nothing(written, len, out)
+}
+
+/// Appends the line of a refusal. On an error the bytes are unchanged.
+#[tactic(auto, unfolding(crate::specs::Answers::refusal_text))]
+pub fn write_refusal(refusal: Refusal, out: &mut Vec<u8>) -> Result<(), Memory>
+    ensures { AppendsAll out.old.items out.new.items (refusal_text refusal) result }
+{
+    match refusal {
+        Refusal::Long => out.extend_from_slice(b"error long\n"),
+        Refusal::Form => out.extend_from_slice(b"error form\n"),
+        Refusal::Illegal => out.extend_from_slice(b"error illegal\n"),
+        Refusal::Start => out.extend_from_slice(b"error start\n"),
+        Refusal::Over => out.extend_from_slice(b"error over\n"),
+        Refusal::Keeper => out.extend_from_slice(b"error keeper\n"),
+        Refusal::Memory => out.extend_from_slice(b"error memory\n"),
+    }
+}
+
+#[tactic(auto, unfolding(crate::specs::Answers::answer_text))]
+fn put_moves(moves: &[Move], cut: bool, out: &mut Vec<u8>) -> Result<(), Memory>
+    ensures { Appends out.old.items out.new.items (answer_text (moves_answer moves.now cut)) result }
+{
+    put_number(b"moves ", moves.len() as u64, out)?;
+    put_cut(cut, out)?;
+    put_move_lines(moves, out)
+}
+
+/// Ends the first line of legal moves.
+fn put_cut(cut: bool, out: &mut Vec<u8>) -> Result<(), Memory>
+    ensures { Appends out.old.items out.new.items (line_of (cut_text cut)) result }
+{
+    if cut {
+        out.extend_from_slice(b" cut\n")
+    } else {
+        out.extend_from_slice(b"\n")
+    }
+}
+
+fn put_move_lines(moves: &[Move], out: &mut Vec<u8>) -> Result<(), Memory>
+    ensures { Appends out.old.items out.new.items (flat_map (λ pairs.
+        line_of (pairs_text pairs)) moves.now) result }
+{
+    for pairs in moves {
+        put_move_line(pairs, out)?;
+    }
+    Ok(())
+}
+
+fn put_move_line(pairs: &Move, out: &mut Vec<u8>) -> Result<(), Memory>
+    ensures { Appends out.old.items out.new.items (line_of (pairs_text pairs.now)) result }
+{
+    write_pairs(pairs.as_slice(), out)?;
+    out.extend_from_slice(b"\n")
+}
+
+#[tactic(auto, unfolding(crate::specs::Answers::answer_text))]
+fn put_standing(standing: &Standing, out: &mut Vec<u8>) -> Result<(), Memory>
+    ensures { Appends out.old.items out.new.items
+        (answer_text (standing_answer standing.now)) result }
+{
+    match standing {
+        Standing::ToMove { player } => {
+            put_number(b"player ", u64::from(*player), out)?;
+            out.extend_from_slice(b"\n")
+        }
+        Standing::Finished { scores } => {
+            out.extend_from_slice(b"finished")?;
+            put_scores(scores.as_slice(), out)?;
+            out.extend_from_slice(b"\n")
+        }
+    }
+}
+
+fn put_scores(scores: &[u64], out: &mut Vec<u8>) -> Result<(), Memory>
+    ensures { Appends out.old.items out.new.items (numbers_text scores.now) result }
+{
+    for score in scores {
+        put_number(b" ", *score, out)?;
+    }
+    Ok(())
+}
+
+#[tactic(auto, unfolding(crate::specs::Answers::answer_text))]
+fn put_values(values: &[u32], out: &mut Vec<u8>) -> Result<(), Memory>
+    ensures { Appends out.old.items out.new.items (answer_text (values_answer values.now)) result }
+{
+    out.extend_from_slice(b"values")?;
+    put_value_numbers(values, out)?;
+    out.extend_from_slice(b"\n")
+}
+
+fn put_value_numbers(values: &[u32], out: &mut Vec<u8>) -> Result<(), Memory>
+    ensures { Appends out.old.items out.new.items (numbers_text values.now) result }
+{
+    for value in values {
+        put_number(b" ", u64::from(*value), out)?;
+    }
+    Ok(())
+}
+
+#[tactic(auto, unfolding(crate::specs::Answers::answer_text))]
+fn put_board(pieces: &[Piece], out: &mut Vec<u8>) -> Result<(), Memory>
+    ensures { Appends out.old.items out.new.items (answer_text (board_answer pieces.now)) result }
+{
+    out.extend_from_slice(b"board")?;
+    put_pieces(pieces, out)?;
+    out.extend_from_slice(b"\n")
+}
+
+fn put_pieces(pieces: &[Piece], out: &mut Vec<u8>) -> Result<(), Memory>
+    ensures { Appends out.old.items out.new.items (numbers_text pieces.now) result }
+{
+    for piece in pieces {
+        put_number(b" ", u64::from(*piece), out)?;
+    }
+    Ok(())
+}
+
+/// Appends a head, and then the digits of a number.
+fn put_number(head: &[u8], number: u64, out: &mut Vec<u8>) -> Result<(), Memory>
+    ensures { Appends out.old.items out.new.items (head.now ++ decimal number) result }
+{
+    out.extend_from_slice(head)?;
+    write_number(number, out)
+}

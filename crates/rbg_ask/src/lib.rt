@@ -1,0 +1,21 @@
+//! Questions about a game, asked by a program: a session holds the places that play has reached, and answers one
+//! question after the other.
+#![tactic(auto)]
+
+mod answer_writer;
+mod names_writer;
+mod question;
+mod question_reader;
+mod refusal;
+mod session;
+mod standing;
+mod stepping;
+
+pub use answer_writer::{write_board, write_moves, write_refusal, write_standing, write_values};
+pub use names_writer::write_names;
+pub use question::{MAX_COUNT, Question};
+pub use question_reader::read_question;
+pub use rbg_moves::Unsettled;
+pub use refusal::Refusal;
+pub use session::{MAX_LINE, Session};
+pub use standing::Standing;

@@ -1,0 +1,27 @@
+//! What a session can be asked.
+
+use rbg_base::Move;
+
+/// The greatest number of moves in a question.
+pub const MAX_COUNT: u64 = 1_000_000;
+
+/// A question, or an order, to a session.
+#[derive(Clone, Debug, Drop, PartialEq, Eq)]
+pub enum Question {
+    /// `moves` or `moves <max>`: the legal moves, or at most so many of them.
+    Moves { max: Option<u64> },
+    /// `make <pairs>`: makes the move of these pairs, and the keeper's moves behind it.
+    Make { pairs: Move },
+    /// `back` or `back <moves>`: undoes the last move, or the last so many, with the keeper's moves behind each.
+    Back { moves: Option<u64> },
+    /// `place`: who is to move, or that play is finished.
+    Place,
+    /// `values`: what the variables hold.
+    Values,
+    /// `board`: the pieces on the vertices.
+    Board,
+    /// `names`: the names of the players, of the pieces and of the variables.
+    Names,
+    /// `quit`: ends the session.
+    Quit,
+}

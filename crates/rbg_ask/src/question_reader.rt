@@ -1,0 +1,100 @@
+//! The calls that read a question. They allocate nothing.
+ghost use Rattle.std.specs.Prelude.{◌≡◌, ◌≤◌, ◌↔◌, ◌++◌, ℕ, List, IfSome, IfNone, IsTrue, length, decimal};
+ghost use Rattle.rbg_base.specs.Move.{most_pairs};
+ghost use Rattle.rbg_wire.specs.Messages.{ArePairs, pairs_text};
+ghost use Rattle.rbg_ask.specs.declared.question.Question.{Question as AnyQuestion};
+ghost use Rattle.rbg_ask.specs.Limits.{IsCount};
+ghost use Rattle.rbg_ask.specs.Questions.{SpellsQuestion};
+ghost use Rattle.rbg_ask.specs.internal.Reading.{IsPlain};
+
+use crate::question::{MAX_COUNT, Question};
+use rbg_base::{Move, number_of_decimal};
+use rbg_wire::{after_text, read_pairs};
+
+/// The question of which the whole text is the spelling.
+///
+/// Returns None if it is that of no question, as where a number is above 1,000,000.
+pub fn read_question(line: &[u8]) -> Option<Question>
+    ensures found { IfSome result (SpellsQuestion line.now) }
+    ensures none { IfNone result ((question : AnyQuestion)
+        → SpellsQuestion line.now question
+        → ⊥) }
+{
+    if let Some(question) = plain_question(line) {
+        return Some(question);
+    }
+    if let Some(max) = count_behind(b"moves ", line) {
+        return Some(Question::Moves { max: Some(max) });
+    }
+    if let Some(moves) = count_behind(b"back ", line) {
+        return Some(Question::Back { moves: Some(moves) });
+    }
+    let pairs = pairs_behind(b"make ", line)?;
+    Some(Question::Make { pairs })
+}
+
+/// The question that is a single word.
+fn plain_question(line: &[u8]) -> Option<Question>
+    ensures found { IfSome result (SpellsQuestion line.now) }
+    ensures none { IfNone result ((question : AnyQuestion)
+        → IsPlain question
+        → SpellsQuestion line.now question
+        → ⊥) }
+{
+    if line == b"moves".as_slice() {
+        Some(Question::Moves { max: None })
+    } else if line == b"back".as_slice() {
+        Some(Question::Back { moves: None })
+    } else if line == b"place".as_slice() {
+        Some(Question::Place)
+    } else if line == b"values".as_slice() {
+        Some(Question::Values)
+    } else if line == b"board".as_slice() {
+        Some(Question::Board)
+    } else if line == b"names".as_slice() {
+        Some(Question::Names)
+    } else if line == b"quit".as_slice() {
+        Some(Question::Quit)
+    } else {
+        None
+    }
+}
+
+/// The number of moves behind a word.
+fn count_behind(word: &[u8], line: &[u8]) -> Option<u64>
+    ensures found { IfSome result (λ count.
+        IsCount count × (line.now ≡ word.now ++ decimal count)) }
+    ensures none { IfNone result ((count : ℕ)
+        → IsCount count
+        → line.now ≡ word.now ++ decimal count
+        → ⊥) }
+{
+    let digits = after_text(word, line)?;
+    let count = number_of_decimal(digits)?;
+    if !is_count(count) {
+        return None;
+    }
+    Some(count)
+}
+
+/// Whether a number of moves is within the limits of a question.
+fn is_count(number: u64) -> bool
+    ensures { IsTrue result ↔ IsCount number }
+{
+    1 <= number && number <= MAX_COUNT
+}
+
+/// The pairs behind a word.
+fn pairs_behind(word: &[u8], line: &[u8]) -> Option<Move>
+    ensures found { IfSome result (λ pairs. ArePairs pairs
+        × (length pairs ≤ most_pairs)
+        × (line.now ≡ word.now ++ pairs_text pairs)) }
+    ensures none { IfNone result ((pairs : List (ℕ × ℕ))
+        → ArePairs pairs
+        → length pairs ≤ most_pairs
+        → line.now ≡ word.now ++ pairs_text pairs
+        → ⊥) }
+{
+    let text = after_text(word, line)?;
+    read_pairs(text).ok()
+}

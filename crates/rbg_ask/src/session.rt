@@ -1,0 +1,313 @@
+//! A session: the places that play has reached, and what is answered there.
+ghost use Rattle.std.specs.Prelude.{◌≡◌, ◌↔◌, ◌+◌, ◌-◌, ◌<◌, ◌^◌, ◌∷◌, ◌++◌, [], length, Err, IfErr, IfNone, IfOk, IfSome, IsTrue, OnErr, OnOk, All, ℕ, Option, Some, None};
+ghost use Rattle.rbg_moves.specs.declared.unsettled.Unsettled.TheVariants.{Heavy, Endless};
+ghost use Rattle.rbg_moves.specs.Settling.{IsEndless, MeetsHeavy, Settles};
+ghost use Rattle.rbg_ask.specs.declared.question.Question.TheVariants as questions;
+ghost use Rattle.rbg_ask.specs.Answering.{AnswersIn, GoesBack, Hears, IsLineRefused, IsRefused, StandsAt, moved_to, undone};
+ghost use Rattle.rbg_ask.specs.Answers.{standing_answer, to_move};
+ghost use Rattle.rbg_ask.specs.Limits.{longest_line};
+ghost use Rattle.rbg_ask.specs.Questions.{QuestionHasSpelling};
+ghost use Rattle.rbg_ask.specs.Sessions.{AbstractSession, HasLedTo, beginning_of};
+
+use crate::answer_writer::{write_board, write_moves, write_refusal, write_standing, write_values};
+use crate::names_writer::write_names;
+use crate::question::Question;
+use crate::question_reader::read_question;
+use crate::refusal::Refusal;
+use crate::standing::Standing;
+use crate::stepping::{lead, pieces_at, standing_at, values_at};
+use rbg_base::{Memory, Move, Player};
+use rbg_moves::{Place, PlayedGame, Unsettled, Workspace};
+use rbg_rules::Game;
+use std::alloc::Global;
+use std::marker::Model;
+use std::mem::replace;
+
+/// The most bytes of a line that is read as a question.
+pub const MAX_LINE: usize = 4096;
+
+/// The places that play has reached, from the start on. Contracts see the game, the last place and those before it.
+#[derive(Debug, Drop)]
+pub struct Session {
+    alloc: Global,
+    game: PlayedGame,
+    before: Vec<Place>,
+    place: Place,
+    workspace: Workspace,
+}
+
+impl Model for Session {
+    ghost use Rattle.rbg_ask.specs.Sessions.{AbstractSession};
+
+    ghost Value = { AbstractSession };
+
+    ghost use Rattle.rbg_ask.specs.internal.Codes.{coded_session};
+
+    ghost coded = { coded_session };
+
+    ghost view = { λ s. record { game = s.game; before = s.before.items; place = s.place } };
+
+    ghost use Rattle.rbg_ask.specs.internal.Places.{AreReached};
+
+    ghost invariant = { λ s. AreReached s.game s.before.items s.place };
+}
+
+impl Session {
+    /// A session at the place to which the keeper's first moves lead.
+    pub fn new(alloc: Global, game: Game) -> Result<Session, Unsettled>
+        ensures game { IfOk result (λ session. session.game ≡ game) }
+        ensures before { IfOk result (λ session. session.before ≡ []) }
+        ensures place { IfOk result (λ session.
+            Settles game (beginning_of game) session.place) }
+        ensures heavy { result ≡ Err Heavy → MeetsHeavy game (beginning_of game) }
+        ensures endless { result ≡ Err Endless → IsEndless game (beginning_of game) }
+    {
+        let game = PlayedGame::new(alloc, game)?;
+        let mut workspace = Workspace::new(alloc);
+        let mut place = game.start()?;
+        game.settle(&mut place, &mut workspace)?;
+        Ok(Session {
+            alloc,
+            game,
+            before: Vec::new(alloc),
+            place,
+            workspace,
+        })
+    }
+
+    /// How many moves of players can be undone.
+    pub fn moves_made(&self) -> usize
+        ensures count { result ≡ length self.now.before }
+        ensures led { HasLedTo self.now.game self.now.before self.now.place }
+    {
+        self.before.len()
+    }
+
+    /// Hears a line, without its line feed, and appends the lines of the answer or of the refusal to `out`. Where there
+    /// is no memory even for a refusal, nothing has changed.
+    pub fn hear(&mut self, line: &[u8], out: &mut Vec<u8>) -> Result<(), Memory>
+        ensures hears { OnOk result (Hears self.old line.now self.new out.old.items
+            out.new.items) }
+        ensures kept { OnErr result (self.new ≡ self.old) }
+        ensures out { OnErr result (out.new.items ≡ out.old.items) }
+    {
+        match self.hear_question(line, out) {
+            Ok(()) => Ok(()),
+            Err(refusal) => write_refusal(refusal, out),
+        }
+    }
+
+    /// Answers the question of a line.
+    fn hear_question(&mut self, line: &[u8], out: &mut Vec<u8>) -> Result<(), Refusal>
+        ensures hears { OnOk result (Hears self.old line.now self.new out.old.items
+            out.new.items) }
+        ensures refused { IfErr result (IsLineRefused self.old line.now) }
+        ensures kept { OnErr result (self.new ≡ self.old) }
+        ensures out { OnErr result (out.new.items ≡ out.old.items) }
+    {
+        if is_too_long(line) {
+            return Err(Refusal::Long);
+        }
+        match read_question(line) {
+            Some(question) => self.answer(&question, out),
+            None => Err(Refusal::Form),
+        }
+    }
+
+    /// Answers a question: appends the lines of the answer to `out`. Where the question is refused, nothing has changed.
+    pub fn answer(&mut self, question: &Question, out: &mut Vec<u8>) -> Result<(), Refusal>
+        requires { QuestionHasSpelling question.now }
+        ensures answers { OnOk result (AnswersIn self.old question.now self.new out.old.items
+            out.new.items) }
+        ensures refused { IfErr result (IsRefused self.old question.now) }
+        ensures kept { OnErr result (self.new ≡ self.old) }
+        ensures out { OnErr result (out.new.items ≡ out.old.items) }
+    {
+        match question {
+            Question::Moves { max } => self.list_moves(*max, out),
+            Question::Make { pairs } => self.make(pairs, out),
+            Question::Back { moves } => self.go_back(*moves, out),
+            Question::Place => self.tell_place(out),
+            Question::Values => self.tell_values(out),
+            Question::Board => self.tell_board(out),
+            Question::Names => self.tell_names(out),
+            Question::Quit => Ok(()),
+        }
+    }
+
+    fn list_moves(&self, max: Option<u64>, out: &mut Vec<u8>) -> Result<(), Refusal>
+        requires { QuestionHasSpelling (questions.Moves max) }
+        ensures answers { OnOk result (AnswersIn self.now (questions.Moves max) self.now
+            out.old.items out.new.items) }
+        ensures refused { IfErr result (IsRefused self.now (questions.Moves max)) }
+        ensures out { OnErr result (out.new.items ≡ out.old.items) }
+    {
+        match max {
+            Some(max) => self.list_some(max as usize, out),
+            None => self.list_all(out),
+        }
+    }
+
+    fn list_some(&self, max: usize, out: &mut Vec<u8>) -> Result<(), Refusal>
+        requires { 0 < max }
+        ensures answers { OnOk result (AnswersIn self.now (questions.Moves (Some max)) self.now
+            out.old.items out.new.items) }
+        ensures refused { IfErr result (IsRefused self.now (questions.Moves (Some max))) }
+        ensures out { OnErr result (out.new.items ≡ out.old.items) }
+    {
+        let listed = self.game.list_moves(&self.place, max)?;
+        write_moves(listed.moves.as_slice(), listed.cut, out)?;
+        Ok(())
+    }
+
+    fn list_all(&self, out: &mut Vec<u8>) -> Result<(), Refusal>
+        ensures answers { OnOk result (AnswersIn self.now (questions.Moves None) self.now
+            out.old.items out.new.items) }
+        ensures refused { IfErr result (IsRefused self.now (questions.Moves None)) }
+        ensures out { OnErr result (out.new.items ≡ out.old.items) }
+    {
+        let listed = self.game.list_moves(&self.place, usize::MAX)?;
+        is_in_memory(&listed.moves);
+        write_moves(listed.moves.as_slice(), listed.cut, out)?;
+        Ok(())
+    }
+
+    /// Makes a move, and the keeper's moves behind it.
+    fn make(&mut self, pairs: &Move, out: &mut Vec<u8>) -> Result<(), Refusal>
+        ensures answers { OnOk result (AnswersIn self.old (questions.Make pairs.now) self.new
+            out.old.items out.new.items) }
+        ensures refused { IfErr result (IsRefused self.old (questions.Make pairs.now)) }
+        ensures kept { OnErr result (self.new ≡ self.old) }
+        ensures out { OnErr result (out.new.items ≡ out.old.items) }
+    {
+        let to = lead(&self.game, &self.place, pairs, &mut self.workspace)?;
+        let standing = standing_at(&self.game, &to, &mut self.workspace)?;
+        self.before.reserve(1)?;
+        write_standing(&standing, out)?;
+        self.before.push_reserved(replace(&mut self.place, to));
+        Ok(())
+    }
+
+    /// Undoes moves.
+    fn go_back(&mut self, moves: Option<u64>, out: &mut Vec<u8>) -> Result<(), Refusal>
+        requires { QuestionHasSpelling (questions.Back moves) }
+        ensures answers { OnOk result (AnswersIn self.old (questions.Back moves) self.new
+            out.old.items out.new.items) }
+        ensures refused { IfErr result (IsRefused self.old (questions.Back moves)) }
+        ensures kept { OnErr result (self.new ≡ self.old) }
+        ensures out { OnErr result (out.new.items ≡ out.old.items) }
+    {
+        let many = count_of(moves);
+        let Some(index) = self.index_before(many) else {
+            return Err(Refusal::Start);
+        };
+        let player = self.player_before(index);
+        write_standing(&Standing::ToMove { player }, out)?;
+        self.return_to(index);
+        Ok(())
+    }
+
+    /// The index of the place before the last so many moves, if so many were made.
+    fn index_before(&self, many: u64) -> Option<usize>
+        requires { 0 < many }
+        ensures found { IfSome result (λ index. (index < length self.now.before)
+            × (length self.now.before - index ≡ many)) }
+        ensures none { IfNone result (length self.now.before < many) }
+    {
+        let made = self.before.len() as u64;
+        if made < many {
+            return None;
+        }
+        Some((made - many) as usize)
+    }
+
+    /// The player who was to move before one of the moves.
+    fn player_before(&self, index: usize) -> Player
+        requires { index < length self.now.before }
+        ensures { (new : AbstractSession) → GoesBack self.now (length self.now.before - index) new
+            → StandsAt new.game new.place (to_move result) }
+    {
+        self.before[index].state.player()
+    }
+
+    /// Stands again where play stood before one of the moves.
+    fn return_to(&mut self, index: usize)
+        requires { index < length self.old.before }
+        ensures { GoesBack self.old (length self.old.before - index) self.new }
+    {
+        self.before.truncate(index + 1);
+        if let Some(place) = self.before.pop() {
+            self.place = place;
+        }
+    }
+
+    fn tell_place(&mut self, out: &mut Vec<u8>) -> Result<(), Refusal>
+        ensures answers { OnOk result (AnswersIn self.old questions.Place self.new out.old.items
+            out.new.items) }
+        ensures refused { IfErr result (IsRefused self.old questions.Place) }
+        ensures kept { self.new ≡ self.old }
+        ensures out { OnErr result (out.new.items ≡ out.old.items) }
+    {
+        let standing = standing_at(&self.game, &self.place, &mut self.workspace)?;
+        write_standing(&standing, out)?;
+        Ok(())
+    }
+
+    fn tell_values(&self, out: &mut Vec<u8>) -> Result<(), Refusal>
+        ensures answers { OnOk result (AnswersIn self.now questions.Values self.now out.old.items
+            out.new.items) }
+        ensures refused { IfErr result (IsRefused self.now questions.Values) }
+        ensures out { OnErr result (out.new.items ≡ out.old.items) }
+    {
+        let values = values_at(self.alloc, &self.game, &self.place)?;
+        write_values(values.as_slice(), out)?;
+        Ok(())
+    }
+
+    fn tell_board(&self, out: &mut Vec<u8>) -> Result<(), Refusal>
+        ensures answers { OnOk result (AnswersIn self.now questions.Board self.now out.old.items
+            out.new.items) }
+        ensures refused { IfErr result (IsRefused self.now questions.Board) }
+        ensures out { OnErr result (out.new.items ≡ out.old.items) }
+    {
+        write_board(pieces_at(&self.place), out)?;
+        Ok(())
+    }
+
+    fn tell_names(&self, out: &mut Vec<u8>) -> Result<(), Refusal>
+        ensures answers { OnOk result (AnswersIn self.now questions.Names self.now out.old.items
+            out.new.items) }
+        ensures refused { IfErr result (IsRefused self.now questions.Names) }
+        ensures out { OnErr result (out.new.items ≡ out.old.items) }
+    {
+        write_names(self.game.as_game(), out)?;
+        Ok(())
+    }
+}
+
+/// Whether a line has more bytes than a question may have.
+fn is_too_long(line: &[u8]) -> bool
+    ensures { IsTrue result ↔ (longest_line < length line.now) }
+{
+    line.len() > MAX_LINE
+}
+
+/// How many moves a question undoes.
+fn count_of(moves: Option<u64>) -> u64
+    requires { QuestionHasSpelling (questions.Back moves) }
+    ensures count { result ≡ undone moves }
+    ensures some { 0 < result }
+{
+    match moves {
+        None => 1,
+        Some(many) => many,
+    }
+}
+
+/// For proofs alone: no list in memory is so long that it is cut at the greatest length. It does nothing.
+#[inline(always)]
+fn is_in_memory(moves: &Vec<Move>)
+    ensures { length moves.now.items < 2 ^ 63 }
+{
+    let _count = moves.len();
+}

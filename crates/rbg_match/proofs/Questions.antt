@@ -1,0 +1,11 @@
+-- What refused questions tell.
+use Rattle.std.proofs.Common.{◌≡◌, ◌⊎◌, inl, inr, ap, Result, Ok, Err}
+use Rattle.std.specs.Prelude.{IfErr}
+
+-- what holds where a question is too deep, and where it is too wide
+pub where_above : {T E P : Type 0} (result : Result T E) (deep wide : E) → ((result ≡ Err deep) ⊎ (result ≡ Err wide) → P) → IfErr result (λ over. (over ≡ deep) ⊎ (over ≡ wide) → P)
+where_above (Ok value) deep wide holds = tt
+where_above (Err over) deep wide holds = λ above. elim above [
+  | inl is ↦ holds (inl (ap (λ why. Err why) is))
+  | inr is ↦ holds (inr (ap (λ why. Err why) is))
+]

@@ -1,0 +1,47 @@
+-- What a question counts, and what a workspace counts of one that was answered.
+use Rattle.std.proofs.Common.{◌≡◌, ℕ, ◌+◌, ◌-◌, ◌^◌, min, ap, ◌∙◌, subst}
+use Rattle.rbg_rules.specs.State.{AbstractGame, AbstractState}
+use Rattle.rbg_rules.specs.Words.{Start, after}
+use Rattle.rbg_rules.specs.Moves.{AbstractPlace, stand_of}
+use Rattle.rbg_rules.specs.Questions.{Question, reach}
+use Rattle.rbg_search.specs.Counting.{CountsOpenings}
+use Rattle.rbg_search.specs.Passing.{GoesOn}
+use Rattle.rbg_search.specs.Searching.{Searching, Tally}
+use Rattle.rbg_search.specs.Taken.{CountsPairs}
+use Rattle.rbg_search.proofs.Takings.{any_part, behind_part, takes_as, takes_then, takes_part_of}
+use Rattle.rbg_moves.specs.Tallying.{IsTallied}
+
+-- What is reached without a modifier is counted first.
+pub begin_takes : (now asked later : Searching) (question : Question) (s : AbstractState) (f f' : Start) (A : Type 0) → asked ≡ now → f' ≡ f → CountsPairs asked.game reach s f' asked.opened later.opened asked.taken later.taken A → A → CountsPairs now.game question s f now.opened later.opened now.taken later.taken (Unit {0})
+begin_takes now asked later question s f f' A same start counts answered =
+    let here : CountsPairs now.game reach s f' now.opened later.opened now.taken later.taken A =
+    subst (λ (x : Searching). CountsPairs x.game reach s f' x.opened later.opened x.taken later.taken A) same counts in
+    let there : CountsPairs now.game reach s f now.opened later.opened now.taken later.taken A =
+    subst (λ (g : Start). CountsPairs now.game reach s g now.opened later.opened now.taken later.taken A) start here in
+    takes_as now.game question s f now.opened later.opened now.taken later.taken A (Unit {0})
+    (takes_part_of now.game question s f reach s f now.opened later.opened now.taken later.taken A (any_part now.game question s f) there) (λ _. answered)
+
+-- .. and then what the question counts behind a modifier.
+pub more_takes : (game game' : AbstractGame) (question question' : Question) (s later : AbstractState) (f : Start) (v p a b c t u w : ℕ) → game' ≡ game → GoesOn game question s f v p question' later → CountsPairs game question s f a b t u (Unit {0}) → CountsPairs game' question' later (after p) b c u w (Unit {0}) → CountsPairs game question s f a c t w (Unit {0})
+more_takes game game' question question' s later f v p a b c t u w same on so_far behind =
+    takes_then game question s f a b c t u w (Unit {0}) so_far
+    (takes_part_of game question s f question' later (after p) b c u w (Unit {0}) (behind_part game question question' s later f v p on)
+    (subst (λ (x : AbstractGame). CountsPairs x question' later (after p) b c u w (Unit {0})) same behind))
+
+pub takes_in : (game game' : AbstractGame) (question : Question) (s : AbstractState) (f : Start) (a b t u : ℕ) → game' ≡ game → CountsPairs game' question s f a b t u (Unit {0}) → CountsPairs game question s f a b t u (Unit {0})
+takes_in game game' question s f a b t u same counts = subst (λ (x : AbstractGame). CountsPairs x question s f a b t u (Unit {0})) same counts
+
+pub tallied : (game : AbstractGame) (question : Question) (place : AbstractPlace) (asked later : Searching) (old lent new : Tally) → asked.game ≡ game → asked.opened ≡ 0 → asked.taken ≡ 0 → lent ≡ old → later ≡ record asked { opened = later.opened; taken = later.taken } → CountsOpenings asked.game question place.state (stand_of place.last) asked.opened later.opened → CountsPairs asked.game question place.state (stand_of place.last) asked.opened later.opened asked.taken later.taken (Unit {0}) → new.openings ≡ min (lent.openings + later.opened) (2 ^ 64 - 1) → new.pairs ≡ min (lent.pairs + later.taken) (2 ^ 64 - 1) → IsTallied game question place old new
+tallied game question place asked later old lent new same none nothing kept_tally kept counted paired openings pairs = record {
+  opened = later.opened;
+  taken = later.taken;
+  counted =
+      subst (λ (n : ℕ). CountsOpenings game question place.state (stand_of place.last) n later.opened) none
+      (subst (λ (x : AbstractGame). CountsOpenings x question place.state (stand_of place.last) asked.opened later.opened) same counted);
+  paired =
+      subst (λ (n : ℕ). CountsPairs game question place.state (stand_of place.last) n later.opened 0 later.taken (Unit {0})) none
+      (subst (λ (n : ℕ). CountsPairs game question place.state (stand_of place.last) asked.opened later.opened n later.taken (Unit {0})) nothing
+      (takes_in game asked.game question place.state (stand_of place.last) asked.opened later.opened asked.taken later.taken same paired));
+  openings = openings ∙ ap (λ (t : Tally). min (t.openings + later.opened) (2 ^ 64 - 1)) kept_tally;
+  pairs = pairs ∙ ap (λ (t : Tally). min (t.pairs + later.taken) (2 ^ 64 - 1)) kept_tally;
+}

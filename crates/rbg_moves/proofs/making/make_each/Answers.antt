@@ -1,0 +1,80 @@
+use Rattle.std.proofs.Common.{◌≡◌, ℕ, suc, ◌+◌, List, ◌∷◌, drop, sym, ap, ◌∙◌, subst, arith}
+use Rattle.std.proofs.Math.Seq.{drop-cons}
+use Rattle.std.proofs.lemmas.List.{drop_all}
+use Rattle.rbg_rules.specs.State.{AbstractState}
+use Rattle.rbg_rules.specs.Actions.{Applies}
+use Rattle.rbg_rules.specs.Moves.{AbstractPlace, stand_of, Legal}
+use Rattle.rbg_state.specs.History.{History}
+use Rattle.rbg_state.proofs.Histories.{after_nothing, after_both}
+use Rattle.rbg_search.proofs.Asking.{after_room}
+use Rattle.rbg_moves.specs.internal.Stepping.{standing_at, place_behind, IsValidAt, IsMadeFrom, goes_on}
+use Rattle.rbg_moves.proofs.Steps.{made_next, made_on, made_end, valid_next, next_there, place_after}
+use Rattle.rbg_moves.proofs.Results.{on_err}
+use Rattle.rbg_moves.proofs.making.make_each.Goals as goal
+
+pub loop-pair-init : goal.loop-pair-init
+loop-pair-init c = record {
+  in_game = c.requires.place;
+  goes_on = λ to legal. goes_on legal;
+  after = after_nothing c.args.state.now;
+}
+
+pub apply_at-requires-clause-valid : goal.apply_at-requires-clause-valid
+apply_at-requires-clause-valid c =
+    let game = c.args.game.now in
+    let lawful = c.game_is_accepted.ensures in
+    let all = c.args.pairs.now in
+    let k = c.loop-pair.pair-index in
+    let s = c.loop-pair.state.state in
+    let place : AbstractPlace = record { state = s; last = c.loop-pair.after } in
+    let v = c.pair.inside.vertex in
+    let p = c.pair.inside.position in
+    let cons : drop k all ≡ (v, p) ∷ drop (suc k) all = drop-cons all k c.pair-item.result c.loop-pair-test.true ∙ ap (λ (q : ℕ × ℕ). q ∷ drop (suc k) all) (sym c.pair-item.is ∙ sym c.pair.view_is) in
+    let to = c.requires.legal.0 in
+    let made = subst (λ (ps : List (ℕ × ℕ)). IsMadeFrom game place ps to) cons (c.loop-pair.invariant.goes_on to c.requires.legal.1) in
+    let next = made_next game lawful.numbered place v p (drop (suc k) all) to made in
+    let same : c.reserve.new.self.state ≡ s = ap (λ (x : History). x.state) c.reserve.ensures.kept in
+    subst (λ (u : AbstractState). IsValidAt game u v p) (sym same)
+    (valid_next game lawful.numbered s (stand_of c.loop-pair.after) v p (next_there game lawful s (stand_of c.loop-pair.after) v p c.loop-pair.invariant.in_game.state next) next)
+
+pub loop-pair-preserved : goal.loop-pair-preserved
+loop-pair-preserved c =
+    let game = c.args.game.now in
+    let lawful = c.game_is_accepted.ensures in
+    let all = c.args.pairs.now in
+    let k = c.loop-pair.pair-index in
+    let s = c.loop-pair.state.state in
+    let place : AbstractPlace = record { state = s; last = c.loop-pair.after } in
+    let v = c.pair.inside.vertex in
+    let p = c.pair.inside.position in
+    let cons : drop k all ≡ (v, p) ∷ drop (suc k) all = drop-cons all k c.pair-item.result c.loop-pair-test.true ∙ ap (λ (q : ℕ × ℕ). q ∷ drop (suc k) all) (sym c.pair-item.is ∙ sym c.pair.view_is) in
+    let to = c.requires.legal.0 in
+    let made = subst (λ (ps : List (ℕ × ℕ)). IsMadeFrom game place ps to) cons (c.loop-pair.invariant.goes_on to c.requires.legal.1) in
+    let next = made_next game lawful.numbered place v p (drop (suc k) all) to made in
+    let same : c.reserve.new.self.state ≡ s = ap (λ (x : History). x.state) c.reserve.ensures.kept in
+    let later = c.apply_at.new.state.state in
+    let applied : Applies game p (standing_at s v) later = subst (λ (u : AbstractState). Applies game p (standing_at u v) later) same c.apply_at.ensures.applied in
+    let further : suc k ≡ k + 1 = omega arith in
+    record {
+      in_game = place_after game lawful.numbered later p next.modifies c.apply_at.ensures.fits;
+      goes_on = λ end legal. subst (λ (n : ℕ). IsMadeFrom game (place_behind later p) (drop n all) end) further
+          (made_on game lawful.numbered place v p (drop (suc k) all) end later applied
+          (subst (λ (ps : List (ℕ × ℕ)). IsMadeFrom game place ps end) cons (c.loop-pair.invariant.goes_on end legal)));
+      after = after_both c.args.state.now c.reserve.new.self c.apply_at.new.state (after_room c.args.state.now c.loop-pair.state c.reserve.new.self c.loop-pair.invariant.after c.reserve.ensures.kept) c.apply_at.ensures.after;
+    }
+
+pub returns-clause-to : goal.returns-clause-to
+returns-clause-to c =
+    let game = c.args.game.now in
+    let lawful = c.game_is_accepted.ensures in
+    let all = c.args.pairs.now in
+    let k = c.loop-pair.pair-index in
+    let s = c.loop-pair.state.state in
+    let from : AbstractPlace = record { state = c.args.state.now.state; last = c.args.after } in
+    let place : AbstractPlace = record { state = s; last = c.loop-pair.after } in
+    let to = c.requires.legal.0 in
+    let made = subst (λ (ps : List (ℕ × ℕ)). IsMadeFrom game place ps to) (drop_all k all c.loop-pair-test.false) (c.loop-pair.invariant.goes_on to c.requires.legal.1) in
+    subst (λ (x : AbstractPlace). Legal game from all x) (made_end game lawful.numbered place to made) c.requires.legal.1
+
+pub returns-in_err-reserve-clause-after : goal.returns-in_err-reserve-clause-after
+returns-in_err-reserve-clause-after c = on_err _ _ (after_room c.args.state.now c.loop-pair.state c.reserve.new.self c.loop-pair.invariant.after c.reserve.ensures.kept)

@@ -1,0 +1,66 @@
+//! What is answered to an input: a text that is printed, and the status with which the program ends.
+ghost use Rattle.std.specs.Prelude.{◌≡◌, IfOk};
+ghost use Rattle.rbg_refereeing.specs.Answers.{IsAnswer, refused_line, script_line};
+ghost use Rattle.rbg_refereeing.specs.internal.Faults.{AnswersFault};
+
+use crate::RefereeingError;
+use crate::refereeing::referee_input;
+use rbg_console::{Refusal, Status};
+use rbg_game::LoadError;
+use std::alloc::{AllocError, Global};
+
+/// A text that is printed, and the status with which the program ends.
+#[derive(Debug, Drop)]
+pub struct Answer {
+    pub text: Vec<u8>,
+    pub status: Status,
+}
+
+/// Answers an input: with the lines of its match, or with the line of its fault.
+pub fn answer_input(alloc: Global, input: &[u8]) -> Result<Answer, AllocError>
+    ensures { IfOk result (λ answer. IsAnswer input.now answer.text.items answer.status) }
+{
+    match referee_input(alloc, input) {
+        Ok(lines) => Ok(Answer {
+            text: lines,
+            status: Status::Success,
+        }),
+        Err(error) => answer_fault(alloc, error),
+    }
+}
+
+/// Answers an input that has no match.
+fn answer_fault(alloc: Global, error: RefereeingError) -> Result<Answer, AllocError>
+    ensures { IfOk result (λ answer. AnswersFault error answer.text.items answer.status) }
+{
+    match error {
+        RefereeingError::Load(error) => answer_refused(alloc, error),
+        RefereeingError::Script(number) => answer_script(alloc, number),
+        RefereeingError::Memory => Err(AllocError),
+    }
+}
+
+/// `refused <refusal>`
+fn answer_refused(alloc: Global, error: LoadError) -> Result<Answer, AllocError>
+    ensures text { IfOk result (λ answer. answer.text.items ≡ refused_line error) }
+    ensures status { IfOk result (λ answer. answer.status ≡ Status.Refused) }
+{
+    let refusal = Refusal(error);
+    let line = format!(in alloc; "refused {refusal}\n")?;
+    Ok(Answer {
+        text: line.into_bytes(),
+        status: Status::Refused,
+    })
+}
+
+/// `script <number>`
+pub(crate) fn answer_script(alloc: Global, number: usize) -> Result<Answer, AllocError>
+    ensures text { IfOk result (λ answer. answer.text.items ≡ script_line number) }
+    ensures status { IfOk result (λ answer. answer.status ≡ Status.BadInput) }
+{
+    let line = format!(in alloc; "script {number}\n")?;
+    Ok(Answer {
+        text: line.into_bytes(),
+        status: Status::BadInput,
+    })
+}

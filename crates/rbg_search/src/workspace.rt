@@ -1,0 +1,54 @@
+//! What searches leave to later ones.
+ghost use Rattle.std.specs.Prelude.{◌≡◌};
+
+use crate::flat::Flat;
+use rbg_base::{Position, Vertex};
+use std::alloc::Global;
+use std::marker::Model;
+
+/// What searches leave to later ones: their buffers, and what they took up in all. Contracts see the two counts.
+#[derive(Debug, Drop)]
+pub struct Workspace {
+    /// Flat parts that are not in use.
+    pub(crate) flats: Vec<Box<Flat>>,
+    /// Lists of modifiers that are not in use.
+    pub(crate) lists: Vec<Vec<(Vertex, Position)>>,
+    pub(crate) openings: u64,
+    pub(crate) pairs: u64,
+}
+
+impl Model for Workspace {
+    ghost use Rattle.rbg_search.specs.Searching.{Tally};
+
+    ghost Value = { Tally };
+
+    ghost view = { λ w. record { openings = w.openings; pairs = w.pairs } };
+}
+
+impl Workspace {
+    /// A workspace that no search has used.
+    pub fn new(alloc: Global) -> Workspace
+        ensures { result ≡ record { openings = 0; pairs = 0 } }
+    {
+        Workspace {
+            flats: Vec::new(alloc),
+            lists: Vec::new(alloc),
+            openings: 0,
+            pairs: 0,
+        }
+    }
+
+    /// How many openings the searches took up.
+    pub fn openings(&self) -> u64
+        ensures { result ≡ self.now.openings }
+    {
+        self.openings
+    }
+
+    /// How many pairs the searches tried.
+    pub fn pairs(&self) -> u64
+        ensures { result ≡ self.now.pairs }
+    {
+        self.pairs
+    }
+}

@@ -1,0 +1,9 @@
+pub mod ClockLemmas
+pub mod EndLemmas
+pub mod HeardLemmas
+pub mod InCallLemmas
+pub mod LinesLemmas
+pub mod PassingLemmas
+pub mod PollLemmas
+pub mod SaidLemmas
+pub mod MemoryLemmas

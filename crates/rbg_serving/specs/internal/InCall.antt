@@ -1,0 +1,113 @@
+-- The middle of a call of `serve`.
+use Rattle.std.specs.Prelude.{◌≡◌, ◌≤◌, ℕ, List, [], ◌∷◌, ◌++◌, length}
+use Rattle.rbg_match.specs.Inputs.{AbstractEvent}
+use Rattle.rbg_serving.specs.declared.line_state.LineState.{LineState}
+use Rattle.rbg_serving.specs.declared.call.Call.{Call}
+use Rattle.rbg_serving.specs.Heard.{Heard, event_of, rounds_of, IsTimed, IsOfLiveLines}
+use Rattle.rbg_serving.specs.Passing.{Behaviour, Intake, ComeBefore, AllOffered, MayComeNext, Handles}
+use Rattle.rbg_serving.specs.Serving.{LacksMemory}
+use Rattle.rbg_serving.specs.Told.{Told}
+use Rattle.rbg_serving.specs.internal.Lines.{AreServed}
+
+-- What stood when the call began: what the lines and the clock had told, the state of what is served, and the queued
+-- bytes.
+pub record Start (S : Type 0) : Type 0 where
+  pub told : List Told
+  pub asked : List ℕ
+  pub state : S
+  pub queued : List (List ℕ)
+
+-- The call has come so far, with these moments and after so many rounds. All that was heard is handled.
+pub record InCall {L S : Type 0} (told : L → Told → Type 0) (failure_count : L → ℕ) (engine : Behaviour S)
+    (start : Start S) (moments : List ℕ) (rounds : ℕ) (lines : List L) (states : List LineState) (state : S)
+    (queued : List (List ℕ)) : Type 0 where
+  pub heard : List Heard
+  pub timed : IsTimed moments heard
+  pub live : IsOfLiveLines (length start.told) heard
+  pub count : rounds_of heard ≡ rounds
+  pub since : List Intake
+  pub handles : Handles engine start.state start.queued heard state queued since
+  pub intakes : List Intake
+  pub later : ComeBefore since intakes
+  pub served : AreServed told failure_count start.told heard queued lines states intakes
+
+-- The same, and since the last was heard all that is queued was offered to each live line.
+pub record Passed {L S : Type 0} (told : L → Told → Type 0) (failure_count : L → ℕ) (engine : Behaviour S)
+    (start : Start S) (moments : List ℕ) (rounds : ℕ) (lines : List L) (states : List LineState) (state : S)
+    (queued : List (List ℕ)) : Type 0 where
+  pub call : InCall told failure_count engine start moments rounds lines states state queued
+  pub offered : AllOffered call.heard queued call.since call.intakes
+
+-- The call has come so far, and this event is what was heard last. It isn't handled yet.
+pub record HeardLast {L S : Type 0} (told : L → Told → Type 0) (failure_count : L → ℕ) (engine : Behaviour S)
+    (start : Start S) (moments : List ℕ) (rounds : ℕ) (lines : List L) (states : List LineState) (state : S)
+    (queued : List (List ℕ)) (event : AbstractEvent) : Type 0 where
+  pub before : List Heard
+  pub one : Heard
+  pub is_event : event_of one ≡ event
+  pub timed : IsTimed moments (before ++ one ∷ [])
+  pub live : IsOfLiveLines (length start.told) (before ++ one ∷ [])
+  pub count : rounds_of (before ++ one ∷ []) ≡ rounds
+  pub since : List Intake
+  pub handles : Handles engine start.state start.queued before state queued since
+  pub intakes : List Intake
+  pub may : MayComeNext engine before state queued since intakes one
+  pub served : AreServed told failure_count start.told (before ++ one ∷ []) queued lines states intakes
+  pub as_many : length queued ≡ length lines
+
+-- The call has come so far, in so many rounds at most. There was no memory for the last that was heard.
+pub record LacksMemoryInCall {L S : Type 0} (told : L → Told → Type 0) (failure_count : L → ℕ) (engine : Behaviour S)
+    (start : Start S) (moments : List ℕ) (rounds : ℕ) (lines : List L) (states : List LineState) (state : S)
+    (queued : List (List ℕ)) : Type 0 where
+  pub heard : List Heard
+  pub timed : IsTimed moments heard
+  pub live : IsOfLiveLines (length start.told) heard
+  pub count : rounds_of heard ≤ rounds
+  pub intakes : List Intake
+  pub served : AreServed told failure_count start.told heard queued lines states intakes
+  pub lacks : LacksMemory engine heard intakes start.state state start.queued queued
+
+-- So much holds with some moments, and these are all that the clock has told.
+pub record WithMoments {C : Type 0} (clock_told : C → List ℕ → Type 0) (asked : List ℕ) (clock : C)
+    (Holds : List ℕ → Type 0) : Type 0 where
+  pub moments : List ℕ
+  pub clock_tells : clock_told clock (asked ++ moments)
+  pub holds : Holds moments
+
+-- the call has come so far
+abbrev pub InCallOf : {L S Q C : Type 0} → (L → Told → Type 0) → (L → ℕ) → Behaviour S → (Q → List (List ℕ)) →
+    (C → List ℕ → Type 0) → (start : Start S) → (rounds : ℕ) → Call L S C Q → Type 0
+InCallOf told failure_count engine queued clock_told start rounds call =
+    WithMoments clock_told start.asked call.clock.now (λ moments.
+    InCall told failure_count engine start moments rounds call.lines.now call.states.now call.engine.now (queued call.outbox.now))
+
+-- the same, and all that is queued was offered
+abbrev pub PassedOf : {L S Q C : Type 0} → (L → Told → Type 0) → (L → ℕ) → Behaviour S → (Q → List (List ℕ)) →
+    (C → List ℕ → Type 0) → (start : Start S) → (rounds : ℕ) → Call L S C Q → Type 0
+PassedOf told failure_count engine queued clock_told start rounds call =
+    WithMoments clock_told start.asked call.clock.now (λ moments.
+    Passed told failure_count engine start moments rounds call.lines.now call.states.now call.engine.now (queued call.outbox.now))
+
+-- there was no memory for the last that was heard
+abbrev pub LacksMemoryOf : {L S Q C : Type 0} → (L → Told → Type 0) → (L → ℕ) → Behaviour S → (Q → List (List ℕ)) →
+    (C → List ℕ → Type 0) → (start : Start S) → (rounds : ℕ) → Call L S C Q → Type 0
+LacksMemoryOf told failure_count engine queued clock_told start rounds call =
+    WithMoments clock_told start.asked call.clock.now (λ moments.
+    LacksMemoryInCall told failure_count engine start moments rounds call.lines.now call.states.now call.engine.now
+    (queued call.outbox.now))
+
+-- There is a state for each line, there are as many lines as are served, and bytes are queued for each.
+abbrev pub Fits : {L S Q C : Type 0} → (served : S → ℕ) → (Q → List (List ℕ)) → Call L S C Q → Type 0
+Fits served queued call =
+    (length call.states.now ≡ length call.lines.now)
+    × (length call.lines.now ≡ served call.engine.now)
+    × (length (queued call.outbox.now) ≡ served call.engine.now)
+
+-- The call works on the same lines, states, engine, outbox and clock.
+abbrev pub IsSameCall : {L S Q C : Type 0} → (old new : Call L S C Q) → Type 0
+IsSameCall old new =
+    (new.lines.ghost_name ≡ old.lines.ghost_name)
+    × (new.states.ghost_name ≡ old.states.ghost_name)
+    × (new.engine.ghost_name ≡ old.engine.ghost_name)
+    × (new.outbox.ghost_name ≡ old.outbox.ghost_name)
+    × (new.clock.ghost_name ≡ old.clock.ghost_name)

@@ -1,0 +1,85 @@
+//! What is served.
+ghost use Rattle.std.specs.Prelude.{◌≡◌, ◌≤◌, ◌-◌, ◌↔◌, ℕ, List, [], length, slice_index_or, IsTrue, OnOk, OnErr};
+ghost use Rattle.rbg_match.specs.Inputs.{event_of};
+ghost use Rattle.rbg_match.specs.Matches.{HasHistory};
+ghost use Rattle.rbg_match.specs.PlayingOn.{seats_of};
+ghost use Rattle.rbg_rules.specs.State.{AbstractGame};
+ghost use Rattle.rbg_serving.specs.Passing.{Behaviour};
+ghost use Rattle.rbg_serving.specs.Serving.{of_match};
+ghost use Rattle.rbg_serving.specs.internal.Lines.{ExtendAll};
+
+use rbg_base::Memory;
+use rbg_match::{Event, Match, Outbox};
+
+/// What is served, as a match: it handles events, and queues bytes for the lines. Its lines are its seats, in order.
+pub(crate) trait Engine {
+    /// Where the bytes are queued.
+    type Outbox;
+
+    /// The bytes that are queued for each line, the first line's first.
+    ghost queued: { Self.Outbox → List (List ℕ) };
+
+    /// How events change it, and when it is over.
+    ghost behaviour: { Behaviour Self };
+
+    /// What no event changes.
+    ghost Fixed: { Type 0 };
+
+    ghost fixed: { Self → Fixed };
+
+    /// How many lines it has.
+    ghost lines: { Fixed → ℕ };
+
+    /// What it keeps as long as there is memory.
+    ghost valid: { Self → Type 0 };
+
+    /// Handles an event.
+    fn handle(&mut self, event: Event<'_>, outbox: &mut Self::Outbox) -> Result<(), Memory>
+        requires { length (queued outbox.old) ≡ lines (fixed self.old) }
+        ensures ok { OnOk result (behaviour.steps self.old (event_of event.entry) self.new
+            (queued outbox.old) (queued outbox.new)) }
+        ensures err { OnErr result ((queued outbox.new ≡ queued outbox.old)
+            × behaviour.lacks self.old self.new) }
+        ensures extends { OnOk result (ExtendAll (queued outbox.old) (queued outbox.new)) }
+        ensures valid { OnOk result (valid self.old → valid self.new) }
+        ensures fixed { fixed self.new ≡ fixed self.old }
+        ensures as_many { length (queued outbox.new) ≡ length (queued outbox.old) };
+
+    /// Whether it is over.
+    fn is_over(&self) -> bool
+        ensures { IsTrue result ↔ behaviour.over self.now };
+
+    /// The bytes that are queued for a line. It must be one of the lines, which are numbered from 1.
+    fn bytes(outbox: &Self::Outbox, line: usize) -> &[u8]
+        requires from_one { 1 ≤ line }
+        requires there { line ≤ length (queued outbox.now) }
+        ensures { result.now ≡ slice_index_or (queued outbox.now) (line - 1) [] };
+}
+
+impl Engine for Match {
+    type Outbox = Outbox;
+
+    ghost queued = { λ outbox. outbox };
+
+    ghost behaviour = { of_match };
+
+    ghost Fixed = { AbstractGame };
+
+    ghost fixed = { λ state. state.game };
+
+    ghost lines = { seats_of };
+
+    ghost valid = { HasHistory };
+
+    fn handle(&mut self, event: Event<'_>, outbox: &mut Outbox) -> Result<(), Memory> {
+        self.step(event, outbox)
+    }
+
+    fn is_over(&self) -> bool {
+        self.outcome().is_some()
+    }
+
+    fn bytes(outbox: &Outbox, line: usize) -> &[u8] {
+        outbox.bytes(line)
+    }
+}
