@@ -24,13 +24,14 @@ SECONDS := 600
 # The requests for memory of the first match that `make try` refuses, one in each of ten runs.
 REFUSED := 1 2 5 10 20 50 100 150 200 300
 
-.PHONY: help run demo games clients clients-match compare refusals try build bench test check fmt clean
+.PHONY: help run demo games clients clients-match tournament compare refusals try build bench test check fmt clean
 
 help:
 	@echo 'make run      referees the first match of README.md (crates/rbg_manager/stdin), with no proof'
 	@echo 'make demo     referees a match between two players over connections, and prints its record, with no proof'
 	@echo 'make games    checks each of the games that come with it, counts its first moves, compares both forms of its automaton and referees a match, with no proof'
 	@echo 'make clients  lets two example clients play matches of five games over ./rbg serve, and checks their records (after make build)'
+	@echo 'make tournament lets three example players meet in three games, 36 matches, and prints the table (after make build)'
 	@echo 'make compare  compares ./rbg with the interpreter of tools/slow, on stored cases and N=10000 others of SEED=1 (after make build)'
 	@echo 'make refusals refuses each request for memory in turn, and checks each answer; this alone needs gcc (after make build)'
 	@echo 'make try      runs the stored runs, ten with a request for memory refused, and the tests, with no proof; make -j4 try runs four at once'
@@ -63,6 +64,16 @@ clients-match:
 	  python3 clients/rbg_player.py $(PORT) --random 1 && wait $$first && wait $$served || \
 	  { kill $$first $$served 2> /dev/null; false; }; } && \
 	echo $(notdir $(GAME)): $$(tail -1 $$record) && ./rbg replay $(GAME) $$record; status=$$?; rm -f $$record; exit $$status
+
+# The example tournament: each line of its jobs is a command, so whatever runs commands side by side can play it.
+tournament:
+	@test -x ./rbg || { echo 'make tournament needs ./rbg: run make build first'; exit 1; }
+	@cd clients && for file in ratings tournament tournament_match tournament_table; do python3 -m doctest $$file.py || exit 1; done
+	@folder=$$(mktemp -d)/example && python3 clients/tournament.py plan clients/example/plan.toml $$folder && \
+	{ if command -v parallel > /dev/null; then parallel -j 4 < $$folder/jobs.txt; \
+	  else tr '\n' '\0' < $$folder/jobs.txt | xargs -0 -P 4 -n 1 sh -c; fi; } && \
+	python3 clients/tournament.py table $$folder --html $$folder/table.html > $$folder/table.txt && cat $$folder/table.txt && \
+	echo "the files are in $$folder" && grep -q '^36 of 36 matches' $$folder/table.txt
 
 compare:
 	@test -x $(RBG) || { echo 'make compare needs $(RBG): run make build first, or give RBG=path'; exit 1; }

@@ -1,0 +1,254 @@
+"""One match of a tournament: its files, its processes and its result."""
+
+import json
+import os
+import shlex
+import signal
+import socket
+import subprocess
+import time
+from dataclasses import asdict, dataclass, field
+from pathlib import Path
+from typing import Callable, Optional
+
+TRIES = 5  # how many ports are tried for a match
+LISTENING, CONNECTED = "0A", "01"  # states of sockets
+
+
+class Fault(Exception):
+    """What the organiser has to mend, in words."""
+
+
+@dataclass
+class Pairing:
+    """A match that is to be played: a game, and a program for each seat, seat 1 first."""
+
+    game: str
+    seats: list[str]
+
+
+@dataclass
+class Plan:
+    """A tournament. Paths are absolute, so that each match can be played from any folder and on any machine."""
+
+    folder: str  # where the programs are started
+    rbg: str
+    author: str
+    programs: dict[str, str]  # the command of each name
+    turn: int = 60_000
+    refusals: int = 3
+    wait: float = 20  # seconds in which a program has to connect
+    minutes: float = 60  # how long a match may take
+    jobs: int = 4
+    heavy: str = "draw"  # what E4 is: "draw", or "void", which counts for nobody
+    matches: list[Pairing] = field(default_factory=list)
+
+    @staticmethod
+    def load(folder: Path) -> "Plan":
+        """The plan of a tournament's folder."""
+        try:
+            text = json.loads((folder / "plan.json").read_text())
+        except FileNotFoundError:
+            raise Fault(f"{folder} has no plan.json: begin with tournament.py plan") from None
+        matches = [Pairing(**pairing) for pairing in text.pop("matches")]
+        return Plan(**text, matches=matches)
+
+
+def write_whole(file: Path, text: str) -> None:
+    """Writes a file by a rename, so that it is never seen in part."""
+    part = file.with_name(f"{file.name}.{os.getpid()}.part")
+    part.write_text(text)
+    os.replace(part, file)
+
+
+@dataclass
+class Result:
+    """How a match went. What it has no record of, it has a reason for; `lost` is the seat whose fault that was."""
+
+    seats: list[str]
+    game: str
+    outcome: Optional[str] = None
+    lost: Optional[int] = None
+    reason: Optional[str] = None
+    seconds: float = 0
+    machine: str = field(default_factory=socket.gethostname)
+
+
+class Files:
+    """The files of match K."""
+
+    def __init__(self, folder: Path, number: int, pairing: Pairing):
+        stem = folder / "matches" / f"{number:04}"
+        self.game = folder / "games" / pairing.game
+        self.record = stem.with_suffix(".record")
+        self.result = stem.with_suffix(".json")
+        self.page = stem.with_suffix(".html")
+        self.referee = stem.with_suffix(".referee.txt")
+        self.seats = [stem.with_suffix(f".seat{seat}.txt") for seat in range(1, len(pairing.seats) + 1)]
+
+
+def outcome_of(plan: Plan, files: Files) -> Optional[str]:
+    """The outcome that a match's record tells, if there is one and `rbg replay` calls it good."""
+    if not files.record.exists():
+        return None
+    replayed = subprocess.run([plan.rbg, "replay", str(files.game), str(files.record)], capture_output=True, text=True)
+    if replayed.stdout != "good\n":
+        return None
+    outcome = files.record.read_text().splitlines()[-1].split(" ", 1)[1]
+    return None if outcome == "-" else outcome
+
+
+class Processes:
+    """The processes of a match. Each one ends with it, and so does all that it has started."""
+
+    def __init__(self) -> None:
+        self.started: list[subprocess.Popen] = []
+
+    def start(self, words: list[str], folder: str, output: Path, errors: Path) -> subprocess.Popen:
+        with output.open("wb") as out, errors.open("ab") as said:
+            process = subprocess.Popen(
+                words, cwd=folder, stdin=subprocess.DEVNULL, stdout=out, stderr=said, start_new_session=True
+            )
+        self.started.append(process)
+        return process
+
+    def end(self, seconds: float) -> None:
+        """Lets the processes end by themselves for so long, and then ends them."""
+        until = time.monotonic() + seconds
+        for process in self.started:
+            try:
+                process.wait(max(0.0, until - time.monotonic()))
+            except subprocess.TimeoutExpired:
+                pass
+            try:
+                os.killpg(process.pid, signal.SIGKILL)
+            except ProcessLookupError:
+                pass
+            process.wait()
+
+
+def free_port() -> int:
+    """A port on which nothing listens now."""
+    with socket.socket() as tried:
+        tried.bind(("127.0.0.1", 0))
+        return tried.getsockname()[1]
+
+
+def sockets(port: int, state: str) -> int:
+    """How many sockets of this machine have this local port and this state, as Linux lists them.
+
+    >>> with socket.create_server(("127.0.0.1", 0)) as server:
+    ...     port = server.getsockname()[1]
+    ...     with socket.create_connection(("127.0.0.1", port)):
+    ...         sockets(port, LISTENING), sockets(port, CONNECTED)
+    (1, 1)
+    """
+    lines = Path("/proc/net/tcp").read_text().splitlines()[1:]
+    return sum(local.endswith(f":{port:04X}") and found == state for _, local, _, found, *_ in map(str.split, lines))
+
+
+def is_so(test: Callable[[], bool], seconds: float, *needed: subprocess.Popen) -> bool:
+    """Whether the test is met within this time, and while these processes go on."""
+    until = time.monotonic() + seconds
+    while not test():
+        if time.monotonic() >= until or any(process.poll() is not None for process in needed):
+            return test()
+        time.sleep(0.01)
+    return True
+
+
+class Play:
+    """A match that is being played: a referee, and the programs at its port."""
+
+    def __init__(self, plan: Plan, number: int, files: Files, result: Result):
+        self.plan, self.number, self.files, self.result = plan, number, files, result
+        self.processes = Processes()
+        self.part = files.record.with_name(f"{files.record.name}.{os.getpid()}.part")
+        for text in (files.referee, *files.seats):
+            text.write_bytes(b"")
+
+    def play(self) -> None:
+        """Plays the match, and fills in the result. A match that isn't played has a reason."""
+        began = time.monotonic()
+        grace = 0.0
+        try:
+            referee, port = self.listen()
+            if referee is not None and self.seat_all(referee, port):
+                grace = 5.0
+                self.finish(referee)
+        finally:
+            self.processes.end(grace)
+            self.part.unlink(missing_ok=True)
+            self.result.seconds = round(time.monotonic() - began, 2)
+
+    def listen(self) -> tuple[Optional[subprocess.Popen], int]:
+        """A referee that listens, and its port. If another program takes the port before it, a new one is tried."""
+        plan = self.plan
+        for _ in range(TRIES):
+            port = free_port()
+            words = [plan.rbg, "serve", str(self.files.game), "--port", str(port), "--turn", str(plan.turn)]
+            words += ["--refusals", str(plan.refusals), "--rounds", "4294967295"]
+            referee = self.processes.start(words, plan.folder, self.part, self.files.referee)
+            if is_so(lambda: sockets(port, LISTENING) == 1, plan.wait, referee):
+                return referee, port
+            if referee.poll() is None:
+                break
+        self.result.reason = "the referee doesn't listen"
+        return None, 0
+
+    def seat_all(self, referee: subprocess.Popen, port: int) -> bool:
+        """Starts the programs in the order of their seats, each one when the one before it has connected."""
+        started: list[subprocess.Popen] = []
+        for seat, (name, text) in enumerate(zip(self.result.seats, self.files.seats), 1):
+            command = self.plan.programs[name].replace("{port}", str(port)).replace("{match}", str(self.number))
+            try:
+                started.append(self.processes.start(shlex.split(command), self.plan.folder, text, text))
+            except OSError as error:
+                return self.give_up(seat, f"doesn't start: {error.strerror}")
+            if is_so(lambda: sockets(port, CONNECTED) == seat, self.plan.wait, referee, *started):
+                continue
+            if referee.poll() is not None:
+                return self.give_up(None, "the referee ended before the match")
+            for other, program in enumerate(started, 1):
+                if program.poll() is not None:
+                    return self.give_up(other, f"ended with status {program.returncode} before the match")
+            return self.give_up(seat, f"didn't connect in {self.plan.wait:g} seconds")
+        return True
+
+    def give_up(self, lost: Optional[int], reason: str) -> bool:
+        """Notes why the match isn't played."""
+        self.result.lost = lost
+        self.result.reason = reason if lost is None else f"{self.result.seats[lost - 1]} {reason}"
+        return False
+
+    def finish(self, referee: subprocess.Popen) -> None:
+        """Waits for the end of the match, and keeps its record."""
+        try:
+            status = referee.wait(self.plan.minutes * 60)
+        except subprocess.TimeoutExpired:
+            self.result.reason = f"not ended after {self.plan.minutes:g} minutes"
+            return
+        if status:
+            self.result.reason = f"the referee: {self.part.read_text(errors='replace').strip() or status}"
+            return
+        os.replace(self.part, self.files.record)
+        self.result.outcome = outcome_of(self.plan, self.files)
+        if self.result.outcome is None:
+            self.result.reason = "the record isn't good"
+
+
+def play_match(folder: Path, number: int) -> Result:
+    """Plays match K, unless it has a good record, and writes its result."""
+    plan = Plan.load(folder)
+    if not 1 <= number <= len(plan.matches):
+        raise Fault(f"there is no match {number}")
+    pairing = plan.matches[number - 1]
+    files = Files(folder.resolve(), number, pairing)
+    result = Result(pairing.seats, pairing.game)
+    known = outcome_of(plan, files)
+    if known is not None and files.result.exists():
+        result.outcome = known
+        return result
+    Play(plan, number, files, result).play()
+    write_whole(files.result, json.dumps(asdict(result), indent=1) + "\n")
+    return result
