@@ -7,6 +7,7 @@ import signal
 import socket
 import subprocess
 import time
+from contextlib import nullcontext
 from dataclasses import asdict, dataclass, field
 from pathlib import Path
 from typing import Callable, Optional
@@ -104,10 +105,11 @@ class Processes:
     def __init__(self) -> None:
         self.started: list[subprocess.Popen] = []
 
-    def start(self, words: list[str], folder: str, output: Path, errors: Path) -> subprocess.Popen:
-        with output.open("wb") as out, errors.open("ab") as said:
+    def start(self, words: list[str], folder: str, said: Path, answer: Optional[Path] = None) -> subprocess.Popen:
+        """Starts a program. What it says goes to the end of a file, and so does its answer, if that has no other."""
+        with said.open("ab") as errors, answer.open("wb") if answer else nullcontext(errors) as output:
             process = subprocess.Popen(
-                words, cwd=folder, stdin=subprocess.DEVNULL, stdout=out, stderr=said, start_new_session=True
+                words, cwd=folder, stdin=subprocess.DEVNULL, stdout=output, stderr=errors, start_new_session=True
             )
         self.started.append(process)
         return process
@@ -188,7 +190,7 @@ class Play:
             port = free_port()
             words = [plan.rbg, "serve", str(self.files.game), "--port", str(port), "--turn", str(plan.turn)]
             words += ["--refusals", str(plan.refusals), "--rounds", "4294967295"]
-            referee = self.processes.start(words, plan.folder, self.part, self.files.referee)
+            referee = self.processes.start(words, plan.folder, self.files.referee, self.part)
             if is_so(lambda: sockets(port, LISTENING) == 1, plan.wait, referee):
                 return referee, port
             if referee.poll() is None:
@@ -202,7 +204,7 @@ class Play:
         for seat, (name, text) in enumerate(zip(self.result.seats, self.files.seats), 1):
             command = self.plan.programs[name].replace("{port}", str(port)).replace("{match}", str(self.number))
             try:
-                started.append(self.processes.start(shlex.split(command), self.plan.folder, text, text))
+                started.append(self.processes.start(shlex.split(command), self.plan.folder, text))
             except OSError as error:
                 return self.give_up(seat, f"doesn't start: {error.strerror}")
             if is_so(lambda: sockets(port, CONNECTED) == seat, self.plan.wait, referee, *started):
