@@ -23,6 +23,8 @@ from search import Question, TooSlow
 SECONDS = 60  # for one run of the program
 STEPS = 1_000_000  # of the interpreter's questions, for one case by chance
 TRIES = 400  # to make a difference smaller
+# What standard error says of files and records beside the answer, which the interpreter doesn't know.
+TOLD = re.compile(rb"(?m)^(can't read .*|lines of .* end in CR LF, and not in LF alone)\n")
 
 
 class TooLate(Exception):
@@ -35,7 +37,7 @@ class Comparer:
         self.folder = tempfile.TemporaryDirectory(prefix="compare-")
 
     def run_program(self, case):
-        """What the program prints, and its status. Anything on standard error counts as printed."""
+        """What the program prints, and its status. What standard error has beside the lines it may have counts as printed."""
         for left in pathlib.Path(self.folder.name).iterdir():
             left.unlink()
         for name, content in case.files.items():
@@ -46,7 +48,7 @@ class Comparer:
             )
         except subprocess.TimeoutExpired:
             raise TooLate
-        return done.stdout + done.stderr, done.returncode
+        return done.stdout + TOLD.sub(b"", done.stderr), done.returncode
 
     def run_interpreter(self, case):
         files = {name: bytes(content) for name, content in case.files.items()}

@@ -1,11 +1,11 @@
-//! The files and the words of the system.
+//! The files and the words of the system. What fails is said on standard error.
 
 use crate::command_line::WordsError;
 use crate::input::{Files, Input, read_input};
 use std::alloc::{AllocError, Global};
 use std::env;
 use std::fs::File;
-use std::io::ErrorKind;
+use std::io::{self, ErrorKind, Read};
 
 /// The files of the system.
 #[derive(Drop)]
@@ -18,13 +18,38 @@ impl<'a> SystemFiles<'a> {
     pub fn new(rt: &'a HostRuntime) -> SystemFiles<'a> {
         SystemFiles { rt }
     }
+
+    /// Says that a file can't be read, and why. Where that can't be said, nothing is.
+    fn say_failure(&self, name: &str, error: &io::Error) {
+        let _said = eprintln!(self.rt; "can't read {name}: {error}");
+    }
+
+    /// Reads an open file. If that fails, one more read tells why.
+    fn read_open(
+        &self,
+        alloc: Global,
+        name: &str,
+        file: &mut File,
+        limit: usize,
+    ) -> Result<Input, AllocError> {
+        let read = read_input(alloc, file, limit)?;
+        if matches!(&read, Input::Device) {
+            if let Err(error) = file.read(&mut [0u8; 1]) {
+                self.say_failure(name, &error);
+            }
+        }
+        Ok(read)
+    }
 }
 
 impl Files for SystemFiles<'_> {
     fn read_file(&mut self, alloc: Global, name: &str, limit: usize) -> Result<Input, AllocError> {
         match File::open(self.rt, name) {
-            Ok(mut file) => read_input(alloc, &mut file, limit),
-            Err(_) => Ok(Input::Device),
+            Ok(mut file) => self.read_open(alloc, name, &mut file, limit),
+            Err(error) => {
+                self.say_failure(name, &error);
+                Ok(Input::Device)
+            }
         }
     }
 }
