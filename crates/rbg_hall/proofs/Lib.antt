@@ -1,7 +1,7 @@
 -- What the proofs of this crate share.
 mod Emptying
-mod Holding
+pub mod Holding
 mod Phases
-mod Places
+pub mod Places
 mod Seated
-mod Telling
+pub mod Telling

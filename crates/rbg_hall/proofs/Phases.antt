@@ -4,8 +4,8 @@ use Rattle.std.specs.Prelude.{OnOk}
 use Rattle.rbg_match.specs.declared.config.Config.{Config}
 use Rattle.rbg_match.specs.Inputs.{AbstractEvent}
 use Rattle.rbg_match.specs.Matches.{MatchState}
-use Rattle.rbg_hall.specs.declared.seating.Phase.{Phase}
-use Rattle.rbg_hall.specs.declared.seating.Phase.TheVariants.{Begun}
+use Rattle.rbg_hall.specs.declared.table.Phase.{Phase}
+use Rattle.rbg_hall.specs.declared.table.Phase.TheVariants.{Begun}
 use Rattle.rbg_hall.specs.Tables.{TableState}
 use Rattle.rbg_hall.specs.internal.Hearing.{PlaysFor}
 use Rattle.rbg_hall.specs.internal.Parts.{game_in, begun_in}

@@ -7,7 +7,7 @@ use Rattle.std.proofs.lemmas.Bool.{eq-eqb, ne_eqb}
 use Rattle.std.proofs.Math.Seq.{take-append_seam}
 use Rattle.rbg_hall.specs.Tellings.{Telling, bytes_to, told_from, told_to, telling, told_on, to_lines}
 use Rattle.rbg_hall.specs.declared.queues.Mark.{Mark}
-use Rattle.rbg_hall.specs.internal.Undoing.{cut_back, undone}
+use Rattle.rbg_hall.specs.Undoing.{cut_back, undone}
 
 pub bytes_to-append : (line : ℕ) (a b : List Telling) → bytes_to line (a ++ b) ≡ bytes_to line a ++ bytes_to line b
 bytes_to-append line a b = flat_map-append _ a b

@@ -42,6 +42,11 @@ pub data OwnEvent : Type 0 where
 abbrev pub SitsAt : TableState → (line index : ℕ) → Type 0
 SitsAt table line index = slice_get table.seats index ≡ Some (Some line)
 
+-- the line has a seat
+pub record HasSeat (table : TableState) (line : ℕ) : Type 0 where
+  pub index : ℕ
+  pub sits : SitsAt table line index
+
 -- the line has no seat
 abbrev pub HasNoSeat : TableState → (line : ℕ) → Type 0
 HasNoSeat table line = (index : ℕ) → ¬ SitsAt table line index

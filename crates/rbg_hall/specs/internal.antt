@@ -3,4 +3,3 @@ pub mod Codes
 pub mod Hearing
 pub mod Parts
 pub mod Running
-pub mod Undoing

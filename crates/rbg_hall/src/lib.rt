@@ -7,9 +7,8 @@ mod input;
 pub mod laws;
 mod queues;
 mod running;
-mod seating;
 mod table;
 
 pub use input::TableInput;
-pub use queues::{HallOut, LINES};
-pub use table::HallTable;
+pub use queues::{HallOut, LINES, Mark};
+pub use table::{HallTable, MESSAGE_LIMIT};

@@ -2,7 +2,7 @@
 ghost use Rattle.std.specs.Prelude.{◌≡◌, ◌<◌, ◌∷◌, ℕ, List, [], replicate, slice_index_or, IfOk, OnOk, OnErr, length};
 ghost use Rattle.rbg_hall.specs.Limits.{lines_in_all};
 ghost use Rattle.rbg_hall.specs.Tellings.{refusal_to, telling, to_lines, told_on, told_to};
-ghost use Rattle.rbg_hall.specs.internal.Undoing.{bytes_in, cut_back, undone};
+ghost use Rattle.rbg_hall.specs.Undoing.{bytes_in, cut_back, undone};
 
 use rbg_base::Memory;
 use rbg_match::Outbox;
@@ -16,8 +16,8 @@ pub const LINES: usize = 128;
 /// How long the queue of a line was.
 #[derive(Clone, Copy, Debug)]
 pub struct Mark {
-    line: usize,
-    len: usize,
+    pub line: usize,
+    pub len: usize,
 }
 
 /// The bytes that were queued for each line. Lines are numbered from 0. Contracts see the list of the lines' bytes.
@@ -78,12 +78,7 @@ impl HallOut {
     }
 
     /// Tells a line that its message is refused, and marks how long its queue was.
-    pub(crate) fn refuse(
-        &mut self,
-        line: u64,
-        reason: Reason,
-        marks: &mut Vec<Mark>,
-    ) -> Result<(), Memory>
+    pub fn refuse(&mut self, line: u64, reason: Reason, marks: &mut Vec<Mark>) -> Result<(), Memory>
         ensures told { OnOk result (self.new ≡ told_to self.old (refusal_to line reason)) }
         ensures undone { undone self.new marks.new.items ≡ undone self.old marks.old.items }
     {
@@ -126,7 +121,7 @@ impl HallOut {
     }
 
     /// Takes back what was queued since the marks were made.
-    pub(crate) fn take_back(&mut self, marks: &mut Vec<Mark>)
+    pub fn take_back(&mut self, marks: &mut Vec<Mark>)
         ensures { self.new ≡ undone self.old marks.old.items }
     {
         while let Some(mark) = marks.pop() {

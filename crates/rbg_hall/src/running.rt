@@ -6,7 +6,7 @@ ghost use Rattle.rbg_match.specs.Inputs.{event_of};
 ghost use Rattle.rbg_match.specs.Matches.{HasHistory};
 ghost use Rattle.rbg_match.specs.PlayingOn.{seats_of};
 ghost use Rattle.rbg_hall.specs.internal.Running.{OpensFor, StepsFor};
-ghost use Rattle.rbg_hall.specs.internal.Undoing.{undone};
+ghost use Rattle.rbg_hall.specs.Undoing.{undone};
 
 use crate::queues::{HallOut, Mark};
 use rbg_base::Memory;

@@ -1,37 +1,71 @@
-//! A table of a hall.
-ghost use Rattle.std.specs.Prelude.{◌≡◌, ◌||◌, true, false, map, is_err, option_map, IfOk, IsErr, OnErr, OnOk};
+//! A table of a hall: its seats, and its match once it has begun.
+ghost use Rattle.std.specs.Prelude.{◌≡◌, ◌↔◌, ◌+◌, ◌<◌, ◌^◌, ◌++◌, ◌∷◌, [], ℕ, Option, Some, None, length, slice_get, slice_set, is_none, option_map, IfNone, IfOk, IfSome, IsTrue, OnOk};
 ghost use Rattle.rbg_game.specs.Loading.{Loads};
 ghost use Rattle.rbg_match.specs.Config.{IsWithinLimits};
+ghost use Rattle.rbg_match.specs.Inputs.{event_of};
+ghost use Rattle.rbg_wire.specs.Inboxes.{item_of};
+ghost use Rattle.rbg_wire.specs.Whole.{whole_item};
+ghost use Rattle.rbg_match.specs.Limits.{message_limit};
+ghost use Rattle.rbg_hall.specs.Tables.{AreTaken, HasNoSeat, HasSeat, SitsAt, arrives, clock, joins, leaves, new_table, says};
 ghost use Rattle.rbg_hall.specs.Hearing.{HearsFor, input_of};
-ghost use Rattle.rbg_hall.specs.Tables.{new_table};
+ghost use Rattle.rbg_hall.specs.internal.Hearing.{BeginsFor, PlaysFor, IsFirstAt};
+ghost use Rattle.rbg_hall.specs.Undoing.{undone};
 
 use crate::input::TableInput;
-use crate::queues::HallOut;
-use crate::seating::Seating;
+use crate::queues::{HallOut, Mark};
+use crate::running::Running;
 use rbg_base::Memory;
-use rbg_match::{Config, Match};
+use rbg_match::{Config, Event, Match};
 use rbg_rules::Game;
+use rbg_wire::{Reason, Took};
 use std::alloc::Global;
 use std::marker::Model;
+use std::mem::replace;
 
-/// A table of a hall: its seats, and its match once all of them are taken. Contracts see its state, and whether it has
-/// failed.
+/// The most bytes of a line's message, not counting its zero byte.
+pub const MESSAGE_LIMIT: usize = 4096;
+
+/// How far a table is.
+#[derive(Debug, Drop)]
+pub(crate) enum Phase {
+    /// Its match has not begun.
+    Waiting(Game),
+    /// Its match has begun.
+    Begun(Running),
+    /// Its match was to begin, and memory ran out.
+    Failed,
+}
+
+/// A table of a hall: its seats, and its match once all of them are taken. Contracts see its state. What it hears is all
+/// or nothing for the caller, who takes back what a refusal left in the queues, and asks the table no more.
 #[derive(Debug, Drop)]
 pub struct HallTable {
-    seating: Seating,
-    /// Whether memory ran out in something that the table heard.
-    failed: bool,
+    text: Vec<u8>,
+    config: Config,
+    /// The line on each seat, seat 1 first.
+    seats: Vec<Option<u64>>,
+    phase: Phase,
 }
 
 impl Model for HallTable {
-    ghost use Rattle.rbg_hall.specs.Failing.{HeldTable};
-    ghost use Rattle.rbg_hall.specs.internal.Codes.{coded_held};
+    ghost use Rattle.rbg_hall.specs.Tables.{TableState};
+    ghost use Rattle.rbg_hall.specs.internal.Codes.{coded_table};
 
-    ghost Value = { HeldTable };
+    ghost Value = { TableState };
 
-    ghost coded = { coded_held };
+    ghost coded = { coded_table };
 
-    ghost view = { λ t. record { state = t.seating; failed = t.failed } };
+    ghost use Rattle.rbg_hall.specs.internal.Parts.{IsSeated, begun_in, game_in};
+
+    ghost view = { λ t. record {
+      game = game_in t.phase;
+      text = t.text.items;
+      config = t.config;
+      seats = t.seats.items;
+      begun = begun_in t.phase;
+    } };
+
+    ghost invariant = { λ t. IsSeated t.text.items t.config t.seats.items t.phase };
 }
 
 impl HallTable {
@@ -44,46 +78,314 @@ impl HallTable {
     ) -> Result<HallTable, Memory>
         requires loaded { Loads text.items game }
         requires limits { IsWithinLimits config }
-        ensures { IfOk result (λ table.
-            table ≡ record { state = new_table game text.items config; failed = false }) }
+        ensures { IfOk result (λ table. table ≡ new_table game text.items config) }
     {
-        let seating = Seating::new(alloc, game, text, config)?;
+        let seats = vec![in alloc; None; game.players()]?;
         Ok(HallTable {
-            seating,
-            failed: false,
+            text,
+            config,
+            seats,
+            phase: Phase::Waiting(game),
         })
-    }
-
-    /// Hears an event of the clock, or of a line that asked for this table, and queues what it tells its lines. A refusal
-    /// leaves the queues as they were, and the table answers `Memory` from then on.
-    pub fn hear(
-        &mut self,
-        alloc: Global,
-        input: TableInput<'_>,
-        out: &mut HallOut,
-    ) -> Result<(), Memory>
-        ensures hears { OnOk result (HearsFor self.old.state (input_of input.entry) self.new.state
-            out.old out.new) }
-        ensures kept { OnErr result (out.new ≡ out.old) }
-        ensures failing { self.new.failed ≡ is_err result }
-        ensures failed { self.old.failed ≡ true → IsErr result }
-    {
-        if self.failed {
-            return Err(Memory);
-        }
-        let mut marks = Vec::new(alloc);
-        let heard = self.seating.hear(input, out, &mut marks);
-        if heard.is_err() {
-            self.failed = true;
-            out.take_back(&mut marks);
-        }
-        heard
     }
 
     /// The match, once it has begun.
     pub fn begun(&self) -> Option<&Match>
-        ensures { option_map (λ playing. playing.now) result ≡ self.now.state.begun }
+        ensures { option_map (λ playing. playing.now) result ≡ self.now.begun }
     {
-        self.seating.begun()
+        match &self.phase {
+            Phase::Begun(running) => Some(running.playing()),
+            Phase::Waiting(_) => None,
+            Phase::Failed => None,
+        }
     }
+
+    /// Whether a line has a seat.
+    pub fn has_seat(&self, line: u64) -> bool
+        ensures { IsTrue result ↔ HasSeat self.now line }
+    {
+        self.seat_of(line).is_some()
+    }
+
+    /// Hears an event of the clock, or of a line that asked for this table, and queues what it tells its lines. The marks
+    /// tell how long the queues were.
+    pub fn hear(
+        &mut self,
+        input: TableInput<'_>,
+        out: &mut HallOut,
+        marks: &mut Vec<Mark>,
+    ) -> Result<(), Memory>
+        ensures hears { OnOk result (HearsFor self.old (input_of input.entry) self.new out.old out.new) }
+        ensures undone { undone out.new marks.new.items ≡ undone out.old marks.old.items }
+    {
+        match input {
+            TableInput::Clock { at } => self.tick(at, out, marks),
+            TableInput::Joins { line, at } => self.join(line, at, out, marks),
+            TableInput::Arrives { line, at } => self.arrive(line, at, out, marks),
+            TableInput::Says { line, at, took } => self.say(line, at, took, out, marks),
+            TableInput::Leaves { line, at } => self.leave(line, at, out, marks),
+        }
+    }
+
+    /// The clock is heard by a match that has begun.
+    fn tick(&mut self, at: u64, out: &mut HallOut, marks: &mut Vec<Mark>) -> Result<(), Memory>
+        ensures hears { OnOk result (HearsFor self.old (clock at) self.new out.old out.new) }
+        ensures undone { undone out.new marks.new.items ≡ undone out.old marks.old.items }
+    {
+        self.play(Event::Tick { at }, out, marks)
+    }
+
+    /// What comes from a line with a seat is a moment for a match that has begun.
+    fn arrive(
+        &mut self,
+        line: u64,
+        at: u64,
+        out: &mut HallOut,
+        marks: &mut Vec<Mark>,
+    ) -> Result<(), Memory>
+        ensures hears { OnOk result (HearsFor self.old (arrives line at) self.new out.old out.new) }
+        ensures undone { undone out.new marks.new.items ≡ undone out.old marks.old.items }
+    {
+        match self.seat_of(line) {
+            Some(_) => self.play(Event::Tick { at }, out, marks),
+            None => Ok(()),
+        }
+    }
+
+    /// A line with a seat is heard, another one isn't.
+    fn say(
+        &mut self,
+        line: u64,
+        at: u64,
+        took: Took<'_>,
+        out: &mut HallOut,
+        marks: &mut Vec<Mark>,
+    ) -> Result<(), Memory>
+        ensures hears { OnOk result (HearsFor self.old (says line at (item_of took.entry)) self.new
+            out.old out.new) }
+        ensures undone { undone out.new marks.new.items ≡ undone out.old marks.old.items }
+    {
+        match self.seat_of(line) {
+            Some(index) => self.hear_item(index, line, at, took, out, marks),
+            None => Ok(()),
+        }
+    }
+
+    /// The end of a line with a seat is heard, that of another one isn't.
+    fn leave(
+        &mut self,
+        line: u64,
+        at: u64,
+        out: &mut HallOut,
+        marks: &mut Vec<Mark>,
+    ) -> Result<(), Memory>
+        ensures hears { OnOk result (HearsFor self.old (leaves line at) self.new out.old out.new) }
+        ensures undone { undone out.new marks.new.items ≡ undone out.old marks.old.items }
+    {
+        match self.seat_of(line) {
+            Some(index) => self.leave_seat(index, line, at, out, marks),
+            None => Ok(()),
+        }
+    }
+
+    /// Whether the match has not begun.
+    fn is_waiting(&self) -> bool
+        ensures { result ≡ is_none self.now.begun }
+    {
+        match &self.phase {
+            Phase::Begun(_) => false,
+            Phase::Waiting(_) => true,
+            Phase::Failed => true,
+        }
+    }
+
+    /// The index of the seat on which a line sits.
+    fn seat_of(&self, line: u64) -> Option<usize>
+        ensures sits { IfSome result (SitsAt self.now line) }
+        ensures small { IfSome result (λ index. index + 1 < 2 ^ 64) }
+        ensures none { IfNone result (HasNoSeat self.now line) }
+    {
+        first_index(&self.seats, Some(line))
+    }
+
+    /// The match handles an event, if it has begun.
+    fn play(
+        &mut self,
+        event: Event<'_>,
+        out: &mut HallOut,
+        marks: &mut Vec<Mark>,
+    ) -> Result<(), Memory>
+        ensures plays { OnOk result (PlaysFor self.old (event_of event.entry) self.new out.old out.new) }
+        ensures undone { undone out.new marks.new.items ≡ undone out.old marks.old.items }
+    {
+        match &mut self.phase {
+            Phase::Begun(running) => running.step(event, &self.seats, out, marks),
+            Phase::Waiting(_) => Ok(()),
+            Phase::Failed => Ok(()),
+        }
+    }
+
+    /// A line asks for a seat. With the last one the match begins.
+    fn join(
+        &mut self,
+        line: u64,
+        at: u64,
+        out: &mut HallOut,
+        marks: &mut Vec<Mark>,
+    ) -> Result<(), Memory>
+        ensures hears { OnOk result (HearsFor self.old (joins line at) self.new out.old out.new) }
+        ensures undone { undone out.new marks.new.items ≡ undone out.old marks.old.items }
+    {
+        if !self.is_waiting() {
+            return out.refuse(line, Reason::NoSeat, marks);
+        }
+        match self.free_seat() {
+            Some(index) => self.sit(index, line, at, out, marks),
+            None => out.refuse(line, Reason::NoSeat, marks),
+        }
+    }
+
+    /// The index of the first free seat.
+    fn free_seat(&self) -> Option<usize>
+        ensures found { IfSome result (IsFirstAt self.now.seats None) }
+        ensures none { IfNone result (AreTaken self.now.seats) }
+    {
+        first_index(&self.seats, None)
+    }
+
+    /// A line gets the first free seat. With the last one the match begins.
+    fn sit(
+        &mut self,
+        index: usize,
+        line: u64,
+        at: u64,
+        out: &mut HallOut,
+        marks: &mut Vec<Mark>,
+    ) -> Result<(), Memory>
+        requires waits { self.old.begun ≡ None }
+        requires first { IsFirstAt self.old.seats None index }
+        ensures hears { OnOk result (HearsFor self.old (joins line at) self.new out.old out.new) }
+        ensures undone { undone out.new marks.new.items ≡ undone out.old marks.old.items }
+    {
+        self.take_seat(index, Some(line));
+        match self.free_seat() {
+            Some(_) => Ok(()),
+            None => self.begin(at, out, marks),
+        }
+    }
+
+    /// A line takes a seat, or leaves it.
+    fn take_seat(&mut self, index: usize, line: Option<u64>)
+        requires { index < length self.old.seats }
+        ensures { self.new ≡ record self.old { seats = slice_set self.old.seats index line } }
+    {
+        self.seats[index] = line;
+    }
+
+    /// The match begins.
+    fn begin(&mut self, at: u64, out: &mut HallOut, marks: &mut Vec<Mark>) -> Result<(), Memory>
+        ensures begins { OnOk result (BeginsFor self.old at self.new out.old out.new) }
+        ensures undone { undone out.new marks.new.items ≡ undone out.old marks.old.items }
+    {
+        let alloc = *marks.allocator();
+        let Phase::Waiting(game) = replace(&mut self.phase, Phase::Failed) else {
+            return Err(Memory);
+        };
+        let running = Running::open(
+            alloc,
+            game,
+            &self.text,
+            self.config,
+            at,
+            &self.seats,
+            out,
+            marks,
+        )?;
+        self.phase = Phase::Begun(running);
+        Ok(())
+    }
+
+    /// An item of the line on this seat is refused before the match begins, and handed to the match afterwards.
+    fn hear_item(
+        &mut self,
+        index: usize,
+        line: u64,
+        at: u64,
+        took: Took<'_>,
+        out: &mut HallOut,
+        marks: &mut Vec<Mark>,
+    ) -> Result<(), Memory>
+        requires sits { SitsAt self.old line index }
+        requires small { index + 1 < 2 ^ 64 }
+        ensures hears { OnOk result (HearsFor self.old (says line at (item_of took.entry)) self.new out.old out.new) }
+        ensures undone { undone out.new marks.new.items ≡ undone out.old marks.old.items }
+    {
+        if self.is_waiting() {
+            return out.refuse(line, Reason::OutOfTurn, marks);
+        }
+        let whole = whole_piece(*marks.allocator(), took)?;
+        let piece = Event::Piece {
+            seat: index as u64 + 1,
+            at,
+            bytes: &whole,
+        };
+        self.play(piece, out, marks)
+    }
+
+    /// The end of the line on this seat frees the seat before the match begins, and goes to the match afterwards.
+    fn leave_seat(
+        &mut self,
+        index: usize,
+        line: u64,
+        at: u64,
+        out: &mut HallOut,
+        marks: &mut Vec<Mark>,
+    ) -> Result<(), Memory>
+        requires sits { SitsAt self.old line index }
+        requires small { index + 1 < 2 ^ 64 }
+        ensures hears { OnOk result (HearsFor self.old (leaves line at) self.new out.old out.new) }
+        ensures undone { undone out.new marks.new.items ≡ undone out.old marks.old.items }
+    {
+        if self.is_waiting() {
+            self.take_seat(index, None);
+            return Ok(());
+        }
+        let end = Event::Ended {
+            seat: index as u64 + 1,
+            at,
+        };
+        self.play(end, out, marks)
+    }
+}
+
+/// The first index at which a seat is free, or at which a line sits.
+fn first_index(seats: &[Option<u64>], wanted: Option<u64>) -> Option<usize>
+    ensures found { IfSome result (IsFirstAt seats.now wanted) }
+    ensures small { IfSome result (λ index. index + 1 < 2 ^ 64) }
+    ensures none { IfNone result ((index : ℕ) → ¬ (slice_get seats.now index ≡ Some wanted)) }
+{
+    for (index, seat) in seats.iter().enumerate() {
+        if *seat == wanted {
+            return Some(index);
+        }
+    }
+    None
+}
+
+/// The bytes that complete this item alone.
+fn whole_piece(alloc: Global, took: Took<'_>) -> Result<Vec<u8>, Memory>
+    ensures { IfOk result (λ whole. whole.items ≡ whole_item message_limit (item_of took.entry)) }
+{
+    match took {
+        Took::Message(text) => with_zero(Vec::from_slice(alloc, text)?),
+        Took::TooLong => with_zero(vec![in alloc; b'x'; MESSAGE_LIMIT + 1]?),
+    }
+}
+
+/// These bytes, and a zero byte behind them.
+fn with_zero(mut bytes: Vec<u8>) -> Result<Vec<u8>, Memory>
+    ensures { IfOk result (λ whole. whole.items ≡ bytes.items ++ 0 ∷ []) }
+{
+    bytes.push(0)?;
+    Ok(bytes)
 }

@@ -1,6 +1,5 @@
 -- A match that opens and handles events in turn is refereed.
-use Rattle.std.proofs.Common.{◌≡◌, ℕ, List, [], ◌++◌, length, refl, sym, ap, ◌∙◌, subst, replicate, None, Result, Ok, Err, inr}
-use Rattle.std.specs.Prelude.{IfErr}
+use Rattle.std.proofs.Common.{◌≡◌, ℕ, List, [], ◌++◌, length, refl, sym, ap, ◌∙◌, subst, replicate, None, inr}
 use Rattle.std.proofs.lemmas.List.{length-replicate}
 use Rattle.rbg_rules.specs.State.{AbstractGame}
 use Rattle.rbg_match.specs.declared.config.Config.{Config}
@@ -8,7 +7,8 @@ use Rattle.rbg_match.specs.Deliveries.{Delivery, queued, delivered}
 use Rattle.rbg_match.specs.PlayingOn.{seats_of}
 use Rattle.rbg_match.specs.Inputs.{AbstractEvent, timed_inputs_of}
 use Rattle.rbg_match.specs.Transcript.{HandlesAll, greetings}
-use Rattle.rbg_match.specs.Matches.{MatchState, Opens, StepsAll}
+use Rattle.rbg_match.specs.Matches.{MatchState, HasHistory, Opens, StepsAll}
+use Rattle.rbg_match.specs.Played.{IsMatchOf}
 use Rattle.rbg_match.specs.Laws.{SteppedIsTranscript}
 use Rattle.rbg_match.specs.declared.error.RefereeError.{RefereeError}
 use Rattle.rbg_match.specs.declared.error.RefereeError.TheVariants.{Load, Config as ConfigRefused, Memory}
@@ -44,8 +44,8 @@ stepped_is_transcript game text config now events old new before after opens ste
       handled.told ∙ ap (λ box. delivered box handled.said) opens.told ∙ delivered-queued_more (seats_of game) (greetings text config game.players ++ opens.opening) handled.said,
     )
 
--- a match that opens and handles these events is refereed, and its state of play is that of the transcript
-refereed_with : (text : List ℕ) (config : Config) (now : ℕ) (events : List AbstractEvent) (old new : MatchState) (before after : List (List ℕ)) → OpensText text config now old before → StepsAll old before events new after → (refereed : IsRefereed text config now events after) × (refereed.play ≡ new.play)
+-- a match that opens and handles these events is refereed: its state of play is that of the transcript, and so is its game
+refereed_with : (text : List ℕ) (config : Config) (now : ℕ) (events : List AbstractEvent) (old new : MatchState) (before after : List (List ℕ)) → OpensText text config now old before → StepsAll old before events new after → (refereed : IsRefereed text config now events after) × (refereed.play ≡ new.play) × (refereed.game ≡ new.game)
 refereed_with text config now events old new before after opened steps =
     let (said, transcript, bytes) = stepped_is_transcript opened.game text config now events old new before after opened.opens steps in (
       record {
@@ -58,22 +58,29 @@ refereed_with text config now events old new before after opened steps =
         bytes = bytes;
       },
       refl,
+      sym ((all_handled steps).same_game ∙ opened.opens.of_game),
     )
 
-pub is_refereed : (text : List ℕ) (config : Config) (now : ℕ) (events : List AbstractEvent) (old new : MatchState) (before after : List (List ℕ)) → OpensText text config now old before → StepsAll old before events new after → IsRefereed text config now events after
-is_refereed text config now events old new before after opened steps = (refereed_with text config now events old new before after opened steps).0
+pub is_match_of : (text : List ℕ) (config : Config) (now : ℕ) (events : List AbstractEvent) (old new : MatchState) (before after : List (List ℕ)) → OpensText text config now old before → StepsAll old before events new after → HasHistory new → IsMatchOf text config now events new after
+is_match_of text config now events old new before after opened steps history =
+    let (refereed, of_play, of_game) = refereed_with text config now events old new before after opened steps in record {
+      opened = old;
+      greeted = before;
+      opens = opened;
+      steps = steps;
+      refereed = refereed;
+      of_game = of_game;
+      of_play = of_play;
+      history = history;
+    }
 
 pub is_still_in_play : (text : List ℕ) (config : Config) (now : ℕ) (events : List AbstractEvent) (old new : MatchState) (before after : List (List ℕ)) → OpensText text config now old before → StepsAll old before events new after → new.play.outcome ≡ None → IsStillInPlay text config now events after
 is_still_in_play text config now events old new before after opened steps going =
-    let with_play = refereed_with text config now events old new before after opened steps in
-    record { refereed = with_play.0; going = ap (λ (play : AbstractPlay). play.outcome) with_play.1 ∙ going }
+    let (refereed, of_play, _) = refereed_with text config now events old new before after opened steps in
+    record { refereed = refereed; going = ap (λ (play : AbstractPlay). play.outcome) of_play ∙ going }
 
 -- a match that is stopped is one that is refused
-refused_by : (text : List ℕ) (config : Config) (now : ℕ) (events : List AbstractEvent) (error : RefereeError) → StopsMatch text config now events error → IsRefusedFor text config now events error
+pub refused_by : (text : List ℕ) (config : Config) (now : ℕ) (events : List AbstractEvent) (error : RefereeError) → StopsMatch text config now events error → IsRefusedFor text config now events error
 refused_by text config now events (Memory done said) stopped = inr stopped
 refused_by text config now events (Load error) stopped = absurd stopped
 refused_by text config now events ConfigRefused stopped = absurd stopped
-
-pub refused_when_stopped : (text : List ℕ) (config : Config) (now : ℕ) (events : List AbstractEvent) (result : Result (List (List ℕ)) RefereeError) → IfErr result (StopsMatch text config now events) → IfErr result (IsRefusedFor text config now events)
-refused_when_stopped text config now events (Ok outbox) stopped = tt
-refused_when_stopped text config now events (Err error) stopped = refused_by text config now events error stopped

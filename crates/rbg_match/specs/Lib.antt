@@ -10,5 +10,6 @@ pub mod Inputs
 pub mod Transcript
 pub mod Matches
 pub mod Refereed
+pub mod Played
 pub mod Laws
 pub mod internal

@@ -25,4 +25,4 @@ pub use event::Event;
 pub use made::Made;
 pub use matches::Match;
 pub use outbox::{MAX_SEATS, Outbox};
-pub use refereeing::referee;
+pub use refereeing::{referee, referee_match};

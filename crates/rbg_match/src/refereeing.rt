@@ -4,7 +4,8 @@ ghost use Rattle.rbg_game.specs.Loading.{IsRefused};
 ghost use Rattle.rbg_match.specs.declared.config.Config.{Config};
 ghost use Rattle.rbg_match.specs.PlayingOn.{seats_of};
 ghost use Rattle.rbg_match.specs.Inputs.{AbstractEvent, event_of};
-ghost use Rattle.rbg_match.specs.Matches.{MatchState, StepsAll};
+ghost use Rattle.rbg_match.specs.Matches.{HasHistory, MatchState, StepsAll};
+ghost use Rattle.rbg_match.specs.Played.{IsMatchOf};
 ghost use Rattle.rbg_match.specs.Refereed.{IsRefereed, IsRefusedFor, OpensText, StopsMatch};
 
 use crate::{Config, Event, Match, MatchError, Outbox, RefereeError};
@@ -23,8 +24,25 @@ pub fn referee(
     ensures refereed { IfOk result (IsRefereed text.now config now (map event_of events.now)) }
     ensures refused { IfErr result (IsRefusedFor text.now config now (map event_of events.now)) }
 {
+    let (_, outbox) = referee_match(alloc, text, config, now, events)?;
+    Ok(outbox)
+}
+
+/// Referees a match as `referee` does, and returns the match with its outbox, so that its record can be written.
+pub fn referee_match(
+    alloc: Global,
+    text: &[u8],
+    config: Config,
+    now: u64,
+    events: &[Event<'_>],
+) -> Result<(Match, Outbox), RefereeError>
+    ensures played { IfOk result (λ played.
+        IsMatchOf text.now config now (map event_of events.now) played.0 played.1) }
+    ensures refused { IfErr result (IsRefusedFor text.now config now (map event_of events.now)) }
+{
     let (mut refereed, outbox) = open(alloc, text, config, now)?;
-    go_on(&mut refereed, outbox, events)
+    let outbox = go_on(&mut refereed, outbox, events)?;
+    Ok((refereed, outbox))
 }
 
 /// Loads the game and makes the match.
@@ -35,6 +53,7 @@ fn open(
     now: u64,
 ) -> Result<(Match, Outbox), RefereeError>
     ensures opens { IfOk result (λ made. OpensText text.now config now made.0 made.1) }
+    ensures history { IfOk result (λ made. HasHistory made.0) }
     ensures refused { IfErr result (λ error.
         (events : List AbstractEvent) → IsRefusedFor text.now config now events error) }
 {
@@ -74,9 +93,10 @@ fn go_on(
 ) -> Result<Outbox, RefereeError>
     requires works { refereed.old.failed ≡ false }
     requires seats { length outbox ≡ seats_of refereed.old.game }
-    ensures refereed { (text : List ℕ) (config : Config) (now : ℕ) →
+    requires history { HasHistory refereed.old }
+    ensures played { (text : List ℕ) (config : Config) (now : ℕ) →
         OpensText text config now refereed.old outbox →
-        IfOk result (IsRefereed text config now (map event_of events.now)) }
+        IfOk result (IsMatchOf text config now (map event_of events.now) refereed.new) }
     ensures stopped { (text : List ℕ) (config : Config) (now : ℕ) →
         OpensText text config now refereed.old outbox →
         IfErr result (StopsMatch text config now (map event_of events.now)) }
@@ -98,6 +118,7 @@ fn handle_all(refereed: &mut Match, events: &[Event<'_>], outbox: &mut Outbox) -
         × (state : MatchState)
         × StepsAll refereed.old outbox.old (take done (map event_of events.now)) state outbox.new
         × (state.play.outcome ≡ None)) }
+    ensures history { OnOk result (HasHistory refereed.old → HasHistory refereed.new) }
 {
     for (done, event) in events.iter().enumerate() {
         if refereed.step(*event, outbox).is_err() {

@@ -1,2 +1,3 @@
 -- Lemmas, by topic.
+mod Refusing
 mod Sums

@@ -1,7 +1,8 @@
 //! Sequences of moves from the beginning of play.
-ghost use Rattle.std.specs.Prelude.{IfOk, None};
+ghost use Rattle.std.specs.Prelude.{IfErr, IfOk, None};
 ghost use Rattle.rbg_rules.specs.State.{start_of};
 ghost use Rattle.rbg_perft.specs.Counting.{AreCounted};
+ghost use Rattle.rbg_perft.specs.Refusals.{IsNotCounted};
 
 use crate::counting::{Counts, count_sequences};
 use crate::error::CountError;
@@ -16,6 +17,8 @@ pub fn count_from_start(
     ensures counted { IfOk result (λ counts.
         AreCounted game.now moves (record { state = start_of game.now; last = None })
         counts.sequences counts.ended) }
+    ensures refused { IfErr result
+        (IsNotCounted game.now moves (record { state = start_of game.now; last = None })) }
 {
     let place = game.start()?;
     count_sequences(game, place, moves, workspace)

@@ -1,8 +1,9 @@
 //! Sequences of moves, counted.
-ghost use Rattle.std.specs.Prelude.{◌≡◌, ◌+◌, ◌<◌, ◌^◌, length, All, IfOk, IfSome};
+ghost use Rattle.std.specs.Prelude.{◌≡◌, ◌≢◌, ℕ, ◌+◌, ◌<◌, ◌^◌, ◌⊎◌, length, suc, All, AllPairs, IfErr, IfNone, IfOk, IfSome};
 ghost use Rattle.rbg_rules.specs.Moves.{IsLegal};
 ghost use Rattle.rbg_rules.specs.Places.{IsPlaceOf};
 ghost use Rattle.rbg_perft.specs.Counting.{AreCounted, AreCountedBehind, AreLegalMoves, Sums, TellsFinished};
+ghost use Rattle.rbg_perft.specs.Refusals.{IsNotCounted, IsNotCountedFrom, most_counted};
 
 use crate::error::CountError;
 use rbg_moves::{MoveList, Place, PlayedGame, Workspace};
@@ -40,6 +41,8 @@ impl Counts {
         ensures sequences { IfSome result (λ sum.
             sum.sequences ≡ self.sequences + other.sequences) }
         ensures ended { IfSome result (λ sum. sum.ended ≡ self.ended + other.ended) }
+        ensures above { IfNone result ((most_counted < self.sequences + other.sequences)
+            ⊎ (most_counted < self.ended + other.ended)) }
     {
         Some(Counts {
             sequences: self.sequences.checked_add(other.sequences)?,
@@ -59,6 +62,7 @@ pub fn count_sequences(
     requires place { IsPlaceOf game.now place }
     ensures counted { IfOk result (λ counts.
         AreCounted game.now moves place counts.sequences counts.ended) }
+    ensures refused { IfErr result (IsNotCounted game.now moves place) }
 {
     let mut place = place;
     let counts = count_from(game, &mut place, moves, workspace)?;
@@ -77,6 +81,7 @@ fn count_from(
     requires place { IsPlaceOf game.now place.old }
     ensures counted { IfOk result (λ counts.
         AreCounted game.now moves place.old counts.sequences counts.ended) }
+    ensures refused { IfErr result (IsNotCounted game.now moves place.old) }
 {
     game.settle(place, workspace)?;
     if moves == 0 {
@@ -100,9 +105,11 @@ fn count_behind(
 ) -> Result<Counts, CountError>
     requires place { IsPlaceOf game.now place.now }
     requires legal { All (IsLegal game.now place.now) firsts.now }
+    requires different { AllPairs (λ a b. a ≢ b) firsts.now }
     ensures counted { IfOk result (λ counts.
         Sums (AreCountedBehind game.now further place.now) firsts.now counts.sequences
         counts.ended) }
+    ensures refused { IfErr result (IsNotCountedFrom game.now (suc further) place.now) }
 {
     let mut counts = NONE;
     let mut to = workspace.spare();
@@ -125,6 +132,7 @@ fn count_here(
     requires place { IsPlaceOf game.now place.old }
     ensures one { IfOk result (λ counts. counts.sequences ≡ 1) }
     ensures ended { IfOk result (λ counts. TellsFinished game.now place.old counts.ended) }
+    ensures refused { IfErr result (IsNotCountedFrom game.now 0 place.old) }
 {
     match game.find_pairs_on(place, workspace)? {
         Some(pairs) => {
@@ -143,6 +151,8 @@ fn list_all(
 ) -> Result<MoveList, CountError>
     requires place { IsPlaceOf game.now place.now }
     ensures all { IfOk result (λ moves. AreLegalMoves game.now place.now moves) }
+    ensures refused { IfErr result (λ error. (further : ℕ) →
+        IsNotCountedFrom game.now (suc further) place.now error) }
 {
     let gathered = game.gather_moves(place, usize::MAX, workspace)?;
     is_in_memory(&gathered.moves);

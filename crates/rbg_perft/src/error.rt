@@ -1,5 +1,7 @@
 //! Why sequences of moves were not counted.
 ghost use Rattle.std.specs.Prelude.{◌≡◌};
+ghost use Rattle.rbg_perft.specs.declared.error.CountError.TheVariants.{Memory};
+ghost use Rattle.rbg_perft.specs.internal.Refusing.{error_of_over, error_of_unsettled};
 
 use rbg_base::Memory as OutOfMemory;
 use rbg_moves::{Over, Unsettled};
@@ -18,7 +20,7 @@ pub enum CountError {
 }
 
 impl From<Over> for CountError {
-    ghost from_gives = { λ _ _. Unit {0} };
+    ghost from_gives = { λ over error. error ≡ error_of_over over };
 
     fn from(over: Over) -> CountError {
         match over {
@@ -29,7 +31,7 @@ impl From<Over> for CountError {
 }
 
 impl From<Unsettled> for CountError {
-    ghost from_gives = { λ _ _. Unit {0} };
+    ghost from_gives = { λ unsettled error. error ≡ error_of_unsettled unsettled };
 
     fn from(unsettled: Unsettled) -> CountError {
         match unsettled {
@@ -41,9 +43,7 @@ impl From<Unsettled> for CountError {
 }
 
 impl From<OutOfMemory> for CountError {
-    ghost use Rattle.rbg_perft.specs.declared.error.CountError.TheVariants.{Memory};
-
-    ghost from_gives = { λ _ e. e ≡ Memory };
+    ghost from_gives = { λ _ error. error ≡ Memory };
 
     fn from(_error: OutOfMemory) -> CountError {
         CountError::Memory

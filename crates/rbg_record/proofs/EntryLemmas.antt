@@ -17,7 +17,8 @@ use Rattle.rbg_record.specs.Right.{turn_config}
 use Rattle.rbg_record.specs.Judged.{FitsUnasked}
 use Rattle.rbg_record.specs.Lines.{Standing, Reached, nothing_next, entry_next, IsMomentFor, SpellsIn, EntryLeads, Leads, play_at}
 use Rattle.rbg_record.specs.Lines as lines
-use Rattle.rbg_record.specs.internal.Reading.{SomeIsLegal, LeavesTurn, RefusesEntry, Refuses, reached_of}
+use Rattle.rbg_record.specs.ByLine.{RefusesEntry, Refuses, reached_of}
+use Rattle.rbg_record.specs.internal.Reading.{SomeIsLegal, LeavesTurn}
 use Rattle.rbg_record.specs.declared.reached.Reached.{Reached as CodeReached}
 use Rattle.rbg_record.proofs.Deciding.{one_told}
 

@@ -16,7 +16,7 @@ use Rattle.rbg_record.specs.Lines as lines
 use Rattle.rbg_record.specs.Judged.{BeginsWith, GoesOn, IsGoodByLines, IsFormFault, IsJudged}
 use Rattle.rbg_record.specs.Judged as judged
 use Rattle.rbg_record.specs.internal.Faults.{told_at}
-use Rattle.rbg_record.specs.internal.Reading.{IsReachedIn, Refuses}
+use Rattle.rbg_record.specs.ByLine.{IsReachedIn, Refuses}
 use Rattle.rbg_record.specs.internal.SoFar.{IsReadSoFar}
 use Rattle.rbg_record.proofs.Deciding.{last_line}
 use Rattle.rbg_record.proofs.OneEnd.{one_first, no_line}

@@ -3,6 +3,7 @@ pub mod Records
 pub mod Right
 pub mod Lines
 pub mod Judged
+pub mod ByLine
 pub mod Migration
 pub mod OfMatch
 pub mod Laws

@@ -9,7 +9,7 @@ use rbg_moves::Over as OverLimits;
 
 /// Why a line of a record does not lead on.
 #[derive(Clone, Copy, Debug, PartialEq, Eq)]
-pub(crate) enum Fault {
+pub enum Fault {
     /// It is not of the form.
     Form,
     /// It is of the form, but not right behind the lines before it.

@@ -17,5 +17,8 @@ mod writing;
 pub use checked::Checked;
 pub use checking::check_record;
 pub use error::RecordError;
+pub use fault::Fault;
 pub use migrating::migrate;
+pub use reached::{Reached, Standing};
+pub use reading::read_line;
 pub use writing::{write_record, write_record_1};

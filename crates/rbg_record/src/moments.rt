@@ -7,7 +7,7 @@ ghost use Rattle.rbg_lines.specs.declared.entry.Entry.TheVariants.{End as EndEnt
 ghost use Rattle.rbg_record.specs.Lines.{IsMomentFor, unwritten_moment};
 ghost use Rattle.rbg_record.specs.Judged.{FitsUnasked, IsOnTurn};
 ghost use Rattle.rbg_record.specs.Right.{turn_config};
-ghost use Rattle.rbg_record.specs.internal.Reading.{standing_of};
+ghost use Rattle.rbg_record.specs.ByLine.{standing_of};
 
 use crate::reached::Standing;
 use rbg_lines::{Entry, Start, Timed};

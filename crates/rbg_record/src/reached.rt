@@ -2,26 +2,26 @@
 
 ghost use Rattle.std.specs.Prelude.{◌≡◌, ◌↔◌, IsTrue};
 ghost use Rattle.rbg_record.specs.Lines.{nothing_next};
-ghost use Rattle.rbg_record.specs.internal.Reading.{reached_of};
+ghost use Rattle.rbg_record.specs.ByLine.{reached_of};
 
 use rbg_lines::Version;
 use rbg_moves::Place;
 
 /// Where the moves so far lead.
 #[derive(Debug, Drop)]
-pub(crate) struct Standing {
+pub struct Standing {
     /// The version of the record.
-    pub(crate) version: Version,
+    pub version: Version,
     /// The time for a turn, in milliseconds: 1 in version 1.
-    pub(crate) turn_ms: u64,
+    pub turn_ms: u64,
     /// The moment of the last move, or of the beginning: 0 in version 1.
-    pub(crate) last: u64,
-    pub(crate) place: Place,
+    pub last: u64,
+    pub place: Place,
 }
 
 /// What the lines so far lead to.
 #[derive(Debug, Drop)]
-pub(crate) enum Reached {
+pub enum Reached {
     /// The version comes next.
     Version,
     /// The players come next.

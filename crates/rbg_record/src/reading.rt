@@ -15,14 +15,8 @@ ghost use Rattle.rbg_record.specs.Lines.{
   start_next,
   entry_next,
 };
-ghost use Rattle.rbg_record.specs.internal.Reading.{
-  IsReachedIn,
-  LeavesTurn,
-  Refuses,
-  RefusesEntry,
-  reached_of,
-  standing_of,
-};
+ghost use Rattle.rbg_record.specs.ByLine.{IsReachedIn, Refuses, RefusesEntry, reached_of, standing_of};
+ghost use Rattle.rbg_record.specs.internal.Reading.{LeavesTurn};
 
 use crate::asking::{are_players, are_scores, is_finished, try_move};
 use crate::fault::Fault;
@@ -35,8 +29,9 @@ use rbg_match::LATEST_MOMENT;
 use rbg_moves::{Move, PlayedGame};
 use rbg_wire::{Outcome, Scores};
 
-/// What a line leads to behind the lines so far.
-pub(crate) fn read_line(game: &PlayedGame, reached: Reached, text: &[u8]) -> Result<Reached, Fault>
+/// What a line leads to behind the lines so far, of which the first is read behind `Reached::Version`. Whoever reads a
+/// record line by line by this call takes the same ones as `check_record`.
+pub fn read_line(game: &PlayedGame, reached: Reached, text: &[u8]) -> Result<Reached, Fault>
     requires { IsReachedIn game.now (reached_of reached) }
     ensures leads { IfOk result (λ to.
         Leads game.now (reached_of reached) text.now (reached_of to)) }

@@ -1,2 +1,4 @@
 -- Lemmas, by topic.
+mod Lines
 mod Pieces
+mod Readings

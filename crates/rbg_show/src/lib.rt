@@ -2,8 +2,10 @@
 #![tactic(auto)]
 
 mod drawing;
+mod ending;
 mod line;
 mod play;
+mod reading;
 mod showing;
 mod signs;
 mod stop;

@@ -1,121 +1,166 @@
-//! The lines of lists, scripts and records, and the moves that they may mean.
+//! The lines of lists, scripts and records.
+ghost use Rattle.std.specs.Prelude.{◌≡◌, ◌↔◌, ℕ, List, [], ◌∷◌, ◌++◌, IfOk, IfSome, IfNone, IsTrue};
+ghost use Rattle.rbg_script.specs.declared.config.ScriptConfig.{ScriptConfig as AnyConfig};
+ghost use Rattle.rbg_script.specs.Config.{SpellsConfig};
+ghost use Rattle.rbg_script.specs.Events.{AbstractEvent, SpellsEvent};
+ghost use Rattle.rbg_lines.specs.declared.entry.Entry.TheVariants.{End as EndEntry};
+ghost use Rattle.rbg_lines.specs.declared.heading.Start.{Start as AnyStart};
+ghost use Rattle.rbg_lines.specs.Entries.{SpellsEntry, SpellsTimed};
+ghost use Rattle.rbg_lines.specs.Heading.{SpellsPlayers, SpellsStart};
+ghost use Rattle.rbg_show.specs.declared.line.RecordEnd.{RecordEnd as AnyEnd};
+ghost use Rattle.rbg_show.specs.Lines.{IsEnd, IsLine, IsSilent};
 
-use rbg_base::Move;
-use rbg_script::read_message;
-use rbg_wire::{read_number, read_pairs};
-use std::alloc::{AllocError, Global};
+use rbg_base::Memory;
+use rbg_lines::{Entry, Version, read_entry, read_players, read_start, read_timed, read_version};
+use rbg_script::{read_config, read_event, read_message};
+use rbg_wire::Outcome;
+use std::alloc::Global;
 
-/// What stands before the pairs of a move.
-#[derive(Clone, Copy, PartialEq, Eq)]
-pub(crate) enum Lead {
-    Nothing,
-    Player,
-    MomentAndPlayer,
+/// How a record ends.
+#[derive(Clone, Copy, Debug, PartialEq, Eq)]
+pub(crate) struct RecordEnd {
+    /// None where the match is still in play.
+    pub outcome: Option<Outcome>,
 }
 
 /// What a line holds.
 #[derive(Clone, Copy)]
 pub(crate) enum ListLine<'a> {
-    /// No move: a blank line, the head or the end of a record, another event of a script.
-    Other,
-    /// The first line of a record, whose moves are written in this way.
-    Head(Lead),
+    /// Nothing of moves: an empty line, the names or the start of a record, another event of a script.
+    Silent,
+    /// The first line of a record.
+    Head { version: Version },
+    /// The last line of a record.
+    End { end: RecordEnd },
     /// A message of a seat, which may be no move.
     Said { seat: u64, text: &'a [u8] },
-    /// A move, or numbers that are none.
-    Numbers(&'a [u8]),
-}
-
-/// A move as a line may mean it.
-#[derive(Drop)]
-pub(crate) struct Reading {
-    /// The player who makes it, where the line says who.
-    pub player: Option<u64>,
-    pub pairs: Move,
+    /// Any other line: a move, or none.
+    Other { text: &'a [u8] },
 }
 
 impl<'a> ListLine<'a> {
     /// Reads a line, without its line feed.
-    pub(crate) fn read(line: &'a [u8]) -> ListLine<'a> {
-        if line == b"rbg 1".as_slice() {
-            return ListLine::Head(Lead::Player);
-        }
-        if line == b"rbg 2".as_slice() {
-            return ListLine::Head(Lead::MomentAndPlayer);
+    pub(crate) fn read(alloc: Global, line: &'a [u8]) -> Result<ListLine<'a>, Memory>
+        ensures { IfOk result (IsLine line.now) }
+    {
+        if let Some(version) = read_version(line) {
+            return Ok(ListLine::Head { version });
         }
         if let Some(message) = read_message(line) {
-            return ListLine::Said {
+            return Ok(ListLine::Said {
                 seat: message.seat,
                 text: message.text,
-            };
+            });
         }
-        let text = match cut_number(line) {
-            Some((_, text)) => text,
-            None => line,
-        };
-        match text.first() {
-            Some(b'0'..=b'9' | b'M') => ListLine::Numbers(line),
-            _ => ListLine::Other,
+        if let Some(end) = record_end(line) {
+            return Ok(ListLine::End { end });
         }
+        if is_silent(alloc, line)? {
+            return Ok(ListLine::Silent);
+        }
+        Ok(ListLine::Other { text: line })
     }
 
-    /// The moves that the line may mean, where `lead` stands before the pairs, or where nobody has said what does.
-    pub(crate) fn readings(
-        &self,
-        alloc: Global,
-        lead: Option<Lead>,
-    ) -> Result<Vec<Reading>, AllocError> {
-        let mut readings = Vec::new(alloc);
-        match self {
-            ListLine::Other | ListLine::Head(_) => {}
-            ListLine::Said { seat, text } => {
-                if let Some(reading) = Reading::new(Some(*seat), text) {
-                    readings.push(reading)?;
-                }
-            }
-            ListLine::Numbers(text) => {
-                for known in [Lead::Nothing, Lead::Player, Lead::MomentAndPlayer] {
-                    if lead.unwrap_or(known) == known
-                        && let Some(reading) = Reading::behind(known, text)
-                    {
-                        readings.push(reading)?;
-                    }
-                }
-            }
-        }
-        Ok(readings)
+    /// Whether the line tells nothing of moves.
+    pub(crate) fn is_silent(&self) -> bool {
+        matches!(self, ListLine::Silent)
     }
 }
 
-impl Reading {
-    /// A player's move. The pairs may have the letter of a message before them.
-    fn new(player: Option<u64>, text: &[u8]) -> Option<Reading> {
-        let pairs = read_pairs(text.strip_prefix(b"M").unwrap_or(text)).ok()?;
-        Some(Reading { player, pairs })
-    }
-
-    /// The move whose pairs stand behind a lead.
-    fn behind(lead: Lead, text: &[u8]) -> Option<Reading> {
-        match lead {
-            Lead::Nothing => Reading::new(None, text),
-            Lead::Player => Reading::of_player(text),
-            Lead::MomentAndPlayer => {
-                let (_, text) = cut_number(text)?;
-                Reading::of_player(text)
-            }
-        }
-    }
-
-    /// The move of `<player> <pairs>`.
-    fn of_player(text: &[u8]) -> Option<Reading> {
-        let (player, text) = cut_number(text)?;
-        Reading::new(Some(player), text)
+/// A line without the carriage return that may end it.
+pub(crate) fn without_return(line: &[u8]) -> &[u8]
+    ensures cut { (text : List ℕ) → line.now ≡ text ++ 13 ∷ [] → result.now ≡ text }
+    ensures whole { ((text : List ℕ) → line.now ≡ text ++ 13 ∷ [] → ⊥)
+        → result.now ≡ line.now }
+{
+    match line.split_last() {
+        Some((b'\r', text)) => text,
+        _ => line,
     }
 }
 
-/// A number with a space after it, and what is left.
-fn cut_number(text: &[u8]) -> Option<(u64, &[u8])> {
-    let end = text.iter().position(|byte| *byte == b' ')?;
-    let number = read_number(&text[..end]).ok()?;
-    Some((number, &text[end + 1..]))
+/// The end of a record that a line tells, with a moment or without.
+fn record_end(line: &[u8]) -> Option<RecordEnd>
+    ensures found { IfSome result (IsEnd line.now) }
+    ensures none { IfNone result ((end : AnyEnd) → IsEnd line.now end → ⊥) }
+{
+    match plain_end(line) {
+        Some(end) => Some(end),
+        None => timed_end(line),
+    }
+}
+
+fn plain_end(line: &[u8]) -> Option<RecordEnd>
+    ensures found { IfSome result (λ end. SpellsEntry line.now (EndEntry end.outcome)) }
+    ensures none { IfNone result ((end : AnyEnd)
+        → SpellsEntry line.now (EndEntry end.outcome)
+        → ⊥) }
+{
+    let entry = read_entry(line)?;
+    end_of(&entry)
+}
+
+fn timed_end(line: &[u8]) -> Option<RecordEnd>
+    ensures found { IfSome result (IsEnd line.now) }
+    ensures none { IfNone result ((end : AnyEnd) (at : ℕ)
+        → SpellsTimed line.now (record { at = at; entry = EndEntry end.outcome })
+        → ⊥) }
+{
+    let timed = read_timed(line)?;
+    end_of(&timed.entry)
+}
+
+/// The end of a record that an entry is, if it is no move.
+fn end_of(entry: &Entry) -> Option<RecordEnd>
+    ensures found { IfSome result (λ end. entry.now ≡ EndEntry end.outcome) }
+    ensures none { IfNone result ((end : AnyEnd) → entry.now ≡ EndEntry end.outcome → ⊥) }
+{
+    match entry {
+        Entry::End { outcome } => Some(RecordEnd { outcome: *outcome }),
+        Entry::Move { .. } => None,
+    }
+}
+
+/// Whether a line tells nothing of moves. A message of a script is an event of it too.
+fn is_silent(alloc: Global, line: &[u8]) -> Result<bool, Memory>
+    ensures { IfOk result (λ silent. IsTrue silent ↔ IsSilent line.now) }
+{
+    if line.is_empty() {
+        return Ok(true);
+    }
+    if has_players(line) {
+        return Ok(true);
+    }
+    if has_start(line) {
+        return Ok(true);
+    }
+    if has_config(line) {
+        return Ok(true);
+    }
+    has_event(alloc, line)
+}
+
+fn has_players(line: &[u8]) -> bool
+    ensures { IsTrue result ↔ ((names : List (List ℕ)) × SpellsPlayers line.now names) }
+{
+    read_players(line).is_some()
+}
+
+fn has_start(line: &[u8]) -> bool
+    ensures { IsTrue result ↔ ((start : AnyStart) × SpellsStart line.now start) }
+{
+    read_start(line).is_some()
+}
+
+fn has_config(line: &[u8]) -> bool
+    ensures { IsTrue result ↔ ((config : AnyConfig) × SpellsConfig line.now config) }
+{
+    read_config(line).is_some()
+}
+
+fn has_event(alloc: Global, line: &[u8]) -> Result<bool, Memory>
+    ensures { IfOk result (λ has.
+        IsTrue has ↔ ((event : AbstractEvent) × SpellsEvent line.now event)) }
+{
+    Ok(read_event(alloc, line)?.is_some())
 }

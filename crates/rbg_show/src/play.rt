@@ -53,6 +53,13 @@ impl<'a> Play<'a> {
         })
     }
 
+    /// The game.
+    pub(crate) fn game(&self) -> &'a Game
+        ensures { result.now ≡ self.now.game }
+    {
+        self.game
+    }
+
     /// The player to move; 0 is the keeper.
     pub(crate) fn player(&self) -> Player
         ensures { result ≡ self.now.place.state.player }

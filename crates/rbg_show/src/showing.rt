@@ -1,12 +1,15 @@
 //! Moves that are followed on the board.
 
 use crate::drawing::Drawing;
-use crate::line::{Lead, ListLine, Reading};
+use crate::ending::write_outcome;
+use crate::line::{ListLine, RecordEnd, without_return};
 use crate::play::Play;
+use crate::reading::{Lead, Reading, readings, said_readings};
 use crate::signs::Signs;
 use crate::stop::Stop;
 use rbg_base::{Piece, Player};
 use rbg_game::LoadedGame;
+use rbg_wire::Outcome;
 use std::alloc::{AllocError, Global};
 
 /// The most moves that the keeper makes in a row.
@@ -24,9 +27,10 @@ pub struct Shown {
 /// values of the variables. With `only_last` only the last of a player's moves is shown.
 ///
 /// A move is a line: its pairs, perhaps behind a player, or behind a moment and a player, or a message of a script.
-/// What is no move is passed over. Where the keeper is to move and the list doesn't have its move, it makes the one
-/// that the referee would make. A seat's message that is no legal move is said to be refused. Any other move that isn't
-/// legal is the last one that is looked at.
+/// The other lines of records and scripts are passed over, and the end of a record is told at the end. Where the keeper
+/// is to move and the list doesn't have its move, it makes the one that the referee would make. A seat's message that
+/// is no legal move is said to be refused. Any other line that is no move, or none that is legal, is the last one that
+/// is looked at.
 pub fn show(
     alloc: Global,
     loaded: &LoadedGame,
@@ -48,6 +52,8 @@ pub fn show(
         text,
         kept,
         only_last,
+        lead: None,
+        end: None,
         moves: 0,
         keeper_moves: 0,
         is_new: true,
@@ -69,6 +75,10 @@ struct Showing<'a> {
     /// How much of the text stays where only the last move is shown.
     kept: usize,
     only_last: bool,
+    /// What stands before the pairs of a move, once the first line of a record has told it.
+    lead: Option<Lead>,
+    /// How the record ends, once its last line has told it.
+    end: Option<RecordEnd>,
     /// How many moves of players were made.
     moves: u64,
     /// How many moves of the keeper were made in a row.
@@ -80,14 +90,9 @@ struct Showing<'a> {
 impl Showing<'_> {
     /// Shows the moves of a list, and what stands at its end. Tells whether all went well.
     fn show_list(&mut self, moves: &[u8]) -> Result<bool, AllocError> {
-        let mut lead = None;
         for (index, line) in moves.split(|byte| *byte == b'\n').enumerate() {
-            let line = ListLine::read(line);
-            if let ListLine::Head(known) = line {
-                lead = Some(known);
-            }
             let number = index.saturating_add(1);
-            if let Err(stop) = self.show_line(&line, lead, number) {
+            if let Err(stop) = self.show_line(without_return(line), number) {
                 self.draw()?;
                 self.push_stop(stop, Some(number))?;
                 return Ok(false);
@@ -96,29 +101,49 @@ impl Showing<'_> {
         self.show_end()
     }
 
-    /// Shows the move of a line, if it has one.
-    fn show_line(
-        &mut self,
-        line: &ListLine<'_>,
-        lead: Option<Lead>,
-        number: usize,
-    ) -> Result<(), Stop> {
-        let readings = line.readings(self.alloc, lead)?;
+    /// Shows the move of a line, if it has one. Behind the end of a record only lines that tell nothing may stand.
+    fn show_line(&mut self, line: &[u8], number: usize) -> Result<(), Stop> {
+        let line = match ListLine::read(self.alloc, line) {
+            Ok(line) => line,
+            Err(_) => return Err(Stop::Memory),
+        };
+        if self.end.is_some() && !line.is_silent() {
+            return Err(Stop::BehindEnd);
+        }
         match line {
-            ListLine::Other | ListLine::Head(_) => Ok(()),
-            ListLine::Said { seat, .. } => {
-                if !self.make_one(&readings)? {
-                    self.push_refusal(number, *seat)?;
-                }
+            ListLine::Silent => Ok(()),
+            ListLine::Head { version } => {
+                self.lead = Some(Lead::of_version(version));
                 Ok(())
             }
-            ListLine::Numbers(_) => {
-                if self.make_one(&readings)? {
-                    Ok(())
-                } else {
-                    Err(Stop::NotLegal)
-                }
+            ListLine::End { end } => {
+                self.end = Some(end);
+                Ok(())
             }
+            ListLine::Said { seat, text } => self.show_message(seat, text, number),
+            ListLine::Other { text } => self.show_move(text),
+        }
+    }
+
+    /// Shows the move that a seat's message is, or that the message is refused.
+    fn show_message(&mut self, seat: u64, text: &[u8], number: usize) -> Result<(), Stop> {
+        let said = said_readings(self.alloc, seat, text)?;
+        if !self.make_one(&said)? {
+            self.push_refusal(number, seat)?;
+        }
+        Ok(())
+    }
+
+    /// Shows the move that a line is.
+    fn show_move(&mut self, text: &[u8]) -> Result<(), Stop> {
+        let readings = readings(self.alloc, text, self.lead)?;
+        if readings.is_empty() {
+            return Err(Stop::of_no_move(text));
+        }
+        if self.make_one(&readings)? {
+            Ok(())
+        } else {
+            Err(Stop::NotLegal)
         }
     }
 
@@ -219,23 +244,30 @@ impl Showing<'_> {
         Ok(())
     }
 
-    /// The keeper's moves at the end of a list, the board, and who is to move. Tells whether all went well.
+    /// The keeper's moves at the end of a list, the board, and how the match ended, or who is to move. Tells whether all
+    /// went well.
     fn show_end(&mut self) -> Result<bool, AllocError> {
         let settled = self.settle();
         self.draw()?;
-        match settled {
-            Ok(true) => {
-                let line = format!(in self.alloc; "{} is to move\n", self.play.mover())?;
-                self.text.extend_from_slice(line.as_bytes())?;
+        let outcome = self.end.and_then(|end| end.outcome);
+        match (settled, outcome) {
+            (Err(Stop::Memory), _) => Err(AllocError),
+            (Err(stop), _) if outcome != Some(Outcome::Heavy) => {
+                self.push_stop(stop, None)?;
+                Ok(false)
+            }
+            (_, Some(outcome)) => {
+                write_outcome(self.play.game(), &outcome, &mut self.text)?;
                 Ok(true)
             }
-            Ok(false) => {
+            (Ok(false), None) => {
                 self.text.extend_from_slice(b"play is finished\n")?;
                 Ok(true)
             }
-            Err(stop) => {
-                self.push_stop(stop, None)?;
-                Ok(false)
+            (_, None) => {
+                let line = format!(in self.alloc; "{} is to move\n", self.play.mover())?;
+                self.text.extend_from_slice(line.as_bytes())?;
+                Ok(true)
             }
         }
     }
@@ -256,7 +288,7 @@ impl Showing<'_> {
     /// Says why the moves from a line on, or what stands at the end of the list, aren't shown.
     fn push_stop(&mut self, stop: Stop, line: Option<usize>) -> Result<(), AllocError> {
         if let Some(line) = line {
-            let head = format!(in self.alloc; "line {line}: ")?;
+            let head = format!(in self.alloc; "line {line}{}", stop.separator())?;
             self.text.extend_from_slice(head.as_bytes())?;
         }
         match stop {
@@ -264,6 +296,13 @@ impl Showing<'_> {
                 let reason = format!(in self.alloc; "no legal move of {}\n", self.play.mover())?;
                 self.text.extend_from_slice(reason.as_bytes())
             }
+            Stop::NoMove => self.text.extend_from_slice(b"isn't a move\n"),
+            Stop::Mark => self
+                .text
+                .extend_from_slice(b"begins with a byte order mark\n"),
+            Stop::BehindEnd => self
+                .text
+                .extend_from_slice(b"stands behind the end of the record\n"),
             Stop::Heavy => self
                 .text
                 .extend_from_slice(b"a question is above the limits\n"),

@@ -1,12 +1,11 @@
 -- States of a table as pairs, sums and lists of numbers, one to one. Proofs tell states apart by them.
-use Rattle.std.specs.Prelude.{ℕ, Bool, List, Option, refl}
-use Rattle.std.specs.Coded.{Coded, coded_ℕ, coded_bool, coded_list, coded_option, coded×, code_by}
+use Rattle.std.specs.Prelude.{ℕ, List, Option, refl}
+use Rattle.std.specs.Coded.{Coded, coded_ℕ, coded_list, coded_option, coded×, code_by}
 use Rattle.rbg_rules.specs.State.{AbstractGame}
 use Rattle.rbg_rules.specs.Codes.{coded_game}
 use Rattle.rbg_match.specs.Matches.{MatchState}
 use Rattle.rbg_match.specs.internal.Codes.{coded_match}
 use Rattle.rbg_hall.specs.Tables.{TableState}
-use Rattle.rbg_hall.specs.Failing.{HeldTable}
 
 abbrev pub coded_table : Coded TableState
 coded_table = code_by ((AbstractGame × (List ℕ × (ℕ × ℕ))) × (List (Option ℕ) × Option MatchState))
@@ -21,10 +20,4 @@ coded_table = code_by ((AbstractGame × (List ℕ × (ℕ × ℕ))) × (List (Op
       seats = p.1.0;
       begun = p.1.1;
     })
-    (λ _. refl)
-
-abbrev pub coded_held : Coded HeldTable
-coded_held = code_by (TableState × Bool) (coded× coded_table coded_bool)
-    (λ h. (h.state, h.failed))
-    (λ p. record { state = p.0; failed = p.1 })
     (λ _. refl)

@@ -7,8 +7,8 @@ use Rattle.rbg_match.specs.declared.config.Config.{Config}
 use Rattle.rbg_match.specs.Config.{IsWithinLimits}
 use Rattle.rbg_match.specs.Matches.{MatchState}
 use Rattle.rbg_match.specs.PlayingOn.{seats_of}
-use Rattle.rbg_hall.specs.declared.seating.Phase.{Phase}
-use Rattle.rbg_hall.specs.declared.seating.Phase.TheVariants.{Waiting, Begun, Failed}
+use Rattle.rbg_hall.specs.declared.table.Phase.{Phase}
+use Rattle.rbg_hall.specs.declared.table.Phase.TheVariants.{Waiting, Begun, Failed}
 
 -- what stands for the game of a table whose match could not be made
 abbrev pub no_game : AbstractGame

@@ -3,7 +3,7 @@ use Rattle.std.specs.Prelude.{◌≡◌, ℕ, ◌+◌, ◌≤◌, List, length}
 use Rattle.rbg_rules.specs.State.{AbstractGame}
 use Rattle.rbg_record.specs.Judged.{BeginsWith}
 use Rattle.rbg_record.specs.Lines.{Reached, LeadTo}
-use Rattle.rbg_record.specs.internal.Reading.{IsReachedIn}
+use Rattle.rbg_record.specs.ByLine.{IsReachedIn}
 
 -- The lines before the rest are right in turn and lead there, and the next line has this number.
 pub record IsReadSoFar (game : AbstractGame) (bytes : List ℕ) (reached : Reached)

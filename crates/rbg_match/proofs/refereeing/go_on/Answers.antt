@@ -1,12 +1,12 @@
 use Rattle.std.proofs.Common.{map, take}
 use Rattle.std.proofs.lemmas.List.{length-map}
 use Rattle.rbg_match.specs.Inputs.{event_of}
-use Rattle.rbg_match.proofs.WholeMatch.{is_refereed, is_still_in_play}
+use Rattle.rbg_match.proofs.WholeMatch.{is_match_of, is_still_in_play}
 use Rattle.rbg_match.proofs.refereeing.go_on.Goals as goal
 
-pub returns-in-Ok-clause-refereed : goal.returns-in-Ok-clause-refereed
-returns-in-Ok-clause-refereed c = λ text config now opened.
-    is_refereed text config now (map event_of c.args.events.now) c.args.refereed.now c.handle_all.new.refereed c.args.outbox c.handle_all.new.outbox opened c.in-Ok.ensures.all
+pub returns-in-Ok-clause-played : goal.returns-in-Ok-clause-played
+returns-in-Ok-clause-played c = λ text config now opened.
+    is_match_of text config now (map event_of c.args.events.now) c.args.refereed.now c.handle_all.new.refereed c.args.outbox c.handle_all.new.outbox opened c.in-Ok.ensures.all (c.in-Ok.ensures.history c.requires.history)
 
 pub returns-in-Err-clause-stopped : goal.returns-in-Err-clause-stopped
 returns-in-Err-clause-stopped c = λ text config now opened.

@@ -3,13 +3,13 @@ use Rattle.rbg_match.proofs.AllEvents.{at_ok, at_err, at_err_not_ok, no_outcome,
 use Rattle.rbg_match.proofs.refereeing.handle_all.Goals as goal
 
 pub loop-done-init : goal.loop-done-init
-loop-done-init c = (none, c.requires.seats, c.requires.works)
+loop-done-init c = (none, c.requires.seats, c.requires.works, λ history. history)
 
 pub returns-then-is_err-clause-some : goal.returns-then-is_err-clause-some
 returns-then-is_err-clause-some c =
     let refused = at_err c.step.result c.is_err.result c.is_err.ensures.value c.if-is_err.true c.step.ensures.err in
     let not_ok = at_err_not_ok c.step.result c.is_err.result c.is_err.ensures.value c.if-is_err.true in
-    let (steps, seats, works) = c.loop-done.invariant in (
+    let (steps, seats, works, _) = c.loop-done.invariant in (
       c.loop-done-test.true,
       c.loop-done.refereed,
       taken_whole c.args.events.now c.loop-done.done c.step.new.outbox steps refused.0,
@@ -19,5 +19,10 @@ returns-then-is_err-clause-some c =
 pub loop-done-preserved : goal.loop-done-preserved
 loop-done-preserved c =
     let step = at_ok c.step.result c.is_err.result c.is_err.ensures.value c.if-is_err.false c.step.ensures.ok in
-    let (steps, seats, works) = c.loop-done.invariant in
-    (one_more_step c.args.events.now c.loop-done.done _ c.loop-done-test.true steps step, seats_kept step seats, step.works)
+    let keeps = at_ok c.step.result c.is_err.result c.is_err.ensures.value c.if-is_err.false c.step.ensures.history in
+    let (steps, seats, works, kept) = c.loop-done.invariant in (
+      one_more_step c.args.events.now c.loop-done.done _ c.loop-done-test.true steps step,
+      seats_kept step seats,
+      step.works,
+      λ history. keeps (kept history),
+    )

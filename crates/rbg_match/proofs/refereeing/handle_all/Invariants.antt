@@ -1,7 +1,7 @@
 use Rattle.std.proofs.Common.{◌≡◌, length, map, take, false}
 use Rattle.rbg_match.specs.PlayingOn.{seats_of}
 use Rattle.rbg_match.specs.Inputs.{event_of}
-use Rattle.rbg_match.specs.Matches.{StepsAll}
+use Rattle.rbg_match.specs.Matches.{HasHistory, StepsAll}
 use Rattle.rbg_match.proofs.refereeing.handle_all.Given as goal
 
 abbrev pub invariant-loop-done : goal.invariant-loop-done
@@ -9,3 +9,4 @@ invariant-loop-done l =
     StepsAll l.initial.refereed l.initial.outbox (map event_of (take l.done l.events)) l.refereed l.outbox
     × (length l.outbox ≡ seats_of l.refereed.game)
     × (l.refereed.failed ≡ false)
+    × (HasHistory l.initial.refereed → HasHistory l.refereed)

@@ -1,10 +1,18 @@
 -- What is behind each first move is added to the counts so far.
-use Rattle.std.proofs.Common.{rules, ◌≡◌, ℕ, ◌+◌, ◌<◌, ◌≤◌, length, subst, sym, arith, Some}
+use Rattle.std.proofs.Common.{rules, ◌≡◌, ◌≢◌, ℕ, List, ◌+◌, ◌-◌, ◌<◌, ◌≤◌, ◌⊎◌, length, suc, take, refl, subst, sym, arith, Some}
 use Rattle.std.specs.Prelude.{IfSome}
 use Rattle.std.proofs.lemmas.Option.{slice_get_within, get_or_from_slice_get}
 use Rattle.rbg_rules.specs.Moves.{IsLegal}
 use Rattle.rbg_perft.specs.Counting.{AreCounted, AreCountedBehind}
 use Rattle.rbg_perft.specs.Counting.Sums.{none}
+use Rattle.rbg_perft.specs.internal.Refusing.{error_of_unsettled}
+use Rattle.std.specs.Prelude.{IfNone}
+use Rattle.std.proofs.lemmas.List.Elements.{All-take}
+use Rattle.rbg_perft.specs.Counting.{Sums}
+use Rattle.rbg_perft.specs.Refusals.{IsNotCounted, most_counted}
+use Rattle.rbg_perft.specs.Refusals.Meets.{here}
+use Rattle.rbg_perft.specs.Refusals.AreTooMany.{sum}
+use Rattle.rbg_perft.proofs.Refusing.{no_sum, different_take, passed_on, behind_first, unsettled_refused, refused_next}
 use Rattle.rbg_perft.proofs.Sums.{sums_more, sums_end, counted_from, all_at}
 use Rattle.rbg_perft.proofs.counting.+counting.Goals as goal
 
@@ -33,27 +41,63 @@ count_behind-loop-index-preserved t c =
     (c.in_ok-to.to, c.in_ok-to.ensures.to, c.in_ok-behind.ensures.counted)
     sequences ended
 
-pub count_behind-returns : goal.count_behind-returns
-count_behind-returns t c =
+pub count_behind-returns-clause-counted : goal.count_behind-returns-clause-counted
+count_behind-returns-clause-counted t c =
     let all : length c.args.firsts.now ≤ c.loop-index.index = omega (arith, c.loop-index-test.false, c.len-index-end.ensures.count) in
-    record { counted = sums_end (AreCountedBehind c.args.game.now c.args.further c.args.place.now) c.args.firsts.now c.loop-index.index c.loop-index.counts.sequences c.loop-index.counts.ended all c.loop-index.invariant }
+    sums_end (AreCountedBehind c.args.game.now c.args.further c.args.place.now) c.args.firsts.now c.loop-index.index c.loop-index.counts.sequences c.loop-index.counts.ended all c.loop-index.invariant
+
+pub count_behind-returns-in_err-behind-clause-refused : goal.count_behind-returns-in_err-behind-clause-refused
+count_behind-returns-in_err-behind-clause-refused t c =
+    passed_on c.from_residual-in_err-behind.result c.in_err-behind.field-0.0 _ c.from_residual-in_err-behind.ensures.1
+    (λ place settles. behind_first _ _ _ _ _ _ c.in_err-behind.field-0.0 settles c.in_ok-to.ensures.to c.in_err-behind.ensures.refused)
+
+pub count_behind-returns-in_err-counts-clause-refused : goal.count_behind-returns-in_err-counts-clause-refused
+count_behind-returns-in_err-counts-clause-refused t c =
+    let firsts = c.args.firsts.now in
+    let k = c.loop-index.index in
+    let pairs = c.get-pairs.result.now in
+    let Has = AreCountedBehind c.args.game.now c.args.further c.args.place.now in
+    let sequences = c.loop-index.counts.sequences + c.in_ok-behind.behind.sequences in
+    let ended = c.loop-index.counts.ended + c.in_ok-behind.behind.ended in
+    let told = no_sum _ c.join.result c.in_err-counts.field-0.0 c.in_err-counts.ensures.value in
+    let above : (most_counted < sequences) ⊎ (most_counted < ended) = subst (λ o. IfNone o ((most_counted < sequences) ⊎ (most_counted < ended))) told.1 c.join.ensures.above in
+    let sums : Sums Has (take (k + 1) firsts) sequences ended =
+    sums_more Has firsts k pairs c.loop-index.counts.sequences c.loop-index.counts.ended c.in_ok-behind.behind.sequences c.in_ok-behind.behind.ended sequences ended
+    (slice_get_within firsts k pairs c.get-pairs.ensures.pairs) (sym (get_or_from_slice_get firsts k pairs pairs c.get-pairs.ensures.pairs)) c.loop-index.invariant
+    (c.in_ok-to.to, c.in_ok-to.ensures.to, c.in_ok-behind.ensures.counted) refl refl in
+    passed_on c.from_residual-in_err-counts.result c.in_err-counts.field-0.0 _ c.from_residual-in_err-counts.ensures.1
+    (λ place settles. subst (λ e. IsNotCounted c.args.game.now (suc c.args.further) place e) (sym told.0)
+    (here (sum settles (All-take (IsLegal c.args.game.now c.args.place.now) (k + 1) firsts c.requires.legal) (different_take (λ (a b : List (ℕ × ℕ)). a ≢ b) (k + 1) firsts c.requires.different) sums above)))
 
 pub count_from-count_behind-requires : goal.count_from-count_behind-requires
 count_from-count_behind-requires t c =
     let some : 0 < c.args.moves = omega (arith, c.if-moves-eq0.false) in
-    (search rules, (c.settle.ensures.place, c.in_ok-listed.ensures.all.legal))
+    (search rules, (c.settle.ensures.place, (c.in_ok-listed.ensures.all.legal, c.in_ok-listed.ensures.all.different)))
 
-pub count_from-returns : goal.count_from-returns
-count_from-returns t c =
+pub count_from-returns-clause-counted : goal.count_from-returns-clause-counted
+count_from-returns-clause-counted t c =
     let some : 0 < c.args.moves = omega (arith, c.if-moves-eq0.false) in
-    record {
-      counted = counted_from c.args.game.now c.args.moves c.args.place.now c.settle.new.place c.in_ok-listed.listed c.in_ok-counts.counts.sequences c.in_ok-counts.counts.ended some c.in_ok-settle.ensures.settles c.in_ok-listed.ensures.all c.in_ok-counts.ensures.counted;
-    }
+    counted_from c.args.game.now c.args.moves c.args.place.now c.settle.new.place c.in_ok-listed.listed c.in_ok-counts.counts.sequences c.in_ok-counts.counts.ended some c.in_ok-settle.ensures.settles c.in_ok-listed.ensures.all c.in_ok-counts.ensures.counted
 
-pub count_from-returns-then-moves-eq0 : goal.count_from-returns-then-moves-eq0
-count_from-returns-then-moves-eq0 t c =
+pub count_from-returns-then-moves-eq0-clause-counted : goal.count_from-returns-then-moves-eq0-clause-counted
+count_from-returns-then-moves-eq0-clause-counted t c =
     let counts = c.in_ok-here.here in
-    record {
-      counted = subst (λ (k : ℕ). AreCounted c.args.game.now k c.args.place.now counts.sequences counts.ended) (sym c.if-moves-eq0.true)
-          (c.settle.new.place, c.in_ok-settle.ensures.settles, c.in_ok-here.ensures.one, c.in_ok-here.ensures.ended);
-    }
+    subst (λ (k : ℕ). AreCounted c.args.game.now k c.args.place.now counts.sequences counts.ended) (sym c.if-moves-eq0.true)
+    (c.settle.new.place, c.in_ok-settle.ensures.settles, c.in_ok-here.ensures.one, c.in_ok-here.ensures.ended)
+
+pub count_from-returns-in_err-settle-clause-refused : goal.count_from-returns-in_err-settle-clause-refused
+count_from-returns-in_err-settle-clause-refused t c =
+    passed_on c.from_residual.result (error_of_unsettled c.in_err-settle.field-0.0) _ c.from_residual.ensures.1
+    (unsettled_refused _ _ _ _ c.in_err-settle.field-0.0 c.in_err-settle.ensures.heavy c.in_err-settle.ensures.endless)
+
+pub count_from-returns-in_err-listed-clause-refused : goal.count_from-returns-in_err-listed-clause-refused
+count_from-returns-in_err-listed-clause-refused t c =
+    let some : 0 < c.args.moves = omega (arith, c.if-moves-eq0.false) in
+    passed_on c.from_residual-in_err-listed.result c.in_err-listed.field-0.0 _ c.from_residual-in_err-listed.ensures.1
+    (refused_next _ _ _ c.in_err-listed.field-0.0 some (c.in_err-listed.ensures.refused (c.args.moves - 1) c.args.place.now c.in_ok-settle.ensures.settles))
+
+pub count_from-returns-in_err-counts-clause-refused : goal.count_from-returns-in_err-counts-clause-refused
+count_from-returns-in_err-counts-clause-refused t c =
+    let some : 0 < c.args.moves = omega (arith, c.if-moves-eq0.false) in
+    passed_on c.from_residual-in_err-counts.result c.in_err-counts.field-0.0 _ c.from_residual-in_err-counts.ensures.1
+    (refused_next _ _ _ c.in_err-counts.field-0.0 some (c.in_err-counts.ensures.refused c.args.place.now c.in_ok-settle.ensures.settles))

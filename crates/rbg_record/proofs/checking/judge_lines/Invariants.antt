@@ -1,5 +1,5 @@
 use Rattle.std.proofs.Common.{length}
-use Rattle.rbg_record.specs.internal.Reading.{reached_of}
+use Rattle.rbg_record.specs.ByLine.{reached_of}
 use Rattle.rbg_record.specs.internal.SoFar.{IsReadSoFar}
 use Rattle.rbg_record.proofs.checking.judge_lines.Given as goal
 

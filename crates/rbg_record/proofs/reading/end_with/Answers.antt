@@ -1,4 +1,4 @@
-use Rattle.rbg_record.specs.internal.Reading.{standing_of}
+use Rattle.rbg_record.specs.ByLine.{standing_of}
 use Rattle.rbg_record.proofs.EntryLemmas.{heavy_end}
 use Rattle.rbg_record.proofs.reading.end_with.Goals as goal
 

@@ -1,6 +1,6 @@
 use Rattle.std.proofs.Common.{sym, ◌∙◌}
 use Rattle.std.proofs.lemmas.Bool.{true≢false}
-use Rattle.rbg_record.specs.internal.Reading.{standing_of}
+use Rattle.rbg_record.specs.ByLine.{standing_of}
 use Rattle.rbg_record.proofs.EntryLemmas.{finished_end, other_scores, going_on}
 use Rattle.rbg_record.proofs.reading.finish.Goals as goal
 use Rattle.rbg_record.proofs.reading.finish.Goals.{else-finished-via-then-finished+else-are_scores, else-finished-via-else-finished}

@@ -1,4 +1,4 @@
-use Rattle.rbg_record.specs.internal.Reading.{standing_of}
+use Rattle.rbg_record.specs.ByLine.{standing_of}
 use Rattle.rbg_record.proofs.EntryLemmas.{line_leads, refused_line}
 use Rattle.rbg_record.proofs.reading.go_on.Goals as goal
 

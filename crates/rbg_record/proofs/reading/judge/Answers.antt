@@ -1,6 +1,6 @@
 use Rattle.std.proofs.Common.{sym, ◌∙◌}
 use Rattle.std.proofs.lemmas.Bool.{true≢false}
-use Rattle.rbg_record.specs.internal.Reading.{standing_of}
+use Rattle.rbg_record.specs.ByLine.{standing_of}
 use Rattle.rbg_record.proofs.EntryLemmas.{too_late, unfit, same_refusal}
 use Rattle.rbg_record.proofs.reading.judge.Goals as goal
 use Rattle.rbg_record.proofs.reading.judge.Goals.{then-told-gt-LATEST_MOMENT-via-then-told-gt-LATEST_MOMENT, then-told-gt-LATEST_MOMENT-via-else-told-gt-LATEST_MOMENT+then-not-fits}

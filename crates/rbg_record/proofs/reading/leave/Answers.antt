@@ -1,4 +1,4 @@
-use Rattle.rbg_record.specs.internal.Reading.{standing_of}
+use Rattle.rbg_record.specs.ByLine.{standing_of}
 use Rattle.rbg_record.proofs.EntryLemmas.{no_turn_left, turn_left}
 use Rattle.rbg_record.proofs.reading.leave.Goals as goal
 

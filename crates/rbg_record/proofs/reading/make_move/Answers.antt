@@ -1,4 +1,4 @@
-use Rattle.rbg_record.specs.internal.Reading.{standing_of}
+use Rattle.rbg_record.specs.ByLine.{standing_of}
 use Rattle.rbg_record.proofs.EntryLemmas.{illegal_move, legal_move}
 use Rattle.rbg_record.proofs.reading.make_move.Goals as goal
 

@@ -1,0 +1,15 @@
+-- What the proofs of this crate share.
+mod Apart
+mod Beginnings
+mod Growing
+mod Halls
+mod Openings
+mod Owning
+mod Permitted
+mod Pieces
+mod Requesting
+mod Running
+mod Silence
+mod Taking
+mod Ticking
+mod Wholes

@@ -1,0 +1,19 @@
+use Rattle.std.proofs.Common.{get_or, ap}
+use Rattle.rbg_floor.proofs.Pieces.{fed_by, asks_nothing, asks_none, asks_table, heard_nothing, heard_no_table, heard_table}
+use Rattle.rbg_floor.proofs.hearing.hear_first.Goals as goal
+
+pub returns-in-Nothing-clause-hears : goal.returns-in-Nothing-clause-hears
+returns-in-Nothing-clause-hears c =
+    let fills = fed_by c.args.inbox c.feed.new.self c.args.bytes.now c.requires c.in_ok-feed.ensures.ok in
+    heard_nothing c.args.tables.now c.args.line c.args.at c.args.inbox.rest c.args.bytes.now c.take_first.new.inbox c.feed.new.self c.args.out.now fills (asks_nothing c.take_first.ensures c.in-Nothing.is)
+
+pub returns-in_ok-refuse-in-NoTable-clause-hears : goal.returns-in_ok-refuse-in-NoTable-clause-hears
+returns-in_ok-refuse-in-NoTable-clause-hears c =
+    let fills = fed_by c.args.inbox c.feed.new.self c.args.bytes.now c.requires c.in_ok-feed.ensures.ok in
+    heard_no_table c.args.tables.now c.args.line c.args.at c.args.inbox.rest c.args.bytes.now c.take_first.new.inbox c.feed.new.self c.args.out.now c.refuse.new.self fills (asks_none c.take_first.ensures c.in-NoTable.is) c.in_ok-refuse-in-NoTable.ensures.told
+
+pub returns-in_ok-join-in-Table-clause-hears : goal.returns-in_ok-join-in-Table-clause-hears
+returns-in_ok-join-in-Table-clause-hears c =
+    let fills = fed_by c.args.inbox c.feed.new.self c.args.bytes.now c.requires c.in_ok-feed.ensures.ok in
+    let tables = c.args.tables.now in
+    heard_table tables c.args.line c.args.at c.args.inbox.rest c.args.bytes.now c.in-Table.index c.take_first.new.inbox c.join.new.inbox c.feed.new.self (get_or tables c.in-Table.index c.index-tables-index.result) c.join.new.table c.args.out.now c.join.new.out fills (asks_table c.in-Table.index c.take_first.ensures c.in-Table.is) (ap (get_or tables c.in-Table.index) c.index-tables-index.is) c.in_ok-join-in-Table.ensures.hears c.in_ok-join-in-Table.ensures.inbox

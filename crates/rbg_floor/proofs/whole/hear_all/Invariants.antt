@@ -1,0 +1,9 @@
+use Rattle.std.proofs.Common.{◌++◌, List, map, take}
+use Rattle.rbg_floor.specs.Events.{AbstractHallEvent, event_of}
+use Rattle.rbg_floor.specs.Halls.{AbstractTable}
+use Rattle.rbg_floor.specs.Wholes.{HasRun}
+use Rattle.rbg_floor.proofs.whole.hear_all.Given as goal
+
+abbrev pub invariant-loop-event : goal.invariant-loop-event
+invariant-loop-event l = (starts : List AbstractTable) (earlier : List AbstractHallEvent) →
+    HasRun starts earlier l.initial.hall.state l.initial.out → HasRun starts (earlier ++ map event_of (take l.event-index l.events)) l.hall.state l.out

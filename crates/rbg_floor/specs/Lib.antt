@@ -1,0 +1,15 @@
+-- A whole hall: its lines and its tables, and what each line may have.
+pub mod Allowed
+pub mod Apart
+pub mod Events
+pub mod Failing
+pub mod Halls
+pub mod Hearing
+pub mod internal
+pub mod Laws
+pub mod Limits
+pub mod Lines
+pub mod Openings
+pub mod Own
+pub mod Requests
+pub mod Wholes

@@ -1,0 +1,61 @@
+-- What the parts of a hall of the code stand for.
+use Rattle.std.specs.Prelude.{◌≡◌, ◌+◌, ◌<◌, ℕ, List, [], All, length, map, replicate, slice_get, Some}
+use Rattle.rbg_wire.specs.Streams.{Stream, incomplete}
+use Rattle.rbg_match.specs.Config.{IsWithinLimits}
+use Rattle.rbg_match.specs.Limits.{message_limit}
+use Rattle.rbg_hall.specs.Limits.{lines_in_all}
+use Rattle.rbg_hall.specs.Tables.{TableState, new_table}
+use Rattle.rbg_floor.specs.declared.line.Line.{Line}
+use Rattle.rbg_floor.specs.declared.line.Line.TheVariants.{Silent, Asks, Over}
+use Rattle.rbg_floor.specs.declared.table.Table.{Table}
+use Rattle.rbg_floor.specs.Halls.{HallState}
+use Rattle.rbg_floor.specs.Lines.{HallLine, silent, asks, over}
+
+abbrev pub line_of : Line → HallLine
+line_of (Silent inbox) = silent inbox.rest
+line_of (Asks index inbox) = asks (index + 1) inbox.rest
+line_of Over = over
+
+abbrev pub lines_of : List Line → List HallLine
+lines_of lines = map line_of lines
+
+-- tables and lines as a hall
+abbrev pub hall_of : List TableState → List Line → HallState
+hall_of tables lines = record { tables = tables; lines = lines_of lines }
+
+-- The inbox has the limit of a message, and no complete item is left in it.
+pub record IsEmptied (inbox : Stream) : Type 0 where
+  pub limit : inbox.limit ≡ message_limit
+  pub empty : inbox.items ≡ []
+
+-- The inbox of a line is emptied, and there is the table for which it asks.
+abbrev pub IsReady : (tables : ℕ) → Line → Type 0
+IsReady tables (Silent inbox) = IsEmptied inbox
+IsReady tables (Asks index inbox) = IsEmptied inbox × (index < tables)
+IsReady tables Over = Unit {0}
+
+-- There are all lines, and each of them is ready.
+pub record AreReady (tables : ℕ) (lines : List Line) : Type 0 where
+  pub count : length lines ≡ lines_in_all
+  pub each : All (IsReady tables) lines
+
+-- a line of which nothing was heard
+abbrev pub new_line : Line
+new_line = Silent (record { limit = message_limit; items = []; rest = incomplete [] })
+
+abbrev pub AreNew : (count : ℕ) → List Line → Type 0
+AreNew count lines = lines ≡ replicate count new_line
+
+-- The config of the table at this index is outside its limits.
+pub record IsFaulty (tables : List Table) (index : ℕ) : Type 0 where
+  pub table : Table
+  pub there : slice_get tables index ≡ Some table
+  pub faulty : ¬ IsWithinLimits table.config
+
+-- the config of each table is within its limits
+abbrev pub HaveLimits : List Table → Type 0
+HaveLimits tables = All (λ (table : Table). IsWithinLimits table.config) tables
+
+-- the tables, where nobody sits
+abbrev pub new_tables : List Table → List TableState
+new_tables tables = map (λ (table : Table). new_table table.game table.text.items table.config) tables

@@ -1,0 +1,123 @@
+//! A hall: tables, and the lines that ask for them.
+ghost use Rattle.std.specs.Prelude.{◌≡◌, [], false, true, option_map, replicate, is_err, IfErr, IfOk, IsErr, OnErr, OnOk};
+ghost use Rattle.rbg_wire.specs.Streams.{incomplete};
+ghost use Rattle.rbg_hall.specs.Limits.{lines_in_all};
+ghost use Rattle.rbg_floor.specs.Events.{event_of};
+ghost use Rattle.rbg_floor.specs.Halls.{begun_at};
+ghost use Rattle.rbg_floor.specs.Hearing.{HallHears};
+ghost use Rattle.rbg_floor.specs.Lines.{silent};
+ghost use Rattle.rbg_floor.specs.Openings.{AreLoaded, IsNewHall, IsRefusedHall, starts_of};
+
+use crate::events::hear_event;
+use crate::line::Line;
+use crate::opening::{faulty, new_lines, open_tables};
+use crate::{HallError, HallEvent, Table};
+use rbg_base::Memory;
+use rbg_hall::{HallOut, HallTable};
+use rbg_match::Match;
+use std::alloc::Global;
+use std::marker::Model;
+
+/// The most tables of a hall.
+pub const TABLES: usize = 16;
+
+/// A hall of tables. Contracts see its state, and whether it has failed.
+#[derive(Debug, Drop)]
+pub struct Hall {
+    /// The tables, table 1 first.
+    tables: Vec<HallTable>,
+    /// The lines, line 0 first.
+    lines: Vec<Line>,
+    /// Whether memory ran out in something that the hall heard.
+    failed: bool,
+}
+
+impl Model for Hall {
+    ghost use Rattle.rbg_floor.specs.Failing.{HeldHall};
+    ghost use Rattle.rbg_floor.specs.internal.Codes.{coded_held};
+
+    ghost Value = { HeldHall };
+
+    ghost coded = { coded_held };
+
+    ghost use Rattle.std.specs.Prelude.{length};
+    ghost use Rattle.rbg_floor.specs.internal.Parts.{AreReady, lines_of};
+
+    ghost view = { λ h. record {
+      state = record { tables = h.tables.items; lines = lines_of h.lines.items };
+      failed = h.failed;
+    } };
+
+    ghost invariant = { λ h. AreReady (length h.tables.items) h.lines.items };
+}
+
+impl Hall {
+    /// Makes a hall of 1 to 16 tables. The text of each must be that of its game. Nobody sits at a table, and nothing is
+    /// queued.
+    pub fn new(alloc: Global, tables: Vec<Table>) -> Result<(Hall, HallOut), HallError>
+        requires { AreLoaded tables.items }
+        ensures made { IfOk result (λ made. IsNewHall (starts_of tables.items) made.0 made.1) }
+        ensures refused { IfErr result (IsRefusedHall (starts_of tables.items)) }
+    {
+        if tables.is_empty() {
+            return Err(HallError::Tables);
+        }
+        if tables.len() > TABLES {
+            return Err(HallError::Tables);
+        }
+        if let Some(index) = faulty(&tables) {
+            return Err(HallError::Config {
+                table: index as u64 + 1,
+            });
+        }
+        let tables = open_tables(alloc, tables)?;
+        Ok(Hall::of_tables(alloc, tables)?)
+    }
+
+    /// A hall of these tables, of which no line was heard.
+    fn of_tables(alloc: Global, tables: Vec<HallTable>) -> Result<(Hall, HallOut), Memory>
+        ensures tables { IfOk result (λ made. made.0.state.tables ≡ tables.items) }
+        ensures lines { IfOk result (λ made. made.0.state.lines ≡ replicate lines_in_all (silent (incomplete []))) }
+        ensures works { IfOk result (λ made. made.0.failed ≡ false) }
+        ensures queued { IfOk result (λ made. made.1 ≡ replicate lines_in_all []) }
+    {
+        let lines = new_lines(alloc)?;
+        let out = HallOut::new(alloc)?;
+        let made = Hall {
+            tables,
+            lines,
+            failed: false,
+        };
+        Ok((made, out))
+    }
+
+    /// Hears an event, and queues what the lines are told. A refusal leaves the queues as they were, and the hall answers
+    /// `Memory` from then on.
+    pub fn step(&mut self, event: HallEvent<'_>, out: &mut HallOut) -> Result<(), Memory>
+        ensures hears { OnOk result (HallHears self.old.state (event_of event.entry) self.new.state out.old out.new) }
+        ensures kept { OnErr result (out.new ≡ out.old) }
+        ensures failing { self.new.failed ≡ is_err result }
+        ensures failed { self.old.failed ≡ true → IsErr result }
+    {
+        if self.failed {
+            return Err(Memory);
+        }
+        let mut marks = Vec::new(*self.tables.allocator());
+        let heard = hear_event(&mut self.tables, &mut self.lines, event, out, &mut marks);
+        if heard.is_err() {
+            self.failed = true;
+            out.take_back(&mut marks);
+        }
+        heard
+    }
+
+    /// The match of a table, once it has begun. Tables are numbered from 1.
+    pub fn begun(&self, table: u64) -> Option<&Match>
+        ensures { option_map (λ playing. playing.now) result ≡ begun_at self.now.state.tables table }
+    {
+        if table < 1 || table > self.tables.len() as u64 {
+            return None;
+        }
+        self.tables[table as usize - 1].begun()
+    }
+}

@@ -1,0 +1,217 @@
+//! How the tables of a hall hear a line and the clock.
+ghost use Rattle.std.specs.Prelude.{◌≡◌, ◌+◌, ◌<◌, ◌∷◌, [], length, map, IfOk, OnOk};
+ghost use Rattle.rbg_hall.specs.Tables.{arrives, clock, joins, says};
+ghost use Rattle.rbg_hall.specs.Undoing.{undone};
+ghost use Rattle.rbg_floor.specs.Lines.{asks, silent};
+ghost use Rattle.rbg_floor.specs.Own.{heard_of_end};
+ghost use Rattle.rbg_floor.specs.internal.First.{IsFirst};
+ghost use Rattle.rbg_floor.specs.internal.Hearing.{HearsEachFor, PieceHeard, TablesHear};
+ghost use Rattle.rbg_floor.specs.internal.Parts.{IsEmptied, IsReady, line_of};
+
+use crate::line::Line;
+use crate::request::table_of;
+use rbg_base::Memory;
+use rbg_hall::{HallOut, HallTable, Mark, TableInput};
+use rbg_wire::{Inbox, Reason};
+
+/// What the first message of a line asks for.
+#[derive(Clone, Copy, Debug)]
+pub(crate) enum First {
+    /// It has not come.
+    Nothing,
+    /// The table at this index.
+    Table(usize),
+    /// No table that is there.
+    NoTable,
+}
+
+/// Takes the first message of a line, if it has come.
+fn take_first(inbox: &mut Inbox, tables: usize) -> First
+    ensures { IsFirst tables inbox.old inbox.new result }
+{
+    let Some(took) = inbox.take() else {
+        return First::Nothing;
+    };
+    match table_of(took, tables) {
+        Some(index) => First::Table(index),
+        None => First::NoTable,
+    }
+}
+
+/// A table hears the items that a line has completed.
+fn say_each(
+    table: &mut HallTable,
+    inbox: &mut Inbox,
+    line: u64,
+    at: u64,
+    out: &mut HallOut,
+    marks: &mut Vec<Mark>,
+) -> Result<(), Memory>
+    ensures hears { OnOk result (HearsEachFor table.old (map (says line at) inbox.old.items) table.new
+        out.old out.new) }
+    ensures inbox { OnOk result (inbox.new ≡ record inbox.old { items = [] }) }
+    ensures undone { undone out.new marks.new.items ≡ undone out.old marks.old.items }
+{
+    while let Some(took) = inbox.take() {
+        table.hear(TableInput::Says { line, at, took }, out, marks)?;
+    }
+    Ok(())
+}
+
+/// A line joins a table, which hears the items behind the first one.
+fn join(
+    table: &mut HallTable,
+    inbox: &mut Inbox,
+    line: u64,
+    at: u64,
+    out: &mut HallOut,
+    marks: &mut Vec<Mark>,
+) -> Result<(), Memory>
+    ensures hears { OnOk result (HearsEachFor table.old (joins line at ∷ map (says line at) inbox.old.items) table.new
+        out.old out.new) }
+    ensures inbox { OnOk result (inbox.new ≡ record inbox.old { items = [] }) }
+    ensures undone { undone out.new marks.new.items ≡ undone out.old marks.old.items }
+{
+    table.hear(TableInput::Joins { line, at }, out, marks)?;
+    say_each(table, inbox, line, at, out, marks)
+}
+
+/// A table hears a piece of a line that asked for it.
+fn arrive(
+    table: &mut HallTable,
+    inbox: &mut Inbox,
+    line: u64,
+    at: u64,
+    out: &mut HallOut,
+    marks: &mut Vec<Mark>,
+) -> Result<(), Memory>
+    ensures hears { OnOk result (HearsEachFor table.old (arrives line at ∷ map (says line at) inbox.old.items) table.new
+        out.old out.new) }
+    ensures inbox { OnOk result (inbox.new ≡ record inbox.old { items = [] }) }
+    ensures undone { undone out.new marks.new.items ≡ undone out.old marks.old.items }
+{
+    table.hear(TableInput::Arrives { line, at }, out, marks)?;
+    say_each(table, inbox, line, at, out, marks)
+}
+
+/// A piece of a line none of whose messages has come.
+fn hear_first(
+    tables: &mut [HallTable],
+    mut inbox: Inbox,
+    line: u64,
+    at: u64,
+    bytes: &[u8],
+    out: &mut HallOut,
+    marks: &mut Vec<Mark>,
+) -> Result<Line, Memory>
+    requires { IsEmptied inbox }
+    ensures hears { IfOk result (λ next. PieceHeard tables.old (silent inbox.rest) line at bytes.now tables.new
+        (line_of next) out.old out.new) }
+    ensures ready { IfOk result (IsReady (length tables.old)) }
+    ensures count { length tables.new ≡ length tables.old }
+    ensures undone { undone out.new marks.new.items ≡ undone out.old marks.old.items }
+{
+    inbox.feed(bytes)?;
+    match take_first(&mut inbox, tables.len()) {
+        First::Nothing => Ok(Line::Silent(inbox)),
+        First::NoTable => {
+            out.refuse(line, Reason::NoSeat, marks)?;
+            Ok(Line::Over)
+        }
+        First::Table(index) => {
+            join(&mut tables[index], &mut inbox, line, at, out, marks)?;
+            Ok(Line::Asks { index, inbox })
+        }
+    }
+}
+
+/// A piece of a line that asked for the table at this index.
+fn hear_next(
+    tables: &mut [HallTable],
+    index: usize,
+    mut inbox: Inbox,
+    line: u64,
+    at: u64,
+    bytes: &[u8],
+    out: &mut HallOut,
+    marks: &mut Vec<Mark>,
+) -> Result<Line, Memory>
+    requires emptied { IsEmptied inbox }
+    requires there { index < length tables.old }
+    ensures hears { IfOk result (λ next. PieceHeard tables.old (asks (index + 1) inbox.rest) line at bytes.now tables.new
+        (line_of next) out.old out.new) }
+    ensures ready { IfOk result (IsReady (length tables.old)) }
+    ensures count { length tables.new ≡ length tables.old }
+    ensures undone { undone out.new marks.new.items ≡ undone out.old marks.old.items }
+{
+    inbox.feed(bytes)?;
+    arrive(&mut tables[index], &mut inbox, line, at, out, marks)?;
+    Ok(Line::Asks { index, inbox })
+}
+
+/// The tables hear a line that sends bytes. Returns what stands of the line then.
+pub(crate) fn hear_piece(
+    tables: &mut [HallTable],
+    one: Line,
+    line: u64,
+    at: u64,
+    bytes: &[u8],
+    out: &mut HallOut,
+    marks: &mut Vec<Mark>,
+) -> Result<Line, Memory>
+    requires { IsReady (length tables.old) one }
+    ensures hears { IfOk result (λ next. PieceHeard tables.old (line_of one) line at bytes.now tables.new
+        (line_of next) out.old out.new) }
+    ensures ready { IfOk result (IsReady (length tables.old)) }
+    ensures count { length tables.new ≡ length tables.old }
+    ensures undone { undone out.new marks.new.items ≡ undone out.old marks.old.items }
+{
+    match one {
+        Line::Silent(inbox) => hear_first(tables, inbox, line, at, bytes, out, marks),
+        Line::Asks { index, inbox } => {
+            hear_next(tables, index, inbox, line, at, bytes, out, marks)
+        }
+        Line::Over => Ok(Line::Over),
+    }
+}
+
+/// The tables hear the end of a line.
+pub(crate) fn hear_end(
+    tables: &mut [HallTable],
+    one: Line,
+    line: u64,
+    at: u64,
+    out: &mut HallOut,
+    marks: &mut Vec<Mark>,
+) -> Result<(), Memory>
+    requires { IsReady (length tables.old) one }
+    ensures hears { OnOk result (TablesHear (λ table. heard_of_end table (line_of one) line at) tables.old tables.new
+        out.old out.new) }
+    ensures count { length tables.new ≡ length tables.old }
+    ensures undone { undone out.new marks.new.items ≡ undone out.old marks.old.items }
+{
+    match one {
+        Line::Silent(_) => Ok(()),
+        Line::Asks { index, .. } => {
+            tables[index].hear(TableInput::Leaves { line, at }, out, marks)
+        }
+        Line::Over => Ok(()),
+    }
+}
+
+/// Each table hears the clock.
+pub(crate) fn tick(
+    tables: &mut [HallTable],
+    at: u64,
+    out: &mut HallOut,
+    marks: &mut Vec<Mark>,
+) -> Result<(), Memory>
+    ensures hears { OnOk result (TablesHear (λ table. clock at ∷ []) tables.old tables.new out.old out.new) }
+    ensures count { length tables.new ≡ length tables.old }
+    ensures undone { undone out.new marks.new.items ≡ undone out.old marks.old.items }
+{
+    for index in 0..tables.len() {
+        tables[index].hear(TableInput::Clock { at }, out, marks)?;
+    }
+    Ok(())
+}

@@ -1,0 +1,31 @@
+//! Laws of a hall. The contract of each function is a law; its body does nothing.
+ghost use Rattle.std.specs.Prelude.{◌≡◌};
+ghost use Rattle.rbg_floor.specs.Limits.{most_tables};
+ghost use Rattle.rbg_floor.specs.Laws.{BegunMatchesHoldTranscripts, OthersAreUnheard, RunIsAllowed, TablesAreApart};
+
+use crate::TABLES;
+
+/// The limits are the numbers that the definitions state.
+pub fn limits_are_as_stated()
+    ensures tables { TABLES ≡ most_tables }
+{}
+
+/// Whatever a hall hears, each line has what it may have.
+pub fn run_is_allowed()
+    ensures { RunIsAllowed }
+{}
+
+/// Events of lines that ask for another table, or for none, change nothing of what a table hears.
+pub fn others_are_unheard()
+    ensures { OthersAreUnheard }
+{}
+
+/// What the lines of a table may have depends on that table, on the clock and on what they send, and on nothing else.
+pub fn tables_are_apart()
+    ensures { TablesAreApart }
+{}
+
+/// A match that has begun at a table is one of the rules, whatever the hall heard.
+pub fn begun_matches_hold_transcripts()
+    ensures { BegunMatchesHoldTranscripts }
+{}

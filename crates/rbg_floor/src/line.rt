@@ -1,0 +1,14 @@
+//! A line of a hall.
+
+use rbg_wire::Inbox;
+
+/// What stands of a line. Of a line that is over nothing is kept.
+#[derive(Debug, Drop)]
+pub(crate) enum Line {
+    /// No message of it has come.
+    Silent(Inbox),
+    /// Its first message asks for the table at this index.
+    Asks { index: usize, inbox: Inbox },
+    /// It has ended, or its first message asks for no table.
+    Over,
+}

@@ -1,0 +1,8 @@
+-- Lemmas, by topic.
+mod Parts
+mod Plain
+mod Reading
+mod Spots
+mod Standing
+mod Taking
+mod Writing

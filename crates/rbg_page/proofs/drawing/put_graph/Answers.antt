@@ -1,0 +1,10 @@
+-- The parts of the text, one after the other.
+use Rattle.std.proofs.Common.{[], ◌∷◌, length, codes}
+use Rattle.rbg_page.specs.Boards.{frame_text, labels_text, vertices_text}
+use Rattle.rbg_numbering.specs.NameTables.{bytes_of}
+use Rattle.rbg_page.proofs.Parts.{graph_is}
+use Rattle.rbg_page.proofs.Writing.{joined3}
+use Rattle.rbg_page.proofs.drawing.put_graph.Goals as goal
+
+pub returns : goal.returns
+returns c = rw (graph_is c.args.game.now.pieces c.args.names.now c.args.marked.now c.args.standing.now) (joined3 c.args.out.now.items _ _ _ (frame_text (codes "graph") (length c.args.names.now) (length c.args.names.now) (codes "<circle id='cell' r='5'/>")) (vertices_text c.args.game.now.pieces (length c.args.names.now ∷ []) c.args.marked.now c.args.standing.now) (labels_text (bytes_of c.args.names.now)) c.in_ok-put_frame.ensures c.in_ok-put_vertices.ensures c.in_ok-put_labels.ensures)

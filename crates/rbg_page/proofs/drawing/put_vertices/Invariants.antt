@@ -1,0 +1,7 @@
+-- The text so far is that of the vertices so far.
+use Rattle.std.proofs.Common.{◌≡◌, ◌++◌, take}
+use Rattle.rbg_page.specs.Boards.{vertices_text}
+use Rattle.rbg_page.proofs.drawing.put_vertices.Given as goal
+
+abbrev pub invariant-loop-vertex : goal.invariant-loop-vertex
+invariant-loop-vertex l = l.out.items ≡ l.fn.out.items ++ vertices_text l.game.pieces l.lengths l.marked (take l.vertex l.standing)

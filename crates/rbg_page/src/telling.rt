@@ -1,0 +1,237 @@
+//! What the lines of a record tell a page, and the reading of them.
+ghost use Rattle.std.specs.Prelude.{◌≡◌, ℕ, List, [], ◌++◌, ◌↔◌, IfErr, IfNone, IfOk, IfSome, IsTrue, OnOk, unwrap_or};
+ghost use Rattle.rbg_rules.specs.Places.{IsPlaceOf};
+ghost use Rattle.rbg_record.specs.ByLine.{IsReachedIn, reached_of};
+ghost use Rattle.rbg_record.specs.Lines.{nothing_next};
+ghost use Rattle.rbg_page.specs.Pages.{IsRefused};
+ghost use Rattle.rbg_wire.specs.Lines.{line_of};
+ghost use Rattle.rbg_page.specs.Texts.{escaped};
+ghost use Rattle.rbg_page.specs.Places.{place_text};
+ghost use Rattle.rbg_page.specs.Telling.{IsByPlayer, IsMoveIn, IsPlayersMove, line_text, place_in};
+ghost use Rattle.rbg_page.specs.internal.Reading.{IsTelling, refusal_at};
+
+use crate::error::PageError;
+use crate::places::{put_place, values_at};
+use crate::texts::put_escaped;
+use rbg_base::{Memory, Move, Pair};
+use rbg_lines::{Entry, Version, next_line, read_entry, read_timed};
+use rbg_moves::{Place, PlayedGame};
+use rbg_record::{Fault, Reached, read_line};
+use std::alloc::Global;
+use std::marker::Model;
+
+/// What is told so far. Contracts see it.
+#[derive(Drop)]
+pub(crate) struct Telling {
+    /// The lines with their places.
+    lines: Vec<u8>,
+    /// The last place.
+    place: Place,
+    /// The last move of a player.
+    moved: Option<Move>,
+}
+
+impl Model for Telling {
+    ghost use Rattle.std.specs.Prelude.{unwrap_or, []};
+    ghost use Rattle.rbg_page.specs.Telling.{Told};
+
+    ghost Value = { Told };
+
+    ghost view = { λ t. record { lines = t.lines.items; place = t.place; marked = unwrap_or t.moved [] } };
+}
+
+impl Telling {
+    /// The lines with their places.
+    pub(crate) fn as_lines(&self) -> &[u8]
+        ensures { result.now ≡ self.now.lines }
+    {
+        self.lines.as_slice()
+    }
+
+    /// The last place.
+    pub(crate) fn last_place(&self) -> &Place
+        ensures { result.now ≡ self.now.place }
+    {
+        &self.place
+    }
+
+    /// The pairs of the last move of a player.
+    pub(crate) fn marked(&self) -> &[Pair]
+        ensures { result.now ≡ self.now.marked }
+    {
+        match &self.moved {
+            Some(pairs) => pairs.as_slice(),
+            None => &[],
+        }
+    }
+}
+
+/// Appends a line and, if it leads to a place, what is told of this place.
+#[tactic(auto, unfolding(crate::specs::Telling::line_text))]
+fn put_line(
+    alloc: Global,
+    game: &PlayedGame,
+    text: &[u8],
+    to: &Reached,
+    out: &mut Vec<u8>,
+) -> Result<(), Memory>
+    requires { IsReachedIn game.now (reached_of to.now) }
+    ensures { OnOk result (out.new.items ≡ out.old.items
+        ++ line_text text.now (reached_of to.now)) }
+{
+    match to {
+        Reached::Entry(standing) => put_place_line(alloc, game, text, &standing.place, out),
+        Reached::Version => put_plain_line(text, out),
+        Reached::Players => put_plain_line(text, out),
+        Reached::Start => put_plain_line(text, out),
+        Reached::Nothing => put_plain_line(text, out),
+    }
+}
+
+fn put_plain_line(text: &[u8], out: &mut Vec<u8>) -> Result<(), Memory>
+    ensures { OnOk result (out.new.items ≡ out.old.items ++ line_of (escaped text.now)) }
+{
+    put_escaped(text, out)?;
+    out.push(b'\n')?;
+    Ok(())
+}
+
+fn put_place_line(
+    alloc: Global,
+    game: &PlayedGame,
+    text: &[u8],
+    place: &Place,
+    out: &mut Vec<u8>,
+) -> Result<(), Memory>
+    requires { IsPlaceOf game.now place.now }
+    ensures { OnOk result (out.new.items ≡ out.old.items
+        ++ line_of (escaped text.now ++ place_text place.now)) }
+{
+    let values = values_at(alloc, game.as_game(), place)?;
+    put_escaped(text, out)?;
+    put_place(place, &values, out)?;
+    out.push(b'\n')?;
+    Ok(())
+}
+
+/// The place to which a line leads, or else the one before it.
+fn place_after(to: &Reached, before: Place) -> Result<Place, Memory>
+    ensures { IfOk result (λ place. place ≡ place_in (reached_of to.now) before) }
+{
+    match to {
+        Reached::Entry(standing) => copy_of(&standing.place),
+        Reached::Version => Ok(before),
+        Reached::Players => Ok(before),
+        Reached::Start => Ok(before),
+        Reached::Nothing => Ok(before),
+    }
+}
+
+/// The later one of two moves, of which the first one may be missing.
+fn later_of(moved: Option<Move>, before: Option<Move>) -> Option<Move>
+    ensures { unwrap_or result [] ≡ unwrap_or moved (unwrap_or before []) }
+{
+    match moved {
+        Some(pairs) => Some(pairs),
+        None => before,
+    }
+}
+
+fn copy_of(place: &Place) -> Result<Place, Memory>
+    ensures { IfOk result (λ copy. copy ≡ place.now) }
+{
+    Ok(Place {
+        state: place.state.try_clone()?,
+        after: place.after,
+    })
+}
+
+/// Reads a record, and tells its lines.
+pub(crate) fn tell(alloc: Global, game: &PlayedGame, bytes: &[u8]) -> Result<Telling, PageError>
+    ensures told { IfOk result (IsTelling game.now bytes.now) }
+    ensures in_game { IfOk result (λ telling. IsPlaceOf game.now telling.place) }
+    ensures refused { IfErr result (IsRefused game.now bytes.now) }
+{
+    let mut lines = Vec::new(alloc);
+    let mut place = game.start()?;
+    let mut last = None;
+    let mut reached = Reached::Version;
+    let mut rest = bytes;
+    let mut line = 1;
+    while let Some((text, later)) = next_line(rest) {
+        let moved = move_in(&reached, text);
+        match read_line(game, reached, text) {
+            Ok(to) => reached = to,
+            Err(fault) => return Err(refusal(fault, line)),
+        }
+        put_line(alloc, game, text, &reached, &mut lines)?;
+        place = place_after(&reached, place)?;
+        last = later_of(moved, last);
+        rest = later;
+        line += 1;
+    }
+    let over = is_over(&reached);
+    if over && rest.is_empty() {
+        Ok(Telling {
+            lines,
+            place,
+            moved: last,
+        })
+    } else {
+        Err(PageError::Form { line })
+    }
+}
+
+/// What a fault at a line is to a page.
+fn refusal(fault: Fault, line: usize) -> PageError
+    ensures { result ≡ refusal_at fault line }
+{
+    match fault {
+        Fault::Form => PageError::Form { line },
+        Fault::Bad => PageError::Bad { line },
+        Fault::Over => PageError::Over { line },
+        Fault::Memory => PageError::Memory,
+    }
+}
+
+/// Whether the end was read.
+fn is_over(reached: &Reached) -> bool
+    ensures { IsTrue result ↔ (reached_of reached.now ≡ nothing_next) }
+{
+    matches!(reached, Reached::Nothing)
+}
+
+/// The player's move that a line tells behind the lines so far.
+fn move_in(reached: &Reached, text: &[u8]) -> Option<Move>
+    ensures { IsMoveIn (reached_of reached.now) text.now result }
+{
+    match reached {
+        Reached::Entry(standing) => players_move(standing.version, text),
+        Reached::Version => None,
+        Reached::Players => None,
+        Reached::Start => None,
+        Reached::Nothing => None,
+    }
+}
+
+/// The player's move of which the text tells in a record of that version.
+fn players_move(version: Version, text: &[u8]) -> Option<Move>
+    ensures found { IfSome result (IsPlayersMove version text.now) }
+    ensures none { IfNone result ((pairs : List (ℕ × ℕ)) → ¬ IsPlayersMove version text.now pairs) }
+{
+    match version {
+        Version::One => pairs_of(read_entry(text)?),
+        Version::Two => pairs_of(read_timed(text)?.entry),
+    }
+}
+
+/// The pairs of a player's move.
+fn pairs_of(entry: Entry) -> Option<Move>
+    ensures found { IfSome result (IsByPlayer entry) }
+    ensures none { IfNone result ((pairs : List (ℕ × ℕ)) → ¬ IsByPlayer entry pairs) }
+{
+    match entry {
+        Entry::Move { player, pairs } => { if player == 0 { None } else { Some(pairs) } }
+        Entry::End { .. } => None,
+    }
+}

@@ -1,0 +1,9 @@
+-- The question for all legal moves was given up.
+use Rattle.rbg_perft.specs.internal.Refusing.{error_of_over}
+use Rattle.rbg_perft.proofs.Refusing.{passed_on, over_to_list}
+use Rattle.rbg_perft.proofs.counting.list_all.Goals as goal
+
+pub returns-in_err-gathered-clause-refused : goal.returns-in_err-gathered-clause-refused
+returns-in_err-gathered-clause-refused c =
+    passed_on c.from_residual.result (error_of_over c.in_err-gathered.field-0.0) _ c.from_residual.ensures.1
+    (over_to_list _ _ _ c.in_err-gathered.field-0.0 c.in_err-gathered.ensures.heavy)

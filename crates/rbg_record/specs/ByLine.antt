@@ -1,0 +1,62 @@
+-- What the reading of one line tells: what it leads to, or why it leads to nothing.
+use Rattle.std.specs.Prelude.{◌≡◌, ℕ, ◌≤◌, List}
+use Rattle.rbg_rules.specs.State.{AbstractGame}
+use Rattle.rbg_rules.specs.Places.{IsPlaceOf}
+use Rattle.rbg_match.specs.Limits.{latest_moment}
+use Rattle.rbg_lines.specs.declared.entry.Timed.{Timed}
+use Rattle.rbg_record.specs.declared.fault.Fault.{Fault}
+use Rattle.rbg_record.specs.declared.fault.Fault.TheVariants.{Form, Bad, Over, Memory}
+use Rattle.rbg_record.specs.declared.reached.Reached.{Reached as CodeReached}
+use Rattle.rbg_record.specs.declared.reached.Reached.TheVariants as code
+use Rattle.rbg_record.specs.declared.reached.Standing.{Standing as CodeStanding}
+use Rattle.rbg_record.specs.Judged.{FitsUnasked, AsksHeavy}
+use Rattle.rbg_record.specs.Lines.{Standing, Reached, version_next, players_next, start_next, entry_next, nothing_next, HasForm, SpellsIn, EntryLeads, Leads}
+
+-- where the code's value says that the moves so far lead
+abbrev pub standing_of : CodeStanding → Standing
+standing_of standing = record {
+  version = standing.version;
+  turn_ms = standing.turn_ms;
+  last = standing.last;
+  place = standing.place;
+}
+
+abbrev pub reached_of : CodeReached → Reached
+reached_of code.Version = version_next
+reached_of code.Players = players_next
+reached_of code.Start = start_next
+reached_of (code.Entry standing) = entry_next (standing_of standing)
+reached_of code.Nothing = nothing_next
+
+-- the place that is reached is one of the game
+abbrev pub IsReachedIn : AbstractGame → Reached → Type 0
+IsReachedIn game (entry_next standing) = IsPlaceOf game standing.place
+IsReachedIn game _ = Unit {0}
+
+-- all that an entry tells without a question is right, but its question is above the limits
+pub record IsHeavyEntry (game : AbstractGame) (standing : Standing) (told : Timed) : Type 0 where
+  pub counted : told.at ≤ latest_moment
+  pub fits : FitsUnasked game standing told.at told.entry
+  pub asks : AsksHeavy game standing told.entry
+
+-- why an entry doesn't lead on
+abbrev pub RefusesEntry : AbstractGame → Standing → Timed → Fault → Type 0
+RefusesEntry game standing told Form = ⊥
+RefusesEntry game standing told Bad = (to : Reached) → ¬ EntryLeads game standing told to
+RefusesEntry game standing told Over = IsHeavyEntry game standing told
+RefusesEntry game standing told Memory = Unit {0}
+
+-- the text is that of an entry whose question is above the limits
+pub record IsHeavyText (game : AbstractGame) (reached : Reached) (text : List ℕ) : Type 0 where
+  pub standing : Standing
+  pub here : reached ≡ entry_next standing
+  pub told : Timed
+  pub form : SpellsIn standing.version text told
+  pub heavy : IsHeavyEntry game standing told
+
+-- why a line with this text doesn't lead on
+abbrev pub Refuses : AbstractGame → Reached → (text : List ℕ) → Fault → Type 0
+Refuses game reached text Form = ¬ HasForm reached text
+Refuses game reached text Bad = HasForm reached text × ((to : Reached) → ¬ Leads game reached text to)
+Refuses game reached text Over = IsHeavyText game reached text
+Refuses game reached text Memory = Unit {0}

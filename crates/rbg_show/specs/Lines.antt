@@ -1,0 +1,48 @@
+-- What a line of a list of moves is, and the moves that it may mean.
+use Rattle.std.specs.Prelude.{◌≡◌, ℕ, ◌<◌, ◌≤◌, ◌^◌, List, [], ◌∷◌, ◌++◌, length, Option, Some, None, codes, decimal}
+use Rattle.rbg_base.specs.Move.{most_pairs}
+use Rattle.rbg_wire.specs.Reading.{SpellsPairs}
+use Rattle.rbg_script.specs.declared.config.ScriptConfig.{ScriptConfig}
+use Rattle.rbg_script.specs.Config.{SpellsConfig}
+use Rattle.rbg_script.specs.Events.{AbstractEvent, SpellsEvent, HasFields}
+use Rattle.rbg_lines.specs.declared.entry.Entry.TheVariants.{End as EndEntry}
+use Rattle.rbg_lines.specs.declared.heading.Start.{Start}
+use Rattle.rbg_lines.specs.declared.heading.Version.{Version}
+use Rattle.rbg_lines.specs.Entries.{SpellsEntry, SpellsTimed}
+use Rattle.rbg_lines.specs.Heading.{version_text, SpellsPlayers, SpellsStart}
+use Rattle.rbg_show.specs.declared.line.RecordEnd.{RecordEnd}
+use Rattle.rbg_show.specs.declared.line.ListLine.{ListLine}
+use Rattle.rbg_show.specs.declared.line.ListLine.TheVariants.{Silent, Head, End, Said, Other}
+
+-- A line that tells nothing of moves: an empty one, the names of the players or the start of a record, the config of a
+-- script, or an event of one.
+pub data IsSilent (line : List ℕ) : Type 0 where
+  by_nothing : line ≡ [] → IsSilent line
+  by_players : (names : List (List ℕ)) → SpellsPlayers line names → IsSilent line
+  by_start : (start : Start) → SpellsStart line start → IsSilent line
+  by_config : (config : ScriptConfig) → SpellsConfig line config → IsSilent line
+  by_event : (event : AbstractEvent) → SpellsEvent line event → IsSilent line
+
+-- the last line of a record, with a moment or without
+pub data IsEnd (line : List ℕ) (end : RecordEnd) : Type 0 where
+  without_moment : SpellsEntry line (EndEntry end.outcome) → IsEnd line end
+  with_moment : (at : ℕ) → SpellsTimed line (record { at = at; entry = EndEntry end.outcome }) → IsEnd line end
+
+-- No message of a script is in the line.
+abbrev pub HasNoMessage : List ℕ → Type 0
+HasNoMessage line = (seat at : ℕ) (said : List ℕ) → HasFields line (codes "m ") seat at said → ⊥
+
+-- The line is none of those that show something else than a move, and none that shows nothing.
+pub record IsOther (line : List ℕ) : Type 0 where
+  pub no_head : (version : Version) → line ≡ version_text version → ⊥
+  pub no_end : (end : RecordEnd) → IsEnd line end → ⊥
+  pub no_message : HasNoMessage line
+  pub no_silence : IsSilent line → ⊥
+
+-- what the line is
+abbrev pub IsLine : List ℕ → ListLine → Type 0
+IsLine line (Head version) = line ≡ version_text version
+IsLine line (End end) = IsEnd line end
+IsLine line (Said seat text) = (at : ℕ) × HasFields line (codes "m ") seat at text.now
+IsLine line Silent = IsSilent line × HasNoMessage line
+IsLine line (Other text) = (text.now ≡ line) × IsOther line

@@ -1,0 +1,42 @@
+-- The moves that a line may mean.
+use Rattle.std.specs.Prelude.{◌≡◌, ℕ, ◌<◌, ◌≤◌, ◌^◌, List, ◌∷◌, ◌++◌, length, Option, Some, None, codes, decimal}
+use Rattle.rbg_base.specs.Move.{most_pairs}
+use Rattle.rbg_wire.specs.Reading.{SpellsPairs}
+use Rattle.rbg_lines.specs.declared.heading.Version.{Version}
+use Rattle.rbg_lines.specs.declared.heading.Version.TheVariants.{One, Two}
+use Rattle.rbg_show.specs.declared.reading.Lead.{Lead}
+use Rattle.rbg_show.specs.declared.reading.Lead.TheVariants.{Nothing, Player, MomentAndPlayer}
+
+-- what stands before the pairs of a move in a record of this version
+abbrev pub lead_of : Version → Lead
+lead_of One = Player
+lead_of Two = MomentAndPlayer
+
+-- the text spells these pairs, and a move has as many
+pub record SpellsMovePairs (text : List ℕ) (pairs : List (ℕ × ℕ)) : Type 0 where
+  pub spelled : SpellsPairs text pairs
+  pub few : length pairs ≤ most_pairs
+
+-- the pairs of a move, with the letter of a message before them or without
+pub data IsMoveText (text : List ℕ) (pairs : List (ℕ × ℕ)) : Type 0 where
+  with_letter : (behind : List ℕ) → text ≡ codes "M" ++ behind → SpellsMovePairs behind pairs → IsMoveText text pairs
+  without_letter : ((behind : List ℕ) → text ≡ codes "M" ++ behind → ⊥) → SpellsMovePairs text pairs → IsMoveText text pairs
+
+-- a number, a space and the rest
+pub record BeginsWithNumber (text : List ℕ) (number : ℕ) (rest : List ℕ) : Type 0 where
+  pub small : number < 2 ^ 64
+  pub parts : text ≡ decimal number ++ 32 ∷ rest
+
+-- the player's number, a space and a move
+pub data IsPlayersMove (text : List ℕ) : Option ℕ → List (ℕ × ℕ) → Type 0 where
+  of_player : (player : ℕ) (rest : List ℕ) (pairs : List (ℕ × ℕ))
+      → BeginsWithNumber text player rest
+      → IsMoveText rest pairs
+      → IsPlayersMove text (Some player) pairs
+
+-- The text may mean the move of these pairs, made by this player if it says who, where so much stands before the pairs.
+abbrev pub MayMean : Lead → List ℕ → Option ℕ → List (ℕ × ℕ) → Type 0
+MayMean Nothing text player pairs = (player ≡ None) × IsMoveText text pairs
+MayMean Player text player pairs = IsPlayersMove text player pairs
+MayMean MomentAndPlayer text player pairs =
+    (at : ℕ) × (rest : List ℕ) × BeginsWithNumber text at rest × IsPlayersMove rest player pairs

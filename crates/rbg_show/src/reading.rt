@@ -1,0 +1,136 @@
+//! The moves that a line may mean.
+ghost use Rattle.std.specs.Prelude.{◌≡◌, ◌≤◌, ℕ, ◌<◌, ◌^◌, List, [], ◌∷◌, ◌++◌, Option, Some, None, IfOk, IfSome, IfNone, decimal, length};
+ghost use Rattle.rbg_lines.specs.declared.heading.Version.TheVariants.{One, Two};
+ghost use Rattle.rbg_show.specs.declared.reading.Lead.{Lead as AnyLead};
+ghost use Rattle.rbg_show.specs.Readings.{BeginsWithNumber, IsMoveText, IsPlayersMove, MayMean, SpellsMovePairs, lead_of};
+
+use rbg_base::{Move, number_of_decimal};
+use rbg_lines::Version;
+use rbg_wire::{after_text, cut_at, read_pairs};
+use std::alloc::{AllocError, Global};
+
+/// What stands before the pairs of a move.
+#[derive(Clone, Copy, Debug, PartialEq, Eq)]
+pub(crate) enum Lead {
+    Nothing,
+    Player,
+    MomentAndPlayer,
+}
+
+impl Lead {
+    /// What stands before the pairs of a move in a record of a version.
+    pub(crate) fn of_version(version: Version) -> Lead
+        ensures { result ≡ lead_of version }
+    {
+        match version {
+            Version::One => Lead::Player,
+            Version::Two => Lead::MomentAndPlayer,
+        }
+    }
+}
+
+/// A move as a line may mean it.
+#[derive(Debug, Drop)]
+pub(crate) struct Reading {
+    /// The player who makes it, where the line says who.
+    pub player: Option<u64>,
+    pub pairs: Move,
+}
+
+impl Reading {
+    /// A player's move. The pairs may have the letter of a message before them.
+    pub(crate) fn of_pairs(player: Option<u64>, text: &[u8]) -> Option<Reading>
+        ensures found { IfSome result (λ reading. (reading.player ≡ player) × IsMoveText text.now reading.pairs) }
+        ensures none { IfNone result ((pairs : List (ℕ × ℕ)) → IsMoveText text.now pairs → ⊥) }
+    {
+        let pairs = read_move_text(text)?;
+        Some(Reading { player, pairs })
+    }
+
+    /// The move whose pairs stand behind a lead.
+    fn behind(lead: Lead, text: &[u8]) -> Option<Reading>
+        ensures found { IfSome result (λ reading. MayMean lead text.now reading.player reading.pairs) }
+        ensures none { IfNone result ((player : Option ℕ) (pairs : List (ℕ × ℕ)) → MayMean lead text.now player pairs → ⊥) }
+    {
+        match lead {
+            Lead::Nothing => Reading::of_pairs(None, text),
+            Lead::Player => Reading::of_player(text),
+            Lead::MomentAndPlayer => {
+                let (_, text) = cut_number(text)?;
+                Reading::of_player(text)
+            }
+        }
+    }
+
+    /// The move of `<player> <pairs>`.
+    fn of_player(text: &[u8]) -> Option<Reading>
+        ensures found { IfSome result (λ reading.
+            IsPlayersMove text.now reading.player reading.pairs) }
+        ensures none { IfNone result ((player : Option ℕ) (pairs : List (ℕ × ℕ))
+            → IsPlayersMove text.now player pairs
+            → ⊥) }
+    {
+        let (player, text) = cut_number(text)?;
+        Reading::of_pairs(Some(player), text)
+    }
+}
+
+/// The move that a seat's message is, if it is one.
+pub(crate) fn said_readings(
+    alloc: Global,
+    seat: u64,
+    text: &[u8],
+) -> Result<Vec<Reading>, AllocError> {
+    let mut readings = Vec::new(alloc);
+    if let Some(reading) = Reading::of_pairs(Some(seat), text) {
+        readings.push(reading)?;
+    }
+    Ok(readings)
+}
+
+/// The moves that a text may mean, where `lead` stands before the pairs, or where nobody has said what does.
+pub(crate) fn readings(
+    alloc: Global,
+    text: &[u8],
+    lead: Option<Lead>,
+) -> Result<Vec<Reading>, AllocError> {
+    let mut readings = Vec::new(alloc);
+    for known in [Lead::Nothing, Lead::Player, Lead::MomentAndPlayer] {
+        if lead.unwrap_or(known) == known
+            && let Some(reading) = Reading::behind(known, text)
+        {
+            readings.push(reading)?;
+        }
+    }
+    Ok(readings)
+}
+
+/// The pairs of a move, with the letter of a message before them or without.
+fn read_move_text(text: &[u8]) -> Option<Move>
+    ensures found { IfSome result (IsMoveText text.now) }
+    ensures none { IfNone result ((pairs : List (ℕ × ℕ)) → IsMoveText text.now pairs → ⊥) }
+{
+    match after_text(b"M", text) {
+        Some(behind) => pairs_of(behind),
+        None => pairs_of(text),
+    }
+}
+
+fn pairs_of(text: &[u8]) -> Option<Move>
+    ensures found { IfSome result (SpellsMovePairs text.now) }
+    ensures none { IfNone result ((pairs : List (ℕ × ℕ)) → SpellsMovePairs text.now pairs → ⊥) }
+{
+    read_pairs(text).ok()
+}
+
+/// A number with a space behind it, and what is left.
+fn cut_number(text: &[u8]) -> Option<(u64, &[u8])>
+    ensures found { IfSome result (λ parts. BeginsWithNumber text.now parts.0 parts.1.now) }
+    ensures none { IfNone result ((number : ℕ) (rest : List ℕ)
+        → BeginsWithNumber text.now number rest
+        → ⊥) }
+{
+    let (digits, rest) = cut_at(b' ', text)?;
+    let number = number_of_decimal(digits)?;
+    Some((number, rest))
+}

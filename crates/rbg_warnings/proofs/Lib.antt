@@ -1,0 +1,4 @@
+-- Lemmas, by topic.
+mod Names
+mod Sifting
+mod Standing

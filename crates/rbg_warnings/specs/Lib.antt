@@ -1,0 +1,4 @@
+-- What an author is warned of.
+pub mod Sifting
+pub mod Warnings
+pub mod internal

@@ -1,0 +1,2 @@
+-- Definitions that proofs use.
+pub mod Walking

@@ -1,0 +1,170 @@
+//! The warnings of a game.
+ghost use Rattle.std.specs.Prelude.{◌≡◌, ◌↔◌, ◌<◌, ◌≤◌, [], ◌∷◌, length, Contains, IfOk, OnOk, IsTrue};
+ghost use Rattle.rbg_rules.specs.Positions.{positions_of};
+ghost use Rattle.rbg_warnings.specs.declared.warning.Warning.TheVariants.{TooGreat as TooGreatWarning, Unused as UnusedWarning};
+ghost use Rattle.rbg_warnings.specs.Sifting.{Keeps};
+ghost use Rattle.rbg_warnings.specs.Warnings.{
+  BoardHas,
+  HasTooGreat,
+  IsUnused as IsThingUnused,
+  IsWarned,
+  IsWritten,
+  directions_warned,
+  pieces_warned,
+  players_warned,
+  positions_warned,
+  possible_warnings,
+  variables_warned,
+};
+ghost use Rattle.rbg_warnings.specs.internal.Walking.{Sifts};
+
+use crate::actions::{assigns_too_much, uses};
+use crate::thing::Thing;
+use crate::warning::Warning;
+use rbg_base::{Direction, Memory, Piece, Player, Position, Variable, Vertex};
+use rbg_rules::Game;
+use std::alloc::Global;
+
+/// The warnings of a game: those of positions, of players, of pieces, of variables and of directions, each by number.
+pub fn warnings(alloc: Global, game: &Game) -> Result<Vec<Warning>, Memory>
+    ensures { IfOk result (λ found.
+        Keeps (IsWarned game.now) (possible_warnings game.now) found.items) }
+{
+    let mut found = Vec::new(alloc);
+    sift_positions(game, &mut found)?;
+    sift_players(game, &mut found)?;
+    sift_pieces(game, &mut found)?;
+    sift_variables(game, &mut found)?;
+    sift_directions(game, &mut found)?;
+    Ok(found)
+}
+
+fn sift_positions(game: &Game, found: &mut Vec<Warning>) -> Result<(), Memory>
+    ensures { OnOk result (Sifts game.now (positions_warned game.now) found.old.items found.new.items) }
+{
+    for index in 0..game.positions() {
+        sift_position(game, index as Position + 1, found)?;
+    }
+    Ok(())
+}
+
+fn sift_players(game: &Game, found: &mut Vec<Warning>) -> Result<(), Memory>
+    ensures { OnOk result (Sifts game.now (players_warned game.now) found.old.items found.new.items) }
+{
+    for index in 0..game.players() {
+        let player = index as Player + 1;
+        sift_thing(game, Thing::Player { player }, found)?;
+    }
+    Ok(())
+}
+
+fn sift_pieces(game: &Game, found: &mut Vec<Warning>) -> Result<(), Memory>
+    ensures { OnOk result (Sifts game.now (pieces_warned game.now) found.old.items found.new.items) }
+{
+    for index in 0..game.pieces() {
+        let piece = index as Piece;
+        sift_thing(game, Thing::Piece { piece }, found)?;
+    }
+    Ok(())
+}
+
+fn sift_variables(game: &Game, found: &mut Vec<Warning>) -> Result<(), Memory>
+    ensures { OnOk result (Sifts game.now (variables_warned game.now) found.old.items found.new.items) }
+{
+    let players = game.players();
+    for index in 0..game.variables().saturating_sub(players) {
+        let variable = (players + index) as Variable;
+        sift_thing(game, Thing::Variable { variable }, found)?;
+    }
+    Ok(())
+}
+
+fn sift_directions(game: &Game, found: &mut Vec<Warning>) -> Result<(), Memory>
+    ensures { OnOk result (Sifts game.now (directions_warned game.now) found.old.items found.new.items) }
+{
+    for index in 0..game.directions() {
+        let direction = index as Direction;
+        sift_thing(game, Thing::Direction { direction }, found)?;
+    }
+    Ok(())
+}
+
+/// Adds the warning of a position, if the game has it.
+fn sift_position(game: &Game, position: Position, found: &mut Vec<Warning>) -> Result<(), Memory>
+    requires from_one { 0 < position }
+    requires there { position ≤ length (positions_of game.now.rules) }
+    ensures { OnOk result (Sifts game.now (TooGreatWarning position ∷ [])
+        found.old.items found.new.items) }
+{
+    if has_too_great(game, position) {
+        found.push(Warning::TooGreat { position })?;
+    }
+    Ok(())
+}
+
+/// Adds the warning of a thing, if the game has it.
+fn sift_thing(game: &Game, thing: Thing, found: &mut Vec<Warning>) -> Result<(), Memory>
+    ensures { OnOk result (Sifts game.now (UnusedWarning thing ∷ []) found.old.items found.new.items) }
+{
+    if is_unused(game, thing) {
+        found.push(Warning::Unused { thing })?;
+    }
+    Ok(())
+}
+
+/// Whether the action at a position assigns a number to a variable whose bound is smaller.
+fn has_too_great(game: &Game, position: Position) -> bool
+    requires from_one { 0 < position }
+    requires there { position ≤ length (positions_of game.now.rules) }
+    ensures { IsTrue result ↔ HasTooGreat game.now position }
+{
+    let _positions = game.positions();
+    assigns_too_much(game, game.action(position))
+}
+
+/// Whether a thing is neither on the board at the beginning nor used by the rules.
+fn is_unused(game: &Game, thing: Thing) -> bool
+    ensures { IsTrue result ↔ IsThingUnused game.now thing }
+{
+    if is_on_board(game, thing) {
+        return false;
+    }
+    !is_written(game, thing)
+}
+
+/// Whether the board has a thing at the beginning.
+fn is_on_board(game: &Game, thing: Thing) -> bool
+    ensures { IsTrue result ↔ BoardHas game.now thing }
+{
+    match thing {
+        Thing::Piece { piece } => is_first_piece(game, piece),
+        Thing::Player { .. } => false,
+        Thing::Variable { .. } => false,
+        Thing::Direction { .. } => false,
+    }
+}
+
+/// Whether some action of the rules uses a thing.
+fn is_written(game: &Game, thing: Thing) -> bool
+    ensures { IsTrue result ↔ IsWritten game.now thing }
+{
+    for index in 0..game.positions() {
+        if uses(thing, game.action(index as Position + 1)) {
+            return true;
+        }
+    }
+    false
+}
+
+/// Whether the board has a piece at the beginning.
+fn is_first_piece(game: &Game, piece: Piece) -> bool
+    ensures { IsTrue result ↔ Contains game.now.board.first piece }
+{
+    let board = game.board();
+    for vertex in 0..board.len() {
+        if board.piece_at_start(vertex as Vertex) == piece {
+            return true;
+        }
+    }
+    false
+}

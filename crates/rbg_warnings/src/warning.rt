@@ -1,0 +1,14 @@
+//! Warnings.
+
+use crate::thing::Thing;
+use rbg_base::Position;
+
+/// What an author is warned of.
+#[derive(Clone, Copy, Debug, PartialEq, Eq)]
+pub enum Warning {
+    /// At the position a number is assigned to a variable whose bound is smaller, so the assignment never runs.
+    TooGreat { position: Position },
+    /// A player to whom no switch gives the turn, a piece that is on no vertex at the beginning and in no off, a
+    /// variable that the rules never name, or a direction that they never write.
+    Unused { thing: Thing },
+}
