@@ -14,10 +14,11 @@ use Rattle.rbg_show.specs.declared.line.RecordEnd.{RecordEnd}
 use Rattle.rbg_show.specs.declared.line.ListLine.{ListLine}
 use Rattle.rbg_show.specs.declared.line.ListLine.TheVariants.{Silent, Head, End, Said, Other}
 
--- A line that tells nothing of moves: an empty one, the names of the players or the start of a record, the config of a
--- script, or an event of one.
+-- A line that tells nothing of moves: an empty one, a comment, the names of the players or the start of a record, the
+-- config of a script, or an event of one.
 pub data IsSilent (line : List ℕ) : Type 0 where
   by_nothing : line ≡ [] → IsSilent line
+  by_comment : (text : List ℕ) → line ≡ codes "//" ++ text → IsSilent line
   by_players : (names : List (List ℕ)) → SpellsPlayers line names → IsSilent line
   by_start : (start : Start) → SpellsStart line start → IsSilent line
   by_config : (config : ScriptConfig) → SpellsConfig line config → IsSilent line

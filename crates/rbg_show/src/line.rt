@@ -1,5 +1,5 @@
 //! The lines of lists, scripts and records.
-ghost use Rattle.std.specs.Prelude.{◌≡◌, ◌↔◌, ℕ, List, [], ◌∷◌, ◌++◌, IfOk, IfSome, IfNone, IsTrue};
+ghost use Rattle.std.specs.Prelude.{◌≡◌, ◌↔◌, ℕ, List, [], ◌∷◌, ◌++◌, IfOk, IfSome, IfNone, IsTrue, codes};
 ghost use Rattle.rbg_script.specs.declared.config.ScriptConfig.{ScriptConfig as AnyConfig};
 ghost use Rattle.rbg_script.specs.Config.{SpellsConfig};
 ghost use Rattle.rbg_script.specs.Events.{AbstractEvent, SpellsEvent};
@@ -13,7 +13,7 @@ ghost use Rattle.rbg_show.specs.Lines.{IsEnd, IsLine, IsSilent};
 use rbg_base::Memory;
 use rbg_lines::{Entry, Version, read_entry, read_players, read_start, read_timed, read_version};
 use rbg_script::{read_config, read_event, read_message};
-use rbg_wire::Outcome;
+use rbg_wire::{Outcome, after_text};
 use std::alloc::Global;
 
 /// How a record ends.
@@ -26,7 +26,7 @@ pub(crate) struct RecordEnd {
 /// What a line holds.
 #[derive(Clone, Copy)]
 pub(crate) enum ListLine<'a> {
-    /// Nothing of moves: an empty line, the names or the start of a record, another event of a script.
+    /// Nothing of moves: an empty line, a comment, the names or the start of a record, another event of a script.
     Silent,
     /// The first line of a record.
     Head { version: Version },
@@ -128,6 +128,9 @@ fn is_silent(alloc: Global, line: &[u8]) -> Result<bool, Memory>
     if line.is_empty() {
         return Ok(true);
     }
+    if is_comment(line) {
+        return Ok(true);
+    }
     if has_players(line) {
         return Ok(true);
     }
@@ -138,6 +141,13 @@ fn is_silent(alloc: Global, line: &[u8]) -> Result<bool, Memory>
         return Ok(true);
     }
     has_event(alloc, line)
+}
+
+/// Whether a line is a comment, as descriptions have them.
+fn is_comment(line: &[u8]) -> bool
+    ensures { IsTrue result ↔ ((text : List ℕ) × line.now ≡ codes "//" ++ text) }
+{
+    after_text(b"//", line).is_some()
 }
 
 fn has_players(line: &[u8]) -> bool
