@@ -1,4 +1,4 @@
-//! Reading a whole input or a file, up to a limit.
+//! Reading a whole input, up to a limit.
 ghost use Rattle.std.specs.Prelude.{◌<◌, IfOk, length};
 ghost use Rattle.rbg_console.specs.Inputs.{IsReading};
 
@@ -23,12 +23,6 @@ pub enum Input {
     TooLong,
     /// The device failed, or gave no end.
     Device,
-}
-
-/// Where a program reads named files.
-pub trait Files {
-    /// Reads a file to its end, or until more than `limit` bytes have come.
-    fn read_file(&mut self, alloc: Global, name: &str, limit: usize) -> Result<Input, AllocError>;
 }
 
 /// Reads to the end, or until more than `limit` bytes have come.

@@ -3,6 +3,7 @@
 
 mod command_line;
 mod counts;
+mod files;
 mod input;
 mod output;
 mod refusal;
@@ -11,7 +12,8 @@ mod system;
 
 pub use command_line::{WordsError, file_argument, match_words};
 pub use counts::count_line;
-pub use input::{Files, Input, MAX_INPUT, read_input};
+pub use files::{Files, MemoryFile, read_bytes};
+pub use input::{Input, MAX_INPUT, read_input};
 pub use output::write_text;
 pub use refusal::Refusal;
 pub use status::Status;

@@ -1,7 +1,10 @@
 //! The files and the words of the system. What fails is said on standard error.
+ghost use Rattle.std.specs.Prelude.{IfOk, None};
+ghost use Rattle.rbg_console.specs.Files.{IsFileReading};
 
 use crate::command_line::WordsError;
-use crate::input::{Files, Input, read_input};
+use crate::files::Files;
+use crate::input::{Input, read_input};
 use std::alloc::{AllocError, Global};
 use std::env;
 use std::fs::File;
@@ -31,7 +34,9 @@ impl<'a> SystemFiles<'a> {
         name: &str,
         file: &mut File,
         limit: usize,
-    ) -> Result<Input, AllocError> {
+    ) -> Result<Input, AllocError>
+        ensures { IfOk result (IsFileReading limit None) }
+    {
         let read = read_input(alloc, file, limit)?;
         if matches!(&read, Input::Device) {
             if let Err(error) = file.read(&mut [0u8; 1]) {

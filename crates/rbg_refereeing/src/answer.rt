@@ -1,6 +1,7 @@
 //! What is answered to an input: a text that is printed, and the status with which the program ends.
 ghost use Rattle.std.specs.Prelude.{◌≡◌, IfOk};
 ghost use Rattle.rbg_refereeing.specs.Answers.{IsAnswer, refused_line, script_line};
+ghost use Rattle.rbg_refereeing.specs.Runs.{device_line};
 ghost use Rattle.rbg_refereeing.specs.internal.Faults.{AnswersFault};
 
 use crate::RefereeingError;
@@ -41,7 +42,7 @@ fn answer_fault(alloc: Global, error: RefereeingError) -> Result<Answer, AllocEr
 }
 
 /// `refused <refusal>`
-fn answer_refused(alloc: Global, error: LoadError) -> Result<Answer, AllocError>
+pub fn answer_refused(alloc: Global, error: LoadError) -> Result<Answer, AllocError>
     ensures text { IfOk result (λ answer. answer.text.items ≡ refused_line error) }
     ensures status { IfOk result (λ answer. answer.status ≡ Status.Refused) }
 {
@@ -54,7 +55,7 @@ fn answer_refused(alloc: Global, error: LoadError) -> Result<Answer, AllocError>
 }
 
 /// `script <number>`
-pub(crate) fn answer_script(alloc: Global, number: usize) -> Result<Answer, AllocError>
+pub fn answer_script(alloc: Global, number: usize) -> Result<Answer, AllocError>
     ensures text { IfOk result (λ answer. answer.text.items ≡ script_line number) }
     ensures status { IfOk result (λ answer. answer.status ≡ Status.BadInput) }
 {
@@ -62,5 +63,16 @@ pub(crate) fn answer_script(alloc: Global, number: usize) -> Result<Answer, Allo
     Ok(Answer {
         text: line.into_bytes(),
         status: Status::BadInput,
+    })
+}
+
+/// `device`, for a file or an input that can't be read.
+pub fn answer_device(alloc: Global) -> Result<Answer, AllocError>
+    ensures text { IfOk result (λ answer. answer.text.items ≡ device_line) }
+    ensures status { IfOk result (λ answer. answer.status ≡ Status.Device) }
+{
+    Ok(Answer {
+        text: b"device\n".to_vec(alloc)?,
+        status: Status::Device,
     })
 }

@@ -9,7 +9,7 @@ mod refereeing;
 mod run;
 mod script_events;
 
-pub use answer::{Answer, answer_input};
+pub use answer::{Answer, answer_device, answer_input, answer_refused, answer_script};
 pub use error::RefereeingError;
 pub use refereeing::{referee_input, referee_texts};
 pub use run::run_referee;

@@ -2,7 +2,7 @@
 ghost use Rattle.std.specs.Prelude.{IfOk};
 ghost use Rattle.rbg_refereeing.specs.Runs.{IsReadersAnswer, IsRun};
 
-use crate::answer::{Answer, answer_input, answer_script};
+use crate::answer::{Answer, answer_device, answer_input, answer_script};
 use rbg_console::{Input, MAX_INPUT, Status, read_input, write_text};
 use std::alloc::{AllocError, Global};
 use std::io::{Read, Write};
@@ -27,9 +27,6 @@ fn answer_reader<R: Read>(alloc: Global, input: &mut R) -> Result<Answer, AllocE
     match read_input(alloc, input, MAX_INPUT)? {
         Input::Whole(bytes) => answer_input(alloc, bytes.as_slice()),
         Input::TooLong => answer_script(alloc, 0),
-        Input::Device => Ok(Answer {
-            text: b"device\n".to_vec(alloc)?,
-            status: Status::Device,
-        }),
+        Input::Device => answer_device(alloc),
     }
 }

@@ -1,0 +1,6 @@
+-- Lemmas, by topic.
+mod AnswerLemmas
+mod JudgingLemmas
+mod LawLemmas
+mod ReadingLemmas
+mod RunLemmas

@@ -1,0 +1,61 @@
+-- Lemmas on what was read.
+use Rattle.std.proofs.Common.{◌≡◌, ℕ, List, [], refl, sym, subst}
+use Rattle.std.specs.Global.{Global}
+use Rattle.std.specs.Prelude.{Option, Vec}
+use Rattle.rbg_console.proofs.FileLemmas.{more_known}
+use Rattle.rbg_console.specs.Files.{KnownFiles, IsFileReading}
+use Rattle.rbg_console.specs.Inputs.{most_input, IsReading}
+use Rattle.rbg_console.specs.declared.input.Input.{Input}
+use Rattle.rbg_console.specs.declared.input.Input.TheVariants.{Whole, TooLong, Device}
+use Rattle.rbg_tokens.specs.Limits.{longest_text}
+use Rattle.rbg_answering.specs.declared.task.Command.TheVariants.{Check, Referee, Replay, Migrate}
+use Rattle.rbg_answering.specs.declared.task.Task.{Task}
+use Rattle.rbg_answering.specs.Tasks.{IsReadOf}
+use Rattle.rbg_answering.specs.Tasks.IsInputOf.{whole, too_long}
+use Rattle.rbg_answering.specs.internal.Parts.{Gives, IsReadIn, IsReadInput, IsReadFor, task_of}
+
+-- what the reading of a file gives
+pub file_given : (limit : ℕ) (known : Option (List ℕ)) (input : Input) (read : Option (Vec ℕ Global)) → IsFileReading limit known input → Gives input read → IsReadIn limit known read
+file_given limit known (Whole bytes) read is gives =
+    subst (IsReadIn limit known) (sym gives) (record { bytes = bytes.items; may = is.1; reads = (is.0, refl) })
+file_given limit known TooLong read is gives =
+    subst (IsReadIn limit known) (sym gives) (record { bytes = is.0; may = is.2; reads = is.1 })
+file_given limit known Device read is gives = absurd gives
+
+-- what the reading of standard input gives
+pub input_given : (unread left : Option (List ℕ)) (input : Input) (read : Option (Vec ℕ Global)) → IsReading most_input unread left input → Gives input read → IsReadInput unread left read
+input_given unread left (Whole bytes) read is gives =
+    subst (IsReadInput unread left) (sym gives) (record { bytes = bytes.items; input = whole is; reads = (is.within, refl) })
+input_given unread left TooLong read is gives =
+    let more = more_known most_input unread left is.bytes is.above is.taken in
+    subst (IsReadInput unread left) (sym gives) (record { bytes = more.0; input = too_long is more.1 more.2; reads = more.1 })
+input_given unread left Device read is gives = absurd gives
+
+-- what is read for each command
+pub check_read : (known : KnownFiles) (unread : Option (List ℕ)) (file : List ℕ) (read : Task) → read.command ≡ Check → IsReadIn longest_text (known file) read.description → IsReadOf most_input read.told [] → IsReadFor known unread unread (record { command = Check; file = file; record_file = [] }) read
+check_read known unread file read is d told = record {
+  task = task_of Check d.bytes [];
+  asks = record { command = refl; description = d.may; told = (refl, refl) };
+  reads = record { command = sym is; description = d.reads; told = told };
+}
+
+pub match_read : (known : KnownFiles) (unread left : Option (List ℕ)) (file : List ℕ) (read : Task) → read.command ≡ Referee → IsReadIn longest_text (known file) read.description → IsReadInput unread left read.told → IsReadFor known unread left (record { command = Referee; file = file; record_file = [] }) read
+match_read known unread left file read is d told = record {
+  task = task_of Referee d.bytes told.bytes;
+  asks = record { command = refl; description = d.may; told = told.input };
+  reads = record { command = sym is; description = d.reads; told = told.reads };
+}
+
+pub replay_read : (known : KnownFiles) (unread : Option (List ℕ)) (file other : List ℕ) (read : Task) → read.command ≡ Replay → IsReadIn longest_text (known file) read.description → IsReadIn most_input (known other) read.told → IsReadFor known unread unread (record { command = Replay; file = file; record_file = other }) read
+replay_read known unread file other read is d told = record {
+  task = task_of Replay d.bytes told.bytes;
+  asks = record { command = refl; description = d.may; told = (told.may, refl) };
+  reads = record { command = sym is; description = d.reads; told = told.reads };
+}
+
+pub migrate_read : (known : KnownFiles) (unread : Option (List ℕ)) (file other : List ℕ) (read : Task) → read.command ≡ Migrate → IsReadIn longest_text (known file) read.description → IsReadIn most_input (known other) read.told → IsReadFor known unread unread (record { command = Migrate; file = file; record_file = other }) read
+migrate_read known unread file other read is d told = record {
+  task = task_of Migrate d.bytes told.bytes;
+  asks = record { command = refl; description = d.may; told = (told.may, refl) };
+  reads = record { command = sym is; description = d.reads; told = told.reads };
+}

@@ -1,0 +1,32 @@
+-- Laws of answers.
+use Rattle.std.specs.Prelude.{◌≡◌, ◌⊎◌, ℕ, ◌≤◌, List, length}
+use Rattle.rbg_console.specs.Inputs.{most_input}
+use Rattle.rbg_console.specs.declared.status.Status.{Status}
+use Rattle.rbg_console.specs.declared.status.Status.TheVariants.{Success, BadInput}
+use Rattle.rbg_game.specs.Loading.{Loads}
+use Rattle.rbg_record.specs.Judged.{IsHeavyLine}
+use Rattle.rbg_record.specs.Right.{IsRightRecord}
+use Rattle.rbg_rules.specs.State.{AbstractGame}
+use Rattle.rbg_answering.specs.declared.task.Command.TheVariants.{Replay}
+use Rattle.rbg_answering.specs.Answers.{IsTaskAnswer, good_line, over_line}
+use Rattle.rbg_answering.specs.Tasks.{AbstractTask}
+
+-- Of a right record of a game nothing else is said than that it is good, unless a question is above the limits.
+abbrev pub RightRecordsAreGood : Type 0
+RightRecordsAreGood =
+    (game : AbstractGame) (description told text : List ℕ) (status : Status)
+    → Loads description game
+    → IsRightRecord game told
+    → length told ≤ most_input
+    → IsTaskAnswer (record { command = Replay; description = description; told = told }) text status
+    → ((text ≡ good_line) × (status ≡ Success)) ⊎ ((line : ℕ) × IsHeavyLine game told line × (text ≡ over_line line))
+
+-- A task has answers of one status at most, unless one says that a question is above the limits. Where a script or a
+-- record is at fault, they are one line.
+abbrev pub TaskAnswersAreApart : Type 0
+TaskAnswersAreApart =
+    (task : AbstractTask) (text other : List ℕ) (status ended : Status)
+    → IsTaskAnswer task text status
+    → IsTaskAnswer task other ended
+    → ((status ≡ ended) × (status ≡ BadInput → text ≡ other))
+    ⊎ ((line : ℕ) × ((text ≡ over_line line) ⊎ (other ≡ over_line line)))

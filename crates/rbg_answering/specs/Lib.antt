@@ -1,0 +1,5 @@
+pub mod Answers
+pub mod Laws
+pub mod Runs
+pub mod Tasks
+pub mod internal

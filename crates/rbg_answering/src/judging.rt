@@ -1,0 +1,73 @@
+//! The answers of the commands on a game and a record.
+ghost use Rattle.std.specs.Prelude.{◌≡◌, ◌++◌, ℕ, List, IfOk, codes};
+ghost use Rattle.rbg_console.specs.Counts.{counts_of};
+ghost use Rattle.rbg_answering.specs.Answers.{IsGamesAnswer};
+ghost use Rattle.rbg_answering.specs.internal.Parts.{SaysChecked};
+
+use crate::Command;
+use crate::lines::{answer_bad, answer_good, answer_record_fault};
+use rbg_console::{Status, count_line};
+use rbg_game::Game;
+use rbg_moves::PlayedGame;
+use rbg_record::{Checked, RecordError, check_record, migrate};
+use rbg_refereeing::Answer;
+use std::alloc::{AllocError, Global};
+
+/// The counts of a game.
+pub(crate) fn count(alloc: Global, game: &Game) -> Result<Answer, AllocError>
+    ensures { IfOk result (λ answer. (description told : List ℕ) →
+        IsGamesAnswer game.now description told Command.Check answer.text.items answer.status) }
+{
+    let mut line = count_line(alloc, game)?;
+    line.push('\n')?;
+    Ok(Answer {
+        text: line.into_bytes(),
+        status: Status::Success,
+    })
+}
+
+/// Whether a record is right.
+pub(crate) fn replay(alloc: Global, game: Game, told: &[u8]) -> Result<Answer, AllocError>
+    ensures { IfOk result (λ answer. (description : List ℕ) →
+        IsGamesAnswer game description told.now Command.Replay answer.text.items answer.status) }
+{
+    match PlayedGame::new(alloc, game) {
+        Ok(played) => judge(alloc, &played, told),
+        Err(_) => Err(AllocError),
+    }
+}
+
+fn judge(alloc: Global, game: &PlayedGame, told: &[u8]) -> Result<Answer, AllocError>
+    ensures { IfOk result (λ answer. (description : List ℕ) →
+        IsGamesAnswer game.now description told.now Command.Replay answer.text.items answer.status) }
+{
+    answer_checked(alloc, check_record(game, told))
+}
+
+/// The line of what is told of a record.
+fn answer_checked(
+    alloc: Global,
+    checked: Result<Checked, RecordError>,
+) -> Result<Answer, AllocError>
+    ensures { IfOk result (λ answer. SaysChecked checked answer.text.items answer.status) }
+{
+    match checked {
+        Ok(Checked::Good) => answer_good(alloc),
+        Ok(Checked::Bad { line }) => answer_bad(alloc, line),
+        Err(error) => answer_record_fault(alloc, error),
+    }
+}
+
+/// Version 2 of a record of version 1.
+pub(crate) fn rewrite(alloc: Global, game: &Game, told: &[u8]) -> Result<Answer, AllocError>
+    ensures { IfOk result (λ answer. (description : List ℕ) →
+        IsGamesAnswer game.now description told.now Command.Migrate answer.text.items answer.status) }
+{
+    match migrate(alloc, game, told) {
+        Ok(text) => Ok(Answer {
+            text,
+            status: Status::Success,
+        }),
+        Err(error) => answer_record_fault(alloc, error),
+    }
+}

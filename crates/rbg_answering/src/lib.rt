@@ -1,0 +1,16 @@
+//! The answers of the commands `check`, `referee` with a file, `replay` and `migrate`: from the bytes of files and of
+//! standard input to the bytes that are printed.
+#![tactic(auto)]
+
+mod answer;
+mod judging;
+pub mod laws;
+mod lines;
+mod loading;
+mod reading;
+mod run;
+mod task;
+
+pub use answer::answer_task;
+pub use run::run_task;
+pub use task::{Command, FileTask, Task};

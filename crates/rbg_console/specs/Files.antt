@@ -1,0 +1,23 @@
+-- What is told of the files that a program reads: the bytes of each, where those are known.
+use Rattle.std.specs.Prelude.{◌≡◌, ℕ, ◌<◌, ◌≤◌, List, length, IfSome}
+use Rattle.std.specs.declared.option.Option.{Option}
+use Rattle.rbg_console.specs.declared.input.Input.{Input}
+use Rattle.rbg_console.specs.declared.input.Input.TheVariants.{Whole, TooLong, Device}
+
+-- the bytes of each file by its name, where they are known
+abbrev pub KnownFiles : Type 0
+KnownFiles = (name : List ℕ) → Option (List ℕ)
+
+-- these may be the bytes: they are the known ones, or none are known
+abbrev pub MayBe : (known : Option (List ℕ)) → (bytes : List ℕ) → Type 0
+MayBe known bytes = IfSome known (λ those. those ≡ bytes)
+
+-- What a reading within a limit tells of the bytes of a file. Of a file that can't be read nothing is said.
+abbrev pub IsFileReading : (limit : ℕ) → (known : Option (List ℕ)) → Input → Type 0
+IsFileReading limit known (Whole read) = (length read.items ≤ limit) × MayBe known read.items
+IsFileReading limit known TooLong = (bytes : List ℕ) × (limit < length bytes) × MayBe known bytes
+IsFileReading limit known Device = Unit {0}
+
+-- no file has other bytes than before
+abbrev pub KeepsFiles : (old new : KnownFiles) → Type 0
+KeepsFiles old new = (name : List ℕ) → new name ≡ old name
