@@ -1,5 +1,5 @@
 -- A run of a table holds a transcript of its match.
-use Rattle.std.proofs.Common.{◌≡◌, ℕ, List, [], ◌∷◌, ◌++◌, refl, sym, ap, ◌∙◌, subst, append_assoc, Option, Some, None, replicate}
+use Rattle.std.proofs.Common.{◌≡◌, ℕ, false, List, [], ◌∷◌, ◌++◌, refl, sym, ap, ◌∙◌, subst, append_assoc, Option, Some, None, replicate}
 use Rattle.std.proofs.lemmas.List.{append-nil}
 use Rattle.std.proofs.lemmas.Option.{none-some}
 use Rattle.rbg_rules.specs.State.{AbstractGame}
@@ -191,6 +191,11 @@ all_kept : {game : AbstractGame} {text : List ℕ} {config : Config} {events : L
 all_kept tables.none = record { same_game = refl; same_text = refl; same_config = refl; began = λ playing is. absurd (none-some playing is) }
 all_kept {game} {text} {config} (tables.more {events} run hears) = one_kept game text config events (all_kept run) hears
 
+-- a match that opens and handles events hasn't failed
+works_still : {game : AbstractGame} {text : List ℕ} {config : Config} {at : ℕ} {opened playing : MatchState} {first last : List (List ℕ)} {handed : List AbstractEvent} → Opens game text config at opened first → StepsAll opened first handed playing last → playing.failed ≡ false
+works_still opens matches.none = opens.works
+works_still opens (matches.more steps step) = step.works
+
 pub run_holds_transcript : RunHoldsTranscript
 run_holds_transcript game text config events told hall playing is =
     let began = (all_kept hall.runs).began playing is in
@@ -205,4 +210,5 @@ run_holds_transcript game text config events told hall playing is =
       hands = began.hands;
       said = stepped.0;
       transcript = stepped.1;
+      works = works_still began.opens began.steps;
     }

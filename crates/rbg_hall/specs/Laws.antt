@@ -1,5 +1,5 @@
 -- Laws of a table.
-use Rattle.std.specs.Prelude.{◌≡◌, ℕ, ◌+◌, List, [], ◌∷◌, ◌++◌, Option, Some, slice_get}
+use Rattle.std.specs.Prelude.{◌≡◌, ℕ, ◌+◌, false, List, [], ◌∷◌, ◌++◌, Option, Some, slice_get}
 use Rattle.rbg_wire.specs.Streams.{Item}
 use Rattle.rbg_wire.specs.Whole.{whole_item}
 use Rattle.rbg_rules.specs.State.{AbstractGame}
@@ -53,8 +53,8 @@ pub data HandsEach (seats : List (Option ℕ)) : List OwnEvent → List Abstract
       Hands seats event next →
       HandsEach seats (events ++ event ∷ []) (handed ++ next)
 
--- The match that has begun began at the moment at which a line joined, and play stands where a transcript of what the
--- match was handed from then on leaves it.
+-- The match that has begun began at the moment at which a line joined, it hasn't failed, and play stands where a transcript
+-- of what the match was handed from then on leaves it.
 pub record HoldsTranscript (game : AbstractGame) (text : List ℕ) (config : Config) (events : List OwnEvent)
     (seats : List (Option ℕ)) (playing : MatchState) : Type 0 where
   pub before : List OwnEvent
@@ -66,6 +66,7 @@ pub record HoldsTranscript (game : AbstractGame) (text : List ℕ) (config : Con
   pub hands : HandsEach seats after handed
   pub said : List Delivery
   pub transcript : Transcript game text config at handed playing.play said
+  pub works : playing.failed ≡ false
 
 -- Whatever a table hears, it holds a transcript of its match once that has begun.
 abbrev pub RunHoldsTranscript : Type 0

@@ -50,6 +50,14 @@ impl HallOut {
         Ok(HallOut { queues })
     }
 
+    /// How many lines there are.
+    pub fn lines(&self) -> usize
+        ensures all { result ≡ length self.now }
+        ensures as_many { result ≡ lines_in_all }
+    {
+        self.queues.len()
+    }
+
     /// All bytes that were queued for a line; none for a line above the last.
     pub fn bytes(&self, line: u64) -> &[u8]
         ensures { result.now ≡ slice_index_or self.now line [] }

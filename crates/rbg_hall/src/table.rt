@@ -1,8 +1,9 @@
 //! A table of a hall: its seats, and its match once it has begun.
-ghost use Rattle.std.specs.Prelude.{◌≡◌, ◌↔◌, ◌+◌, ◌<◌, ◌^◌, ◌++◌, ◌∷◌, [], ℕ, Option, Some, None, length, slice_get, slice_set, is_none, option_map, IfNone, IfOk, IfSome, IsTrue, OnOk};
+ghost use Rattle.std.specs.Prelude.{◌≡◌, ◌↔◌, ◌+◌, ◌<◌, ◌^◌, ◌++◌, ◌∷◌, [], ℕ, Option, Some, None, false, length, slice_get, slice_set, is_none, option_map, IfNone, IfOk, IfSome, IsTrue, OnOk};
 ghost use Rattle.rbg_game.specs.Loading.{Loads};
 ghost use Rattle.rbg_match.specs.Config.{IsWithinLimits};
 ghost use Rattle.rbg_match.specs.Inputs.{event_of};
+ghost use Rattle.rbg_match.specs.Matches.{HasHistory};
 ghost use Rattle.rbg_wire.specs.Inboxes.{item_of};
 ghost use Rattle.rbg_wire.specs.Whole.{whole_item};
 ghost use Rattle.rbg_match.specs.Limits.{message_limit};
@@ -91,7 +92,8 @@ impl HallTable {
 
     /// The match, once it has begun.
     pub fn begun(&self) -> Option<&Match>
-        ensures { option_map (λ playing. playing.now) result ≡ self.now.begun }
+        ensures is { option_map (λ playing. playing.now) result ≡ self.now.begun }
+        ensures history { IfSome result (λ playing. playing.now.failed ≡ false → HasHistory playing.now) }
     {
         match &self.phase {
             Phase::Begun(running) => Some(running.playing()),
