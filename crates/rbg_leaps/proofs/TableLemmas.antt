@@ -16,7 +16,8 @@ use Rattle.rbg_leaps.specs.Leaps.{IsShiftAt, IsLeap, EndsAcross}
 use Rattle.rbg_leaps.specs.Rows.{has_bit}
 use Rattle.rbg_leaps.specs.Targets.{row_in, AreTargetsOf, AreTargets}
 use Rattle.rbg_leaps.specs.internal.Spreading.{Spreads, AreSpread, SpreadsToEnd, SomeEnds, AreFound}
-use Rattle.rbg_leaps.specs.internal.Tables.{Extends, Grows, HoldsRow, positions_in, PushesRows, PushesEntry, IsEntry, no_entry, HasEntriesUpTo, IsAnswerAt, AddsEntry, AddsEntries, HasBase, AreBasesUpTo}
+use Rattle.rbg_leaps.specs.Made.{IsEntry, no_entry}
+use Rattle.rbg_leaps.specs.internal.Tables.{Extends, Grows, HoldsRow, positions_in, PushesRows, PushesEntry, HasEntriesUpTo, IsAnswerAt, AddsEntry, AddsEntries, HasBase, AreBasesUpTo}
 use Rattle.rbg_leaps.proofs.Spreads.{leap_of, of_leap, across, of_across}
 
 -- Part of a list that was extended.

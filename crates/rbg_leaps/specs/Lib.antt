@@ -5,4 +5,6 @@ pub mod Origin
 pub mod Targets
 pub mod Asked
 pub mod Limits
+pub mod Entries
+pub mod Made
 pub mod internal

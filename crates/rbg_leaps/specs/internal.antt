@@ -1,6 +1,5 @@
 -- Definitions that the crate's own proofs use.
 pub mod Meeting
 pub mod Spreading
-pub mod Entries
 pub mod Tables
 pub mod Made

@@ -5,9 +5,8 @@ ghost use Rattle.rbg_rules.specs.State.{AbstractGame};
 ghost use Rattle.rbg_leaps.specs.Leaps.{EndsAcross};
 ghost use Rattle.rbg_leaps.specs.Origin.{start_of, IsAfterShift};
 ghost use Rattle.rbg_leaps.specs.Asked.{row_of, HasRow, AreTargetsFrom};
-ghost use Rattle.rbg_leaps.specs.internal.Entries.{IsWithin};
-ghost use Rattle.rbg_leaps.specs.internal.Tables.{IsEntry};
-ghost use Rattle.rbg_leaps.specs.internal.Made.{base_of, AreLeapsOf};
+ghost use Rattle.rbg_leaps.specs.Entries.{IsWithin};
+ghost use Rattle.rbg_leaps.specs.Made.{base_of, IsEntry, AreLeapsOf};
 
 use crate::origin::Origin;
 use crate::table::{Entry, Table, Target};

@@ -5,7 +5,7 @@ ghost use Rattle.rbg_rules.specs.Positions.{positions_of, IsPatternAt, inside};
 ghost use Rattle.rbg_rules.specs.Words.{beginning, after};
 ghost use Rattle.rbg_leaps.specs.Leaps.{IsShiftAt};
 ghost use Rattle.rbg_leaps.specs.Limits.{IsTooLarge, row_words};
-ghost use Rattle.rbg_leaps.specs.internal.Made.{AreLeapsOf};
+ghost use Rattle.rbg_leaps.specs.Made.{AreLeapsOf};
 ghost use Rattle.rbg_leaps.specs.internal.Spreading.{HasMarksOf, IsUpToLast};
 ghost use Rattle.rbg_leaps.specs.internal.Tables.{Grows, AddsEntry, AddsEntries, HasBase, AreBasesUpTo};
 

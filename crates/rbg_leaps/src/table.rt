@@ -2,7 +2,7 @@
 ghost use Rattle.std.specs.Prelude.{◌≡◌, ℕ, ◌≤◌, ◌+◌, ◌↔◌, length, map, Contains, OnOk, IsTrue};
 ghost use Rattle.rbg_leaps.specs.declared.table.Target.{Target};
 ghost use Rattle.std.specs.Prelude.{All};
-ghost use Rattle.rbg_leaps.specs.internal.Entries.{IsWithin};
+ghost use Rattle.rbg_leaps.specs.Entries.{IsWithin};
 
 use crate::ground::Ground;
 use crate::met::Met;
@@ -49,8 +49,9 @@ impl Table {
     ghost use Rattle.std.specs.Prelude.{[], IfSome, IfNone, slice_index_or};
     ghost use Rattle.rbg_leaps.specs.Limits.{row_words};
     ghost use Rattle.rbg_leaps.specs.internal.Spreading.{HasMarksOf};
-    ghost use Rattle.rbg_leaps.specs.internal.Entries.{IsWithin};
-    ghost use Rattle.rbg_leaps.specs.internal.Tables.{PushesRows, PushesEntry, no_entry};
+    ghost use Rattle.rbg_leaps.specs.Entries.{IsWithin};
+    ghost use Rattle.rbg_leaps.specs.Made.{no_entry};
+    ghost use Rattle.rbg_leaps.specs.internal.Tables.{PushesRows, PushesEntry};
 
     /// With no entry.
     pub(crate) fn new(alloc: Global, columns: usize) -> Table

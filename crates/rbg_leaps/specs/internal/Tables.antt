@@ -1,16 +1,15 @@
 -- Entries, their targets and rows, as a table holds them.
-use Rattle.std.specs.Prelude.{◌≡◌, ℕ, ◌+◌, ◌<◌, ◌≤◌, ◌↔◌, List, [], ◌∷◌, ◌++◌, length, map, slice_range, slice_index_or, All, Contains, Bool, true, false, IsTrue, Option, Some, None}
+use Rattle.std.specs.Prelude.{◌≡◌, ℕ, ◌+◌, ◌<◌, ◌≤◌, ◌↔◌, List, [], ◌∷◌, ◌++◌, length, map, slice_index_or, All, Contains, Bool, true, IsTrue, Option, Some, None}
 use Rattle.rbg_rules.specs.Positions.{IsPatternAt, inside}
 use Rattle.rbg_rules.specs.State.{AbstractGame}
 use Rattle.rbg_rules.specs.Words.{Start, beginning, after, Ends}
 use Rattle.rbg_auto.specs.Steps.{AreAllThatFollow}
-use Rattle.rbg_leaps.specs.declared.table.Entry.{Entry}
 use Rattle.rbg_leaps.specs.declared.table.Table.{Table}
 use Rattle.rbg_leaps.specs.declared.table.Target.{Target}
-use Rattle.rbg_leaps.specs.Leaps.{IsShiftAt, EndsAcross}
+use Rattle.rbg_leaps.specs.Leaps.{IsShiftAt}
+use Rattle.rbg_leaps.specs.Made.{IsEntry, no_entry}
 use Rattle.rbg_leaps.specs.Rows.{has_bit}
-use Rattle.rbg_leaps.specs.Targets.{row_in, AreTargets}
-use Rattle.rbg_leaps.specs.internal.Entries.{IsWithin}
+use Rattle.rbg_leaps.specs.Targets.{row_in}
 use Rattle.rbg_leaps.specs.internal.Spreading.{AreFound}
 
 -- The list was extended.
@@ -55,15 +54,6 @@ pub record PushesEntry (game : AbstractGame) (pairs : List (ℕ × ℕ)) (ends :
   pub words : Extends old.words.items new.words.items
   pub rows : All (HoldsRow new.columns new.words.items pairs) targets
   pub found : AreFound game pairs (positions_in targets)
-
--- The entry is that of the leaps from f and vertex v.
-pub record IsEntry (game : AbstractGame) (f : Start) (v : ℕ) (table : Table) (e : Entry) : Type 0 where
-  pub within : IsWithin (length table.targets.items) e
-  pub targets : AreTargets game f v table.columns table.words.items (slice_range table.targets.items e.start e.end)
-  pub ends : IsTrue e.ends ↔ EndsAcross game f v
-
-abbrev pub no_entry : Entry
-no_entry = record { start = 0; end = 0; ends = false }
 
 -- There are entries for f and the first vertices, from the base on.
 pub record HasEntriesUpTo (game : AbstractGame) (f : Start) (vertices : ℕ) (table : Table) (base : ℕ) : Type 0 where

@@ -1,12 +1,12 @@
 use Rattle.std.proofs.Common.{sym, ◌∙◌, subst, arith}
 use Rattle.rbg_leaps.specs.Origin.{start_of}
-use Rattle.rbg_leaps.specs.internal.Tables.{IsEntry}
+use Rattle.rbg_leaps.specs.Made.{IsEntry}
 use Rattle.rbg_leaps.proofs.Askings.{entry_at, never_none}
 use Rattle.rbg_leaps.proofs.asking.Leaps.entry.Goals as goal
 
 pub returns-in_default-clause-entry : goal.returns-in_default-clause-entry
 returns-in_default-clause-entry c = λ game are below start plain.
-    absurd (never_none game c.args.self.now are c.args.origin start plain (sym c.base.ensures ∙ c.in_default.is))
+    absurd (never_none game c.args.self.now are c.args.origin c.args.vertex below start plain (sym c.base.ensures ∙ c.in_default.is))
 
 pub returns-in-Some-entry-clause-entry : goal.returns-in-Some-entry-clause-entry
 returns-in-Some-entry-clause-entry c = λ game are below start plain.
