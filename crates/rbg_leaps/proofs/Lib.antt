@@ -1,8 +1,6 @@
 -- Lemmas, by topic.
-pub mod Meetings
+pub mod RowLemmas
 pub mod ShiftLemmas
-pub mod Spreads
-pub mod SpreadSteps
-pub mod TableLemmas
-pub mod Askings
-pub mod Searching
+pub mod Shelving
+pub mod Steppings
+pub mod Tabling

@@ -19,7 +19,7 @@ use Rattle.rbg_rules.proofs.PositionLemmas.{Among, Among_right, has_position, on
 use Rattle.rbg_rules.proofs.PatternLemmas.{own_stands, stands_inside, word_own}
 use Rattle.rbg_auto.specs.Steps.{AreAllThatFollow}
 use Rattle.rbg_leaps.specs.Leaps.{IsShiftAt}
-use Rattle.rbg_leaps.specs.internal.Spreading.{AreDirections, AreDirectionsUpTo, Comes, by_shift, by_other, IsUpToLast}
+use Rattle.rbg_leaps.specs.internal.Steps.{AreDirections, AreDirectionsUpTo, Comes, by_shift, by_other, IsUpToLast}
 
 -- An action of a level stands in the rules.
 level_stands : (rules : Expression) (level : Level) (x : Expression) → IsLevel rules level x → (p : ℕ) (a : AbstractAction) → HasAction x p a → HasAction rules p a
@@ -48,6 +48,9 @@ action_within rules numbered p a h =
     let here : Among p (range_with_len 1 many) = subst (Among p) numbered.in_order (has_position rules p a h) in
     let range = among_range 1 many p here in
     (omega (arith, range.0), omega (arith, range.1))
+
+pub shift_within : (rules : Expression) → IsNumbered rules → (p : ℕ) → IsShiftAt rules p → p < length (positions_of rules) + 1
+shift_within rules numbered p is = let small = (action_within rules numbered p (shift is.direction) is.stands).1 in omega (arith, small)
 
 pub follower_within : (rules : Expression) → IsNumbered rules → (f : Start) (p : ℕ) → Follows rules f (p ∷ []) → IsUpToLast rules p
 follower_within rules numbered f p follows =

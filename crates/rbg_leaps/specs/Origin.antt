@@ -1,16 +1,9 @@
 -- Where one stands in the rules.
-use Rattle.rbg_rules.specs.Expression.{Expression}
 use Rattle.rbg_rules.specs.Words.{Start, beginning, after}
 use Rattle.rbg_auto.specs.Steps.{level_of}
 use Rattle.rbg_leaps.specs.declared.origin.Origin.{Origin}
 use Rattle.rbg_leaps.specs.declared.origin.Origin.TheVariants.{Begin, After}
-use Rattle.rbg_leaps.specs.Leaps.{IsShiftAt}
 
 abbrev pub start_of : Origin → Start
 start_of (Begin expr) = beginning (level_of expr)
 start_of (After p) = after p
-
--- One stands after a shift.
-abbrev pub IsAfterShift : Expression → Origin → Type 0
-IsAfterShift rules (Begin expr) = ⊥
-IsAfterShift rules (After p) = IsShiftAt rules p

@@ -6,9 +6,13 @@ use Rattle.rbg_leaps.specs.declared.table.Target.{Target}
 use Rattle.rbg_leaps.specs.Leaps.{IsLeap}
 use Rattle.rbg_leaps.specs.Rows.{has_bit}
 
--- The row of a target: so many words, among all words.
+-- A row of so many words, among all words.
+abbrev pub row_at : (columns : ℕ) → (words : List ℕ) → (row : ℕ) → List ℕ
+row_at columns words row = slice_range words row (row + columns)
+
+-- The row of a target.
 abbrev pub row_in : (columns : ℕ) → (words : List ℕ) → Target → List ℕ
-row_in columns words target = slice_range words target.row (target.row + columns)
+row_in columns words target = row_at columns words target.row
 
 -- The targets are exactly those of a relation between a position and a vertex.
 --   rows: each has its row

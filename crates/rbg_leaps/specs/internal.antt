@@ -1,5 +1,6 @@
 -- Definitions that the crate's own proofs use.
-pub mod Meeting
-pub mod Spreading
+pub mod Spans
+pub mod Steps
+pub mod Shelves
+pub mod Words
 pub mod Tables
-pub mod Made

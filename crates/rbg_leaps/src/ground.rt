@@ -1,9 +1,8 @@
 //! A game, and what is looked up of it at each step of a shift.
-ghost use Rattle.std.specs.Prelude.{◌≡◌, ℕ, ◌<◌, ◌≤◌, ◌↔◌, length, Some, IfSome, IsTrue};
+ghost use Rattle.std.specs.Prelude.{◌≡◌, ℕ, ◌<◌, ◌≤◌, ◌↔◌, length, Some, None, IfSome, IsTrue, slice_index_or};
 ghost use Rattle.rbg_rules.specs.Games.{IsGame};
-ghost use Rattle.rbg_rules.specs.Positions.{positions_of, IsPatternAt};
 ghost use Rattle.rbg_leaps.specs.Leaps.{IsShiftAt};
-ghost use Rattle.rbg_leaps.specs.internal.Spreading.{AreDirections, Comes, IsUpToLast};
+ghost use Rattle.rbg_leaps.specs.internal.Steps.{AreDirections, Comes};
 
 use rbg_base::{Direction, Position, Vertex};
 use rbg_board::LentBoard;
@@ -31,10 +30,22 @@ impl<'a> Model for Ground<'a> {
 
     ghost use Rattle.std.specs.Prelude.{◌≡◌};
     ghost use Rattle.rbg_rules.specs.Games.{IsGame};
-    ghost use Rattle.rbg_leaps.specs.internal.Spreading.{AreDirections};
+    ghost use Rattle.rbg_leaps.specs.internal.Steps.{AreDirections};
 
     ghost invariant = { λ g. (g.board ≡ g.game.now.board) × AreDirections g.game.now.rules g.directions.now
         × IsGame g.game.now };
+}
+
+/// The direction of a position, if it has one.
+fn direction_at(directions: &[Option<Direction>], position: Position) -> Option<Direction>
+    ensures { result ≡ slice_index_or directions.now position None }
+{
+    let index = position as usize;
+    if index < directions.len() {
+        directions[index]
+    } else {
+        None
+    }
 }
 
 impl<'a> Ground<'a> {
@@ -59,39 +70,20 @@ impl<'a> Ground<'a> {
         self.game.board().len()
     }
 
-    /// How many positions the rules have.
-    pub(crate) fn positions(&self) -> usize
-        ensures count { result ≡ length (positions_of self.now.rules) }
-        ensures few { result ≤ 20000 }
-    {
-        self.game.positions()
-    }
-
-    /// Whether a pattern stands at a position.
-    pub(crate) fn is_pattern(&self, position: Position) -> bool
-        requires from_one { 0 < position }
-        requires there { IsUpToLast self.now.rules position }
-        ensures { IsTrue result ↔ IsPatternAt self.now.rules position }
-    {
-        self.game.is_pattern(position)
-    }
-
     /// Whether a shift stands at a position.
     pub(crate) fn is_shift(&self, position: Position) -> bool
-        requires { IsUpToLast self.now.rules position }
         ensures { IsTrue result ↔ IsShiftAt self.now.rules position }
     {
-        self.directions[position as usize].is_some()
+        direction_at(self.directions, position).is_some()
     }
 
     /// Where one comes from a vertex by a position, if one does.
     pub(crate) fn to(&self, vertex: Vertex, position: Position) -> Option<Vertex>
-        requires there { vertex < length self.now.board.first }
-        requires position { IsUpToLast self.now.rules position }
+        requires { vertex < length self.now.board.first }
         ensures comes { (u : ℕ) → (result ≡ Some u) ↔ Comes self.now vertex position u }
         ensures is_vertex { IfSome result (λ to. to < length self.now.board.first) }
     {
-        match self.directions[position as usize] {
+        match direction_at(self.directions, position) {
             Some(direction) => self.board.step(vertex, direction),
             None => Some(vertex),
         }

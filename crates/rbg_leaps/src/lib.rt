@@ -2,12 +2,17 @@
 #![tactic(auto)]
 
 mod asking;
+mod closing;
+mod filling;
+mod gathering;
 mod ground;
+mod lists;
 mod making;
-mod met;
 mod origin;
+mod rounds;
+mod rows;
+mod shelf;
 mod shifts;
-mod spreading;
 mod table;
 
 pub use asking::Leaps;

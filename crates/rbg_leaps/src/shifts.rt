@@ -2,7 +2,7 @@
 ghost use Rattle.std.specs.Prelude.{◌≡◌, ℕ, Some, IfOk, IfSome};
 ghost use Rattle.rbg_rules.specs.declared.rule.Action.{Action};
 ghost use Rattle.rbg_rules.specs.declared.rule.Action.TheVariants.{Shift};
-ghost use Rattle.rbg_leaps.specs.internal.Spreading.{AreDirections};
+ghost use Rattle.rbg_leaps.specs.internal.Steps.{AreDirections};
 
 use rbg_base::{Direction, Memory, Position};
 use rbg_rules::{Action, Game};

@@ -1,11 +1,8 @@
-//! The table of leaps: for each origin and each vertex an entry, with its targets and their rows.
-ghost use Rattle.std.specs.Prelude.{◌≡◌, ℕ, ◌≤◌, ◌+◌, ◌↔◌, length, map, Contains, OnOk, IsTrue};
-ghost use Rattle.rbg_leaps.specs.declared.table.Target.{Target};
-ghost use Rattle.std.specs.Prelude.{All};
+//! The table of leaps: for each node and each vertex an entry, with its targets and their rows.
+ghost use Rattle.std.specs.Prelude.{◌+◌, ◌≤◌, All, length};
 ghost use Rattle.rbg_leaps.specs.Entries.{IsWithin};
 
-use crate::ground::Ground;
-use crate::met::Met;
+use crate::gathering::add;
 use rbg_base::{Memory, Position, Vertex};
 use std::alloc::Global;
 
@@ -25,15 +22,18 @@ pub(crate) struct Entry {
     pub(crate) ends: bool,
 }
 
-/// Entries one after another, with their targets and rows.
+/// An entry for each node and each vertex, node by node, with targets and rows. The first rows are those of single
+/// vertices. Entries may share targets, and targets rows.
 #[derive(Debug, Drop)]
 pub(crate) struct Table {
+    pub(crate) vertices: usize,
     /// How many words a row has.
     pub(crate) columns: usize,
     pub(crate) entries: Vec<Entry>,
     pub(crate) targets: Vec<Target>,
     pub(crate) words: Vec<u64>,
     ghost within: { All (IsWithin (length targets.items)) entries.items },
+    ghost rows: { All (λ t. t.row + columns ≤ length words.items) targets.items },
 }
 
 impl Entry {
@@ -46,81 +46,108 @@ impl Entry {
 }
 
 impl Table {
-    ghost use Rattle.std.specs.Prelude.{[], IfSome, IfNone, slice_index_or};
-    ghost use Rattle.rbg_leaps.specs.Limits.{row_words};
-    ghost use Rattle.rbg_leaps.specs.internal.Spreading.{HasMarksOf};
-    ghost use Rattle.rbg_leaps.specs.Entries.{IsWithin};
-    ghost use Rattle.rbg_leaps.specs.Made.{no_entry};
-    ghost use Rattle.rbg_leaps.specs.internal.Tables.{PushesRows, PushesEntry};
+    ghost use Rattle.std.specs.Prelude.{◌≡◌, ◌*◌, ◌<◌, ◌^◌, replicate, IfOk, OnOk, IfSome, IfNone, slice_index_or};
+    ghost use Rattle.rbg_leaps.specs.Made.{entry_at, no_entry};
+    ghost use Rattle.rbg_leaps.specs.internal.Tables.{targets_of, Puts, Grows, AddsRow};
 
-    /// With no entry.
-    pub(crate) fn new(alloc: Global, columns: usize) -> Table
-        ensures columns { result.columns ≡ columns }
-        ensures entries { result.entries.items ≡ [] }
+    /// With nothing told at so many places, each of a node and a vertex.
+    pub(crate) fn new(
+        alloc: Global,
+        places: usize,
+        vertices: usize,
+        columns: usize,
+        words: Vec<u64>,
+    ) -> Result<Table, Memory>
+        ensures vertices { IfOk result (λ t. t.vertices ≡ vertices) }
+        ensures columns { IfOk result (λ t. t.columns ≡ columns) }
+        ensures entries { IfOk result (λ t. t.entries.items ≡ replicate places no_entry) }
+        ensures words { IfOk result (λ t. t.words.items ≡ words.items) }
     {
-        Table {
+        Ok(Table {
+            vertices,
             columns,
-            entries: Vec::new(alloc),
+            entries: vec![in alloc; Entry::NONE; places]?,
             targets: Vec::new(alloc),
-            words: Vec::new(alloc),
+            words,
+        })
+    }
+
+    /// Where the entry of a node and a vertex is, unless that is beyond all memory.
+    fn place(&self, node: usize, vertex: Vertex) -> Option<usize>
+        ensures some { IfSome result (λ place. place ≡ node * self.now.vertices + vertex) }
+        ensures none { IfNone result (2 ^ 64 ≤ node * self.now.vertices + vertex) }
+    {
+        match node.checked_mul(self.vertices) {
+            Some(base) => base.checked_add(vertex as usize),
+            None => None,
         }
     }
 
-    /// Appends an entry: a target for each position that was met and is no shift.
-    pub(crate) fn push(&mut self, met: &Met, ground: &Ground<'_>, ends: bool) -> Result<(), Memory>
-        requires marks { HasMarksOf ground.now met.now }
-        requires columns { self.old.columns ≡ row_words ground.now }
-        ensures { OnOk result (PushesEntry ground.now met.now.pairs ends self.old self.new) }
+    /// The entry of a node and a vertex, or an empty one where it isn't there.
+    pub(crate) fn entry(&self, node: usize, vertex: Vertex) -> Entry
+        ensures entry { result ≡ entry_at self.now node vertex }
+        ensures within { IsWithin (length self.now.targets.items) result }
+    {
+        match self.place(node, vertex) {
+            Some(place) => self.entry_in(place),
+            None => Entry::NONE,
+        }
+    }
+
+    /// The entry in a place, or an empty one where it isn't there.
+    fn entry_in(&self, place: usize) -> Entry
+        ensures entry { result ≡ slice_index_or self.now.entries.items place no_entry }
+        ensures within { IsWithin (length self.now.targets.items) result }
+    {
+        if place < self.entries.len() {
+            self.entries[place]
+        } else {
+            Entry::NONE
+        }
+    }
+
+    /// Puts the entry of a node and a vertex in its place, with targets of its own.
+    pub(crate) fn put(
+        &mut self,
+        node: usize,
+        vertex: Vertex,
+        targets: &[Target],
+        ends: bool,
+    ) -> Result<(), Memory>
+        requires there { node * self.old.vertices + vertex < length self.old.entries.items }
+        requires rows { All (λ t. t.row + self.old.columns ≤ length self.old.words.items) targets.now }
+        ensures { OnOk result (Puts self.old self.new node vertex targets.now ends) }
     {
         let start = self.targets.len();
-        self.push_rows(met, ground, start)?;
+        self.targets.extend_from_slice(targets)?;
         let end = self.targets.len();
-        self.entries.push(Entry { start, end, ends })?;
-        Ok(())
-    }
-
-    /// Appends a target with its row for each position that was met and is no shift; `start` is how many targets there
-    /// are.
-    fn push_rows(&mut self, met: &Met, ground: &Ground<'_>, start: usize) -> Result<(), Memory>
-        requires marks { HasMarksOf ground.now met.now }
-        requires columns { self.old.columns ≡ row_words ground.now }
-        requires start { start ≡ length self.old.targets.items }
-        ensures { OnOk result (PushesRows ground.now met.now.pairs met.now.pairs self.old self.new) }
-    {
-        for (_, listed) in met.pairs() {
-            let position = *listed;
-            if !ground.is_shift(position) && !has_position(&self.targets[start..], position) {
-                let row = self.words.len();
-                self.words.extend_from_slice(met.row(position))?;
-                self.targets.push(Target { position, row })?;
-            }
+        if let Some(place) = self.place(node, vertex) {
+            self.entries[place] = Entry { start, end, ends };
         }
         Ok(())
     }
 
-    /// The entry of a vertex, where the entries begin at the base; none where it isn't there.
-    pub(crate) fn entry(&self, base: usize, vertex: Vertex) -> Option<Entry>
-        ensures only { IfSome result (λ e. e ≡ slice_index_or self.now.entries.items (base + vertex) no_entry) }
-        ensures there { IfNone result (length self.now.entries.items ≤ base + vertex) }
-        ensures within { IfSome result (IsWithin (length self.now.targets.items)) }
+    /// Adds a row to targets at a position.
+    pub(crate) fn add_row(
+        &mut self,
+        parts: &mut Vec<Target>,
+        position: Position,
+        row: usize,
+    ) -> Result<(), Memory>
+        requires row { row + self.old.columns ≤ length self.old.words.items }
+        requires rows { All (λ t. t.row + self.old.columns ≤ length self.old.words.items) parts.old.items }
+        ensures grows { OnOk result (Grows self.old self.new) }
+        ensures adds { OnOk result (AddsRow self.old.columns self.old.words.items self.new.words.items parts.old.items parts.new.items position row) }
     {
-        let index = base.checked_add(vertex as usize)?;
-        if index < self.entries.len() {
-            Some(self.entries[index])
-        } else {
-            None
-        }
+        let columns = self.columns;
+        add(parts, &mut self.words, columns, position, row)
     }
-}
 
-/// Whether one of the targets is of this position.
-fn has_position(targets: &[Target], position: Position) -> bool
-    ensures { IsTrue result ↔ Contains (map (λ (t : Target). t.position) targets.now) position }
-{
-    for target in targets {
-        if target.position == position {
-            return true;
-        }
+    /// The targets of an entry.
+    pub(crate) fn targets(&self, entry: Entry) -> &[Target]
+        requires { IsWithin (length self.now.targets.items) entry }
+        ensures { result.now ≡ targets_of self.now entry }
+    {
+        &self.targets[entry.start..entry.end]
     }
-    false
 }

@@ -1,106 +1,159 @@
--- Entries, their targets and rows, as a table holds them.
-use Rattle.std.specs.Prelude.{◌≡◌, ℕ, ◌+◌, ◌<◌, ◌≤◌, ◌↔◌, List, [], ◌∷◌, ◌++◌, length, map, slice_index_or, All, Contains, Bool, true, IsTrue, Option, Some, None}
-use Rattle.rbg_rules.specs.Positions.{IsPatternAt, inside}
+-- What a table that is being made tells, whether it is right so far, and whether anything is missing.
+use Rattle.std.specs.Prelude.{◌≡◌, ◌≢◌, ℕ, ◌+◌, ◌*◌, ◌<◌, ◌≤◌, List, ◌++◌, length, slice_range, slice_index_or, Bool, true, IsTrue, All, AllPairs}
 use Rattle.rbg_rules.specs.State.{AbstractGame}
-use Rattle.rbg_rules.specs.Words.{Start, beginning, after, Ends}
-use Rattle.rbg_auto.specs.Steps.{AreAllThatFollow}
+use Rattle.rbg_leaps.specs.declared.lists.Lists.{Lists}
+use Rattle.rbg_leaps.specs.declared.table.Entry.{Entry}
 use Rattle.rbg_leaps.specs.declared.table.Table.{Table}
 use Rattle.rbg_leaps.specs.declared.table.Target.{Target}
+use Rattle.rbg_leaps.specs.Entries.{IsWithin}
 use Rattle.rbg_leaps.specs.Leaps.{IsShiftAt}
-use Rattle.rbg_leaps.specs.Made.{IsEntry, no_entry}
+use Rattle.rbg_leaps.specs.Limits.{row_words}
+use Rattle.rbg_leaps.specs.Made.{entry_at, no_entry}
 use Rattle.rbg_leaps.specs.Rows.{has_bit}
-use Rattle.rbg_leaps.specs.Targets.{row_in}
-use Rattle.rbg_leaps.specs.internal.Spreading.{AreFound}
+use Rattle.rbg_leaps.specs.Targets.{row_at}
+use Rattle.rbg_leaps.specs.internal.Shelves.{Extends, list_at, may_end_at}
+use Rattle.rbg_leaps.specs.internal.Steps.{Comes, IsLeapBy, EndsBy}
+use Rattle.rbg_leaps.specs.internal.Words.{AreUnits}
 
--- The list was extended.
-pub record Extends {X : Type 0} (old new : List X) : Type 0 where
-  pub more : List X
-  pub is : new ≡ old ++ more
+abbrev pub no_target : Target
+no_target = record { position = 0; row = 0 }
 
--- What the table had stays where it was.
+-- The targets tell of position j at vertex u.
+pub record Tells (columns : ℕ) (words : List ℕ) (targets : List Target) (j u : ℕ) : Type 0 where
+  pub at : ℕ
+  pub there : at < length targets
+  pub position : (slice_index_or targets at no_target).position ≡ j
+  pub bit : has_bit (row_at columns words (slice_index_or targets at no_target).row) u ≡ true
+
+-- The row has a vertex, and none that isn't one of these.
+pub record IsRowOf (Leap : ℕ → Type 0) (columns : ℕ) (words : List ℕ) (row : ℕ) : Type 0 where
+  pub within : row + columns ≤ length words
+  pub only : (u : ℕ) → has_bit (row_at columns words row) u ≡ true → Leap u
+  pub some : (u : ℕ) × (has_bit (row_at columns words row) u ≡ true)
+
+-- The targets are of different positions, and tell of nothing but these leaps.
+pub record AreSound (Leap : ℕ → ℕ → Type 0) (columns : ℕ) (words : List ℕ) (targets : List Target) : Type 0 where
+  pub different : AllPairs (λ s t. s.position ≢ t.position) targets
+  pub rows : All (λ t. IsRowOf (Leap t.position) columns words t.row) targets
+
+-- The targets of an entry.
+abbrev pub targets_of : Table → Entry → List Target
+targets_of table e = slice_range table.targets.items e.start e.end
+
+abbrev pub TellsAt : Table → Entry → (j u : ℕ) → Type 0
+TellsAt table e = Tells table.columns table.words.items (targets_of table e)
+
+-- Nothing but leaps from vertex v are told where the list comes next.
+pub record IsSoundEntry (game : AbstractGame) (list : List ℕ) (may_end : Bool) (v : ℕ) (table : Table) (e : Entry) : Type 0 where
+  pub within : IsWithin (length table.targets.items) e
+  pub targets : AreSound (IsLeapBy game list may_end v) table.columns table.words.items (targets_of table e)
+  pub ends : IsTrue e.ends → EndsBy game list may_end v
+
+-- The table is of the game's board and of the nodes, and has the rows of single vertices.
+pub record IsLaidOut (game : AbstractGame) (lists : Lists) (table : Table) : Type 0 where
+  pub vertices : table.vertices ≡ length game.board.first
+  pub columns : table.columns ≡ row_words game
+  pub size : length table.entries.items ≡ length lists.shelf.nodes.items * table.vertices
+  pub units : AreUnits table.columns table.vertices table.words.items
+
+-- The table tells of nothing but leaps.
+pub record IsSoundTable (game : AbstractGame) (lists : Lists) (table : Table) : Type 0 where
+  pub laid_out : IsLaidOut game lists table
+  pub sound :
+      (n v : ℕ) → n < length lists.shelf.nodes.items → v < table.vertices →
+      IsSoundEntry game (list_at lists.shelf n) (may_end_at lists.shelf n) v table (entry_at table n v)
+
+-- What one entry tells, the other one tells.
+pub record IsUnder (table : Table) (one other : Entry) : Type 0 where
+  pub tells : (j u : ℕ) → TellsAt table one j u → TellsAt table other j u
+  pub ends : IsTrue one.ends → IsTrue other.ends
+
+-- The entry tells of what one step by position p leads to from vertex v: of p itself where it is no shift, and of all
+-- that is told where a shift leads.
+pub record IsToldAt (game : AbstractGame) (lists : Lists) (table : Table) (e : Entry) (v p : ℕ) : Type 0 where
+  pub plain : ¬ IsShiftAt game.rules p → TellsAt table e p v
+  pub is_vertex : (w : ℕ) → IsShiftAt game.rules p → Comes game v p w → w < table.vertices
+  pub shift :
+      (w : ℕ) → IsShiftAt game.rules p → Comes game v p w →
+      IsUnder table (entry_at table (slice_index_or lists.afters.items p 0) w) e
+
+-- Nothing is missing in the entry of a node and a vertex.
+pub record IsClosed (game : AbstractGame) (lists : Lists) (table : Table) (n v : ℕ) : Type 0 where
+  pub ends : IsTrue (may_end_at lists.shelf n) → IsTrue (entry_at table n v).ends
+  pub told : All (IsToldAt game lists table (entry_at table n v) v) (list_at lists.shelf n)
+
+-- Words or targets were appended, and no more.
 pub record Grows (old new : Table) : Type 0 where
+  pub vertices : new.vertices ≡ old.vertices
   pub columns : new.columns ≡ old.columns
-  pub entries : Extends old.entries.items new.entries.items
+  pub are_entries : new.entries.items ≡ old.entries.items
   pub targets : Extends old.targets.items new.targets.items
   pub words : Extends old.words.items new.words.items
 
--- The target has its row, with the bits of the vertices of its position among the pairs.
-pub record HoldsRow (columns : ℕ) (words : List ℕ) (pairs : List (ℕ × ℕ)) (t : Target) : Type 0 where
-  pub within : t.row + columns ≤ length words
-  pub bits : (u : ℕ) → (has_bit (row_in columns words t) u ≡ true) ↔ Contains pairs (u, t.position)
+-- What is gathered at a node and a vertex: targets that tell of nothing but leaps.
+abbrev pub IsGathered : AbstractGame → Lists → Table → (n v : ℕ) → List Target → Type 0
+IsGathered game lists table n v targets =
+    AreSound (IsLeapBy game (list_at lists.shelf n) (may_end_at lists.shelf n) v) table.columns table.words.items targets
 
--- The positions of targets.
-abbrev pub positions_in : List Target → List ℕ
-positions_in targets = map (λ (t : Target). t.position) targets
-
--- Targets were appended, with their rows: those of the pairs that are done and are no shift.
-pub record PushesRows (game : AbstractGame) (pairs done : List (ℕ × ℕ)) (old new : Table) : Type 0 where
-  pub targets : List Target
+-- An entry of a node and a vertex was put in its place, with targets of its own; the others stay.
+pub record Puts (old new : Table) (n v : ℕ) (targets : List Target) (ends : Bool) : Type 0 where
+  pub vertices : new.vertices ≡ old.vertices
   pub columns : new.columns ≡ old.columns
-  pub are_entries : new.entries.items ≡ old.entries.items
+  pub words : new.words.items ≡ old.words.items
   pub are_targets : new.targets.items ≡ old.targets.items ++ targets
-  pub words : Extends old.words.items new.words.items
-  pub rows : All (HoldsRow new.columns new.words.items pairs) targets
-  pub found : AreFound game done (positions_in targets)
+  pub size : length new.entries.items ≡ length old.entries.items
+  pub here :
+      entry_at new n v ≡ (record { start = length old.targets.items; end = length new.targets.items; ends = ends })
+  pub others :
+      (i : ℕ) → i ≢ n * old.vertices + v →
+      slice_index_or new.entries.items i no_entry ≡ slice_index_or old.entries.items i no_entry
 
--- An entry was appended, with its targets and their rows: those of the pairs that are no shift.
-pub record PushesEntry (game : AbstractGame) (pairs : List (ℕ × ℕ)) (ends : Bool) (old new : Table) : Type 0 where
-  pub targets : List Target
-  pub columns : new.columns ≡ old.columns
-  pub are_entries :
-      new.entries.items ≡
-      old.entries.items ++ (record { start = length old.targets.items; end = length new.targets.items; ends = ends }) ∷ []
-  pub are_targets : new.targets.items ≡ old.targets.items ++ targets
-  pub words : Extends old.words.items new.words.items
-  pub rows : All (HoldsRow new.columns new.words.items pairs) targets
-  pub found : AreFound game pairs (positions_in targets)
+-- A row was added to the targets at a position.
+pub record AddsRow (columns : ℕ) (old new : List ℕ) (before behind : List Target) (position row : ℕ) : Type 0 where
+  pub extends : Extends old new
+  pub rows : All (λ t. t.row + columns ≤ length new) behind
+  pub sound :
+      (game : AbstractGame) (list : List ℕ) (may_end : Bool) (v : ℕ) →
+      AreSound (IsLeapBy game list may_end v) columns old before →
+      IsRowOf (IsLeapBy game list may_end v position) columns old row →
+      AreSound (IsLeapBy game list may_end v) columns new behind
 
--- There are entries for f and the first vertices, from the base on.
-pub record HasEntriesUpTo (game : AbstractGame) (f : Start) (vertices : ℕ) (table : Table) (base : ℕ) : Type 0 where
-  pub there : (v : ℕ) → v < vertices → base + v < length table.entries.items
-  pub entries : (v : ℕ) → v < vertices → IsEntry game f v table (slice_index_or table.entries.items (base + v) no_entry)
-
--- There are entries for f and each vertex, from the base on.
-abbrev pub HasEntries : AbstractGame → Start → Table → ℕ → Type 0
-HasEntries game f = HasEntriesUpTo game f (length game.board.first)
-
--- The list and the bit are what is asked of the steps of the rules at f.
-pub record IsAnswerAt (game : AbstractGame) (f : Start) (positions : List ℕ) (may_end : Bool) : Type 0 where
-  pub follow : AreAllThatFollow game.rules f positions
-  pub ends : IsTrue may_end ↔ Ends game.rules f []
-
--- An entry for the places where the list follows and words may end so was appended.
-pub record AddsEntry (game : AbstractGame) (positions : List ℕ) (may_end : Bool) (v : ℕ) (old new : Table) : Type 0 where
+-- The targets of an entry were added.
+pub record AddsAll (old new : Table) (before behind : List Target) (e : Entry) : Type 0 where
   pub grows : Grows old new
-  pub one : length new.entries.items ≡ length old.entries.items + 1
-  pub is :
-      (f : Start) → IsAnswerAt game f positions may_end →
-      IsEntry game f v new (slice_index_or new.entries.items (length old.entries.items) no_entry)
+  pub rows : All (λ t. t.row + new.columns ≤ length new.words.items) behind
+  pub sound :
+      (game : AbstractGame) (list : List ℕ) (may_end : Bool) (v : ℕ) →
+      AreSound (IsLeapBy game list may_end v) old.columns old.words.items before →
+      AreSound (IsLeapBy game list may_end v) old.columns old.words.items (targets_of old e) →
+      AreSound (IsLeapBy game list may_end v) new.columns new.words.items behind
 
--- Entries for the places where the list follows and words may end so were appended, from the base on.
-pub record AddsEntries
-    (game : AbstractGame) (positions : List ℕ) (may_end : Bool) (old new : Table) (base : ℕ)
-    : Type 0
-  where
-    pub grows : Grows old new
-    pub has : (f : Start) → IsAnswerAt game f positions may_end → HasEntries game f new base
+-- Nothing was missing in the entry of a node and a vertex, and nothing changed.
+pub record StaysClosedAt (game : AbstractGame) (lists : Lists) (old new : Table) (n v : ℕ) : Type 0 where
+  pub same : new ≡ old
+  pub closed : IsClosed game lists new n v
 
--- There is a base, with entries for f.
-pub record HasBase (game : AbstractGame) (f : Start) (table : Table) (base : Option ℕ) : Type 0 where
-  pub is : ℕ
-  pub some : base ≡ Some is
-  pub has : HasEntries game f table is
+-- The same of the first vertices.
+pub record StaysClosedUpTo (game : AbstractGame) (lists : Lists) (old new : Table) (n many : ℕ) : Type 0 where
+  pub same : new ≡ old
+  pub closed : (v : ℕ) → v < many → IsClosed game lists new n v
 
--- There are bases after each position up to a last one that is no shift, and at the beginning of each pattern.
-pub record AreBasesUpTo
-    (game : AbstractGame) (last : ℕ) (table : Table) (afters insides : List (Option ℕ))
-    : Type 0
-  where
-    pub afters_size : length afters ≡ last + 1
-    pub insides_size : length insides ≡ last + 1
-    pub after :
-        (p : ℕ) → 0 < p → p ≤ last → ¬ IsShiftAt game.rules p →
-        HasBase game (after p) table (slice_index_or afters p None)
-    pub inside :
-        (p : ℕ) → 0 < p → p ≤ last → IsPatternAt game.rules p →
-        HasBase game (beginning (inside p)) table (slice_index_or insides p None)
+-- The same of all vertices.
+abbrev pub StaysClosed : AbstractGame → Lists → (old new : Table) → (n : ℕ) → Type 0
+StaysClosed game lists old new n = StaysClosedUpTo game lists old new n (length game.board.first)
+
+-- Nothing is missing in the entries of the last nodes, of which there are so many.
+abbrev pub AreClosedFrom : AbstractGame → Lists → Table → (many : ℕ) → Type 0
+AreClosedFrom game lists table many =
+    (n v : ℕ) → length lists.shelf.nodes.items ≤ n + many → n < length lists.shelf.nodes.items →
+    v < length game.board.first → IsClosed game lists table n v
+
+-- Nothing is missing at all.
+abbrev pub AreAllClosed : AbstractGame → Lists → Table → Type 0
+AreAllClosed game lists table =
+    (n v : ℕ) → n < length lists.shelf.nodes.items → v < length game.board.first → IsClosed game lists table n v
+
+-- The table is right, and nothing is missing.
+pub record IsFilled (game : AbstractGame) (lists : Lists) (table : Table) : Type 0 where
+  pub sound : IsSoundTable game lists table
+  pub closed : AreAllClosed game lists table

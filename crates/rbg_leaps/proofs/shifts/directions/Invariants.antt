@@ -1,5 +1,5 @@
 -- The directions of the positions so far.
-use Rattle.rbg_leaps.specs.internal.Spreading.{AreDirectionsUpTo}
+use Rattle.rbg_leaps.specs.internal.Steps.{AreDirectionsUpTo}
 use Rattle.rbg_leaps.proofs.shifts.directions.Given as goal
 
 abbrev pub invariant-loop-index : goal.invariant-loop-index

@@ -1,0 +1,107 @@
+-- Nodes stay what they are when lists are kept.
+use Rattle.std.proofs.Common.{◌≡◌, ℕ, ◌+◌, ◌<◌, ◌≤◌, List, [], ◌∷◌, ◌++◌, length, get_or, refl, sym, ap, ◌∙◌, subst, inl, inr, arith}
+use Rattle.std.specs.Prelude.{Bool, slice_range, All}
+use Rattle.std.proofs.lemmas.List.{length-append, get_or_append_left, get_or_push}
+use Rattle.rbg_rules.specs.Expression.{Expression, positive, negative}
+use Rattle.rbg_rules.specs.Positions.{IsNumbered, IsLevel, outermost, inside, positions_of}
+use Rattle.rbg_rules.specs.Laws.{IsStart}
+use Rattle.rbg_rules.specs.State.{AbstractGame}
+use Rattle.rbg_rules.specs.Words.{Start, beginning, after}
+use Rattle.rbg_auto.specs.declared.steps.Expr.TheVariants.{Rules, Inside}
+use Rattle.rbg_leaps.specs.declared.asking.Leaps.{Leaps}
+use Rattle.rbg_leaps.specs.declared.origin.Origin.{Origin}
+use Rattle.rbg_leaps.specs.declared.origin.Origin.TheVariants.{Begin, After}
+use Rattle.rbg_leaps.specs.declared.shelf.Node.{Node}
+use Rattle.rbg_leaps.specs.declared.shelf.Shelf.{Shelf}
+use Rattle.rbg_leaps.specs.Made.{node_of}
+use Rattle.rbg_leaps.specs.Origin.{start_of}
+use Rattle.rbg_leaps.specs.internal.Spans.{IsNodeWithin, no_node}
+use Rattle.rbg_leaps.specs.internal.Shelves.{node_in, list_at, may_end_at, IsKept, ExtendsShelf, IsNodeOf, AreListsUpTo, AreListsOf}
+use Rattle.rbg_leaps.specs.internal.Steps.{IsAnswerAt}
+use Rattle.rbg_leaps.proofs.RowLemmas.{extends_none, extends_more, part_extended, item_extended, longer, LastPlace, before, last, last_place}
+use Rattle.rbg_leaps.proofs.ShiftLemmas.{action_within}
+
+pub shelf_same : (s : Shelf) → ExtendsShelf s s
+shelf_same s = record { positions = extends_none s.positions.items; nodes = extends_none s.nodes.items }
+
+pub shelf_more : (a b c : Shelf) → ExtendsShelf a b → ExtendsShelf b c → ExtendsShelf a c
+shelf_more a b c first second = record {
+  positions = extends_more a.positions.items b.positions.items c.positions.items first.positions second.positions;
+  nodes = extends_more a.nodes.items b.nodes.items c.nodes.items first.nodes second.nodes;
+}
+
+-- The nodes of a shelf are within its positions.
+abbrev pub AreWithin : Shelf → Type 0
+AreWithin s = All (IsNodeWithin (length s.positions.items)) s.nodes.items
+
+node_extended : (old new : Shelf) → ExtendsShelf old new → (n : ℕ) → n < length old.nodes.items → node_in new n ≡ node_in old n
+node_extended old new extends n there = item_extended old.nodes.items new.nodes.items extends.nodes n no_node there
+
+list_extended : (old new : Shelf) → AreWithin old → ExtendsShelf old new → (n : ℕ) → n < length old.nodes.items → list_at new n ≡ list_at old n
+list_extended old new within extends n there =
+    ap (λ (node : Node). slice_range new.positions.items node.start node.end) (node_extended old new extends n there)
+    ∙ part_extended old.positions.items new.positions.items extends.positions (node_in old n).start (node_in old n).end (within n no_node there).ends
+
+pub node_of_kept : (rules : Expression) (s : Shelf) (f : Start) (list : List ℕ) (may_end : Bool) (n : ℕ) → IsKept s list may_end n → IsAnswerAt rules f list may_end → IsNodeOf rules s f n
+node_of_kept rules s f list may_end n kept answer = record {
+  there = kept.there;
+  answer =
+      subst (λ (b : Bool). IsAnswerAt rules f (list_at s n) b) (sym kept.may_end_is)
+      (subst (λ (xs : List ℕ). IsAnswerAt rules f xs may_end) (sym kept.list_is) answer);
+}
+
+pub node_stays : (rules : Expression) (old new : Shelf) → AreWithin old → ExtendsShelf old new → (f : Start) (n : ℕ) → IsNodeOf rules old f n → IsNodeOf rules new f n
+node_stays rules old new within extends f n is = record {
+  there = let long = longer old.nodes.items new.nodes.items extends.nodes in let there = is.there in omega (arith, long, there);
+  answer =
+      subst (λ (b : Bool). IsAnswerAt rules f (list_at new n) b) (ap (λ (node : Node). node.may_end) (sym (node_extended old new extends n is.there)))
+      (subst (λ (xs : List ℕ). IsAnswerAt rules f xs (may_end_at old n)) (sym (list_extended old new within extends n is.there)) is.answer);
+}
+
+pub no_lists : (rules : Expression) (s : Shelf) (first : ℕ) → IsNodeOf rules s (beginning outermost) first → AreListsUpTo rules 0 s first [] []
+no_lists rules s first begins = record {
+  begins = begins;
+  afters_size = refl;
+  insides_size = refl;
+  after_each = λ p below. absurd (omega (arith, below));
+  inside_each = λ p below. absurd (omega (arith, below));
+}
+
+-- One position more.
+pub one_more_list : (rules : Expression) (many : ℕ) (old middle new : Shelf) (first : ℕ) (afters insides : List ℕ) (a i : ℕ) → AreWithin old → AreWithin middle → AreListsUpTo rules many old first afters insides → ExtendsShelf old middle → IsNodeOf rules middle (after many) a → ExtendsShelf middle new → IsNodeOf rules new (beginning (inside many)) i → AreListsUpTo rules (many + 1) new first (afters ++ a ∷ []) (insides ++ i ∷ [])
+one_more_list rules many old middle new first afters insides a i within_old within_middle are one one_after two one_inside = record {
+  begins = stays (beginning outermost) first are.begins;
+  afters_size = let long = length-append afters (a ∷ []) in let size = are.afters_size in omega (arith, long, size);
+  insides_size = let long = length-append insides (i ∷ []) in let size = are.insides_size in omega (arith, long, size);
+  after_each = λ p below. after_at p (last_place many p below);
+  inside_each = λ p below. inside_at p (last_place many p below);
+}
+  where
+    stays : (f : Start) (n : ℕ) → IsNodeOf rules old f n → IsNodeOf rules new f n
+    stays f n is = node_stays rules old new within_old (shelf_more old middle new one two) f n is
+
+    after_at : (p : ℕ) → LastPlace many p → IsNodeOf rules new (after p) (get_or (afters ++ a ∷ []) p 0)
+    after_at p (before e) =
+        let size = are.afters_size in
+        subst (IsNodeOf rules new (after p)) (sym (get_or_append_left afters (a ∷ []) 0 p (omega (arith, e, size)))) (stays (after p) (get_or afters p 0) (are.after_each p e))
+    after_at p (last e) =
+        subst (IsNodeOf rules new (after p)) (sym (get_or_push afters a 0 p (are.afters_size ∙ sym e)))
+        (subst (λ (q : ℕ). IsNodeOf rules new (after q) a) (sym e) (node_stays rules middle new within_middle two (after many) a one_after))
+
+    inside_at : (p : ℕ) → LastPlace many p → IsNodeOf rules new (beginning (inside p)) (get_or (insides ++ i ∷ []) p 0)
+    inside_at p (before e) =
+        let size = are.insides_size in
+        subst (IsNodeOf rules new (beginning (inside p))) (sym (get_or_append_left insides (i ∷ []) 0 p (omega (arith, e, size)))) (stays (beginning (inside p)) (get_or insides p 0) (are.inside_each p e))
+    inside_at p (last e) =
+        subst (IsNodeOf rules new (beginning (inside p))) (sym (get_or_push insides i 0 p (are.insides_size ∙ sym e)))
+        (subst (λ (q : ℕ). IsNodeOf rules new (beginning (inside q)) i) (sym e) one_inside)
+
+level_within : (game : AbstractGame) → IsNumbered game.rules → (p : ℕ) (x : Expression) → IsLevel game.rules (inside p) x → p ≤ length (positions_of game.rules)
+level_within game numbered p x (inl h) = (action_within game.rules numbered p (positive x) h).1
+level_within game numbered p x (inr h) = (action_within game.rules numbered p (negative x) h).1
+
+-- The node of an origin is that of the place where one stands.
+pub node_there : (game : AbstractGame) → IsNumbered game.rules → (leaps : Leaps) → AreListsOf game.rules leaps.lists → (origin : Origin) → IsStart game.rules (start_of origin) → IsNodeOf game.rules leaps.lists.shelf (start_of origin) (node_of leaps origin)
+node_there game numbered leaps are (Begin Rules) start = are.begins
+node_there game numbered leaps are (Begin (Inside p)) (x, level) = let small = level_within game numbered p x level in are.inside_each p (omega (arith, small))
+node_there game numbered leaps are (After p) (a, stands) = let small = (action_within game.rules numbered p a stands).1 in are.after_each p (omega (arith, small))

@@ -1,0 +1,8 @@
+-- The positions so far are told.
+use Rattle.std.proofs.Common.{take}
+use Rattle.std.specs.Prelude.{All}
+use Rattle.rbg_leaps.specs.internal.Tables.{IsToldAt}
+use Rattle.rbg_leaps.proofs.closing.is_closed.Given as goal
+
+abbrev pub invariant-loop-listed : goal.invariant-loop-listed
+invariant-loop-listed l = All (IsToldAt l.ground l.lists l.table l.entry l.vertex) (take l.listed-index l.listed-items)

@@ -1,0 +1,14 @@
+-- What the positions so far lead to was gathered.
+use Rattle.std.specs.Prelude.{IsTrue}
+use Rattle.rbg_leaps.specs.internal.Shelves.{list_at, may_end_at}
+use Rattle.rbg_leaps.specs.internal.Steps.{EndsBy}
+use Rattle.rbg_leaps.specs.internal.Tables.{Grows, IsGathered, IsSoundTable}
+use Rattle.rbg_leaps.proofs.gathering.gather.Given as goal
+
+abbrev pub invariant-loop-listed : goal.invariant-loop-listed
+invariant-loop-listed l = record {
+  sound : IsSoundTable l.ground l.lists l.table;
+  grows : Grows l.fn.table l.table;
+  gathered : IsGathered l.ground l.lists l.table l.node l.vertex l.parts.items;
+  ends : IsTrue l.ends → EndsBy l.ground (list_at l.lists.shelf l.node) (may_end_at l.lists.shelf l.node) l.vertex;
+}

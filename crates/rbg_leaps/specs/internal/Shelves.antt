@@ -1,0 +1,53 @@
+-- Nodes with their lists, and the nodes of places in the rules.
+use Rattle.std.specs.Prelude.{◌≡◌, ℕ, ◌+◌, ◌<◌, List, ◌++◌, length, slice_range, slice_index_or, Bool}
+use Rattle.rbg_rules.specs.Expression.{Expression}
+use Rattle.rbg_rules.specs.Positions.{positions_of, outermost, inside}
+use Rattle.rbg_rules.specs.Words.{Start, beginning, after}
+use Rattle.rbg_leaps.specs.declared.lists.Lists.{Lists}
+use Rattle.rbg_leaps.specs.declared.shelf.Node.{Node}
+use Rattle.rbg_leaps.specs.declared.shelf.Shelf.{Shelf}
+use Rattle.rbg_leaps.specs.internal.Spans.{no_node}
+use Rattle.rbg_leaps.specs.internal.Steps.{IsAnswerAt}
+
+-- The list was extended.
+pub record Extends {X : Type 0} (old new : List X) : Type 0 where
+  pub more : List X
+  pub is : new ≡ old ++ more
+
+abbrev pub node_in : Shelf → ℕ → Node
+node_in shelf n = slice_index_or shelf.nodes.items n no_node
+
+-- The list of a node, and whether words may end there.
+abbrev pub list_at : Shelf → ℕ → List ℕ
+list_at shelf n = slice_range shelf.positions.items (node_in shelf n).start (node_in shelf n).end
+
+abbrev pub may_end_at : Shelf → ℕ → Bool
+may_end_at shelf n = (node_in shelf n).may_end
+
+-- The node has the list.
+pub record IsKept (shelf : Shelf) (list : List ℕ) (may_end : Bool) (n : ℕ) : Type 0 where
+  pub there : n < length shelf.nodes.items
+  pub list_is : list_at shelf n ≡ list
+  pub may_end_is : may_end_at shelf n ≡ may_end
+
+-- What was there stays where it was.
+pub record ExtendsShelf (old new : Shelf) : Type 0 where
+  pub positions : Extends old.positions.items new.positions.items
+  pub nodes : Extends old.nodes.items new.nodes.items
+
+-- The node is that of the place f.
+pub record IsNodeOf (rules : Expression) (shelf : Shelf) (f : Start) (n : ℕ) : Type 0 where
+  pub there : n < length shelf.nodes.items
+  pub answer : IsAnswerAt rules f (list_at shelf n) (may_end_at shelf n)
+
+-- The nodes of the rules, and by position of what comes after and of what is inside, up to a number of them.
+pub record AreListsUpTo (rules : Expression) (many : ℕ) (shelf : Shelf) (first : ℕ) (afters insides : List ℕ) : Type 0 where
+  pub begins : IsNodeOf rules shelf (beginning outermost) first
+  pub afters_size : length afters ≡ many
+  pub insides_size : length insides ≡ many
+  pub after_each : (p : ℕ) → p < many → IsNodeOf rules shelf (after p) (slice_index_or afters p 0)
+  pub inside_each : (p : ℕ) → p < many → IsNodeOf rules shelf (beginning (inside p)) (slice_index_or insides p 0)
+
+-- The nodes of all positions.
+abbrev pub AreListsOf : Expression → Lists → Type 0
+AreListsOf rules lists = AreListsUpTo rules (length (positions_of rules) + 1) lists.shelf lists.rules lists.afters.items lists.insides.items

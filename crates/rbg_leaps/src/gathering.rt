@@ -1,0 +1,127 @@
+//! What one step leads to from a node and a vertex, gathered from the entries that are there.
+ghost use Rattle.std.specs.Prelude.{◌≡◌, ◌≢◌, ℕ, ◌+◌, ◌<◌, ◌≤◌, length, All, Contains, IfOk, OnOk, IfSome, IfNone, IsTrue, slice_index_or};
+ghost use Rattle.rbg_rules.specs.Games.{IsGame};
+ghost use Rattle.rbg_leaps.specs.Entries.{IsWithin};
+ghost use Rattle.rbg_leaps.specs.internal.Shelves.{Extends, AreListsOf, list_at, may_end_at};
+ghost use Rattle.rbg_leaps.specs.internal.Steps.{EndsBy};
+ghost use Rattle.rbg_leaps.specs.internal.Tables.{no_target, AddsRow, AddsAll, IsSoundTable, IsGathered, Grows};
+
+use crate::ground::Ground;
+use crate::lists::Lists;
+use crate::rows::{is_under, push_union};
+use crate::table::{Entry, Table, Target};
+use rbg_base::{Memory, Position, Vertex};
+
+/// Which of the targets is of a position.
+pub(crate) fn index_of(targets: &[Target], position: Position) -> Option<usize>
+    ensures there { IfSome result (λ i. i < length targets.now) }
+    ensures some { IfSome result (λ i. (slice_index_or targets.now i no_target).position ≡ position) }
+    ensures none { IfNone result ((i : ℕ) → i < length targets.now
+        → (slice_index_or targets.now i no_target).position ≢ position) }
+{
+    for index in 0..targets.len() {
+        if targets[index].position == position {
+            return Some(index);
+        }
+    }
+    None
+}
+
+/// Adds a row to the targets at a position: as it is where they have none there, and else joined with theirs.
+pub(crate) fn add(
+    parts: &mut Vec<Target>,
+    words: &mut Vec<u64>,
+    columns: usize,
+    position: Position,
+    row: usize,
+) -> Result<(), Memory>
+    requires row { row + columns ≤ length words.old.items }
+    requires rows { All (λ t. t.row + columns ≤ length words.old.items) parts.old.items }
+    ensures extends { Extends words.old.items words.new.items }
+    ensures adds { OnOk result (AddsRow columns words.old.items words.new.items parts.old.items parts.new.items position row) }
+{
+    let Some(index) = index_of(parts, position) else {
+        parts.push(Target { position, row })?;
+        return Ok(());
+    };
+    let before = parts[index].row;
+    if !is_under(words, columns, row, before) {
+        let row = push_union(words, columns, before, row)?;
+        parts[index] = Target { position, row };
+    }
+    Ok(())
+}
+
+/// Adds all targets of an entry.
+fn add_all(table: &mut Table, parts: &mut Vec<Target>, entry: Entry) -> Result<(), Memory>
+    requires within { IsWithin (length table.old.targets.items) entry }
+    requires rows { All (λ t. t.row + table.old.columns ≤ length table.old.words.items) parts.old.items }
+    ensures { OnOk result (AddsAll table.old table.new parts.old.items parts.new.items entry) }
+{
+    for index in entry.start..entry.end {
+        let target = table.targets[index];
+        table.add_row(parts, target.position, target.row)?;
+    }
+    Ok(())
+}
+
+/// Gathers what a step by one position leads to. Returns whether a word may end then.
+fn gather_one(
+    table: &mut Table,
+    parts: &mut Vec<Target>,
+    lists: &Lists,
+    ground: &Ground<'_>,
+    node: usize,
+    vertex: Vertex,
+    position: Position,
+) -> Result<bool, Memory>
+    requires lawful { IsGame ground.now }
+    requires lists { AreListsOf ground.now.rules lists.now }
+    requires sound { IsSoundTable ground.now lists.now table.old }
+    requires node { node < length lists.now.shelf.nodes.items }
+    requires vertex { vertex < length ground.now.board.first }
+    requires listed { Contains (list_at lists.now.shelf node) position }
+    requires gathered { IsGathered ground.now lists.now table.old node vertex parts.old.items }
+    ensures grows { OnOk result (Grows table.old table.new) }
+    ensures gathered { OnOk result (IsGathered ground.now lists.now table.new node vertex parts.new.items) }
+    ensures ends { IfOk result (λ ends. IsTrue ends → EndsBy ground.now (list_at lists.now.shelf node) (may_end_at lists.now.shelf node) vertex) }
+{
+    if !ground.is_shift(position) {
+        let row = vertex as usize * table.columns;
+        table.add_row(parts, position, row)?;
+        return Ok(false);
+    }
+    let Some(to) = ground.to(vertex, position) else {
+        return Ok(false);
+    };
+    let entry = table.entry(lists.after(position), to);
+    add_all(table, parts, entry)?;
+    Ok(entry.ends)
+}
+
+/// Gathers what one step leads to. Returns whether a word may end at once or then.
+pub(crate) fn gather(
+    table: &mut Table,
+    parts: &mut Vec<Target>,
+    lists: &Lists,
+    ground: &Ground<'_>,
+    node: usize,
+    vertex: Vertex,
+) -> Result<bool, Memory>
+    requires lawful { IsGame ground.now }
+    requires lists { AreListsOf ground.now.rules lists.now }
+    requires sound { IsSoundTable ground.now lists.now table.old }
+    requires node { node < length lists.now.shelf.nodes.items }
+    requires vertex { vertex < length ground.now.board.first }
+    ensures grows { OnOk result (Grows table.old table.new) }
+    ensures gathered { OnOk result (IsGathered ground.now lists.now table.new node vertex parts.new.items) }
+    ensures ends { IfOk result (λ ends. IsTrue ends → EndsBy ground.now (list_at lists.now.shelf node) (may_end_at lists.now.shelf node) vertex) }
+{
+    parts.clear();
+    let mut ends = lists.shelf.may_end(node);
+    for listed in lists.shelf.list(node) {
+        let then = gather_one(table, parts, lists, ground, node, vertex, *listed)?;
+        ends = ends || then;
+    }
+    Ok(ends)
+}

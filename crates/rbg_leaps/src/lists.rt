@@ -1,0 +1,73 @@
+//! What comes next at each place in the rules, as nodes: places with one list have one node.
+ghost use Rattle.std.specs.Prelude.{◌≡◌, ◌+◌, ◌≤◌, length, All, IfOk, slice_index_or};
+ghost use Rattle.rbg_rules.specs.Positions.{positions_of};
+ghost use Rattle.rbg_leaps.specs.internal.Shelves.{AreListsOf};
+ghost use Rattle.rbg_leaps.specs.internal.Steps.{IsUpToLast};
+
+use crate::shelf::Shelf;
+use rbg_auto::{Expr, Steps};
+use rbg_base::{Memory, Position};
+use rbg_rules::Game;
+use std::alloc::Global;
+
+/// The nodes of a game's rules, by place.
+#[derive(Debug, Drop)]
+pub(crate) struct Lists {
+    pub(crate) shelf: Shelf,
+    /// The node at the beginning of the rules.
+    pub(crate) rules: usize,
+    /// The node after each position, from 0 on.
+    pub(crate) afters: Vec<usize>,
+    /// The node at the beginning of what is inside each position.
+    pub(crate) insides: Vec<usize>,
+}
+
+/// The node of a position, or the first one where there is none.
+fn node_at(nodes: &[usize], position: Position) -> usize
+    ensures { result ≡ slice_index_or nodes.now position 0 }
+{
+    let index = position as usize;
+    if index < nodes.len() { nodes[index] } else { 0 }
+}
+
+impl Lists {
+    /// The node after a position.
+    pub(crate) fn after(&self, position: Position) -> usize
+        ensures { result ≡ slice_index_or self.now.afters.items position 0 }
+    {
+        node_at(&self.afters, position)
+    }
+
+    /// The node at the beginning of what is inside a position.
+    pub(crate) fn inside(&self, position: Position) -> usize
+        ensures { result ≡ slice_index_or self.now.insides.items position 0 }
+    {
+        node_at(&self.insides, position)
+    }
+}
+
+/// The nodes of a game's rules.
+pub(crate) fn lists_of<S: Steps>(alloc: Global, game: &Game, steps: &S) -> Result<Lists, Memory>
+    requires { S.of_rules steps.now game.now.rules }
+    ensures { IfOk result (AreListsOf game.now.rules) }
+{
+    let positions = game.positions();
+    let mut shelf = Shelf::new(alloc);
+    let rules = shelf.keep(steps.first(Expr::Rules), steps.may_be_empty(Expr::Rules))?;
+    let mut afters = Vec::with_capacity(alloc, positions + 1)?;
+    let mut insides = Vec::with_capacity(alloc, positions + 1)?;
+    for index in 0..positions + 1 {
+        let position = index as Position;
+        let after = shelf.keep(steps.next(position), steps.may_end(position))?;
+        afters.push(after)?;
+        let expr = Expr::Inside(position);
+        let inside = shelf.keep(steps.first(expr), steps.may_be_empty(expr))?;
+        insides.push(inside)?;
+    }
+    Ok(Lists {
+        shelf,
+        rules,
+        afters,
+        insides,
+    })
+}
