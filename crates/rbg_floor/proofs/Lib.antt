@@ -9,6 +9,7 @@ mod Permitted
 mod Pieces
 mod Requesting
 mod Running
+mod Served
 mod Silence
 mod Taking
 mod Ticking

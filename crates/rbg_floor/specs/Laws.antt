@@ -1,15 +1,22 @@
 -- Laws of a hall.
-use Rattle.std.specs.Prelude.{◌≡◌, ◌+◌, ℕ, List, [], Some, length, replicate, slice_get}
+use Rattle.std.specs.Prelude.{◌≡◌, ◌+◌, ℕ, List, [], Some, Result, length, replicate, slice_get}
 use Rattle.rbg_match.specs.Matches.{MatchState}
 use Rattle.rbg_hall.specs.Laws.{HoldsTranscript}
 use Rattle.rbg_hall.specs.Limits.{lines_in_all}
 use Rattle.rbg_hall.specs.Tables.{TableState}
 use Rattle.rbg_hall.specs.Tellings.{Telling, told_to}
+use Rattle.rbg_serving.specs.declared.served.Served.{Served}
+use Rattle.rbg_serving.specs.declared.served.ServeError.{ServeError}
+use Rattle.rbg_serving.specs.Serving.{Serves}
+use Rattle.rbg_serving.specs.Told.{Told}
 use Rattle.rbg_floor.specs.Allowed.{IsAllowed}
 use Rattle.rbg_floor.specs.Apart.{concerning, IsExchanged}
 use Rattle.rbg_floor.specs.Events.{AbstractHallEvent}
+use Rattle.rbg_floor.specs.Failing.{HeldHall}
 use Rattle.rbg_floor.specs.Halls.{AbstractTable, HallState, HallRun}
+use Rattle.rbg_floor.specs.Openings.{IsNewHall}
 use Rattle.rbg_floor.specs.Own.{own}
+use Rattle.rbg_floor.specs.Serving.{IsServedHall, of_hall}
 
 -- Whatever a hall hears, each line has what it may have.
 abbrev pub RunIsAllowed : Type 0
@@ -49,3 +56,12 @@ BegunMatchesHoldTranscripts =
     slice_get state.tables index ≡ Some table →
     table.begun ≡ Some playing →
     HoldsTranscript start.game start.text start.config (own (length starts) (index + 1) events) table.seats playing
+
+-- What is queued for the lines of a new hall that was served may be queued for them after what was heard.
+abbrev pub ServedHallIsAllowed : Type 0
+ServedHallIsAllowed =
+    (starts : List AbstractTable) (rounds : ℕ) (before after : List Told) (moments : List ℕ) (old new : HeldHall)
+    (queued_before queued : List (List ℕ)) (result : Result Served ServeError) →
+    IsNewHall starts old queued_before →
+    (serves : Serves of_hall rounds before after moments old new queued_before queued result) →
+    IsServedHall starts serves.heard queued result
