@@ -38,6 +38,10 @@ class Stream:
     def say(self, pairs):
         self.socket.sendall(b"M" + pairs.encode() + b"\0")
 
+    def join(self, number):
+        """Asks for a seat in a match of a hall."""
+        self.socket.sendall(b"H%d\0" % number)
+
 
 class Match:
     """What was heard of a match."""
@@ -173,6 +177,7 @@ def main():
     parser.add_argument("--think", type=int, metavar="MS", help="choose by playouts for so long")
     parser.add_argument("--rbg", default="./rbg", metavar="PROGRAM", help="the program rbg")
     parser.add_argument("--record", metavar="FILE", help="say the moves of a record")
+    parser.add_argument("--match", type=int, metavar="K", help="join match K of a hall")
     words = parser.parse_args()
     chance = random.Random(words.random)
     if words.think is not None:
@@ -185,7 +190,10 @@ def main():
     if words.record is not None:
         with open(words.record, encoding="ascii") as file:
             chooser = Recorded(file.read().splitlines())
-    match = play(Stream(words.port), chooser)
+    stream = Stream(words.port)
+    if words.match is not None:
+        stream.join(words.match)
+    match = play(stream, chooser)
     if match.refused:
         print("%s: refused for reason %d" % (match.name, match.refused[0]))
     else:

@@ -43,6 +43,8 @@ pub struct Case<'a> {
     pub program: Program,
     /// How many of the lines are shown, from the end.
     pub shown: usize,
+    /// Whether what is told on standard error is shown too.
+    pub news: bool,
     pub words: Vec<String>,
     pub files: Vec<Text<'a>>,
     pub streams: Vec<Stream>,
@@ -111,6 +113,9 @@ impl<'a> Reader<'a> {
         if line == b"author".as_slice() {
             return Ok(self.run_author());
         }
+        if line == b"news".as_slice() {
+            return Ok(self.show_news());
+        }
         if let Some(count) = line.strip_prefix(b"last ") {
             return Ok(self.show_last(count));
         }
@@ -120,6 +125,7 @@ impl<'a> Reader<'a> {
                 name,
                 program: Program::Rbg,
                 shown: usize::MAX,
+                news: false,
                 words: Vec::new(alloc),
                 files: Vec::new(alloc),
                 streams: Vec::new(alloc),
@@ -158,6 +164,17 @@ impl<'a> Reader<'a> {
         match self.cases.last_mut() {
             Some(case) => {
                 case.program = Program::RbgAuthor;
+                true
+            }
+            None => false,
+        }
+    }
+
+    /// What the case is told on standard error is shown.
+    fn show_news(&mut self) -> bool {
+        match self.cases.last_mut() {
+            Some(case) => {
+                case.news = true;
                 true
             }
             None => false,

@@ -7,6 +7,7 @@
 //! | `case NAME` | a case begins; what follows is its standard input |
 //! | `words WORD ..` | the words of the case's command line, with single spaces between them |
 //! | `author` | the case runs `rbg_author`, else it runs `rbg` |
+//! | `news` | what the case tells an organiser on standard error is shown too, each line behind `news: ` |
 //! | `last COUNT` | of what the case prints only this many lines are shown, the last ones |
 //! | `file NAME` | a file of the case begins; what follows is its bytes |
 //! | `stream` | what comes over a connection of the case begins; what follows is its bytes, and then nothing comes |
@@ -19,7 +20,7 @@
 //! | `%HEX` | adds these bytes |
 //! | `;TEXT`, or nothing | nothing |
 //!
-//! For each case a line `case NAME` is printed, then what the program prints, then `status STATUS`. Where a line is
+//! For each case a line `case NAME` is printed, then what the program prints, what it tells, and `status STATUS`. Where a line is
 //! not of this form, `cases LINE` is printed, and no case is run.
 #![tactic(auto)]
 
@@ -62,8 +63,8 @@ fn last_lines(text: &[u8], count: usize) -> &[u8] {
     text
 }
 
-/// Runs the case's program, and returns its status.
-fn run_program(alloc: Global, case: &Case<'_>, printed: &mut Vec<u8>) -> Status {
+/// Runs the case's program. Returns its status and what it told.
+fn run_program(alloc: Global, case: &Case<'_>, printed: &mut Vec<u8>) -> (Status, Vec<u8>) {
     let words = case.words.as_slice();
     let mut files = CaseFiles {
         files: case.files.as_slice(),
@@ -72,9 +73,20 @@ fn run_program(alloc: Global, case: &Case<'_>, printed: &mut Vec<u8>) -> Status 
     match case.program {
         Program::Rbg => {
             let mut network = MemoryNetwork::new(alloc, case.streams.as_slice());
-            rbg_program::run(alloc, words, &mut files, &mut network, &mut input, printed)
+            let status = rbg_program::run(
+                alloc,
+                words,
+                &mut files,
+                &mut network,
+                &mut input,
+                printed,
+            );
+            (status, network.into_told())
         }
-        Program::RbgAuthor => rbg_author::run(alloc, words, &mut files, &mut input, printed),
+        Program::RbgAuthor => {
+            let status = rbg_author::run(alloc, words, &mut files, &mut input, printed);
+            (status, Vec::new(alloc))
+        }
     }
 }
 
@@ -84,8 +96,12 @@ fn run_case(alloc: Global, case: &Case<'_>, output: &mut Vec<u8>) -> Result<(), 
     output.extend_from_slice(case.name)?;
     output.push(b'\n')?;
     let mut printed = Vec::new(alloc);
-    let status = run_program(alloc, case, &mut printed).code();
+    let (status, told) = run_program(alloc, case, &mut printed);
     output.extend_from_slice(last_lines(printed.as_slice(), case.shown))?;
+    if case.news {
+        output.extend_from_slice(told.as_slice())?;
+    }
+    let status = status.code();
     let line = format!(in alloc; "status {status}\n")?;
     output.extend_from_slice(line.as_bytes())
 }

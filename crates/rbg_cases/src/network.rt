@@ -1,7 +1,7 @@
 //! A network in memory. Its clock stands still, and a stream never waits.
 
 use crate::cases::Stream;
-use rbg_program::{Clock, Network};
+use rbg_program::{Clock, Network, News};
 use std::alloc::Global;
 use std::cell::RefCell;
 use std::io::{self, ErrorKind, Read, Write};
@@ -28,6 +28,8 @@ pub struct MemoryNetwork<'a> {
     listens: bool,
     /// The other ends of the connections that are to be accepted.
     waiting: Vec<MemoryStream>,
+    /// What was told, each in a line.
+    told: Vec<u8>,
 }
 
 impl<'a> MemoryNetwork<'a> {
@@ -38,7 +40,13 @@ impl<'a> MemoryNetwork<'a> {
             streams,
             listens: false,
             waiting: Vec::new(alloc),
+            told: Vec::new(alloc),
         }
+    }
+
+    /// What was told, each in a line.
+    pub fn into_told(self) -> Vec<u8> {
+        self.told
     }
 
     fn new_channel(&self) -> io::Result<Channel> {
@@ -103,6 +111,10 @@ impl<'a> Network for MemoryNetwork<'a> {
 
     fn start_clock(&mut self) -> io::Result<StandingClock> {
         Ok(StandingClock)
+    }
+
+    fn tell(&mut self, news: &News<'_>) {
+        let _told = writeln!(&mut self.told, "news: {news}");
     }
 }
 

@@ -1,20 +1,29 @@
 //! A first-choice player at its end of a stream.
 
+use crate::News;
 use crate::network::is_nothing_yet;
 use rbg_player::{FirstChooser, Heard, Player, PlayerError};
-use std::alloc::Global;
+use rbg_wire::{Message, cut_at, read_message};
+use std::alloc::{AllocError, Global};
 use std::io::{Read, Write};
+use std::str;
 use thiserror::Error;
 
 /// Why a player at its end of a stream can't go on.
-#[derive(Debug, Drop, Error)]
+#[derive(Clone, Copy, Debug, PartialEq, Eq, Error)]
 pub enum ClientError {
     /// The stream failed, or ended before the match.
-    #[error("device")]
+    #[error("the connection failed, or ended before the match")]
     Device,
     /// The player gives up.
     #[error("{0}")]
     Player(#[from] PlayerError),
+}
+
+impl From<AllocError> for ClientError {
+    fn from(_error: AllocError) -> ClientError {
+        ClientError::Player(PlayerError::Memory)
+    }
 }
 
 /// The most bytes that are read at once.
@@ -25,6 +34,8 @@ const PIECE: usize = 4_096;
 pub struct Client<S: Read + Write + Drop> {
     stream: S,
     player: Player,
+    /// What has come up to the end of the piece that ended the first message, which names the player.
+    first: Vec<u8>,
     /// What the player has said and the stream has not taken yet.
     unsent: Vec<u8>,
 }
@@ -35,8 +46,21 @@ impl<S: Read + Write + Drop> Client<S> {
         Client {
             stream,
             player: Player::new(alloc),
+            first: Vec::new(alloc),
             unsent: Vec::new(alloc),
         }
+    }
+
+    /// A player that has heard nothing yet, and asks for a seat in this match of a hall.
+    pub fn join(alloc: Global, stream: S, table: u64) -> Result<Client<S>, AllocError> {
+        let mut unsent = Vec::new(alloc);
+        let player = Player::join(alloc, table, &mut unsent)?;
+        Ok(Client {
+            stream,
+            player,
+            first: Vec::new(alloc),
+            unsent,
+        })
     }
 
     /// Hears what has come, in one read, and sends what the player says to it, as far as the stream takes it.
@@ -48,18 +72,43 @@ impl<S: Read + Write + Drop> Client<S> {
         Ok(heard)
     }
 
+    /// Which player this one is, once it has been told. A name of more bytes than a piece isn't known.
+    pub fn seat(&self) -> Option<News<'_>> {
+        let (message, _) = cut_at(0, self.first.as_slice())?;
+        match read_message(message) {
+            Ok(Message::Who { player, name }) => Some(News::Plays {
+                player,
+                name: str::from_utf8(name).ok()?,
+            }),
+            _ => None,
+        }
+    }
+
+    /// Keeps what came, up to the first message's end.
+    fn keep_first(&mut self, piece: &[u8]) -> Result<(), AllocError> {
+        if self.first.len() < PIECE && cut_at(0, self.first.as_slice()).is_none() {
+            self.first.extend_from_slice(piece)?;
+        }
+        Ok(())
+    }
+
     /// Hears the next piece, if one has come. The stream may not end before the match has.
     fn hear(&mut self) -> Result<Heard, ClientError> {
         let mut piece = [0u8; PIECE];
         match self.stream.read(&mut piece) {
             Ok(0) => Err(ClientError::Device),
-            Ok(count) => Ok(
-                self.player
-                    .hear(&piece[..count], &mut FirstChooser, &mut self.unsent)?,
-            ),
+            Ok(count) => self.hear_piece(&piece[..count]),
             Err(error) if is_nothing_yet(&error) => Ok(Heard::Going),
             Err(_) => Err(ClientError::Device),
         }
+    }
+
+    fn hear_piece(&mut self, piece: &[u8]) -> Result<Heard, ClientError> {
+        self.keep_first(piece)?;
+        Ok(
+            self.player
+                .hear(piece, &mut FirstChooser, &mut self.unsent)?,
+        )
     }
 
     fn send(&mut self) -> Result<(), ClientError> {

@@ -1,12 +1,13 @@
 //! The network as the program sees it: connections on this machine, each to a port.
 
+use crate::News;
 use rbg_serving::Clock;
 use std::io::{self, ErrorKind, Read, Write};
 
-/// Connections on this machine, and the clock by which matches over them are played.
+/// Connections on this machine, the clock by which matches over them are played, and the ear of whoever runs the program.
 ///
-/// A stream waits a few milliseconds at most: where nothing has come or nothing can be sent by then, it answers with an
-/// error of one of the kinds that `is_nothing_yet` names.
+/// A stream and an `accept` wait a few milliseconds at most: where nothing has come or nothing can be sent by then, they
+/// answer with an error of one of the kinds that `is_nothing_yet` names.
 pub trait Network {
     type Stream: Read + Write + Drop;
 
@@ -20,7 +21,7 @@ pub trait Network {
     /// The port of a listener.
     fn port_of(&mut self, listener: &Self::Listener) -> io::Result<u16>;
 
-    /// Waits for the next connection to a listener.
+    /// The next connection to a listener.
     fn accept(&mut self, listener: &mut Self::Listener) -> io::Result<Self::Stream>;
 
     /// Connects to a port.
@@ -28,9 +29,12 @@ pub trait Network {
 
     /// A clock that begins with 0 now.
     fn start_clock(&mut self) -> io::Result<Self::Clock>;
+
+    /// Tells news, apart from the program's answer. Where that can't be told, nothing is.
+    fn tell(&mut self, news: &News<'_>);
 }
 
-/// Whether a stream only says that it has nothing now, or takes nothing now.
+/// Whether a stream or a listener only says that it has nothing now, or takes nothing now.
 pub(crate) fn is_nothing_yet(error: &io::Error) -> bool {
     matches!(
         error.kind(),

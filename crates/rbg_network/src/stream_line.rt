@@ -1,25 +1,62 @@
 //! Lines over streams: one to a player elsewhere, and one with its player in this process.
-ghost use Rattle.std.specs.Prelude.{◌≡◌, ◌+◌, true, false};
+ghost use Rattle.std.specs.Prelude.{◌≡◌, ◌≤◌, ◌+◌, length, true, false};
 
-use crate::client::Client;
+use crate::client::{Client, ClientError};
 use crate::network::is_nothing_yet;
 use rbg_serving::{Line, Polled, Put};
+use std::alloc::{AllocError, Global};
 use std::io::{Read, Write};
+
+/// The most bytes that are read at once before a match.
+const PIECE: usize = 4_096;
 
 /// A line over a stream.
 #[derive(Drop)]
 pub struct StreamLine<S: Read + Write + Drop> {
     stream: S,
+    /// What came before the match began. It is given before anything else.
+    early: Vec<u8>,
     failures: u64,
 }
 
 impl<S: Read + Write + Drop> StreamLine<S> {
     /// A line over this stream, which hasn't failed.
-    pub fn new(stream: S) -> StreamLine<S> {
+    pub fn new(alloc: Global, stream: S) -> StreamLine<S> {
         StreamLine {
             stream,
+            early: Vec::new(alloc),
             failures: 0,
         }
+    }
+
+    /// Whether the stream is closed, or has failed. What has come is kept for the match. Where that is much already, the
+    /// stream isn't looked at.
+    pub(crate) fn is_closed(&mut self) -> Result<bool, AllocError>
+        ensures { self.new.failures ≡ self.old.failures }
+    {
+        if self.early.len() >= PIECE {
+            return Ok(false);
+        }
+        let mut piece = [0u8; PIECE];
+        match self.stream.read(&mut piece) {
+            Ok(0) => Ok(true),
+            Ok(count) => {
+                self.early.extend_from_slice(&piece[..count])?;
+                Ok(false)
+            }
+            Err(error) => Ok(!is_nothing_yet(&error)),
+        }
+    }
+
+    /// Gives bytes that came before the match began, as many as the buffer takes.
+    fn give_early(&mut self, buffer: &mut [u8]) -> usize
+        ensures count { result ≤ length buffer.new }
+        ensures failures { self.new.failures ≡ self.old.failures }
+    {
+        let count = self.early.len().min(buffer.len());
+        buffer[..count].copy_from_slice(&self.early[..count]);
+        self.early.drain(..count);
+        count
     }
 
     /// Counts one more failure, if there is a number for it.
@@ -43,6 +80,9 @@ impl<S: Read + Write + Drop> Line for StreamLine<S> {
     ghost failure_count = { λ line. line.failures };
 
     fn poll(&mut self, buffer: &mut [u8]) -> Polled {
+        if !self.early.is_empty() {
+            return Polled::Got(self.give_early(buffer));
+        }
         match self.stream.read(buffer) {
             Ok(0) => Polled::Ended,
             Ok(count) => Polled::Got(count),
@@ -72,6 +112,8 @@ pub struct PlayedLine<S: Read + Write + Drop> {
     line: StreamLine<S>,
     /// The player, until it gives up. Then its end of the connection is closed.
     client: Option<Client<S>>,
+    /// Why the player gave up.
+    fault: Option<ClientError>,
 }
 
 impl<S: Read + Write + Drop> PlayedLine<S> {
@@ -80,7 +122,13 @@ impl<S: Read + Write + Drop> PlayedLine<S> {
         PlayedLine {
             line,
             client: Some(client),
+            fault: None,
         }
+    }
+
+    /// Why the player gave up, if it did.
+    pub fn fault(&self) -> Option<ClientError> {
+        self.fault
     }
 
     /// Lets the player hear and say what it can now.
@@ -88,8 +136,9 @@ impl<S: Read + Write + Drop> PlayedLine<S> {
         ensures { self.new.line ≡ self.old.line }
     {
         if let Some(client) = &mut self.client {
-            if client.turn().is_err() {
+            if let Err(error) = client.turn() {
                 self.client = None;
+                self.fault = Some(error);
             }
         }
     }

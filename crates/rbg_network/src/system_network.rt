@@ -1,12 +1,13 @@
-//! The connections and the clock of the system.
+//! The connections and the clock of the system. What fails is said on standard error, and so is what is told.
 
-use crate::network::Network;
+use crate::News;
+use crate::network::{Network, is_nothing_yet};
 use rbg_serving::Clock;
-use std::io;
 use std::net::{Ipv4Addr, TcpListener, TcpStream};
 use std::time::{Duration, Instant};
+use std::{io, thread};
 
-/// How many milliseconds a stream waits before it says that it has nothing now.
+/// How many milliseconds a stream or a listener waits before it says that it has nothing now.
 const PATIENCE_MS: u64 = 5;
 
 /// The ports of 127.0.0.1.
@@ -20,6 +21,31 @@ impl<'a> SystemNetwork<'a> {
     pub fn new(rt: &'a HostRuntime) -> SystemNetwork<'a> {
         SystemNetwork { rt }
     }
+
+    /// A listener that doesn't wait.
+    fn bind(&self, port: u16) -> io::Result<TcpListener> {
+        let listener = TcpListener::bind(self.rt, (Ipv4Addr::LOCALHOST, port))?;
+        listener.set_nonblocking(true)?;
+        Ok(listener)
+    }
+
+    /// The next connection. Where there is none yet, a few milliseconds pass.
+    fn accept_next(&self, listener: &TcpListener) -> io::Result<TcpStream> {
+        match listener.accept() {
+            Ok((stream, _)) => impatient(stream),
+            Err(error) => {
+                if is_nothing_yet(&error) {
+                    thread::sleep(self.rt, Duration::from_millis(PATIENCE_MS));
+                }
+                Err(error)
+            }
+        }
+    }
+}
+
+/// Says that something fails, and why.
+fn say_failure(rt: &HostRuntime, what: &str, port: u16, error: &io::Error) {
+    let _said = eprintln!(rt; "can't {what} port {port}: {error}");
 }
 
 impl<'a> Network for SystemNetwork<'a> {
@@ -30,7 +56,11 @@ impl<'a> Network for SystemNetwork<'a> {
     type Clock = SystemClock<'a>;
 
     fn listen(&mut self, port: u16) -> io::Result<TcpListener> {
-        TcpListener::bind(self.rt, (Ipv4Addr::LOCALHOST, port))
+        let listener = self.bind(port);
+        if let Err(error) = &listener {
+            say_failure(self.rt, "listen on", port, error);
+        }
+        listener
     }
 
     fn port_of(&mut self, listener: &TcpListener) -> io::Result<u16> {
@@ -38,12 +68,17 @@ impl<'a> Network for SystemNetwork<'a> {
     }
 
     fn accept(&mut self, listener: &mut TcpListener) -> io::Result<TcpStream> {
-        let (stream, _) = listener.accept()?;
-        impatient(stream)
+        self.accept_next(listener)
     }
 
     fn connect(&mut self, port: u16) -> io::Result<TcpStream> {
-        impatient(TcpStream::connect(self.rt, (Ipv4Addr::LOCALHOST, port))?)
+        match TcpStream::connect(self.rt, (Ipv4Addr::LOCALHOST, port)) {
+            Ok(stream) => impatient(stream),
+            Err(error) => {
+                say_failure(self.rt, "connect to", port, &error);
+                Err(error)
+            }
+        }
     }
 
     fn start_clock(&mut self) -> io::Result<SystemClock<'a>> {
@@ -52,6 +87,10 @@ impl<'a> Network for SystemNetwork<'a> {
             start: Instant::now(self.rt)?,
             last: 0,
         })
+    }
+
+    fn tell(&mut self, news: &News<'_>) {
+        let _told = eprintln!(self.rt; "{news}");
     }
 }
 

@@ -1,6 +1,6 @@
 //! The commands of the program, and their words.
 
-use clap::{Arg, Command};
+use clap::{Arg, ArgAction, Command};
 use rbg_console::file_argument;
 use std::alloc::{AllocError, Global};
 
@@ -88,7 +88,9 @@ fn serve_command<'a>(alloc: Global) -> Result<Command<'a>, AllocError> {
     let command = Command::new(alloc, "serve")
         .about("Referees a match between the players that connect to a port, and prints its record")
         .arg(game_argument(alloc))?
-        .arg(port_option(alloc))?;
+        .arg(port_option(alloc))?
+        .arg(wait_option(alloc))?
+        .arg(quiet_option(alloc))?;
     add_service(alloc, command)
 }
 
@@ -106,6 +108,7 @@ fn play_command<'a>(alloc: Global) -> Result<Command<'a>, AllocError> {
             "Plays in the match that is served at a port, by the first move that it finds, and prints the last message",
         )
         .arg(port_option(alloc))?
+        .arg(match_option(alloc))?
         .arg(rounds_option(alloc))
 }
 
@@ -124,6 +127,31 @@ fn port_option<'a>(alloc: Global) -> Arg<'a> {
         .help("The port, 1 to 65535")
         .value_parser(clap::value_parser!(u16).range(1..))
         .required(true)
+}
+
+fn wait_option<'a>(alloc: Global) -> Arg<'a> {
+    Arg::new(alloc, "wait")
+        .long("wait")
+        .value_name("SECONDS")
+        .help(
+            "In how many seconds all players have to connect, 0 to 4294967295 [default: no limit]",
+        )
+        .value_parser(clap::value_parser!(u64).range(0..=4_294_967_295))
+}
+
+fn quiet_option<'a>(alloc: Global) -> Arg<'a> {
+    Arg::new(alloc, "quiet")
+        .long("quiet")
+        .help("Says nothing of the players and the match on standard error")
+        .action(ArgAction::SetTrue)
+}
+
+fn match_option<'a>(alloc: Global) -> Arg<'a> {
+    Arg::new(alloc, "match")
+        .long("match")
+        .value_name("MATCH")
+        .help("The match to join, where a hall has several, 1 to 4294967295")
+        .value_parser(clap::value_parser!(u64).range(1..=4_294_967_295))
 }
 
 fn turn_option<'a>(alloc: Global) -> Arg<'a> {

@@ -4,7 +4,7 @@ use crate::player_refusal::PlayerRefusal;
 use rbg_console::{Refusal, Status, WordsError, write_text};
 use rbg_game::LoadError;
 use rbg_match::MatchError;
-use rbg_network::ClientError;
+use rbg_network::{ClientError, GatherError};
 use rbg_player::PlayerError;
 use rbg_record::RecordError;
 use rbg_refereeing::RefereeingError;
@@ -37,6 +37,9 @@ pub enum Fault {
     /// The match, or the player's part in it, did not end in as many rounds as it may have.
     #[error("rounds")]
     Rounds,
+    /// Not all players have come in time. This is told on standard error, and has no printed line.
+    #[error("")]
+    Absent,
     /// The player gives up.
     #[error("refused player {0}")]
     Player(PlayerRefusal),
@@ -61,6 +64,7 @@ impl Fault {
             Fault::RecordOver(_) => Status::BadInput,
             Fault::Device => Status::Device,
             Fault::Rounds => Status::Device,
+            Fault::Absent => Status::Device,
             Fault::Player(_) => Status::Device,
             Fault::Memory(_) => Status::Memory,
             Fault::Help(_) => Status::Success,
@@ -135,6 +139,16 @@ impl From<ClientError> for Fault {
     }
 }
 
+impl From<GatherError> for Fault {
+    fn from(error: GatherError) -> Fault {
+        match error {
+            GatherError::Device(_) => Fault::Device,
+            GatherError::Absent => Fault::Absent,
+            GatherError::Memory(error) => Fault::Memory(error),
+        }
+    }
+}
+
 impl From<io::Error> for Fault {
     fn from(_error: io::Error) -> Fault {
         Fault::Device
@@ -166,6 +180,7 @@ fn write_fault<W: Write>(output: &mut W, fault: &Fault) -> io::Result<()> {
     match fault {
         // these texts end with a line feed of their own
         Fault::Help(text) | Fault::CommandLine(text) => output.write_all(text.as_bytes())?,
+        Fault::Absent => {}
         _ => writeln!(output, "{fault}")?,
     }
     output.flush()

@@ -18,5 +18,5 @@ mod task;
 pub use fault::{Fault, report};
 pub use program::run;
 pub use rbg_console::{Files, Input, Status};
-pub use rbg_network::{Network, SystemClock, SystemNetwork};
+pub use rbg_network::{Network, News, SystemClock, SystemNetwork};
 pub use rbg_serving::Clock;

@@ -73,8 +73,13 @@ fn obey<F: Files, N: Network, R: Read, W: Write>(
             file,
             port,
             service,
-        } => serve_file(alloc, files, file, network, port, service),
-        Task::Play { port, rounds } => play(alloc, network, port, rounds),
+            hosting,
+        } => serve_file(alloc, files, file, network, port, service, hosting),
+        Task::Play {
+            port,
+            table,
+            rounds,
+        } => play(alloc, network, port, table, rounds),
     }
 }
 

@@ -10,13 +10,14 @@ use crate::task::Service;
 use rbg_console::Files;
 use rbg_game::{Game, load};
 use rbg_match::Match;
-use rbg_network::{Client, Network, PlayedLine, StreamLine};
+use rbg_network::{
+    Client, Hosting, Network, News, StreamLine, connect_players, gather, tell_who_gave_up,
+};
 use rbg_player::Heard;
 use rbg_record::{write_record, write_record_1};
 use rbg_serving::{Clock, Line, serve};
 use rbg_wire::Outcome;
 use std::alloc::Global;
-use std::io::{Read, Write};
 
 /// Referees a match of the file's game between the first players that connect to the port, and gives its record.
 pub fn serve_file<F: Files, N: Network>(
@@ -26,10 +27,33 @@ pub fn serve_file<F: Files, N: Network>(
     network: &mut N,
     port: u16,
     service: Service,
+    hosting: Hosting,
 ) -> Result<Vec<u8>, Fault> {
     let text = read_description(alloc, files, file)?;
-    let played = serve_text(alloc, text.as_slice(), network, port, service)?;
-    Ok(write_record(alloc, &played)?)
+    let played = serve_text(alloc, text.as_slice(), network, port, service, hosting);
+    tell_end(network, service, hosting, &played);
+    Ok(write_record(alloc, &played?)?)
+}
+
+/// Tells how a match ended, or that it didn't.
+fn tell_end<N: Network>(
+    network: &mut N,
+    service: Service,
+    hosting: Hosting,
+    played: &Result<Match, Fault>,
+) {
+    match played {
+        Ok(played) => {
+            if let Some(outcome) = played.outcome() {
+                hosting.tell(network, &News::Ended { outcome });
+            }
+        }
+        Err(Fault::Rounds) => {
+            let rounds = service.rounds;
+            hosting.tell(network, &News::Unfinished { rounds });
+        }
+        Err(_) => {}
+    }
 }
 
 /// Referees a match of the text's game between the first players that connect to the port.
@@ -39,9 +63,11 @@ fn serve_text<N: Network>(
     network: &mut N,
     port: u16,
     service: Service,
+    hosting: Hosting,
 ) -> Result<Match, Fault> {
     let game = load(alloc, text)?;
-    let mut lines = accept_players(alloc, network, port, game.players())?;
+    let mut lines = accept_players(alloc, network, port, game.players(), hosting)?;
+    hosting.tell(network, &News::Begins);
     serve_lines(alloc, game, text, network, service, lines.as_mut_slice())
 }
 
@@ -67,99 +93,70 @@ fn demo_text<N: Network>(
 ) -> Result<Match, Fault> {
     let game = load(alloc, text)?;
     let mut lines = connect_players(alloc, network, game.players())?;
-    serve_lines(alloc, game, text, network, service, lines.as_mut_slice())
+    let played = serve_lines(alloc, game, text, network, service, lines.as_mut_slice());
+    tell_who_gave_up(network, lines.as_slice());
+    played
 }
 
-/// Plays a seat of the match at the port, and gives the match's last message. A read is a round.
+/// Plays a seat of the match at the port, or of this one of the matches there, and gives the match's last message. A
+/// read is a round.
 pub fn play<N: Network>(
     alloc: Global,
     network: &mut N,
     port: u16,
+    table: Option<u64>,
     rounds: u64,
 ) -> Result<Vec<u8>, Fault> {
-    let mut client = Client::new(alloc, network.connect(port)?);
-    let outcome = play_rounds(&mut client, rounds)?;
+    let stream = network.connect(port)?;
+    let mut client = match table {
+        Some(table) => Client::join(alloc, stream, table)?,
+        None => Client::new(alloc, stream),
+    };
+    let outcome = play_rounds(network, &mut client, rounds)?;
     Ok(outcome_line(alloc, &outcome)?)
 }
 
-fn play_rounds<S: Read + Write + Drop>(
-    client: &mut Client<S>,
+/// Plays, and tells once for which player.
+fn play_rounds<N: Network>(
+    network: &mut N,
+    client: &mut Client<N::Stream>,
     rounds: u64,
 ) -> Result<Outcome, Fault> {
+    let mut told = false;
     for _ in 0..rounds {
-        if let Heard::Ended(outcome) = client.turn()? {
+        let heard = client.turn()?;
+        told = told || tell_seat(network, client);
+        if let Heard::Ended(outcome) = heard {
             return Ok(outcome);
         }
     }
     Err(Fault::Rounds)
 }
 
-/// Waits until that many players have connected to the port. Their lines are in order of arrival.
+/// Tells for which player the client plays. False if it isn't known.
+fn tell_seat<N: Network>(network: &mut N, client: &Client<N::Stream>) -> bool {
+    match client.seat() {
+        Some(news) => {
+            network.tell(&news);
+            true
+        }
+        None => false,
+    }
+}
+
+/// Waits until that many players have connected to the port. Their lines are in order of seats.
 fn accept_players<N: Network>(
     alloc: Global,
     network: &mut N,
     port: u16,
     players: usize,
+    hosting: Hosting,
 ) -> Result<Vec<StreamLine<N::Stream>>, Fault>
     ensures { IfOk result (λ lines. length lines.items ≡ players) }
 {
     let mut listener = network.listen(port)?;
-    accept_lines(alloc, network, &mut listener, players)
-}
-
-fn accept_lines<N: Network>(
-    alloc: Global,
-    network: &mut N,
-    listener: &mut N::Listener,
-    players: usize,
-) -> Result<Vec<StreamLine<N::Stream>>, Fault>
-    ensures { IfOk result (λ lines. length lines.items ≡ players) }
-{
-    let mut lines = Vec::with_capacity(alloc, players)?;
-    for _ in 0..players {
-        lines.push(StreamLine::new(network.accept(listener)?))?;
-    }
-    Ok(lines)
-}
-
-/// Connects that many players of this process to a listener of its own.
-fn connect_players<N: Network>(
-    alloc: Global,
-    network: &mut N,
-    players: usize,
-) -> Result<Vec<PlayedLine<N::Stream>>, Fault>
-    ensures { IfOk result (λ lines. length lines.items ≡ players) }
-{
-    let mut listener = network.listen(0)?;
-    connect_lines(alloc, network, &mut listener, players)
-}
-
-fn connect_lines<N: Network>(
-    alloc: Global,
-    network: &mut N,
-    listener: &mut N::Listener,
-    players: usize,
-) -> Result<Vec<PlayedLine<N::Stream>>, Fault>
-    ensures { IfOk result (λ lines. length lines.items ≡ players) }
-{
-    let port = network.port_of(listener)?;
-    let mut lines = Vec::with_capacity(alloc, players)?;
-    for _ in 0..players {
-        lines.push(connect_line(alloc, network, port, listener)?)?;
-    }
-    Ok(lines)
-}
-
-/// A line whose player is connected to the port, which is the listener's.
-fn connect_line<N: Network>(
-    alloc: Global,
-    network: &mut N,
-    port: u16,
-    listener: &mut N::Listener,
-) -> Result<PlayedLine<N::Stream>, Fault> {
-    let client = Client::new(alloc, network.connect(port)?);
-    let line = StreamLine::new(network.accept(listener)?);
-    Ok(PlayedLine::new(line, client))
+    hosting.tell(network, &News::Listening { port });
+    Ok(gather(alloc, network, &mut listener, players, hosting)?)
 }
 
 /// Referees a match over the lines, one for each seat, until it has ended. A clock begins with it.

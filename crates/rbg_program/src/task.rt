@@ -4,6 +4,7 @@ use crate::commands::rbg_command;
 use clap::ArgMatches;
 use rbg_console::{WordsError, match_words};
 use rbg_match::Config;
+use rbg_network::Hosting;
 use std::alloc::Global;
 
 /// The defaults of the options.
@@ -60,10 +61,12 @@ pub enum Task<'a> {
         file: &'a str,
         port: u16,
         service: Service,
+        hosting: Hosting,
     },
-    /// To play a seat of the match that is served at the port.
+    /// To play a seat of the match that is served at the port, or of this one of the matches there.
     Play {
         port: u16,
+        table: Option<u64>,
         rounds: u64,
     },
 }
@@ -105,9 +108,11 @@ impl<'a> Task<'a> {
                 file: text_of(words, "FILE"),
                 port: port_of(words),
                 service: service_of(words),
+                hosting: hosting_of(words),
             },
             "play" => Task::Play {
                 port: port_of(words),
+                table: words.get_one("match"),
                 rounds: rounds_of(words),
             },
             _ => Task::Referee {
@@ -129,6 +134,13 @@ fn port_of(words: &ArgMatches<'_>) -> u16 {
 
 fn rounds_of(words: &ArgMatches<'_>) -> u64 {
     words.get_one("rounds").unwrap_or(USUAL_ROUNDS)
+}
+
+fn hosting_of(words: &ArgMatches<'_>) -> Hosting {
+    Hosting {
+        wait: words.get_one("wait"),
+        quiet: words.get_flag("quiet"),
+    }
 }
 
 fn service_of(words: &ArgMatches<'_>) -> Service {

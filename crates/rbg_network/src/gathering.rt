@@ -1,0 +1,248 @@
+//! How the players of a match are waited for: each that connects gets the lowest free seat, and gives it back if its
+//! connection is closed before all have come.
+ghost use Rattle.std.specs.Prelude.{◌≡◌, length, IfOk};
+
+use crate::network::is_nothing_yet;
+use crate::{Client, Network, News, PlayedLine, StreamLine};
+use rbg_serving::Clock;
+use std::alloc::{AllocError, Global};
+use std::io::{self, ErrorKind, Read, Write};
+use thiserror::Error;
+
+/// Why a match doesn't begin.
+#[derive(Debug, Drop, Error)]
+pub enum GatherError {
+    /// No connection can be accepted, or the clock can't be read.
+    #[error("no connection can be accepted")]
+    Device(#[from] io::Error),
+    /// Not all have come in time.
+    #[error("not all have come in time")]
+    Absent,
+    #[error("out of memory")]
+    Memory(#[from(alloc)] AllocError),
+}
+
+/// How an organiser wants players to be waited for.
+#[derive(Clone, Copy, Debug)]
+pub struct Hosting {
+    /// In how many seconds all have to come, if there is a bound.
+    pub wait: Option<u64>,
+    /// Whether no news is told.
+    pub quiet: bool,
+}
+
+impl Hosting {
+    /// Tells news, unless none is wanted.
+    pub fn tell<N: Network>(self, network: &mut N, news: &News<'_>) {
+        if !self.quiet {
+            network.tell(news);
+        }
+    }
+}
+
+/// Waits until a player is there for each seat. Returns their lines, in order of seats.
+pub fn gather<N: Network>(
+    alloc: Global,
+    network: &mut N,
+    listener: &mut N::Listener,
+    seats: usize,
+    hosting: Hosting,
+) -> Result<Vec<StreamLine<N::Stream>>, GatherError>
+    ensures { IfOk result (λ lines. length lines.items ≡ seats) }
+{
+    let mut taken = free_seats(alloc, seats)?;
+    let mut clock = network.start_clock()?;
+    fill(
+        alloc,
+        network,
+        listener,
+        &mut clock,
+        taken.as_mut_slice(),
+        hosting,
+    )?;
+    lines_of(alloc, taken)
+}
+
+/// That many seats, of which none is taken.
+fn free_seats<S: Read + Write + Drop>(
+    alloc: Global,
+    seats: usize,
+) -> Result<Vec<Option<StreamLine<S>>>, AllocError>
+    ensures { IfOk result (λ free. length free.items ≡ seats) }
+{
+    let mut free = Vec::with_capacity(alloc, seats)?;
+    for _ in 0..seats {
+        free.push(None)?;
+    }
+    Ok(free)
+}
+
+/// Waits until each seat is taken by a connection that is open.
+fn fill<N: Network>(
+    alloc: Global,
+    network: &mut N,
+    listener: &mut N::Listener,
+    clock: &mut N::Clock,
+    seats: &mut [Option<StreamLine<N::Stream>>],
+    hosting: Hosting,
+) -> Result<(), GatherError> {
+    for _ in 0..u64::MAX {
+        if is_full(seats) {
+            free_closed(network, seats, hosting)?;
+            if is_full(seats) {
+                return Ok(());
+            }
+        }
+        if is_late(network, clock, hosting) {
+            return Err(GatherError::Absent);
+        }
+        match network.accept(listener) {
+            Ok(stream) => take_seat(network, StreamLine::new(alloc, stream), seats, hosting),
+            Err(error) if is_nothing_yet(&error) => free_closed(network, seats, hosting)?,
+            Err(error) => return Err(GatherError::Device(error)),
+        }
+    }
+    Err(GatherError::Absent)
+}
+
+/// Whether the time is over in which all have to come. Then this is told, whatever is wanted.
+fn is_late<N: Network>(network: &mut N, clock: &mut N::Clock, hosting: Hosting) -> bool {
+    let Some(seconds) = hosting.wait else {
+        return false;
+    };
+    let late = clock.now() / 1_000 >= seconds;
+    if late {
+        network.tell(&News::Absent { seconds });
+    }
+    late
+}
+
+fn is_full<S: Read + Write + Drop>(seats: &[Option<StreamLine<S>>]) -> bool {
+    for seat in seats {
+        if seat.is_none() {
+            return false;
+        }
+    }
+    true
+}
+
+/// Gives a line the lowest free seat. Where none is free, its connection is closed.
+fn take_seat<N: Network>(
+    network: &mut N,
+    line: StreamLine<N::Stream>,
+    seats: &mut [Option<StreamLine<N::Stream>>],
+    hosting: Hosting,
+) {
+    for index in 0..seats.len() {
+        if seats[index].is_none() {
+            seats[index] = Some(line);
+            hosting.tell(network, &News::Connected { seat: index + 1 });
+            return;
+        }
+    }
+}
+
+/// Frees each seat whose connection is closed.
+fn free_closed<N: Network>(
+    network: &mut N,
+    seats: &mut [Option<StreamLine<N::Stream>>],
+    hosting: Hosting,
+) -> Result<(), AllocError> {
+    for index in 0..seats.len() {
+        if is_closed(&mut seats[index])? {
+            seats[index] = None;
+            hosting.tell(network, &News::Left { seat: index + 1 });
+        }
+    }
+    Ok(())
+}
+
+/// Whether a seat is taken by a connection that is closed.
+fn is_closed<S: Read + Write + Drop>(seat: &mut Option<StreamLine<S>>) -> Result<bool, AllocError> {
+    match seat {
+        Some(line) => line.is_closed(),
+        None => Ok(false),
+    }
+}
+
+/// The lines of the seats, all of which are taken.
+fn lines_of<S: Read + Write + Drop>(
+    alloc: Global,
+    seats: Vec<Option<StreamLine<S>>>,
+) -> Result<Vec<StreamLine<S>>, GatherError>
+    ensures { IfOk result (λ lines. length lines.items ≡ length seats.items) }
+{
+    let mut lines = Vec::with_capacity(alloc, seats.len())?;
+    for seat in seats {
+        match seat {
+            Some(line) => lines.push(line)?,
+            None => return Err(GatherError::Absent),
+        }
+    }
+    Ok(lines)
+}
+
+/// Lines to that many players of this process, each connected to a listener of its own.
+pub fn connect_players<N: Network>(
+    alloc: Global,
+    network: &mut N,
+    players: usize,
+) -> Result<Vec<PlayedLine<N::Stream>>, GatherError>
+    ensures { IfOk result (λ lines. length lines.items ≡ players) }
+{
+    let mut listener = network.listen(0)?;
+    connect_lines(alloc, network, &mut listener, players)
+}
+
+fn connect_lines<N: Network>(
+    alloc: Global,
+    network: &mut N,
+    listener: &mut N::Listener,
+    players: usize,
+) -> Result<Vec<PlayedLine<N::Stream>>, GatherError>
+    ensures { IfOk result (λ lines. length lines.items ≡ players) }
+{
+    let port = network.port_of(listener)?;
+    let mut lines = Vec::with_capacity(alloc, players)?;
+    for _ in 0..players {
+        lines.push(connect_line(alloc, network, port, listener)?)?;
+    }
+    Ok(lines)
+}
+
+/// A line whose player is connected to the port, which is the listener's.
+fn connect_line<N: Network>(
+    alloc: Global,
+    network: &mut N,
+    port: u16,
+    listener: &mut N::Listener,
+) -> io::Result<PlayedLine<N::Stream>> {
+    let client = Client::new(alloc, network.connect(port)?);
+    let line = StreamLine::new(alloc, accept_made(network, listener)?);
+    Ok(PlayedLine::new(line, client))
+}
+
+/// How often a connection that was made is looked for.
+const TRIES: usize = 1_000;
+
+/// A connection that was made to the listener.
+fn accept_made<N: Network>(network: &mut N, listener: &mut N::Listener) -> io::Result<N::Stream> {
+    for _ in 0..TRIES {
+        match network.accept(listener) {
+            Ok(stream) => return Ok(stream),
+            Err(error) if is_nothing_yet(&error) => {}
+            Err(error) => return Err(error),
+        }
+    }
+    Err(io::Error::from(ErrorKind::TimedOut))
+}
+
+/// Tells which of the players of this process gave up, and why.
+pub fn tell_who_gave_up<N: Network>(network: &mut N, lines: &[PlayedLine<N::Stream>]) {
+    for (index, line) in lines.iter().enumerate() {
+        if let Some(error) = line.fault() {
+            let seat = index + 1;
+            network.tell(&News::GaveUp { seat, error });
+        }
+    }
+}
