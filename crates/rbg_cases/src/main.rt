@@ -29,7 +29,7 @@ mod network;
 
 use crate::cases::{Case, CasesError, Program, Text, read_cases};
 use crate::network::MemoryNetwork;
-use rbg_console::{Files, Input, MAX_INPUT, Status, read_input};
+use rbg_console::{Files, Input, MAX_INPUT, Status, read_bytes, read_input};
 use std::alloc::{AllocError, Global};
 use std::io::{self, Write};
 use std::process::ExitCode;
@@ -43,7 +43,7 @@ struct CaseFiles<'a> {
 impl Files for CaseFiles<'_> {
     fn read_file(&mut self, alloc: Global, name: &str, limit: usize) -> Result<Input, AllocError> {
         match self.files.iter().find(|file| file.name == name.as_bytes()) {
-            Some(file) => read_input(alloc, &mut file.bytes.as_slice(), limit),
+            Some(file) => read_bytes(alloc, file.bytes.as_slice(), limit),
             None => Ok(Input::Device),
         }
     }

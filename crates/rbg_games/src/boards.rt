@@ -1,5 +1,8 @@
 //! Games that begin on another board. A file with the ending `.board` has the section of a board, and no other.
 
+ghost use Rattle.std.specs.Prelude.{IfOk, None};
+ghost use Rattle.rbg_console.specs.Files.{IsFileReading};
+
 use rbg_console::{Files, Input, SystemFiles};
 use std::alloc::{AllocError, Global};
 
@@ -24,7 +27,9 @@ impl<'a> GameFiles<'a> {
         game: &str,
         board: &str,
         limit: usize,
-    ) -> Result<Input, AllocError> {
+    ) -> Result<Input, AllocError>
+        ensures { IfOk result (IsFileReading limit None) }
+    {
         let game = format!(in alloc; "{game}.rbg")?;
         let Input::Whole(description) = self.files.read_file(alloc, game.as_str(), limit)? else {
             return Ok(Input::Device);
@@ -33,6 +38,9 @@ impl<'a> GameFiles<'a> {
             return Ok(Input::Device);
         };
         let text = with_board(alloc, description.as_slice(), board.as_slice())?;
+        if text.len() > limit {
+            return Ok(Input::TooLong);
+        }
         Ok(Input::Whole(text))
     }
 }

@@ -6,8 +6,6 @@ use rbg_game::LoadError;
 use rbg_match::MatchError;
 use rbg_network::{ClientError, GatherError};
 use rbg_player::PlayerError;
-use rbg_record::RecordError;
-use rbg_refereeing::RefereeingError;
 use rbg_serving::ServeError;
 use std::alloc::AllocError;
 use std::io::{self, Write};
@@ -19,18 +17,9 @@ pub enum Fault {
     /// The description is refused.
     #[error("refused {0}")]
     Refused(Refusal),
-    /// The line of the script that is not of its form; 0 where there is no script, or too long an input.
-    #[error("script {0}")]
-    Script(usize),
-    /// The first line of the record that is of the form but not right.
-    #[error("bad {0}")]
-    BadRecord(usize),
-    /// The first line of the record that is missing or not of the form; 0 where the record is too long.
-    #[error("form {0}")]
-    RecordForm(usize),
-    /// The first line of the record about which a question is above the limits.
-    #[error("over {0}")]
-    RecordOver(usize),
+    /// The config of the match is outside its limits. The words of no command give such a one.
+    #[error("script 1")]
+    Config,
     /// A file or standard input can't be read, or a connection can't be made, read or written.
     #[error("device")]
     Device,
@@ -58,10 +47,7 @@ impl Fault {
     fn status(&self) -> Status {
         match self {
             Fault::Refused(_) => Status::Refused,
-            Fault::Script(_) => Status::BadInput,
-            Fault::BadRecord(_) => Status::BadInput,
-            Fault::RecordForm(_) => Status::BadInput,
-            Fault::RecordOver(_) => Status::BadInput,
+            Fault::Config => Status::BadInput,
             Fault::Device => Status::Device,
             Fault::Rounds => Status::Device,
             Fault::Absent => Status::Device,
@@ -86,28 +72,8 @@ impl From<LoadError> for Fault {
 impl From<MatchError> for Fault {
     fn from(error: MatchError) -> Fault {
         match error {
-            MatchError::Config => Fault::Script(1),
+            MatchError::Config => Fault::Config,
             MatchError::Memory => Fault::Memory(AllocError),
-        }
-    }
-}
-
-impl From<RefereeingError> for Fault {
-    fn from(error: RefereeingError) -> Fault {
-        match error {
-            RefereeingError::Load(error) => Fault::from(error),
-            RefereeingError::Script(line) => Fault::Script(line),
-            RefereeingError::Memory => Fault::Memory(AllocError),
-        }
-    }
-}
-
-impl From<RecordError> for Fault {
-    fn from(error: RecordError) -> Fault {
-        match error {
-            RecordError::Form { line } => Fault::RecordForm(line),
-            RecordError::Over { line } => Fault::RecordOver(line),
-            RecordError::Memory => Fault::Memory(AllocError),
         }
     }
 }

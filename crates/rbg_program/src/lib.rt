@@ -10,10 +10,9 @@ mod moves;
 mod player_refusal;
 mod printed;
 mod program;
-mod records;
-mod refereeing;
 mod serving;
 mod task;
+mod words;
 
 pub use fault::{Fault, report};
 pub use program::run;

@@ -1,22 +1,22 @@
 //! What the program does with its words, its files, its connections and its input: the lines that it prints, or the
 //! fault.
 ghost use Rattle.std.specs.Prelude.{◌↔◌, IsTrue, map, string_bytes};
-ghost use Rattle.rbg_program.specs.Words.{AsksForInput};
+ghost use Rattle.rbg_answering.specs.Runs.{IsTaskRun};
+ghost use Rattle.rbg_answering.specs.Tasks.{NamedTask};
+ghost use Rattle.rbg_program.specs.Words.{AsksForFiles, AsksForInput};
 ghost use Rattle.rbg_refereeing.specs.Runs.{IsRun};
 
 use crate::ask::ask_file;
 use crate::fault::{Fault, report};
-use crate::inputs::read_description;
 use crate::moves::list_file;
-use crate::records::{migrate_files, replay_files};
-use crate::refereeing::{referee_file, referee_input};
 use crate::serving::{demo_file, play, serve_file};
 use crate::task::Task;
-use rbg_console::{Files, Status, count_line};
-use rbg_game::{Game, load};
+use crate::words::files_of;
+use rbg_answering::run_task;
+use rbg_console::{Files, Status};
 use rbg_network::Network;
 use rbg_refereeing::run_referee;
-use std::alloc::{AllocError, Global};
+use std::alloc::Global;
 use std::io::{Read, Write};
 
 /// Runs the program: reads what its words ask for, writes the lines, and returns the status.
@@ -28,15 +28,19 @@ pub fn run<F: Files, N: Network, R: Read, W: Write>(
     input: &mut R,
     output: &mut W,
 ) -> Status
-    ensures { AsksForInput (map string_bytes words.now) →
+    ensures input { AsksForInput (map string_bytes words.now) →
         IsRun (R.remaining input.old) (R.remaining input.new)
+        (W.contents output.old) (W.contents output.new) result }
+    ensures files { (task : NamedTask) → AsksForFiles (map string_bytes words.now) task →
+        IsTaskRun (F.told files.old) (R.remaining input.old) (R.remaining input.new) task
         (W.contents output.old) (W.contents output.new) result }
 {
     if asks_for_input(words) {
-        run_referee(alloc, input, output)
-    } else {
-        let outcome = obey(alloc, words, files, network, input, output);
-        report(output, &outcome)
+        return run_referee(alloc, input, output);
+    }
+    match files_of(words) {
+        Some(task) => run_task(alloc, task, files, input, output),
+        None => run_command(alloc, words, files, network, input, output),
     }
 }
 
@@ -52,22 +56,34 @@ fn asks_for_input(words: &[String]) -> bool
     }
 }
 
-fn obey<F: Files, N: Network, R: Read, W: Write>(
+/// Runs what the command line asks for.
+fn run_command<F: Files, N: Network, R: Read, W: Write>(
     alloc: Global,
     words: &[String],
     files: &mut F,
     network: &mut N,
     input: &mut R,
     output: &mut W,
-) -> Result<Vec<u8>, Fault> {
-    match Task::read(alloc, words)? {
-        Task::Check { file } => check_file(alloc, files, file),
+) -> Status {
+    match Task::read(alloc, words) {
+        Ok(task) => obey(alloc, task, files, network, input, output),
+        Err(error) => report(output, &Err(Fault::from(error))),
+    }
+}
+
+fn obey<F: Files, N: Network, R: Read, W: Write>(
+    alloc: Global,
+    task: Task<'_>,
+    files: &mut F,
+    network: &mut N,
+    input: &mut R,
+    output: &mut W,
+) -> Status {
+    let outcome = match task {
+        Task::Referee => return run_referee(alloc, input, output),
+        Task::Files(task) => return run_task(alloc, task, files, input, output),
         Task::Moves { file } => list_file(alloc, files, file),
         Task::Ask { file } => ask_file(alloc, files, file, input, output),
-        Task::Referee { file: Some(file) } => referee_file(alloc, files, file, input),
-        Task::Referee { file: None } => referee_input(alloc, input),
-        Task::Replay { file, record } => replay_files(alloc, files, file, record),
-        Task::Migrate { file, record } => migrate_files(alloc, files, file, record),
         Task::Demo { file, service } => demo_file(alloc, files, file, network, service),
         Task::Serve {
             file,
@@ -80,23 +96,6 @@ fn obey<F: Files, N: Network, R: Read, W: Write>(
             table,
             rounds,
         } => play(alloc, network, port, table, rounds),
-    }
-}
-
-/// The counts of the game that the file describes.
-fn check_file<F: Files>(alloc: Global, files: &mut F, file: &str) -> Result<Vec<u8>, Fault> {
-    let text = read_description(alloc, files, file)?;
-    check_text(alloc, text.as_slice())
-}
-
-fn check_text(alloc: Global, text: &[u8]) -> Result<Vec<u8>, Fault> {
-    let game = load(alloc, text)?;
-    Ok(counts(alloc, &game)?)
-}
-
-/// The counts of a game, in a line.
-fn counts(alloc: Global, game: &Game) -> Result<Vec<u8>, AllocError> {
-    let mut line = count_line(alloc, game)?;
-    line.push('\n')?;
-    Ok(line.into_bytes())
+    };
+    report(output, &outcome)
 }

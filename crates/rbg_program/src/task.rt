@@ -2,6 +2,7 @@
 
 use crate::commands::rbg_command;
 use clap::ArgMatches;
+use rbg_answering::FileTask;
 use rbg_console::{WordsError, match_words};
 use rbg_match::Config;
 use rbg_network::Hosting;
@@ -25,10 +26,8 @@ pub struct Service {
 /// What the program is asked to do.
 #[derive(Clone, Copy, Debug)]
 pub enum Task<'a> {
-    /// To print the counts of the game that the file describes.
-    Check {
-        file: &'a str,
-    },
+    /// A command on files: `check`, `referee` with a file, `replay` or `migrate`.
+    Files(FileTask<'a>),
     /// To print the moves of the opening, and the legal moves behind it.
     Moves {
         file: &'a str,
@@ -37,20 +36,8 @@ pub enum Task<'a> {
     Ask {
         file: &'a str,
     },
-    /// To referee a match. The description is in the file or, without one, before the script on standard input.
-    Referee {
-        file: Option<&'a str>,
-    },
-    /// To check a record.
-    Replay {
-        file: &'a str,
-        record: &'a str,
-    },
-    /// To print a record of version 1 as one of version 2.
-    Migrate {
-        file: &'a str,
-        record: &'a str,
-    },
+    /// To referee a match, whose description stands before the script on standard input.
+    Referee,
     /// To referee a match between players of this process.
     Demo {
         file: &'a str,
@@ -80,26 +67,26 @@ impl<'a> Task<'a> {
 
     fn of(matches: &ArgMatches<'a>) -> Task<'a> {
         let Some((command, words)) = matches.subcommand() else {
-            return Task::Referee { file: None };
+            return Task::Referee;
         };
         match command {
-            "check" => Task::Check {
+            "check" => Task::Files(FileTask::Check {
                 file: text_of(words, "FILE"),
-            },
+            }),
             "moves" => Task::Moves {
                 file: text_of(words, "FILE"),
             },
             "ask" => Task::Ask {
                 file: text_of(words, "FILE"),
             },
-            "replay" => Task::Replay {
+            "replay" => Task::Files(FileTask::Replay {
                 file: text_of(words, "FILE"),
                 record: text_of(words, "RECORD"),
-            },
-            "migrate" => Task::Migrate {
+            }),
+            "migrate" => Task::Files(FileTask::Migrate {
                 file: text_of(words, "FILE"),
                 record: text_of(words, "RECORD"),
-            },
+            }),
             "demo" => Task::Demo {
                 file: text_of(words, "FILE"),
                 service: service_of(words),
@@ -115,8 +102,9 @@ impl<'a> Task<'a> {
                 table: words.get_one("match"),
                 rounds: rounds_of(words),
             },
-            _ => Task::Referee {
-                file: words.get_str("FILE"),
+            _ => match words.get_str("FILE") {
+                Some(file) => Task::Files(FileTask::Referee { file }),
+                None => Task::Referee,
             },
         }
     }

@@ -2,7 +2,7 @@
 
 use crate::games::GAME;
 use crate::stop::Stop;
-use rbg_console::{Files, Input, read_input};
+use rbg_console::{Files, Input, read_bytes};
 use rbg_game::{LoadError, load_with_layout};
 use rbg_program::{SystemNetwork, run};
 use rbg_show::{Shown, show};
@@ -32,12 +32,12 @@ struct GameFiles;
 
 impl Files for GameFiles {
     fn read_file(&mut self, alloc: Global, name: &str, limit: usize) -> Result<Input, AllocError> {
-        let mut text = match name {
+        let text = match name {
             "game" => GAME,
             "record" => RECORD,
             _ => return Ok(Input::Device),
         };
-        read_input(alloc, &mut text, limit)
+        read_bytes(alloc, text, limit)
     }
 }
 
