@@ -5,10 +5,12 @@ use Rattle.rbg_rules.specs.State.{AbstractGame}
 use Rattle.rbg_rules.specs.Moves.{AbstractPlace}
 use Rattle.rbg_rules.specs.Codes.{coded_game}
 
--- A game, and the place that play has reached in it.
+-- A game, the place that play has reached in it, and how many moves the keeper has made in a row, which are not counted
+-- above 1,000.
 pub record Playing : Type 0 where
   pub game : AbstractGame
   pub place : AbstractPlace
+  pub in_a_row : ℕ
 
 abbrev pub coded_place : Coded AbstractPlace
 coded_place =
@@ -23,8 +25,8 @@ coded_place =
 
 abbrev pub coded_playing : Coded Playing
 coded_playing =
-    code_by (AbstractGame × AbstractPlace)
-    (coded× coded_game coded_place)
-    (λ p. (p.game, p.place))
-    (λ t. record { game = t.0; place = t.1 })
+    code_by (AbstractGame × (AbstractPlace × ℕ))
+    (coded× coded_game (coded× coded_place coded_ℕ))
+    (λ p. (p.game, (p.place, p.in_a_row)))
+    (λ t. record { game = t.0; place = t.1.0; in_a_row = t.1.1 })
     (λ _. refl)

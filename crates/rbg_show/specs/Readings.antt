@@ -1,10 +1,11 @@
 -- The moves that a line may mean.
-use Rattle.std.specs.Prelude.{◌≡◌, ℕ, ◌<◌, ◌≤◌, ◌^◌, List, ◌∷◌, ◌++◌, length, Option, Some, None, codes, decimal}
+use Rattle.std.specs.Prelude.{◌≡◌, ℕ, ◌<◌, ◌≤◌, ◌^◌, List, [], ◌∷◌, ◌++◌, length, Option, Some, None, codes, decimal}
 use Rattle.rbg_base.specs.Move.{most_pairs}
 use Rattle.rbg_wire.specs.Reading.{SpellsPairs}
 use Rattle.rbg_lines.specs.declared.heading.Version.{Version}
 use Rattle.rbg_lines.specs.declared.heading.Version.TheVariants.{One, Two}
 use Rattle.rbg_show.specs.declared.reading.Lead.{Lead}
+use Rattle.rbg_show.specs.declared.reading.Reading.{Reading}
 use Rattle.rbg_show.specs.declared.reading.Lead.TheVariants.{Nothing, Player, MomentAndPlayer}
 
 -- what stands before the pairs of a move in a record of this version
@@ -40,3 +41,28 @@ MayMean Nothing text player pairs = (player ≡ None) × IsMoveText text pairs
 MayMean Player text player pairs = IsPlayersMove text player pairs
 MayMean MomentAndPlayer text player pairs =
     (at : ℕ) × (rest : List ℕ) × BeginsWithNumber text at rest × IsPlayersMove rest player pairs
+
+-- the move that the text means where so much stands before the pairs, if it is one
+pub data Means (text : List ℕ) (lead : Lead) : List Reading → Type 0 where
+  one : (reading : Reading) → MayMean lead text reading.player reading.pairs → Means text lead (reading ∷ [])
+  none : ((player : Option ℕ) (pairs : List (ℕ × ℕ)) → ¬ MayMean lead text player pairs) → Means text lead []
+
+-- The moves that a text may mean, in the order in which they are tried. Where nobody has told what stands before the
+-- pairs, it may be any of the three.
+pub data AreReadings (text : List ℕ) : Option Lead → List Reading → Type 0 where
+  told : (lead : Lead) (readings : List Reading) → Means text lead readings → AreReadings text (Some lead) readings
+  untold :
+      (alone by_player at_moment : List Reading) →
+      Means text Nothing alone →
+      Means text Player by_player →
+      Means text MomentAndPlayer at_moment →
+      AreReadings text None (alone ++ by_player ++ at_moment)
+
+-- the move that a seat's message means, if it is one
+pub data IsSaid (seat : ℕ) (text : List ℕ) : List Reading → Type 0 where
+  one :
+      (reading : Reading) →
+      reading.player ≡ Some seat →
+      IsMoveText text reading.pairs →
+      IsSaid seat text (reading ∷ [])
+  none : ((pairs : List (ℕ × ℕ)) → ¬ IsMoveText text pairs) → IsSaid seat text []

@@ -1,14 +1,86 @@
-//! How the end of a match is told.
-ghost use Rattle.std.specs.Prelude.{◌++◌, codes};
+//! How the end of a list is told: how the match ended, who is to move, or why it stops.
+ghost use Rattle.std.specs.Prelude.{◌++◌, ◌≢◌, None, OnOk, codes};
 ghost use Rattle.rbg_wire.specs.Writing.{Appends};
-ghost use Rattle.rbg_show.specs.Endings.{ending_text, ending_words, who_text};
+ghost use Rattle.rbg_show.specs.declared.stop.Stop.TheVariants.{Memory as NoMemory};
+ghost use Rattle.rbg_show.specs.Endings.{ended_text, ending_text, ending_words, mover_text, reason_text, stopped_text, who_text};
 
+use crate::play::Play;
+use crate::stop::Stop;
 use rbg_base::{Memory, Player};
 use rbg_rules::Game;
 use rbg_wire::{Outcome, write_number};
 
+/// Appends how the match ended, or who is to move if there is a move.
+#[tactic(auto, unfolding(crate::specs::Endings::ended_text))]
+pub(crate) fn put_end(
+    play: &Play<'_>,
+    outcome: Option<Outcome>,
+    goes_on: bool,
+    out: &mut Vec<u8>,
+) -> Result<(), Memory>
+    ensures { Appends out.old.items out.new.items (ended_text play.now outcome goes_on) result }
+{
+    match outcome {
+        Some(outcome) => write_outcome(play.game(), &outcome, out),
+        None => put_going(play, goes_on, out),
+    }
+}
+
+#[tactic(auto, unfolding(crate::specs::Endings::ended_text))]
+fn put_going(play: &Play<'_>, goes_on: bool, out: &mut Vec<u8>) -> Result<(), Memory>
+    ensures { Appends out.old.items out.new.items (ended_text play.now None goes_on) result }
+{
+    if goes_on {
+        put_mover(b"", play, b" is to move\n", out)
+    } else {
+        out.extend_from_slice(b"play is finished\n")
+    }
+}
+
+/// Appends who is to move, with words before and behind it.
+fn put_mover(before: &[u8], play: &Play<'_>, behind: &[u8], out: &mut Vec<u8>) -> Result<(), Memory>
+    ensures { Appends out.old.items out.new.items
+        (before.now ++ mover_text play.now ++ behind.now) result }
+{
+    out.extend_from_slice(before)?;
+    out.extend_from_slice(play.mover().as_bytes())?;
+    out.extend_from_slice(behind)
+}
+
+/// Appends the number of the line at which a list stops, and why. Where memory has run out, it does again.
+pub(crate) fn put_stop(
+    play: &Play<'_>,
+    number: usize,
+    stop: Stop,
+    out: &mut Vec<u8>,
+) -> Result<(), Memory>
+    ensures told { Appends out.old.items out.new.items (stopped_text play.now number stop) result }
+    ensures known { OnOk result (stop ≢ NoMemory) }
+{
+    out.extend_from_slice(b"line ")?;
+    write_number(number as u64, out)?;
+    put_reason(play, stop, out)?;
+    Ok(())
+}
+
+#[tactic(auto, unfolding(crate::specs::Endings::reason_text))]
+fn put_reason(play: &Play<'_>, stop: Stop, out: &mut Vec<u8>) -> Result<(), Memory>
+    ensures told { Appends out.old.items out.new.items (reason_text play.now stop) result }
+    ensures known { OnOk result (stop ≢ NoMemory) }
+{
+    match stop {
+        Stop::NotLegal => put_mover(b": no legal move of ", play, b"\n", out),
+        Stop::NoMove => out.extend_from_slice(b" isn't a move\n"),
+        Stop::Mark => out.extend_from_slice(b" begins with a byte order mark\n"),
+        Stop::BehindEnd => out.extend_from_slice(b" stands behind the end of the record\n"),
+        Stop::Heavy => out.extend_from_slice(b": a question is above the limits\n"),
+        Stop::Keeper => out.extend_from_slice(b": the keeper made 1,000 moves in a row\n"),
+        Stop::Memory => Err(Memory),
+    }
+}
+
 /// Appends the line that tells how a match ended.
-pub(crate) fn write_outcome(game: &Game, outcome: &Outcome, out: &mut Vec<u8>) -> Result<(), Memory>
+fn write_outcome(game: &Game, outcome: &Outcome, out: &mut Vec<u8>) -> Result<(), Memory>
     ensures { Appends out.old.items out.new.items
         (ending_text game.now.players outcome.now) result }
 {
@@ -51,7 +123,7 @@ fn put_around(
 
 /// Appends the name of a player, or its number where the game has no such player.
 #[tactic(auto, unfolding(crate::specs::Endings::who_text))]
-fn put_who(game: &Game, player: u64, out: &mut Vec<u8>) -> Result<(), Memory>
+pub(crate) fn put_who(game: &Game, player: u64, out: &mut Vec<u8>) -> Result<(), Memory>
     ensures { Appends out.old.items out.new.items (who_text game.now.players player) result }
 {
     if 0 < player && player <= game.players() as u64 {

@@ -6,6 +6,8 @@ mod ending;
 mod line;
 mod play;
 mod reading;
+mod scene;
+mod sheet;
 mod showing;
 mod signs;
 mod stop;

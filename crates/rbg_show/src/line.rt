@@ -2,17 +2,20 @@
 ghost use Rattle.std.specs.Prelude.{◌≡◌, ◌↔◌, ℕ, List, [], ◌∷◌, ◌++◌, IfOk, IfSome, IfNone, IsTrue, codes};
 ghost use Rattle.rbg_script.specs.declared.config.ScriptConfig.{ScriptConfig as AnyConfig};
 ghost use Rattle.rbg_script.specs.Config.{SpellsConfig};
-ghost use Rattle.rbg_script.specs.Events.{AbstractEvent, SpellsEvent};
+ghost use Rattle.rbg_script.specs.Events.{event_of};
 ghost use Rattle.rbg_lines.specs.declared.entry.Entry.TheVariants.{End as EndEntry};
 ghost use Rattle.rbg_lines.specs.declared.heading.Start.{Start as AnyStart};
 ghost use Rattle.rbg_lines.specs.Entries.{SpellsEntry, SpellsTimed};
 ghost use Rattle.rbg_lines.specs.Heading.{SpellsPlayers, SpellsStart};
 ghost use Rattle.rbg_show.specs.declared.line.RecordEnd.{RecordEnd as AnyEnd};
-ghost use Rattle.rbg_show.specs.Lines.{IsEnd, IsLine, IsSilent};
+ghost use Rattle.rbg_show.specs.declared.line.ListLine.TheVariants.{Silent};
+ghost use Rattle.rbg_show.specs.Lines.{IsEnd, IsLine, IsPassedOver};
+ghost use Rattle.rbg_show.specs.Following.{IsBare};
+ghost use Rattle.rbg_show.specs.internal.Holding.{HoldsEvent};
 
 use rbg_base::Memory;
 use rbg_lines::{Entry, Version, read_entry, read_players, read_start, read_timed, read_version};
-use rbg_script::{read_config, read_event, read_message};
+use rbg_script::{ScriptEvent, read_config, read_event, read_message};
 use rbg_wire::{Outcome, after_text};
 use std::alloc::Global;
 
@@ -24,7 +27,7 @@ pub(crate) struct RecordEnd {
 }
 
 /// What a line holds.
-#[derive(Clone, Copy)]
+#[derive(Drop)]
 pub(crate) enum ListLine<'a> {
     /// Nothing of moves: an empty line, a comment, the names or the start of a record, another event of a script.
     Silent,
@@ -32,8 +35,10 @@ pub(crate) enum ListLine<'a> {
     Head { version: Version },
     /// The last line of a record.
     End { end: RecordEnd },
-    /// A message of a seat, which may be no move.
+    /// A message of a seat, which may be no move, in an `m` line.
     Said { seat: u64, text: &'a [u8] },
+    /// A message of a seat in a `p` line.
+    Sent { seat: u64, text: Vec<u8> },
     /// Any other line: a move, or none.
     Other { text: &'a [u8] },
 }
@@ -43,35 +48,51 @@ impl<'a> ListLine<'a> {
     pub(crate) fn read(alloc: Global, line: &'a [u8]) -> Result<ListLine<'a>, Memory>
         ensures { IfOk result (IsLine line.now) }
     {
-        if let Some(version) = read_version(line) {
-            return Ok(ListLine::Head { version });
-        }
         if let Some(message) = read_message(line) {
             return Ok(ListLine::Said {
                 seat: message.seat,
                 text: message.text,
             });
         }
+        if let Some(event) = read_event(alloc, line)? {
+            return Ok(ListLine::of_event(event));
+        }
+        if is_silent(line) {
+            return Ok(ListLine::Silent);
+        }
+        if let Some(version) = read_version(line) {
+            return Ok(ListLine::Head { version });
+        }
         if let Some(end) = record_end(line) {
             return Ok(ListLine::End { end });
-        }
-        if is_silent(alloc, line)? {
-            return Ok(ListLine::Silent);
         }
         Ok(ListLine::Other { text: line })
     }
 
+    /// What an event of a script holds.
+    fn of_event(event: ScriptEvent) -> ListLine<'a>
+        ensures { HoldsEvent (event_of event) result }
+    {
+        let ScriptEvent::Piece { seat, bytes, .. } = event else {
+            return ListLine::Silent;
+        };
+        match without_zero(bytes) {
+            Some(text) => ListLine::Sent { seat, text },
+            None => ListLine::Silent,
+        }
+    }
+
     /// Whether the line tells nothing of moves.
-    pub(crate) fn is_silent(&self) -> bool {
+    pub(crate) fn is_silent(&self) -> bool
+        ensures { IsTrue result ↔ (self.now ≡ Silent) }
+    {
         matches!(self, ListLine::Silent)
     }
 }
 
 /// A line without the carriage return that may end it.
 pub(crate) fn without_return(line: &[u8]) -> &[u8]
-    ensures cut { (text : List ℕ) → line.now ≡ text ++ 13 ∷ [] → result.now ≡ text }
-    ensures whole { ((text : List ℕ) → line.now ≡ text ++ 13 ∷ [] → ⊥)
-        → result.now ≡ line.now }
+    ensures { IsBare line.now result.now }
 {
     match line.split_last() {
         Some((b'\r', text)) => text,
@@ -121,26 +142,35 @@ fn end_of(entry: &Entry) -> Option<RecordEnd>
     }
 }
 
-/// Whether a line tells nothing of moves. A message of a script is an event of it too.
-fn is_silent(alloc: Global, line: &[u8]) -> Result<bool, Memory>
-    ensures { IfOk result (λ silent. IsTrue silent ↔ IsSilent line.now) }
+/// The bytes of a message, from those that a seat has sent if a zero byte ends them.
+fn without_zero(bytes: Vec<u8>) -> Option<Vec<u8>>
+    ensures found { IfSome result (λ text. bytes.items ≡ text.items ++ 0 ∷ []) }
+    ensures none { IfNone result ((text : List ℕ) → bytes.items ≡ text ++ 0 ∷ [] → ⊥) }
+{
+    let mut text = bytes;
+    match text.pop() {
+        Some(0) => Some(text),
+        _ => None,
+    }
+}
+
+/// Whether a line that is no event of a script tells nothing of moves.
+fn is_silent(line: &[u8]) -> bool
+    ensures { IsTrue result ↔ IsPassedOver line.now }
 {
     if line.is_empty() {
-        return Ok(true);
+        return true;
     }
     if is_comment(line) {
-        return Ok(true);
+        return true;
     }
     if has_players(line) {
-        return Ok(true);
+        return true;
     }
     if has_start(line) {
-        return Ok(true);
+        return true;
     }
-    if has_config(line) {
-        return Ok(true);
-    }
-    has_event(alloc, line)
+    has_config(line)
 }
 
 /// Whether a line is a comment, as descriptions have them.
@@ -166,11 +196,4 @@ fn has_config(line: &[u8]) -> bool
     ensures { IsTrue result ↔ ((config : AnyConfig) × SpellsConfig line.now config) }
 {
     read_config(line).is_some()
-}
-
-fn has_event(alloc: Global, line: &[u8]) -> Result<bool, Memory>
-    ensures { IfOk result (λ has.
-        IsTrue has ↔ ((event : AbstractEvent) × SpellsEvent line.now event)) }
-{
-    Ok(read_event(alloc, line)?.is_some())
 }

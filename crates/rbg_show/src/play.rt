@@ -1,22 +1,30 @@
 //! A game that is played move by move.
-ghost use Rattle.std.specs.Prelude.{◌≡◌, None, IfOk, IfSome, IfNone, IsTrue, OnOk};
+ghost use Rattle.std.specs.Prelude.{◌≡◌, ◌⊎◌, ◌<◌, Err, None, IfOk, IfSome, IfNone, IsTrue, OnOk, OnErr};
+ghost use Rattle.rbg_rules.specs.Heavy.{IsHeavyToFind, IsHeavyToTry};
 ghost use Rattle.rbg_rules.specs.State.{start_of};
 ghost use Rattle.rbg_rules.specs.Moves.{AbstractPlace, Legal, IsLegal, Finished};
+ghost use Rattle.rbg_moves.specs.Limits.{most_keeper_moves};
+ghost use Rattle.rbg_show.specs.Endings.{mover_text};
+ghost use Rattle.rbg_show.specs.Moving.{Moves, moved_to};
+ghost use Rattle.rbg_rules.specs.Places.{IsPlaceOf};
 
 use rbg_auto::{Compact, Steps, compact};
 use rbg_base::{Memory, Piece, Player, Variable, Vertex};
 use rbg_game::Game;
-use rbg_moves::{Move, Over, Place, find_move, make_move, try_move};
+use rbg_moves::{MAX_KEEPER_MOVES, Move, Over, Place, find_move, make_move, try_move};
 use std::alloc::Global;
 use std::marker::Model;
 
-/// A game that is played move by move, and the place that is reached. Contracts see both.
+/// A game that is played move by move, and the place that is reached. Contracts see both, and how many moves the keeper
+/// has made in a row.
 #[derive(Drop)]
 pub(crate) struct Play<'a> {
     alloc: Global,
     game: &'a Game,
     steps: Compact,
     place: Place,
+    /// How many moves of the keeper were made in a row, at most `MAX_KEEPER_MOVES`.
+    in_a_row: u32,
 }
 
 impl<'a> Model for Play<'a> {
@@ -26,13 +34,14 @@ impl<'a> Model for Play<'a> {
 
     ghost coded = { coded_playing };
 
-    ghost view = { λ p. record { game = p.game.now; place = p.place } };
+    ghost view = { λ p. record { game = p.game.now; place = p.place; in_a_row = p.in_a_row } };
 
+    ghost use Rattle.std.specs.Prelude.{◌≤◌};
     ghost use Rattle.rbg_rules.specs.Places.{IsPlaceOf};
     ghost use Rattle.rbg_rules.specs.Games.{IsGame};
 
     ghost invariant = { λ p. IsGame p.game.now × IsPlaceOf p.game.now p.place
-        × ⟦<Compact as Steps>⟧.of_rules p.steps p.game.now.rules };
+        × ⟦<Compact as Steps>⟧.of_rules p.steps p.game.now.rules × (p.in_a_row ≤ 1000) };
 }
 
 impl<'a> Play<'a> {
@@ -41,6 +50,7 @@ impl<'a> Play<'a> {
         ensures game { IfOk result (λ play. play.game ≡ game.now) }
         ensures place { IfOk result (λ play.
             play.place ≡ record { state = start_of game.now; last = None }) }
+        ensures in_a_row { IfOk result (λ play. play.in_a_row ≡ 0) }
     {
         let _positions = game.positions();
         let steps = compact(alloc, game)?;
@@ -50,6 +60,7 @@ impl<'a> Play<'a> {
             game,
             steps,
             place,
+            in_a_row: 0,
         })
     }
 
@@ -67,26 +78,39 @@ impl<'a> Play<'a> {
         self.place.state.player()
     }
 
+    /// Whether the keeper has made as many moves in a row as it may.
+    pub(crate) fn keeper_is_tired(&self) -> bool
+        ensures tired { IsTrue result → self.now.in_a_row ≡ most_keeper_moves }
+        ensures fresh { ¬ IsTrue result → self.now.in_a_row < most_keeper_moves }
+    {
+        self.in_a_row >= MAX_KEEPER_MOVES
+    }
+
     /// The name of the player to move.
-    pub(crate) fn mover(&self) -> &'a str {
-        match self.place.state.player() {
-            0 => "the keeper",
-            player => self.game.player_name(player),
+    pub(crate) fn mover(&self) -> &'a str
+        ensures { result.now ≡ mover_text self.now }
+    {
+        let player = self.place.state.player();
+        if player == 0 {
+            "the keeper"
+        } else {
+            self.game.player_name(player)
         }
     }
 
     /// Makes a move, if it is legal. Tells whether it was.
     pub(crate) fn try_pairs(&mut self, pairs: &Move) -> Result<bool, Over>
-        ensures game { self.new.game ≡ self.old.game }
-        ensures legal { IfOk result (λ made. IsTrue made
-            → Legal self.old.game self.old.place pairs.now self.new.place) }
+        ensures legal { IfOk result (λ made. IsTrue made → Moves self.old pairs.now self.new) }
         ensures illegal { IfOk result (λ made. ¬ IsTrue made
             → (to : AbstractPlace) → ¬ Legal self.old.game self.old.place pairs.now to) }
-        ensures kept { IfOk result (λ made. ¬ IsTrue made → self.new.place ≡ self.old.place) }
+        ensures kept { IfOk result (λ made. ¬ IsTrue made → self.new ≡ self.old) }
+        ensures heavy { (result ≡ Err Over.Deep) ⊎ (result ≡ Err Over.Wide)
+            → IsHeavyToTry self.old.game self.old.place pairs.now }
+        ensures failed { OnErr result (self.new ≡ self.old) }
     {
         match try_move(self.alloc, self.game, &self.steps, &self.place, pairs)? {
             Some(place) => {
-                self.place = place;
+                self.go_to(place);
                 Ok(true)
             }
             None => Ok(false),
@@ -98,6 +122,8 @@ impl<'a> Play<'a> {
         ensures found { IfOk result (λ found. IfSome found (IsLegal self.now.game self.now.place)) }
         ensures finished { IfOk result (λ found.
             IfNone found (Finished self.now.game self.now.place)) }
+        ensures heavy { (result ≡ Err Over.Deep) ⊎ (result ≡ Err Over.Wide)
+            → IsHeavyToFind self.now.game self.now.place }
     {
         find_move(self.alloc, self.game, &self.steps, &self.place)
     }
@@ -105,11 +131,24 @@ impl<'a> Play<'a> {
     /// Makes a legal move.
     pub(crate) fn make(&mut self, pairs: &Move) -> Result<(), Memory>
         requires { IsLegal self.old.game self.old.place pairs.now }
-        ensures game { self.new.game ≡ self.old.game }
-        ensures made { OnOk result (Legal self.old.game self.old.place pairs.now self.new.place) }
+        ensures { OnOk result (Moves self.old pairs.now self.new) }
     {
-        self.place = make_move(self.game, &self.place, pairs)?;
+        let place = make_move(self.game, &self.place, pairs)?;
+        self.go_to(place);
         Ok(())
+    }
+
+    /// Goes to the place to which a move has led.
+    fn go_to(&mut self, place: Place)
+        requires { IsPlaceOf self.old.game place }
+        ensures { self.new ≡ moved_to self.old place }
+    {
+        self.in_a_row = if self.place.state.player() == 0 {
+            (self.in_a_row + 1).min(MAX_KEEPER_MOVES)
+        } else {
+            0
+        };
+        self.place = place;
     }
 
     /// The pieces on the vertices.

@@ -1,8 +1,9 @@
 //! The moves that a line may mean.
-ghost use Rattle.std.specs.Prelude.{◌≡◌, ◌≤◌, ℕ, ◌<◌, ◌^◌, List, [], ◌∷◌, ◌++◌, Option, Some, None, IfOk, IfSome, IfNone, decimal, length};
+ghost use Rattle.std.specs.Prelude.{◌≡◌, ◌≤◌, ℕ, ◌<◌, ◌^◌, List, [], ◌∷◌, ◌++◌, Option, Some, None, IfOk, IfSome, IfNone, OnOk, decimal, length};
 ghost use Rattle.rbg_lines.specs.declared.heading.Version.TheVariants.{One, Two};
 ghost use Rattle.rbg_show.specs.declared.reading.Lead.{Lead as AnyLead};
-ghost use Rattle.rbg_show.specs.Readings.{BeginsWithNumber, IsMoveText, IsPlayersMove, MayMean, SpellsMovePairs, lead_of};
+ghost use Rattle.rbg_show.specs.Readings.{AreReadings, BeginsWithNumber, IsMoveText, IsPlayersMove, IsSaid, MayMean, SpellsMovePairs, lead_of};
+ghost use Rattle.rbg_show.specs.internal.Holding.{AddsMeaning};
 
 use rbg_base::{Move, number_of_decimal};
 use rbg_lines::Version;
@@ -80,12 +81,17 @@ pub(crate) fn said_readings(
     alloc: Global,
     seat: u64,
     text: &[u8],
-) -> Result<Vec<Reading>, AllocError> {
+) -> Result<Vec<Reading>, AllocError>
+    ensures { IfOk result (λ readings. IsSaid seat text.now readings.items) }
+{
     let mut readings = Vec::new(alloc);
-    if let Some(reading) = Reading::of_pairs(Some(seat), text) {
-        readings.push(reading)?;
+    match Reading::of_pairs(Some(seat), text) {
+        Some(reading) => {
+            readings.push(reading)?;
+            Ok(readings)
+        }
+        None => Ok(readings),
     }
-    Ok(readings)
 }
 
 /// The moves that a text may mean, where `lead` stands before the pairs, or where nobody has said what does.
@@ -93,16 +99,41 @@ pub(crate) fn readings(
     alloc: Global,
     text: &[u8],
     lead: Option<Lead>,
-) -> Result<Vec<Reading>, AllocError> {
-    let mut readings = Vec::new(alloc);
-    for known in [Lead::Nothing, Lead::Player, Lead::MomentAndPlayer] {
-        if lead.unwrap_or(known) == known
-            && let Some(reading) = Reading::behind(known, text)
-        {
-            readings.push(reading)?;
-        }
+) -> Result<Vec<Reading>, AllocError>
+    ensures { IfOk result (λ readings. AreReadings text.now lead readings.items) }
+{
+    match lead {
+        Some(lead) => told_readings(alloc, text, lead),
+        None => untold_readings(alloc, text),
     }
+}
+
+fn told_readings(alloc: Global, text: &[u8], lead: Lead) -> Result<Vec<Reading>, AllocError>
+    ensures { IfOk result (λ readings. AreReadings text.now (Some lead) readings.items) }
+{
+    let mut readings = Vec::new(alloc);
+    push_meaning(lead, text, &mut readings)?;
     Ok(readings)
+}
+
+fn untold_readings(alloc: Global, text: &[u8]) -> Result<Vec<Reading>, AllocError>
+    ensures { IfOk result (λ readings. AreReadings text.now None readings.items) }
+{
+    let mut readings = Vec::new(alloc);
+    push_meaning(Lead::Nothing, text, &mut readings)?;
+    push_meaning(Lead::Player, text, &mut readings)?;
+    push_meaning(Lead::MomentAndPlayer, text, &mut readings)?;
+    Ok(readings)
+}
+
+/// Appends the move that a text means where so much stands before the pairs, if it is one.
+fn push_meaning(lead: Lead, text: &[u8], readings: &mut Vec<Reading>) -> Result<(), AllocError>
+    ensures { OnOk result (AddsMeaning text.now lead readings.old.items readings.new.items) }
+{
+    if let Some(reading) = Reading::behind(lead, text) {
+        readings.push(reading)?;
+    }
+    Ok(())
 }
 
 /// The pairs of a move, with the letter of a message before them or without.

@@ -1,19 +1,27 @@
-//! Moves that are followed on the board.
+//! Lists of moves that are followed on the board.
+ghost use Rattle.std.specs.Prelude.{◌≡◌, ◌≢◌, None, IfOk, IfErr, List, ℕ};
+ghost use Rattle.rbg_show.specs.declared.stop.Stop.TheVariants.{Memory as NoMemory};
+ghost use Rattle.rbg_show.specs.declared.line.ListLine.TheVariants.{Silent};
+ghost use Rattle.rbg_show.specs.Lines.{IsLine};
+ghost use Rattle.rbg_show.specs.Showing.{IsShown};
+ghost use Rattle.rbg_show.specs.Following.{Follows, Stops, outcome_of};
+ghost use Rattle.rbg_show.specs.internal.Standing.{IsMessageShown, IsMoveShown, KeepsLine, StopsMessage, StopsMove, TellsEnd, TellsLine, TellsList, standing_of};
 
-use crate::drawing::Drawing;
-use crate::ending::write_outcome;
 use crate::line::{ListLine, RecordEnd, without_return};
 use crate::play::Play;
-use crate::reading::{Lead, Reading, readings, said_readings};
-use crate::signs::Signs;
+use crate::reading::{Lead, readings, said_readings};
+use crate::scene::Scene;
+use crate::sheet::Sheet;
 use crate::stop::Stop;
-use rbg_base::{Piece, Player};
 use rbg_game::LoadedGame;
-use rbg_wire::Outcome;
+use rbg_moves::Unsettled;
+use rbg_wire::{Outcome, cut_at};
 use std::alloc::{AllocError, Global};
 
-/// The most moves that the keeper makes in a row.
-const MAX_KEEPER_MOVES: u32 = 1000;
+/// What is told where the game can't be led on behind the last line.
+const HEAVY: &[u8] = b"a question is above the limits\n";
+
+const TIRED: &[u8] = b"the keeper made 1,000 moves in a row\n";
 
 /// What is shown of a list of moves.
 #[derive(Debug, Drop)]
@@ -36,280 +44,192 @@ pub fn show(
     loaded: &LoadedGame,
     moves: &[u8],
     only_last: bool,
-) -> Result<Shown, AllocError> {
-    let signs = Signs::of(alloc, &loaded.game)?;
-    let mut text = Vec::new(alloc);
-    signs.push_legend(&mut text)?;
-    let kept = text.len();
+) -> Result<Shown, AllocError>
+    ensures { IfOk result (IsShown loaded.now.game moves.now) }
+{
+    let sheet = Sheet::new(alloc, loaded, only_last)?;
+    let play = Play::start(alloc, &loaded.game)?;
     let mut showing = Showing {
         alloc,
-        play: Play::start(alloc, &loaded.game)?,
-        drawing: Drawing {
-            alloc,
-            layout: &loaded.layout,
-            signs,
-        },
-        text,
-        kept,
-        only_last,
+        scene: Scene { play, sheet },
         lead: None,
         end: None,
-        moves: 0,
-        keeper_moves: 0,
-        is_new: true,
     };
     let is_whole = showing.show_list(moves)?;
-    Ok(Shown {
-        text: showing.text,
-        is_whole,
-    })
+    Ok(showing.shown(is_whole))
 }
 
 /// Moves that are being shown.
 #[derive(Drop)]
 struct Showing<'a> {
     alloc: Global,
-    play: Play<'a>,
-    drawing: Drawing<'a>,
-    text: Vec<u8>,
-    /// How much of the text stays where only the last move is shown.
-    kept: usize,
-    only_last: bool,
+    scene: Scene<'a>,
     /// What stands before the pairs of a move, once the first line of a record has told it.
     lead: Option<Lead>,
     /// How the record ends, once its last line has told it.
     end: Option<RecordEnd>,
-    /// How many moves of players were made.
-    moves: u64,
-    /// How many moves of the keeper were made in a row.
-    keeper_moves: u32,
-    /// Whether the board isn't drawn yet.
-    is_new: bool,
 }
 
 impl Showing<'_> {
     /// Shows the moves of a list, and what stands at its end. Tells whether all went well.
-    fn show_list(&mut self, moves: &[u8]) -> Result<bool, AllocError> {
-        for (index, line) in moves.split(|byte| *byte == b'\n').enumerate() {
-            let number = index.saturating_add(1);
-            if let Err(stop) = self.show_line(without_return(line), number) {
-                self.draw()?;
-                self.push_stop(stop, Some(number))?;
+    fn show_list(&mut self, moves: &[u8]) -> Result<bool, AllocError>
+        ensures { IfOk result (TellsList moves.now (standing_of self.old) self.new.scene) }
+    {
+        let mut rest = moves;
+        let mut number = 1;
+        while let Some((line, behind)) = cut_at(b'\n', rest) {
+            if !self.show_or_stop(line, number)? {
                 return Ok(false);
             }
+            rest = behind;
+            number += 1;
         }
-        self.show_end()
+        if self.show_or_stop(rest, number)? {
+            self.show_end()
+        } else {
+            Ok(false)
+        }
+    }
+
+    /// Shows the move of a line, or says why it isn't shown. Tells which.
+    fn show_or_stop(&mut self, line: &[u8], number: usize) -> Result<bool, AllocError>
+        ensures { IfOk result (TellsLine line.now number (standing_of self.old) self.new) }
+    {
+        match self.show_line(without_return(line), number) {
+            Ok(()) => Ok(true),
+            Err(stop) => {
+                self.scene.tell_stop(number, stop)?;
+                Ok(false)
+            }
+        }
     }
 
     /// Shows the move of a line, if it has one. Behind the end of a record only lines that tell nothing may stand.
-    fn show_line(&mut self, line: &[u8], number: usize) -> Result<(), Stop> {
-        let line = match ListLine::read(self.alloc, line) {
-            Ok(line) => line,
-            Err(_) => return Err(Stop::Memory),
-        };
-        if self.end.is_some() && !line.is_silent() {
-            return Err(Stop::BehindEnd);
+    fn show_line(&mut self, line: &[u8], number: usize) -> Result<(), Stop>
+        ensures follows { IfOk result (λ _.
+            Follows line.now (standing_of self.old) (standing_of self.new)) }
+        ensures stops { IfErr result (λ stop. stop ≢ NoMemory
+            → Stops line.now (standing_of self.old) stop (standing_of self.new)) }
+    {
+        let held = ListLine::read(self.alloc, line)?;
+        if held.is_silent() {
+            Ok(())
+        } else {
+            self.show_held(&held, number)
         }
-        match line {
+    }
+
+    /// Shows what a line holds. Behind the end of a record it may hold nothing.
+    fn show_held(&mut self, held: &ListLine<'_>, number: usize) -> Result<(), Stop>
+        requires { held.now ≢ Silent }
+        ensures follows { IfOk result (λ _. (line : List ℕ) → IsLine line held.now
+            → Follows line (standing_of self.old) (standing_of self.new)) }
+        ensures stops { IfErr result (λ stop. stop ≢ NoMemory → (line : List ℕ)
+            → IsLine line held.now
+            → Stops line (standing_of self.old) stop (standing_of self.new)) }
+    {
+        match self.end {
+            Some(_) => Err(Stop::BehindEnd),
+            None => self.show_open(held, number),
+        }
+    }
+
+    /// Shows what a line holds before the end of a record.
+    fn show_open(&mut self, held: &ListLine<'_>, number: usize) -> Result<(), Stop>
+        requires some { held.now ≢ Silent }
+        requires goes_on { self.old.end ≡ None }
+        ensures follows { IfOk result (λ _. (line : List ℕ) → IsLine line held.now
+            → Follows line (standing_of self.old) (standing_of self.new)) }
+        ensures stops { IfErr result (λ stop. stop ≢ NoMemory → (line : List ℕ)
+            → IsLine line held.now
+            → Stops line (standing_of self.old) stop (standing_of self.new)) }
+    {
+        match held {
             ListLine::Silent => Ok(()),
             ListLine::Head { version } => {
-                self.lead = Some(Lead::of_version(version));
+                self.lead = Some(Lead::of_version(*version));
                 Ok(())
             }
             ListLine::End { end } => {
-                self.end = Some(end);
+                self.end = Some(*end);
                 Ok(())
             }
-            ListLine::Said { seat, text } => self.show_message(seat, text, number),
+            ListLine::Said { seat, text } => self.show_message(*seat, text, number),
+            ListLine::Sent { seat, text } => self.show_message(*seat, text.as_slice(), number),
             ListLine::Other { text } => self.show_move(text),
         }
     }
 
     /// Shows the move that a seat's message is, or that the message is refused.
-    fn show_message(&mut self, seat: u64, text: &[u8], number: usize) -> Result<(), Stop> {
+    fn show_message(&mut self, seat: u64, text: &[u8], number: usize) -> Result<(), Stop>
+        ensures kept { KeepsLine self.old self.new }
+        ensures follows { IfOk result (λ _.
+            IsMessageShown seat text.now self.old.scene.play self.new.scene.play) }
+        ensures stops { IfErr result (λ stop.
+            StopsMessage seat text.now self.old.scene.play stop self.new.scene.play) }
+    {
         let said = said_readings(self.alloc, seat, text)?;
-        if !self.make_one(&said)? {
-            self.push_refusal(number, seat)?;
+        let is_made = self.scene.make_one(said.as_slice())?;
+        if is_made {
+            return Ok(());
         }
+        self.scene.refuse(number, seat)?;
         Ok(())
     }
 
     /// Shows the move that a line is.
-    fn show_move(&mut self, text: &[u8]) -> Result<(), Stop> {
+    fn show_move(&mut self, text: &[u8]) -> Result<(), Stop>
+        ensures kept { KeepsLine self.old self.new }
+        ensures follows { IfOk result (λ _.
+            IsMoveShown self.old.lead text.now self.old.scene.play self.new.scene.play) }
+        ensures stops { IfErr result (λ stop.
+            StopsMove self.old.lead text.now self.old.scene.play stop self.new.scene.play) }
+    {
         let readings = readings(self.alloc, text, self.lead)?;
         if readings.is_empty() {
             return Err(Stop::of_no_move(text));
         }
-        if self.make_one(&readings)? {
-            Ok(())
-        } else {
-            Err(Stop::NotLegal)
-        }
+        let is_made = self.scene.make_one(readings.as_slice())?;
+        if is_made { Ok(()) } else { Err(Stop::NotLegal) }
     }
 
-    /// Says that a seat's message is refused.
-    fn push_refusal(&mut self, number: usize, seat: u64) -> Result<(), AllocError> {
-        self.draw()?;
-        let note = format!(in self.alloc; "line {number}: seat {seat} is refused\n")?;
-        self.text.extend_from_slice(note.as_bytes())
-    }
-
-    /// Makes the first of the moves that is legal. Before it the keeper moves where it has to. Tells whether a move was
-    /// legal.
-    fn make_one(&mut self, readings: &[Reading]) -> Result<bool, Stop> {
-        for _ in 0..=MAX_KEEPER_MOVES {
-            for reading in readings {
-                if self.make(reading)? {
-                    return Ok(true);
-                }
-            }
-            if self.play.player() != 0 || !self.move_keeper()? {
-                return Ok(false);
-            }
+    /// What is shown at last.
+    fn shown(self, is_whole: bool) -> Shown
+        ensures whole { result.is_whole ≡ is_whole }
+        ensures text { result.text.items ≡ self.entry.scene.sheet.text.items }
+    {
+        let scene = self.scene;
+        let sheet = scene.sheet;
+        Shown {
+            text: sheet.text,
+            is_whole,
         }
-        Err(Stop::Keeper)
-    }
-
-    /// Makes a move, if it is one of whoever is to move, and tells whether it was.
-    fn make(&mut self, reading: &Reading) -> Result<bool, Stop> {
-        let player = self.play.player();
-        if reading.player.is_some_and(|said| said != u64::from(player)) {
-            return Ok(false);
-        }
-        if player != 0 {
-            self.draw()?;
-        }
-        let before = self.play.pieces()?;
-        let mover = self.play.mover();
-        let is_legal = self.play.try_pairs(&reading.pairs)?;
-        if is_legal {
-            self.push_move(player, mover, &before)?;
-        }
-        Ok(is_legal)
-    }
-
-    /// Makes the keeper's own move, if it has one, and tells whether it has.
-    fn move_keeper(&mut self) -> Result<bool, Stop> {
-        if self.keeper_moves >= MAX_KEEPER_MOVES {
-            return Err(Stop::Keeper);
-        }
-        let Some(pairs) = self.play.find()? else {
-            return Ok(false);
-        };
-        let before = self.play.pieces()?;
-        self.play.make(&pairs)?;
-        self.push_move(0, "keeper", &before)?;
-        Ok(true)
-    }
-
-    /// Says what a move has changed. The keeper's moves that change no piece are not told.
-    fn push_move(
-        &mut self,
-        player: Player,
-        mover: &str,
-        before: &[Piece],
-    ) -> Result<(), AllocError> {
-        let after = self.play.pieces()?;
-        self.is_new = true;
-        if player == 0 {
-            self.keeper_moves = self.keeper_moves.saturating_add(1);
-            if before == after.as_slice() {
-                return Ok(());
-            }
-            self.text.extend_from_slice(b"keeper:")?;
-        } else {
-            self.keeper_moves = 0;
-            self.moves = self.moves.saturating_add(1);
-            if self.only_last {
-                self.text.truncate(self.kept);
-            }
-            let number = self.moves;
-            let head = format!(in self.alloc; "\n{number} {mover}:")?;
-            self.text.extend_from_slice(head.as_bytes())?;
-        }
-        self.drawing
-            .push_changes(&mut self.text, before, after.as_slice())?;
-        self.text.push(b'\n')?;
-        Ok(())
-    }
-
-    /// Draws the board, and writes the values of the variables below it, if something was done since it was drawn.
-    fn draw(&mut self) -> Result<(), AllocError> {
-        if self.is_new {
-            let pieces = self.play.pieces()?;
-            self.drawing.push_board(&mut self.text, pieces.as_slice())?;
-            self.play.push_values(&mut self.text)?;
-            self.is_new = false;
-        }
-        Ok(())
     }
 
     /// The keeper's moves at the end of a list, the board, and how the match ended, or who is to move. Tells whether all
     /// went well.
-    fn show_end(&mut self) -> Result<bool, AllocError> {
-        let settled = self.settle();
-        self.draw()?;
-        let outcome = self.end.and_then(|end| end.outcome);
-        match (settled, outcome) {
-            (Err(Stop::Memory), _) => Err(AllocError),
-            (Err(stop), _) if outcome != Some(Outcome::Heavy) => {
-                self.push_stop(stop, None)?;
-                Ok(false)
-            }
-            (_, Some(outcome)) => {
-                write_outcome(self.play.game(), &outcome, &mut self.text)?;
+    fn show_end(&mut self) -> Result<bool, AllocError>
+        ensures { IfOk result (TellsEnd (standing_of self.old) self.new.scene) }
+    {
+        let outcome = outcome_of(self.end);
+        match self.scene.settle() {
+            Ok(goes_on) => {
+                self.scene.tell_end(outcome, goes_on)?;
                 Ok(true)
             }
-            (Ok(false), None) => {
-                self.text.extend_from_slice(b"play is finished\n")?;
-                Ok(true)
-            }
-            (_, None) => {
-                let line = format!(in self.alloc; "{} is to move\n", self.play.mover())?;
-                self.text.extend_from_slice(line.as_bytes())?;
-                Ok(true)
-            }
+            Err(Unsettled::Memory) => Err(AllocError),
+            Err(Unsettled::Heavy) => self.scene.end_unsettled(outcome, HEAVY),
+            Err(Unsettled::Endless) => self.scene.end_unsettled(outcome, TIRED),
         }
     }
+}
 
-    /// Lets the keeper move until a player is to move. Tells whether there is a move for whoever is to move then.
-    fn settle(&mut self) -> Result<bool, Stop> {
-        for _ in 0..=MAX_KEEPER_MOVES {
-            if self.play.player() != 0 {
-                return Ok(self.play.find()?.is_some());
-            }
-            if !self.move_keeper()? {
-                return Ok(false);
-            }
-        }
-        Err(Stop::Keeper)
-    }
-
-    /// Says why the moves from a line on, or what stands at the end of the list, aren't shown.
-    fn push_stop(&mut self, stop: Stop, line: Option<usize>) -> Result<(), AllocError> {
-        if let Some(line) = line {
-            let head = format!(in self.alloc; "line {line}{}", stop.separator())?;
-            self.text.extend_from_slice(head.as_bytes())?;
-        }
-        match stop {
-            Stop::NotLegal => {
-                let reason = format!(in self.alloc; "no legal move of {}\n", self.play.mover())?;
-                self.text.extend_from_slice(reason.as_bytes())
-            }
-            Stop::NoMove => self.text.extend_from_slice(b"isn't a move\n"),
-            Stop::Mark => self
-                .text
-                .extend_from_slice(b"begins with a byte order mark\n"),
-            Stop::BehindEnd => self
-                .text
-                .extend_from_slice(b"stands behind the end of the record\n"),
-            Stop::Heavy => self
-                .text
-                .extend_from_slice(b"a question is above the limits\n"),
-            Stop::Keeper => self
-                .text
-                .extend_from_slice(b"the keeper made 1,000 moves in a row\n"),
-            Stop::Memory => Err(AllocError),
-        }
+/// How the match ended, if a record has told it.
+fn outcome_of(end: Option<RecordEnd>) -> Option<Outcome>
+    ensures { result ≡ outcome_of end }
+{
+    match end {
+        Some(end) => end.outcome,
+        None => None,
     }
 }

@@ -1,7 +1,10 @@
 //! Why the rest of a list of moves isn't shown.
+ghost use Rattle.std.specs.Prelude.{◌≡◌};
+ghost use Rattle.rbg_show.specs.declared.stop.Stop.TheVariants.{Memory};
+ghost use Rattle.rbg_show.specs.internal.Stopping.{IsNoMove, stop_of_unsettled};
 
 use rbg_base::Memory as OutOfMemory;
-use rbg_moves::Over;
+use rbg_moves::Unsettled;
 
 /// Why the rest of a list of moves isn't shown.
 #[derive(Clone, Copy)]
@@ -26,33 +29,32 @@ const BYTE_ORDER_MARK: &[u8] = b"\xEF\xBB\xBF";
 
 impl Stop {
     /// What is said of a line that is no move.
-    pub(crate) fn of_no_move(line: &[u8]) -> Stop {
+    pub(crate) fn of_no_move(line: &[u8]) -> Stop
+        ensures { IsNoMove line.now result }
+    {
         if line.starts_with(BYTE_ORDER_MARK) {
             Stop::Mark
         } else {
             Stop::NoMove
         }
     }
-
-    /// What stands between the number of a line and the reason.
-    pub(crate) fn separator(self) -> &'static str {
-        match self {
-            Stop::NoMove | Stop::Mark | Stop::BehindEnd => " ",
-            Stop::NotLegal | Stop::Heavy | Stop::Keeper | Stop::Memory => ": ",
-        }
-    }
 }
 
-impl From<Over> for Stop {
-    fn from(over: Over) -> Stop {
-        match over {
-            Over::Deep | Over::Wide => Stop::Heavy,
-            Over::Memory => Stop::Memory,
+impl From<Unsettled> for Stop {
+    ghost from_gives = { λ unsettled stop. stop ≡ stop_of_unsettled unsettled };
+
+    fn from(unsettled: Unsettled) -> Stop {
+        match unsettled {
+            Unsettled::Heavy => Stop::Heavy,
+            Unsettled::Endless => Stop::Keeper,
+            Unsettled::Memory => Stop::Memory,
         }
     }
 }
 
 impl From<OutOfMemory> for Stop {
+    ghost from_gives = { λ _ stop. stop ≡ Memory };
+
     fn from(_error: OutOfMemory) -> Stop {
         Stop::Memory
     }
