@@ -3,4 +3,5 @@ mod AnswerLemmas
 mod JudgingLemmas
 mod LawLemmas
 mod ReadingLemmas
+mod RecordedLemmas
 mod RunLemmas

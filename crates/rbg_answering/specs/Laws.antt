@@ -6,9 +6,11 @@ use Rattle.rbg_console.specs.declared.status.Status.TheVariants.{Success, BadInp
 use Rattle.rbg_game.specs.Loading.{Loads}
 use Rattle.rbg_record.specs.Judged.{IsHeavyLine}
 use Rattle.rbg_record.specs.Right.{IsRightRecord}
+use Rattle.rbg_refereeing.specs.Matches.{IsScriptsMatch}
 use Rattle.rbg_rules.specs.State.{AbstractGame}
 use Rattle.rbg_answering.specs.declared.task.Command.TheVariants.{Replay}
 use Rattle.rbg_answering.specs.Answers.{IsTaskAnswer, good_line, over_line}
+use Rattle.rbg_answering.specs.Recorded.{IsRecorded}
 use Rattle.rbg_answering.specs.Tasks.{AbstractTask}
 
 -- Of a right record of a game nothing else is said than that it is good, unless a question is above the limits.
@@ -30,3 +32,20 @@ TaskAnswersAreApart =
     → IsTaskAnswer task other ended
     → ((status ≡ ended) × (status ≡ BadInput → text ≡ other))
     ⊎ ((line : ℕ) × ((text ≡ over_line line) ⊎ (other ≡ over_line line)))
+
+-- The lines beside a record are those that are printed without one.
+abbrev pub SameLines : Type 0
+SameLines =
+    (description text lines told : List ℕ)
+    → IsRecorded description text lines told
+    → IsScriptsMatch description text lines
+
+-- Of the record, if it is not too long, nothing else is said than that it is good, unless a question is above the
+-- limits.
+abbrev pub RecordsAreGood : Type 0
+RecordsAreGood =
+    (description text lines told said : List ℕ) (status : Status)
+    → IsRecorded description text lines told
+    → length told ≤ most_input
+    → IsTaskAnswer (record { command = Replay; description = description; told = told }) said status
+    → ((said ≡ good_line) × (status ≡ Success)) ⊎ ((line : ℕ) × (said ≡ over_line line))

@@ -8,9 +8,11 @@ pub mod laws;
 mod lines;
 mod loading;
 mod reading;
+mod recording;
 mod run;
 mod task;
 
 pub use answer::answer_task;
+pub use recording::{Recorded, referee_recorded};
 pub use run::run_task;
 pub use task::{Command, FileTask, Task};

@@ -7,7 +7,7 @@ use rbg_wire::{after_text, cut_at};
 use std::alloc::{AllocError, Global};
 
 /// `<seat> <message>` for each message, with its line feed; the description is `<seat> G <its bytes>`.
-pub(crate) fn match_lines(alloc: Global, outbox: &Outbox) -> Result<Vec<u8>, AllocError>
+pub fn match_lines(alloc: Global, outbox: &Outbox) -> Result<Vec<u8>, AllocError>
     ensures { IfOk result (λ lines. IsPrinted outbox.now lines.items) }
 {
     let mut lines = Vec::new(alloc);
