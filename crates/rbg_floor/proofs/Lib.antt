@@ -1,6 +1,8 @@
 -- What the proofs of this crate share.
 mod Apart
 mod Beginnings
+mod Counts
+mod Early
 mod Growing
 mod Halls
 mod Openings
@@ -9,6 +11,7 @@ mod Permitted
 mod Pieces
 mod Requesting
 mod Running
+mod Same
 mod Silence
 mod Taking
 mod Ticking

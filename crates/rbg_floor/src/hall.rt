@@ -1,6 +1,7 @@
 //! A hall: tables, and the lines that ask for them.
-ghost use Rattle.std.specs.Prelude.{◌≡◌, [], false, true, option_map, replicate, is_err, IfErr, IfOk, IsErr, OnErr, OnOk};
+ghost use Rattle.std.specs.Prelude.{◌≡◌, [], false, true, option_map, replicate, is_err, IfErr, IfOk, IfSome, IsErr, OnErr, OnOk};
 ghost use Rattle.rbg_wire.specs.Streams.{incomplete};
+ghost use Rattle.rbg_match.specs.Matches.{HasHistory};
 ghost use Rattle.rbg_hall.specs.Limits.{lines_in_all};
 ghost use Rattle.rbg_floor.specs.Events.{event_of};
 ghost use Rattle.rbg_floor.specs.Halls.{begun_at};
@@ -113,7 +114,8 @@ impl Hall {
 
     /// The match of a table, once it has begun. Tables are numbered from 1.
     pub fn begun(&self, table: u64) -> Option<&Match>
-        ensures { option_map (λ playing. playing.now) result ≡ begun_at self.now.state.tables table }
+        ensures is { option_map (λ playing. playing.now) result ≡ begun_at self.now.state.tables table }
+        ensures history { IfSome result (λ playing. playing.now.failed ≡ false → HasHistory playing.now) }
     {
         if table < 1 || table > self.tables.len() as u64 {
             return None;

@@ -50,6 +50,14 @@ impl HallOut {
         Ok(HallOut { queues })
     }
 
+    /// How many lines there are.
+    pub fn lines(&self) -> usize
+        ensures all { result ≡ length self.now }
+        ensures as_many { result ≡ lines_in_all }
+    {
+        self.queues.len()
+    }
+
     /// All bytes that were queued for a line; none for a line above the last.
     pub fn bytes(&self, line: u64) -> &[u8]
         ensures { result.now ≡ slice_index_or self.now line [] }
@@ -122,7 +130,8 @@ impl HallOut {
 
     /// Takes back what was queued since the marks were made.
     pub fn take_back(&mut self, marks: &mut Vec<Mark>)
-        ensures { self.new ≡ undone self.old marks.old.items }
+        ensures undone { self.new ≡ undone self.old marks.old.items }
+        ensures emptied { marks.new.items ≡ [] }
     {
         while let Some(mark) = marks.pop() {
             cut(&mut self.queues, mark);

@@ -1,11 +1,12 @@
 //! A table of a hall: its seats, and its match once it has begun.
-ghost use Rattle.std.specs.Prelude.{◌≡◌, ◌↔◌, ◌+◌, ◌<◌, ◌^◌, ◌++◌, ◌∷◌, [], ℕ, Option, Some, None, length, slice_get, slice_set, is_none, option_map, IfNone, IfOk, IfSome, IsTrue, OnOk};
+ghost use Rattle.std.specs.Prelude.{◌≡◌, ◌↔◌, ◌+◌, ◌<◌, ◌^◌, ◌++◌, ◌∷◌, [], ℕ, Option, Some, None, false, length, slice_get, slice_set, is_none, option_map, IfNone, IfOk, IfSome, IsTrue, OnOk};
 ghost use Rattle.rbg_game.specs.Loading.{Loads};
 ghost use Rattle.rbg_match.specs.Config.{IsWithinLimits};
 ghost use Rattle.rbg_match.specs.Inputs.{event_of};
 ghost use Rattle.rbg_wire.specs.Inboxes.{item_of};
 ghost use Rattle.rbg_wire.specs.Whole.{whole_item};
 ghost use Rattle.rbg_match.specs.Limits.{message_limit};
+ghost use Rattle.rbg_match.specs.Matches.{HasHistory};
 ghost use Rattle.rbg_hall.specs.Tables.{AreTaken, HasNoSeat, HasSeat, SitsAt, arrives, clock, joins, leaves, new_table, says};
 ghost use Rattle.rbg_hall.specs.Hearing.{HearsFor, input_of};
 ghost use Rattle.rbg_hall.specs.internal.Hearing.{BeginsFor, PlaysFor, IsFirstAt};
@@ -91,7 +92,8 @@ impl HallTable {
 
     /// The match, once it has begun.
     pub fn begun(&self) -> Option<&Match>
-        ensures { option_map (λ playing. playing.now) result ≡ self.now.begun }
+        ensures is { option_map (λ playing. playing.now) result ≡ self.now.begun }
+        ensures history { IfSome result (λ playing. playing.now.failed ≡ false → HasHistory playing.now) }
     {
         match &self.phase {
             Phase::Begun(running) => Some(running.playing()),
@@ -225,7 +227,7 @@ impl HallTable {
         }
     }
 
-    /// A line asks for a seat. With the last one the match begins.
+    /// A line asks for a seat. One that has a seat keeps it.
     fn join(
         &mut self,
         line: u64,
@@ -233,6 +235,24 @@ impl HallTable {
         out: &mut HallOut,
         marks: &mut Vec<Mark>,
     ) -> Result<(), Memory>
+        ensures hears { OnOk result (HearsFor self.old (joins line at) self.new out.old out.new) }
+        ensures undone { undone out.new marks.new.items ≡ undone out.old marks.old.items }
+    {
+        match self.seat_of(line) {
+            Some(_) => Ok(()),
+            None => self.seat(line, at, out, marks),
+        }
+    }
+
+    /// A line that has no seat asks for one. With the last one the match begins.
+    fn seat(
+        &mut self,
+        line: u64,
+        at: u64,
+        out: &mut HallOut,
+        marks: &mut Vec<Mark>,
+    ) -> Result<(), Memory>
+        requires { HasNoSeat self.old line }
         ensures hears { OnOk result (HearsFor self.old (joins line at) self.new out.old out.new) }
         ensures undone { undone out.new marks.new.items ≡ undone out.old marks.old.items }
     {
@@ -263,6 +283,7 @@ impl HallTable {
         marks: &mut Vec<Mark>,
     ) -> Result<(), Memory>
         requires waits { self.old.begun ≡ None }
+        requires none { HasNoSeat self.old line }
         requires first { IsFirstAt self.old.seats None index }
         ensures hears { OnOk result (HearsFor self.old (joins line at) self.new out.old out.new) }
         ensures undone { undone out.new marks.new.items ≡ undone out.old marks.old.items }
