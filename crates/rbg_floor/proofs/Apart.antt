@@ -1,4 +1,4 @@
--- Tables are apart.
+-- A table hears nothing of what lines do that ask for another one.
 use Rattle.std.proofs.Common.{◌≡◌, ℕ, ◌+◌, ◌<◌, List, [], ◌∷◌, ◌++◌, length, Bool, true, false, refl, sym, ap, ◌∙◌, subst, append_assoc, append-nil, arith, Option, Some, None}
 use Rattle.std.proofs.lemmas.Bool.{true≢false, eq-eqb, eqb-true, ne_eqb, lt-ltb}
 use Rattle.std.specs.Prelude.{◌==◌, ◌&&◌, nat_lt, slice_get, slice_index_or, if◌then◌else◌}
@@ -19,11 +19,11 @@ use Rattle.rbg_floor.specs.Requests.{requested, is_for}
 use Rattle.rbg_floor.proofs.Growing.{by_test, standing}
 use Rattle.rbg_floor.proofs.Owning.{asks_in, unasked_before, own_piece_unheard, own_end_unheard}
 
-chosen_same : {X : Type 0} (test : Bool) (x y : X) → test ≡ true → (if test then x else y) ≡ x
+pub chosen_same : {X : Type 0} (test : Bool) (x y : X) → test ≡ true → (if test then x else y) ≡ x
 chosen_same true x y is = refl
 chosen_same false x y is = absurd (true≢false (sym is))
 
-chosen_other : {X : Type 0} (test : Bool) (x y : X) → test ≡ false → (if test then x else y) ≡ y
+pub chosen_other : {X : Type 0} (test : Bool) (x y : X) → test ≡ false → (if test then x else y) ≡ y
 chosen_other true x y is = absurd (true≢false is)
 chosen_other false x y is = refl
 
@@ -43,7 +43,7 @@ module _ (tables table line : ℕ) (all : List AbstractHallEvent) where
   is_it : (other : ℕ) → asks_for tables table line all ≡ false → asks_for tables table other all ≡ true → (other == line) ≡ false
   is_it other unasked asked = ne_eqb other line (λ same. true≢false (sym asked ∙ ap (λ one. asks_for tables table one all) same ∙ unasked))
 
-  kept_sent : asks_for tables table line all ≡ true → (events : List AbstractHallEvent) → sent_by line (filter (concerns tables table all) events) ≡ sent_by line events
+  pub kept_sent : asks_for tables table line all ≡ true → (events : List AbstractHallEvent) → sent_by line (filter (concerns tables table all) events) ≡ sent_by line events
   kept_sent asked [] = refl
   kept_sent asked (sends other at bytes ∷ events) = by_test (asks_for tables table other all)
       (λ test. ap (sent_by line) (chosen_same (asks_for tables table other all) (sends other at bytes ∷ filter (concerns tables table all) events) (filter (concerns tables table all) events) test)
@@ -77,7 +77,7 @@ module _ (tables table line : ℕ) (all : List AbstractHallEvent) where
   line_kept : asks_for tables table line all ≡ true → (events : List AbstractHallEvent) → line_after tables line (filter (concerns tables table all) events) ≡ line_after tables line events
   line_kept asked events = λ i. standing (kept_ended asked events i) (nat_lt line lines_in_all) tables (cut message_limit (incomplete []) (kept_sent asked events i))
 
-  dropped_sent : asks_for tables table line all ≡ false → (events : List AbstractHallEvent) → sent_by line (filter (concerns tables table all) events) ≡ []
+  pub dropped_sent : asks_for tables table line all ≡ false → (events : List AbstractHallEvent) → sent_by line (filter (concerns tables table all) events) ≡ []
   dropped_sent unasked [] = refl
   dropped_sent unasked (sends other at bytes ∷ events) = by_test (asks_for tables table other all)
       (λ test. ap (sent_by line) (chosen_same (asks_for tables table other all) (sends other at bytes ∷ filter (concerns tables table all) events) (filter (concerns tables table all) events) test)
@@ -94,7 +94,7 @@ module _ (tables table line : ℕ) (all : List AbstractHallEvent) where
   dropped_sent unasked (ticks at ∷ events) = dropped_sent unasked events
 
   -- nothing is heard of a line that asks for another table, or isn't there
-  not_there : (events : List AbstractHallEvent) → nat_lt line lines_in_all ≡ false → line_after tables line events ≡ over
+  pub not_there : (events : List AbstractHallEvent) → nat_lt line lines_in_all ≡ false → line_after tables line events ≡ over
   not_there events away = ap (λ there. standing (has_ended line events) there tables (stream_of line events)) away ∙ never (has_ended line events)
     where
       never : (ended : Bool) → standing ended false tables (stream_of line events) ≡ over
@@ -149,86 +149,15 @@ module _ (tables table : ℕ) (all : List AbstractHallEvent) where
 pub others_are_unheard : OthersAreUnheard
 others_are_unheard tables table events = others_dropped tables table events [] events refl
 
--- A line that asks for the table here asks for it there too.
-nothing_asked : (tables table : ℕ) → is_for table (first_request tables (cut message_limit (incomplete []) []).items) ≡ false
+-- nothing that was sent asks for a table
+pub nothing_asked : (tables table : ℕ) → is_for table (first_request tables (cut message_limit (incomplete []) []).items) ≡ false
 unfolding cut
 nothing_asked tables table = refl
 
-second_true : (a b : Bool) → (a && b) ≡ true → b ≡ true
+pub second_true : (a b : Bool) → (a && b) ≡ true → b ≡ true
 second_true true b both = both
 second_true false b both = absurd (true≢false (sym both))
 
-asked_there : (tables table line : ℕ) (events others : List AbstractHallEvent) → concerning tables table events ≡ concerning tables table others → asks_for tables table line events ≡ true → asks_for tables table line others ≡ true
-asked_there tables table line events others same asked = by_test (asks_for tables table line others)
-    (λ it. it)
-    (λ unasked.
-    let nothing : sent_by line events ≡ [] = sym (kept_sent tables table line events asked events) ∙ ap (sent_by line) same ∙ dropped_sent tables table line others unasked others in
-    absurd (true≢false (sym (second_true (nat_lt line lines_in_all) (asks_in tables table line events) asked)
-    ∙ ap (λ sent. is_for table (first_request tables (cut message_limit (incomplete []) sent).items)) nothing
-    ∙ nothing_asked tables table)))
-
--- what a line of the table has
-bytes_asked : (tables table line : ℕ) (told : ℕ → List Telling) (items : List Item) → is_for table (first_request tables items) ≡ true → bytes_for tables told line items ≡ bytes_by told line (Some table)
-bytes_asked tables table line told [] asked = absurd (true≢false (sym asked))
-bytes_asked tables table line told (item ∷ items) asked = by_request (requested tables item) asked
-  where
-    by_request : (one : Option ℕ) → is_for table one ≡ true → bytes_by told line one ≡ bytes_by told line (Some table)
-    by_request (Some other) it = ap (λ number. bytes_by told line (Some number)) (eqb-true other table it)
-    by_request None it = absurd (true≢false (sym it))
-
-bytes_unasked : (tables table line : ℕ) (told others : ℕ → List Telling) (items : List Item) → ((other : ℕ) → (other == table) ≡ false → told other ≡ others other) → is_for table (first_request tables items) ≡ false → bytes_for tables told line items ≡ bytes_for tables others line items
-bytes_unasked tables table line told others [] same unasked = refl
-bytes_unasked tables table line told others (item ∷ items) same unasked = by_request (requested tables item) unasked
-  where
-    by_request : (one : Option ℕ) → is_for table one ≡ false → bytes_by told line one ≡ bytes_by others line one
-    by_request (Some other) it = ap (λ (all : List Telling). bytes_by (λ (table : ℕ). all) line (Some other)) (same other it)
-    by_request None it = refl
-
-pub tables_are_apart : TablesAreApart
-tables_are_apart starts others index events elsewhere first second mixed counts starting same here there exchanged = record {
-  told = told;
-  by_table = by_table;
-  all_lines = exchanged.all_lines;
-  by_line = λ line within. exchanged.by_line line within ∙ by_line line within;
-}
-  where
-    told : ℕ → List Telling
-    told table = if table == (index + 1) then there.told table else here.told table
-
-    same_own : own (length starts) (index + 1) elsewhere ≡ own (length starts) (index + 1) events
-    same_own =
-        sym (others_are_unheard (length starts) (index + 1) elsewhere)
-        ∙ ap (own (length starts) (index + 1)) (sym same)
-        ∙ others_are_unheard (length starts) (index + 1) events
-
-    by_table : (place : ℕ) (start : AbstractTable) → slice_get starts place ≡ Some start → HallOf start.game start.text start.config (own (length starts) (place + 1) events) (told (place + 1))
-    by_table place start found = by_test ((place + 1) == (index + 1))
-        (λ test.
-        let at_place : (place + 1) ≡ (index + 1) = eqb-true (place + 1) (index + 1) test in
-        let at_index : place ≡ index = omega arith in
-        let standing_there : slice_get others place ≡ Some start = subst (λ one. slice_get others one ≡ slice_get starts one) (sym at_index) starting ∙ found in
-        let own_there : own (length others) (place + 1) elsewhere ≡ own (length starts) (place + 1) events =
-        ap (λ count. own count (place + 1) elsewhere) counts ∙ subst (λ one. own (length starts) one elsewhere ≡ own (length starts) one events) (sym at_place) same_own in
-        subst (λ all. HallOf start.game start.text start.config (own (length starts) (place + 1) events) all) (sym (chosen_same ((place + 1) == (index + 1)) (there.told (place + 1)) (here.told (place + 1)) test))
-        (subst (λ all. HallOf start.game start.text start.config all (there.told (place + 1))) own_there (there.by_table place start standing_there)))
-        (λ test. subst (λ all. HallOf start.game start.text start.config (own (length starts) (place + 1) events) all) (sym (chosen_other ((place + 1) == (index + 1)) (there.told (place + 1)) (here.told (place + 1)) test))
-        (here.by_table place start found))
-
-    mine : told (index + 1) ≡ there.told (index + 1)
-    mine = chosen_same ((index + 1) == (index + 1)) (there.told (index + 1)) (here.told (index + 1)) (eq-eqb (index + 1) (index + 1) refl)
-
-    by_line : (line : ℕ) → line < lines_in_all → (if asks_for (length starts) (index + 1) line events then slice_index_or second line [] else slice_index_or first line []) ≡ bytes_for (length starts) told line (stream_of line events).items
-    by_line line within = by_test (asks_for (length starts) (index + 1) line events)
-        (λ asked.
-        let asked_elsewhere = asked_there (length starts) (index + 1) line events elsewhere same asked in
-        chosen_same (asks_for (length starts) (index + 1) line events) (slice_index_or second line []) (slice_index_or first line []) asked
-        ∙ there.by_line line within
-        ∙ ap (λ count. bytes_for count there.told line (stream_of line elsewhere).items) counts
-        ∙ bytes_asked (length starts) (index + 1) line there.told (stream_of line elsewhere).items (second_true (nat_lt line lines_in_all) (asks_in (length starts) (index + 1) line elsewhere) asked_elsewhere)
-        ∙ ap (λ (all : List Telling). bytes_by (λ (table : ℕ). all) line (Some (index + 1))) (sym mine)
-        ∙ sym (bytes_asked (length starts) (index + 1) line told (stream_of line events).items (second_true (nat_lt line lines_in_all) (asks_in (length starts) (index + 1) line events) asked)))
-        (λ unasked.
-        let none : asks_in (length starts) (index + 1) line events ≡ false = ap (λ one. one && asks_in (length starts) (index + 1) line events) (sym (lt-ltb line lines_in_all within)) ∙ unasked in
-        chosen_other (asks_for (length starts) (index + 1) line events) (slice_index_or second line []) (slice_index_or first line []) unasked
-        ∙ here.by_line line within
-        ∙ sym (bytes_unasked (length starts) (index + 1) line told here.told (stream_of line events).items (λ other away. chosen_other (other == (index + 1)) (there.told other) (here.told other) away) none))
+pub first_true : (a b : Bool) → (a && b) ≡ true → a ≡ true
+first_true true b both = refl
+first_true false b both = absurd (true≢false (sym both))

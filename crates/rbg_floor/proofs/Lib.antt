@@ -1,6 +1,8 @@
 -- What the proofs of this crate share.
 mod Apart
 mod Beginnings
+mod Counts
+mod Early
 mod Growing
 mod Halls
 mod Openings
@@ -10,6 +12,7 @@ mod Pieces
 mod Requesting
 mod Running
 mod Served
+mod Same
 mod Silence
 mod Taking
 mod Ticking

@@ -20,7 +20,7 @@ use Rattle.rbg_floor.specs.Openings.{AreWithinLimits, IsNewHall, IsRefusedHall, 
 use Rattle.rbg_floor.specs.Openings.{tables as refused_tables, config as refused_config}
 use Rattle.rbg_floor.specs.Failing.{HeldHall}
 use Rattle.rbg_floor.specs.Limits.{most_tables}
-use Rattle.rbg_floor.specs.internal.Parts.{AreReady, HaveLimits, IsFaulty, IsReady, line_of, lines_of, new_line, new_tables}
+use Rattle.rbg_floor.specs.internal.Parts.{AreReady, FirstHaveLimits, HaveLimits, IsFaulty, IsReady, line_of, lines_of, new_line, new_tables}
 
 get_of : {X : Type 0} (xs : List X) (i : ℕ) (d x : X) → slice_get xs i ≡ Some x → get_or xs i d ≡ x
 get_of [] i d x there = absurd (none-some x there)
@@ -32,15 +32,13 @@ there_get [] i d within = absurd (omega arith)
 there_get (y ∷ xs) zero d within = refl
 there_get (y ∷ xs) (suc i) d within = there_get xs i d (omega arith)
 
-pub fault_found : (tables : List Table) (index : ℕ) (read : Table) → read ≡ get_or tables index read → index < length tables → (¬ IsWithinLimits read.config) → IsFaulty tables index
-fault_found tables index read found within faulty = record {
+pub fault_found : (tables : List Table) (index : ℕ) (read : Table) → read ≡ get_or tables index read → index < length tables → (¬ IsWithinLimits read.config) → FirstHaveLimits index tables → IsFaulty tables index
+fault_found tables index read found within faulty first = record {
   table = read;
   there = there_get tables index read within ∙ ap Some (sym found);
   faulty = faulty;
+  first = first;
 }
-
-abbrev pub FirstHaveLimits : (count : ℕ) → List Table → Type 0
-FirstHaveLimits count tables = (other : ℕ) (table : Table) → other < count → slice_get tables other ≡ Some table → IsWithinLimits table.config
 
 pub one_more : (tables : List Table) (index : ℕ) (read : Table) → read ≡ get_or tables index read → IsWithinLimits read.config → FirstHaveLimits index tables → FirstHaveLimits (index + 1) tables
 one_more tables index read found limits first other table within there = elim (cases_lt other index) [
@@ -111,8 +109,18 @@ too_many_refused tables many = refused_tables (λ may. absurd (omega (arith, may
 pub right_number : (tables : List Table) → length tables ≢ 0 → length tables ≤ most_tables → MayBeTables (starts_of tables)
 right_number tables some few = (omega (arith, length-map tables start_of), omega (arith, length-map tables start_of))
 
+-- the table that begins so
+table_there : (tables : List Table) (index : ℕ) (start : AbstractTable) → slice_get (starts_of tables) index ≡ Some start → (table : Table) × (slice_get tables index ≡ Some table) × (start_of table ≡ start)
+table_there [] index start there = absurd (none-some start there)
+table_there (table ∷ tables) zero start there = (table, refl, same there)
+  where
+    same : {a b : AbstractTable} → Some a ≡ Some b → a ≡ b
+    same is = cc
+table_there (table ∷ tables) (suc index) start there = table_there tables index start there
+
 pub config_refused : (tables : List Table) (index : ℕ) → length tables ≢ 0 → length tables ≤ most_tables → IsFaulty tables index → IsRefusedHall (starts_of tables) (Config (index + 1))
 config_refused tables index some few fault = refused_config index (start_of fault.table) (right_number tables some few) (fault_there tables index fault.table fault.there) fault.faulty
+    (λ other earlier before there. let found = table_there tables other earlier there in subst (λ (one : AbstractTable). IsWithinLimits one.config) found.2 (fault.first other found.0 before found.1))
 
 pub fault_small : (tables : List Table) (index : ℕ) → IsFaulty tables index → index < length tables
 fault_small tables index fault = there_within tables index fault.table fault.there

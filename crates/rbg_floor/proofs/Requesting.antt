@@ -24,7 +24,7 @@ requested_within (suc tables) item table asked = by_test (is_request (suc tables
 pub within_tables : (tables index : ℕ) (item : Item) → requested tables item ≡ Some (index + 1) → index < tables
 within_tables tables index item asked = omega (arith, requested_within tables item (index + 1) asked)
 
-same_text : (a b : List ℕ) → bytes_eq a b ≡ true → a ≡ b
+pub same_text : (a b : List ℕ) → bytes_eq a b ≡ true → a ≡ b
 same_text a b test = search (rules, bytes_eq-Decides)
 
 eq_text : (a b : List ℕ) → a ≡ b → bytes_eq a b ≡ true

@@ -279,7 +279,7 @@ module _ (tables line : ℕ) where
   refusal_step events (ticks at) within =
       ap (λ c. refusal_for tables c.items) (nothing_sent line events (ticks at) refl) ∙ sym (append-nil (refusal_for tables (stream_of line events).items))
 
-  asked_untold : (items : List Item) (table : ℕ) → is_for table (first_request tables items) ≡ true → refusal_for tables items ≡ []
+  pub asked_untold : (items : List Item) (table : ℕ) → is_for table (first_request tables items) ≡ true → refusal_for tables items ≡ []
   asked_untold [] table asked = absurd (true≢false (sym asked))
   asked_untold (item ∷ items) table asked = by_asked (requested tables item) asked
     where

@@ -1,20 +1,25 @@
 -- Laws of a hall.
-use Rattle.std.specs.Prelude.{◌≡◌, ◌+◌, ℕ, List, [], Some, Result, length, replicate, slice_get}
+use Rattle.std.specs.Prelude.{◌≡◌, ◌+◌, ℕ, List, [], Some, Result, length, replicate, slice_get, ◌==◌, ◌++◌, true, Option, slice_index_or, if◌then◌else◌}
+use Rattle.std.specs.List.{flat_map}
+use Rattle.rbg_wire.specs.declared.message.Reason.TheVariants.{OutOfTurn}
+use Rattle.rbg_wire.specs.Messages.{refusal_message, spelling}
+use Rattle.rbg_rules.specs.Positions.{IsNumbered}
+use Rattle.rbg_match.specs.Deliveries as deliveries
 use Rattle.rbg_match.specs.Matches.{MatchState}
-use Rattle.rbg_hall.specs.Laws.{HoldsTranscript}
+use Rattle.rbg_hall.specs.Laws.{ChooseAlike, HoldsTranscript}
 use Rattle.rbg_hall.specs.Limits.{lines_in_all}
-use Rattle.rbg_hall.specs.Tables.{TableState}
-use Rattle.rbg_hall.specs.Tellings.{Telling, told_to}
+use Rattle.rbg_hall.specs.Tables.{TableState, OwnEvent, clock, joins, arrives, says, leaves}
+use Rattle.rbg_hall.specs.Tellings.{Telling, told_to, bytes_to}
 use Rattle.rbg_serving.specs.declared.served.Served.{Served}
 use Rattle.rbg_serving.specs.declared.served.ServeError.{ServeError}
 use Rattle.rbg_serving.specs.Serving.{Serves}
 use Rattle.rbg_serving.specs.Told.{Told}
 use Rattle.rbg_floor.specs.Allowed.{IsAllowed}
-use Rattle.rbg_floor.specs.Apart.{concerning, IsExchanged}
+use Rattle.rbg_floor.specs.Apart.{asks_for, concerning, IsExchanged}
 use Rattle.rbg_floor.specs.Events.{AbstractHallEvent}
 use Rattle.rbg_floor.specs.Failing.{HeldHall}
 use Rattle.rbg_floor.specs.Halls.{AbstractTable, HallState, HallRun}
-use Rattle.rbg_floor.specs.Openings.{IsNewHall}
+use Rattle.rbg_floor.specs.Openings.{IsNewHall, MayBeTables}
 use Rattle.rbg_floor.specs.Own.{own}
 use Rattle.rbg_floor.specs.Serving.{IsServedHall, of_hall}
 
@@ -31,22 +36,66 @@ OthersAreUnheard =
     (tables table : ℕ) (events : List AbstractHallEvent) →
     own tables table (concerning tables table events) ≡ own tables table events
 
--- Let two halls have the same table at one place, and let the clock and the lines that ask for it there do the same in
--- both, whatever the other tables are and the other lines do. Then these lines may have in one hall what they may have in
--- the other, and nobody else notices.
+-- Let the same table stand at one place in two halls, of as many tables or not, and let the clock and the lines that ask
+-- for it do the same in both, whatever the other tables are and the other lines do. Then these lines may have in one hall
+-- what they may have in the other, and nobody else notices.
 abbrev pub TablesAreApart : Type 0
 TablesAreApart =
-    (starts others : List AbstractTable) (index : ℕ) (events elsewhere : List AbstractHallEvent)
+    (starts others : List AbstractTable) (index : ℕ) (start : AbstractTable) (events elsewhere : List AbstractHallEvent)
     (first second mixed : List (List ℕ)) →
-    length others ≡ length starts →
-    slice_get others index ≡ slice_get starts index →
-    concerning (length starts) (index + 1) events ≡ concerning (length starts) (index + 1) elsewhere →
+    MayBeTables starts →
+    MayBeTables others →
+    slice_get starts index ≡ Some start →
+    slice_get others index ≡ Some start →
+    concerning (length starts) (index + 1) events ≡ concerning (length others) (index + 1) elsewhere →
     IsAllowed starts events first →
     IsAllowed others elsewhere second →
     IsExchanged (length starts) (index + 1) events first second mixed →
     IsAllowed starts events mixed
 
--- Whatever a hall hears, a match that has begun at a table holds a transcript of what the table heard.
+-- Let two halls be such, and let the matches at that table, if they have begun, be alike: the keeper's moves have the
+-- same pairs, and neither ends because a question is above the limits. Then each line that asks for the table has the
+-- same bytes in both.
+abbrev pub LinesHaveTheSameBytes : Type 0
+LinesHaveTheSameBytes =
+    (starts others : List AbstractTable) (index : ℕ) (start : AbstractTable) (events elsewhere : List AbstractHallEvent)
+    (first second : List (List ℕ)) →
+    MayBeTables starts →
+    MayBeTables others →
+    (here : slice_get starts index ≡ Some start) →
+    (there : slice_get others index ≡ Some start) →
+    IsNumbered start.game.rules →
+    concerning (length starts) (index + 1) events ≡ concerning (length others) (index + 1) elsewhere →
+    (one : IsAllowed starts events first) →
+    (other : IsAllowed others elsewhere second) →
+    ((playing playing' : MatchState) →
+        (one.by_table index start here).state.begun ≡ Some playing →
+        (other.by_table index start there).state.begun ≡ Some playing' →
+        ChooseAlike playing.play playing'.play) →
+    (line : ℕ) →
+    asks_for (length starts) (index + 1) line events ≡ true →
+    slice_index_or first line [] ≡ slice_index_or second line []
+
+-- what a line on a seat is told of an event before the match begins: an item of it is out of turn
+abbrev pub early_refusal : (line : ℕ) → OwnEvent → List ℕ
+early_refusal line (clock at) = []
+early_refusal line (joins other at) = []
+early_refusal line (arrives other at) = []
+early_refusal line (says other at item) = if other == line then spelling (refusal_message OutOfTurn) else []
+early_refusal line (leaves other at) = []
+
+-- The match that has begun at a table, which heard these events. Each line on a seat was told by the hall that its items
+-- before the beginning were out of turn, and then what the transcript says to its seat, and nothing else.
+pub record HoldsMatch (start : AbstractTable) (heard : List OwnEvent) (seats : List (Option ℕ)) (playing : MatchState)
+    (told : List Telling) : Type 0 where
+  pub by_table : List Telling
+  pub holds : HoldsTranscript start.game start.text start.config heard seats playing by_table
+  pub on_seats : (index line : ℕ) →
+      slice_get seats index ≡ Some (Some line) →
+      bytes_to line told ≡ flat_map (early_refusal line) holds.before ++ deliveries.bytes_for (index + 1) holds.said
+
+-- Whatever a hall hears, a match that has begun at a table holds a transcript of what the table heard, and the lines on
+-- its seats are told accordingly.
 abbrev pub BegunMatchesHoldTranscripts : Type 0
 BegunMatchesHoldTranscripts =
     (starts : List AbstractTable) (events : List AbstractHallEvent) (state : HallState) (told : List Telling) →
@@ -55,7 +104,7 @@ BegunMatchesHoldTranscripts =
     slice_get starts index ≡ Some start →
     slice_get state.tables index ≡ Some table →
     table.begun ≡ Some playing →
-    HoldsTranscript start.game start.text start.config (own (length starts) (index + 1) events) table.seats playing
+    HoldsMatch start (own (length starts) (index + 1) events) table.seats playing told
 
 -- What is queued for the lines of a new hall that was served may be queued for them after what was heard.
 abbrev pub ServedHallIsAllowed : Type 0

@@ -1,5 +1,5 @@
 -- How a hall begins.
-use Rattle.std.specs.Prelude.{◌≡◌, ◌+◌, ◌≤◌, false, ℕ, List, [], All, length, map, replicate, slice_get, Some}
+use Rattle.std.specs.Prelude.{◌≡◌, ◌<◌, ◌+◌, ◌≤◌, false, ℕ, List, [], All, length, map, replicate, slice_get, Some}
 use Rattle.rbg_game.specs.Loading.{Loads}
 use Rattle.rbg_match.specs.Config.{IsWithinLimits}
 use Rattle.rbg_hall.specs.Limits.{lines_in_all}
@@ -39,7 +39,7 @@ pub record IsNewHall (starts : List AbstractTable) (hall : HeldHall) (queues : L
 
 -- Why a hall with these tables isn't made.
 --   tables: there is none, or there are too many.
---   config: the config of this table is outside its limits, and there is a right number of tables.
+--   config: there is a right number of tables, and this one is the first whose config is outside its limits.
 --   memory: there was no memory.
 pub data IsRefusedHall (starts : List AbstractTable) : HallError → Type 0 where
   tables : (¬ MayBeTables starts) → IsRefusedHall starts Tables
@@ -47,5 +47,6 @@ pub data IsRefusedHall (starts : List AbstractTable) : HallError → Type 0 wher
       MayBeTables starts →
       slice_get starts index ≡ Some start →
       (¬ IsWithinLimits start.config) →
+      ((other : ℕ) (earlier : AbstractTable) → other < index → slice_get starts other ≡ Some earlier → IsWithinLimits earlier.config) →
       IsRefusedHall starts (Config (index + 1))
   memory : IsRefusedHall starts Memory

@@ -1,7 +1,7 @@
 //! Laws of a hall. The contract of each function is a law; its body does nothing.
 ghost use Rattle.std.specs.Prelude.{◌≡◌};
 ghost use Rattle.rbg_floor.specs.Limits.{most_tables};
-ghost use Rattle.rbg_floor.specs.Laws.{BegunMatchesHoldTranscripts, OthersAreUnheard, RunIsAllowed, ServedHallIsAllowed, TablesAreApart};
+ghost use Rattle.rbg_floor.specs.Laws.{BegunMatchesHoldTranscripts, OthersAreUnheard, RunIsAllowed, ServedHallIsAllowed, TablesAreApart, LinesHaveTheSameBytes};
 
 use crate::TABLES;
 
@@ -25,7 +25,13 @@ pub fn tables_are_apart()
     ensures { TablesAreApart }
 {}
 
-/// A match that has begun at a table is one of the rules, whatever the hall heard.
+/// Where a table, the clock and the lines that ask for it do the same in two halls, these lines have the same bytes in
+/// both, but for the keeper's moves and questions above the limits.
+pub fn lines_have_the_same_bytes()
+    ensures { LinesHaveTheSameBytes }
+{}
+
+/// A match that has begun at a table is one of the rules, whatever the hall heard, and its lines are told what it says.
 pub fn begun_matches_hold_transcripts()
     ensures { BegunMatchesHoldTranscripts }
 {}

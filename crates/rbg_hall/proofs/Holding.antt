@@ -1,30 +1,46 @@
 -- A run of a table holds a transcript of its match.
-use Rattle.std.proofs.Common.{◌≡◌, ℕ, false, List, [], ◌∷◌, ◌++◌, refl, sym, ap, ◌∙◌, subst, append_assoc, Option, Some, None, replicate}
-use Rattle.std.proofs.lemmas.List.{append-nil}
+use Rattle.std.proofs.Common.{◌≡◌, ◌≢◌, ℕ, zero, suc, ◌+◌, ◌<◌, List, [], ◌∷◌, ◌++◌, length, get_or, true, false, refl, sym, ap, ◌∙◌, subst, append_assoc, arith, Option, Some, None, replicate}
+use Rattle.std.proofs.lemmas.Bool.{eq-eqb, eqb-true, ne_eqb}
+use Rattle.std.proofs.lemmas.List.{append-nil, length-replicate, length-set}
+use Rattle.std.proofs.lemmas.List.Concat.{flat_map-append}
 use Rattle.std.proofs.lemmas.Option.{none-some}
+use Rattle.std.specs.Prelude.{◌==◌, slice_get, slice_set, if◌then◌else◌}
+use Rattle.std.specs.List.{flat_map}
+use Rattle.rbg_wire.specs.declared.message.Reason.TheVariants.{NoSeat}
+use Rattle.rbg_wire.specs.Messages.{refusal_message, spelling}
 use Rattle.rbg_rules.specs.State.{AbstractGame}
 use Rattle.rbg_match.specs.declared.config.Config.{Config}
-use Rattle.rbg_match.specs.Deliveries.{delivered}
+use Rattle.rbg_match.specs.Deliveries.{Delivery, bytes_for, delivered, delivered_from, queued}
 use Rattle.rbg_match.specs.Inputs.{AbstractEvent, timed_inputs_in}
 use Rattle.rbg_match.specs.Matches.{MatchState, Opens, Steps, StepsAll}
 use Rattle.rbg_match.specs.Matches as matches
 use Rattle.rbg_match.specs.PlayingOn.{seats_of}
-use Rattle.rbg_match.proofs.Delivering.{delivered-none}
+use Rattle.rbg_match.proofs.AllEvents.{all_handled}
+use Rattle.rbg_match.proofs.Delivering.{delivered-none, delivered-queued, length-delivered}
 use Rattle.rbg_match.proofs.EndedLemmas.{ended_play_stays}
-use Rattle.rbg_match.proofs.WholeMatch.{stepped_is_transcript}
-use Rattle.rbg_hall.specs.Laws.{Hands, HandsEach, HoldsTranscript, RunHoldsTranscript, late, stirs_not, says_not, goes_not}
+use Rattle.rbg_match.proofs.WholeMatch.{seats_of_opened, stepped_is_transcript}
+use Rattle.rbg_hall.specs.Laws.{Hands, HandsEach, HoldsTranscript, RunHoldsTranscript, TakesLast, late_refusal, late, stirs_not, says_not, goes_not}
 use Rattle.rbg_hall.specs.Laws as laws
-use Rattle.rbg_hall.specs.Tables.{TableState, TableRun, OwnEvent, joins, Plays, Hears, waits, ticks, sits, begins, is_full, comes_late, waits_too, stirs, is_early, plays, frees, goes, is_moment_for_none, is_unheard, goes_unheard, new_table}
+use Rattle.rbg_hall.specs.Tables.{TableState, TableRun, OwnEvent, joins, Plays, Hears, waits, ticks, sits, begins, is_full, comes_late, stays, waits_too, stirs, is_early, plays, frees, goes, is_moment_for_none, is_unheard, goes_unheard, new_table, SitsAt, HasNoSeat}
 use Rattle.rbg_hall.specs.Tables as tables
-use Rattle.rbg_hall.specs.Tellings.{Telling}
+use Rattle.rbg_hall.specs.Tellings.{Telling, bytes_to, telling, to_lines, refusal_to}
+use Rattle.rbg_hall.proofs.Places.{there_within}
+use Rattle.rbg_hall.proofs.Seats.{SitsNowhere, SeatsDiffer, all_differ, differ_taken, none_on, own_on}
+use Rattle.rbg_hall.proofs.Telling.{bytes_to-append, bytes_to-other}
 
--- The match of a table that has begun: when it began, and what it was handed and stepped through since.
-pub record Began (game : AbstractGame) (text : List ℕ) (config : Config) (events : List OwnEvent) (seats : List (Option ℕ)) (playing : MatchState) : Type 0 where
+-- The match of a table that has begun: when it began, what it was handed and stepped through since, and what the lines
+-- were told.
+pub record Began (game : AbstractGame) (text : List ℕ) (config : Config) (events : List OwnEvent) (seats : List (Option ℕ)) (playing : MatchState) (told : List Telling) : Type 0 where
   pub before : List OwnEvent
   pub line : ℕ
   pub at : ℕ
   pub after : List OwnEvent
   pub whole : events ≡ before ++ joins line at ∷ after
+  pub gathering : TableState
+  pub early : List Telling
+  pub gathers : TableRun game text config before gathering early
+  pub waits : gathering.begun ≡ None
+  pub takes : TakesLast gathering line seats
   pub handed : List AbstractEvent
   pub hands : HandsEach seats after handed
   pub opened : MatchState
@@ -32,13 +48,40 @@ pub record Began (game : AbstractGame) (text : List ℕ) (config : Config) (even
   pub last : List (List ℕ)
   pub opens : Opens game text config at opened first
   pub steps : StepsAll opened first handed playing last
+  pub count : length last ≡ seats_of game
+  pub on_seats : (index one : ℕ) → slice_get seats index ≡ Some (Some one) → bytes_to one told ≡ bytes_to one early ++ get_or last index []
+  pub elsewhere : (one : ℕ) → SitsNowhere one seats → bytes_to one told ≡ bytes_to one early ++ flat_map (late_refusal one) after
 
 -- A table keeps its game, its text and its config, and its match, if it has begun, is such a one.
-pub record Kept (game : AbstractGame) (text : List ℕ) (config : Config) (events : List OwnEvent) (state : TableState) : Type 0 where
+pub record Kept (game : AbstractGame) (text : List ℕ) (config : Config) (events : List OwnEvent) (state : TableState) (told : List Telling) : Type 0 where
   pub same_game : state.game ≡ game
   pub same_text : state.text ≡ text
   pub same_config : state.config ≡ config
-  pub began : (playing : MatchState) → state.begun ≡ Some playing → Began game text config events state.seats playing
+  pub count : length state.seats ≡ seats_of game
+  pub began : (playing : MatchState) → state.begun ≡ Some playing → Began game text config events state.seats playing told
+
+-- what a seat has, followed by the bytes of messages to it
+delivered_at : (seat : ℕ) (box : List (List ℕ)) (said : List Delivery) (index : ℕ) → index < length box → get_or (delivered_from seat box said) index [] ≡ get_or box index [] ++ bytes_for (seat + index) said
+delivered_at seat [] said index within = absurd (omega arith)
+delivered_at seat (bytes ∷ box) said zero within = ap (λ one. bytes ++ bytes_for one said) number
+  where
+    number : seat ≡ seat + 0
+    number = omega arith
+delivered_at seat (bytes ∷ box) said (suc index) within =
+    delivered_at (suc seat) box said index (omega arith) ∙ ap (λ one. get_or box index [] ++ bytes_for one said) number
+  where
+    number : suc seat + index ≡ seat + suc index
+    number = omega arith
+
+nothing_at : (n i : ℕ) → get_or {A = List ℕ} (replicate n []) i [] ≡ []
+nothing_at zero i = refl
+nothing_at (suc n) zero = refl
+nothing_at (suc n) (suc i) = nothing_at n i
+
+from_nothing : (n index : ℕ) (said : List Delivery) → index < n → get_or (delivered (replicate n []) said) index [] ≡ bytes_for (1 + index) said
+from_nothing n index said within =
+    delivered_at 1 (replicate n []) said index (subst (λ count. index < count) (sym (length-replicate {A = List ℕ} n [])) within)
+    ∙ ap (λ had. had ++ bytes_for (1 + index) said) (nothing_at n index)
 
 -- a step says the same, whatever the seats had
 step_on : {old new : MatchState} {event : AbstractEvent} {before after : List (List ℕ)} (others : List (List ℕ)) → (step : Steps old event new before after) → Steps old event new others (delivered others step.said)
@@ -58,18 +101,39 @@ step_on {old = old} {new = new} {event = event} others step = record {
       ap (delivered others) (ended_play_stays old.game old.config old.play new.play outcome (timed_inputs_in old.streams event) step.said is step.handles).1 ∙ delivered-none others;
 }
 
+-- what is told behind what a line was told
+behind : (one : ℕ) (told next : List Telling) (before more : List ℕ) → bytes_to one told ≡ before → bytes_to one next ≡ more → bytes_to one (told ++ next) ≡ before ++ more
+behind one told next before more had has = bytes_to-append one told next ∙ (λ i. had i ++ has i)
+
+-- the one line of a telling
+told_one : (one line : ℕ) (bytes : List ℕ) → bytes_to one (telling line bytes) ≡ (if line == one then bytes else [])
+told_one one line bytes = append-nil (if line == one then bytes else [])
+
 module _ (game : AbstractGame) (text : List ℕ) (config : Config) (events : List OwnEvent) (event : OwnEvent) where
   longer : (before : List OwnEvent) (line at : ℕ) (after : List OwnEvent) → events ≡ before ++ joins line at ∷ after → events ++ event ∷ [] ≡ before ++ joins line at ∷ (after ++ event ∷ [])
   longer before line at after whole = ap (λ one. one ++ event ∷ []) whole ∙ append_assoc before (joins line at ∷ after) (event ∷ [])
 
+  -- a line without a seat, behind one more event
+  further : (one : ℕ) (early told next : List Telling) (after : List OwnEvent) → bytes_to one told ≡ bytes_to one early ++ flat_map (late_refusal one) after → bytes_to one next ≡ late_refusal one event → bytes_to one (told ++ next) ≡ bytes_to one early ++ flat_map (late_refusal one) (after ++ event ∷ [])
+  further one early told next after had has =
+      behind one told next (bytes_to one early ++ flat_map (late_refusal one) after) (late_refusal one event) had has
+      ∙ append_assoc (bytes_to one early) (flat_map (late_refusal one) after) (late_refusal one event)
+      ∙ ap (λ more. bytes_to one early ++ more)
+      (ap (λ last. flat_map (late_refusal one) after ++ last) (sym (append-nil (late_refusal one event))) ∙ sym (flat_map-append (late_refusal one) after (event ∷ [])))
+
   -- an event of which the match is handed nothing
-  passed : (seats : List (Option ℕ)) (playing : MatchState) → Hands seats event [] → Began game text config events seats playing → Began game text config (events ++ event ∷ []) seats playing
-  passed seats playing hands began = record {
+  passed : (seats : List (Option ℕ)) (playing : MatchState) (told next : List Telling) → Hands seats event [] → ((index one : ℕ) → slice_get seats index ≡ Some (Some one) → bytes_to one next ≡ []) → ((one : ℕ) → SitsNowhere one seats → bytes_to one next ≡ late_refusal one event) → Began game text config events seats playing told → Began game text config (events ++ event ∷ []) seats playing (told ++ next)
+  passed seats playing told next hands seated others began = record {
     before = began.before;
     line = began.line;
     at = began.at;
     after = began.after ++ event ∷ [];
     whole = longer began.before began.line began.at began.after began.whole;
+    gathering = began.gathering;
+    early = began.early;
+    gathers = began.gathers;
+    waits = began.waits;
+    takes = began.takes;
     handed = began.handed;
     hands = subst (λ one. HandsEach seats (began.after ++ event ∷ []) one) (append-nil began.handed) (laws.more began.hands hands);
     opened = began.opened;
@@ -77,16 +141,26 @@ module _ (game : AbstractGame) (text : List ℕ) (config : Config) (events : Lis
     last = began.last;
     opens = began.opens;
     steps = began.steps;
+    count = began.count;
+    on_seats = λ index one there.
+        behind one told next (bytes_to one began.early ++ get_or began.last index []) [] (began.on_seats index one there) (seated index one there)
+        ∙ append-nil (bytes_to one began.early ++ get_or began.last index []);
+    elsewhere = λ one nowhere. further one began.early told next began.after (began.elsewhere one nowhere) (others one nowhere);
   }
 
   -- an event that the match handles
-  stepped : (seats : List (Option ℕ)) (playing next : MatchState) (handed : AbstractEvent) (before after : List (List ℕ)) → Hands seats event (handed ∷ []) → Steps playing handed next before after → Began game text config events seats playing → Began game text config (events ++ event ∷ []) seats next
-  stepped seats playing next handed before after hands step began = record {
+  stepped : (seats : List (Option ℕ)) (playing after : MatchState) (told : List Telling) (handed : AbstractEvent) (queues : List (List ℕ)) → length seats ≡ seats_of game → SeatsDiffer seats → ((one : ℕ) → late_refusal one event ≡ []) → Hands seats event (handed ∷ []) → Steps playing handed after (replicate (seats_of game) []) queues → Began game text config events seats playing told → Began game text config (events ++ event ∷ []) seats after (told ++ to_lines seats queues)
+  stepped seats playing next told handed queues seated differ quiet hands step began = record {
     before = began.before;
     line = began.line;
     at = began.at;
     after = began.after ++ event ∷ [];
     whole = longer began.before began.line began.at began.after began.whole;
+    gathering = began.gathering;
+    early = began.early;
+    gathers = began.gathers;
+    waits = began.waits;
+    takes = began.takes;
     handed = began.handed ++ handed ∷ [];
     hands = laws.more began.hands hands;
     opened = began.opened;
@@ -94,63 +168,89 @@ module _ (game : AbstractGame) (text : List ℕ) (config : Config) (events : Lis
     last = delivered began.last step.said;
     opens = began.opens;
     steps = matches.more began.steps (step_on began.last step);
+    count = length-delivered began.last step.said ∙ began.count;
+    on_seats = λ index one there. on_seat index one there;
+    elsewhere = λ one nowhere. further one began.early told (to_lines seats queues) began.after (began.elsewhere one nowhere) (none_on one seats queues nowhere ∙ sym (quiet one));
   }
+    where
+      on_seat : (index one : ℕ) → slice_get seats index ≡ Some (Some one) → bytes_to one (told ++ to_lines seats queues) ≡ bytes_to one began.early ++ get_or (delivered began.last step.said) index []
+      on_seat index one there =
+          let there_is : index < seats_of game = subst (λ n. index < n) seated (there_within seats index (Some one) there) in
+          let there_was : index < length began.last = subst (λ n. index < n) (sym began.count) there_is in
+          let own : bytes_to one (to_lines seats queues) ≡ bytes_for (1 + index) step.said =
+          own_on one seats queues index differ there ∙ ap (λ all. get_or all index []) step.told ∙ from_nothing (seats_of game) index step.said there_is in
+          behind one told (to_lines seats queues) (bytes_to one began.early ++ get_or began.last index []) (bytes_for (1 + index) step.said) (began.on_seats index one there) own
+          ∙ append_assoc (bytes_to one began.early) (get_or began.last index []) (bytes_for (1 + index) step.said)
+          ∙ ap (λ all. bytes_to one began.early ++ all) (sym (delivered_at 1 began.last step.said index there_was))
 
   -- the table stays as it is
-  unheard : (old : TableState) → Hands old.seats event [] → Kept game text config events old → Kept game text config (events ++ event ∷ []) old
-  unheard old hands kept = record {
+  unheard : (old : TableState) (told next : List Telling) → Hands old.seats event [] → ((index one : ℕ) → slice_get old.seats index ≡ Some (Some one) → bytes_to one next ≡ []) → ((one : ℕ) → SitsNowhere one old.seats → bytes_to one next ≡ late_refusal one event) → Kept game text config events old told → Kept game text config (events ++ event ∷ []) old (told ++ next)
+  unheard old told next hands seated others kept = record {
     same_game = kept.same_game;
     same_text = kept.same_text;
     same_config = kept.same_config;
-    began = λ playing is. passed old.seats playing hands (kept.began playing is);
+    count = kept.count;
+    began = λ playing is. passed old.seats playing told next hands seated others (kept.began playing is);
   }
 
   -- the table waits, and perhaps its seats change
-  waiting : (old : TableState) (seats : List (Option ℕ)) → old.begun ≡ None → Kept game text config events old → Kept game text config (events ++ event ∷ []) (record old { seats = seats })
-  waiting old seats none kept = record {
+  waiting : (old : TableState) (told next : List Telling) (seats : List (Option ℕ)) → length seats ≡ length old.seats → old.begun ≡ None → Kept game text config events old told → Kept game text config (events ++ event ∷ []) (record old { seats = seats }) (told ++ next)
+  waiting old told next seats same none kept = record {
     same_game = kept.same_game;
     same_text = kept.same_text;
     same_config = kept.same_config;
+    count = same ∙ kept.count;
     began = λ playing is. absurd (none-some playing (sym none ∙ is));
   }
 
-  waiting_still : (old : TableState) → old.begun ≡ None → Kept game text config events old → Kept game text config (events ++ event ∷ []) old
-  waiting_still old none kept = record {
+  waiting_still : (old : TableState) (told next : List Telling) → old.begun ≡ None → Kept game text config events old told → Kept game text config (events ++ event ∷ []) old (told ++ next)
+  waiting_still old told next none kept = record {
     same_game = kept.same_game;
     same_text = kept.same_text;
     same_config = kept.same_config;
+    count = kept.count;
     began = λ playing is. absurd (none-some playing (sym none ∙ is));
   }
 
-  played : (old new : TableState) (told : List Telling) (handed : AbstractEvent) → Hands old.seats event (handed ∷ []) → Plays old handed new told → Kept game text config events old → Kept game text config (events ++ event ∷ []) new
-  played old new told handed hands play kept =
-      subst (λ (one : TableState). Kept game text config (events ++ event ∷ []) one) (sym play.is)
+  played : (old new : TableState) (told next : List Telling) (handed : AbstractEvent) → SeatsDiffer old.seats → ((one : ℕ) → late_refusal one event ≡ []) → Hands old.seats event (handed ∷ []) → Plays old handed new next → Kept game text config events old told → Kept game text config (events ++ event ∷ []) new (told ++ next)
+  played old new told next handed differ quiet hands play kept =
+      subst (λ (one : TableState). Kept game text config (events ++ event ∷ []) one (told ++ next)) (sym play.is)
       (record {
         same_game = kept.same_game;
         same_text = kept.same_text;
         same_config = kept.same_config;
+        count = kept.count;
         began = λ playing is.
-            subst (λ (one : MatchState). Began game text config (events ++ event ∷ []) old.seats one) (same_match play.after playing is)
-            (stepped old.seats play.before play.after handed (replicate (seats_of old.game) []) play.queues hands play.steps (kept.began play.before play.begun));
+            subst (λ (one : MatchState). Began game text config (events ++ event ∷ []) old.seats one (told ++ next)) (same_match play.after playing is)
+            (subst (λ all. Began game text config (events ++ event ∷ []) old.seats play.after (told ++ all)) (sym play.to)
+            (stepped old.seats play.before play.after told handed play.queues kept.count differ quiet hands
+            (subst (λ (one : AbstractGame). Steps play.before handed play.after (replicate (seats_of one) []) play.queues) kept.same_game play.steps)
+            (kept.began play.before play.begun)));
       })
     where
       same_match : (one other : MatchState) → Some one ≡ Some other → one ≡ other
       same_match one other is = cc
 
 -- the match begins
-opened_here : (game : AbstractGame) (text : List ℕ) (config : Config) (events : List OwnEvent) (line at : ℕ) (old : TableState) (seats : List (Option ℕ)) (opened : MatchState) (queues : List (List ℕ)) → Opens old.game old.text old.config at opened queues → Kept game text config events old → Kept game text config (events ++ joins line at ∷ []) (record old { seats = seats; begun = Some opened })
-opened_here game text config events line at old seats opened queues opens kept = record {
+opened_here : (game : AbstractGame) (text : List ℕ) (config : Config) (events : List OwnEvent) (line at : ℕ) (old : TableState) (told : List Telling) (seats : List (Option ℕ)) (opened : MatchState) (queues : List (List ℕ)) → TableRun game text config events old told → old.begun ≡ None → TakesLast old line seats → SeatsDiffer seats → length seats ≡ length old.seats → Opens old.game old.text old.config at opened queues → Kept game text config events old told → Kept game text config (events ++ joins line at ∷ []) (record old { seats = seats; begun = Some opened }) (told ++ to_lines seats queues)
+opened_here game text config events line at old told seats opened queues run none takes differ same opens kept = record {
   same_game = kept.same_game;
   same_text = kept.same_text;
   same_config = kept.same_config;
+  count = same ∙ kept.count;
   began = λ playing is.
-      subst (λ (one : MatchState). Began game text config (events ++ joins line at ∷ []) seats one) (same_match opened playing is)
+      subst (λ (one : MatchState). Began game text config (events ++ joins line at ∷ []) seats one (told ++ to_lines seats queues)) (same_match opened playing is)
       (record {
         before = events;
         line = line;
         at = at;
         after = [];
         whole = refl;
+        gathering = old;
+        early = told;
+        gathers = run;
+        waits = none;
+        takes = takes;
         handed = [];
         hands = laws.none;
         opened = opened;
@@ -158,6 +258,9 @@ opened_here game text config events line at old seats opened queues opens kept =
         last = queues;
         opens = own_opens;
         steps = matches.none;
+        count = seats_of_opened game text config at opened queues own_opens ∙ ap seats_of own_opens.of_game;
+        on_seats = λ index one there. behind one told (to_lines seats queues) (bytes_to one told) (get_or queues index []) refl (own_on one seats queues index differ there);
+        elsewhere = λ one nowhere. behind one told (to_lines seats queues) (bytes_to one told) [] refl (none_on one seats queues nowhere);
       });
 }
   where
@@ -170,45 +273,80 @@ opened_here game text config events line at old seats opened queues opens kept =
         (subst (λ one. Opens old.game one config at opened queues) kept.same_text
         (subst (λ (one : Config). Opens old.game old.text one at opened queues) kept.same_config opens))
 
-one_kept : {old new : TableState} {event : OwnEvent} {told : List Telling} (game : AbstractGame) (text : List ℕ) (config : Config) (events : List OwnEvent) → Kept game text config events old → Hears old event new told → Kept game text config (events ++ event ∷ []) new
-one_kept {old} game text config events kept (waits none) = waiting_still game text config events _ old none kept
-one_kept {old} {new} {told = told} game text config events kept (ticks play) = played game text config events _ old new told _ laws.ticks play kept
-one_kept {old} game text config events kept (sits index other none first free) = waiting game text config events _ old _ none kept
-one_kept {old} game text config events kept (begins {line} {at} {opened} {queues} index none first taken opens) = opened_here game text config events line at old _ opened queues opens kept
-one_kept {old} game text config events kept (is_full taken) = unheard game text config events _ old late kept
-one_kept {old} game text config events kept (comes_late begun) = unheard game text config events _ old late kept
-one_kept {old} game text config events kept (waits_too none) = waiting_still game text config events _ old none kept
-one_kept {old} {new} {told = told} game text config events kept (stirs index seat play) = played game text config events _ old new told _ (laws.stirs index seat) play kept
-one_kept {old} game text config events kept (is_early index seat none) = waiting_still game text config events _ old none kept
-one_kept {old} {new} {told = told} game text config events kept (plays index seat play) = played game text config events _ old new told _ (laws.plays index seat) play kept
-one_kept {old} game text config events kept (frees index seat none) = waiting game text config events _ old _ none kept
-one_kept {old} {new} {told = told} game text config events kept (goes index seat play) = played game text config events _ old new told _ (laws.goes index seat) play kept
-one_kept {old} game text config events kept (is_moment_for_none none) = unheard game text config events _ old (stirs_not none) kept
-one_kept {old} game text config events kept (is_unheard none) = unheard game text config events _ old (says_not none) kept
-one_kept {old} game text config events kept (goes_unheard none) = unheard game text config events _ old (goes_not none) kept
+-- a line without a seat is told that there is none, and no other one is told so
+refused_seated : (table : TableState) (line : ℕ) (bytes : List ℕ) → HasNoSeat table line → (index one : ℕ) → SitsAt table one index → bytes_to one (telling line bytes) ≡ []
+refused_seated table line bytes nowhere index one there = bytes_to-other one line bytes (λ same. nowhere index (there ∙ ap (λ (n : ℕ). Some (Some n)) (sym same)))
 
-all_kept : {game : AbstractGame} {text : List ℕ} {config : Config} {events : List OwnEvent} {state : TableState} {told : List Telling} → TableRun game text config events state told → Kept game text config events state
-all_kept tables.none = record { same_game = refl; same_text = refl; same_config = refl; began = λ playing is. absurd (none-some playing is) }
-all_kept {game} {text} {config} (tables.more {events} run hears) = one_kept game text config events (all_kept run) hears
+stayed_elsewhere : (table : TableState) (line index : ℕ) (bytes : List ℕ) → SitsAt table line index → (one : ℕ) → HasNoSeat table one → [] ≡ (if line == one then bytes else [])
+stayed_elsewhere table line index bytes seat one nowhere = ap (λ test. if test then bytes else []) (sym (ne_eqb line one (λ same. nowhere index (seat ∙ ap (λ (n : ℕ). Some (Some n)) same))))
 
--- a match that opens and handles events hasn't failed
-works_still : {game : AbstractGame} {text : List ℕ} {config : Config} {at : ℕ} {opened playing : MatchState} {first last : List (List ℕ)} {handed : List AbstractEvent} → Opens game text config at opened first → StepsAll opened first handed playing last → playing.failed ≡ false
-works_still opens matches.none = opens.works
-works_still opens (matches.more steps step) = step.works
+one_kept : {old new : TableState} {event : OwnEvent} {told next : List Telling} (game : AbstractGame) (text : List ℕ) (config : Config) (events : List OwnEvent) → TableRun game text config events old told → Kept game text config events old told → Hears old event new next → Kept game text config (events ++ event ∷ []) new (told ++ next)
+one_kept {old} {told = told} {next} game text config events run kept (waits none) = waiting_still game text config events _ old told next none kept
+one_kept {old} {new} {told = told} {next} game text config events run kept (ticks play) = played game text config events _ old new told next _ (all_differ run) (λ one. refl) laws.ticks play kept
+one_kept {old} {told = told} {next} game text config events run kept (sits {line} index other none nowhere first free) = waiting game text config events _ old told next _ (length-set old.seats index (Some line)) none kept
+one_kept {old} {told = told} game text config events run kept (begins {line} {at} {opened} {queues} index none nowhere first taken opens) =
+    opened_here game text config events line at old told (slice_set old.seats index (Some line)) opened queues run none
+    (record { index = index; has_none = nowhere; free = first; taken = refl; full = taken })
+    (differ_taken old.seats index line (all_differ run) nowhere) (length-set old.seats index (Some line)) opens kept
+one_kept {old} {told = told} {next} game text config events run kept (is_full {line} nowhere taken) = unheard game text config events _ old told next late (refused_seated old line (spelling (refusal_message NoSeat)) nowhere) (λ one away. told_one one line (spelling (refusal_message NoSeat))) kept
+one_kept {old} {told = told} {next} game text config events run kept (comes_late {line} nowhere begun) = unheard game text config events _ old told next late (refused_seated old line (spelling (refusal_message NoSeat)) nowhere) (λ one away. told_one one line (spelling (refusal_message NoSeat))) kept
+one_kept {old} {told = told} {next} game text config events run kept (stays {line} seat) = unheard game text config events _ old told next late (λ index one there. refl) (stayed_elsewhere old line seat.index (spelling (refusal_message NoSeat)) seat.sits) kept
+one_kept {old} {told = told} {next} game text config events run kept (waits_too none) = waiting_still game text config events _ old told next none kept
+one_kept {old} {new} {told = told} {next} game text config events run kept (stirs index seat play) = played game text config events _ old new told next _ (all_differ run) (λ one. refl) (laws.stirs index seat) play kept
+one_kept {old} {told = told} {next} game text config events run kept (is_early index seat none) = waiting_still game text config events _ old told next none kept
+one_kept {old} {new} {told = told} {next} game text config events run kept (plays index seat play) = played game text config events _ old new told next _ (all_differ run) (λ one. refl) (laws.plays index seat) play kept
+one_kept {old} {told = told} {next} game text config events run kept (frees index seat none) = waiting game text config events _ old told next _ (length-set old.seats index None) none kept
+one_kept {old} {new} {told = told} {next} game text config events run kept (goes index seat play) = played game text config events _ old new told next _ (all_differ run) (λ one. refl) (laws.goes index seat) play kept
+one_kept {old} {told = told} {next} game text config events run kept (is_moment_for_none none) = unheard game text config events _ old told next (stirs_not none) (λ index one there. refl) (λ one away. refl) kept
+one_kept {old} {told = told} {next} game text config events run kept (is_unheard none) = unheard game text config events _ old told next (says_not none) (λ index one there. refl) (λ one away. refl) kept
+one_kept {old} {told = told} {next} game text config events run kept (goes_unheard none) = unheard game text config events _ old told next (goes_not none) (λ index one there. refl) (λ one away. refl) kept
+
+all_kept : {game : AbstractGame} {text : List ℕ} {config : Config} {events : List OwnEvent} {state : TableState} {told : List Telling} → TableRun game text config events state told → Kept game text config events state told
+all_kept {game = game} tables.none = record { same_game = refl; same_text = refl; same_config = refl; count = length-replicate {A = Option ℕ} (seats_of game) None; began = λ playing is. absurd (none-some playing is) }
+all_kept {game} {text} {config} (tables.more {events} run hears) = one_kept game text config events run (all_kept run) hears
+
+-- a match keeps when it began, and works as long as it is stepped
+begun_once : {old : MatchState} {before : List (List ℕ)} {events : List AbstractEvent} {new : MatchState} {after : List (List ℕ)} → StepsAll old before events new after → new.began ≡ old.began
+begun_once matches.none = refl
+begun_once (matches.more steps step) = step.same_begin ∙ begun_once steps
+
+still_works : {old : MatchState} {before : List (List ℕ)} {events : List AbstractEvent} {new : MatchState} {after : List (List ℕ)} → old.failed ≡ false → StepsAll old before events new after → new.failed ≡ false
+still_works works matches.none = works
+still_works works (matches.more steps step) = step.works
 
 pub run_holds_transcript : RunHoldsTranscript
 run_holds_transcript game text config events told hall playing is =
-    let began = (all_kept hall.runs).began playing is in
+    let kept = all_kept hall.runs in
+    let began = kept.began playing is in
     let stepped = stepped_is_transcript game text config began.at began.handed began.opened playing began.first began.last began.opens began.steps in
+    let handled = all_handled began.steps in
     record {
       before = began.before;
       line = began.line;
       at = began.at;
       after = began.after;
       whole = began.whole;
+      gathering = began.gathering;
+      early = began.early;
+      gathers = began.gathers;
+      waits = began.waits;
+      takes = began.takes;
       handed = began.handed;
       hands = began.hands;
       said = stepped.0;
       transcript = stepped.1;
-      works = works_still began.opens began.steps;
+      of_game = handled.same_game ∙ began.opens.of_game;
+      of_config = handled.same_config ∙ began.opens.of_config;
+      begins = begun_once began.steps ∙ began.opens.begins;
+      works = still_works began.opens.works began.steps;
+      on_seats = λ index one there.
+          began.on_seats index one there
+          ∙ ap (λ own. bytes_to one began.early ++ own)
+          (ap (λ all. get_or all index []) (stepped.2 ∙ sym (delivered-queued (seats_of game) stepped.0))
+          ∙ from_nothing (seats_of game) index stepped.0 (subst (λ n. index < n) kept.count (there_within hall.state.seats index (Some one) there))
+          ∙ ap (λ seat. bytes_for seat stepped.0) (next_seat index));
+      elsewhere = began.elsewhere;
     }
+  where
+    next_seat : (index : ℕ) → 1 + index ≡ index + 1
+    next_seat index = omega arith

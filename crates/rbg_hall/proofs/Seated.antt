@@ -10,7 +10,7 @@ use Rattle.rbg_wire.specs.declared.message.Reason.TheVariants.{OutOfTurn, NoSeat
 use Rattle.rbg_wire.specs.Streams.{Item}
 use Rattle.rbg_wire.specs.Whole.{whole_item}
 use Rattle.rbg_match.specs.Limits.{message_limit}
-use Rattle.rbg_hall.specs.Tables.{TableState, Plays, Hears, OwnEvent, clock, joins, arrives, says, leaves, waits, ticks, sits, is_full, comes_late, waits_too, stirs, is_early, frees, goes, is_moment_for_none, is_unheard, goes_unheard, SitsAt, HasNoSeat, AreTaken}
+use Rattle.rbg_hall.specs.Tables.{TableState, Plays, Hears, OwnEvent, clock, joins, arrives, says, leaves, waits, ticks, sits, is_full, comes_late, stays, waits_too, stirs, is_early, frees, goes, is_moment_for_none, is_unheard, goes_unheard, SitsAt, HasNoSeat, AreTaken}
 use Rattle.rbg_hall.specs.Tables as tables
 use Rattle.rbg_hall.specs.Tellings.{refusal_to, to_lines, told_to}
 use Rattle.rbg_hall.specs.internal.Hearing.{PlaysFor, BeginsFor, IsFirstAt}
@@ -53,33 +53,37 @@ none_by None test = refl
 none_by (Some playing) test = absurd (true≢false (sym test))
 
 -- a line that asks for a seat too late, or where all are taken
-pub late : (table : TableState) (line at : ℕ) (before after : List (List ℕ)) → is_none table.begun ≡ false → after ≡ told_to before (refusal_to line NoSeat) → HearsFor table (joins line at) table before after
-late table line at before after begun queued = by_begun table.begun refl begun
+pub late : (table : TableState) (line at : ℕ) (before after : List (List ℕ)) → HasNoSeat table line → is_none table.begun ≡ false → after ≡ told_to before (refusal_to line NoSeat) → HearsFor table (joins line at) table before after
+late table line at before after nowhere begun queued = by_begun table.begun refl begun
   where
     by_begun : (one : Option MatchState) → table.begun ≡ one → is_none one ≡ false → HearsFor table (joins line at) table before after
     by_begun None is test = absurd (true≢false test)
-    by_begun (Some playing) is test = record { told = refusal_to line NoSeat; hears = comes_late is; queued = queued }
+    by_begun (Some playing) is test = record { told = refusal_to line NoSeat; hears = comes_late nowhere is; queued = queued }
 
-pub full : (table : TableState) (line at : ℕ) (before after : List (List ℕ)) → AreTaken table.seats → after ≡ told_to before (refusal_to line NoSeat) → HearsFor table (joins line at) table before after
-full table line at before after taken queued = record { told = refusal_to line NoSeat; hears = is_full taken; queued = queued }
+pub full : (table : TableState) (line at : ℕ) (before after : List (List ℕ)) → HasNoSeat table line → AreTaken table.seats → after ≡ told_to before (refusal_to line NoSeat) → HearsFor table (joins line at) table before after
+full table line at before after nowhere taken queued = record { told = refusal_to line NoSeat; hears = is_full nowhere taken; queued = queued }
+
+-- a line that has a seat asks for one
+pub stayed : (table : TableState) (line at index : ℕ) (queues : List (List ℕ)) → SitsAt table line index → HearsFor table (joins line at) table queues queues
+stayed table line at index queues seat = record { told = []; hears = stays (record { index = index; sits = seat }); queued = sym (told_to-none queues) }
 
 -- a line that sits down, where a seat is left and where none is
-pub sat : (old new : TableState) (index other line at : ℕ) (queues : List (List ℕ)) → old.begun ≡ None → IsFirstAt old.seats None index → new ≡ record old { seats = set old.seats index (Some line) } → slice_get new.seats other ≡ Some None → HearsFor old (joins line at) new queues queues
-sat old new index other line at queues idle first is free = record {
+pub sat : (old new : TableState) (index other line at : ℕ) (queues : List (List ℕ)) → old.begun ≡ None → HasNoSeat old line → IsFirstAt old.seats None index → new ≡ record old { seats = set old.seats index (Some line) } → slice_get new.seats other ≡ Some None → HearsFor old (joins line at) new queues queues
+sat old new index other line at queues idle nowhere first is free = record {
   told = [];
   hears = subst (λ (one : TableState). Hears old (joins line at) one []) (sym is)
-      (sits index other idle (record { free = first.there; first = first.first }) (subst (λ (one : TableState). slice_get one.seats other ≡ Some None) is free));
+      (sits index other idle nowhere (record { free = first.there; first = first.first }) (subst (λ (one : TableState). slice_get one.seats other ≡ Some None) is free));
   queued = sym (told_to-none queues);
 }
 
-pub begun_by : (old middle new : TableState) (index line at : ℕ) (before after : List (List ℕ)) → old.begun ≡ None → IsFirstAt old.seats None index → middle ≡ record old { seats = set old.seats index (Some line) } → AreTaken middle.seats → BeginsFor middle at new before after → HearsFor old (joins line at) new before after
-begun_by old middle new index line at before after idle first is taken begins =
+pub begun_by : (old middle new : TableState) (index line at : ℕ) (before after : List (List ℕ)) → old.begun ≡ None → HasNoSeat old line → IsFirstAt old.seats None index → middle ≡ record old { seats = set old.seats index (Some line) } → AreTaken middle.seats → BeginsFor middle at new before after → HearsFor old (joins line at) new before after
+begun_by old middle new index line at before after idle nowhere first is taken begins =
     let same : BeginsFor (record old { seats = set old.seats index (Some line) }) at new before after = subst (λ (one : TableState). BeginsFor one at new before after) is begins in
     let all : AreTaken (set old.seats index (Some line)) = subst (λ (one : TableState). AreTaken one.seats) is taken in
     record {
       told = to_lines (set old.seats index (Some line)) same.queues;
       hears = subst (λ (one : TableState). Hears old (joins line at) one (to_lines (set old.seats index (Some line)) same.queues)) (sym same.is)
-          (tables.begins index idle (record { free = first.there; first = first.first }) all same.opens);
+          (tables.begins index idle nowhere (record { free = first.there; first = first.first }) all same.opens);
       queued = same.queued;
     }
 

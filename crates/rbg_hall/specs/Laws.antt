@@ -1,16 +1,22 @@
 -- Laws of a table.
-use Rattle.std.specs.Prelude.{◌≡◌, ℕ, ◌+◌, false, List, [], ◌∷◌, ◌++◌, Option, Some, slice_get}
+use Rattle.std.specs.Prelude.{◌≡◌, ℕ, ◌+◌, ◌==◌, false, List, [], ◌∷◌, ◌++◌, Option, Some, None, is_some, slice_get, slice_set, if◌then◌else◌}
+use Rattle.std.specs.List.{flat_map}
+use Rattle.rbg_wire.specs.declared.message.Reason.TheVariants.{NoSeat}
+use Rattle.rbg_wire.specs.Messages.{refusal_message, spelling}
 use Rattle.rbg_wire.specs.Streams.{Item}
 use Rattle.rbg_wire.specs.Whole.{whole_item}
+use Rattle.rbg_rules.specs.Positions.{IsNumbered}
 use Rattle.rbg_rules.specs.State.{AbstractGame}
 use Rattle.rbg_match.specs.declared.config.Config.{Config}
-use Rattle.rbg_match.specs.Deliveries.{Delivery}
-use Rattle.rbg_match.specs.Inputs.{AbstractEvent, piece, end_of_stream, moment_alone}
+use Rattle.rbg_match.specs.Deliveries.{Delivery, bytes_for}
+use Rattle.rbg_match.specs.Inputs.{AbstractEvent, piece, end_of_stream, moment_alone, counted_first}
+use Rattle.rbg_match.specs.Laws.{IsHeavyEnd, keeper_pairs}
 use Rattle.rbg_match.specs.Limits.{message_limit}
 use Rattle.rbg_match.specs.Matches.{MatchState}
+use Rattle.rbg_match.specs.Play.{AbstractPlay}
 use Rattle.rbg_match.specs.Transcript.{Transcript}
-use Rattle.rbg_hall.specs.Tables.{HallOf, OwnEvent, clock, joins, arrives, says, leaves}
-use Rattle.rbg_hall.specs.Tellings.{Telling}
+use Rattle.rbg_hall.specs.Tables.{TableState, TableRun, HallOf, OwnEvent, clock, joins, arrives, says, leaves, SitsAt, HasNoSeat, IsFirstFree, AreTaken}
+use Rattle.rbg_hall.specs.Tellings.{Telling, bytes_to}
 
 -- What a match that has begun is handed of an event, where these lines have the seats.
 --   ticks: the clock.
@@ -53,25 +59,88 @@ pub data HandsEach (seats : List (Option ℕ)) : List OwnEvent → List Abstract
       Hands seats event next →
       HandsEach seats (events ++ event ∷ []) (handed ++ next)
 
--- The match that has begun began at the moment at which a line joined, it hasn't failed, and play stands where a transcript
--- of what the match was handed from then on leaves it.
+-- A line that has no seat takes the last one that is free, and then the seats are these.
+pub record TakesLast (gathering : TableState) (line : ℕ) (seats : List (Option ℕ)) : Type 0 where
+  pub index : ℕ
+  pub has_none : HasNoSeat gathering line
+  pub free : IsFirstFree gathering.seats index
+  pub taken : seats ≡ slice_set gathering.seats index (Some line)
+  pub full : AreTaken seats
+
+-- what a line is told at an event of a table with these seats that isn't its own match's: that there is no seat for it
+abbrev pub late_refusal : (line : ℕ) → OwnEvent → List ℕ
+late_refusal line (clock at) = []
+late_refusal line (joins other at) = if other == line then spelling (refusal_message NoSeat) else []
+late_refusal line (arrives other at) = []
+late_refusal line (says other at item) = []
+late_refusal line (leaves other at) = []
+
+-- The match that has begun, and what these lines were told.
+--   gathers: from a table where nobody sits these events led to one that waits for its last line.
+--   takes: a line takes the last seat. The match begins at the moment of this event.
+--   hands, transcript: of what the table hears from then on the match is handed this. Where play stands, and what is
+--   said, is a transcript of it.
+--   on_seats: a line on a seat is told what the table told it before, and then what the transcript says to its seat.
+--   elsewhere: a line that has no seat is told that there is none, each time it asks for one.
 pub record HoldsTranscript (game : AbstractGame) (text : List ℕ) (config : Config) (events : List OwnEvent)
-    (seats : List (Option ℕ)) (playing : MatchState) : Type 0 where
+    (seats : List (Option ℕ)) (playing : MatchState) (told : List Telling) : Type 0 where
   pub before : List OwnEvent
   pub line : ℕ
   pub at : ℕ
   pub after : List OwnEvent
   pub whole : events ≡ before ++ joins line at ∷ after
+  pub gathering : TableState
+  pub early : List Telling
+  pub gathers : TableRun game text config before gathering early
+  pub waits : gathering.begun ≡ None
+  pub takes : TakesLast gathering line seats
   pub handed : List AbstractEvent
   pub hands : HandsEach seats after handed
   pub said : List Delivery
   pub transcript : Transcript game text config at handed playing.play said
+  pub of_game : playing.game ≡ game
+  pub of_config : playing.config ≡ config
+  pub begins : playing.began ≡ counted_first at
   pub works : playing.failed ≡ false
+  pub on_seats : (index one : ℕ) →
+      slice_get seats index ≡ Some (Some one) →
+      bytes_to one told ≡ bytes_to one early ++ bytes_for (index + 1) said
+  pub elsewhere : (one : ℕ) →
+      ((index : ℕ) → ¬ (slice_get seats index ≡ Some (Some one))) →
+      bytes_to one told ≡ bytes_to one early ++ flat_map (late_refusal one) after
 
--- Whatever a table hears, it holds a transcript of its match once that has begun.
+-- Whatever a table hears, it holds a transcript of its match once that has begun, and each line is told accordingly.
 abbrev pub RunHoldsTranscript : Type 0
 RunHoldsTranscript =
     (game : AbstractGame) (text : List ℕ) (config : Config) (events : List OwnEvent) (told : List Telling) →
     (hall : HallOf game text config events told) (playing : MatchState) →
     hall.state.begun ≡ Some playing →
-    HoldsTranscript game text config events hall.state.seats playing
+    HoldsTranscript game text config events hall.state.seats playing told
+
+-- Whatever a table hears, no line has two seats.
+abbrev pub LinesHaveOneSeat : Type 0
+LinesHaveOneSeat =
+    (game : AbstractGame) (text : List ℕ) (config : Config) (events : List OwnEvent) (told : List Telling) →
+    (hall : HallOf game text config events told) (line first second : ℕ) →
+    SitsAt hall.state line first →
+    SitsAt hall.state line second →
+    first ≡ second
+
+-- The keeper's moves have the same pairs in both matches, and neither has ended because a question is above the limits.
+pub record ChooseAlike (one other : AbstractPlay) : Type 0 where
+  pub light : ¬ IsHeavyEnd one
+  pub other_light : ¬ IsHeavyEnd other
+  pub keeper : keeper_pairs one.made ≡ keeper_pairs other.made
+
+-- What a table hears decides whether its match has begun and what each line is told, but for the keeper's moves and for
+-- an end because a question is above the limits.
+abbrev pub OneTable : Type 0
+OneTable =
+    (game : AbstractGame) (text : List ℕ) (config : Config) (events : List OwnEvent) (told others : List Telling) →
+    IsNumbered game.rules →
+    (one : HallOf game text config events told) →
+    (other : HallOf game text config events others) →
+    ((playing playing' : MatchState) →
+        one.state.begun ≡ Some playing → other.state.begun ≡ Some playing' → ChooseAlike playing.play playing'.play) →
+    (is_some one.state.begun ≡ is_some other.state.begun)
+    × ((line : ℕ) → bytes_to line told ≡ bytes_to line others)

@@ -73,10 +73,11 @@ pub record Plays (old : TableState) (event : AbstractEvent) (new : TableState) (
 
 -- A table hears an event, and these bytes are queued for its lines.
 --   waits, ticks: the clock is heard by a match that has begun, and by no other.
---   sits: the line gets the first free seat, and another one is still free.
---   begins: the line gets the last free seat, so the match begins, at the moment of this event.
---   is_full: no seat is free, so the line is told that there is none.
---   comes_late: the match has begun, so the line is told that there is no seat.
+--   sits: a line without a seat gets the first free one, and another one is still free.
+--   begins: it gets the last free seat, so the match begins, at the moment of this event.
+--   is_full: no seat is free, so it is told that there is none.
+--   comes_late: the match has begun, so it is told that there is no seat.
+--   stays: a line that has a seat keeps it, and gets no other one.
 --   waits_too, stirs: what a line with a seat sends is a moment for a match that has begun.
 --   is_early: before the match begins an item of a line with a seat is refused. No match counts it.
 --   plays: an item of a line with a seat is handed to the match as a piece of its own.
@@ -93,12 +94,14 @@ pub data Hears (old : TableState) : OwnEvent → (new : TableState) → (told : 
   sits : {line at : ℕ} →
       (index other : ℕ) →
       old.begun ≡ None →
+      HasNoSeat old line →
       IsFirstFree old.seats index →
       slice_get (slice_set old.seats index (Some line)) other ≡ Some None →
       Hears old (joins line at) (record old { seats = slice_set old.seats index (Some line) }) []
   begins : {line at : ℕ} {opened : MatchState} {queues : List (List ℕ)} →
       (index : ℕ) →
       old.begun ≡ None →
+      HasNoSeat old line →
       IsFirstFree old.seats index →
       AreTaken (slice_set old.seats index (Some line)) →
       Opens old.game old.text old.config at opened queues →
@@ -106,11 +109,16 @@ pub data Hears (old : TableState) : OwnEvent → (new : TableState) → (told : 
       (record old { seats = slice_set old.seats index (Some line); begun = Some opened })
       (to_lines (slice_set old.seats index (Some line)) queues)
   is_full : {line at : ℕ} →
+      HasNoSeat old line →
       AreTaken old.seats →
       Hears old (joins line at) old (refusal_to line NoSeat)
   comes_late : {line at : ℕ} {playing : MatchState} →
+      HasNoSeat old line →
       old.begun ≡ Some playing →
       Hears old (joins line at) old (refusal_to line NoSeat)
+  stays : {line at : ℕ} →
+      HasSeat old line →
+      Hears old (joins line at) old []
   waits_too : {line at : ℕ} →
       old.begun ≡ None →
       Hears old (arrives line at) old []

@@ -130,7 +130,8 @@ impl HallOut {
 
     /// Takes back what was queued since the marks were made.
     pub fn take_back(&mut self, marks: &mut Vec<Mark>)
-        ensures { self.new ≡ undone self.old marks.old.items }
+        ensures undone { self.new ≡ undone self.old marks.old.items }
+        ensures emptied { marks.new.items ≡ [] }
     {
         while let Some(mark) = marks.pop() {
             cut(&mut self.queues, mark);

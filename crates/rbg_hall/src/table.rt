@@ -227,7 +227,7 @@ impl HallTable {
         }
     }
 
-    /// A line asks for a seat. With the last one the match begins.
+    /// A line asks for a seat. One that has a seat keeps it.
     fn join(
         &mut self,
         line: u64,
@@ -235,6 +235,24 @@ impl HallTable {
         out: &mut HallOut,
         marks: &mut Vec<Mark>,
     ) -> Result<(), Memory>
+        ensures hears { OnOk result (HearsFor self.old (joins line at) self.new out.old out.new) }
+        ensures undone { undone out.new marks.new.items ≡ undone out.old marks.old.items }
+    {
+        match self.seat_of(line) {
+            Some(_) => Ok(()),
+            None => self.seat(line, at, out, marks),
+        }
+    }
+
+    /// A line that has no seat asks for one. With the last one the match begins.
+    fn seat(
+        &mut self,
+        line: u64,
+        at: u64,
+        out: &mut HallOut,
+        marks: &mut Vec<Mark>,
+    ) -> Result<(), Memory>
+        requires { HasNoSeat self.old line }
         ensures hears { OnOk result (HearsFor self.old (joins line at) self.new out.old out.new) }
         ensures undone { undone out.new marks.new.items ≡ undone out.old marks.old.items }
     {
@@ -265,6 +283,7 @@ impl HallTable {
         marks: &mut Vec<Mark>,
     ) -> Result<(), Memory>
         requires waits { self.old.begun ≡ None }
+        requires none { HasNoSeat self.old line }
         requires first { IsFirstAt self.old.seats None index }
         ensures hears { OnOk result (HearsFor self.old (joins line at) self.new out.old out.new) }
         ensures undone { undone out.new marks.new.items ≡ undone out.old marks.old.items }

@@ -46,11 +46,16 @@ new_line = Silent (record { limit = message_limit; items = []; rest = incomplete
 abbrev pub AreNew : (count : ℕ) → List Line → Type 0
 AreNew count lines = lines ≡ replicate count new_line
 
--- The config of the table at this index is outside its limits.
+-- the config of each of the first tables, so many, is within its limits
+abbrev pub FirstHaveLimits : (count : ℕ) → List Table → Type 0
+FirstHaveLimits count tables = (other : ℕ) (table : Table) → other < count → slice_get tables other ≡ Some table → IsWithinLimits table.config
+
+-- The table at this index is the first whose config is outside its limits.
 pub record IsFaulty (tables : List Table) (index : ℕ) : Type 0 where
   pub table : Table
   pub there : slice_get tables index ≡ Some table
   pub faulty : ¬ IsWithinLimits table.config
+  pub first : FirstHaveLimits index tables
 
 -- the config of each table is within its limits
 abbrev pub HaveLimits : List Table → Type 0

@@ -1,4 +1,4 @@
-use Rattle.rbg_floor.proofs.Apart.{tables_are_apart}
+use Rattle.rbg_floor.proofs.Same.{tables_are_apart}
 use Rattle.rbg_floor.proofs.laws.tables_are_apart.Goals as goal
 
 pub returns : goal.returns

@@ -6,7 +6,7 @@ use Rattle.rbg_floor.proofs.opening.faulty.Goals as goal
 pub returns-then-not-is_within_limits-clause-found : goal.returns-then-not-is_within_limits-clause-found
 returns-then-not-is_within_limits-clause-found c =
     let faulty : ¬ IsWithinLimits c.index-tables-index.result.config = search rules in
-    fault_found c.args.tables.now c.loop-index.index c.index-tables-index.result c.index-tables-index.is c.loop-index-test.true faulty
+    fault_found c.args.tables.now c.loop-index.index c.index-tables-index.result c.index-tables-index.is c.loop-index-test.true faulty c.loop-index.invariant
 
 pub loop-index-preserved : goal.loop-index-preserved
 loop-index-preserved c =

@@ -1,4 +1,4 @@
-use Rattle.rbg_floor.proofs.Openings.{FirstHaveLimits}
+use Rattle.rbg_floor.specs.internal.Parts.{FirstHaveLimits}
 use Rattle.rbg_floor.proofs.opening.faulty.Given as goal
 
 abbrev pub invariant-loop-index : goal.invariant-loop-index
