@@ -1,14 +1,12 @@
 -- Answers to one task are apart, and of a right record nothing else is said than that it is good.
-use Rattle.std.proofs.Common.{◌≡◌, ◌∙◌, ℕ, ◌<◌, ◌≤◌, List, length, inl, inr, ap, refl, sym, subst, arith}
+use Rattle.std.proofs.Common.{◌≡◌, ◌∙◌, ℕ, ◌≤◌, List, length, inl, inr, ap, refl, sym, subst, arith}
 use Rattle.std.specs.Prelude.{◌⊎◌, Result, Ok, Err}
 use Rattle.rbg_console.specs.Inputs.{most_input}
 use Rattle.rbg_console.specs.declared.status.Status.{Status}
 use Rattle.rbg_console.specs.declared.status.Status.TheVariants.{Success, Refused, BadInput}
-use Rattle.rbg_game.specs.Loading.{Loads}
 use Rattle.rbg_game.specs.OneGame.{OneGameLaw}
 use Rattle.rbg_record.specs.Judged.{IsHeavyLine, IsJudged}
 use Rattle.rbg_record.specs.Laws.{GoodByLines, IsUndecided, OneJudgement, OnePlainFault}
-use Rattle.rbg_record.specs.Right.{IsRightRecord}
 use Rattle.rbg_record.specs.declared.checked.Checked.{Checked}
 use Rattle.rbg_record.specs.declared.checked.Checked.TheVariants.{Good, Bad}
 use Rattle.rbg_record.specs.declared.error.RecordError.{RecordError}
@@ -19,7 +17,7 @@ use Rattle.rbg_rules.specs.State.{AbstractGame}
 use Rattle.rbg_script.specs.Laws.{ScriptsAreApart}
 use Rattle.rbg_answering.specs.declared.task.Command.{Command}
 use Rattle.rbg_answering.specs.declared.task.Command.TheVariants.{Check, Referee, Replay, Migrate}
-use Rattle.rbg_answering.specs.Answers.{IsGamesAnswer, IsLong, IsTaskAnswer, good_line, bad_line, form_line, over_line}
+use Rattle.rbg_answering.specs.Answers.{IsGamesAnswer, IsLong, good_line, bad_line, form_line, over_line}
 use Rattle.rbg_answering.specs.Answers.IsGamesAnswer.{counted, played, misfit, good, bad, not_of_form, over, migrated, not_plain}
 use Rattle.rbg_answering.specs.Answers.IsTaskAnswer.{of_game, refused, long_script, long_record}
 use Rattle.rbg_answering.specs.Laws.{RightRecordsAreGood, TaskAnswersAreApart}

@@ -1,8 +1,7 @@
 -- Lemmas on recorded matches.
-use Rattle.std.proofs.Common.{◌≡◌, ℕ, List, inl, inr, subst}
+use Rattle.std.proofs.Common.{ℕ, List, inl, inr, subst}
 use Rattle.rbg_answering.specs.Laws.{RecordsAreGood, RightRecordsAreGood, SameLines}
 use Rattle.rbg_game.specs.Loading.{Loads}
-use Rattle.rbg_rules.specs.State.{AbstractGame}
 use Rattle.rbg_answering.specs.Recorded.{IsRecorded}
 
 pub same_lines : SameLines

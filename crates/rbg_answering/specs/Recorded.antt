@@ -1,6 +1,5 @@
 -- What is printed and what is recorded of the match of a description and a script.
 use Rattle.std.specs.Prelude.{ℕ, List, map}
-use Rattle.rbg_game.specs.Loading.{Loads}
 use Rattle.rbg_match.specs.Matches.{MatchState}
 use Rattle.rbg_match.specs.Played.{IsMatchOf}
 use Rattle.rbg_record.specs.OfMatch.{record_of}
