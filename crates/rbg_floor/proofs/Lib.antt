@@ -12,6 +12,7 @@ mod Pieces
 mod Requesting
 mod Running
 mod Same
+mod Served
 mod Silence
 mod Taking
 mod Ticking

@@ -1,5 +1,5 @@
 -- Laws of a hall.
-use Rattle.std.specs.Prelude.{◌≡◌, ◌+◌, ◌==◌, ◌++◌, ℕ, true, List, [], Option, Some, length, replicate, slice_get, slice_index_or, if◌then◌else◌}
+use Rattle.std.specs.Prelude.{◌≡◌, ◌+◌, ◌==◌, ◌++◌, ℕ, true, List, [], Option, Some, Result, length, replicate, slice_get, slice_index_or, if◌then◌else◌}
 use Rattle.std.specs.List.{flat_map}
 use Rattle.rbg_wire.specs.declared.message.Reason.TheVariants.{OutOfTurn}
 use Rattle.rbg_wire.specs.Messages.{refusal_message, spelling}
@@ -10,12 +10,18 @@ use Rattle.rbg_hall.specs.Laws.{ChooseAlike, HoldsTranscript}
 use Rattle.rbg_hall.specs.Limits.{lines_in_all}
 use Rattle.rbg_hall.specs.Tables.{TableState, OwnEvent, clock, joins, arrives, says, leaves}
 use Rattle.rbg_hall.specs.Tellings.{Telling, bytes_to, told_to}
+use Rattle.rbg_serving.specs.declared.served.Served.{Served}
+use Rattle.rbg_serving.specs.declared.served.ServeError.{ServeError}
+use Rattle.rbg_serving.specs.Serving.{Serves}
+use Rattle.rbg_serving.specs.Told.{Told}
 use Rattle.rbg_floor.specs.Allowed.{IsAllowed}
 use Rattle.rbg_floor.specs.Apart.{asks_for, concerning, IsExchanged}
 use Rattle.rbg_floor.specs.Events.{AbstractHallEvent}
+use Rattle.rbg_floor.specs.Failing.{HeldHall}
 use Rattle.rbg_floor.specs.Halls.{AbstractTable, HallState, HallRun}
-use Rattle.rbg_floor.specs.Openings.{MayBeTables}
+use Rattle.rbg_floor.specs.Openings.{IsNewHall, MayBeTables}
 use Rattle.rbg_floor.specs.Own.{own}
+use Rattle.rbg_floor.specs.Serving.{IsServedHall, of_hall}
 
 -- Whatever a hall hears, each line has what it may have.
 abbrev pub RunIsAllowed : Type 0
@@ -63,9 +69,9 @@ LinesHaveTheSameBytes =
     (one : IsAllowed starts events first) →
     (other : IsAllowed others elsewhere second) →
     ((playing playing' : MatchState) →
-        (one.by_table index start here).state.begun ≡ Some playing →
-        (other.by_table index start there).state.begun ≡ Some playing' →
-        ChooseAlike playing.play playing'.play) →
+    (one.by_table index start here).state.begun ≡ Some playing →
+    (other.by_table index start there).state.begun ≡ Some playing' →
+    ChooseAlike playing.play playing'.play) →
     (line : ℕ) →
     asks_for (length starts) (index + 1) line events ≡ true →
     slice_index_or first line [] ≡ slice_index_or second line []
@@ -99,3 +105,12 @@ BegunMatchesHoldTranscripts =
     slice_get state.tables index ≡ Some table →
     table.begun ≡ Some playing →
     HoldsMatch start (own (length starts) (index + 1) events) table.seats playing told
+
+-- What is queued for the lines of a new hall that was served may be queued for them after what was heard.
+abbrev pub ServedHallIsAllowed : Type 0
+ServedHallIsAllowed =
+    (starts : List AbstractTable) (rounds : ℕ) (before after : List Told) (moments : List ℕ) (old new : HeldHall)
+    (queued_before queued : List (List ℕ)) (result : Result Served ServeError) →
+    IsNewHall starts old queued_before →
+    (serves : Serves of_hall rounds before after moments old new queued_before queued result) →
+    IsServedHall starts serves.heard queued result

@@ -12,4 +12,5 @@ pub mod Lines
 pub mod Openings
 pub mod Own
 pub mod Requests
+pub mod Serving
 pub mod Wholes

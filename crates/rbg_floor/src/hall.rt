@@ -1,5 +1,5 @@
 //! A hall: tables, and the lines that ask for them.
-ghost use Rattle.std.specs.Prelude.{◌≡◌, [], false, true, option_map, replicate, is_err, IfErr, IfOk, IfSome, IsErr, OnErr, OnOk};
+ghost use Rattle.std.specs.Prelude.{◌≡◌, ◌↔◌, [], false, true, option_map, replicate, is_err, IfErr, IfOk, IfSome, IsErr, IsTrue, OnErr, OnOk};
 ghost use Rattle.rbg_wire.specs.Streams.{incomplete};
 ghost use Rattle.rbg_match.specs.Matches.{HasHistory};
 ghost use Rattle.rbg_hall.specs.Limits.{lines_in_all};
@@ -8,10 +8,13 @@ ghost use Rattle.rbg_floor.specs.Halls.{begun_at};
 ghost use Rattle.rbg_floor.specs.Hearing.{HallHears};
 ghost use Rattle.rbg_floor.specs.Lines.{silent};
 ghost use Rattle.rbg_floor.specs.Openings.{AreLoaded, IsNewHall, IsRefusedHall, starts_of};
+ghost use Rattle.rbg_floor.specs.Serving.{HaveAllEnded, MaySpeak};
 
+use crate::ending::have_all_ended;
 use crate::events::hear_event;
 use crate::line::Line;
 use crate::opening::{faulty, new_lines, open_tables};
+use crate::speaking::may_speak;
 use crate::{HallError, HallEvent, Table};
 use rbg_base::Memory;
 use rbg_hall::{HallOut, HallTable};
@@ -121,5 +124,24 @@ impl Hall {
             return None;
         }
         self.tables[table as usize - 1].begun()
+    }
+
+    /// Whether every match has begun and ended.
+    pub fn have_all_ended(&self) -> bool
+        ensures { IsTrue result ↔ HaveAllEnded self.now.state.tables }
+    {
+        have_all_ended(&self.tables)
+    }
+
+    /// The allocator of the hall.
+    pub(crate) fn allocator(&self) -> Global {
+        *self.tables.allocator()
+    }
+
+    /// Whether something may still be heard of a line.
+    pub(crate) fn may_speak(&self, line: usize) -> bool
+        ensures { IsTrue result ↔ MaySpeak self.now.state line }
+    {
+        may_speak(&self.tables, &self.lines, line)
     }
 }

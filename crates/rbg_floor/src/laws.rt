@@ -1,7 +1,7 @@
 //! Laws of a hall. The contract of each function is a law; its body does nothing.
 ghost use Rattle.std.specs.Prelude.{◌≡◌};
 ghost use Rattle.rbg_floor.specs.Limits.{most_tables};
-ghost use Rattle.rbg_floor.specs.Laws.{BegunMatchesHoldTranscripts, LinesHaveTheSameBytes, OthersAreUnheard, RunIsAllowed, TablesAreApart};
+ghost use Rattle.rbg_floor.specs.Laws.{BegunMatchesHoldTranscripts, LinesHaveTheSameBytes, OthersAreUnheard, RunIsAllowed, ServedHallIsAllowed, TablesAreApart};
 
 use crate::TABLES;
 
@@ -34,4 +34,9 @@ pub fn lines_have_the_same_bytes()
 /// A match that has begun at a table is one of the rules, whatever the hall heard, and its lines are told what it says.
 pub fn begun_matches_hold_transcripts()
     ensures { BegunMatchesHoldTranscripts }
+{}
+
+/// What is queued for the lines of a new hall that was served may be queued for them after what was heard.
+pub fn served_hall_is_allowed()
+    ensures { ServedHallIsAllowed }
 {}

@@ -2,6 +2,8 @@
 //! by no other; the clock is heard by all. Each table plays as if it stood alone.
 #![tactic(auto)]
 
+mod ending;
+mod engine;
 mod error;
 mod event;
 mod events;
@@ -11,6 +13,8 @@ pub mod laws;
 mod line;
 mod opening;
 mod request;
+mod serving;
+mod speaking;
 mod table;
 mod whole;
 

@@ -3,10 +3,10 @@ ghost use Rattle.std.specs.Prelude.{◌≡◌, ◌↔◌, ◌+◌, ◌<◌, ◌^
 ghost use Rattle.rbg_game.specs.Loading.{Loads};
 ghost use Rattle.rbg_match.specs.Config.{IsWithinLimits};
 ghost use Rattle.rbg_match.specs.Inputs.{event_of};
+ghost use Rattle.rbg_match.specs.Matches.{HasHistory};
 ghost use Rattle.rbg_wire.specs.Inboxes.{item_of};
 ghost use Rattle.rbg_wire.specs.Whole.{whole_item};
 ghost use Rattle.rbg_match.specs.Limits.{message_limit};
-ghost use Rattle.rbg_match.specs.Matches.{HasHistory};
 ghost use Rattle.rbg_hall.specs.Tables.{AreTaken, HasNoSeat, HasSeat, SitsAt, arrives, clock, joins, leaves, new_table, says};
 ghost use Rattle.rbg_hall.specs.Hearing.{HearsFor, input_of};
 ghost use Rattle.rbg_hall.specs.internal.Hearing.{BeginsFor, PlaysFor, IsFirstAt};

@@ -217,7 +217,7 @@ is_memory result is = let error = err_from_is_err_and result is in error.1 ∙ a
 handled_all : {L S : Type 0} {told : L → Told → Type 0} {failure_count : L → ℕ} {engine : Behaviour S} {start : Start S}
     {moments : List ℕ} {rounds : ℕ} {lines : List L} {states : List LineState} {state : S} {queued : List (List ℕ)} →
     (passed : Passed told failure_count engine start moments rounds lines states state queued) →
-    AllHandled engine passed.call.heard passed.call.intakes start.state state start.queued queued
+    AllHandled engine (length start.told) passed.call.heard passed.call.intakes start.state state start.queued queued
 handled_all passed = record {
   since = passed.call.since;
   handles = passed.call.handles;

@@ -1,12 +1,12 @@
 -- Lemmas on the middle of a call.
-use Rattle.std.proofs.Common.{◌≡◌, ◌≢◌, ℕ, ◌+◌, ◌<◌, List, [], ◌∷◌, ◌++◌, length, true, false, sym, ◌∙◌, refl, subst, arith, append_assoc, Result, Ok, Err, IsErrAnd, MatchResult, ◌⊎◌, inl, inr}
+use Rattle.std.proofs.Common.{◌≡◌, ◌≢◌, ℕ, ◌+◌, ◌<◌, ◌≤◌, List, [], ◌∷◌, ◌++◌, length, true, false, sym, refl, subst, arith, append_assoc, Result, Ok, Err, IsErrAnd, MatchResult, ◌⊎◌, inl, inr}
 use Rattle.rbg_match.specs.Inputs.{AbstractEvent, end_of_stream, moment_alone}
 use Rattle.rbg_serving.specs.declared.line_state.LineState.{LineState}
 use Rattle.rbg_serving.specs.Heard.{Heard, failed_to_take, round_over, is_round_over, IsLive, asked, heard_alone, heard_with_it, of_line, of_clock}
-use Rattle.rbg_serving.specs.Passing.{Behaviour, Intake, intake_at, queued_at, ComeBefore, MayComeNext, Handles, more}
+use Rattle.rbg_serving.specs.Passing.{Behaviour, Intake, intake_at, queued_at, ComeBefore, ExtendAll, MayComeNext, Handles, more}
 use Rattle.rbg_serving.specs.Told.{Told}
 use Rattle.rbg_serving.specs.internal.InCall.{Start, InCall, Passed, HeardLast, LacksMemoryInCall, WithMoments}
-use Rattle.rbg_serving.specs.internal.Lines.{AreServed, AreServedFrom, ArePassed, ExtendAll}
+use Rattle.rbg_serving.specs.internal.Lines.{AreServed, AreServedFrom, ArePassed}
 use Rattle.rbg_serving.proofs.HeardLemmas.{of_another, count_more}
 use Rattle.rbg_serving.proofs.LinesLemmas.{more_queued, heard_of_none}
 
@@ -72,7 +72,7 @@ module _ {L S : Type 0} {told : L → Told → Type 0} {failure_count : L → �
     intakes = last.intakes;
     later = not_before last.intakes;
     served = more_queued told failure_count start.told (last.before ++ last.one ∷ []) queued now lines states last.intakes
-        last.as_many extends last.served;
+        last.fits extends last.served;
   }
 
   -- there was no memory for it
@@ -95,8 +95,8 @@ module _ {L S : Type 0} {told : L → Told → Type 0} {failure_count : L → �
       split = refl;
       state = state;
       since = last.since;
-      handles = subst (λ bytes. Handles engine start.state start.queued last.before state bytes last.since) (sym same) last.handles;
-      next = subst (λ bytes. MayComeNext engine last.before state bytes last.since last.intakes last.one) (sym same) last.may;
+      handles = subst (λ bytes. Handles engine (length start.told) start.state start.queued last.before state bytes last.since) (sym same) last.handles;
+      next = subst (λ bytes. MayComeNext engine (length start.told) last.before state bytes last.since last.intakes last.one) (sym same) last.may;
       lacks = lacks;
     };
   }
@@ -107,14 +107,14 @@ module _ {L S : Type 0} {told : L → Told → Type 0} {failure_count : L → �
       InCall told failure_count engine start (earlier ++ at ∷ []) rounds lines states state queued →
       index < length lines →
       length used ≡ length lines →
-      length queued ≡ length lines →
+      length lines ≤ length queued →
       ((before : List Told) (heard : List Heard) (since : List Intake) →
       AreServed told failure_count before heard queued lines states since →
       IsLive (index + 1) heard
       × ((moment : ℕ) →
       AreServedFrom told failure_count before (heard ++ failed_to_take (index + 1) moment ∷ []) queued used come since)) →
       HeardLast told failure_count engine start (earlier ++ at ∷ []) rounds used come state queued (end_of_stream (index + 1) at)
-  put_failed earlier at index call there as_many queues fails =
+  put_failed earlier at index call there as_many fits fails =
       let found = fails start.told call.heard call.intakes call.served in
       record {
         before = call.heard;
@@ -132,16 +132,16 @@ module _ {L S : Type 0} {told : L → Told → Type 0} {failure_count : L → �
         live = of_line call.live (failed_to_take (index + 1) at) (omega arith) (omega (arith, there, call.served.as_many_before)) found.0;
         count = omega (arith, call.count, count_more is_round_over call.heard (failed_to_take (index + 1) at));
         served = (found.1 at).served;
-        as_many = queues ∙ sym as_many;
+        fits = omega (arith, as_many, fits);
       }
 
   -- the clock ticked
   pub ticked : (at : ℕ) {moments : List ℕ} {rounds : ℕ} {lines : List L} {states : List LineState} {state : S}
       {queued : List (List ℕ)} →
-      length queued ≡ length lines →
+      length lines ≤ length queued →
       Passed told failure_count engine start moments rounds lines states state queued →
       HeardLast told failure_count engine start (moments ++ at ∷ []) (rounds + 1) lines states state queued (moment_alone at)
-  ticked at {lines = lines} {states = states} {queued = queued} as_many passed = let call = passed.call in record {
+  ticked at {lines = lines} {states = states} {queued = queued} fits passed = let call = passed.call in record {
     before = call.heard;
     one = round_over at;
     is_event = refl;
@@ -155,7 +155,7 @@ module _ {L S : Type 0} {told : L → Told → Type 0} {failure_count : L → �
     served = heard_of_none told failure_count start.told call.heard (call.heard ++ round_over at ∷ []) queued lines states call.intakes
         (λ index. of_another (index + 1) call.heard (round_over at) (zero_is_no_seat index))
         call.served;
-    as_many = as_many;
+    fits = fits;
   }
 
   -- The clock is asked, and nothing is heard.
@@ -179,12 +179,11 @@ module _ {L S : Type 0} {told : L → Told → Type 0} {failure_count : L → �
   pub all_passed : {moments : List ℕ} {rounds : ℕ} {lines used : List L} {states come : List LineState} {state : S}
       {queued : List (List ℕ)} →
       InCall told failure_count engine start moments rounds lines states state queued →
-      length queued ≡ length lines →
       ((before : List Told) (heard : List Heard) (since : List Intake) →
       AreServed told failure_count before heard queued lines states since →
       ArePassed told failure_count before heard queued used come since (length lines)) →
       Passed told failure_count engine start moments rounds used come state queued
-  all_passed {lines = lines} {used = used} {come = come} {queued = queued} call as_many passes = record {
+  all_passed {lines = lines} {used = used} {come = come} {queued = queued} call passes = record {
     call = record {
       heard = call.heard;
       timed = call.timed;
@@ -196,7 +195,7 @@ module _ {L S : Type 0} {told : L → Told → Type 0} {failure_count : L → �
       later = before_both call.since call.intakes found.from.intakes call.later found.from.later;
       served = found.from.served;
     };
-    offered = λ index within live. longer index (found.offered index (omega (arith, within, as_many)) live);
+    offered = λ index within live. longer index (found.offered index (omega (arith, within, call.served.as_many_before)) live);
   }
     where
       found : ArePassed told failure_count start.told call.heard queued used come call.intakes (length lines)

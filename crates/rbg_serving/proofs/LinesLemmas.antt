@@ -1,5 +1,5 @@
 -- Lemmas on lines in the middle of a call.
-use Rattle.std.proofs.Common.{◌≡◌, ◌≢◌, ℕ, ◌+◌, ◌<◌, List, [], ◌∷◌, ◌++◌, length, take, set, get_or, ap, sym, ◌∙◌, refl, subst, arith, ◌⊎◌, inl, inr, length-append, append-nil, zero, suc}
+use Rattle.std.proofs.Common.{◌≡◌, ◌≢◌, ℕ, ◌+◌, ◌<◌, ◌≤◌, List, [], ◌∷◌, ◌++◌, length, take, set, get_or, ap, sym, ◌∙◌, refl, subst, arith, ◌⊎◌, inl, inr, length-append, append-nil, zero, suc}
 use Rattle.std.proofs.lemmas.Grind.{get_or-set_at}
 use Rattle.std.proofs.lemmas.List.{get_or-set_other, length-set, take-append-le}
 use Rattle.rbg_match.specs.Deliveries.{Delivery, bytes_for, delivered_from}
@@ -7,9 +7,9 @@ use Rattle.rbg_match.specs.Inputs.{AbstractEvent}
 use Rattle.rbg_match.specs.Matches.{MatchState, Steps}
 use Rattle.rbg_serving.specs.declared.line_state.LineState.{LineState}
 use Rattle.rbg_serving.specs.Heard.{Heard}
-use Rattle.rbg_serving.specs.Passing.{Intake, no_intake, queued_at, intake_at}
+use Rattle.rbg_serving.specs.Passing.{Intake, no_intake, queued_at, intake_at, Extends, ExtendAll}
 use Rattle.rbg_serving.specs.Told.{Told, Tells, told_at}
-use Rattle.rbg_serving.specs.internal.Lines.{has_taken, has_said, IsLineServed, AreServed, absent, Extends, ExtendAll}
+use Rattle.rbg_serving.specs.internal.Lines.{has_taken, has_said, IsLineServed, AreServed, absent}
 use Rattle.rbg_serving.proofs.HeardLemmas.{SameOf, said_the_same, same_or_not}
 
 -- what each seat has after messages to the seats
@@ -55,18 +55,18 @@ same_of seat heard = record { given = refl; ends = refl; failures = refl }
 -- the lines, where more is queued
 pub more_queued : {L : Type 0} (told : L → Told → Type 0) (failure_count : L → ℕ) (before : List Told)
     (heard : List Heard) (queued now : List (List ℕ)) (lines : List L) (states : List LineState) (intakes : List Intake) →
-    length queued ≡ length lines →
+    length lines ≤ length queued →
     ExtendAll queued now →
     AreServed told failure_count before heard queued lines states intakes →
     AreServed told failure_count before heard now lines states intakes
-more_queued told failure_count before heard queued now lines states intakes as_many extends are = record {
+more_queued told failure_count before heard queued now lines states intakes fits extends are = record {
   as_many_before = are.as_many_before;
   as_many_states = are.as_many_states;
   as_many_intakes = are.as_many_intakes;
   each = λ index line within. still_served told failure_count (index + 1) heard heard (queued_at queued index)
       (queued_at now index) (told_at before index) (get_or lines index line) (get_or states index absent) (intake_at intakes index)
       (same_of (index + 1) heard)
-      (extends index (omega (arith, within, as_many)))
+      (extends index (omega (arith, within, fits)))
       (are.each index line within);
 }
 

@@ -158,15 +158,15 @@ module _ {L S : Type 0} {told : L → Told → Type 0} {failure_count : L → �
   -- a poll was heard
   pub poll_heard : (at index : ℕ) (polled : Polled) (buffer : List ℕ) {moments : List ℕ} {rounds : ℕ} {lines used : List L}
       {states come : List LineState} {state : S} {queued : List (List ℕ)} {event : AbstractEvent} →
-      ¬ engine.over state →
+      engine.listens state (index + 1) →
       index < length lines →
       length used ≡ length lines →
-      length queued ≡ length lines →
+      length lines ≤ length queued →
       event ∷ [] ≡ map event_of (heard_by_poll (index + 1) at polled buffer) →
       PollServes told failure_count index polled buffer lines used states come →
       Passed told failure_count engine start moments rounds lines states state queued →
       HeardLast told failure_count engine start (moments ++ at ∷ []) rounds used come state queued event
-  poll_heard at index polled buffer {moments = moments} {used = used} {come = come} {queued = queued} {event = event} going there as_many queues is serves passed =
+  poll_heard at index polled buffer {moments = moments} {used = used} {come = come} {state = state} {queued = queued} {event = event} listens there as_many fits is serves passed =
       let call = passed.call in
       let heard = is_heard_as (index + 1) at polled buffer event is in
       let found = serves start.told call.heard queued call.intakes at call.served in
@@ -182,10 +182,10 @@ module _ {L S : Type 0} {told : L → Told → Type 0} {failure_count : L → �
         since = call.since;
         handles = call.handles;
         intakes = call.intakes;
-        may = record { later = call.later; offered = λ _. passed.offered; polled = λ _. going };
+        may = record { later = call.later; offered = λ _. passed.offered; polled = λ _. subst (engine.listens state) (sym heard.of_seat) listens };
         served = subst (λ more. AreServed told failure_count start.told (call.heard ++ more) queued used come call.intakes) heard.alone
             found.1;
-        as_many = queues ∙ sym as_many;
+        fits = omega (arith, as_many, fits);
       }
 
   -- a poll was not heard

@@ -42,15 +42,15 @@ pub record IsOver {S : Type 0} (engine : Behaviour S) (heard : List Heard) (stat
       TookAll (queued_at queued index) (told_at before index) (told_at after index)
 
 -- All that was heard but the last was handled, and there was no memory for the last.
-pub record LacksMemory {S : Type 0} (engine : Behaviour S) (heard : List Heard) (intakes : List Intake) (old new : S)
-    (queued_before queued : List (List ℕ)) : Type 0 where
+pub record LacksMemory {S : Type 0} (engine : Behaviour S) (lines : ℕ) (heard : List Heard) (intakes : List Intake)
+    (old new : S) (queued_before queued : List (List ℕ)) : Type 0 where
   pub handled : List Heard
   pub refused : Heard
   pub split : heard ≡ handled ++ refused ∷ []
   pub state : S
   pub since : List Intake
-  pub handles : Handles engine old queued_before handled state queued since
-  pub next : MayComeNext engine handled state queued since intakes refused
+  pub handles : Handles engine lines old queued_before handled state queued since
+  pub next : MayComeNext engine lines handled state queued since intakes refused
   pub lacks : engine.lacks state new
 
 -- How a call ends that has heard this.
@@ -60,18 +60,18 @@ pub record LacksMemory {S : Type 0} (engine : Behaviour S) (heard : List Heard) 
 abbrev pub EndsServing : {S : Type 0} → Behaviour S → (rounds : ℕ) → List Heard → List Intake → (before after : List Told) →
     (old new : S) → (queued_before queued : List (List ℕ)) → Result Served ServeError → Type 0
 EndsServing engine rounds heard intakes before after old new queued_before queued (Ok served) =
-    AllHandled engine heard intakes old new queued_before queued
+    AllHandled engine (length before) heard intakes old new queued_before queued
     × IsOver engine heard new queued before after
     × (rounds_of heard ≡ served.rounds)
     × (served.rounds ≤ rounds)
     × (IsTrue served.whole ↔ IsWhole queued before after)
 EndsServing engine rounds heard intakes before after old new queued_before queued (Err Rounds) =
-    AllHandled engine heard intakes old new queued_before queued
+    AllHandled engine (length before) heard intakes old new queued_before queued
     × ¬ IsOver engine heard new queued before after
     × (rounds_of heard ≡ rounds)
 EndsServing engine rounds heard intakes before after old new queued_before queued (Err Memory) =
     (rounds_of heard ≤ rounds)
-    × (LacksMemory engine heard intakes old new queued_before queued
+    × (LacksMemory engine (length before) heard intakes old new queued_before queued
     ⊎ (heard ≡ []) × (intakes ≡ []) × (new ≡ old) × (queued ≡ queued_before))
 
 -- A call with these answers: what the lines had told before and have told after it, seat 1 first, the moments that the
@@ -97,10 +97,12 @@ pub record ServesOver {L C S : Type 0} (told : L → Told → Type 0) (failure_c
   pub clock_tells : clock_told clock (asked ++ moments)
   pub serves : Serves engine rounds before after moments old new queued_before queued result
 
--- A match, as a call knows it. It is over once it has ended, and it fails where it has no memory for an event.
+-- A match, as a call knows it. It is over once it has ended, and hears each line until then. It fails where it has no
+-- memory for an event.
 abbrev pub of_match : Behaviour MatchState
 of_match = record {
   steps = Steps;
   lacks = λ old new. (new.failed ≡ true) × (new.game ≡ old.game);
+  listens = λ state seat. ¬ IsSome state.play.outcome;
   over = λ state. IsSome state.play.outcome;
 }

@@ -1,5 +1,5 @@
 //! Whether all is taken.
-ghost use Rattle.std.specs.Prelude.{◌≡◌, ◌<◌, ◌↔◌, ℕ, true, length, slice_index_or, IsTrue};
+ghost use Rattle.std.specs.Prelude.{◌≡◌, ◌<◌, ◌≤◌, ◌↔◌, ℕ, true, length, slice_index_or, IsTrue};
 ghost use Rattle.rbg_serving.specs.internal.Lines.{absent, HasAll};
 
 use crate::engine::Engine;
@@ -7,7 +7,7 @@ use crate::line_state::LineState;
 
 /// Whether each line took all that is queued for it.
 pub(crate) fn is_whole<E: Engine>(states: &[LineState], outbox: &E::Outbox) -> bool
-    requires { length (E.queued outbox.now) ≡ length states.now }
+    requires { length states.now ≤ length (E.queued outbox.now) }
     ensures { IsTrue result ↔ ((index : ℕ) →
         index < length states.now →
         HasAll (E.queued outbox.now) states.now index) }
@@ -22,7 +22,7 @@ pub(crate) fn is_whole<E: Engine>(states: &[LineState], outbox: &E::Outbox) -> b
 
 /// Whether each live line took all that is queued for it.
 pub(crate) fn live_have_all<E: Engine>(states: &[LineState], outbox: &E::Outbox) -> bool
-    requires { length (E.queued outbox.now) ≡ length states.now }
+    requires { length states.now ≤ length (E.queued outbox.now) }
     ensures { IsTrue result ↔ ((index : ℕ) →
         index < length states.now →
         (slice_index_or states.now index absent).live ≡ true →

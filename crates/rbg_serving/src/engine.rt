@@ -4,15 +4,15 @@ ghost use Rattle.rbg_match.specs.Inputs.{event_of};
 ghost use Rattle.rbg_match.specs.Matches.{HasHistory};
 ghost use Rattle.rbg_match.specs.PlayingOn.{seats_of};
 ghost use Rattle.rbg_rules.specs.State.{AbstractGame};
-ghost use Rattle.rbg_serving.specs.Passing.{Behaviour};
+ghost use Rattle.rbg_serving.specs.Passing.{Behaviour, ExtendAll};
 ghost use Rattle.rbg_serving.specs.Serving.{of_match};
-ghost use Rattle.rbg_serving.specs.internal.Lines.{ExtendAll};
 
 use rbg_base::Memory;
 use rbg_match::{Event, Match, Outbox};
 
-/// What is served, as a match: it handles events, and queues bytes for the lines. Its lines are its seats, in order.
-pub(crate) trait Engine {
+/// What can be served, as a match: it handles events, and queues bytes for lines. Each line is a seat, and they are numbered
+/// from 1.
+pub trait Engine {
     /// Where the bytes are queued.
     type Outbox;
 
@@ -27,7 +27,7 @@ pub(crate) trait Engine {
 
     ghost fixed: { Self → Fixed };
 
-    /// How many lines it has.
+    /// For how many lines it queues bytes.
     ghost lines: { Fixed → ℕ };
 
     /// What it keeps as long as there is memory.
@@ -45,11 +45,15 @@ pub(crate) trait Engine {
         ensures fixed { fixed self.new ≡ fixed self.old }
         ensures as_many { length (queued outbox.new) ≡ length (queued outbox.old) };
 
+    /// Whether it still hears the line of a seat.
+    fn listens(&self, seat: usize) -> bool
+        ensures { IsTrue result ↔ behaviour.listens self.now seat };
+
     /// Whether it is over.
     fn is_over(&self) -> bool
         ensures { IsTrue result ↔ behaviour.over self.now };
 
-    /// The bytes that are queued for a line. It must be one of the lines, which are numbered from 1.
+    /// The bytes that are queued for a line, which must be one of those for which it queues bytes.
     fn bytes(outbox: &Self::Outbox, line: usize) -> &[u8]
         requires from_one { 1 ≤ line }
         requires there { line ≤ length (queued outbox.now) }
@@ -73,6 +77,10 @@ impl Engine for Match {
 
     fn handle(&mut self, event: Event<'_>, outbox: &mut Outbox) -> Result<(), Memory> {
         self.step(event, outbox)
+    }
+
+    fn listens(&self, _seat: usize) -> bool {
+        self.outcome().is_none()
     }
 
     fn is_over(&self) -> bool {

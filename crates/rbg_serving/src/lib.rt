@@ -19,10 +19,11 @@ mod serving;
 
 pub use answer::{Polled, Put};
 pub use clock::Clock;
+pub use engine::Engine;
 pub use faulty::Faulty;
 pub use give::{Give, Take};
 pub use line::Line;
 pub use list_clock::ListClock;
 pub use memory_line::MemoryLine;
 pub use served::{ServeError, Served};
-pub use serving::serve;
+pub use serving::{serve, serve_engine};

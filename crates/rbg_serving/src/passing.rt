@@ -42,7 +42,7 @@ fn pass_to_each<L: Line, E: Engine>(
     outbox: &E::Outbox,
 ) -> Option<usize>
     requires states { length states.old ≡ length lines.old }
-    requires seats { length (E.queued outbox.now) ≡ length lines.old }
+    requires fits { length lines.old ≤ length (E.queued outbox.now) }
     ensures served { (before : List Told) (heard : List Heard) (since : List Intake) →
         AreServed L.told L.failure_count before heard (E.queued outbox.now) lines.old states.old since →
         MatchOption result
@@ -82,7 +82,7 @@ pub(crate) fn pass<L: Line, E: Engine>(
     at: u64,
 ) -> Result<(), Memory>
     requires states { length states.old ≡ length lines.old }
-    requires lines { length lines.old ≡ E.lines (E.fixed engine.old) }
+    requires fits { length lines.old ≤ length (E.queued outbox.old) }
     requires queues { length (E.queued outbox.old) ≡ E.lines (E.fixed engine.old) }
     ensures goes_on { (start : Start E) (earlier : List ℕ) (rounds : ℕ) →
         InCall L.told L.failure_count E.behaviour start (earlier

@@ -1,5 +1,5 @@
 //! Rounds: each line is polled, and the clock ticks.
-ghost use Rattle.std.specs.Prelude.{◌≡◌, ◌<◌, ◌+◌, ◌++◌, ℕ, List, true, length, map, slice_index_or, option_to_list, MatchResult, OnOk};
+ghost use Rattle.std.specs.Prelude.{◌≡◌, ◌<◌, ◌+◌, ◌++◌, ◌↔◌, ℕ, List, true, length, map, slice_index_or, option_to_list, IsTrue, MatchResult, OnOk};
 ghost use Rattle.rbg_match.specs.Inputs.{event_of};
 ghost use Rattle.rbg_serving.specs.Answers.{FitsPoll};
 ghost use Rattle.rbg_serving.specs.Heard.{Heard, IsLive, event_of as heard_event};
@@ -75,7 +75,7 @@ impl<'a, L: Line, E: Engine, C: Clock> Call<'a, L, E, C> {
         requires fits { Fits (λ engine. E.lines (E.fixed engine)) E.queued self.old }
         requires there { index < length self.old.lines.now }
         requires live { (slice_index_or self.old.states.now index absent).live ≡ true }
-        requires going { ¬ E.behaviour.over self.old.engine.now }
+        requires listens { E.behaviour.listens self.old.engine.now (index + 1) }
         ensures goes_on { (start : Start E) (rounds : ℕ) →
             PassedOf L.told L.failure_count E.behaviour E.queued C.told start rounds self.old →
             MatchResult result
@@ -93,6 +93,35 @@ impl<'a, L: Line, E: Engine, C: Clock> Call<'a, L, E, C> {
         };
         self.engine.handle(event, self.outbox)?;
         pass(self.lines, self.states, self.engine, self.outbox, at)
+    }
+
+    /// Whether the line at a place is polled: it is live, and is still heard.
+    fn is_heard(&self, index: usize) -> bool
+        requires { index < length self.now.states.now }
+        ensures { IsTrue result ↔ (((slice_index_or self.now.states.now index absent).live ≡ true)
+            × E.behaviour.listens self.now.engine.now (index + 1)) }
+    {
+        self.states[index].live && self.engine.listens(index + 1)
+    }
+
+    /// Polls a line if it is live and still heard.
+    fn visit(&mut self, index: usize, buffer: &mut [u8]) -> Result<(), Memory>
+        requires fits { Fits (λ engine. E.lines (E.fixed engine)) E.queued self.old }
+        requires there { index < length self.old.lines.now }
+        ensures goes_on { (start : Start E) (rounds : ℕ) →
+            PassedOf L.told L.failure_count E.behaviour E.queued C.told start rounds self.old →
+            MatchResult result
+            (λ _. PassedOf L.told L.failure_count E.behaviour E.queued C.told start rounds self.new)
+            (λ _. LacksMemoryOf L.told L.failure_count E.behaviour E.queued C.told start rounds self.new) }
+        ensures fits { Fits (λ engine. E.lines (E.fixed engine)) E.queued self.new }
+        ensures same { IsSameCall self.old self.new }
+        ensures fixed { E.fixed self.new.engine.now ≡ E.fixed self.old.engine.now }
+        ensures valid { OnOk result (E.valid self.old.engine.now → E.valid self.new.engine.now) }
+    {
+        if self.is_heard(index) {
+            return self.hear(index, buffer);
+        }
+        Ok(())
     }
 
     /// Closes a round at the moment that the clock tells.
@@ -130,7 +159,7 @@ impl<'a, L: Line, E: Engine, C: Clock> Call<'a, L, E, C> {
         pass(self.lines, self.states, self.engine, self.outbox, at)
     }
 
-    /// One round. Once what is served is over no line is polled.
+    /// One round. A line that isn't heard any more is not polled.
     pub(crate) fn round(&mut self, buffer: &mut [u8]) -> Result<(), Memory>
         requires fits { Fits (λ engine. E.lines (E.fixed engine)) E.queued self.old }
         ensures goes_on { (start : Start E) (rounds : ℕ) →
@@ -144,12 +173,7 @@ impl<'a, L: Line, E: Engine, C: Clock> Call<'a, L, E, C> {
         ensures valid { OnOk result (E.valid self.old.engine.now → E.valid self.new.engine.now) }
     {
         for index in 0..self.lines.len() {
-            if self.engine.is_over() {
-                break;
-            }
-            if self.states[index].live {
-                self.hear(index, buffer)?;
-            }
+            self.visit(index, buffer)?;
         }
         self.tick()
     }

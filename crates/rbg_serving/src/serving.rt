@@ -1,5 +1,5 @@
 //! The serving of a match over lines.
-ghost use Rattle.std.specs.Prelude.{◌≡◌, ◌<◌, ◌↔◌, ℕ, List, length, slice_index_or, IfOk, IsErrOf, IsTrue};
+ghost use Rattle.std.specs.Prelude.{◌≡◌, ◌<◌, ◌≤◌, ◌↔◌, ℕ, List, length, slice_index_or, IfOk, IsErrOf, IsTrue};
 ghost use Rattle.rbg_match.specs.Matches.{HasHistory};
 ghost use Rattle.rbg_match.specs.PlayingOn.{seats_of};
 ghost use Rattle.rbg_serving.specs.Told.{Told, TellEach};
@@ -43,8 +43,37 @@ pub fn serve<L: Line, C: Clock>(
     ensures game { refereed.new.game ≡ refereed.old.game }
     ensures seats { length outbox.new ≡ length outbox.old }
 {
+    serve_engine(alloc, lines, refereed, outbox, clock, rounds)
+}
+
+/// Serves what can be served, as a match, over lines, the first line's first, in that many rounds at most. In a round each
+/// line that has neither ended nor failed in this call, and is still heard, is polled in turn, and then the clock ticks. What
+/// is queued for a line, from its first byte on, is put to it before the first round and after each event. A line that fails
+/// to take it has ended.
+///
+/// Serving ends when what is served is over and each line that neither ended nor failed took all that is queued for it.
+pub fn serve_engine<L: Line, E: Engine, C: Clock>(
+    alloc: Global,
+    lines: &mut [L],
+    engine: &mut E,
+    outbox: &mut E::Outbox,
+    clock: &mut C,
+    rounds: u64,
+) -> Result<Served, ServeError>
+    requires lines { length lines.old ≤ E.lines (E.fixed engine.old) }
+    requires queues { length (E.queued outbox.old) ≡ E.lines (E.fixed engine.old) }
+    ensures serves { (before : List Told) (asked : List ℕ) →
+        TellEach L.told L.failure_count lines.old before →
+        C.told clock.old asked →
+        ServesOver L.told L.failure_count C.told E.behaviour lines.new clock.new rounds before asked
+        engine.old engine.new
+        (E.queued outbox.old) (E.queued outbox.new) result }
+    ensures valid { (¬ IsErrOf result ServeError.Memory) → E.valid engine.old → E.valid engine.new }
+    ensures fixed { E.fixed engine.new ≡ E.fixed engine.old }
+    ensures queues { length (E.queued outbox.new) ≡ length (E.queued outbox.old) }
+{
     let mut states = states_at_first(alloc, lines.len())?;
-    serve_lines(lines, &mut states, refereed, outbox, clock, rounds)
+    serve_lines(lines, &mut states, engine, outbox, clock, rounds)
 }
 
 /// The states of that many lines that have taken nothing.
@@ -77,7 +106,7 @@ fn serve_lines<L: Line, E: Engine, C: Clock>(
     rounds: u64,
 ) -> Result<Served, ServeError>
     requires states { length states.old ≡ length lines.old }
-    requires lines { length lines.old ≡ E.lines (E.fixed engine.old) }
+    requires lines { length lines.old ≤ E.lines (E.fixed engine.old) }
     requires queues { length (E.queued outbox.old) ≡ E.lines (E.fixed engine.old) }
     requires first { (index : ℕ) → index < length states.old
         → slice_index_or states.old index absent ≡ at_first }

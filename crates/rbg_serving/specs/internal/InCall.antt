@@ -26,7 +26,7 @@ pub record InCall {L S : Type 0} (told : L → Told → Type 0) (failure_count :
   pub live : IsOfLiveLines (length start.told) heard
   pub count : rounds_of heard ≡ rounds
   pub since : List Intake
-  pub handles : Handles engine start.state start.queued heard state queued since
+  pub handles : Handles engine (length start.told) start.state start.queued heard state queued since
   pub intakes : List Intake
   pub later : ComeBefore since intakes
   pub served : AreServed told failure_count start.told heard queued lines states intakes
@@ -36,7 +36,7 @@ pub record Passed {L S : Type 0} (told : L → Told → Type 0) (failure_count :
     (start : Start S) (moments : List ℕ) (rounds : ℕ) (lines : List L) (states : List LineState) (state : S)
     (queued : List (List ℕ)) : Type 0 where
   pub call : InCall told failure_count engine start moments rounds lines states state queued
-  pub offered : AllOffered call.heard queued call.since call.intakes
+  pub offered : AllOffered (length start.told) call.heard queued call.since call.intakes
 
 -- The call has come so far, and this event is what was heard last. It isn't handled yet.
 pub record HeardLast {L S : Type 0} (told : L → Told → Type 0) (failure_count : L → ℕ) (engine : Behaviour S)
@@ -49,11 +49,11 @@ pub record HeardLast {L S : Type 0} (told : L → Told → Type 0) (failure_coun
   pub live : IsOfLiveLines (length start.told) (before ++ one ∷ [])
   pub count : rounds_of (before ++ one ∷ []) ≡ rounds
   pub since : List Intake
-  pub handles : Handles engine start.state start.queued before state queued since
+  pub handles : Handles engine (length start.told) start.state start.queued before state queued since
   pub intakes : List Intake
-  pub may : MayComeNext engine before state queued since intakes one
+  pub may : MayComeNext engine (length start.told) before state queued since intakes one
   pub served : AreServed told failure_count start.told (before ++ one ∷ []) queued lines states intakes
-  pub as_many : length queued ≡ length lines
+  pub fits : length lines ≤ length queued
 
 -- The call has come so far, in so many rounds at most. There was no memory for the last that was heard.
 pub record LacksMemoryInCall {L S : Type 0} (told : L → Told → Type 0) (failure_count : L → ℕ) (engine : Behaviour S)
@@ -65,7 +65,7 @@ pub record LacksMemoryInCall {L S : Type 0} (told : L → Told → Type 0) (fail
   pub count : rounds_of heard ≤ rounds
   pub intakes : List Intake
   pub served : AreServed told failure_count start.told heard queued lines states intakes
-  pub lacks : LacksMemory engine heard intakes start.state state start.queued queued
+  pub lacks : LacksMemory engine (length start.told) heard intakes start.state state start.queued queued
 
 -- So much holds with some moments, and these are all that the clock has told.
 pub record WithMoments {C : Type 0} (clock_told : C → List ℕ → Type 0) (asked : List ℕ) (clock : C)
@@ -96,14 +96,14 @@ LacksMemoryOf told failure_count engine queued clock_told start rounds call =
     LacksMemoryInCall told failure_count engine start moments rounds call.lines.now call.states.now call.engine.now
     (queued call.outbox.now))
 
--- There is a state for each line, there are as many lines as are served, and bytes are queued for each.
+-- There is a state for each line, there aren't more lines than can be served, and bytes are queued for as many.
 abbrev pub Fits : {L S Q C : Type 0} → (served : S → ℕ) → (Q → List (List ℕ)) → Call L S C Q → Type 0
 Fits served queued call =
     (length call.states.now ≡ length call.lines.now)
-    × (length call.lines.now ≡ served call.engine.now)
+    × (length call.lines.now ≤ served call.engine.now)
     × (length (queued call.outbox.now) ≡ served call.engine.now)
 
--- The call works on the same lines, states, engine, outbox and clock.
+-- The call works on the same lines, states, engine, outbox and clock, and on as many lines.
 abbrev pub IsSameCall : {L S Q C : Type 0} → (old new : Call L S C Q) → Type 0
 IsSameCall old new =
     (new.lines.ghost_name ≡ old.lines.ghost_name)
@@ -111,3 +111,4 @@ IsSameCall old new =
     × (new.engine.ghost_name ≡ old.engine.ghost_name)
     × (new.outbox.ghost_name ≡ old.outbox.ghost_name)
     × (new.clock.ghost_name ≡ old.clock.ghost_name)
+    × (length new.lines.now ≡ length old.lines.now)

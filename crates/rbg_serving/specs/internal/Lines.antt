@@ -98,11 +98,3 @@ LiveHaveAll queued states =
     (index : ℕ) → index < length states →
     (slice_index_or states index absent).live ≡ true →
     HasAll queued states index
-
--- Behind the bytes that were queued more are queued.
-abbrev pub Extends : (queued now : List ℕ) → Type 0
-Extends queued now = (more : List ℕ) × (now ≡ queued ++ more)
-
--- Nothing is queued but behind what was.
-abbrev pub ExtendAll : (queued now : List (List ℕ)) → Type 0
-ExtendAll queued now = (index : ℕ) → index < length queued → Extends (queued_at queued index) (queued_at now index)

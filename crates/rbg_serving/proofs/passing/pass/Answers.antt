@@ -13,7 +13,7 @@ loop-index-preserved g c =
           (put_failed earlier c.args.at c.in-Some.index (c.loop-index.invariant.3 start earlier rounds call)
           (omega (arith, c.in-Some.ensures.there, c.pass_to_each.auto.lines))
           (omega (arith, c.pass_to_each.auto.lines))
-          (omega (arith, c.loop-index.invariant.1, c.requires.queues, c.requires.lines, c.loop-index.auto.lines))
+          (omega (arith, c.loop-index.invariant.1, c.requires.fits, c.loop-index.auto.lines))
           c.in-Some.ensures.served)
           c.in_ok-handle.ensures.ok
           c.in_ok-handle.ensures.extends,
@@ -26,7 +26,7 @@ returns-in_err-handle-clause-goes_on g c = λ start earlier rounds call.
     (put_failed earlier c.args.at c.in-Some.index (c.loop-index.invariant.3 start earlier rounds call)
     (omega (arith, c.in-Some.ensures.there, c.pass_to_each.auto.lines))
     (omega (arith, c.pass_to_each.auto.lines))
-    (omega (arith, c.loop-index.invariant.1, c.requires.queues, c.requires.lines, c.loop-index.auto.lines))
+    (omega (arith, c.loop-index.invariant.1, c.requires.fits, c.loop-index.auto.lines))
     c.in-Some.ensures.served)
     c.in_err-handle.ensures.err.0
     c.in_err-handle.ensures.err.1)
@@ -35,5 +35,4 @@ pub returns-clause-goes_on : goal.returns-clause-goes_on
 returns-clause-goes_on g c = λ start earlier rounds call.
     all_passed
     (c.loop-index.invariant.3 start earlier rounds call)
-    (omega (arith, c.loop-index.invariant.1, c.requires.queues, c.requires.lines, c.loop-index.auto.lines))
     c.in_default.ensures.served

@@ -1,4 +1,4 @@
-use Rattle.std.proofs.Common.{sym, ◌∙◌}
+use Rattle.std.proofs.Common.{arith}
 use Rattle.rbg_serving.proofs.InCallLemmas.{handled, refused, either, on_error, one_more_moment}
 use Rattle.rbg_serving.proofs.PollLemmas.{poll_heard, poll_unheard}
 use Rattle.rbg_serving.proofs.call.Call.hear.Goals as goal
@@ -13,8 +13,8 @@ pub returns-in_err-handle-clause-goes_on : goal.returns-in_err-handle-clause-goe
 returns-in_err-handle-clause-goes_on g c = λ start rounds call.
     on_error _ _ c.from_residual.result c.from_residual.ensures.1
     (one_more_moment c.now-at.result c.now-at.ensures call
-    (refused (poll_heard c.now-at.result c.args.index c.poll-polled.result c.poll-polled.new.buffer c.requires.going
-    c.requires.there c.poll-polled.auto.lines (c.requires.fits.2 ∙ sym c.requires.fits.1) c.in-Some.ensures
+    (refused (poll_heard c.now-at.result c.args.index c.poll-polled.result c.poll-polled.new.buffer c.requires.listens
+    c.requires.there c.poll-polled.auto.lines (omega (arith, c.requires.fits.1, c.requires.fits.2)) c.in-Some.ensures
     c.poll-polled.ensures.served call.holds)
     c.in_err-handle.ensures.err.0 c.in_err-handle.ensures.err.1))
 
@@ -24,7 +24,7 @@ returns-clause-goes_on g c = λ start rounds call.
     (one_more_moment c.now-at.result c.now-at.ensures call)
     (one_more_moment c.now-at.result c.now-at.ensures call)
     (c.pass.ensures.goes_on start call.moments rounds
-    (handled (poll_heard c.now-at.result c.args.index c.poll-polled.result c.poll-polled.new.buffer c.requires.going
-    c.requires.there c.poll-polled.auto.lines (c.requires.fits.2 ∙ sym c.requires.fits.1) c.in-Some.ensures
+    (handled (poll_heard c.now-at.result c.args.index c.poll-polled.result c.poll-polled.new.buffer c.requires.listens
+    c.requires.there c.poll-polled.auto.lines (omega (arith, c.requires.fits.1, c.requires.fits.2)) c.in-Some.ensures
     c.poll-polled.ensures.served call.holds)
     c.in_ok-handle.ensures.ok c.in_ok-handle.ensures.extends))

@@ -1,4 +1,4 @@
-use Rattle.std.proofs.Common.{◌+◌, sym, ◌∙◌}
+use Rattle.std.proofs.Common.{◌+◌, arith}
 use Rattle.rbg_serving.proofs.InCallLemmas.{ticked, handled, refused, either, on_error, one_more_moment}
 use Rattle.rbg_serving.proofs.call.Call.tick.Goals as goal
 
@@ -6,7 +6,7 @@ pub returns-in_err-handle-clause-goes_on : goal.returns-in_err-handle-clause-goe
 returns-in_err-handle-clause-goes_on g c = λ start rounds call.
     on_error _ _ c.from_residual.result c.from_residual.ensures.1
     (one_more_moment c.now-at.result c.now-at.ensures call
-    (refused (ticked c.now-at.result (c.requires.fits.2 ∙ sym c.requires.fits.1) call.holds)
+    (refused (ticked c.now-at.result (omega (arith, c.requires.fits.1, c.requires.fits.2)) call.holds)
     c.in_err-handle.ensures.err.0 c.in_err-handle.ensures.err.1))
 
 pub returns-clause-goes_on : goal.returns-clause-goes_on
@@ -15,5 +15,5 @@ returns-clause-goes_on g c = λ start rounds call.
     (one_more_moment c.now-at.result c.now-at.ensures call)
     (one_more_moment c.now-at.result c.now-at.ensures call)
     (c.pass.ensures.goes_on start call.moments (rounds + 1)
-    (handled (ticked c.now-at.result (c.requires.fits.2 ∙ sym c.requires.fits.1) call.holds)
+    (handled (ticked c.now-at.result (omega (arith, c.requires.fits.1, c.requires.fits.2)) call.holds)
     c.in_ok-handle.ensures.ok c.in_ok-handle.ensures.extends))

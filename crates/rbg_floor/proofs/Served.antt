@@ -1,0 +1,106 @@
+-- A hall that is served.
+use Rattle.std.proofs.Common.{◌≡◌, ℕ, zero, suc, ◌<◌, Bool, List, [], ◌∷◌, length, true, false, refl, sym, ap, ◌∙◌, subst, arith, append-nil, Result, Ok, Err, inl, inr}
+use Rattle.std.proofs.lemmas.List.{map-append}
+use Rattle.std.specs.Prelude.{OnOk, OnErr, is_err}
+use Rattle.rbg_hall.specs.Tellings.{Telling, bytes_to, told_from}
+use Rattle.rbg_hall.proofs.Telling.{length-told_to}
+use Rattle.rbg_serving.specs.declared.served.Served.{Served}
+use Rattle.rbg_serving.specs.declared.served.ServeError.{ServeError}
+use Rattle.rbg_serving.specs.declared.served.ServeError.TheVariants.{Rounds, Memory}
+use Rattle.rbg_serving.specs.Heard.{Heard, event_of}
+use Rattle.rbg_serving.specs.Passing.{Intake, Handles, Extends, ExtendAll, queued_at}
+use Rattle.rbg_serving.specs.Passing as passing
+use Rattle.rbg_floor.specs.Failing.{HeldHall}
+use Rattle.rbg_floor.specs.Halls.{AbstractTable, HallState}
+use Rattle.rbg_floor.specs.Hearing.{HallHears}
+use Rattle.rbg_floor.specs.Events.{AbstractHallEvent}
+use Rattle.rbg_floor.specs.Laws.{ServedHallIsAllowed}
+use Rattle.rbg_floor.specs.Openings.{IsNewHall}
+use Rattle.rbg_floor.specs.Serving.{IsServedHall, hall_event, hall_events, of_hall}
+use Rattle.rbg_floor.specs.Wholes.{HasRun, IsOfHall}
+use Rattle.rbg_floor.proofs.Wholes.{run_on, new_run, run_allowed}
+
+-- what each line has after it is told something
+told_extends : (line : ℕ) (queues : List (List ℕ)) (told : List Telling) (index : ℕ) → index < length queues → Extends (queued_at queues index) (queued_at (told_from line queues told) index)
+told_extends line [] told index within = ([], refl)
+told_extends line (bytes ∷ others) told zero within = (bytes_to line told, refl)
+told_extends line (bytes ∷ others) told (suc index) within = told_extends (suc line) others told index (omega (arith, within))
+
+pub hearing_extends : {old new : HallState} {event : AbstractHallEvent} {before after : List (List ℕ)} → HallHears old event new before after → ExtendAll before after
+hearing_extends {before = before} hears = λ index within.
+    subst (λ queues. Extends (queued_at before index) (queued_at queues index)) (sym hears.queued)
+    (told_extends 0 before hears.told index within)
+
+-- what the step of a hall answers, as a call hears it
+pub stepped_so : {E : Type 0} (old new : HallState) (failed : Bool) (before after : List (List ℕ)) (result : Result (Unit {0}) E) (heard wanted : AbstractHallEvent) → heard ≡ wanted → failed ≡ is_err result → OnOk result (HallHears old heard new before after) → OnOk result (HallHears old wanted new before after × (failed ≡ false))
+stepped_so old new failed before after (Ok done) heard wanted same failing hears = (subst (λ event. HallHears old event new before after) same hears, failing)
+stepped_so old new failed before after (Err error) heard wanted same failing hears = tt
+
+pub failed_so : {E : Type 0} (failed : Bool) (before after : List (List ℕ)) (result : Result (Unit {0}) E) → failed ≡ is_err result → OnErr result (after ≡ before) → OnErr result ((after ≡ before) × (failed ≡ true))
+failed_so failed before after (Ok done) failing kept = tt
+failed_so failed before after (Err error) failing kept = (kept, failing)
+
+pub works_so : {E : Type 0} (was failed : Bool) (result : Result (Unit {0}) E) → failed ≡ is_err result → OnOk result (was ≡ false → failed ≡ false)
+works_so was failed (Ok done) failing = λ _. failing
+works_so was failed (Err error) failing = tt
+
+pub as_many_so : {E : Type 0} (old new : HallState) (event : AbstractHallEvent) (before after : List (List ℕ)) (result : Result (Unit {0}) E) → OnOk result (HallHears old event new before after) → OnErr result (after ≡ before) → length after ≡ length before
+as_many_so old new event before after (Ok done) hears kept = ap length hears.queued ∙ length-told_to before hears.told
+as_many_so old new event before after (Err error) hears kept = ap length kept
+
+-- a hall that handles what is heard has run through it
+handled_run : {starts : List AbstractTable} {lines : ℕ} {old : HeldHall} {before : List (List ℕ)} {heard : List Heard} {new : HeldHall} {queued : List (List ℕ)} {since : List Intake} →
+    HasRun starts [] old.state before →
+    Handles of_hall lines old before heard new queued since →
+    HasRun starts (hall_events heard) new.state queued
+handled_run run passing.nothing = run
+handled_run {starts} {new = new} {queued = queued} run (passing.more {heard} handles now one may step) =
+    subst (λ events. HasRun starts events new.state queued) (sym (map-append (λ (one : Heard). hall_event (event_of one)) heard (one ∷ [])))
+    (run_on (handled_run run handles) step.0)
+
+allowed_so : {starts : List AbstractTable} {lines : ℕ} {old new : HeldHall} {before queued : List (List ℕ)} {heard : List Heard} {since : List Intake} →
+    IsNewHall starts old before →
+    Handles of_hall lines old before heard new queued since →
+    IsOfHall starts (hall_events heard) queued
+allowed_so {starts} {old = old} {before = before} new handles = record {
+  lawful = new.lawful;
+  configs = new.configs;
+  allowed = run_allowed (handled_run (new_run starts old before new) handles);
+}
+
+-- all that was heard was handled
+all_so : {starts : List AbstractTable} {lines : ℕ} {old new : HeldHall} {before queued : List (List ℕ)} {since : List Intake} (heard : List Heard) (result : Result Served ServeError) →
+    IsNewHall starts old before →
+    Handles of_hall lines old before heard new queued since →
+    IsServedHall starts heard queued result
+all_so heard result new handles = record {
+  handled = heard;
+  left = [];
+  split = sym (append-nil heard);
+  all = λ _. refl;
+  allowed = allowed_so new handles;
+}
+
+pub served_hall_is_allowed : ServedHallIsAllowed
+served_hall_is_allowed starts rounds before after moments old new queued_before queued (Ok served) made serves =
+    all_so serves.heard (Ok served) made serves.ends.0.handles
+served_hall_is_allowed starts rounds before after moments old new queued_before queued (Err Rounds) made serves =
+    all_so serves.heard (Err Rounds) made serves.ends.0.handles
+served_hall_is_allowed starts rounds before after moments old new queued_before queued (Err Memory) made serves =
+    elim serves.ends.1 [
+      | inl lacks ↦ record {
+        handled = lacks.handled;
+        left = lacks.refused ∷ [];
+        split = lacks.split;
+        all = λ other. absurd (other refl);
+        allowed = allowed_so made lacks.handles;
+      }
+      | inr nothing ↦ record {
+        handled = [];
+        left = [];
+        split = nothing.0;
+        all = λ other. absurd (other refl);
+        allowed = subst (λ queues. IsOfHall starts [] queues) (sym nothing.3)
+            (allowed_so {lines = 0} made passing.nothing);
+      }
+    ]

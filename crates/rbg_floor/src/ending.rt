@@ -1,0 +1,27 @@
+//! Whether matches have ended.
+ghost use Rattle.std.specs.Prelude.{◌≡◌, ◌↔◌, IsTrue};
+ghost use Rattle.rbg_floor.specs.Serving.{HaveAllEnded, has_ended};
+
+use rbg_hall::HallTable;
+
+/// Whether the match of a table has begun and ended.
+fn has_ended(table: &HallTable) -> bool
+    ensures { result ≡ has_ended table.now.begun }
+{
+    match table.begun() {
+        Some(playing) => playing.outcome().is_some(),
+        None => false,
+    }
+}
+
+/// Whether the match of each table has begun and ended.
+pub(crate) fn have_all_ended(tables: &[HallTable]) -> bool
+    ensures { IsTrue result ↔ HaveAllEnded tables.now }
+{
+    for table in tables {
+        if !has_ended(table) {
+            return false;
+        }
+    }
+    true
+}

@@ -1,0 +1,39 @@
+//! The serving of a hall over lines.
+ghost use Rattle.std.specs.Prelude.{◌≡◌, ◌≤◌, ℕ, List, false, length, IsErrOf};
+ghost use Rattle.rbg_hall.specs.Limits.{lines_in_all};
+ghost use Rattle.rbg_serving.specs.Told.{Told, TellEach};
+ghost use Rattle.rbg_serving.specs.Serving.{ServesOver};
+ghost use Rattle.rbg_floor.specs.Serving.{of_hall};
+
+use crate::Hall;
+use rbg_hall::HallOut;
+use rbg_serving::{Clock, Line, ServeError, Served, serve_engine};
+
+impl Hall {
+    /// Serves the matches of a hall over lines, line 0 first, in that many rounds at most. In a round each line that has
+    /// neither ended nor failed in this call is polled in turn, and then the clock ticks. A line that asked for a seat and
+    /// got none is polled no more, and once every match has ended none is. What is queued for a line, from its first byte
+    /// on, is put to it before the first round and after each event. A line that fails to take it has ended.
+    ///
+    /// Serving ends when every match has begun and ended and each line that neither ended nor failed took all that is queued
+    /// for it.
+    pub fn run<L: Line, C: Clock>(
+        &mut self,
+        lines: &mut [L],
+        out: &mut HallOut,
+        clock: &mut C,
+        rounds: u64,
+    ) -> Result<Served, ServeError>
+        requires { length lines.old ≤ lines_in_all }
+        ensures serves { (before : List Told) (asked : List ℕ) →
+            TellEach L.told L.failure_count lines.old before →
+            C.told clock.old asked →
+            ServesOver L.told L.failure_count C.told of_hall lines.new clock.new rounds before asked
+            self.old self.new
+            out.old out.new result }
+        ensures works { (¬ IsErrOf result ServeError.Memory) → self.old.failed ≡ false → self.new.failed ≡ false }
+    {
+        let _lines = out.lines();
+        serve_engine(self.allocator(), lines, self, out, clock, rounds)
+    }
+}

@@ -1,0 +1,30 @@
+//! Which lines may still speak.
+ghost use Rattle.std.specs.Prelude.{◌↔◌, length, IsTrue};
+ghost use Rattle.rbg_floor.specs.Serving.{MaySpeak, SpeaksAs};
+ghost use Rattle.rbg_floor.specs.internal.Parts.{AreReady, IsReady, hall_of, line_of};
+
+use crate::line::Line;
+use rbg_hall::HallTable;
+
+/// Whether something may still be heard of a line.
+pub(crate) fn may_speak(tables: &[HallTable], lines: &[Line], line: usize) -> bool
+    requires { AreReady (length tables.now) lines.now }
+    ensures { IsTrue result ↔ MaySpeak (hall_of tables.now lines.now) line }
+{
+    if line >= lines.len() {
+        return false;
+    }
+    speaks(tables, &lines[line], line as u64)
+}
+
+/// Whether something may still be heard of a line that stands so.
+fn speaks(tables: &[HallTable], one: &Line, line: u64) -> bool
+    requires { IsReady (length tables.now) one.now }
+    ensures { IsTrue result ↔ SpeaksAs tables.now line (line_of one.now) }
+{
+    match one {
+        Line::Silent(_) => true,
+        Line::Asks { index, .. } => tables[*index].has_seat(line),
+        Line::Over => false,
+    }
+}
