@@ -1,21 +1,17 @@
 -- A table hears nothing of what lines do that ask for another one.
-use Rattle.std.proofs.Common.{◌≡◌, ℕ, ◌+◌, ◌<◌, List, [], ◌∷◌, ◌++◌, length, Bool, true, false, refl, sym, ap, ◌∙◌, subst, append_assoc, append-nil, arith, Option, Some, None}
-use Rattle.std.proofs.lemmas.Bool.{true≢false, eq-eqb, eqb-true, ne_eqb, lt-ltb}
-use Rattle.std.specs.Prelude.{◌==◌, ◌&&◌, nat_lt, slice_get, slice_index_or, if◌then◌else◌}
+use Rattle.std.proofs.Common.{◌≡◌, ℕ, List, [], ◌∷◌, ◌++◌, Bool, true, false, refl, sym, ap, ◌∙◌, append_assoc, append-nil}
+use Rattle.std.proofs.lemmas.Bool.{true≢false, ne_eqb}
+use Rattle.std.specs.Prelude.{◌==◌, ◌&&◌, nat_lt, if◌then◌else◌}
 use Rattle.std.specs.List.{filter}
-use Rattle.rbg_wire.specs.Streams.{Item, incomplete, cut}
+use Rattle.rbg_wire.specs.Streams.{incomplete, cut}
 use Rattle.rbg_match.specs.Limits.{message_limit}
 use Rattle.rbg_hall.specs.Limits.{lines_in_all}
-use Rattle.rbg_hall.specs.Tables.{HallOf}
-use Rattle.rbg_hall.specs.Tellings.{Telling}
-use Rattle.rbg_floor.specs.Allowed.{bytes_by, bytes_for}
-use Rattle.rbg_floor.specs.Apart.{asks_for, concerns, concerning}
+use Rattle.rbg_floor.specs.Apart.{asks_for, concerns}
 use Rattle.rbg_floor.specs.Events.{AbstractHallEvent, sends, ends, ticks}
-use Rattle.rbg_floor.specs.Halls.{AbstractTable}
-use Rattle.rbg_floor.specs.Laws.{OthersAreUnheard, TablesAreApart}
+use Rattle.rbg_floor.specs.Laws.{OthersAreUnheard}
 use Rattle.rbg_floor.specs.Lines.{over, sent_by, has_ended, stream_of, line_after, first_request}
-use Rattle.rbg_floor.specs.Own.{heard_of, heard_of_piece, heard_of_end, own_behind, own}
-use Rattle.rbg_floor.specs.Requests.{requested, is_for}
+use Rattle.rbg_floor.specs.Own.{heard_of, heard_of_piece, heard_of_end, own_behind}
+use Rattle.rbg_floor.specs.Requests.{is_for}
 use Rattle.rbg_floor.proofs.Growing.{by_test, standing}
 use Rattle.rbg_floor.proofs.Owning.{asks_in, unasked_before, own_piece_unheard, own_end_unheard}
 

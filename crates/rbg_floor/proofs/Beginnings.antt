@@ -1,11 +1,11 @@
 -- A match that has begun at a table of a hall.
-use Rattle.std.proofs.Common.{◌≡◌, ℕ, ◌+◌, ◌-◌, ◌<◌, List, [], ◌∷◌, ◌++◌, length, get_or, Bool, true, false, refl, sym, ap, ◌∙◌, subst, append_assoc, arith, Option, Some, None, inl, inr}
+use Rattle.std.proofs.Common.{◌≡◌, ℕ, ◌+◌, ◌-◌, List, [], ◌∷◌, ◌++◌, length, get_or, true, false, sym, ap, ◌∙◌, subst, append_assoc, arith, Option, Some, None, inl, inr}
 use Rattle.std.proofs.lemmas.Bool.{true≢false, eqb-true, ltb-true}
-use Rattle.std.specs.Prelude.{◌&&◌, nat_lt, slice_get}
+use Rattle.std.specs.Prelude.{nat_lt, slice_get}
 use Rattle.std.specs.List.{flat_map}
 use Rattle.rbg_match.specs.Deliveries.{bytes_for}
 use Rattle.rbg_match.specs.Matches.{MatchState}
-use Rattle.rbg_wire.specs.Streams.{Item, incomplete, cut}
+use Rattle.rbg_wire.specs.Streams.{incomplete, cut}
 use Rattle.rbg_match.specs.Limits.{message_limit}
 use Rattle.rbg_hall.specs.Laws.{HoldsTranscript}
 use Rattle.rbg_hall.specs.Limits.{lines_in_all}
@@ -24,7 +24,7 @@ use Rattle.rbg_floor.proofs.Apart.{dropped_sent, first_true, nothing_asked, othe
 use Rattle.rbg_floor.proofs.Early.{JoinsFirst, early_told, joins_before, lacks_early, nothing_before, own_joins}
 use Rattle.rbg_floor.proofs.Growing.{by_test}
 use Rattle.rbg_floor.proofs.Owning.{Lacks, asks_in, own_lacks}
-use Rattle.rbg_floor.proofs.Running.{Stands, refusal_for, told_by, asked_untold, run_of, run_stands}
+use Rattle.rbg_floor.proofs.Running.{Stands, told_by, asked_untold, run_of, run_stands}
 use Rattle.rbg_floor.proofs.Silence.{all_unmoved}
 
 same_table : {a b : TableState} → Some a ≡ Some b → a ≡ b

@@ -1,17 +1,17 @@
 -- What a table hears doesn't depend on how many tables there are.
-use Rattle.std.proofs.Common.{◌≡◌, ◌≢◌, ℕ, zero, suc, ◌+◌, ◌<◌, ◌≤◌, ◌^◌, List, [], ◌∷◌, ◌++◌, map, length, Bool, true, false, refl, sym, ap, ◌∙◌, arith, Option, Some, None, inl, inr}
-use Rattle.std.proofs.lemmas.Bool.{true≢false, eq-eqb, eqb-true, ne_eqb, cases_lt}
+use Rattle.std.proofs.Common.{◌≡◌, ℕ, zero, suc, ◌<◌, ◌≤◌, ◌^◌, List, [], ◌∷◌, ◌++◌, map, Bool, true, false, refl, sym, ap, ◌∙◌, arith, Option, Some, None, inl, inr}
+use Rattle.std.proofs.lemmas.Bool.{true≢false, eq-eqb, ne_eqb, cases_lt}
 use Rattle.std.proofs.lemmas.Fmt.{decimal_injective}
 use Rattle.std.specs.Fmt.{decimal}
-use Rattle.std.specs.Prelude.{◌==◌, ◌&&◌, nat_lt, if◌then◌else◌}
+use Rattle.std.specs.Prelude.{nat_lt, if◌then◌else◌}
 use Rattle.rbg_wire.specs.Messages.{join_message, message_text}
-use Rattle.rbg_wire.specs.Streams.{Item, complete, too_long, Rest, incomplete, Cut, cut}
+use Rattle.rbg_wire.specs.Streams.{Item, complete, too_long, Rest, Cut, cut}
 use Rattle.rbg_match.specs.Limits.{message_limit}
 use Rattle.rbg_hall.specs.Limits.{lines_in_all}
-use Rattle.rbg_hall.specs.Tables.{OwnEvent, joins, arrives, says, leaves}
-use Rattle.rbg_floor.specs.Apart.{asks_for, concerning}
+use Rattle.rbg_hall.specs.Tables.{joins, arrives, says, leaves}
+use Rattle.rbg_floor.specs.Apart.{concerning}
 use Rattle.rbg_floor.specs.Events.{AbstractHallEvent, sends, ends, ticks}
-use Rattle.rbg_floor.specs.Lines.{HallLine, silent, asks, over, asking, line_cut, has_ended, stream_of, line_after, first_request}
+use Rattle.rbg_floor.specs.Lines.{asking, line_cut, has_ended, stream_of, line_after}
 use Rattle.rbg_floor.specs.Own.{heard_first, heard_of, heard_of_piece, heard_of_end, own_behind, own}
 use Rattle.rbg_floor.specs.Requests.{is_request, is_for, requested}
 use Rattle.rbg_floor.proofs.Apart.{others_are_unheard}

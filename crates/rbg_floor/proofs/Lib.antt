@@ -11,8 +11,8 @@ mod Permitted
 mod Pieces
 mod Requesting
 mod Running
-mod Served
 mod Same
+mod Served
 mod Silence
 mod Taking
 mod Ticking

@@ -1,5 +1,5 @@
 -- Laws of a hall.
-use Rattle.std.specs.Prelude.{◌≡◌, ◌+◌, ℕ, List, [], Some, Result, length, replicate, slice_get, ◌==◌, ◌++◌, true, Option, slice_index_or, if◌then◌else◌}
+use Rattle.std.specs.Prelude.{◌≡◌, ◌+◌, ◌==◌, ◌++◌, ℕ, true, List, [], Option, Some, Result, length, replicate, slice_get, slice_index_or, if◌then◌else◌}
 use Rattle.std.specs.List.{flat_map}
 use Rattle.rbg_wire.specs.declared.message.Reason.TheVariants.{OutOfTurn}
 use Rattle.rbg_wire.specs.Messages.{refusal_message, spelling}
@@ -9,7 +9,7 @@ use Rattle.rbg_match.specs.Matches.{MatchState}
 use Rattle.rbg_hall.specs.Laws.{ChooseAlike, HoldsTranscript}
 use Rattle.rbg_hall.specs.Limits.{lines_in_all}
 use Rattle.rbg_hall.specs.Tables.{TableState, OwnEvent, clock, joins, arrives, says, leaves}
-use Rattle.rbg_hall.specs.Tellings.{Telling, told_to, bytes_to}
+use Rattle.rbg_hall.specs.Tellings.{Telling, bytes_to, told_to}
 use Rattle.rbg_serving.specs.declared.served.Served.{Served}
 use Rattle.rbg_serving.specs.declared.served.ServeError.{ServeError}
 use Rattle.rbg_serving.specs.Serving.{Serves}
@@ -69,9 +69,9 @@ LinesHaveTheSameBytes =
     (one : IsAllowed starts events first) →
     (other : IsAllowed others elsewhere second) →
     ((playing playing' : MatchState) →
-        (one.by_table index start here).state.begun ≡ Some playing →
-        (other.by_table index start there).state.begun ≡ Some playing' →
-        ChooseAlike playing.play playing'.play) →
+    (one.by_table index start here).state.begun ≡ Some playing →
+    (other.by_table index start there).state.begun ≡ Some playing' →
+    ChooseAlike playing.play playing'.play) →
     (line : ℕ) →
     asks_for (length starts) (index + 1) line events ≡ true →
     slice_index_or first line [] ≡ slice_index_or second line []

@@ -1,7 +1,7 @@
 //! A hall: tables, and the lines that ask for them.
 ghost use Rattle.std.specs.Prelude.{◌≡◌, ◌↔◌, [], false, true, option_map, replicate, is_err, IfErr, IfOk, IfSome, IsErr, IsTrue, OnErr, OnOk};
-ghost use Rattle.rbg_match.specs.Matches.{HasHistory};
 ghost use Rattle.rbg_wire.specs.Streams.{incomplete};
+ghost use Rattle.rbg_match.specs.Matches.{HasHistory};
 ghost use Rattle.rbg_hall.specs.Limits.{lines_in_all};
 ghost use Rattle.rbg_floor.specs.Events.{event_of};
 ghost use Rattle.rbg_floor.specs.Halls.{begun_at};

@@ -1,7 +1,7 @@
 //! Laws of a hall. The contract of each function is a law; its body does nothing.
 ghost use Rattle.std.specs.Prelude.{◌≡◌};
 ghost use Rattle.rbg_floor.specs.Limits.{most_tables};
-ghost use Rattle.rbg_floor.specs.Laws.{BegunMatchesHoldTranscripts, OthersAreUnheard, RunIsAllowed, ServedHallIsAllowed, TablesAreApart, LinesHaveTheSameBytes};
+ghost use Rattle.rbg_floor.specs.Laws.{BegunMatchesHoldTranscripts, LinesHaveTheSameBytes, OthersAreUnheard, RunIsAllowed, ServedHallIsAllowed, TablesAreApart};
 
 use crate::TABLES;
 

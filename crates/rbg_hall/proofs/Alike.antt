@@ -1,8 +1,8 @@
 -- What a table hears decides what its lines are told, but for the keeper's moves and questions above the limits.
-use Rattle.std.proofs.Common.{◌≡◌, ◌≢◌, ℕ, zero, suc, ◌+◌, ◌<◌, List, [], ◌∷◌, ◌++◌, true, false, refl, sym, ap, ◌∙◌, subst, append_assoc, append-nil, arith, Option, Some, None, is_some, inl, inr}
+use Rattle.std.proofs.Common.{◌≡◌, ℕ, ◌+◌, List, [], ◌∷◌, ◌++◌, refl, sym, ap, ◌∙◌, subst, append_assoc, append-nil, arith, Option, Some, None, is_some, inl, inr}
 use Rattle.std.proofs.lemmas.Bool.{cases_lt}
 use Rattle.std.proofs.lemmas.Option.{none-some}
-use Rattle.std.specs.Prelude.{◌⊎◌, slice_get, slice_set}
+use Rattle.std.specs.Prelude.{slice_get, slice_set}
 use Rattle.std.specs.List.{flat_map}
 use Rattle.rbg_wire.specs.declared.message.Reason.TheVariants.{OutOfTurn, NoSeat}
 use Rattle.rbg_wire.specs.Streams.{Item}
@@ -10,7 +10,7 @@ use Rattle.rbg_wire.specs.Whole.{whole_item}
 use Rattle.rbg_rules.specs.Positions.{IsNumbered}
 use Rattle.rbg_rules.specs.State.{AbstractGame}
 use Rattle.rbg_match.specs.declared.config.Config.{Config}
-use Rattle.rbg_match.specs.Deliveries.{Delivery, bytes_for}
+use Rattle.rbg_match.specs.Deliveries.{bytes_for}
 use Rattle.rbg_match.specs.Inputs.{AbstractEvent, piece, end_of_stream}
 use Rattle.rbg_match.specs.Limits.{message_limit}
 use Rattle.rbg_match.specs.Matches.{MatchState}

@@ -1,6 +1,6 @@
 -- A run of a table holds a transcript of its match.
-use Rattle.std.proofs.Common.{◌≡◌, ◌≢◌, ℕ, zero, suc, ◌+◌, ◌<◌, List, [], ◌∷◌, ◌++◌, length, get_or, true, false, refl, sym, ap, ◌∙◌, subst, append_assoc, arith, Option, Some, None, replicate}
-use Rattle.std.proofs.lemmas.Bool.{eq-eqb, eqb-true, ne_eqb}
+use Rattle.std.proofs.Common.{◌≡◌, ℕ, zero, suc, ◌+◌, ◌<◌, List, [], ◌∷◌, ◌++◌, length, get_or, false, refl, sym, ap, ◌∙◌, subst, append_assoc, arith, Option, Some, None, replicate}
+use Rattle.std.proofs.lemmas.Bool.{ne_eqb}
 use Rattle.std.proofs.lemmas.List.{append-nil, length-replicate, length-set}
 use Rattle.std.proofs.lemmas.List.Concat.{flat_map-append}
 use Rattle.std.proofs.lemmas.Option.{none-some}
@@ -10,7 +10,7 @@ use Rattle.rbg_wire.specs.declared.message.Reason.TheVariants.{NoSeat}
 use Rattle.rbg_wire.specs.Messages.{refusal_message, spelling}
 use Rattle.rbg_rules.specs.State.{AbstractGame}
 use Rattle.rbg_match.specs.declared.config.Config.{Config}
-use Rattle.rbg_match.specs.Deliveries.{Delivery, bytes_for, delivered, delivered_from, queued}
+use Rattle.rbg_match.specs.Deliveries.{Delivery, bytes_for, delivered, delivered_from}
 use Rattle.rbg_match.specs.Inputs.{AbstractEvent, timed_inputs_in}
 use Rattle.rbg_match.specs.Matches.{MatchState, Opens, Steps, StepsAll}
 use Rattle.rbg_match.specs.Matches as matches
@@ -23,7 +23,7 @@ use Rattle.rbg_hall.specs.Laws.{Hands, HandsEach, HoldsTranscript, RunHoldsTrans
 use Rattle.rbg_hall.specs.Laws as laws
 use Rattle.rbg_hall.specs.Tables.{TableState, TableRun, OwnEvent, joins, Plays, Hears, waits, ticks, sits, begins, is_full, comes_late, stays, waits_too, stirs, is_early, plays, frees, goes, is_moment_for_none, is_unheard, goes_unheard, new_table, SitsAt, HasNoSeat}
 use Rattle.rbg_hall.specs.Tables as tables
-use Rattle.rbg_hall.specs.Tellings.{Telling, bytes_to, telling, to_lines, refusal_to}
+use Rattle.rbg_hall.specs.Tellings.{Telling, bytes_to, telling, to_lines}
 use Rattle.rbg_hall.proofs.Places.{there_within}
 use Rattle.rbg_hall.proofs.Seats.{SitsNowhere, SeatsDiffer, all_differ, differ_taken, none_on, own_on}
 use Rattle.rbg_hall.proofs.Telling.{bytes_to-append, bytes_to-other}

@@ -141,6 +141,6 @@ OneTable =
     (one : HallOf game text config events told) →
     (other : HallOf game text config events others) →
     ((playing playing' : MatchState) →
-        one.state.begun ≡ Some playing → other.state.begun ≡ Some playing' → ChooseAlike playing.play playing'.play) →
+    one.state.begun ≡ Some playing → other.state.begun ≡ Some playing' → ChooseAlike playing.play playing'.play) →
     (is_some one.state.begun ≡ is_some other.state.begun)
     × ((line : ℕ) → bytes_to line told ≡ bytes_to line others)
