@@ -11,5 +11,6 @@ mod script_events;
 
 pub use answer::{Answer, answer_device, answer_input, answer_refused, answer_script};
 pub use error::RefereeingError;
+pub use printed::push_seat;
 pub use refereeing::{referee_input, referee_texts};
 pub use run::run_referee;

@@ -19,7 +19,7 @@ pub(crate) fn match_lines(alloc: Global, outbox: &Outbox) -> Result<Vec<u8>, All
 }
 
 /// The lines of the messages to a seat.
-fn push_seat(
+pub fn push_seat(
     alloc: Global,
     seat: usize,
     bytes: &[u8],
