@@ -11,6 +11,8 @@ TESTED := $(filter-out rbg_test_search,$(sort $(foreach file,$(shell grep -rl --
 # The game of `make demo`, the games of `make clients`, and the port on which the clients' matches are served.
 GAME := crates/rbg_games/data/tictactoe.rbg
 GAMES := tictactoe connect_four breakthrough hex reversi
+# The games of `make hall`, each of two players.
+HALL := tictactoe connect_four breakthrough
 PORT := 4710
 # How many cases `make compare` makes by chance, the seed of the first one, and the program that it runs.
 N := 10000
@@ -24,13 +26,14 @@ SECONDS := 600
 # The requests for memory of the first match that `make try` refuses, one in each of ten runs.
 REFUSED := 1 2 5 10 20 50 100 150 200 300
 
-.PHONY: help run demo games clients clients-match tournament page compare refusals try build bench test check fmt clean
+.PHONY: help run demo games clients clients-match hall tournament page compare refusals try build bench test check fmt clean
 
 help:
 	@echo 'make run      referees the first match of README.md (crates/rbg_manager/stdin), with no proof'
 	@echo 'make demo     referees a match between two players over connections, and prints its record, with no proof'
 	@echo 'make games    checks each of the games that come with it, counts its first moves, compares both forms of its automaton and referees a match, with no proof'
 	@echo 'make clients  lets two example clients play matches of five games over ./rbg serve, and checks their records (after make build)'
+	@echo 'make hall     lets example clients play three matches at once over ./rbg hall, and checks the records (after make build)'
 	@echo 'make tournament lets three example players meet in three games, 36 matches, and prints the table (after make build)'
 	@echo 'make page     plays a match of chess, hex, abalone and reversi, makes a page of each, and takes pictures by a browser if there is one (after make build)'
 	@echo 'make compare  compares ./rbg with the interpreter of tools/slow, on stored cases and N=10000 others of SEED=1 (after make build)'
@@ -65,6 +68,12 @@ clients-match:
 	  python3 clients/rbg_player.py $(PORT) --random 1 && wait $$first && wait $$served || \
 	  { kill $$first $$served 2> /dev/null; false; }; } && \
 	echo $(notdir $(GAME)): $$(tail -1 $$record) && ./rbg replay $(GAME) $$record; status=$$?; rm -f $$record; exit $$status
+
+# Matches of some games at once in one hall.
+hall:
+	@test -x ./rbg || { echo 'make hall needs ./rbg: run make build first'; exit 1; }
+	@python3 -m doctest clients/hall.py
+	@python3 clients/hall.py --port $(PORT) $(HALL:%=crates/rbg_games/data/%.rbg)
 
 # The example tournament: each line of its jobs is a command, so whatever runs commands side by side can play it.
 tournament:

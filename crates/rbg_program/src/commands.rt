@@ -20,7 +20,9 @@ pub fn rbg_command<'a>(alloc: Global) -> Result<Command<'a>, AllocError> {
     let command = add(command, migrate_command(alloc));
     let command = add(command, demo_command(alloc));
     let command = add(command, serve_command(alloc));
-    add(command, play_command(alloc))
+    let command = add(command, play_command(alloc));
+    let command = add(command, hall_command(alloc));
+    add(command, hall_script_command(alloc))
 }
 
 /// A command with one more command of its own.
@@ -87,7 +89,22 @@ fn demo_command<'a>(alloc: Global) -> Result<Command<'a>, AllocError> {
 fn serve_command<'a>(alloc: Global) -> Result<Command<'a>, AllocError> {
     let command = Command::new(alloc, "serve")
         .about("Referees a match between the players that connect to a port, and prints its record")
-        .arg(game_argument(alloc))?
+        .arg(game_argument(alloc))?;
+    add_hosting(alloc, command)
+}
+
+fn hall_command<'a>(alloc: Global) -> Result<Command<'a>, AllocError> {
+    let command = Command::new(alloc, "hall")
+        .about(
+            "Referees a match of each game at once between the players that connect to a port, and prints the records",
+        )
+        .arg(games_argument(alloc))?;
+    add_hosting(alloc, command)
+}
+
+/// A command with the options of how players at a port are waited for, and how matches are served.
+fn add_hosting<'a>(alloc: Global, command: Command<'a>) -> Result<Command<'a>, AllocError> {
+    let command = command
         .arg(port_option(alloc))?
         .arg(wait_option(alloc))?
         .arg(quiet_option(alloc))?;
@@ -110,6 +127,20 @@ fn play_command<'a>(alloc: Global) -> Result<Command<'a>, AllocError> {
         .arg(port_option(alloc))?
         .arg(match_option(alloc))?
         .arg(rounds_option(alloc))
+}
+
+fn hall_script_command<'a>(alloc: Global) -> Result<Command<'a>, AllocError> {
+    Command::new(alloc, "hallscript")
+        .about(
+            "Lets a hall hear the script on standard input, whose seats are lines, and prints what each line is sent",
+        )
+        .arg(games_argument(alloc))
+}
+
+fn games_argument<'a>(alloc: Global) -> Arg<'a> {
+    game_argument(alloc)
+        .num_args(1..=16)
+        .help("The descriptions of 1 to 16 games, one for each table")
 }
 
 fn game_argument<'a>(alloc: Global) -> Arg<'a> {

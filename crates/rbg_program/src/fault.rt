@@ -3,6 +3,7 @@
 use crate::player_refusal::PlayerRefusal;
 use rbg_console::{Refusal, Status, WordsError, write_text};
 use rbg_game::LoadError;
+use rbg_hosting::HallFault;
 use rbg_match::MatchError;
 use rbg_network::{ClientError, GatherError};
 use rbg_player::PlayerError;
@@ -74,6 +75,19 @@ impl From<MatchError> for Fault {
         match error {
             MatchError::Config => Fault::Config,
             MatchError::Memory => Fault::Memory(AllocError),
+        }
+    }
+}
+
+impl From<HallFault> for Fault {
+    fn from(error: HallFault) -> Fault {
+        match error {
+            HallFault::Hall => Fault::Config,
+            HallFault::Refused(error) => Fault::from(error),
+            HallFault::Device => Fault::Device,
+            HallFault::Absent => Fault::Absent,
+            HallFault::Rounds => Fault::Rounds,
+            HallFault::Memory(error) => Fault::Memory(error),
         }
     }
 }

@@ -9,11 +9,12 @@ ghost use Rattle.rbg_refereeing.specs.Runs.{IsRun};
 use crate::ask::ask_file;
 use crate::fault::{Fault, report};
 use crate::moves::list_file;
-use crate::serving::{demo_file, play, serve_file};
+use crate::serving::{demo_file, play, serve_file, serve_hall};
 use crate::task::Task;
 use crate::words::files_of;
 use rbg_answering::run_task;
 use rbg_console::{Files, Status};
+use rbg_hosting::run_hall_script;
 use rbg_network::Network;
 use rbg_refereeing::run_referee;
 use std::alloc::Global;
@@ -82,6 +83,23 @@ fn obey<F: Files, N: Network, R: Read, W: Write>(
     let outcome = match task {
         Task::Referee => return run_referee(alloc, input, output),
         Task::Files(task) => return run_task(alloc, task, files, input, output),
+        Task::HallScript { names } => {
+            return run_hall_script(alloc, names.as_slice(), files, input, output);
+        }
+        Task::Hall {
+            names,
+            port,
+            service,
+            hosting,
+        } => serve_hall(
+            alloc,
+            names.as_slice(),
+            files,
+            network,
+            port,
+            service,
+            hosting,
+        ),
         Task::Moves { file } => list_file(alloc, files, file),
         Task::Ask { file } => ask_file(alloc, files, file, input, output),
         Task::Demo { file, service } => demo_file(alloc, files, file, network, service),

@@ -9,6 +9,7 @@ use crate::printed::outcome_line;
 use crate::task::Service;
 use rbg_console::Files;
 use rbg_game::{Game, load};
+use rbg_hosting::{HallService, serve_files};
 use rbg_match::Match;
 use rbg_network::{
     Client, Hosting, Network, News, StreamLine, connect_players, gather, tell_who_gave_up,
@@ -69,6 +70,25 @@ fn serve_text<N: Network>(
     let mut lines = accept_players(alloc, network, port, game.players(), hosting)?;
     hosting.tell(network, &News::Begins);
     serve_lines(alloc, game, text, network, service, lines.as_mut_slice())
+}
+
+/// Referees a match of each file's game at once, between the players that connect to the port and join it, and gives the
+/// records.
+pub fn serve_hall<F: Files, N: Network>(
+    alloc: Global,
+    names: &[&str],
+    files: &mut F,
+    network: &mut N,
+    port: u16,
+    service: Service,
+    hosting: Hosting,
+) -> Result<Vec<u8>, Fault> {
+    let service = HallService {
+        config: service.config,
+        rounds: service.rounds,
+        hosting,
+    };
+    Ok(serve_files(alloc, names, files, network, port, service)?)
 }
 
 /// Referees a match of the file's game between players of this process, and gives its record of version 1.

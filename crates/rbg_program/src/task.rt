@@ -6,7 +6,7 @@ use rbg_answering::FileTask;
 use rbg_console::{WordsError, match_words};
 use rbg_match::Config;
 use rbg_network::Hosting;
-use std::alloc::Global;
+use std::alloc::{AllocError, Global};
 
 /// The defaults of the options.
 const USUAL_TURN: u64 = 60_000;
@@ -24,7 +24,7 @@ pub struct Service {
 }
 
 /// What the program is asked to do.
-#[derive(Clone, Copy, Debug)]
+#[derive(Debug, Drop)]
 pub enum Task<'a> {
     /// A command on files: `check`, `referee` with a file, `replay` or `migrate`.
     Files(FileTask<'a>),
@@ -50,6 +50,17 @@ pub enum Task<'a> {
         service: Service,
         hosting: Hosting,
     },
+    /// To let a hall, with a table for the game of each file, hear a script.
+    HallScript {
+        names: Vec<&'a str>,
+    },
+    /// To referee a match of each file's game at once, between the players that connect to the port and join it.
+    Hall {
+        names: Vec<&'a str>,
+        port: u16,
+        service: Service,
+        hosting: Hosting,
+    },
     /// To play a seat of the match that is served at the port, or of this one of the matches there.
     Play {
         port: u16,
@@ -62,13 +73,25 @@ impl<'a> Task<'a> {
     /// Reads the words of the command line, without the program's name.
     pub fn read(alloc: Global, words: &'a [String]) -> Result<Task<'a>, WordsError> {
         let matches = match_words(alloc, rbg_command(alloc)?, words)?;
-        Ok(Task::of(&matches))
+        let Some((command, words)) = matches.subcommand() else {
+            return Ok(Task::Referee);
+        };
+        match command {
+            "hall" => Ok(Task::Hall {
+                names: names_of(alloc, words)?,
+                port: port_of(words),
+                service: service_of(words),
+                hosting: hosting_of(words),
+            }),
+            "hallscript" => Ok(Task::HallScript {
+                names: names_of(alloc, words)?,
+            }),
+            _ => Ok(Task::of(command, words)),
+        }
     }
 
-    fn of(matches: &ArgMatches<'a>) -> Task<'a> {
-        let Some((command, words)) = matches.subcommand() else {
-            return Task::Referee;
-        };
+    /// What a command asks for, other than those of a hall.
+    fn of(command: &str, words: &ArgMatches<'a>) -> Task<'a> {
         match command {
             "check" => Task::Files(FileTask::Check {
                 file: text_of(words, "FILE"),
@@ -113,6 +136,11 @@ impl<'a> Task<'a> {
 /// The text of an argument that the command requires. Words without it are refused before.
 fn text_of<'a>(words: &ArgMatches<'a>, name: &str) -> &'a str {
     words.get_str(name).unwrap_or("")
+}
+
+/// The files' names.
+fn names_of<'a>(alloc: Global, words: &ArgMatches<'a>) -> Result<Vec<&'a str>, AllocError> {
+    words.get_strs("FILE").unwrap_or(&[]).to_vec(alloc)
 }
 
 /// The port, which the command requires.

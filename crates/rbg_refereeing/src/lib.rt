@@ -11,7 +11,7 @@ mod script_events;
 
 pub use answer::{Answer, answer_device, answer_input, answer_refused, answer_script};
 pub use error::RefereeingError;
-pub use printed::match_lines;
+pub use printed::{match_lines, push_seat};
 pub use refereeing::{referee_input, referee_texts};
 pub use run::run_referee;
 pub use script_events::{config_of, events_of};

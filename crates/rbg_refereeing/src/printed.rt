@@ -19,7 +19,7 @@ pub fn match_lines(alloc: Global, outbox: &Outbox) -> Result<Vec<u8>, AllocError
 }
 
 /// The lines of the messages to a seat.
-fn push_seat(
+pub fn push_seat(
     alloc: Global,
     seat: usize,
     bytes: &[u8],

@@ -1,0 +1,85 @@
+#!/usr/bin/env python3
+"""Plays a match of each of some games at once in one hall, with the example client, and checks each record.
+
+The players connect in an order of chance, so none of them knows its seat before it is told.
+"""
+
+import argparse
+import random
+import subprocess
+import sys
+import tempfile
+from pathlib import Path
+
+CLIENT = Path(__file__).with_name("rbg_player.py")
+
+
+def start_hall(rbg, games, port):
+    """A hall that listens."""
+    words = [rbg, "hall", *games, "--port", str(port), "--rounds", "4294967295", "--wait", "60"]
+    hall = subprocess.Popen(words, stdout=subprocess.PIPE, stderr=subprocess.PIPE, text=True)
+    told = hall.stderr.readline()
+    if told != f"listening on port {port}\n":
+        sys.exit(f"the hall doesn't listen: {told or hall.stdout.read()}")
+    return hall
+
+
+def player(rbg, port, match, seed):
+    """A player that plays by chance and joins the match."""
+    words = [sys.executable, str(CLIENT), str(port), "--match", str(match), "--random", str(seed), "--rbg", rbg]
+    return subprocess.Popen(words, stdout=subprocess.PIPE, text=True)
+
+
+def records(printed):
+    """What is printed of each match, behind its line `match K`.
+
+    >>> records("match 1\\nrbg 2\\n0 E4\\nmatch 3\\nrbg 2\\n")
+    {1: 'rbg 2\\n0 E4\\n', 3: 'rbg 2\\n'}
+    """
+    found, number = {}, 0
+    for line in printed.splitlines(keepends=True):
+        if line.startswith("match "):
+            number = int(line.split()[1])
+            found[number] = ""
+        else:
+            found[number] += line
+    return found
+
+
+def is_good(rbg, game, record):
+    """Whether `rbg replay` calls the record good."""
+    with tempfile.NamedTemporaryFile("w", suffix=".record") as file:
+        file.write(record)
+        file.flush()
+        done = subprocess.run([rbg, "replay", game, file.name], stdout=subprocess.PIPE, text=True)
+        return done.stdout == "good\n"
+
+
+def main():
+    parser = argparse.ArgumentParser(description=__doc__.splitlines()[0])
+    parser.add_argument("games", nargs="+", help="the descriptions, each of a game of two players")
+    parser.add_argument("--port", type=int, default=4711, help="the port on 127.0.0.1")
+    parser.add_argument("--rbg", default="./rbg", metavar="PROGRAM", help="the program rbg")
+    parser.add_argument("--seed", type=int, default=1, help="the seed of the order and of the moves")
+    words = parser.parse_args()
+    hall = start_hall(words.rbg, words.games, words.port)
+    order = [match for match in range(1, len(words.games) + 1) for _ in range(2)]
+    random.Random(words.seed).shuffle(order)
+    players = [player(words.rbg, words.port, match, seed) for seed, match in enumerate(order, words.seed)]
+    printed, told = hall.communicate()
+    for one in players:
+        one.wait()
+    if hall.returncode:
+        sys.exit(f"the hall ended with status {hall.returncode}: {printed}{told}")
+    found = records(printed)
+    bad = 0
+    for number, game in enumerate(words.games, 1):
+        record = found.get(number, "")
+        good = is_good(words.rbg, game, record)
+        bad += not good
+        print(f"match {number}, {Path(game).name}: {record.splitlines()[-1] if record else 'no record'}, {'good' if good else 'not good'}")
+    return 1 if bad else 0
+
+
+if __name__ == "__main__":
+    sys.exit(main())

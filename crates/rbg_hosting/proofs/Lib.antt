@@ -1,0 +1,4 @@
+-- Lemmas, by topic.
+mod HallLemmas
+mod PrintedLemmas
+mod TableLemmas

@@ -1,0 +1,92 @@
+//! Runs of a hall's commands, from the names of files.
+
+use crate::answer::answer_hall;
+use crate::reading::{read_all, whole_texts};
+use crate::serving::serve_hall;
+use crate::{HallFault, HallService};
+use rbg_console::{Files, Input, MAX_INPUT, Status, read_input, write_text};
+use rbg_game::LoadError;
+use rbg_network::Network;
+use rbg_refereeing::{Answer, answer_device, answer_refused, answer_script};
+use std::alloc::{AllocError, Global};
+use std::io::{Read, Write};
+
+/// Lets a hall, whose tables have the games of the files, hear the script on standard input, and writes what its lines are
+/// sent, or what is wrong.
+pub fn run_hall_script<F: Files, R: Read, W: Write>(
+    alloc: Global,
+    names: &[&str],
+    files: &mut F,
+    input: &mut R,
+    output: &mut W,
+) -> Status {
+    match answer_files(alloc, names, files, input) {
+        Ok(answer) => write_text(output, answer.text.as_slice(), answer.status),
+        Err(_) => write_text(output, b"memory\n", Status::Memory),
+    }
+}
+
+/// The answer to what the files and standard input have.
+fn answer_files<F: Files, R: Read>(
+    alloc: Global,
+    names: &[&str],
+    files: &mut F,
+    input: &mut R,
+) -> Result<Answer, AllocError> {
+    let Some(descriptions) = read_all(alloc, names, files)? else {
+        return answer_device(alloc);
+    };
+    match read_input(alloc, input, MAX_INPUT)? {
+        Input::Whole(script) => answer_read(alloc, descriptions, script.as_slice()),
+        Input::TooLong => answer_script(alloc, 0),
+        Input::Device => answer_device(alloc),
+    }
+}
+
+/// The answer to descriptions, each None where it is too long, and a script.
+fn answer_read(
+    alloc: Global,
+    descriptions: Vec<Option<Vec<u8>>>,
+    script: &[u8],
+) -> Result<Answer, AllocError> {
+    match whole_texts(alloc, descriptions)? {
+        Ok(texts) => answer_hall(alloc, texts.as_slice(), script),
+        Err(error) => answer_unloaded(alloc, error),
+    }
+}
+
+/// The answer to a description that is refused.
+fn answer_unloaded(alloc: Global, error: LoadError) -> Result<Answer, AllocError> {
+    if error.is_memory() {
+        return Err(AllocError);
+    }
+    answer_refused(alloc, error)
+}
+
+/// Plays a match of each file's game at once, between the players that connect to the port and join it, and gives the
+/// records.
+pub fn serve_files<F: Files, N: Network>(
+    alloc: Global,
+    names: &[&str],
+    files: &mut F,
+    network: &mut N,
+    port: u16,
+    service: HallService,
+) -> Result<Vec<u8>, HallFault> {
+    let Some(descriptions) = read_all(alloc, names, files)? else {
+        return Err(HallFault::Device);
+    };
+    match whole_texts(alloc, descriptions)? {
+        Ok(texts) => serve_hall(alloc, texts.as_slice(), network, port, service),
+        Err(error) => Err(refused(error)),
+    }
+}
+
+/// The fault of a description that is refused.
+fn refused(error: LoadError) -> HallFault {
+    if error.is_memory() {
+        HallFault::Memory(AllocError)
+    } else {
+        HallFault::Refused(error)
+    }
+}

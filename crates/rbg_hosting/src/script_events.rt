@@ -1,0 +1,54 @@
+//! The config and the events of a script, as a hall is given them.
+ghost use Rattle.std.specs.Prelude.{◌≡◌, map, IfOk};
+ghost use Rattle.rbg_floor.specs.Events.{event_of as hall_event};
+ghost use Rattle.rbg_hosting.specs.Scripts.{event_for};
+ghost use Rattle.rbg_refereeing.specs.Scripts.{config_for};
+ghost use Rattle.rbg_script.specs.Events.{event_of as scripted_event};
+
+use rbg_floor::HallEvent;
+use rbg_match::Config;
+use rbg_script::{ScriptConfig, ScriptEvent};
+use std::alloc::{AllocError, Global};
+
+/// The config of each match.
+pub(crate) fn config_of(config: ScriptConfig) -> Config
+    ensures { result ≡ config_for config }
+{
+    Config {
+        turn_ms: config.turn_ms,
+        refusals: config.refusals,
+    }
+}
+
+/// The events, in order. They borrow the pieces' bytes.
+pub(crate) fn events_of(
+    alloc: Global,
+    script: &[ScriptEvent],
+) -> Result<Vec<HallEvent<'_>>, AllocError>
+    ensures { IfOk result (λ events. map hall_event events.items
+        ≡ map (λ event. event_for (scripted_event event)) script.now) }
+{
+    let mut events = Vec::with_capacity(alloc, script.len())?;
+    for event in script {
+        events.push(event_of(event))?;
+    }
+    Ok(events)
+}
+
+/// The event of the line whose number the script has in place of a seat's.
+fn event_of(event: &ScriptEvent) -> HallEvent<'_>
+    ensures { hall_event result ≡ event_for (scripted_event event.now) }
+{
+    match event {
+        ScriptEvent::Piece { seat, at, bytes } => HallEvent::Piece {
+            line: *seat,
+            at: *at,
+            bytes: bytes.as_slice(),
+        },
+        ScriptEvent::Ended { seat, at } => HallEvent::Ended {
+            line: *seat,
+            at: *at,
+        },
+        ScriptEvent::Tick { at } => HallEvent::Tick { at: *at },
+    }
+}
