@@ -24,7 +24,7 @@ SECONDS := 600
 # The requests for memory of the first match that `make try` refuses, one in each of ten runs.
 REFUSED := 1 2 5 10 20 50 100 150 200 300
 
-.PHONY: help run demo games clients clients-match tournament compare refusals try build bench test check fmt clean
+.PHONY: help run demo games clients clients-match tournament page compare refusals try build bench test check fmt clean
 
 help:
 	@echo 'make run      referees the first match of README.md (crates/rbg_manager/stdin), with no proof'
@@ -32,6 +32,7 @@ help:
 	@echo 'make games    checks each of the games that come with it, counts its first moves, compares both forms of its automaton and referees a match, with no proof'
 	@echo 'make clients  lets two example clients play matches of five games over ./rbg serve, and checks their records (after make build)'
 	@echo 'make tournament lets three example players meet in three games, 36 matches, and prints the table (after make build)'
+	@echo 'make page     plays a match of chess, hex, abalone and reversi, makes a page of each, and takes pictures by a browser if there is one (after make build)'
 	@echo 'make compare  compares ./rbg with the interpreter of tools/slow, on stored cases and N=10000 others of SEED=1 (after make build)'
 	@echo 'make refusals refuses each request for memory in turn, and checks each answer; this alone needs gcc (after make build)'
 	@echo 'make try      runs the stored runs, ten with a request for memory refused, and the tests, with no proof; make -j4 try runs four at once'
@@ -74,6 +75,10 @@ tournament:
 	  else tr '\n' '\0' < $$folder/jobs.txt | xargs -0 -P 4 -n 1 sh -c; fi; } && \
 	python3 clients/tournament.py table $$folder --html $$folder/table.html > $$folder/table.txt && cat $$folder/table.txt && \
 	echo "the files are in $$folder" && grep -q '^36 of 36 matches' $$folder/table.txt
+
+page:
+	@test -x ./rbg && test -x ./rbg_author || { echo 'make page needs ./rbg and ./rbg_author: run make build first'; exit 1; }
+	@python3 tools/page/page.py
 
 compare:
 	@test -x $(RBG) || { echo 'make compare needs $(RBG): run make build first, or give RBG=path'; exit 1; }

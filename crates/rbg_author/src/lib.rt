@@ -1,20 +1,15 @@
-//! What authors of games are told of a description: why it is refused, with the line and the place, or what its game
-//! has, how many sequences of moves, and how the board looks after each move of a match.
+//! The program for authors of games: why a description is refused, what its game has, how many sequences of moves, how
+//! the board looks after each move of a match, and the page of a match.
 #![tactic(auto)]
 
-mod calls;
-mod excerpt;
-mod explanation;
+mod explained;
 mod listing;
-mod message;
+mod paged;
 mod perft;
-mod place;
 mod program;
 mod reading;
 mod report;
 mod shown;
-mod spot;
 
-pub use explanation::explain;
 pub use program::run;
 pub use report::{Report, print};

@@ -1,6 +1,7 @@
 //! What the author's program does with its words and the file that they name.
 
-use crate::listing::listing;
+use crate::explained::{Lists, check_file, explain_file};
+use crate::paged::page_file;
 use crate::perft::perft;
 use crate::reading::{Read, read_game};
 use crate::report::{Report, print};
@@ -22,28 +23,39 @@ pub fn run<F: Files, R: io::Read, W: Write>(
     input: &mut R,
     output: &mut W,
 ) -> Status {
-    print(output, &obey(alloc, words, files, input))
+    let outcome = obey(alloc, words, files, input, output);
+    print(output, &outcome)
 }
 
-fn obey<F: Files, R: io::Read>(
+/// Does what the words say. What is returned is still to be written.
+fn obey<F: Files, R: io::Read, W: Write>(
     alloc: Global,
     words: &[String],
     files: &mut F,
     input: &mut R,
+    output: &mut W,
 ) -> Result<Report, WordsError> {
     let matches = match_words(alloc, author_command(alloc)?, words)?;
     // the parse refuses words without a command and its file
     match matches.subcommand() {
         Some(("perft", words)) => {
             let depth = words.get_one::<u8>("DEPTH").unwrap_or(USUAL_DEPTH);
-            Ok(perft_file(alloc, files, file_of(words), depth)?)
+            Ok(perft_file(alloc, files, file_of(words), depth, output)?)
         }
         Some(("show", words)) => {
             let only_last = words.get_flag("last");
             Ok(show_file(alloc, files, file_of(words), input, only_last)?)
         }
-        Some((_, words)) => Ok(explain_file(alloc, files, file_of(words))?),
-        None => Ok(explain_file(alloc, files, "")?),
+        Some(("check", words)) => Ok(check_file(alloc, files, file_of(words))?),
+        Some(("page", words)) => Ok(page_file(alloc, files, file_of(words), input)?),
+        Some((_, words)) => {
+            let lists = Lists {
+                vertices: words.get_flag("vertices"),
+                positions: words.get_flag("positions"),
+            };
+            Ok(explain_file(alloc, files, file_of(words), lists)?)
+        }
+        None => Ok(check_file(alloc, files, "")?),
     }
 }
 
@@ -58,14 +70,33 @@ fn author_command<'a>(alloc: Global) -> Result<Command<'a>, AllocError> {
         .about("Help for authors of games of Regular Boardgames")
         .subcommand_required(true)
         .subcommand(explain_command(alloc)?)?
+        .subcommand(check_command(alloc)?)?
         .subcommand(perft_command(alloc)?)?
-        .subcommand(show_command(alloc)?)
+        .subcommand(show_command(alloc)?)?
+        .subcommand(page_command(alloc)?)
 }
 
 fn explain_command<'a>(alloc: Global) -> Result<Command<'a>, AllocError> {
     let file = file_argument(alloc, "The description of a game");
+    let vertices = Arg::new(alloc, "vertices")
+        .long("vertices")
+        .help("Lists each vertex too")
+        .action(ArgAction::SetTrue);
+    let positions = Arg::new(alloc, "positions")
+        .long("positions")
+        .help("Lists each position too, with its place and its action")
+        .action(ArgAction::SetTrue);
     Command::new(alloc, "explain")
         .about("Says why the description is refused, and where, or what its game has")
+        .arg(file.required(true))?
+        .arg(vertices)?
+        .arg(positions)
+}
+
+fn check_command<'a>(alloc: Global) -> Result<Command<'a>, AllocError> {
+    let file = file_argument(alloc, "The description of a game");
+    Command::new(alloc, "check")
+        .about("Warns of what the rules never use, and of numbers above a bound")
         .arg(file.required(true))
 }
 
@@ -96,24 +127,24 @@ fn show_command<'a>(alloc: Global) -> Result<Command<'a>, AllocError> {
         .arg(last)
 }
 
-fn explain_file<F: Files>(alloc: Global, files: &mut F, file: &str) -> Result<Report, AllocError> {
-    match read_game(alloc, files, file)? {
-        Read::Found(loaded) => Ok(Report {
-            text: listing(alloc, &loaded.game)?.into_bytes(),
-            status: Status::Success,
-        }),
-        Read::Other(report) => Ok(report),
-    }
+fn page_command<'a>(alloc: Global) -> Result<Command<'a>, AllocError> {
+    let file = file_argument(alloc, "The description of a game");
+    Command::new(alloc, "page")
+        .about(
+            "Makes a page for a browser of the record on standard input, with the board after each move",
+        )
+        .arg(file.required(true))
 }
 
-fn perft_file<F: Files>(
+fn perft_file<F: Files, W: Write>(
     alloc: Global,
     files: &mut F,
     file: &str,
     depth: u8,
+    output: &mut W,
 ) -> Result<Report, AllocError> {
     match read_game(alloc, files, file)? {
-        Read::Found(loaded) => perft(alloc, loaded.game, depth),
+        Read::Found(loaded) => perft(alloc, loaded.game, depth, output),
         Read::Other(report) => Ok(report),
     }
 }

@@ -1,10 +1,10 @@
 //! The text of a file and the game that it describes, or what is said of the file.
 
-use crate::explanation::explain;
 use crate::report::Report;
 use rbg_console::{Files, Input, Status};
+use rbg_explain::explain;
 use rbg_game::{LoadError, LoadedGame, load_with_layout};
-use rbg_tokens::{MAX_TEXT, TextError, Token, tokens};
+use rbg_tokens::{MAX_TEXT, TextError, Tokens, tokens};
 use std::alloc::{AllocError, Global};
 
 /// What was read, or what is said where it can't be had.
@@ -35,9 +35,9 @@ pub(crate) fn load_text(
     let refused = match tokens(alloc, text) {
         Ok(tokens) => match load_with_layout(alloc, &tokens) {
             Ok(loaded) => return Ok(Read::Found(loaded)),
-            Err(error) => refuse(alloc, file, text, tokens.as_slice(), error),
+            Err(error) => refuse(alloc, file, text, Some(&tokens), error),
         },
-        Err(error) => refuse(alloc, file, text, &[], LoadError::Text(error)),
+        Err(error) => refuse(alloc, file, text, None, LoadError::Text(error)),
     };
     Ok(Read::Other(refused?))
 }
@@ -52,7 +52,7 @@ pub(crate) fn read_text<F: Files>(
         Input::Whole(text) => Ok(Read::Found(text)),
         Input::TooLong => {
             let error = LoadError::Text(TextError::TooLong);
-            Ok(Read::Other(refuse(alloc, file, &[], &[], error)?))
+            Ok(Read::Other(refuse(alloc, file, &[], None, error)?))
         }
         Input::Device => Ok(Read::Other(unreadable(alloc, file)?)),
     }
@@ -72,7 +72,7 @@ fn refuse(
     alloc: Global,
     file: &str,
     text: &[u8],
-    tokens: &[Token<'_>],
+    tokens: Option<&Tokens<'_>>,
     error: LoadError,
 ) -> Result<Report, AllocError> {
     if error.is_memory() {

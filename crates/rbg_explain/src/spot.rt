@@ -1,5 +1,6 @@
 //! What stands around a token of a text.
 
+use crate::brackets::{CallForm, call_form, parameter_count};
 use rbg_tokens::{Symbol, Token, TokenKind};
 
 /// The names of the sections.
@@ -61,6 +62,57 @@ impl<'a> Spot<'a> {
         match self.before.iter().rposition(|token| token.is(Symbol::Hash)) {
             Some(hash) => &self.before[hash..],
             None => &[],
+        }
+    }
+
+    /// The tokens behind this one in the same definition, or those of the definition that begins here.
+    pub fn behind(&self) -> &'a [Token<'a>] {
+        let first = self.before.len().saturating_add(1);
+        let rest = self.tokens.get(first..).unwrap_or(&[]);
+        match rest.iter().position(|token| token.is(Symbol::Hash)) {
+            Some(hash) => &rest[..hash],
+            None => rest,
+        }
+    }
+
+    /// What the tokens behind this one are to a call of the macro of its name.
+    pub fn call_form(&self) -> CallForm {
+        call_form(self.behind())
+    }
+
+    /// Whether the arguments of the call don't end.
+    pub fn is_open_call(&self) -> bool {
+        matches!(self.call_form(), CallForm::Open)
+    }
+
+    /// How many parameters the macro of the token's name has.
+    pub fn parameters(&self) -> Option<usize> {
+        let name = self.token.text;
+        for index in 0..self.tokens.len() {
+            let rest = self.tokens.get(index..).unwrap_or(&[]);
+            match rest {
+                [hash, head, parameters @ ..] if hash.is(Symbol::Hash) && head.text == name => {
+                    return Some(parameter_count(parameters));
+                }
+                _ => {}
+            }
+        }
+        None
+    }
+
+    /// What is said of a comma between rows or vertices of a board.
+    pub fn comma_words(&self) -> &'static str {
+        if !self.token.is(Symbol::Comma) || !self.is_in_board() {
+            return "";
+        }
+        match self.last() {
+            Some(last) if last.is(Symbol::CloseBracket) => {
+                ": rows follow one another without a comma"
+            }
+            Some(last) if last.is(Symbol::CloseBrace) => {
+                ": vertices follow one another without a comma"
+            }
+            _ => "",
         }
     }
 

@@ -1,6 +1,8 @@
 //! A refused description, explained.
 
+use crate::brackets::open_bracket;
 use crate::calls::{called_lines, push_calls};
+use crate::exact::exact_place;
 use crate::excerpt::Excerpt;
 use crate::message::{Found, Message};
 use crate::place::place_of;
@@ -8,29 +10,40 @@ use crate::spot::{Spot, head_name};
 use rbg_console::Refusal;
 use rbg_game::LoadError;
 use rbg_macro::MacroError;
-use rbg_tokens::{TextLine, Token};
+use rbg_syntax::SyntaxError;
+use rbg_tokens::{Symbol, TextError, TextLine, Token, Tokens};
 use std::alloc::{AllocError, Global};
 
 /// What an author is told of a refused text: the file, the line and the column, what was expected and what stands
 /// there, the line itself with carets below the place, and the printed line of the refusal. The tokens are those of the
-/// text, none where it can't be cut into tokens.
+/// text, where it can be cut into tokens.
 pub fn explain(
     alloc: Global,
     file: &str,
     text: &[u8],
-    tokens: &[Token<'_>],
+    tokens: Option<&Tokens<'_>>,
     error: LoadError,
 ) -> Result<Vec<u8>, AllocError> {
     let mut output = Vec::new(alloc);
-    match place_of(&error, text, tokens) {
+    let has_mark = begins_with_mark(text, &error);
+    let cut = slice_of(tokens);
+    match find_place(alloc, &error, text, tokens)? {
         Some(at) => {
-            let spot = Spot::find(tokens, at);
-            let message = Message { error, spot };
+            let spot = Spot::find(cut, at);
+            let message = Message {
+                error,
+                spot,
+                has_mark,
+            };
             push_place(alloc, &mut output, file, text, at, message)?;
-            push_notes(alloc, &mut output, text, tokens, message)?;
+            push_notes(alloc, &mut output, text, cut, message)?;
         }
         None => {
-            let message = Message { error, spot: None };
+            let message = Message {
+                error,
+                spot: None,
+                has_mark,
+            };
             let line = format!(in alloc; "{file}: {message}\n")?;
             output.extend_from_slice(line.as_bytes())?;
         }
@@ -39,6 +52,35 @@ pub fn explain(
     let line = format!(in alloc; "refused {refusal}\n")?;
     output.extend_from_slice(line.as_bytes())?;
     Ok(output)
+}
+
+fn slice_of<'a>(tokens: Option<&'a Tokens<'a>>) -> &'a [Token<'a>] {
+    match tokens {
+        Some(tokens) => tokens.as_slice(),
+        None => &[],
+    }
+}
+
+/// The place of a refusal: the exact one, or else that of the section.
+fn find_place(
+    alloc: Global,
+    error: &LoadError,
+    text: &[u8],
+    tokens: Option<&Tokens<'_>>,
+) -> Result<Option<usize>, AllocError> {
+    let Some(tokens) = tokens else {
+        return Ok(place_of(error, text, &[]));
+    };
+    match exact_place(alloc, error, tokens)? {
+        Some(at) => Ok(Some(at)),
+        None => Ok(place_of(error, text, tokens.as_slice())),
+    }
+}
+
+/// Whether the text is refused since it begins with a byte order mark.
+fn begins_with_mark(text: &[u8], error: &LoadError) -> bool {
+    matches!(error, LoadError::Text(TextError::BadByte { at: 0 }))
+        && text.starts_with(b"\xef\xbb\xbf")
 }
 
 /// The file, the line, the column and the message, and the line itself with carets below the place.
@@ -59,15 +101,15 @@ fn push_place(
     output.extend_from_slice(head.as_bytes())?;
     let excerpt = Excerpt {
         number,
-        bytes: line.bytes,
+        bytes: line.bytes.strip_suffix(b"\r").unwrap_or(line.bytes),
         offset,
         width: message.spot.map_or(1, |spot| spot.token.text.len()),
     };
     excerpt.write(alloc, output)
 }
 
-/// The macro in whose body the place is and the lines that call it, and where the macro is defined that the refusal is
-/// about.
+/// Which bracket isn't closed, the macro in whose body the place is and the lines that call it, and where the macro is
+/// defined that the refusal is about.
 fn push_notes(
     alloc: Global,
     output: &mut Vec<u8>,
@@ -75,6 +117,9 @@ fn push_notes(
     tokens: &[Token<'_>],
     message: Message<'_>,
 ) -> Result<(), AllocError> {
+    if let Some(bracket) = unclosed_bracket(&message) {
+        push_bracket(alloc, output, text, &bracket)?;
+    }
     if let Some(head) = enclosing_macro(&message) {
         let name = Found(Some(head));
         let line = format!(in alloc; "in the body of the macro {name}\n")?;
@@ -91,12 +136,47 @@ fn push_notes(
     Ok(())
 }
 
-/// The name of the macro in whose body the place is. A refused head is in no body.
+/// The line that says which bracket isn't closed.
+fn push_bracket(
+    alloc: Global,
+    output: &mut Vec<u8>,
+    text: &[u8],
+    bracket: &Token<'_>,
+) -> Result<(), AllocError> {
+    let at = bracket.at.min(text.len());
+    let line = TextLine::of(text, at);
+    let number = line.number;
+    let column = (at - line.start).saturating_add(1);
+    let line = format!(in alloc; "the bracket opened at {number}:{column} isn't closed\n")?;
+    output.extend_from_slice(line.as_bytes())
+}
+
+/// The bracket that isn't closed where a section ends too early, or where the arguments of a call don't end.
+fn unclosed_bracket<'a>(message: &Message<'a>) -> Option<Token<'a>> {
+    let spot = message.spot?;
+    match message.error {
+        LoadError::Syntax(SyntaxError::Expected { .. }) if spot.token.is(Symbol::Hash) => {
+            open_bracket(spot.behind())
+        }
+        LoadError::Macro(MacroError::ArgumentCount { .. }) if spot.is_open_call() => {
+            open_bracket(spot.behind())
+        }
+        _ => None,
+    }
+}
+
+/// The name of the macro in whose body the place is. A refused head is in no body, and nor is the end of a section.
 fn enclosing_macro<'a>(message: &Message<'a>) -> Option<Token<'a>> {
     match message.error {
         LoadError::Text(_)
         | LoadError::Macro(MacroError::BadDefinition { .. } | MacroError::Twice { .. }) => None,
-        _ => message.spot?.macro_name(),
+        _ => {
+            let spot = message.spot?;
+            if spot.token.is(Symbol::Hash) {
+                return None;
+            }
+            spot.macro_name()
+        }
     }
 }
 

@@ -1,5 +1,6 @@
 //! What is said of a refusal: what was expected, and what stands there.
 
+use crate::brackets::CallForm;
 use crate::spot::{Needed, Spot};
 use rbg_board::BoardError;
 use rbg_game::limits::{
@@ -19,15 +20,17 @@ pub struct Message<'a> {
     pub error: LoadError,
     /// What stands at the refusal's place.
     pub spot: Option<Spot<'a>>,
+    /// Whether the text is refused since it begins with a byte order mark.
+    pub has_mark: bool,
 }
 
 impl fmt::Display for Message<'_> {
     fn fmt<W: fmt::Write>(&self, f: &mut Formatter<W>) -> fmt::Result {
         let found = Found(self.spot.map(|spot| spot.token));
         match self.error {
-            LoadError::Text(error) => write_text(f, &error),
+            LoadError::Text(error) => write_text(f, &error, self.has_mark),
             LoadError::Macro(error) => write_macro(f, &error, self.spot, &found),
-            LoadError::Syntax(error) => write_syntax(f, &error, &found),
+            LoadError::Syntax(error) => write_syntax(f, &error, self.spot, &found),
             LoadError::Game(error) => write_game(f, &error, self.spot, &found),
         }
     }
@@ -53,10 +56,17 @@ impl fmt::Display for Found<'_> {
     }
 }
 
-fn write_text<W: fmt::Write>(f: &mut Formatter<W>, error: &TextError) -> fmt::Result {
+fn write_text<W: fmt::Write>(
+    f: &mut Formatter<W>,
+    error: &TextError,
+    has_mark: bool,
+) -> fmt::Result {
     match error {
         TextError::TooLong => write!(f, "the text has more than {MAX_TEXT} bytes"),
         TextError::ZeroByte => write!(f, "expected no zero byte in the text"),
+        TextError::BadByte { .. } if has_mark => {
+            write!(f, "expected a token, found a byte order mark")
+        }
         TextError::BadByte { .. } => write!(f, "expected a token, found a byte that begins none"),
         TextError::Memory => write!(f, "out of memory"),
     }
@@ -71,12 +81,7 @@ fn write_macro<W: fmt::Write>(
     match error {
         MacroError::BadDefinition { .. } => write_head(f, spot, found),
         MacroError::Twice { .. } => write!(f, "a second macro has the name {found}"),
-        MacroError::ArgumentCount { .. } => {
-            write!(
-                f,
-                "expected a call of {found} with as many arguments as it has parameters"
-            )
-        }
+        MacroError::ArgumentCount { .. } => write_call(f, spot, found),
         MacroError::Depth { .. } => {
             write!(
                 f,
@@ -93,6 +98,43 @@ fn write_macro<W: fmt::Write>(
         ),
         MacroError::Memory => write!(f, "out of memory"),
     }
+}
+
+/// What is wrong with the arguments of a call.
+fn write_call<W: fmt::Write>(
+    f: &mut Formatter<W>,
+    spot: Option<Spot<'_>>,
+    found: &Found<'_>,
+) -> fmt::Result {
+    let wanted = spot.and_then(|spot| spot.parameters());
+    let form = spot.map(|spot| spot.call_form());
+    match (wanted, form) {
+        (Some(wanted), Some(CallForm::NoParenthesis)) => {
+            let word = argument_word(wanted);
+            write!(
+                f,
+                "expected `(` and {wanted} {word} behind the macro's name {found}"
+            )
+        }
+        (Some(_), Some(CallForm::Open)) => {
+            write!(f, "expected a `)` behind the arguments of {found}")
+        }
+        (Some(wanted), Some(CallForm::Arguments(count))) if count != wanted => {
+            let word = argument_word(wanted);
+            write!(
+                f,
+                "expected {wanted} {word} of {found}, separated by `;`, found {count}"
+            )
+        }
+        _ => write!(
+            f,
+            "expected a call of {found} with as many arguments as it has parameters"
+        ),
+    }
+}
+
+fn argument_word(count: usize) -> &'static str {
+    if count == 1 { "argument" } else { "arguments" }
 }
 
 /// What is wrong with the head of a definition.
@@ -130,10 +172,11 @@ fn write_head<W: fmt::Write>(
 fn write_syntax<W: fmt::Write>(
     f: &mut Formatter<W>,
     error: &SyntaxError,
+    spot: Option<Spot<'_>>,
     found: &Found<'_>,
 ) -> fmt::Result {
     match error {
-        SyntaxError::Expected { what, .. } => write_expected(f, *what, found),
+        SyntaxError::Expected { what, .. } => write_expected(f, *what, spot, found),
         SyntaxError::MissingSection { which } => write!(f, "expected a section `#{which}`"),
         SyntaxError::SectionTwice { which } => write!(f, "a second section has the name `{which}`"),
         SyntaxError::TooDeep { .. } => write!(f, "more than 128 brackets are open at {found}"),
@@ -144,14 +187,19 @@ fn write_syntax<W: fmt::Write>(
 fn write_expected<W: fmt::Write>(
     f: &mut Formatter<W>,
     what: Expectation,
+    spot: Option<Spot<'_>>,
     found: &Found<'_>,
 ) -> fmt::Result {
     let expected = expectation_words(what);
+    let comma = match spot {
+        Some(spot) => spot.comma_words(),
+        None => "",
+    };
     match found.0 {
         Some(token) if token.is(Symbol::Hash) => {
             write!(f, "expected {expected}, found the end of the section")
         }
-        _ => write!(f, "expected {expected}, found {found}"),
+        _ => write!(f, "expected {expected}, found {found}{comma}"),
     }
 }
 
@@ -205,7 +253,7 @@ fn write_game<W: fmt::Write>(
             let most = most_of(*what);
             write!(f, "expected at most {most} {what}")
         }
-        GameError::Board { error } => write_board(f, error),
+        GameError::Board { error } => write_board(f, error, found),
         GameError::Memory => write!(f, "out of memory"),
     }
 }
@@ -235,7 +283,11 @@ fn most_of(thing: Thing) -> usize {
     }
 }
 
-fn write_board<W: fmt::Write>(f: &mut Formatter<W>, error: &BoardError) -> fmt::Result {
+fn write_board<W: fmt::Write>(
+    f: &mut Formatter<W>,
+    error: &BoardError,
+    found: &Found<'_>,
+) -> fmt::Result {
     match error {
         BoardError::NoCell => write!(f, "expected a cell, found a board or a row without one"),
         BoardError::RowLength { row } => {
@@ -245,9 +297,9 @@ fn write_board<W: fmt::Write>(f: &mut Formatter<W>, error: &BoardError) -> fmt::
             )
         }
         BoardError::TooManyVertices => write!(f, "expected at most {MAX_VERTICES} vertices"),
-        BoardError::SameDirection => write!(f, "expected different directions, found one twice"),
-        BoardError::UnknownVertex => write!(f, "an edge leads to a vertex that is not listed"),
-        BoardError::SameVertex => write!(f, "two vertices have one name"),
+        BoardError::SameDirection => write!(f, "expected another direction, found {found} again"),
+        BoardError::UnknownVertex => write!(f, "expected the name of a vertex, found {found}"),
+        BoardError::SameVertex => write!(f, "expected a new name of a vertex, found {found} again"),
         BoardError::Memory => write!(f, "out of memory"),
     }
 }

@@ -1,0 +1,162 @@
+//! The place of a refused board among the tokens of its section.
+
+use crate::sections::nth_name;
+use rbg_board::BoardError;
+use rbg_game::limits::MAX_VERTICES;
+use rbg_tokens::{Symbol, Token};
+
+/// The token at which a refused board is shown. The board is one that is spelt right.
+pub(crate) fn board_place<'a>(error: &BoardError, board: &'a [Token<'a>]) -> Option<Token<'a>> {
+    match error {
+        BoardError::NoCell => empty_row(board),
+        BoardError::RowLength { row } => row_start(board, *row),
+        BoardError::TooManyVertices => cell(board, MAX_VERTICES),
+        BoardError::SameDirection => second_direction(board),
+        BoardError::UnknownVertex => unknown_target(board),
+        BoardError::SameVertex => second_vertex(board),
+        BoardError::Memory => None,
+    }
+}
+
+/// The first row without a cell, or else the name of the generator.
+fn empty_row<'a>(board: &'a [Token<'a>]) -> Option<Token<'a>> {
+    for (token, next) in board.iter().zip(board.iter().skip(1)) {
+        if token.is(Symbol::OpenBracket) && next.is(Symbol::CloseBracket) {
+            return Some(*token);
+        }
+    }
+    board.first().copied()
+}
+
+/// The bracket that opens a row, counted from 0.
+fn row_start<'a>(board: &'a [Token<'a>], row: usize) -> Option<Token<'a>> {
+    let mut left = row;
+    for token in board {
+        if token.is(Symbol::OpenBracket) {
+            if left == 0 {
+                return Some(*token);
+            }
+            left -= 1;
+        }
+    }
+    None
+}
+
+/// The piece of a vertex, counted from 0.
+fn cell<'a>(board: &'a [Token<'a>], vertex: usize) -> Option<Token<'a>> {
+    let mut left = vertex;
+    let mut is_inside = false;
+    for token in board {
+        if token.is(Symbol::OpenBracket) {
+            is_inside = true;
+        } else if token.is(Symbol::CloseBracket) {
+            is_inside = false;
+        } else if is_inside && token.kind.is_name() {
+            if left == 0 {
+                return Some(*token);
+            }
+            left -= 1;
+        }
+    }
+    None
+}
+
+/// The second one of two equal directions: of the names before the first row, or of the edges of one vertex.
+fn second_direction<'a>(board: &'a [Token<'a>]) -> Option<Token<'a>> {
+    if is_graph(board) {
+        return second_edge(board);
+    }
+    let names = match board.iter().position(|token| token.is(Symbol::OpenBracket)) {
+        Some(row) => &board[..row],
+        None => board,
+    };
+    second_name(names.get(1..).unwrap_or(&[]))
+}
+
+/// The first name that stands before among these tokens.
+fn second_name<'a>(tokens: &'a [Token<'a>]) -> Option<Token<'a>> {
+    for (index, token) in tokens.iter().enumerate() {
+        let earlier = &tokens[..index];
+        if token.kind.is_name() && earlier.iter().any(|other| other.text == token.text) {
+            return Some(*token);
+        }
+    }
+    None
+}
+
+/// The second one of two equal directions of the edges of one vertex.
+fn second_edge<'a>(board: &'a [Token<'a>]) -> Option<Token<'a>> {
+    for vertex in board.split(|token| token.is(Symbol::CloseBrace)) {
+        if let Some(token) = second_before(vertex, Symbol::Colon) {
+            return Some(token);
+        }
+    }
+    None
+}
+
+/// The second one of two vertices of one name.
+fn second_vertex<'a>(board: &'a [Token<'a>]) -> Option<Token<'a>> {
+    second_before(board, Symbol::OpenBracket)
+}
+
+/// The first name before such a symbol that stood before one already.
+fn second_before<'a>(tokens: &'a [Token<'a>], symbol: Symbol) -> Option<Token<'a>> {
+    for (index, token) in tokens.iter().enumerate() {
+        let next = tokens.get(index.saturating_add(1));
+        let is_before = next.is_some_and(|next| next.is(symbol));
+        if is_before && stands_before(tokens.get(..=index).unwrap_or(&[]), token.text, symbol) {
+            return Some(*token);
+        }
+    }
+    None
+}
+
+/// Whether a name stands directly before such a symbol.
+fn stands_before(tokens: &[Token<'_>], name: &[u8], symbol: Symbol) -> bool {
+    tokens.windows(2).any(|pair| match pair {
+        [token, next] => token.text == name && next.is(symbol),
+        _ => false,
+    })
+}
+
+/// The first target of an edge that is no vertex.
+fn unknown_target<'a>(board: &'a [Token<'a>]) -> Option<Token<'a>> {
+    for (token, next) in board.iter().zip(board.iter().skip(1)) {
+        if token.is(Symbol::Colon) && !stands_before(board, next.text, Symbol::OpenBracket) {
+            return Some(*next);
+        }
+    }
+    None
+}
+
+/// The direction behind so many directions, at its first use.
+pub(crate) fn nth_direction<'a>(board: &'a [Token<'a>], count: usize) -> Option<Token<'a>> {
+    if is_graph(board) {
+        nth_edge_name(board, count)
+    } else {
+        nth_name(board.get(1..).unwrap_or(&[]), count)
+    }
+}
+
+fn is_graph(board: &[Token<'_>]) -> bool {
+    board
+        .first()
+        .is_some_and(|first| first.text == b"graph".as_slice())
+}
+
+/// The name of an edge behind so many other names of edges.
+fn nth_edge_name<'a>(board: &'a [Token<'a>], count: usize) -> Option<Token<'a>> {
+    let mut left = count;
+    for (index, token) in board.iter().enumerate() {
+        let next = board.get(index.saturating_add(1));
+        let is_direction = next.is_some_and(|next| next.is(Symbol::Colon));
+        let earlier = board.get(..=index).unwrap_or(&[]);
+        if is_direction && !stands_before(earlier, token.text, Symbol::Colon) {
+            if left == 0 {
+                return Some(*token);
+            }
+            left -= 1;
+        }
+    }
+    None
+}

@@ -1,0 +1,71 @@
+//! Brackets of a text: the ones that stay open, and the calls of macros.
+
+use rbg_tokens::{Symbol, Token};
+
+/// The last opening bracket of these tokens that isn't closed among them.
+pub(crate) fn open_bracket<'a>(tokens: &'a [Token<'a>]) -> Option<Token<'a>> {
+    let mut closed = 0usize;
+    for token in tokens.iter().rev() {
+        if token.kind.closes() {
+            closed = closed.saturating_add(1);
+        } else if token.kind.opens() {
+            if closed == 0 {
+                return Some(*token);
+            }
+            closed -= 1;
+        }
+    }
+    None
+}
+
+/// What follows the name of a macro.
+#[derive(Clone, Copy, Debug)]
+pub(crate) enum CallForm {
+    /// No `(`.
+    NoParenthesis,
+    /// A `(` that isn't closed by a `)`.
+    Open,
+    /// So many arguments.
+    Arguments(usize),
+}
+
+/// What the tokens behind the name of a macro are to its call.
+pub(crate) fn call_form(tokens: &[Token<'_>]) -> CallForm {
+    match tokens {
+        [first, inside @ ..] if first.is(Symbol::OpenParenthesis) => form_inside(inside),
+        _ => CallForm::NoParenthesis,
+    }
+}
+
+fn form_inside(inside: &[Token<'_>]) -> CallForm {
+    let mut further = 0usize;
+    let mut count = 1usize;
+    for token in inside {
+        if token.kind.opens() {
+            further = further.saturating_add(1);
+        } else if token.kind.closes() {
+            if further == 0 {
+                return if token.is(Symbol::CloseParenthesis) {
+                    CallForm::Arguments(count)
+                } else {
+                    CallForm::Open
+                };
+            }
+            further -= 1;
+        } else if further == 0 && token.is(Symbol::Semicolon) {
+            count = count.saturating_add(1);
+        } else if token.is(Symbol::Hash) {
+            return CallForm::Open;
+        }
+    }
+    CallForm::Open
+}
+
+/// How many parameters the head of a macro has behind its name.
+pub(crate) fn parameter_count(tokens: &[Token<'_>]) -> usize {
+    let head = match tokens.iter().position(|token| token.is(Symbol::Equals)) {
+        Some(equals) => &tokens[..equals],
+        None => tokens,
+    };
+    head.iter().filter(|token| token.kind.is_name()).count()
+}

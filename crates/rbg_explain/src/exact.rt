@@ -1,0 +1,95 @@
+//! The places of refusals that name none: of a board, and of too many things.
+
+use crate::actions::actions;
+use crate::boards::{board_place, nth_direction};
+use crate::sections::{expanded, nth_name, section_tokens};
+use rbg_game::limits::{MAX_DIRECTIONS, MAX_PIECES, MAX_PLAYERS, MAX_POSITIONS, MAX_VARIABLES};
+use rbg_game::{GameError, LoadError, Thing};
+use rbg_macro::{SectionKind, Source};
+use rbg_tokens::{Token, Tokens};
+use std::alloc::{AllocError, Global};
+
+/// The offset of what a refusal without an offset is about, where there is one: a row, a vertex or an edge of the board,
+/// or the first thing above a limit.
+pub(crate) fn exact_place(
+    alloc: Global,
+    error: &LoadError,
+    tokens: &Tokens<'_>,
+) -> Result<Option<usize>, AllocError> {
+    let is_exact = matches!(
+        error,
+        LoadError::Game(GameError::Board { .. } | GameError::TooMany { .. })
+    );
+    if !is_exact {
+        return Ok(None);
+    }
+    match expanded(alloc, tokens)? {
+        Some(source) => place_in_source(alloc, error, &source),
+        None => Ok(None),
+    }
+}
+
+fn place_in_source(
+    alloc: Global,
+    error: &LoadError,
+    source: &Source<'_>,
+) -> Result<Option<usize>, AllocError> {
+    match error {
+        LoadError::Game(GameError::Board { error }) => {
+            let board = section_tokens(alloc, source, SectionKind::Board)?;
+            Ok(board_place(error, &board).map(|token| token.at))
+        }
+        LoadError::Game(GameError::TooMany { what }) => further_thing(alloc, *what, source),
+        _ => Ok(None),
+    }
+}
+
+/// The first thing above its limit.
+fn further_thing(
+    alloc: Global,
+    what: Thing,
+    source: &Source<'_>,
+) -> Result<Option<usize>, AllocError> {
+    match what {
+        Thing::Players => further_name(alloc, source, SectionKind::Players, MAX_PLAYERS),
+        Thing::Pieces => further_name(alloc, source, SectionKind::Pieces, MAX_PIECES),
+        Thing::Variables => further_variable(alloc, source),
+        Thing::Directions => {
+            let board = section_tokens(alloc, source, SectionKind::Board)?;
+            Ok(nth_direction(&board, MAX_DIRECTIONS).map(|token| token.at))
+        }
+        Thing::Positions => {
+            let rules = section_tokens(alloc, source, SectionKind::Rules)?;
+            let actions = actions(alloc, &rules)?;
+            Ok(
+                actions
+                    .get(MAX_POSITIONS)
+                    .and_then(|action| start_of(action)),
+            )
+        }
+    }
+}
+
+/// The offset of the first token.
+fn start_of(tokens: &[Token<'_>]) -> Option<usize> {
+    Some(tokens.first()?.at)
+}
+
+/// The name behind so many names of a section.
+fn further_name(
+    alloc: Global,
+    source: &Source<'_>,
+    kind: SectionKind,
+    count: usize,
+) -> Result<Option<usize>, AllocError> {
+    let tokens = section_tokens(alloc, source, kind)?;
+    Ok(nth_name(&tokens, count).map(|token| token.at))
+}
+
+/// The first variable above the limit. The players are counted too.
+fn further_variable(alloc: Global, source: &Source<'_>) -> Result<Option<usize>, AllocError> {
+    let players = section_tokens(alloc, source, SectionKind::Players)?;
+    let count = players.iter().filter(|token| token.kind.is_name()).count();
+    let left = MAX_VARIABLES.saturating_sub(count);
+    further_name(alloc, source, SectionKind::Variables, left)
+}

@@ -1,0 +1,63 @@
+//! The tokens of a description's sections, with the macros expanded.
+
+use rbg_macro::{MacroError, Section, SectionKind, Source, expand};
+use rbg_tokens::{TextError, Token, Tokens, tokens};
+use std::alloc::{AllocError, Global};
+
+/// The tokens of a text, or None where it can't be cut into tokens.
+pub(crate) fn cut(alloc: Global, text: &[u8]) -> Result<Option<Tokens<'_>>, AllocError> {
+    match tokens(alloc, text) {
+        Ok(tokens) => Ok(Some(tokens)),
+        Err(TextError::Memory) => Err(AllocError),
+        Err(_) => Ok(None),
+    }
+}
+
+/// The expanded sections, or None where the macros are refused.
+pub(crate) fn expanded<'t>(
+    alloc: Global,
+    tokens: &Tokens<'t>,
+) -> Result<Option<Source<'t>>, AllocError> {
+    match expand(alloc, tokens) {
+        Ok(source) => Ok(Some(source)),
+        Err(MacroError::Memory) => Err(AllocError),
+        Err(_) => Ok(None),
+    }
+}
+
+/// The tokens of the first section of a kind, none where there is no such section.
+pub(crate) fn section_tokens<'a>(
+    alloc: Global,
+    source: &'a Source<'_>,
+    kind: SectionKind,
+) -> Result<Vec<Token<'a>>, AllocError> {
+    for index in 0..source.len() {
+        let section = source.section(index);
+        if section.kind() == kind {
+            return tokens_of(alloc, &section);
+        }
+    }
+    Ok(Vec::new(alloc))
+}
+
+fn tokens_of<'a>(alloc: Global, section: &Section<'a>) -> Result<Vec<Token<'a>>, AllocError> {
+    let mut tokens = Vec::new(alloc);
+    for index in 0..section.len() {
+        tokens.push(section.token(index))?;
+    }
+    Ok(tokens)
+}
+
+/// The name behind so many names.
+pub(crate) fn nth_name<'a>(tokens: &[Token<'a>], count: usize) -> Option<Token<'a>> {
+    let mut left = count;
+    for token in tokens {
+        if token.kind.is_name() {
+            if left == 0 {
+                return Some(*token);
+            }
+            left -= 1;
+        }
+    }
+    None
+}
