@@ -130,7 +130,9 @@ fn show_command<'a>(alloc: Global) -> Result<Command<'a>, AllocError> {
 fn page_command<'a>(alloc: Global) -> Result<Command<'a>, AllocError> {
     let file = file_argument(alloc, "The description of a game");
     Command::new(alloc, "page")
-        .about("Makes a page for a browser of the record on standard input, with the board after each move")
+        .about(
+            "Makes a page for a browser of the record on standard input, with the board after each move",
+        )
         .arg(file.required(true))
 }
 

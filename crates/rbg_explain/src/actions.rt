@@ -1,7 +1,11 @@
 //! The actions that the tokens of rules spell, in order of their positions.
-ghost use Rattle.std.specs.Prelude.{◌≡◌, ◌<◌, ◌≤◌, length};
+ghost use Rattle.std.specs.Prelude.{◌≡◌, ◌↔◌, ◌<◌, ◌≤◌, IsTrue, IfOk, IfSome, IfNone, OnOk, All, length, map, true, if◌then◌else◌, ◌++◌, ◌∷◌, []};
+ghost use Rattle.rbg_tokens.specs.declared.token.Token.{Token as AbstractToken};
+ghost use Rattle.rbg_tokens.specs.declared.token.TokenKind.TheVariants.{Symbol as OfSymbol};
+ghost use Rattle.rbg_tokens.specs.declared.token.Symbol.TheVariants.{OpenBrace, Arrow};
+ghost use Rattle.rbg_explain.specs.Actions.{AreCut, EndsChange, EndsOn, IsFirst, IsPart, ends_change, is_change, is_single as is_single_kind, marks_pattern};
 
-use rbg_tokens::{Symbol, Token};
+use rbg_tokens::{Symbol, Token, TokenKind};
 use std::alloc::{AllocError, Global};
 
 /// The tokens of each action, in order of the positions. The bracket that closes an assignment list or an off, and what
@@ -9,12 +13,14 @@ use std::alloc::{AllocError, Global};
 pub(crate) fn actions<'a>(
     alloc: Global,
     rules: &'a [Token<'a>],
-) -> Result<Vec<&'a [Token<'a>]>, AllocError> {
+) -> Result<Vec<&'a [Token<'a>]>, AllocError>
+    ensures { IfOk result (λ found. AreCut rules.now (map (λ tokens. tokens.now) found.items)) }
+{
     let mut found = Vec::new(alloc);
     let mut at = 0usize;
     while at < rules.len() {
-        let part = part_of(&rules[at..]);
-        let end = at + part.length;
+        let part = part_of(&rules[at], &rules[at + 1..]);
+        let end = at + 1 + part.further;
         push_part(&mut found, &rules[at..end], part.is_action)?;
         at = end;
     }
@@ -26,65 +32,144 @@ fn push_part<'a>(
     found: &mut Vec<&'a [Token<'a>]>,
     tokens: &'a [Token<'a>],
     is_action: bool,
-) -> Result<(), AllocError> {
+) -> Result<(), AllocError>
+    ensures { OnOk result (found.new.items ≡ if is_action then found.old.items ++ tokens.entry ∷ []
+        else found.old.items) }
+{
     if is_action {
         found.push(tokens)?;
     }
     Ok(())
 }
 
-/// What the first tokens are: an action, or a token between actions.
+/// What a token begins: an action, to which so many further tokens belong, or none.
 #[derive(Clone, Copy, Debug)]
 struct Part {
     is_action: bool,
-    length: usize,
+    further: usize,
 }
 
-/// An action of so many tokens.
-fn action(length: usize) -> Part
-    ensures { result.length ≡ length }
+/// An action with so many further tokens.
+fn action(further: usize) -> Part
+    ensures further { result.further ≡ further }
+    ensures is_action { result.is_action ≡ true }
 {
     Part {
         is_action: true,
-        length,
+        further,
     }
 }
 
-/// What the first of some tokens are.
-fn part_of(tokens: &[Token<'_>]) -> Part
-    requires { 0 < length tokens.now }
-    ensures some { 0 < result.length }
-    ensures there { result.length ≤ length tokens.now }
+/// What a token begins, with some tokens behind it.
+fn part_of(token: &Token<'_>, behind: &[Token<'_>]) -> Part
+    ensures { IsPart token.now behind.now result.is_action result.further }
 {
-    match tokens {
-        [first, ..] if first.kind.is_name() || first.is(Symbol::DoubleArrow) => action(1),
-        [first, _, ..] if first.is(Symbol::Arrow) => action(2),
-        [first, mark, ..] if first.is(Symbol::OpenBrace) && is_pattern_mark(mark) => action(2),
-        [first, inside @ ..] if first.is(Symbol::OpenBrace) => {
-            match inside.iter().position(|token| token.is(Symbol::CloseBrace)) {
-                Some(index) => action(index + 2),
-                None => action(1),
-            }
-        }
-        [first, inside @ ..] if first.is(Symbol::OpenBracket) || first.is(Symbol::Comma) => {
-            match inside.iter().position(|token| ends_assignment(token)) {
-                Some(index) => action(index + 1),
-                None => action(1),
-            }
-        }
-        _ => Part {
+    if is_single(token.kind) {
+        return action(0);
+    }
+    if begins_change(token.kind) {
+        return change_part(behind);
+    }
+    if token.is(Symbol::Arrow) {
+        return player_part(behind);
+    }
+    if token.is(Symbol::OpenBrace) {
+        return brace_part(behind);
+    }
+    Part {
+        is_action: false,
+        further: 0,
+    }
+}
+
+fn is_single(kind: TokenKind) -> bool
+    ensures { result ≡ is_single_kind kind }
+{
+    matches!(
+        kind,
+        TokenKind::Name | TokenKind::Symbol(Symbol::DoubleArrow)
+    )
+}
+
+fn begins_change(kind: TokenKind) -> bool
+    ensures { result ≡ is_change kind }
+{
+    matches!(kind, TokenKind::Symbol(Symbol::OpenBracket | Symbol::Comma))
+}
+
+fn player_part(behind: &[Token<'_>]) -> Part
+    ensures { (t : AbstractToken) → t.kind ≡ OfSymbol Arrow
+        → IsPart t behind.now result.is_action result.further }
+{
+    match behind {
+        [_, ..] => action(1),
+        [] => Part {
             is_action: false,
-            length: 1,
+            further: 0,
         },
     }
 }
 
-fn is_pattern_mark(token: &Token<'_>) -> bool {
-    token.is(Symbol::Question) || token.is(Symbol::Exclamation)
+fn brace_part(behind: &[Token<'_>]) -> Part
+    ensures { (t : AbstractToken) → t.kind ≡ OfSymbol OpenBrace
+        → IsPart t behind.now result.is_action result.further }
+{
+    if begins_pattern(behind) {
+        return action(1);
+    }
+    match on_end(behind) {
+        Some(index) => action(index + 1),
+        None => action(0),
+    }
 }
 
-fn ends_assignment(token: &Token<'_>) -> bool {
-    token.is(Symbol::Comma) || token.is(Symbol::CloseBracket)
+fn begins_pattern(behind: &[Token<'_>]) -> bool
+    ensures { result ≡ marks_pattern behind.now }
+{
+    match behind {
+        [mark, ..] => matches!(
+            mark.kind,
+            TokenKind::Symbol(Symbol::Question | Symbol::Exclamation)
+        ),
+        [] => false,
+    }
+}
+
+fn on_end(tokens: &[Token<'_>]) -> Option<usize>
+    ensures found { IfSome result (IsFirst EndsOn tokens.now) }
+    ensures none { IfNone result (All (λ t. ¬ EndsOn t) tokens.now) }
+{
+    tokens.iter().position(|token| token.is(Symbol::CloseBrace))
+}
+
+fn change_part(behind: &[Token<'_>]) -> Part
+    ensures { (t : AbstractToken) → is_change t.kind ≡ true
+        → IsPart t behind.now result.is_action result.further }
+{
+    match change_end(behind) {
+        Some(index) => action(index),
+        None => action(0),
+    }
+}
+
+fn change_end(tokens: &[Token<'_>]) -> Option<usize>
+    ensures found { IfSome result (IsFirst EndsChange tokens.now) }
+    ensures none { IfNone result (All (λ t. ¬ EndsChange t) tokens.now) }
+{
+    tokens.iter().position(|token| is_change_end(token.kind))
+}
+
+fn is_change_end(kind: TokenKind) -> bool
+    ensures { result ≡ ends_change kind }
+{
+    matches!(
+        kind,
+        TokenKind::Symbol(Symbol::Comma | Symbol::CloseBracket)
+    )
+}
+
+fn is_pattern_mark(token: &Token<'_>) -> bool {
+    token.is(Symbol::Question) || token.is(Symbol::Exclamation)
 }
 
 /// Adds an action as it is written, the brackets of an assignment and of an off included. Of a pattern the beginning is
@@ -112,7 +197,8 @@ pub(crate) fn push_action(output: &mut Vec<u8>, action: &[Token<'_>]) -> Result<
 
 /// Adds the tokens with a space where one stands by custom.
 fn push_spaced(output: &mut Vec<u8>, tokens: &[Token<'_>]) -> Result<(), AllocError> {
-    let is_arithmetic = tokens.iter().any(|token| token.is(Symbol::Dollar) || token.is(Symbol::Equals));
+    let is_arithmetic = tokens.iter().any(|token| token.is(Symbol::Dollar)
+        || token.is(Symbol::Equals));
     let mut is_first = true;
     for token in tokens {
         let is_near = is_first || closes(token);

@@ -139,7 +139,9 @@ pub(crate) fn nth_direction<'a>(board: &'a [Token<'a>], count: usize) -> Option<
 }
 
 fn is_graph(board: &[Token<'_>]) -> bool {
-    board.first().is_some_and(|first| first.text == b"graph".as_slice())
+    board
+        .first()
+        .is_some_and(|first| first.text == b"graph".as_slice())
 }
 
 /// The name of an edge behind so many other names of edges.

@@ -3,9 +3,7 @@
 use crate::actions::actions;
 use crate::boards::{board_place, nth_direction};
 use crate::sections::{expanded, nth_name, section_tokens};
-use rbg_game::limits::{
-    MAX_DIRECTIONS, MAX_PIECES, MAX_PLAYERS, MAX_POSITIONS, MAX_VARIABLES,
-};
+use rbg_game::limits::{MAX_DIRECTIONS, MAX_PIECES, MAX_PLAYERS, MAX_POSITIONS, MAX_VARIABLES};
 use rbg_game::{GameError, LoadError, Thing};
 use rbg_macro::{SectionKind, Source};
 use rbg_tokens::{Token, Tokens};
@@ -63,7 +61,11 @@ fn further_thing(
         Thing::Positions => {
             let rules = section_tokens(alloc, source, SectionKind::Rules)?;
             let actions = actions(alloc, &rules)?;
-            Ok(actions.get(MAX_POSITIONS).and_then(|action| start_of(action)))
+            Ok(
+                actions
+                    .get(MAX_POSITIONS)
+                    .and_then(|action| start_of(action)),
+            )
         }
     }
 }

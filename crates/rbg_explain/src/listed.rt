@@ -8,11 +8,7 @@ use rbg_tokens::{TextLine, Token};
 use std::alloc::{AllocError, Global};
 
 /// Adds a line for each position of the rules: its number, the line and the column of its action, and the action.
-pub fn push_positions(
-    alloc: Global,
-    output: &mut Vec<u8>,
-    text: &[u8],
-) -> Result<(), AllocError> {
+pub fn push_positions(alloc: Global, output: &mut Vec<u8>, text: &[u8]) -> Result<(), AllocError> {
     let Some(tokens) = cut(alloc, text)? else {
         return Ok(());
     };

@@ -111,14 +111,20 @@ fn write_call<W: fmt::Write>(
     match (wanted, form) {
         (Some(wanted), Some(CallForm::NoParenthesis)) => {
             let word = argument_word(wanted);
-            write!(f, "expected `(` and {wanted} {word} behind the macro's name {found}")
+            write!(
+                f,
+                "expected `(` and {wanted} {word} behind the macro's name {found}"
+            )
         }
         (Some(_), Some(CallForm::Open)) => {
             write!(f, "expected a `)` behind the arguments of {found}")
         }
         (Some(wanted), Some(CallForm::Arguments(count))) if count != wanted => {
             let word = argument_word(wanted);
-            write!(f, "expected {wanted} {word} of {found}, separated by `;`, found {count}")
+            write!(
+                f,
+                "expected {wanted} {word} of {found}, separated by `;`, found {count}"
+            )
         }
         _ => write!(
             f,

@@ -14,12 +14,7 @@ use std::str;
 
 /// A line for each warning of a game, with the file, the line and the column: what the rules never use, numbers above
 /// a bound, and macros that are never called. `no warnings` where there is none. The game is that of the text.
-pub fn warn(
-    alloc: Global,
-    file: &str,
-    text: &[u8],
-    game: &Game,
-) -> Result<Vec<u8>, AllocError> {
+pub fn warn(alloc: Global, file: &str, text: &[u8], game: &Game) -> Result<Vec<u8>, AllocError> {
     let mut output = Vec::new(alloc);
     if let Some(tokens) = cut(alloc, text)? {
         let place = Place { file, text };

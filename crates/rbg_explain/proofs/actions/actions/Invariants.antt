@@ -1,6 +1,12 @@
--- The next part begins behind this one.
-use Rattle.std.proofs.Common.{length, ◌-◌}
+-- What is cut behind the tokens so far follows what was found.
+use Rattle.std.proofs.Common.{List, length, drop, map, ◌-◌, ◌++◌}
+use Rattle.rbg_tokens.specs.declared.token.Token.{Token}
+use Rattle.rbg_explain.specs.Actions.{AreCut}
 use Rattle.rbg_explain.proofs.actions.actions.Given as goal
+
+abbrev pub invariant-loop-at : goal.invariant-loop-at
+invariant-loop-at l =
+    (more : List (List Token)) → AreCut (drop l.at l.rules) more → AreCut l.rules (map (λ tokens. tokens.now) l.found.items ++ more)
 
 abbrev pub decreases-loop-at : goal.decreases-loop-at
 decreases-loop-at l = length l.rules - l.at
