@@ -238,13 +238,14 @@ def forms(run, programs):
         entries, total, _ = run.counted([program], "1 0 0 0 0\n" + text)
         _, seconds, memory = run.plain([program], "1 0 0 0 0\n" + text)
         row(f"`{label}`", f"{int(entries):,}", millions(total - base), f"{seconds:.2f}", f"{memory:.0f}")
-    head("Games: both forms of the automaton", "Game", "Entries", "Million instructions of `load`", "of `compact`", "of `compile`")
+    head("Games: both forms of the automaton, and the leaps", "Game", "Entries", "Million instructions of `load`", "of `compact`", "of `compile`", "of `leaps`")
     for name in NAMES:
         text = texts.game(name)
         base = run.counted([program], "0 0 0 0 0\n" + text)[1]
         entries, total, _ = run.counted([program], "1 0 0 0 0\n" + text)
         compiled = run.counted([program], "2 0 0 0 0\n" + text)[1]
-        row(name, f"{int(entries):,}", millions(base), millions(total - base), millions(compiled - base))
+        leaps = run.counted([program], "4 0 0 0 0\n" + text)[1]
+        row(name, f"{int(entries):,}", millions(base), millions(total - base), millions(compiled - base), millions(leaps - total))
 
 
 def changes(run, programs):

@@ -1,6 +1,7 @@
 -- Lemmas, by topic.
 pub mod RowLemmas
 pub mod ShiftLemmas
+pub mod Sharing
 pub mod Shelving
 pub mod Steppings
 pub mod Tabling

@@ -23,11 +23,11 @@ use Rattle.rbg_leaps.specs.Rows.{has_bit}
 use Rattle.rbg_leaps.specs.Targets.{row_at}
 use Rattle.rbg_leaps.specs.internal.Shelves.{Extends, list_at, may_end_at, IsNodeOf, AreListsOf}
 use Rattle.rbg_leaps.specs.internal.Steps.{Comes, IsLeapBy, EndsBy}
-use Rattle.rbg_leaps.specs.internal.Tables.{no_target, IsRowOf, AreSound, targets_of, TellsAt, IsSoundEntry, IsSoundTable, Grows, IsGathered, Puts, AddsRow, AddsAll, IsFilled, IsClosed, StaysClosedAt, StaysClosedUpTo, StaysClosed, AreClosedFrom}
+use Rattle.rbg_leaps.specs.internal.Tables.{no_target, IsRowOf, AreSound, targets_of, TellsAt, IsSoundEntry, IsSoundTable, Grows, IsGathered, Puts, Shares, AddsRow, AddsAll, IsFilled, IsClosed, StaysClosed, AreClosedFrom}
 use Rattle.rbg_leaps.specs.internal.Words.{IsUnion, IsUnit, AreUnits}
-use Rattle.rbg_leaps.proofs.RowLemmas.{LastPlace, before, last, last_place, below_or_not, same_or_not, one_place, extends_none, extends_more, extends_by, longer, part_extended, item_extended, row_extended, units_extended}
+use Rattle.rbg_leaps.proofs.RowLemmas.{below_or_not, same_or_not, one_place, extends_none, extends_more, extends_by, longer, part_extended, item_extended, row_extended, units_extended}
 use Rattle.rbg_leaps.proofs.Shelving.{node_there}
-use Rattle.rbg_leaps.proofs.Steppings.{leap_here, leap_on, ends_on, all_told, all_ends_told}
+use Rattle.rbg_leaps.proofs.Steppings.{leap_here, leap_on, ends_here, ends_on, all_told, all_ends_told}
 
 -- What is in a list doesn't depend on the default.
 pub any_default : (xs : List Target) (k : ℕ) (c d : Target) → k < length xs → get_or xs k c ≡ get_or xs k d
@@ -211,24 +211,45 @@ place_there nodes n vertices v there below =
     let rows : (n + 1) * vertices ≤ nodes * vertices = mul-le-mul_right vertices row in
     omega (arith, below, rows)
 
--- A table is right where an entry is put into it with what was gathered.
-pub table_put : (game : AbstractGame) (lists : Lists) (old new : Table) (n v : ℕ) (ts : List Target) (ends : Bool) → v < old.vertices → IsSoundTable game lists old → Puts old new n v ts ends → IsGathered game lists old n v ts → (IsTrue ends → EndsBy game (list_at lists.shelf n) (may_end_at lists.shelf n) v) → IsSoundTable game lists new
-table_put game lists old new n v ts ends below is puts gathered end = record {
+-- A table is right where a right entry is put into it.
+table_set : (game : AbstractGame) (lists : Lists) (old new : Table) (n v : ℕ) (e : Entry) → v < old.vertices → IsSoundTable game lists old → new.vertices ≡ old.vertices → new.columns ≡ old.columns → Extends old.targets.items new.targets.items → Extends old.words.items new.words.items → length new.entries.items ≡ length old.entries.items → entry_at new n v ≡ e → ((i : ℕ) → i ≢ n * old.vertices + v → get_or new.entries.items i no_entry ≡ get_or old.entries.items i no_entry) → IsSoundEntry game (list_at lists.shelf n) (may_end_at lists.shelf n) v new e → IsSoundTable game lists new
+table_set game lists old new n v e below is vertices columns targets words size here others sound_here = record {
   laid_out = record {
-    vertices = puts.vertices ∙ is.laid_out.vertices;
-    columns = puts.columns ∙ is.laid_out.columns;
-    size = puts.size ∙ is.laid_out.size ∙ ap (λ (k : ℕ). length lists.shelf.nodes.items * k) (sym puts.vertices);
+    vertices = vertices ∙ is.laid_out.vertices;
+    columns = columns ∙ is.laid_out.columns;
+    size = size ∙ is.laid_out.size ∙ ap (λ (k : ℕ). length lists.shelf.nodes.items * k) (sym vertices);
     units =
-        subst (λ (k : ℕ). AreUnits k new.vertices new.words.items) (sym puts.columns)
-        (subst (λ (k : ℕ). AreUnits old.columns k new.words.items) (sym puts.vertices)
-        (subst (λ (ws : List ℕ). AreUnits old.columns old.vertices ws) (sym puts.words) is.laid_out.units));
+        subst (λ (k : ℕ). AreUnits k new.vertices new.words.items) (sym columns)
+        (subst (λ (k : ℕ). AreUnits old.columns k new.words.items) (sym vertices)
+        (units_extended old.columns old.vertices old.words.items new.words.items words is.laid_out.units));
   };
-  sound = λ m w there small. at m w there (subst (λ (k : ℕ). w < k) puts.vertices small) (same_or_not (m * old.vertices + w) (n * old.vertices + v));
+  sound = λ m w there small. at m w there (subst (λ (k : ℕ). w < k) vertices small) (same_or_not (m * old.vertices + w) (n * old.vertices + v));
 }
   where
-    targets : Extends old.targets.items new.targets.items
-    targets = extends_by old.targets.items new.targets.items ts puts.are_targets
+    at : (m w : ℕ) → m < length lists.shelf.nodes.items → w < old.vertices → (m * old.vertices + w ≡ n * old.vertices + v) ⊎ (m * old.vertices + w ≢ n * old.vertices + v) → IsSoundEntry game (list_at lists.shelf m) (may_end_at lists.shelf m) w new (entry_at new m w)
+    at m w there small (inl same) =
+        let both = one_place old.vertices w v m n small below same in
+        subst (λ (k : ℕ). IsSoundEntry game (list_at lists.shelf k) (may_end_at lists.shelf k) w new (entry_at new k w)) (sym both.0)
+        (subst (λ (u : ℕ). IsSoundEntry game (list_at lists.shelf n) (may_end_at lists.shelf n) u new (entry_at new n u)) (sym both.1)
+        (subst (IsSoundEntry game (list_at lists.shelf n) (may_end_at lists.shelf n) v new) (sym here) sound_here))
+    at m w there small (inr differ) =
+        let same : entry_at new m w ≡ entry_at old m w =
+        ap (λ (k : ℕ). get_or new.entries.items (m * k + w) no_entry) vertices ∙ others (m * old.vertices + w) differ in
+        subst (IsSoundEntry game (list_at lists.shelf m) (may_end_at lists.shelf m) w new) (sym same)
+        (entry_grown game (list_at lists.shelf m) (may_end_at lists.shelf m) w old new columns targets words (entry_at old m w) (is.sound m w there small))
 
+-- .. with what was gathered,
+pub table_put : (game : AbstractGame) (lists : Lists) (old new : Table) (n v : ℕ) (ts : List Target) (ends : Bool) → v < old.vertices → IsSoundTable game lists old → Puts old new n v ts ends → IsGathered game lists old n v ts → (IsTrue ends → EndsBy game (list_at lists.shelf n) (may_end_at lists.shelf n) v) → IsSoundTable game lists new
+table_put game lists old new n v ts ends below is puts gathered end =
+    table_set game lists old new n v entry below is puts.vertices puts.columns (extends_by old.targets.items new.targets.items ts puts.are_targets) words puts.size puts.here puts.others (record {
+      within = record { starts = omega (arith, long); ends = omega arith };
+      targets =
+          subst (λ (xs : List Target). AreSound (IsLeapBy game (list_at lists.shelf n) (may_end_at lists.shelf n) v) new.columns new.words.items xs) (sym part)
+          (subst (λ (k : ℕ). AreSound (IsLeapBy game (list_at lists.shelf n) (may_end_at lists.shelf n) v) k new.words.items ts) (sym puts.columns)
+          (sound_grown (IsLeapBy game (list_at lists.shelf n) (may_end_at lists.shelf n) v) old.columns old.words.items new.words.items words ts gathered));
+      ends = end;
+    })
+  where
     words : Extends old.words.items new.words.items
     words = subst (Extends old.words.items) (sym puts.words) (extends_none old.words.items)
 
@@ -238,30 +259,20 @@ table_put game lists old new n v ts ends below is puts gathered end = record {
     long : length new.targets.items ≡ length old.targets.items + length ts
     long = ap length puts.are_targets ∙ length-append old.targets.items ts
 
-    part : targets_of new entry ≡ ts
+    part : slice_range new.targets.items (length old.targets.items) (length new.targets.items) ≡ ts
     part = ap (λ (xs : List Target). slice_range xs (length old.targets.items) (length new.targets.items)) puts.are_targets ∙ part_last old.targets.items ts (length new.targets.items) long
 
-    sound_here : IsSoundEntry game (list_at lists.shelf n) (may_end_at lists.shelf n) v new entry
-    sound_here = record {
-      within = record { starts = omega (arith, long); ends = omega arith };
-      targets =
-          subst (λ (xs : List Target). AreSound (IsLeapBy game (list_at lists.shelf n) (may_end_at lists.shelf n) v) new.columns new.words.items xs) (sym part)
-          (subst (λ (k : ℕ). AreSound (IsLeapBy game (list_at lists.shelf n) (may_end_at lists.shelf n) v) k new.words.items ts) (sym puts.columns)
-          (sound_grown (IsLeapBy game (list_at lists.shelf n) (may_end_at lists.shelf n) v) old.columns old.words.items new.words.items words ts gathered));
-      ends = end;
-    }
+-- .. or with targets that are there.
+pub table_shared : (game : AbstractGame) (lists : Lists) (old new : Table) (n v : ℕ) (e : Entry) → v < old.vertices → IsSoundTable game lists old → Shares old new n v e → IsSoundEntry game (list_at lists.shelf n) (may_end_at lists.shelf n) v old e → IsSoundTable game lists new
+table_shared game lists old new n v e below is shares sound =
+    table_set game lists old new n v e below is shares.vertices shares.columns targets words shares.size shares.here shares.others
+    (entry_grown game (list_at lists.shelf n) (may_end_at lists.shelf n) v old new shares.columns targets words e sound)
+  where
+    targets : Extends old.targets.items new.targets.items
+    targets = subst (Extends old.targets.items) (sym shares.are_targets) (extends_none old.targets.items)
 
-    at : (m w : ℕ) → m < length lists.shelf.nodes.items → w < old.vertices → (m * old.vertices + w ≡ n * old.vertices + v) ⊎ (m * old.vertices + w ≢ n * old.vertices + v) → IsSoundEntry game (list_at lists.shelf m) (may_end_at lists.shelf m) w new (entry_at new m w)
-    at m w there small (inl same) =
-        let both = one_place old.vertices w v m n small below same in
-        subst (λ (k : ℕ). IsSoundEntry game (list_at lists.shelf k) (may_end_at lists.shelf k) w new (entry_at new k w)) (sym both.0)
-        (subst (λ (u : ℕ). IsSoundEntry game (list_at lists.shelf n) (may_end_at lists.shelf n) u new (entry_at new n u)) (sym both.1)
-        (subst (IsSoundEntry game (list_at lists.shelf n) (may_end_at lists.shelf n) v new) (sym puts.here) sound_here))
-    at m w there small (inr differ) =
-        let same : entry_at new m w ≡ entry_at old m w =
-        ap (λ (k : ℕ). get_or new.entries.items (m * k + w) no_entry) puts.vertices ∙ puts.others (m * old.vertices + w) differ in
-        subst (IsSoundEntry game (list_at lists.shelf m) (may_end_at lists.shelf m) w new) (sym same)
-        (entry_grown game (list_at lists.shelf m) (may_end_at lists.shelf m) w old new puts.columns targets words (entry_at old m w) (is.sound m w there small))
+    words : Extends old.words.items new.words.items
+    words = subst (Extends old.words.items) (sym shares.words) (extends_none old.words.items)
 
 -- A table with nothing told.
 pub blank_table : (game : AbstractGame) (lists : Lists) (t : Table) (places : ℕ) → t.vertices ≡ length game.board.first → t.columns ≡ row_words game → places ≡ length lists.shelf.nodes.items * t.vertices → t.entries.items ≡ replicate places no_entry → AreUnits t.columns t.vertices t.words.items → IsSoundTable game lists t
@@ -355,6 +366,26 @@ sound_on game numbered lists table n v p w m e there is comes node sound = recor
 pub sound_ends_on : (game : AbstractGame) → IsNumbered game.rules → (lists : Lists) (table : Table) (n v p w m : ℕ) (e : Entry) → Contains (list_at lists.shelf n) p → IsShiftAt game.rules p → Comes game v p w → IsNodeOf game.rules lists.shelf (after p) m → IsSoundEntry game (list_at lists.shelf m) (may_end_at lists.shelf m) w table e → IsTrue e.ends → EndsBy game (list_at lists.shelf n) (may_end_at lists.shelf n) v
 sound_ends_on game numbered lists table n v p w m e there is comes node sound ends = ends_on game numbered (list_at lists.shelf n) (may_end_at lists.shelf n) v p w there is comes (list_at lists.shelf m) (may_end_at lists.shelf m) node.answer (sound.ends ends)
 
+-- The entry behind a shift, as the entry before it.
+pub entry_on : (game : AbstractGame) → IsNumbered game.rules → (lists : Lists) (table : Table) (n v p w m : ℕ) (e : Entry) → Contains (list_at lists.shelf n) p → IsShiftAt game.rules p → Comes game v p w → IsNodeOf game.rules lists.shelf (after p) m → IsSoundEntry game (list_at lists.shelf m) (may_end_at lists.shelf m) w table e → (ends : Bool) → (IsTrue ends → IsTrue e.ends ⊎ IsTrue (may_end_at lists.shelf n)) → IsSoundEntry game (list_at lists.shelf n) (may_end_at lists.shelf n) v table (record { start = e.start; end = e.end; ends = ends })
+entry_on game numbered lists table n v p w m e there is comes node sound ends either = record {
+  within = record { starts = sound.within.starts; ends = sound.within.ends };
+  targets = sound_on game numbered lists table n v p w m e there is comes node sound;
+  ends = λ t. by (either t);
+}
+  where
+    by : IsTrue e.ends ⊎ IsTrue (may_end_at lists.shelf n) → EndsBy game (list_at lists.shelf n) (may_end_at lists.shelf n) v
+    by (inl t) = sound_ends_on game numbered lists table n v p w m e there is comes node sound t
+    by (inr t) = ends_here game (list_at lists.shelf n) (may_end_at lists.shelf n) v t
+
+-- An entry without targets.
+pub entry_of_none : (game : AbstractGame) (lists : Lists) (table : Table) (n v : ℕ) (ends : Bool) → (IsTrue ends → IsTrue (may_end_at lists.shelf n)) → IsSoundEntry game (list_at lists.shelf n) (may_end_at lists.shelf n) v table (record { start = 0; end = 0; ends = ends })
+entry_of_none game lists table n v ends only = record {
+  within = record { starts = omega arith; ends = omega arith };
+  targets = sound_none (IsLeapBy game (list_at lists.shelf n) (may_end_at lists.shelf n) v) table.columns table.words.items;
+  ends = λ t. ends_here game (list_at lists.shelf n) (may_end_at lists.shelf n) v (only t);
+}
+
 -- Where nothing is missing, sound targets are exactly those of the leaps.
 module _ (game : AbstractGame) (numbered : IsNumbered game.rules) (lists : Lists) (are : AreListsOf game.rules lists) (table : Table) (filled : IsFilled game lists table) (f : Start) (n v : ℕ) (node : IsNodeOf game.rules lists.shelf f n) (below : v < length game.board.first) where
   abbrev pub own : Entry
@@ -422,17 +453,7 @@ are_leaps game numbered leaps are filled = record {
   entries = λ origin v below start. filled_entry game numbered leaps.lists are leaps.table filled (start_of origin) (node_of leaps origin) v (node_there game numbered leaps are origin start) below;
 }
 
--- One vertex more at which nothing is missing, and one node more.
-pub one_more_closed : (game : AbstractGame) (lists : Lists) (first old new : Table) (n many v : ℕ) → v ≡ many → StaysClosedUpTo game lists first old n many → StaysClosedAt game lists old new n v → StaysClosedUpTo game lists first new n (many + 1)
-one_more_closed game lists first old new n many v is_last so_far now = record {
-  same = now.same ∙ so_far.same;
-  closed = λ w below. at w (last_place many w below);
-}
-  where
-    at : (w : ℕ) → LastPlace many w → IsClosed game lists new n w
-    at w (before e) = subst (λ (t : Table). IsClosed game lists t n w) (sym now.same) (so_far.closed w e)
-    at w (last e) = subst (IsClosed game lists new n) (is_last ∙ sym e) now.closed
-
+-- One node more at which nothing is missing.
 pub one_more_node : (game : AbstractGame) (lists : Lists) (old new : Table) (many n : ℕ) → n + 1 + many ≡ length lists.shelf.nodes.items → AreClosedFrom game lists old many → StaysClosed game lists old new n → AreClosedFrom game lists new (many + 1)
 one_more_node game lists old new many n size so_far now = λ m v far there below. at m v far there below (same_or_not m n)
   where

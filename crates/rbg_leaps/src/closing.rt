@@ -1,9 +1,10 @@
 //! Whether anything is missing in a table.
 ghost use Rattle.std.specs.Prelude.{◌≡◌, ℕ, ◌+◌, ◌<◌, ◌≤◌, length, true, IsTrue};
 ghost use Rattle.rbg_leaps.specs.Entries.{IsWithin};
+ghost use Rattle.rbg_leaps.specs.Made.{entry_at};
 ghost use Rattle.rbg_leaps.specs.Rows.{has_bit};
 ghost use Rattle.rbg_leaps.specs.Targets.{row_at};
-ghost use Rattle.rbg_leaps.specs.internal.Tables.{TellsAt, IsUnder, IsToldAt, IsClosed, IsLaidOut};
+ghost use Rattle.rbg_leaps.specs.internal.Tables.{TellsAt, IsUnder, IsToldAt, IsToldEverywhere, AreClosedAt, IsLaidOut};
 
 use crate::gathering::index_of;
 use crate::ground::Ground;
@@ -22,9 +23,37 @@ fn tells(table: &Table, entry: Entry, target: Target) -> bool
 {
     let targets = table.targets(entry);
     match index_of(targets, target.position) {
-        Some(index) => is_under(&table.words, table.columns, target.row, targets[index].row),
+        Some(index) => {
+            let row = targets[index].row;
+            row == target.row || is_under(&table.words, table.columns, target.row, row)
+        }
         None => false,
     }
+}
+
+/// Whether two entries share their targets.
+fn have_same_targets(entry: Entry, other: Entry) -> bool
+    ensures start { IsTrue result → entry.start ≡ other.start }
+    ensures end { IsTrue result → entry.end ≡ other.end }
+{
+    entry.start == other.start && entry.end == other.end
+}
+
+/// Whether an entry tells of all targets of another one.
+fn tells_targets(table: &Table, entry: Entry, other: Entry) -> bool
+    requires within { IsWithin (length table.now.targets.items) entry }
+    requires other { IsWithin (length table.now.targets.items) other }
+    ensures { IsTrue result → (j u : ℕ) → TellsAt table.now other j u → TellsAt table.now entry j u }
+{
+    if have_same_targets(entry, other) {
+        return true;
+    }
+    for target in table.targets(other) {
+        if !tells(table, entry, *target) {
+            return false;
+        }
+    }
+    true
 }
 
 /// Whether an entry tells all that another one tells.
@@ -36,12 +65,7 @@ fn tells_all(table: &Table, entry: Entry, other: Entry) -> bool
     if other.ends && !entry.ends {
         return false;
     }
-    for target in table.targets(other) {
-        if !tells(table, entry, *target) {
-            return false;
-        }
-    }
-    true
+    tells_targets(table, entry, other)
 }
 
 /// Whether an entry tells of what one step by a position leads to.
@@ -68,24 +92,50 @@ fn is_told(
     }
 }
 
-/// Whether nothing is missing in the entry of a node and a vertex.
-pub(crate) fn is_closed(
+/// Whether the entries of a node tell of what one step by a position leads to, at each vertex.
+fn is_told_everywhere(
     table: &Table,
     lists: &Lists,
     ground: &Ground<'_>,
     node: usize,
-    vertex: Vertex,
+    position: Position,
 ) -> bool
     requires laid_out { IsLaidOut ground.now lists.now table.now }
-    requires vertex { vertex < length ground.now.board.first }
-    ensures { IsTrue result → IsClosed ground.now lists.now table.now node vertex }
+    ensures { IsTrue result → IsToldEverywhere ground.now lists.now table.now node position }
 {
-    let entry = table.entry(node, vertex);
-    if lists.shelf.may_end(node) && !entry.ends {
+    for index in 0..ground.vertices() {
+        let vertex = index as Vertex;
+        let entry = table.entry(node, vertex);
+        if !is_told(table, lists, ground, entry, vertex, position) {
+            return false;
+        }
+    }
+    true
+}
+
+/// Whether all entries of a node tell that a word may end.
+fn all_end(table: &Table, ground: &Ground<'_>, node: usize) -> bool
+    ensures { IsTrue result → (v : ℕ) → v < length ground.now.board.first
+        → IsTrue (entry_at table.now node v).ends }
+{
+    for index in 0..ground.vertices() {
+        if !table.entry(node, index as Vertex).ends {
+            return false;
+        }
+    }
+    true
+}
+
+/// Whether nothing is missing in the entries of a node.
+pub(crate) fn is_closed(table: &Table, lists: &Lists, ground: &Ground<'_>, node: usize) -> bool
+    requires laid_out { IsLaidOut ground.now lists.now table.now }
+    ensures { IsTrue result → AreClosedAt ground.now lists.now table.now node }
+{
+    if lists.shelf.may_end(node) && !all_end(table, ground, node) {
         return false;
     }
     for listed in lists.shelf.list(node) {
-        if !is_told(table, lists, ground, entry, vertex, *listed) {
+        if !is_told_everywhere(table, lists, ground, node, *listed) {
             return false;
         }
     }

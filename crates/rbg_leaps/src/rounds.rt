@@ -2,91 +2,38 @@
 ghost use Rattle.std.specs.Prelude.{◌≡◌, ◌<◌, length, false, IfOk, OnOk};
 ghost use Rattle.rbg_rules.specs.Games.{IsGame};
 ghost use Rattle.rbg_leaps.specs.internal.Shelves.{AreListsOf};
-ghost use Rattle.rbg_leaps.specs.internal.Tables.{IsSoundTable, StaysClosed, StaysClosedAt, AreAllClosed, IsFilled};
+ghost use Rattle.rbg_leaps.specs.internal.Tables.{IsSoundTable, StaysClosed, AreAllClosed, IsFilled};
 
 use crate::closing::is_closed;
-use crate::filling::{fill_in_order, fill_one};
+use crate::filling::{fill_in_order, fill_node};
 use crate::ground::Ground;
 use crate::lists::Lists;
 use crate::rows::units;
 use crate::table::{Table, Target};
-use rbg_base::{Memory, Vertex};
+use rbg_base::Memory;
 use std::alloc::{AllocError, Global};
 
-/// Puts what is missing into the entry of a node and a vertex. Returns whether anything was.
+/// Fills the entries of a node where anything is missing in them. Returns whether anything was.
 fn mend(
     table: &mut Table,
     parts: &mut Vec<Target>,
     lists: &Lists,
     ground: &Ground<'_>,
     node: usize,
-    vertex: Vertex,
 ) -> Result<bool, Memory>
     requires lawful { IsGame ground.now }
     requires lists { AreListsOf ground.now.rules lists.now }
     requires sound { IsSoundTable ground.now lists.now table.old }
     requires node { node < length lists.now.shelf.nodes.items }
-    requires vertex { vertex < length ground.now.board.first }
     ensures sound { OnOk result (IsSoundTable ground.now lists.now table.new) }
     ensures closed { IfOk result (λ missing. missing ≡ false
-        → StaysClosedAt ground.now lists.now table.old table.new node vertex) }
+        → StaysClosed ground.now lists.now table.old table.new node) }
 {
-    if is_closed(table, lists, ground, node, vertex) {
+    if is_closed(table, lists, ground, node) {
         return Ok(false);
     }
-    fill_one(table, parts, lists, ground, node, vertex)?;
+    fill_node(table, parts, lists, ground, node, true)?;
     Ok(true)
-}
-
-/// Mends the entries of a node, from the first vertex to the last or from the last to the first.
-fn mend_node(
-    table: &mut Table,
-    parts: &mut Vec<Target>,
-    lists: &Lists,
-    ground: &Ground<'_>,
-    node: usize,
-    back: bool,
-) -> Result<bool, Memory>
-    requires lawful { IsGame ground.now }
-    requires lists { AreListsOf ground.now.rules lists.now }
-    requires sound { IsSoundTable ground.now lists.now table.old }
-    requires node { node < length lists.now.shelf.nodes.items }
-    ensures sound { OnOk result (IsSoundTable ground.now lists.now table.new) }
-    ensures closed { IfOk result (λ missing. missing ≡ false → back ≡ false
-        → StaysClosed ground.now lists.now table.old table.new node) }
-{
-    let vertices = ground.vertices();
-    let mut missing = false;
-    for index in 0..vertices {
-        let vertex = if back { vertices - 1 - index } else { index };
-        if mend(table, parts, lists, ground, node, vertex as Vertex)? {
-            missing = true;
-        }
-    }
-    Ok(missing)
-}
-
-/// Mends the entries of a node, and again backwards where anything was missing.
-fn settle(
-    table: &mut Table,
-    parts: &mut Vec<Target>,
-    lists: &Lists,
-    ground: &Ground<'_>,
-    node: usize,
-) -> Result<bool, Memory>
-    requires lawful { IsGame ground.now }
-    requires lists { AreListsOf ground.now.rules lists.now }
-    requires sound { IsSoundTable ground.now lists.now table.old }
-    requires node { node < length lists.now.shelf.nodes.items }
-    ensures sound { OnOk result (IsSoundTable ground.now lists.now table.new) }
-    ensures closed { IfOk result (λ missing. missing ≡ false
-        → StaysClosed ground.now lists.now table.old table.new node) }
-{
-    let missing = mend_node(table, parts, lists, ground, node, false)?;
-    if missing {
-        mend_node(table, parts, lists, ground, node, true)?;
-    }
-    Ok(missing)
 }
 
 /// Mends the entries of all nodes, those that come late in the rules first. Returns whether anything was missing.
@@ -105,11 +52,76 @@ fn round(
     let nodes = lists.shelf.nodes.len();
     let mut missing = false;
     for done in 0..nodes {
-        if settle(table, parts, lists, ground, nodes - 1 - done)? {
+        if mend(table, parts, lists, ground, nodes - 1 - done)? {
             missing = true;
         }
     }
     Ok(missing)
+}
+
+/// Mends a node where it isn't filled. Returns whether anything was missing.
+fn mend_other(
+    table: &mut Table,
+    parts: &mut Vec<Target>,
+    lists: &Lists,
+    ground: &Ground<'_>,
+    filled: &[bool],
+    node: usize,
+) -> Result<bool, Memory>
+    requires lawful { IsGame ground.now }
+    requires lists { AreListsOf ground.now.rules lists.now }
+    requires sound { IsSoundTable ground.now lists.now table.old }
+    requires node { node < length lists.now.shelf.nodes.items }
+    ensures { OnOk result (IsSoundTable ground.now lists.now table.new) }
+{
+    if node < filled.len() && filled[node] {
+        return Ok(false);
+    }
+    let missing = mend(table, parts, lists, ground, node)?;
+    Ok(missing)
+}
+
+/// Mends the nodes that aren't filled. Returns whether anything was missing.
+fn mend_others(
+    table: &mut Table,
+    parts: &mut Vec<Target>,
+    lists: &Lists,
+    ground: &Ground<'_>,
+    filled: &[bool],
+) -> Result<bool, Memory>
+    requires lawful { IsGame ground.now }
+    requires lists { AreListsOf ground.now.rules lists.now }
+    requires sound { IsSoundTable ground.now lists.now table.old }
+    ensures { OnOk result (IsSoundTable ground.now lists.now table.new) }
+{
+    let nodes = lists.shelf.nodes.len();
+    let mut missing = false;
+    for done in 0..nodes {
+        let more = mend_other(table, parts, lists, ground, filled, nodes - 1 - done)?;
+        missing = missing || more;
+    }
+    Ok(missing)
+}
+
+/// Mends the nodes that aren't filled, until nothing is missing in them.
+fn mend_until_still(
+    table: &mut Table,
+    parts: &mut Vec<Target>,
+    lists: &Lists,
+    ground: &Ground<'_>,
+    filled: &[bool],
+) -> Result<(), Memory>
+    requires lawful { IsGame ground.now }
+    requires lists { AreListsOf ground.now.rules lists.now }
+    requires sound { IsSoundTable ground.now lists.now table.old }
+    ensures { OnOk result (IsSoundTable ground.now lists.now table.new) }
+{
+    for _ in 0..u64::MAX {
+        if !mend_others(table, parts, lists, ground, filled)? {
+            return Ok(());
+        }
+    }
+    Ok(())
 }
 
 /// A table of the nodes with nothing told.
@@ -134,7 +146,8 @@ pub(crate) fn fill(alloc: Global, lists: &Lists, ground: &Ground<'_>) -> Result<
 {
     let mut table = blank(alloc, lists, ground)?;
     let mut parts = Vec::new(alloc);
-    fill_in_order(alloc, &mut table, &mut parts, lists, ground)?;
+    let filled = fill_in_order(alloc, &mut table, &mut parts, lists, ground)?;
+    mend_until_still(&mut table, &mut parts, lists, ground, &filled)?;
     // (each round but the last one adds to what is told, so there are few)
     for _ in 0..u64::MAX {
         if !round(&mut table, &mut parts, lists, ground)? {

@@ -48,7 +48,7 @@ impl Entry {
 impl Table {
     ghost use Rattle.std.specs.Prelude.{◌≡◌, ◌*◌, ◌<◌, ◌^◌, replicate, IfOk, OnOk, IfSome, IfNone, slice_index_or};
     ghost use Rattle.rbg_leaps.specs.Made.{entry_at, no_entry};
-    ghost use Rattle.rbg_leaps.specs.internal.Tables.{targets_of, Puts, Grows, AddsRow};
+    ghost use Rattle.rbg_leaps.specs.internal.Tables.{targets_of, Puts, Shares, Grows, AddsRow};
 
     /// With nothing told at so many places, each of a node and a vertex.
     pub(crate) fn new(
@@ -125,6 +125,17 @@ impl Table {
             self.entries[place] = Entry { start, end, ends };
         }
         Ok(())
+    }
+
+    /// Puts an entry of a node and a vertex in its place, with targets that are there.
+    pub(crate) fn share(&mut self, node: usize, vertex: Vertex, entry: Entry)
+        requires there { node * self.old.vertices + vertex < length self.old.entries.items }
+        requires within { IsWithin (length self.old.targets.items) entry }
+        ensures { Shares self.old self.new node vertex entry }
+    {
+        if let Some(place) = self.place(node, vertex) {
+            self.entries[place] = entry;
+        }
     }
 
     /// Adds a row to targets at a position.

@@ -198,10 +198,10 @@ const CASES: [(usize, &str, Origin, Vertex, &str); 20] = [
     ),
     (
         5,
-        "->white (right {w} + left {e} + [w]) ->black",
+        "->white ([w] + right {w} + left {e}) ->black",
         Origin::After(1),
         2,
-        "6: 2-2, 3: 3-3, 5: 1-1, ",
+        "2: 2-2, 4: 3-3, 6: 1-1, ",
     ),
     (
         5,

@@ -39,3 +39,8 @@ pub record IsLeapBy (game : AbstractGame) (list : List ℕ) (may_end : Bool) (v 
 -- A word may end with shifts alone from vertex v, wherever the list comes next and words may end so.
 pub record EndsBy (game : AbstractGame) (list : List ℕ) (may_end : Bool) (v : ℕ) : Type 0 where
   pub ends : (f : Start) → IsAnswerAt game.rules f list may_end → EndsAcross game f v
+
+-- The list has one position alone, and that is a shift.
+pub record HasOnlyShift (rules : Expression) (list : List ℕ) : Type 0 where
+  pub one : length list ≡ 1
+  pub is : IsShiftAt rules (slice_index_or list 0 0)

@@ -108,6 +108,18 @@ pub record Puts (old new : Table) (n v : ℕ) (targets : List Target) (ends : Bo
       (i : ℕ) → i ≢ n * old.vertices + v →
       slice_index_or new.entries.items i no_entry ≡ slice_index_or old.entries.items i no_entry
 
+-- An entry of a node and a vertex was put in its place, and nothing else changed.
+pub record Shares (old new : Table) (n v : ℕ) (e : Entry) : Type 0 where
+  pub vertices : new.vertices ≡ old.vertices
+  pub columns : new.columns ≡ old.columns
+  pub words : new.words.items ≡ old.words.items
+  pub are_targets : new.targets.items ≡ old.targets.items
+  pub size : length new.entries.items ≡ length old.entries.items
+  pub here : entry_at new n v ≡ e
+  pub others :
+      (i : ℕ) → i ≢ n * old.vertices + v →
+      slice_index_or new.entries.items i no_entry ≡ slice_index_or old.entries.items i no_entry
+
 -- A row was added to the targets at a position.
 pub record AddsRow (columns : ℕ) (old new : List ℕ) (before behind : List Target) (position row : ℕ) : Type 0 where
   pub extends : Extends old new
@@ -128,19 +140,19 @@ pub record AddsAll (old new : Table) (before behind : List Target) (e : Entry) :
       AreSound (IsLeapBy game list may_end v) old.columns old.words.items (targets_of old e) →
       AreSound (IsLeapBy game list may_end v) new.columns new.words.items behind
 
--- Nothing was missing in the entry of a node and a vertex, and nothing changed.
-pub record StaysClosedAt (game : AbstractGame) (lists : Lists) (old new : Table) (n v : ℕ) : Type 0 where
-  pub same : new ≡ old
-  pub closed : IsClosed game lists new n v
+-- The entries of a node tell of what one step by position p leads to, at each vertex.
+abbrev pub IsToldEverywhere : AbstractGame → Lists → Table → (n p : ℕ) → Type 0
+IsToldEverywhere game lists table n p =
+    (v : ℕ) → v < length game.board.first → IsToldAt game lists table (entry_at table n v) v p
 
--- The same of the first vertices.
-pub record StaysClosedUpTo (game : AbstractGame) (lists : Lists) (old new : Table) (n many : ℕ) : Type 0 where
-  pub same : new ≡ old
-  pub closed : (v : ℕ) → v < many → IsClosed game lists new n v
+-- Nothing is missing in the entries of a node.
+abbrev pub AreClosedAt : AbstractGame → Lists → Table → (n : ℕ) → Type 0
+AreClosedAt game lists table n = (v : ℕ) → v < length game.board.first → IsClosed game lists table n v
 
--- The same of all vertices.
-abbrev pub StaysClosed : AbstractGame → Lists → (old new : Table) → (n : ℕ) → Type 0
-StaysClosed game lists old new n = StaysClosedUpTo game lists old new n (length game.board.first)
+-- Nothing was missing in the entries of a node, and nothing changed.
+pub record StaysClosed (game : AbstractGame) (lists : Lists) (old new : Table) (n : ℕ) : Type 0 where
+  pub same : new ≡ old
+  pub closed : AreClosedAt game lists new n
 
 -- Nothing is missing in the entries of the last nodes, of which there are so many.
 abbrev pub AreClosedFrom : AbstractGame → Lists → Table → (many : ℕ) → Type 0

@@ -4,7 +4,7 @@ use Rattle.std.specs.Prelude.{true}
 use Rattle.rbg_leaps.specs.Rows.{has_bit}
 use Rattle.rbg_leaps.specs.Targets.{row_at}
 use Rattle.rbg_leaps.specs.internal.Tables.{no_target, TellsAt}
-use Rattle.rbg_leaps.proofs.closing.tells_all.Given as goal
+use Rattle.rbg_leaps.proofs.closing.tells_targets.Given as goal
 
 abbrev pub invariant-loop-target : goal.invariant-loop-target
 invariant-loop-target l = (i : ℕ) → i < l.target-index → (u : ℕ) →

@@ -1,0 +1,26 @@
+-- An entry that shares what is told behind a shift.
+use Rattle.std.proofs.Common.{◌≡◌, ◌<◌, ◌∙◌, ◌⊎◌, ℕ, length, get_or, sym, ap, subst}
+use Rattle.std.specs.Prelude.{Bool, Contains, IsTrue}
+use Rattle.rbg_rules.specs.Positions.{IsNumbered}
+use Rattle.rbg_rules.specs.State.{AbstractGame}
+use Rattle.rbg_rules.specs.Words.{after}
+use Rattle.rbg_leaps.specs.declared.lists.Lists.{Lists}
+use Rattle.rbg_leaps.specs.declared.table.Entry.{Entry}
+use Rattle.rbg_leaps.specs.declared.table.Table.{Table}
+use Rattle.rbg_leaps.specs.Leaps.{IsShiftAt}
+use Rattle.rbg_leaps.specs.Made.{entry_at}
+use Rattle.rbg_leaps.specs.internal.Shelves.{list_at, may_end_at, IsNodeOf, AreListsOf}
+use Rattle.rbg_leaps.specs.internal.Steps.{Comes}
+use Rattle.rbg_leaps.specs.internal.Tables.{IsSoundEntry, IsSoundTable}
+use Rattle.rbg_leaps.proofs.ShiftLemmas.{shift_within}
+use Rattle.rbg_leaps.proofs.Tabling.{entry_on}
+
+pub entry_step : (game : AbstractGame) → IsNumbered game.rules → (lists : Lists) → AreListsOf game.rules lists → (table : Table) → IsSoundTable game lists table → (n v p w k : ℕ) (e : Entry) → Contains (list_at lists.shelf n) p → IsShiftAt game.rules p → Comes game v p w → w < length game.board.first → k ≡ get_or lists.afters.items p 0 → e ≡ entry_at table k w → (ends : Bool) → (IsTrue ends → IsTrue e.ends ⊎ IsTrue (may_end_at lists.shelf n)) → IsSoundEntry game (list_at lists.shelf n) (may_end_at lists.shelf n) v table (record { start = e.start; end = e.end; ends = ends })
+entry_step game numbered lists are table right n v p w k e there is comes below behind at ends either =
+    let m : ℕ = get_or lists.afters.items p 0 in
+    let node : IsNodeOf game.rules lists.shelf (after p) m = are.after_each p (shift_within game.rules numbered p is) in
+    let on_board : w < table.vertices = subst (λ (many : ℕ). w < many) (sym right.laid_out.vertices) below in
+    let same : e ≡ entry_at table m w = at ∙ ap (λ (i : ℕ). entry_at table i w) behind in
+    let sound : IsSoundEntry game (list_at lists.shelf m) (may_end_at lists.shelf m) w table e =
+    subst (IsSoundEntry game (list_at lists.shelf m) (may_end_at lists.shelf m) w table) (sym same) (right.sound m w node.there on_board) in
+    entry_on game numbered lists table n v p w m e there is comes node sound ends either

@@ -1,0 +1,8 @@
+-- The entries so far tell that a word may end.
+use Rattle.std.proofs.Common.{◌<◌, ℕ}
+use Rattle.std.specs.Prelude.{IsTrue}
+use Rattle.rbg_leaps.specs.Made.{entry_at}
+use Rattle.rbg_leaps.proofs.closing.all_end.Given as goal
+
+abbrev pub invariant-loop-index : goal.invariant-loop-index
+invariant-loop-index l = (v : ℕ) → v < l.index → IsTrue (entry_at l.table l.node v).ends

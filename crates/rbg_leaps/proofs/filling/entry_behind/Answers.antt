@@ -1,0 +1,18 @@
+use Rattle.std.proofs.Common.{inl, inr, subst}
+use Rattle.std.specs.Prelude.{IsTrue}
+use Rattle.rbg_leaps.proofs.Sharing.{entry_step}
+use Rattle.rbg_leaps.proofs.Tabling.{entry_of_none}
+use Rattle.rbg_leaps.proofs.filling.entry_behind.Goals as goal
+
+pub returns-in_default-clause-sound : goal.returns-in_default-clause-sound
+returns-in_default-clause-sound c = entry_of_none c.args.ground.now c.args.lists.now c.args.table.now c.args.node c.args.vertex c.may_end-may_end.result (λ t. subst IsTrue c.may_end-may_end.ensures t)
+
+pub returns-then-behind-clause-sound : goal.returns-then-behind-clause-sound
+returns-then-behind-clause-sound c =
+    entry_step c.args.ground.now c.requires.lawful.numbered c.args.lists.now c.requires.lists c.args.table.now c.requires.sound c.args.node c.args.vertex c.args.position c.in-Some.to c.after.result c.entry-behind.result
+    c.requires.listed c.requires.shift ((c.to.ensures.comes c.in-Some.to).0 c.in-Some.is) c.in-Some.ensures.is_vertex c.after.ensures c.entry-behind.ensures.entry c.entry-behind.result.ends (λ t. inl t)
+
+pub returns-else-behind-clause-sound : goal.returns-else-behind-clause-sound
+returns-else-behind-clause-sound c =
+    entry_step c.args.ground.now c.requires.lawful.numbered c.args.lists.now c.requires.lists c.args.table.now c.requires.sound c.args.node c.args.vertex c.args.position c.in-Some.to c.after.result c.entry-behind.result
+    c.requires.listed c.requires.shift ((c.to.ensures.comes c.in-Some.to).0 c.in-Some.is) c.in-Some.ensures.is_vertex c.after.ensures c.entry-behind.ensures.entry c.may_end-may_end.result (λ t. inr (subst IsTrue c.may_end-may_end.ensures t))
