@@ -1,13 +1,15 @@
 -- Lemmas on why a hall has no printed lines.
-use Rattle.std.proofs.Common.{◌≡◌, ℕ, ◌≤◌, List, All, Some, length, slice_get, ap, sym, ◌∙◌, refl, subst, arith}
+use Rattle.std.proofs.Common.{◌≡◌, ℕ, ◌≤◌, List, All, Some, length, map, slice_get, ap, sym, ◌∙◌, refl, subst, arith}
 use Rattle.std.specs.Global.{Vec}
 use Rattle.std.proofs.lemmas.List.{length-map}
 use Rattle.std.proofs.lemmas.List.Elements.{All-get_or}
 use Rattle.std.proofs.lemmas.Option.{slice_get_within, get_or_from_slice_get}
+use Rattle.rbg_floor.specs.Events.{AbstractHallEvent}
 use Rattle.rbg_floor.specs.Halls.{AbstractTable}
 use Rattle.rbg_floor.specs.Limits.{most_tables}
 use Rattle.rbg_floor.specs.Openings.{IsRefusedHall, MayBeTables}
 use Rattle.rbg_floor.specs.Openings.IsRefusedHall.{tables as wrong_tables, config as wrong_config, memory as no_memory}
+use Rattle.rbg_floor.specs.Wholes.{IsOfHall as IsAllowedHall}
 use Rattle.rbg_floor.specs.declared.error.HallError.{HallError}
 use Rattle.rbg_match.specs.Config.{IsWithinLimits}
 use Rattle.rbg_match.specs.declared.config.Config.{Config}
@@ -18,7 +20,8 @@ use Rattle.rbg_script.specs.Scripts.{AbstractScript, SpellsScript, HasMisfit, Is
 use Rattle.rbg_hosting.specs.declared.error.HostingError.{HostingError}
 use Rattle.rbg_hosting.specs.declared.error.HostingError.TheVariants.{Tables, Load, Script, Memory}
 use Rattle.rbg_hosting.specs.Errors.{IsOfHall, IsOfScript}
-use Rattle.rbg_hosting.specs.Halls.{MayBeDescriptions, IsNoHall}
+use Rattle.rbg_hosting.specs.Halls.{MayBeDescriptions, IsHeardHall, IsNoHall}
+use Rattle.rbg_hosting.specs.Scripts.{event_for}
 use Rattle.rbg_hosting.specs.Tables.{texts_of, IsGames, AreTablesOf}
 use Rattle.rbg_hosting.specs.internal.Loading.{IsNotLoaded}
 use Rattle.rbg_hosting.proofs.TableLemmas.{as_many, config_in}
@@ -57,7 +60,7 @@ pub hall_is_no_hall : (descriptions : List (List ℕ)) (script : AbstractScript)
 hall_is_no_hall descriptions script tables may are _ (wrong_tables none) error is text spells =
     let same = sym (as_many (config_for script.config) descriptions tables are) in
     absurd (none (subst (λ n. (1 ≤ n) × (n ≤ most_tables)) same may))
-hall_is_no_hall descriptions script tables may are _ (wrong_config index table some found beyond) error is text spells =
+hall_is_no_hall descriptions script tables may are _ (wrong_config index table some found beyond first) error is text spells =
     let same = found_has (config_for script.config) tables index table (config_in (config_for script.config) descriptions tables are) found in
     absurd (beyond (subst IsWithinLimits (sym same) (script_config text script spells)))
 hall_is_no_hall descriptions script tables may are _ no_memory error is text spells =
@@ -66,3 +69,11 @@ hall_is_no_hall descriptions script tables may are _ no_memory error is text spe
 -- there are as many texts as descriptions
 pub texts_count : (descriptions : List (Vec ℕ)) → length (texts_of descriptions) ≡ length descriptions
 texts_count descriptions = length-map descriptions (λ (d : Vec ℕ). d.items)
+
+-- the hall that has these tables has heard the script
+pub heard_hall : (descriptions : List (List ℕ)) (script : AbstractScript) (tables : List AbstractTable) (config : Config) (events : List AbstractHallEvent) (queues : List (List ℕ)) → config ≡ config_for script.config → AreTablesOf config descriptions tables → events ≡ map event_for script.events → IsAllowedHall tables events queues → IsHeardHall descriptions script queues
+heard_hall descriptions script tables config events queues is are same heard = record {
+  tables = tables;
+  are = subst (λ c. AreTablesOf c descriptions tables) is are;
+  heard = subst (λ list. IsAllowedHall tables list queues) same heard;
+}
