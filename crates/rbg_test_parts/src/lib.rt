@@ -1,4 +1,4 @@
-//! Tests of the automaton of positions, of leaps, of a player, and of serving over lines and clocks in memory.
+//! Tests of the automaton of positions, of a player, and of serving over lines and clocks in memory.
 #![tactic(auto)]
 
 #[cfg(test)]
@@ -7,8 +7,6 @@ mod forms;
 mod generated;
 #[cfg(test)]
 mod hearing;
-#[cfg(test)]
-mod leaping;
 #[cfg(test)]
 mod lists;
 #[cfg(test)]

@@ -1,0 +1,65 @@
+//! Which halls are made, and what a hall tells of its matches.
+use crate::tables::{CONFIG, TWO, tables};
+use rbg_floor::{Hall, HallError, HallEvent, whole_hall};
+use rbg_match::Config;
+use rbg_wire::Outcome;
+use std::test::Fail;
+
+/// A turn of no time.
+const NO_TIME: Config = Config {
+    turn_ms: 0,
+    refusals: 3,
+};
+
+/// The configs of tables, and why there is no hall of them.
+const HALLS: [(&[Config], Option<HallError>); 7] = [
+    (&[], Some(HallError::Tables)),
+    (&[CONFIG; 1], None),
+    (&[CONFIG; 16], None),
+    (&[CONFIG; 17], Some(HallError::Tables)),
+    (&[NO_TIME; 17], Some(HallError::Tables)),
+    (&[NO_TIME; 16], Some(HallError::Config { table: 1 })),
+    (
+        &[CONFIG, CONFIG, NO_TIME],
+        Some(HallError::Config { table: 3 }),
+    ),
+];
+
+#[test]
+fn halls_have_one_to_sixteen_tables(rt: HostRuntime) -> Result<(), Fail> {
+    for (configs, refused) in HALLS {
+        let made = Hall::new(rt.alloc(), tables(rt.alloc(), TWO, configs)?);
+        assert_eq!(rt; made.err(), refused);
+        let whole = whole_hall(rt.alloc(), tables(rt.alloc(), TWO, configs)?, &[]);
+        assert_eq!(rt; whole.err(), refused);
+    }
+    Ok(())
+}
+
+/// A match is told of once it has begun, also when it is over.
+#[test]
+fn begun_matches_are_told_of(rt: HostRuntime) -> Result<(), Fail> {
+    let (mut hall, mut out) = Hall::new(rt.alloc(), tables(rt.alloc(), TWO, &[CONFIG; 2])?)?;
+    for (line, at) in [(0, 3), (1, 4)] {
+        for table in [0, 1, 2, 3, u64::MAX] {
+            assert!(rt; hall.begun(table).is_none());
+        }
+        hall.step(
+            HallEvent::Piece {
+                line,
+                at,
+                bytes: b"H2\0",
+            },
+            &mut out,
+        )?;
+    }
+    hall.step(HallEvent::Tick { at: 1004 }, &mut out)?;
+    for table in [0, 1, 3, u64::MAX] {
+        assert!(rt; hall.begun(table).is_none());
+    }
+    let told = hall
+        .begun(2)
+        .map(|playing| (playing.began(), playing.outcome()));
+    assert_eq!(rt; told, Some((4, Some(Outcome::Time { player: 1 }))));
+    Ok(())
+}
