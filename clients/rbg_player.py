@@ -194,10 +194,11 @@ def main():
     if words.match is not None:
         stream.join(words.match)
     match = play(stream, chooser)
+    name = match.name or "player"  # before its match begins a player has no name
     if match.refused:
-        print("%s: refused for reason %d" % (match.name, match.refused[0]))
+        print("%s: refused for reason %d" % (name, match.refused[0]))
     else:
-        print("%s: %s" % (match.name, match.end or "the stream has ended"))
+        print("%s: %s" % (name, match.end or "the stream has ended"))
     return 0 if match.end else 3
 
 

@@ -1,6 +1,6 @@
 -- What the proofs of this crate share.
 mod Apart
-mod Beginnings
+pub mod Beginnings
 mod Counts
 mod Early
 mod Growing
@@ -10,10 +10,10 @@ mod Owning
 mod Permitted
 mod Pieces
 mod Requesting
-mod Running
+pub mod Running
 mod Same
-mod Served
+pub mod Served
 mod Silence
 mod Taking
 mod Ticking
-mod Wholes
+pub mod Wholes

@@ -49,7 +49,7 @@ as_many_so old new event before after (Ok done) hears kept = ap length hears.que
 as_many_so old new event before after (Err error) hears kept = ap length kept
 
 -- a hall that handles what is heard has run through it
-handled_run : {starts : List AbstractTable} {lines : ℕ} {old : HeldHall} {before : List (List ℕ)} {heard : List Heard} {new : HeldHall} {queued : List (List ℕ)} {since : List Intake} →
+pub handled_run : {starts : List AbstractTable} {lines : ℕ} {old : HeldHall} {before : List (List ℕ)} {heard : List Heard} {new : HeldHall} {queued : List (List ℕ)} {since : List Intake} →
     HasRun starts [] old.state before →
     Handles of_hall lines old before heard new queued since →
     HasRun starts (hall_events heard) new.state queued

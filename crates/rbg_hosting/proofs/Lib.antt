@@ -1,4 +1,5 @@
 -- Lemmas, by topic.
 mod HallLemmas
 mod PrintedLemmas
+mod RecordLemmas
 mod TableLemmas

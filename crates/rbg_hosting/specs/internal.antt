@@ -1,2 +1,3 @@
 -- Definitions that only this crate's proofs use.
 pub mod Loading
+pub mod Writing

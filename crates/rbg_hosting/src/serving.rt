@@ -1,16 +1,23 @@
 //! A hall over connections: its players are waited for, its matches are played at once, and their records are given.
-ghost use Rattle.std.specs.Prelude.{◌≤◌, length, IfOk};
+ghost use Rattle.std.specs.Prelude.{◌≡◌, ◌≤◌, [], List, length, IfOk, OnOk};
+ghost use Rattle.rbg_floor.specs.Halls.{AbstractTable, begun_at};
+ghost use Rattle.rbg_floor.specs.Openings.{IsNewHall};
 ghost use Rattle.rbg_hall.specs.Limits.{lines_in_all};
+ghost use Rattle.rbg_hosting.specs.Records.{AreHallsRecords, ArePrintedMatches, HasEnded};
+ghost use Rattle.rbg_hosting.specs.Tables.{texts_of};
+ghost use Rattle.rbg_hosting.specs.internal.Writing.{AppendsMatch, AppendsRecord};
+ghost use Rattle.rbg_match.specs.Matches.{HasHistory};
 
 use crate::HallFault;
 use crate::tables::tables_of;
 use rbg_floor::{Hall, Table};
 use rbg_hall::{HallOut, LINES};
-use rbg_match::Config;
+use rbg_match::{Config, Match};
 use rbg_network::{Hosting, Network, News, StreamLine, gather};
 use rbg_record::write_record;
-use rbg_serving::{Clock, Line, ServeError};
-use std::alloc::Global;
+use rbg_serving::{Clock, ServeError};
+use std::alloc::{AllocError, Global};
+use std::io::{Read, Write};
 
 /// How the matches are served.
 #[derive(Clone, Copy, Debug)]
@@ -29,7 +36,10 @@ pub fn serve_hall<N: Network>(
     network: &mut N,
     port: u16,
     service: HallService,
-) -> Result<Vec<u8>, HallFault> {
+) -> Result<Vec<u8>, HallFault>
+    ensures { IfOk result (λ records.
+        AreHallsRecords service.config (texts_of descriptions.now) records.items) }
+{
     let tables = tables_of(alloc, descriptions, service.config)?;
     let count = tables.len();
     let players = players_of(tables.as_slice());
@@ -43,18 +53,22 @@ pub fn serve_hall<N: Network>(
         &mut clock,
         service.rounds,
     )?;
-    records_of(alloc, &hall, count)
+    Ok(records_of(alloc, &hall, count)?)
 }
 
 /// Serves the matches over the lines until all have ended.
-fn run_hall<L: Line, C: Clock>(
+fn run_hall<S: Read + Write + Drop, C: Clock>(
     hall: &mut Hall,
-    lines: &mut [L],
+    lines: &mut [StreamLine<S>],
     out: &mut HallOut,
     clock: &mut C,
     rounds: u64,
 ) -> Result<(), ServeError>
-    requires { length lines.old ≤ lines_in_all }
+    requires lines { length lines.old ≤ lines_in_all }
+    requires clock { C.told clock.old [] }
+    ensures { OnOk result ((starts : List AbstractTable) →
+        IsNewHall starts hall.old out.old →
+        HasEnded starts hall.new.state) }
 {
     hall.run(lines, out, clock, rounds)?;
     Ok(())
@@ -93,16 +107,47 @@ fn accept_lines<N: Network>(
 }
 
 /// `match <k>` and the record of each match that has begun.
-fn records_of(alloc: Global, hall: &Hall, tables: usize) -> Result<Vec<u8>, HallFault> {
+fn records_of(alloc: Global, hall: &Hall, tables: usize) -> Result<Vec<u8>, AllocError>
+    ensures { IfOk result (λ records. (starts : List AbstractTable) →
+        length starts ≡ tables →
+        HasEnded starts hall.now.state →
+        ArePrintedMatches starts hall.now.state.tables records.items) }
+{
     let mut records = Vec::new(alloc);
     for index in 0..tables {
-        let table = index as u64 + 1;
-        if let Some(played) = hall.begun(table) {
-            let line = format!(in alloc; "match {table}\n")?;
-            records.extend_from_slice(line.as_bytes())?;
-            let record = write_record(alloc, played)?;
-            records.extend_from_slice(record.as_slice())?;
-        }
+        push_match(alloc, hall, index as u64 + 1, &mut records)?;
     }
     Ok(records)
+}
+
+/// Appends `match <k>` and the record of the match of a table, if it has begun.
+fn push_match(
+    alloc: Global,
+    hall: &Hall,
+    table: u64,
+    records: &mut Vec<u8>,
+) -> Result<(), AllocError>
+    ensures { OnOk result (AppendsMatch table (begun_at hall.now.state.tables table)
+        records.old.items records.new.items) }
+{
+    match hall.begun(table) {
+        Some(played) => push_record(alloc, table, played, records),
+        None => Ok(()),
+    }
+}
+
+/// Appends `match <k>` and the record of a match.
+fn push_record(
+    alloc: Global,
+    table: u64,
+    played: &Match,
+    records: &mut Vec<u8>,
+) -> Result<(), AllocError>
+    ensures { HasHistory played.now →
+        OnOk result (AppendsRecord table played.now records.old.items records.new.items) }
+{
+    let line = format!(in alloc; "match {table}\n")?;
+    records.extend_from_slice(line.as_bytes())?;
+    let record = write_record(alloc, played)?;
+    records.extend_from_slice(record.as_slice())
 }

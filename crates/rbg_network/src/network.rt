@@ -1,4 +1,5 @@
 //! The network as the program sees it: connections on this machine, each to a port.
+ghost use Rattle.std.specs.Prelude.{[], IfOk};
 
 use crate::News;
 use rbg_serving::Clock;
@@ -28,7 +29,8 @@ pub trait Network {
     fn connect(&mut self, port: u16) -> io::Result<Self::Stream>;
 
     /// A clock that begins with 0 now.
-    fn start_clock(&mut self) -> io::Result<Self::Clock>;
+    fn start_clock(&mut self) -> io::Result<Self::Clock>
+        ensures unasked { IfOk result (λ clock. Self.Clock.told clock []) };
 
     /// Tells news, apart from the program's answer. Where that can't be told, nothing is.
     fn tell(&mut self, news: &News<'_>);

@@ -1,0 +1,12 @@
+-- The matches of the first tables are printed.
+use Rattle.std.proofs.Common.{◌≡◌, List, length, take}
+use Rattle.rbg_floor.specs.Halls.{AbstractTable}
+use Rattle.rbg_hosting.specs.Records.{ArePrintedMatches, HasEnded}
+use Rattle.rbg_hosting.proofs.serving.records_of.Given as goal
+
+abbrev pub invariant-loop-index : goal.invariant-loop-index
+invariant-loop-index l =
+    (starts : List AbstractTable) →
+    length starts ≡ l.tables →
+    HasEnded starts l.hall.state →
+    ArePrintedMatches (take l.index starts) (take l.index l.hall.state.tables) l.records.items
