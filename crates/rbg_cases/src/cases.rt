@@ -45,6 +45,8 @@ pub struct Case<'a> {
     pub shown: usize,
     /// Whether what is told on standard error is shown too.
     pub news: bool,
+    /// The file that the case makes, if it is to be shown.
+    pub made: Option<String>,
     pub words: Vec<String>,
     pub files: Vec<Text<'a>>,
     pub streams: Vec<Stream>,
@@ -119,6 +121,9 @@ impl<'a> Reader<'a> {
         if let Some(count) = line.strip_prefix(b"last ") {
             return Ok(self.show_last(count));
         }
+        if let Some(name) = line.strip_prefix(b"made ") {
+            return self.show_made(alloc, name);
+        }
         self.end_part(alloc)?;
         if let Some(name) = line.strip_prefix(b"case ") {
             self.cases.push(Case {
@@ -126,6 +131,7 @@ impl<'a> Reader<'a> {
                 program: Program::Rbg,
                 shown: usize::MAX,
                 news: false,
+                made: None,
                 words: Vec::new(alloc),
                 files: Vec::new(alloc),
                 streams: Vec::new(alloc),
@@ -178,6 +184,17 @@ impl<'a> Reader<'a> {
                 true
             }
             None => false,
+        }
+    }
+
+    /// The file that the case makes by this name is shown.
+    fn show_made(&mut self, alloc: Global, name: &[u8]) -> Result<bool, AllocError> {
+        match (self.cases.last_mut(), str::from_utf8(name)) {
+            (Some(case), Ok(name)) => {
+                case.made = Some(name.to_string(alloc)?);
+                Ok(true)
+            }
+            _ => Ok(false),
         }
     }
 

@@ -9,6 +9,7 @@
 //! | `author` | the case runs `rbg_author`, else it runs `rbg` |
 //! | `news` | what the case tells an organiser on standard error is shown too, each line behind `news: ` |
 //! | `last COUNT` | of what the case prints only this many lines are shown, the last ones |
+//! | `made NAME` | the bytes of a file that the case has made are shown too, behind a line `made NAME` |
 //! | `file NAME` | a file of the case begins; what follows is its bytes |
 //! | `stream` | what comes over a connection of the case begins; what follows is its bytes, and then nothing comes |
 //! | `stream that ends` | the same, but behind its bytes the stream ends |
@@ -20,8 +21,10 @@
 //! | `%HEX` | adds these bytes |
 //! | `;TEXT`, or nothing | nothing |
 //!
-//! For each case a line `case NAME` is printed, then what the program prints, what it tells, and `status STATUS`. Where a line is
-//! not of this form, `cases LINE` is printed, and no case is run.
+//! A file that a case has made is there for the cases behind it.
+//!
+//! For each case a line `case NAME` is printed, then what the program prints, what it tells, the file that it has made, and
+//! `status STATUS`. Where a line is not of this form, `cases LINE` is printed, and no case is run.
 #![tactic(auto)]
 
 mod cases;
@@ -29,23 +32,47 @@ mod network;
 
 use crate::cases::{Case, CasesError, Program, Text, read_cases};
 use crate::network::MemoryNetwork;
-use rbg_console::{Files, Input, MAX_INPUT, Status, read_bytes, read_input};
+use rbg_console::{Files, Input, MAX_INPUT, MemoryFiles, Status, read_bytes, read_input};
 use std::alloc::{AllocError, Global};
-use std::io::{self, Write};
+use std::io::{self, ErrorKind, Write};
 use std::process::ExitCode;
 
-/// The files of a case.
+/// The files of a case, and those that it and the cases before it have made.
 #[derive(Drop)]
 struct CaseFiles<'a> {
     files: &'a [Text<'a>],
+    made: &'a mut MemoryFiles,
+}
+
+impl CaseFiles<'_> {
+    /// The bytes of a file.
+    fn bytes_of(&self, name: &str) -> Option<&[u8]> {
+        match self.files.iter().find(|file| file.name == name.as_bytes()) {
+            Some(file) => Some(file.bytes.as_slice()),
+            None => self.made.bytes_of(name),
+        }
+    }
 }
 
 impl Files for CaseFiles<'_> {
+    type NewFile = Vec<u8>;
+
     fn read_file(&mut self, alloc: Global, name: &str, limit: usize) -> Result<Input, AllocError> {
-        match self.files.iter().find(|file| file.name == name.as_bytes()) {
-            Some(file) => read_bytes(alloc, file.bytes.as_slice(), limit),
+        match self.bytes_of(name) {
+            Some(bytes) => read_bytes(alloc, bytes, limit),
             None => Ok(Input::Device),
         }
+    }
+
+    fn create_file(&mut self, alloc: Global, name: &str) -> io::Result<Vec<u8>> {
+        match self.bytes_of(name) {
+            Some(_) => Err(io::Error::from(ErrorKind::AlreadyExists)),
+            None => Ok(Vec::new(alloc)),
+        }
+    }
+
+    fn close_file(&mut self, alloc: Global, name: &str, file: Vec<u8>) -> io::Result<()> {
+        self.made.close_file(alloc, name, file)
     }
 }
 
@@ -64,10 +91,16 @@ fn last_lines(text: &[u8], count: usize) -> &[u8] {
 }
 
 /// Runs the case's program. Returns its status and what it told.
-fn run_program(alloc: Global, case: &Case<'_>, printed: &mut Vec<u8>) -> (Status, Vec<u8>) {
+fn run_program(
+    alloc: Global,
+    case: &Case<'_>,
+    made: &mut MemoryFiles,
+    printed: &mut Vec<u8>,
+) -> (Status, Vec<u8>) {
     let words = case.words.as_slice();
     let mut files = CaseFiles {
         files: case.files.as_slice(),
+        made,
     };
     let mut input = case.input.as_slice();
     match case.program {
@@ -90,16 +123,35 @@ fn run_program(alloc: Global, case: &Case<'_>, printed: &mut Vec<u8>) -> (Status
     }
 }
 
+/// Adds the bytes of a file that was made, if there is one of this name.
+fn push_made(name: &str, made: &MemoryFiles, output: &mut Vec<u8>) -> Result<(), AllocError> {
+    if let Some(bytes) = made.bytes_of(name) {
+        output.extend_from_slice(b"made ")?;
+        output.extend_from_slice(name.as_bytes())?;
+        output.push(b'\n')?;
+        output.extend_from_slice(bytes)?;
+    }
+    Ok(())
+}
+
 /// Runs a case and adds its lines to the output.
-fn run_case(alloc: Global, case: &Case<'_>, output: &mut Vec<u8>) -> Result<(), AllocError> {
+fn run_case(
+    alloc: Global,
+    case: &Case<'_>,
+    made: &mut MemoryFiles,
+    output: &mut Vec<u8>,
+) -> Result<(), AllocError> {
     output.extend_from_slice(b"case ")?;
     output.extend_from_slice(case.name)?;
     output.push(b'\n')?;
     let mut printed = Vec::new(alloc);
-    let (status, told) = run_program(alloc, case, &mut printed);
+    let (status, told) = run_program(alloc, case, made, &mut printed);
     output.extend_from_slice(last_lines(printed.as_slice(), case.shown))?;
     if case.news {
         output.extend_from_slice(told.as_slice())?;
+    }
+    if let Some(name) = &case.made {
+        push_made(name.as_str(), made, output)?;
     }
     let status = status.code();
     let line = format!(in alloc; "status {status}\n")?;
@@ -109,9 +161,10 @@ fn run_case(alloc: Global, case: &Case<'_>, output: &mut Vec<u8>) -> Result<(), 
 /// Runs the cases that standard input lists, and gives their lines.
 fn run_cases(alloc: Global, bytes: &[u8]) -> Result<Vec<u8>, CasesError> {
     let cases = read_cases(alloc, bytes)?;
+    let mut made = MemoryFiles::new(alloc);
     let mut output = Vec::new(alloc);
     for case in &cases {
-        run_case(alloc, case, &mut output)?;
+        run_case(alloc, case, &mut made, &mut output)?;
     }
     Ok(output)
 }

@@ -1,3 +1,4 @@
 -- Lemmas, by topic.
 pub mod FileLemmas
+mod MemoryLemmas
 mod OutputLemmas

@@ -1,5 +1,5 @@
 -- What is told of the files that a program reads: the bytes of each, where those are known.
-use Rattle.std.specs.Prelude.{◌≡◌, ℕ, ◌<◌, ◌≤◌, List, length, IfSome}
+use Rattle.std.specs.Prelude.{◌≡◌, ◌≢◌, ℕ, ◌<◌, ◌≤◌, List, length, IfSome}
 use Rattle.std.specs.declared.option.Option.{Option}
 use Rattle.rbg_console.specs.declared.input.Input.{Input}
 use Rattle.rbg_console.specs.declared.input.Input.TheVariants.{Whole, TooLong, Device}
@@ -21,3 +21,7 @@ IsFileReading limit known Device = Unit {0}
 -- no file has other bytes than before
 abbrev pub KeepsFiles : (old new : KnownFiles) → Type 0
 KeepsFiles old new = (name : List ℕ) → new name ≡ old name
+
+-- no other file has other bytes than before
+abbrev pub KeepsOthers : (name : List ℕ) → (old new : KnownFiles) → Type 0
+KeepsOthers name old new = (other : List ℕ) → other ≢ name → new other ≡ old other

@@ -1,42 +1,39 @@
-//! Files that a program reads by their names.
-ghost use Rattle.std.specs.Prelude.{◌≡◌, ℕ, List, IfOk, Some, if◌then◌else◌};
-ghost use Rattle.std.specs.Str.{bytes_eq};
+//! Files that a program reads and creates by their names.
+ghost use Rattle.std.specs.Prelude.{◌≡◌, ℕ, List, [], IfOk, OnOk, None, Some};
 ghost use Rattle.std.specs.declared.option.Option.{Option};
-ghost use Rattle.std.specs.declared.option.Option.TheVariants.{None};
-ghost use Rattle.rbg_console.specs.Files.{IsFileReading, KeepsFiles};
+ghost use Rattle.rbg_console.specs.Files.{IsFileReading, KeepsFiles, KeepsOthers};
 
 use crate::input::{Input, read_input};
+use crate::output::write_and_flush;
 use std::alloc::{AllocError, Global};
+use std::io::{self, Write};
 
-/// Where a program reads named files.
+/// Where a program reads named files, and creates new ones.
 pub trait Files {
+    /// A file that was created. What is written to it is appended.
+    type NewFile: Write + Drop;
+
     /// The bytes of each file by its name, where they are known. What the system's files hold isn't.
     ghost told: { Self → (name : List ℕ) → Option (List ℕ) } = { λ _ _. None };
+
+    /// Whether the bytes of created files are known. What is written to the system's files isn't.
+    ghost tells_new: { Type 0 } = { ⊥ };
 
     /// Reads a file to its end, or until more than `limit` bytes have come.
     fn read_file(&mut self, alloc: Global, name: &str, limit: usize) -> Result<Input, AllocError>
         ensures read { IfOk result (IsFileReading limit (told self.old name.now)) }
         ensures kept { KeepsFiles (told self.old) (told self.new) };
-}
 
-/// A file in memory, and no other one.
-#[derive(Clone, Copy, Debug)]
-pub struct MemoryFile<'a> {
-    pub name: &'a str,
-    pub bytes: &'a [u8],
-}
+    /// Creates an empty file. Where there is one of this name, that is an error, and the file stays as it is.
+    fn create_file(&mut self, alloc: Global, name: &str) -> io::Result<Self::NewFile>
+        ensures absent { OnOk result (told self.old name.now ≡ None) }
+        ensures empty { IfOk result (λ file. tells_new → Self.NewFile.contents file ≡ Some []) }
+        ensures kept { KeepsFiles (told self.old) (told self.new) };
 
-impl Files for MemoryFile<'_> {
-    ghost told = { λ file name.
-        if bytes_eq name file.name.now then Some file.bytes.now else None };
-
-    fn read_file(&mut self, alloc: Global, name: &str, limit: usize) -> Result<Input, AllocError> {
-        if name == self.name {
-            read_bytes(alloc, self.bytes, limit)
-        } else {
-            Ok(Input::Device)
-        }
-    }
+    /// Ends the writing to a file that was created by this name.
+    fn close_file(&mut self, alloc: Global, name: &str, file: Self::NewFile) -> io::Result<()>
+        ensures closed { OnOk result (tells_new → told self.new name.now ≡ Self.NewFile.contents file) }
+        ensures others { KeepsOthers name.now (told self.old) (told self.new) };
 }
 
 /// Reads bytes in memory as those of a file.
@@ -46,4 +43,21 @@ pub fn read_bytes(alloc: Global, bytes: &[u8], limit: usize) -> Result<Input, Al
 {
     let mut reader = bytes;
     read_input(alloc, &mut reader, limit)
+}
+
+/// Writes bytes to a file that was created by this name, and closes it.
+pub fn fill_file<F: Files>(
+    alloc: Global,
+    files: &mut F,
+    name: &str,
+    file: F::NewFile,
+    bytes: &[u8],
+) -> io::Result<()>
+    requires { F.tells_new → F.NewFile.contents file ≡ Some [] }
+    ensures filled { OnOk result (F.tells_new → F.told files.new name.now ≡ Some bytes.now) }
+    ensures others { KeepsOthers name.now (F.told files.old) (F.told files.new) }
+{
+    let mut file = file;
+    write_and_flush(&mut file, bytes)?;
+    files.close_file(alloc, name, file)
 }

@@ -5,6 +5,7 @@ mod command_line;
 mod counts;
 mod files;
 mod input;
+mod memory;
 mod output;
 mod refusal;
 mod status;
@@ -12,8 +13,9 @@ mod system;
 
 pub use command_line::{WordsError, file_argument, match_words};
 pub use counts::count_line;
-pub use files::{Files, MemoryFile, read_bytes};
+pub use files::{Files, fill_file, read_bytes};
 pub use input::{Input, MAX_INPUT, read_input};
+pub use memory::MemoryFiles;
 pub use output::write_text;
 pub use refusal::Refusal;
 pub use status::Status;

@@ -19,7 +19,8 @@ pub fn write_text<W: Write>(output: &mut W, text: &[u8], status: Status) -> Stat
     }
 }
 
-fn write_and_flush<W: Write>(output: &mut W, text: &[u8]) -> io::Result<()>
+/// Writes the text. Where that fails, a front part of it may be written.
+pub(crate) fn write_and_flush<W: Write>(output: &mut W, text: &[u8]) -> io::Result<()>
     ensures ok { OnOk result (Appends (W.contents output.old) (W.contents output.new) text.now) }
     ensures err { OnErr result (AppendsFront (W.contents output.old) (W.contents output.new) text.now) }
 {

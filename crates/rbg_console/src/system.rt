@@ -22,9 +22,9 @@ impl<'a> SystemFiles<'a> {
         SystemFiles { rt }
     }
 
-    /// Says that a file can't be read, and why. Where that can't be said, nothing is.
-    fn say_failure(&self, name: &str, error: &io::Error) {
-        let _said = eprintln!(self.rt; "can't read {name}: {error}");
+    /// Says what can't be done with a file, and why. Where that can't be said, nothing is.
+    fn say_failure(&self, deed: &str, name: &str, error: &io::Error) {
+        let _said = eprintln!(self.rt; "can't {deed} {name}: {error}");
     }
 
     /// Reads an open file. If that fails, one more read tells why.
@@ -40,7 +40,7 @@ impl<'a> SystemFiles<'a> {
         let read = read_input(alloc, file, limit)?;
         if matches!(&read, Input::Device) {
             if let Err(error) = file.read(&mut [0u8; 1]) {
-                self.say_failure(name, &error);
+                self.say_failure("read", name, &error);
             }
         }
         Ok(read)
@@ -48,14 +48,28 @@ impl<'a> SystemFiles<'a> {
 }
 
 impl Files for SystemFiles<'_> {
+    type NewFile = File;
+
     fn read_file(&mut self, alloc: Global, name: &str, limit: usize) -> Result<Input, AllocError> {
         match File::open(self.rt, name) {
             Ok(mut file) => self.read_open(alloc, name, &mut file, limit),
             Err(error) => {
-                self.say_failure(name, &error);
+                self.say_failure("read", name, &error);
                 Ok(Input::Device)
             }
         }
+    }
+
+    fn create_file(&mut self, _alloc: Global, name: &str) -> io::Result<File> {
+        let created = File::create_new(self.rt, name);
+        if let Err(error) = &created {
+            self.say_failure("create", name, error);
+        }
+        created
+    }
+
+    fn close_file(&mut self, _alloc: Global, _name: &str, _file: File) -> io::Result<()> {
+        Ok(())
     }
 }
 

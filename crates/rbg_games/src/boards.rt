@@ -5,6 +5,8 @@ ghost use Rattle.rbg_console.specs.Files.{IsFileReading};
 
 use rbg_console::{Files, Input, SystemFiles};
 use std::alloc::{AllocError, Global};
+use std::fs::File;
+use std::io;
 
 /// The files of the system, where `GAME.PLACE.board` stands for the description of `GAME.rbg` with that file's board.
 #[derive(Drop)]
@@ -46,12 +48,22 @@ impl<'a> GameFiles<'a> {
 }
 
 impl Files for GameFiles<'_> {
+    type NewFile = File;
+
     fn read_file(&mut self, alloc: Global, name: &str, limit: usize) -> Result<Input, AllocError> {
         let stem = name.strip_suffix(".board").unwrap_or("");
         match stem.split_once('.') {
             Some((game, _)) => self.read_with_board(alloc, game, name, limit),
             None => self.files.read_file(alloc, name, limit),
         }
+    }
+
+    fn create_file(&mut self, alloc: Global, name: &str) -> io::Result<File> {
+        self.files.create_file(alloc, name)
+    }
+
+    fn close_file(&mut self, alloc: Global, name: &str, file: File) -> io::Result<()> {
+        self.files.close_file(alloc, name, file)
     }
 }
 

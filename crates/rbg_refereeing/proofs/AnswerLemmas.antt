@@ -9,7 +9,7 @@ use Rattle.rbg_refereeing.specs.Matches.{IsNoInput, IsNoMatch}
 use Rattle.rbg_refereeing.specs.Matches.IsNoInput.{no_mark, no_match}
 use Rattle.rbg_refereeing.specs.declared.error.RefereeingError.{RefereeingError}
 use Rattle.rbg_refereeing.specs.declared.error.RefereeingError.TheVariants.{Load, Script, Memory}
-use Rattle.rbg_refereeing.specs.internal.Faults.{AnswersFault}
+use Rattle.rbg_refereeing.specs.Faults.{AnswersFault}
 
 -- the answer with this text and this status
 answer_with : (input text said : List ℕ) (status ended : Status) → text ≡ said → status ≡ ended → IsAnswer input said ended → IsAnswer input text status

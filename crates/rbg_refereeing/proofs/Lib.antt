@@ -1,5 +1,5 @@
 -- Lemmas, by topic.
-mod AnswerLemmas
+pub mod AnswerLemmas
 mod ApartLemmas
 mod ErrorLemmas
 mod PrintedLemmas

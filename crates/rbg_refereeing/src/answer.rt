@@ -2,7 +2,7 @@
 ghost use Rattle.std.specs.Prelude.{◌≡◌, IfOk};
 ghost use Rattle.rbg_refereeing.specs.Answers.{IsAnswer, refused_line, script_line};
 ghost use Rattle.rbg_refereeing.specs.Runs.{device_line};
-ghost use Rattle.rbg_refereeing.specs.internal.Faults.{AnswersFault};
+ghost use Rattle.rbg_refereeing.specs.Faults.{AnswersFault};
 
 use crate::RefereeingError;
 use crate::refereeing::referee_input;
@@ -30,8 +30,8 @@ pub fn answer_input(alloc: Global, input: &[u8]) -> Result<Answer, AllocError>
     }
 }
 
-/// Answers an input that has no match.
-fn answer_fault(alloc: Global, error: RefereeingError) -> Result<Answer, AllocError>
+/// The line of what keeps a match from being refereed.
+pub fn answer_fault(alloc: Global, error: RefereeingError) -> Result<Answer, AllocError>
     ensures { IfOk result (λ answer. AnswersFault error answer.text.items answer.status) }
 {
     match error {

@@ -9,7 +9,9 @@ mod refereeing;
 mod run;
 mod script_events;
 
-pub use answer::{Answer, answer_device, answer_input, answer_refused, answer_script};
+pub use answer::{
+    Answer, answer_device, answer_fault, answer_input, answer_refused, answer_script,
+};
 pub use error::RefereeingError;
 pub use printed::{match_lines, push_seat};
 pub use refereeing::{referee_input, referee_texts};

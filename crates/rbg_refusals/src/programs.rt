@@ -8,7 +8,7 @@ use rbg_program::{SystemNetwork, run};
 use rbg_show::{Shown, show};
 use rbg_tokens::tokens;
 use std::alloc::{AllocError, Global};
-use std::io::Write;
+use std::io::{self, ErrorKind, Write};
 
 /// A match of the small game.
 const SCRIPT: &[u8] = b"config 1000 3 0
@@ -38,6 +38,8 @@ start 1000 0
 struct GameFiles;
 
 impl Files for GameFiles {
+    type NewFile = Vec<u8>;
+
     fn read_file(&mut self, alloc: Global, name: &str, limit: usize) -> Result<Input, AllocError> {
         let text = match name {
             "game" => GAME,
@@ -45,6 +47,17 @@ impl Files for GameFiles {
             _ => return Ok(Input::Device),
         };
         read_bytes(alloc, text, limit)
+    }
+
+    fn create_file(&mut self, alloc: Global, name: &str) -> io::Result<Vec<u8>> {
+        match name {
+            "game" | "record" => Err(io::Error::from(ErrorKind::AlreadyExists)),
+            _ => Ok(Vec::new(alloc)),
+        }
+    }
+
+    fn close_file(&mut self, _alloc: Global, _name: &str, _file: Vec<u8>) -> io::Result<()> {
+        Ok(())
     }
 }
 

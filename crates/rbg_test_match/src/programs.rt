@@ -8,6 +8,8 @@ use std::test::Fail;
 struct NoFiles;
 
 impl Files for NoFiles {
+    type NewFile = Vec<u8>;
+
     fn read_file(
         &mut self,
         _alloc: Global,
@@ -15,6 +17,14 @@ impl Files for NoFiles {
         _limit: usize,
     ) -> Result<Input, AllocError> {
         Ok(Input::Device)
+    }
+
+    fn create_file(&mut self, _alloc: Global, _name: &str) -> io::Result<Vec<u8>> {
+        Err(io::Error::from(ErrorKind::PermissionDenied))
+    }
+
+    fn close_file(&mut self, _alloc: Global, _name: &str, _file: Vec<u8>) -> io::Result<()> {
+        Ok(())
     }
 }
 

@@ -2,7 +2,7 @@
 use Rattle.std.proofs.lemmas.Result.{IfOk-weaker}
 use Rattle.rbg_refereeing.specs.Answers.{IsAnswer}
 use Rattle.rbg_refereeing.specs.Answers.IsAnswer.{played}
-use Rattle.rbg_refereeing.specs.internal.Faults.{AnswersFault}
+use Rattle.rbg_refereeing.specs.Faults.{AnswersFault}
 use Rattle.rbg_refereeing.proofs.AnswerLemmas.{fault_answer}
 use Rattle.rbg_refereeing.proofs.answer.answer_input.Goals as goal
 

@@ -1,4 +1,4 @@
--- The answer to an input that has no match.
+-- The answer where there is no match. Nothing answers refused memory.
 use Rattle.std.specs.Prelude.{◌≡◌, List, ℕ}
 use Rattle.rbg_console.specs.declared.status.Status.{Status}
 use Rattle.rbg_console.specs.declared.status.Status.TheVariants.{Refused, BadInput}
@@ -6,7 +6,6 @@ use Rattle.rbg_refereeing.specs.Answers.{refused_line, script_line}
 use Rattle.rbg_refereeing.specs.declared.error.RefereeingError.{RefereeingError}
 use Rattle.rbg_refereeing.specs.declared.error.RefereeingError.TheVariants.{Load, Script, Memory}
 
--- Nothing answers refused memory.
 abbrev pub AnswersFault : RefereeingError → (text : List ℕ) → Status → Type 0
 AnswersFault (Load error) text status = (text ≡ refused_line error) × (status ≡ Refused)
 AnswersFault (Script number) text status = (text ≡ script_line number) × (status ≡ BadInput)
