@@ -1,15 +1,15 @@
 -- What is written has no line feed, and is read back.
-use Rattle.std.proofs.Common.{◌≡◌, ◌≢◌, ℕ, ◌/◌, ◌%◌, ◌<◌, ◌^◌, true, false, List, [], ◌∷◌, ◌++◌, decimal, codes, map, slice_index, All, refl, subst, arith}
+use Rattle.std.proofs.Common.{◌≡◌, ◌≢◌, ℕ, ◌+◌, length, take, get_or, ◌/◌, ◌%◌, ◌<◌, ◌^◌, true, false, List, [], ◌∷◌, ◌++◌, decimal, codes, map, slice_index, All, refl, subst, arith}
 use Rattle.std.specs.Prelude.{not, ◌==◌}
 use Rattle.std.specs.List.{flat_map, list_all, AllZip}
 use Rattle.std.proofs.lemmas.Bool.{and_parts}
-use Rattle.std.proofs.lemmas.List.Elements.{All-nil, All-cons, All-append, All-head, All-tail, All-get_or}
+use Rattle.std.proofs.lemmas.List.Elements.{All-nil, All-cons, All-append, All-head, All-tail, All-get_or, All-more}
 use Rattle.hex.specs.Hex.{lower_digits}
 use Rattle.rbg_wire.specs.Bytes.{LacksByte}
 use Rattle.rbg_wire.proofs.NumberLemmas.{lacks_byte-decimal}
 use Rattle.rbg_script.specs.declared.config.ScriptConfig.{ScriptConfig}
 use Rattle.rbg_script.specs.Config.{ConfigHasSpelling, SpellsConfig, config_text}
-use Rattle.rbg_script.specs.Events.{AbstractEvent, piece_event, end_event, tick_event, EventHasSpelling, SpellsEvent, by_digits, by_end, by_tick, byte_text, event_text, fields_text, end_text, tick_text}
+use Rattle.rbg_script.specs.Events.{AbstractEvent, AreNumbers, piece_event, end_event, tick_event, EventHasSpelling, SpellsEvent, by_digits, by_end, by_tick, byte_text, event_text, fields_text, end_text, tick_text}
 use Rattle.rbg_script.specs.Laws.{WrittenIsRead}
 use Rattle.rbg_script.specs.Scripts.{AbstractScript, ScriptHasSpelling, SpellsScript, script_text}
 use Rattle.rbg_script.proofs.Digits.{spells_written}
@@ -107,3 +107,13 @@ written_read = record {
   event_lines = event_lacks;
   scripts = script_read;
 }
+
+-- the line of a message
+pub message_lacks : (seat at : ℕ) (said : List ℕ) → AreNumbers seat at → LacksByte 10 said → LacksByte 10 (fields_text (codes "m ") seat at said)
+unfolding fields_text
+message_lacks seat at said small lacks =
+    fields_lack (codes "m ") (decimal seat) (decimal at) said (known (codes "m ") refl) (number_lacks seat small.0) (number_lacks at small.1) lacks
+
+-- bytes with one more
+pub small_more : (bytes : List ℕ) (i byte : ℕ) → i < length bytes → byte ≡ get_or bytes i byte → byte < 256 → All (λ one. one < 256) (take i bytes) → All (λ one. one < 256) (take (i + 1) bytes)
+small_more bytes i byte within is small all = All-more (λ one. one < 256) bytes i byte within all (subst (λ one. one < 256) is small)

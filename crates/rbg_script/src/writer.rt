@@ -1,11 +1,23 @@
 //! The calls that write a line of a script at the end of a list of bytes.
-ghost use Rattle.std.specs.Prelude.{◌≡◌, ◌++◌, ◌<◌, codes, decimal, slice_index};
+ghost use Rattle.std.specs.Prelude.{◌≡◌, ◌++◌, ◌<◌, ◌^◌, All, codes, decimal, slice_index};
 ghost use Rattle.std.specs.List.{flat_map};
 ghost use Rattle.hex.specs.Hex.{lower_digits};
 ghost use Rattle.rbg_wire.specs.Writing.{Appends, AppendsAll};
 ghost use Rattle.rbg_wire.specs.Lines.{line_of};
 ghost use Rattle.rbg_script.specs.Config.{config_text};
-ghost use Rattle.rbg_script.specs.Events.{byte_text, end_text, event_of, event_text, fields_text, tick_text};
+ghost use Rattle.rbg_script.specs.Events.{
+  EventHasSpelling,
+  HasFields,
+  byte_text,
+  end_event,
+  end_text,
+  event_of,
+  event_text,
+  fields_text,
+  piece_event,
+  tick_event,
+  tick_text,
+};
 
 use crate::{ScriptConfig, ScriptEvent};
 use rbg_base::Memory;
@@ -31,6 +43,96 @@ pub fn write_event(event: &ScriptEvent, out: &mut Vec<u8>) -> Result<(), Memory>
     let len = out.len();
     let written = put_event(event, out);
     all_or_nothing(written, len, out)
+}
+
+/// Appends the line of a piece of a seat's stream, in small hexadecimal digits. On an error the bytes are unchanged.
+pub fn write_piece(seat: u64, at: u64, bytes: &[u8], out: &mut Vec<u8>) -> Result<(), Memory>
+    ensures written { AppendsAll out.old.items out.new.items
+        (line_of (event_text (piece_event seat at bytes.now))) result }
+    ensures spelled { EventHasSpelling (piece_event seat at bytes.now) }
+{
+    are_bytes(bytes);
+    let len = out.len();
+    let written = put_piece_line(seat, at, bytes, out);
+    all_or_nothing(written, len, out)
+}
+
+/// Appends the line of the end of a seat's stream. On an error the bytes are unchanged.
+pub fn write_end(seat: u64, at: u64, out: &mut Vec<u8>) -> Result<(), Memory>
+    ensures written { AppendsAll out.old.items out.new.items
+        (line_of (event_text (end_event seat at))) result }
+    ensures spelled { EventHasSpelling (end_event seat at) }
+{
+    let len = out.len();
+    let written = put_end_line(seat, at, out);
+    all_or_nothing(written, len, out)
+}
+
+/// Appends the line of a moment. On an error the bytes are unchanged.
+pub fn write_tick(at: u64, out: &mut Vec<u8>) -> Result<(), Memory>
+    ensures written { AppendsAll out.old.items out.new.items
+        (line_of (event_text (tick_event at))) result }
+    ensures spelled { EventHasSpelling (tick_event at) }
+{
+    let len = out.len();
+    let written = put_tick_line(at, out);
+    all_or_nothing(written, len, out)
+}
+
+/// Appends an `m` line: a message that a seat says, without its zero byte. On an error the bytes are unchanged.
+pub fn write_message(seat: u64, at: u64, text: &[u8], out: &mut Vec<u8>) -> Result<(), Memory>
+    ensures written { AppendsAll out.old.items out.new.items
+        (line_of (fields_text (codes "m ") seat at text.now)) result }
+    ensures spelled { HasFields (fields_text (codes "m ") seat at text.now) (codes "m ") seat at text.now }
+{
+    let len = out.len();
+    let written = put_message_line(seat, at, text, out);
+    all_or_nothing(written, len, out)
+}
+
+#[tactic(auto, unfolding(crate::specs::Events::event_text))]
+fn put_piece_line(seat: u64, at: u64, bytes: &[u8], out: &mut Vec<u8>) -> Result<(), Memory>
+    ensures { Appends out.old.items out.new.items
+        (line_of (event_text (piece_event seat at bytes.now))) result }
+{
+    put_piece(seat, at, bytes, out)?;
+    out.extend_from_slice(b"\n")
+}
+
+/// Bytes are numbers below 256. A clause that says so of all bytes of a slice asks for a walk over them.
+fn are_bytes(bytes: &[u8])
+    ensures { All (λ byte. byte < 256) bytes.now }
+{
+    for byte in bytes {
+        let _byte = *byte;
+    }
+}
+
+#[tactic(auto, unfolding(crate::specs::Events::event_text))]
+fn put_end_line(seat: u64, at: u64, out: &mut Vec<u8>) -> Result<(), Memory>
+    ensures { Appends out.old.items out.new.items
+        (line_of (event_text (end_event seat at))) result }
+{
+    put_end(seat, at, out)?;
+    out.extend_from_slice(b"\n")
+}
+
+#[tactic(auto, unfolding(crate::specs::Events::event_text))]
+fn put_tick_line(at: u64, out: &mut Vec<u8>) -> Result<(), Memory>
+    ensures { Appends out.old.items out.new.items (line_of (event_text (tick_event at))) result }
+{
+    put_tick(at, out)?;
+    out.extend_from_slice(b"\n")
+}
+
+#[tactic(auto, unfolding(crate::specs::Events::fields_text))]
+fn put_message_line(seat: u64, at: u64, text: &[u8], out: &mut Vec<u8>) -> Result<(), Memory>
+    ensures { Appends out.old.items out.new.items
+        (line_of (fields_text (codes "m ") seat at text.now)) result }
+{
+    put_head(b"m ", seat, at, out)?;
+    out.extend_from_slice(text)?;
+    out.extend_from_slice(b"\n")
 }
 
 #[tactic(auto, unfolding(crate::specs::Config::config_text))]
@@ -70,16 +172,16 @@ fn put_piece(seat: u64, at: u64, bytes: &[u8], out: &mut Vec<u8>) -> Result<(), 
     ensures { Appends out.old.items out.new.items
         (fields_text (codes "p ") seat at (flat_map byte_text bytes.now)) result }
 {
-    put_head(seat, at, out)?;
+    put_head(b"p ", seat, at, out)?;
     put_digits(bytes, out)
 }
 
-// Appends what stands before the digits of a piece.
-fn put_head(seat: u64, at: u64, out: &mut Vec<u8>) -> Result<(), Memory>
+// Appends what stands before the bytes of a piece, which begins with that word.
+fn put_head(word: &[u8], seat: u64, at: u64, out: &mut Vec<u8>) -> Result<(), Memory>
     ensures { Appends out.old.items out.new.items
-        (codes "p " ++ decimal seat ++ codes " " ++ decimal at ++ codes " ") result }
+        (word.now ++ decimal seat ++ codes " " ++ decimal at ++ codes " ") result }
 {
-    out.extend_from_slice(b"p ")?;
+    out.extend_from_slice(word)?;
     write_number(seat, out)?;
     out.extend_from_slice(b" ")?;
     write_number(at, out)?;
