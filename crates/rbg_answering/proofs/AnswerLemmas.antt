@@ -8,6 +8,7 @@ use Rattle.rbg_game.specs.Loading.{Loads, IsRefused, IsMemory}
 use Rattle.rbg_game.specs.declared.error.LoadError.{LoadError}
 use Rattle.rbg_game.specs.declared.error.LoadError.TheVariants.{Text}
 use Rattle.rbg_refereeing.specs.Answers.{refused_line, script_line}
+use Rattle.rbg_refereeing.specs.Faults.{AnswersFault}
 use Rattle.rbg_refereeing.specs.Matches.{IsScriptsMatch, IsNoMatch}
 use Rattle.rbg_refereeing.specs.declared.error.RefereeingError.{RefereeingError}
 use Rattle.rbg_refereeing.specs.declared.error.RefereeingError.TheVariants.{Load, Script, Memory}
@@ -20,7 +21,7 @@ use Rattle.rbg_answering.specs.Answers.{IsGamesAnswer, IsTaskAnswer, form_line}
 use Rattle.rbg_answering.specs.Answers.IsGamesAnswer.{played, misfit}
 use Rattle.rbg_answering.specs.Answers.IsTaskAnswer.{of_game, refused, long_script, long_record}
 use Rattle.rbg_answering.specs.Tasks.{AbstractTask, IsReadOf}
-use Rattle.rbg_answering.specs.internal.Parts.{task_of, AnswersWhole, AnswersLong, AnswersLongRecord, AnswersMatch, SaysRefusal, SaysUnloaded}
+use Rattle.rbg_answering.specs.internal.Parts.{task_of, AnswersWhole, AnswersLong, AnswersLongRecord, AnswersMatch, SaysUnloaded}
 
 -- two facts of what is returned give a third
 pub both : {X Y : Type 0} (r : Result X Y) (P Q R : X → Type 0) → ((x : X) → P x → Q x → R x) → IfOk r P → IfOk r Q → IfOk r R
@@ -84,7 +85,7 @@ match_answers description script lines is =
     λ fits. of_game is.played.refereed.game lines Success is.played.refereed.loads fits (played lines is)
 
 -- and so is what keeps it from being refereed
-pub fault_answers : (description script : List ℕ) (error : RefereeingError) (text : List ℕ) (status : Status) → IsNoMatch description script error → SaysRefusal error text status → AnswersMatch description script text status
+pub fault_answers : (description script : List ℕ) (error : RefereeingError) (text : List ℕ) (status : Status) → IsNoMatch description script error → AnswersFault error text status → AnswersMatch description script text status
 fault_answers description script (Load error) text status why says =
     λ fits. answer_is (task_of Referee description script) text (refused_line error) status Refused says.0 says.1
     (refused error why.0 why.1 (λ same above. let no : ⊥ = omega (arith, fits, above) in no))

@@ -1,5 +1,5 @@
 -- Lemmas, by topic.
-mod AnswerLemmas
+pub mod AnswerLemmas
 mod JudgingLemmas
 mod LawLemmas
 mod ReadingLemmas

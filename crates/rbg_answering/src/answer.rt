@@ -7,7 +7,6 @@ ghost use Rattle.rbg_answering.specs.internal.Parts.{
   AnswersLongRecord,
   AnswersMatch,
   AnswersWhole,
-  SaysRefusal,
 };
 
 use crate::judging::{count, replay, rewrite};
@@ -16,7 +15,7 @@ use crate::loading::{answer_unloaded, load_read};
 use crate::{Command, Task};
 use rbg_console::Status;
 use rbg_game::LoadError;
-use rbg_refereeing::{Answer, RefereeingError, answer_refused, answer_script, referee_texts};
+use rbg_refereeing::{Answer, answer_fault, answer_refused, answer_script, referee_texts};
 use rbg_tokens::TextError;
 use std::alloc::{AllocError, Global};
 
@@ -120,17 +119,6 @@ fn answer_match(alloc: Global, description: &[u8], script: &[u8]) -> Result<Answ
             status: Status::Success,
         }),
         Err(error) => answer_fault(alloc, error),
-    }
-}
-
-/// The line of what keeps a match from being refereed.
-fn answer_fault(alloc: Global, error: RefereeingError) -> Result<Answer, AllocError>
-    ensures { IfOk result (λ answer. SaysRefusal error answer.text.items answer.status) }
-{
-    match error {
-        RefereeingError::Load(error) => answer_refused(alloc, error),
-        RefereeingError::Script(line) => answer_script(alloc, line),
-        RefereeingError::Memory => Err(AllocError),
     }
 }
 

@@ -13,10 +13,8 @@ use Rattle.rbg_record.specs.declared.checked.Checked.{Checked}
 use Rattle.rbg_record.specs.declared.checked.Checked.TheVariants.{Good, Bad}
 use Rattle.rbg_record.specs.declared.error.RecordError.{RecordError}
 use Rattle.rbg_record.specs.declared.error.RecordError.TheVariants.{Form, Over, Memory}
-use Rattle.rbg_refereeing.specs.Answers.{refused_line, script_line}
+use Rattle.rbg_refereeing.specs.Answers.{refused_line}
 use Rattle.rbg_refereeing.specs.Runs.{device_line}
-use Rattle.rbg_refereeing.specs.declared.error.RefereeingError.{RefereeingError}
-use Rattle.rbg_refereeing.specs.declared.error.RefereeingError.TheVariants.{Load, Script, Memory as NoMemory}
 use Rattle.rbg_tokens.specs.Limits.{longest_text}
 use Rattle.rbg_answering.specs.declared.task.Command.{Command}
 use Rattle.rbg_answering.specs.declared.task.Command.TheVariants.{Referee}
@@ -56,12 +54,6 @@ AnswersMatch description script text status =
 -- the line of a description that is not loaded; nothing answers refused memory
 abbrev pub SaysUnloaded : LoadError → (text : List ℕ) → Status → Type 0
 SaysUnloaded error text status = (¬ IsMemory error) × (text ≡ refused_line error) × (status ≡ Refused)
-
--- the line of what keeps a match from being refereed; nothing answers refused memory
-abbrev pub SaysRefusal : RefereeingError → (text : List ℕ) → Status → Type 0
-SaysRefusal (Load error) text status = (text ≡ refused_line error) × (status ≡ Refused)
-SaysRefusal (Script line) text status = (text ≡ script_line line) × (status ≡ BadInput)
-SaysRefusal NoMemory text status = ⊥
 
 -- the line of a fault of a record; nothing answers refused memory
 abbrev pub SaysFault : RecordError → (text : List ℕ) → Status → Type 0
