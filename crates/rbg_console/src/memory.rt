@@ -35,7 +35,7 @@ impl MemoryFiles {
     }
 
     /// The bytes of a file.
-    pub fn bytes_of(&self, name: &str) -> Option<&[u8]> 
+    pub fn bytes_of(&self, name: &str) -> Option<&[u8]>
         ensures { option_map (λ bytes. bytes.now) result ≡ bytes_in self.now name.now }
     {
         match self.files.get(name) {

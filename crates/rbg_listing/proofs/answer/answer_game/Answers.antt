@@ -1,0 +1,19 @@
+-- The match that was opened is one of the game.
+use Rattle.std.proofs.lemmas.Result.{IfOk-weaker}
+use Rattle.rbg_listing.specs.Openings.{IsOpenedText, IsOpeningText}
+use Rattle.rbg_listing.proofs.answer.answer_game.Goals as goal
+
+pub returns-in-Ok-clause-lines : goal.returns-in-Ok-clause-lines
+returns-in-Ok-clause-lines c =
+    let text = c.args.text.now in
+    IfOk-weaker c.answer_opened.result (λ answer. IsOpenedText c.in-Ok.opened answer.text.items) (λ answer. IsOpeningText text answer.text.items)
+    (λ answer is. record {
+      game = c.args.game;
+      loads = c.requires;
+      config = _;
+      state = c.in-Ok.opened;
+      outbox = _;
+      opens = c.in-Ok.ensures.opens;
+      history = c.in-Ok.ensures.history;
+      lines = is;
+    }) c.answer_opened.ensures.lines

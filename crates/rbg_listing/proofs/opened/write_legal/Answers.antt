@@ -1,0 +1,25 @@
+-- The moves that are listed, or the question is above the limits.
+use Rattle.std.proofs.Common.{◌≡◌, ◌++◌, subst, codes}
+use Rattle.std.proofs.lemmas.Result.{on_ok_weaker}
+use Rattle.std.specs.List.{flat_map}
+use Rattle.rbg_listing.specs.Lines.{move_line, cut_text}
+use Rattle.rbg_listing.specs.Openings.GoesOn.{listed, too_hard}
+use Rattle.rbg_listing.proofs.ListingLemmas.{both_hold, over_error}
+use Rattle.rbg_listing.proofs.opened.write_legal.Goals as goal
+
+pub returns-in-Ok : goal.returns-in-Ok
+returns-in-Ok c =
+    let moves = c.in-Ok.listed.moves.items in
+    let cut = c.in-Ok.listed.cut in
+    on_ok_weaker c.write_listed.result
+    (λ is. λ none. (
+      _,
+      listed moves cut none c.in-Ok.ensures.listed,
+      subst (λ player. c.write_listed.new.out.items ≡ c.args.out.now.items ++ (flat_map (move_line player) moves ++ cut_text cut)) c.mover.ensures is,
+    ))
+    c.write_listed.ensures
+
+pub returns-in-Err : goal.returns-in-Err
+returns-in-Err c =
+    both_hold c.write_limit.result _ _ _ (λ is limit. λ none. (codes "over\n", too_hard none (c.in-Err.ensures.heavy (over_error c.in-Err.over limit)), is))
+    c.write_limit.ensures.written c.write_limit.ensures.limit

@@ -1,0 +1,37 @@
+//! A run of `moves`: a file is read, judged and answered.
+ghost use Rattle.std.specs.Prelude.{IfOk};
+ghost use Rattle.rbg_listing.specs.Runs.{IsFilesMoves, IsMovesRun};
+
+use crate::answer::{answer_moves, refuse};
+use rbg_console::{Files, Input, Status, write_text};
+use rbg_game::LoadError;
+use rbg_refereeing::{Answer, answer_device};
+use rbg_tokens::{MAX_TEXT, TextError};
+use std::alloc::{AllocError, Global};
+use std::io::Write;
+
+/// Prints the moves of the opening of the file's game, and the moves with which play can go on.
+pub fn run_moves<F: Files, W: Write>(
+    alloc: Global,
+    file: &str,
+    files: &mut F,
+    output: &mut W,
+) -> Status
+    ensures { IsMovesRun (F.told files.old file.now) (W.contents output.old) (W.contents output.new) result }
+{
+    match answer_file(alloc, file, files) {
+        Ok(answer) => write_text(output, answer.text.as_slice(), answer.status),
+        Err(_) => write_text(output, b"memory\n", Status::Memory),
+    }
+}
+
+/// The answer to a file.
+fn answer_file<F: Files>(alloc: Global, file: &str, files: &mut F) -> Result<Answer, AllocError>
+    ensures { IfOk result (λ answer. IsFilesMoves (F.told files.old file.now) answer.text.items answer.status) }
+{
+    match files.read_file(alloc, file, MAX_TEXT)? {
+        Input::Whole(text) => answer_moves(alloc, text.as_slice()),
+        Input::TooLong => refuse(alloc, LoadError::Text(TextError::TooLong)),
+        Input::Device => answer_device(alloc),
+    }
+}

@@ -1,0 +1,3 @@
+pub mod Runs
+pub mod Tasks
+pub mod internal
