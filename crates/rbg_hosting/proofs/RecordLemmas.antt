@@ -9,10 +9,12 @@ use Rattle.rbg_floor.specs.Halls.{AbstractTable, HallState, begun_at, begun_of}
 use Rattle.rbg_floor.specs.Openings.{IsNewHall}
 use Rattle.rbg_floor.specs.Serving.{of_hall, hall_events}
 use Rattle.rbg_floor.proofs.Beginnings.{begun_matches_hold_transcripts}
-use Rattle.rbg_floor.proofs.Running.{run_of, run_stands, runs_count}
+use Rattle.rbg_floor.proofs.Running.{EachRuns, run_of, run_stands}
+use Rattle.rbg_floor.proofs.Running as running
 use Rattle.rbg_floor.proofs.Served.{handled_run}
 use Rattle.rbg_floor.proofs.Wholes.{new_run}
-use Rattle.rbg_hall.specs.Tables.{TableState}
+use Rattle.rbg_hall.specs.Tables.{TableState, OwnEvent}
+use Rattle.rbg_hall.specs.Tellings.{Telling}
 use Rattle.rbg_match.specs.Matches.{MatchState}
 use Rattle.rbg_record.specs.Right.{IsRightRecord}
 use Rattle.rbg_serving.specs.Serving.{Serves}
@@ -66,8 +68,12 @@ start_at [] index within = absurd (omega (arith, within))
 start_at (start ∷ starts) index within = (_, slice_get-get_or (start ∷ starts) index start within)
 
 -- there are as many tables as began
+tables_count : {heard : (table : ℕ) → List OwnEvent} {table : ℕ} {starts : List AbstractTable} {states : List TableState} {tolds : List (List Telling)} → EachRuns heard table starts states tolds → length states ≡ length starts
+tables_count running.no_table = refl
+tables_count (running.one_more run runs) = ap suc (tables_count runs)
+
 pub as_many_tables : {starts : List AbstractTable} {state : HallState} → HasEnded starts state → length state.tables ≡ length starts
-as_many_tables ended = (runs_count (run_stands ended.run.run).runs).0
+as_many_tables ended = tables_count (run_stands ended.run.run).runs
 
 -- the match of one more table is printed
 pub match_more : (starts : List AbstractTable) (state : HallState) (index : ℕ) (old new : List ℕ) → HasEnded starts state → index < length starts → AppendsMatch (index + 1) (begun_at state.tables (index + 1)) old new → ArePrintedMatches (take index starts) (take index state.tables) old → ArePrintedMatches (take (index + 1) starts) (take (index + 1) state.tables) new
