@@ -1,3 +1,4 @@
 pub mod Asked
 pub mod Runs
+pub mod Served
 pub mod Words
