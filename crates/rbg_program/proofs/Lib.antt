@@ -1,2 +1,2 @@
 -- Lemmas, by topic.
-mod WordLemmas
+mod WishLemmas

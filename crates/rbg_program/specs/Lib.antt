@@ -1,1 +1,4 @@
+pub mod Asked
+pub mod Runs
+pub mod Served
 pub mod Words

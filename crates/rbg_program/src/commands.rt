@@ -62,7 +62,8 @@ fn referee_command<'a>(alloc: Global) -> Result<Command<'a>, AllocError> {
         .about(
             "Referees the match whose script is on standard input, and prints what each seat is sent",
         )
-        .arg(file)
+        .arg(file)?
+        .arg(record_option(alloc))
 }
 
 fn replay_command<'a>(alloc: Global) -> Result<Command<'a>, AllocError> {
@@ -149,6 +150,13 @@ fn game_argument<'a>(alloc: Global) -> Arg<'a> {
 
 fn record_argument<'a>(alloc: Global, help: &'a str) -> Arg<'a> {
     Arg::new(alloc, "RECORD").help(help).required(true)
+}
+
+fn record_option<'a>(alloc: Global) -> Arg<'a> {
+    Arg::new(alloc, "record")
+        .long("record")
+        .value_name("RECORD")
+        .help("A new file for the match's record")
 }
 
 fn port_option<'a>(alloc: Global) -> Arg<'a> {

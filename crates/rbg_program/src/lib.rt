@@ -6,7 +6,6 @@ mod ask;
 mod commands;
 mod fault;
 mod inputs;
-mod moves;
 mod player_refusal;
 mod printed;
 mod program;

@@ -1,21 +1,20 @@
 //! What the program does with its words, its files, its connections and its input: the lines that it prints, or the
 //! fault.
-ghost use Rattle.std.specs.Prelude.{◌↔◌, IsTrue, map, string_bytes};
-ghost use Rattle.rbg_answering.specs.Runs.{IsTaskRun};
-ghost use Rattle.rbg_answering.specs.Tasks.{NamedTask};
-ghost use Rattle.rbg_program.specs.Words.{AsksForFiles, AsksForInput};
-ghost use Rattle.rbg_refereeing.specs.Runs.{IsRun};
+ghost use Rattle.std.specs.Prelude.{map, string_bytes};
+ghost use Rattle.rbg_program.specs.Runs.{IsRunFor};
+ghost use Rattle.rbg_program.specs.Words.{Asks, Wish};
 
 use crate::ask::ask_file;
 use crate::fault::{Fault, report};
-use crate::moves::list_file;
 use crate::serving::{demo_file, play, serve_file, serve_hall};
 use crate::task::Task;
-use crate::words::files_of;
+use crate::words::{Asked, asked_by};
 use rbg_answering::run_task;
 use rbg_console::{Files, Status};
 use rbg_hosting::run_hall_script;
+use rbg_listing::run_moves;
 use rbg_network::Network;
+use rbg_recording::run_recorded;
 use rbg_refereeing::run_referee;
 use std::alloc::Global;
 use std::io::{Read, Write};
@@ -29,31 +28,17 @@ pub fn run<F: Files, N: Network, R: Read, W: Write>(
     input: &mut R,
     output: &mut W,
 ) -> Status
-    ensures input { AsksForInput (map string_bytes words.now) →
-        IsRun (R.remaining input.old) (R.remaining input.new)
-        (W.contents output.old) (W.contents output.new) result }
-    ensures files { (task : NamedTask) → AsksForFiles (map string_bytes words.now) task →
-        IsTaskRun (F.told files.old) (R.remaining input.old) (R.remaining input.new) task
+    ensures { (wish : Wish) → Asks (map string_bytes words.now) wish →
+        IsRunFor wish F.tells_new (F.told files.old) (F.told files.new)
+        (R.remaining input.old) (R.remaining input.new)
         (W.contents output.old) (W.contents output.new) result }
 {
-    if asks_for_input(words) {
-        return run_referee(alloc, input, output);
-    }
-    match files_of(words) {
-        Some(task) => run_task(alloc, task, files, input, output),
-        None => run_command(alloc, words, files, network, input, output),
-    }
-}
-
-/// Whether there is no word, or the one word `referee`. These are judged before the command line is read, so that
-/// nothing else decides what they ask for.
-fn asks_for_input(words: &[String]) -> bool
-    ensures { IsTrue result ↔ AsksForInput (map string_bytes words.now) }
-{
-    match words {
-        [] => true,
-        [word] => word.as_str() == "referee",
-        _ => false,
+    match asked_by(words) {
+        Asked::Input => run_referee(alloc, input, output),
+        Asked::Files(task) => run_task(alloc, task, files, input, output),
+        Asked::Recorded(task) => run_recorded(alloc, task, files, input, output),
+        Asked::Moves { file } => run_moves(alloc, file, files, output),
+        Asked::Other => run_command(alloc, words, files, network, input, output),
     }
 }
 
@@ -83,6 +68,8 @@ fn obey<F: Files, N: Network, R: Read, W: Write>(
     let outcome = match task {
         Task::Referee => return run_referee(alloc, input, output),
         Task::Files(task) => return run_task(alloc, task, files, input, output),
+        Task::Recorded(task) => return run_recorded(alloc, task, files, input, output),
+        Task::Moves { file } => return run_moves(alloc, file, files, output),
         Task::HallScript { names } => {
             return run_hall_script(alloc, names.as_slice(), files, input, output);
         }
@@ -100,7 +87,6 @@ fn obey<F: Files, N: Network, R: Read, W: Write>(
             service,
             hosting,
         ),
-        Task::Moves { file } => list_file(alloc, files, file),
         Task::Ask { file } => ask_file(alloc, files, file, input, output),
         Task::Demo { file, service } => demo_file(alloc, files, file, network, service),
         Task::Serve {

@@ -1,7 +1,9 @@
 //! The commands `serve`, `demo` and `play`: matches over connections.
-ghost use Rattle.std.specs.Prelude.{◌≡◌, length, IfOk};
+ghost use Rattle.std.specs.Prelude.{◌≡◌, ℕ, List, Option, length, IfOk};
+ghost use Rattle.rbg_console.specs.Files.{MayBe};
 ghost use Rattle.rbg_game.specs.Loading.{Loads};
 ghost use Rattle.rbg_match.specs.PlayingOn.{seats_of};
+ghost use Rattle.rbg_program.specs.Served.{IsMatchRecord, IsPlayedMatch, plain_record, timed_record};
 
 use crate::fault::Fault;
 use crate::inputs::read_description;
@@ -29,11 +31,22 @@ pub fn serve_file<F: Files, N: Network>(
     port: u16,
     service: Service,
     hosting: Hosting,
-) -> Result<Vec<u8>, Fault> {
+) -> Result<Vec<u8>, Fault>
+    ensures { IfOk result (λ told. IsMatchRecord timed_record (F.told files.old file.now) told.items) }
+{
     let text = read_description(alloc, files, file)?;
     let played = serve_text(alloc, text.as_slice(), network, port, service, hosting);
     tell_end(network, service, hosting, &played);
-    Ok(write_record(alloc, &played?)?)
+    record_match(alloc, &played?)
+}
+
+/// The record of a match, in version 2.
+fn record_match(alloc: Global, played: &Match) -> Result<Vec<u8>, Fault>
+    ensures { (known : Option (List ℕ)) (description : List ℕ) →
+        MayBe known description → IsPlayedMatch description played.now →
+        IfOk result (λ told. IsMatchRecord timed_record known told.items) }
+{
+    Ok(write_record(alloc, played)?)
 }
 
 /// Tells how a match ended, or that it didn't.
@@ -65,7 +78,9 @@ fn serve_text<N: Network>(
     port: u16,
     service: Service,
     hosting: Hosting,
-) -> Result<Match, Fault> {
+) -> Result<Match, Fault>
+    ensures { IfOk result (λ played. IsPlayedMatch text.now played) }
+{
     let game = load(alloc, text)?;
     let mut lines = accept_players(alloc, network, port, game.players(), hosting)?;
     hosting.tell(network, &News::Begins);
@@ -98,10 +113,21 @@ pub fn demo_file<F: Files, N: Network>(
     file: &str,
     network: &mut N,
     service: Service,
-) -> Result<Vec<u8>, Fault> {
+) -> Result<Vec<u8>, Fault>
+    ensures { IfOk result (λ told. IsMatchRecord plain_record (F.told files.old file.now) told.items) }
+{
     let text = read_description(alloc, files, file)?;
     let played = demo_text(alloc, text.as_slice(), network, service)?;
-    Ok(write_record_1(alloc, &played)?)
+    record_plainly(alloc, &played)
+}
+
+/// The record of a match, in version 1.
+fn record_plainly(alloc: Global, played: &Match) -> Result<Vec<u8>, Fault>
+    ensures { (known : Option (List ℕ)) (description : List ℕ) →
+        MayBe known description → IsPlayedMatch description played.now →
+        IfOk result (λ told. IsMatchRecord plain_record known told.items) }
+{
+    Ok(write_record_1(alloc, played)?)
 }
 
 /// Referees a match of the text's game between players of this process.
@@ -110,7 +136,9 @@ fn demo_text<N: Network>(
     text: &[u8],
     network: &mut N,
     service: Service,
-) -> Result<Match, Fault> {
+) -> Result<Match, Fault>
+    ensures { IfOk result (λ played. IsPlayedMatch text.now played) }
+{
     let game = load(alloc, text)?;
     let mut lines = connect_players(alloc, network, game.players())?;
     let played = serve_lines(alloc, game, text, network, service, lines.as_mut_slice());
@@ -190,6 +218,7 @@ fn serve_lines<N: Network, L: Line>(
 ) -> Result<Match, Fault>
     requires loaded { Loads text.now game }
     requires lines { length lines.old ≡ seats_of game }
+    ensures { IfOk result (λ played. IsPlayedMatch text.now played) }
 {
     let mut clock = network.start_clock()?;
     serve_match(alloc, game, text, service, lines, &mut clock)
@@ -205,6 +234,7 @@ fn serve_match<L: Line, C: Clock>(
 ) -> Result<Match, Fault>
     requires loaded { Loads text.now game }
     requires lines { length lines.old ≡ seats_of game }
+    ensures { IfOk result (λ played. IsPlayedMatch text.now played) }
 {
     let (mut played, mut outbox) = Match::new(alloc, game, text, service.config, clock.now())?;
     serve(

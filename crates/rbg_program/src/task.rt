@@ -6,6 +6,7 @@ use rbg_answering::FileTask;
 use rbg_console::{WordsError, match_words};
 use rbg_match::Config;
 use rbg_network::Hosting;
+use rbg_recording::RecordTask;
 use std::alloc::{AllocError, Global};
 
 /// The defaults of the options.
@@ -28,6 +29,8 @@ pub struct Service {
 pub enum Task<'a> {
     /// A command on files: `check`, `referee` with a file, `replay` or `migrate`.
     Files(FileTask<'a>),
+    /// To referee a match with its record.
+    Recorded(RecordTask<'a>),
     /// To print the moves of the opening, and the legal moves behind it.
     Moves {
         file: &'a str,
@@ -125,11 +128,21 @@ impl<'a> Task<'a> {
                 table: words.get_one("match"),
                 rounds: rounds_of(words),
             },
-            _ => match words.get_str("FILE") {
-                Some(file) => Task::Files(FileTask::Referee { file }),
-                None => Task::Referee,
-            },
+            _ => referee_of(words),
         }
+    }
+}
+
+/// What the command `referee` asks for.
+fn referee_of<'a>(words: &ArgMatches<'a>) -> Task<'a> {
+    let description = words.get_str("FILE");
+    match (words.get_str("record"), description) {
+        (Some(target), _) => Task::Recorded(RecordTask {
+            description,
+            target,
+        }),
+        (None, Some(file)) => Task::Files(FileTask::Referee { file }),
+        (None, None) => Task::Referee,
     }
 }
 

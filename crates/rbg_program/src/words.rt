@@ -1,62 +1,137 @@
-//! Words of the command line that ask for a command on files. They are judged before the command line is read, so that
-//! nothing else decides what they ask for.
-ghost use Rattle.std.specs.Prelude.{◌≡◌, [], ◌∷◌, IsSomeAnd, codes, map, nat_eq, string_bytes};
+//! Words of the command line that are judged before the command line is read, so that nothing else decides what they ask
+//! for.
+ghost use Rattle.std.specs.Prelude.{◌≡◌, [], ◌∷◌, Some, codes, map, nat_eq, string_bytes};
 ghost use Rattle.std.specs.List.{starts_with};
-ghost use Rattle.rbg_answering.specs.Tasks.{NamedTask, file_task};
-ghost use Rattle.rbg_program.specs.Words.{AsksForFiles};
+ghost use Rattle.rbg_program.specs.Asked.{wish_of};
+ghost use Rattle.rbg_program.specs.Words.{Asks, IsName, Wish, recorded_file};
 
 use rbg_answering::FileTask;
+use rbg_recording::RecordTask;
 
-/// The command for which the words ask, if they are its name and the names of its files, none of which begins with `-`.
-pub fn files_of(words: &[String]) -> Option<FileTask<'_>>
-    ensures { (task : NamedTask) → AsksForFiles (map string_bytes words.now) task
-        → IsSomeAnd result (λ found. file_task found ≡ task) }
+/// What the words ask for.
+#[derive(Clone, Copy, Debug)]
+pub enum Asked<'a> {
+    /// A match whose description and script are on standard input.
+    Input,
+    /// A command on files.
+    Files(FileTask<'a>),
+    /// A match and its record.
+    Recorded(RecordTask<'a>),
+    /// The moves with which the game of the file opens and can go on.
+    Moves { file: &'a str },
+    /// Something else, or nothing that the program can do.
+    Other,
+}
+
+/// What the words ask for. No word that begins with `-` is the name of a file.
+pub fn asked_by(words: &[String]) -> Asked<'_>
+    ensures { (wish : Wish) → Asks (map string_bytes words.now) wish → wish_of result ≡ Some wish }
 {
     match words {
-        [command, file] => one_file(command.as_str(), file.as_str()),
-        [command, file, other] => two_files(command.as_str(), file.as_str(), other.as_str()),
-        _ => None,
+        [] => Asked::Input,
+        [command] => asked_alone(command.as_str()),
+        [command, file] => asked_of_file(command.as_str(), file.as_str()),
+        [command, first, second] => {
+            asked_of_two(command.as_str(), first.as_str(), second.as_str())
+        }
+        [command, first, second, third] => asked_of_three(
+            command.as_str(),
+            first.as_str(),
+            second.as_str(),
+            third.as_str(),
+        ),
+        _ => Asked::Other,
     }
 }
 
-/// The command on one file.
-fn one_file<'a>(command: &str, file: &'a str) -> Option<FileTask<'a>>
-    ensures { (task : NamedTask) → AsksForFiles (command.now ∷ file.now ∷ []) task
-        → IsSomeAnd result (λ found. file_task found ≡ task) }
+/// What a command asks for with no other word.
+fn asked_alone<'a>(command: &str) -> Asked<'a>
+    ensures { (wish : Wish) → Asks (command.now ∷ []) wish → wish_of result ≡ Some wish }
+{
+    if command == "referee" {
+        Asked::Input
+    } else {
+        Asked::Other
+    }
+}
+
+/// What a command asks for with one word.
+fn asked_of_file<'a>(command: &str, file: &'a str) -> Asked<'a>
+    ensures { (wish : Wish) → Asks (command.now ∷ file.now ∷ []) wish → wish_of result ≡ Some wish }
 {
     if is_option(file) {
-        return None;
+        return Asked::Other;
     }
     if command == "check" {
-        return Some(FileTask::Check { file });
+        return Asked::Files(FileTask::Check { file });
     }
     if command == "referee" {
-        return Some(FileTask::Referee { file });
+        return Asked::Files(FileTask::Referee { file });
     }
-    None
+    if command == "moves" {
+        return Asked::Moves { file };
+    }
+    Asked::Other
 }
 
-/// The command on two files.
-fn two_files<'a>(command: &str, file: &'a str, other: &'a str) -> Option<FileTask<'a>>
-    ensures { (task : NamedTask) → AsksForFiles (command.now ∷ file.now ∷ other.now ∷ []) task
-        → IsSomeAnd result (λ found. file_task found ≡ task) }
+/// What a command asks for with two words.
+fn asked_of_two<'a>(command: &str, first: &'a str, second: &'a str) -> Asked<'a>
+    ensures { (wish : Wish) → Asks (command.now ∷ first.now ∷ second.now ∷ []) wish
+        → wish_of result ≡ Some wish }
 {
-    if is_option(file) || is_option(other) {
-        return None;
+    if is_option(second) {
+        return Asked::Other;
+    }
+    if command == "referee" && first == "--record" {
+        return Asked::Recorded(RecordTask {
+            description: None,
+            target: second,
+        });
+    }
+    if is_option(first) {
+        return Asked::Other;
     }
     if command == "replay" {
-        return Some(FileTask::Replay {
-            file,
-            record: other,
+        return Asked::Files(FileTask::Replay {
+            file: first,
+            record: second,
         });
     }
     if command == "migrate" {
-        return Some(FileTask::Migrate {
-            file,
-            record: other,
+        return Asked::Files(FileTask::Migrate {
+            file: first,
+            record: second,
         });
     }
-    None
+    Asked::Other
+}
+
+/// What a command asks for with three words.
+fn asked_of_three<'a>(command: &str, first: &'a str, second: &'a str, third: &'a str) -> Asked<'a>
+    ensures { (wish : Wish) → Asks (command.now ∷ first.now ∷ second.now ∷ third.now ∷ []) wish
+        → wish_of result ≡ Some wish }
+{
+    if command == "referee" && first == "--record" {
+        return asked_to_record(third, second);
+    }
+    if command == "referee" && second == "--record" {
+        return asked_to_record(first, third);
+    }
+    Asked::Other
+}
+
+/// A match of a file's description, with its record in another file, if both words are names.
+fn asked_to_record<'a>(file: &'a str, other: &'a str) -> Asked<'a>
+    ensures { IsName file.now → IsName other.now →
+        wish_of result ≡ Some (recorded_file file.now other.now) }
+{
+    if is_option(file) || is_option(other) {
+        return Asked::Other;
+    }
+    Asked::Recorded(RecordTask {
+        description: Some(file),
+        target: other,
+    })
 }
 
 /// Whether a word begins with `-`.

@@ -1,10 +1,36 @@
--- The task that is run is the one for which the words ask.
+-- What is run is what the words ask for.
 use Rattle.std.proofs.Common.{subst}
-use Rattle.rbg_answering.specs.Runs.{IsTaskRun}
+use Rattle.rbg_answering.specs.Tasks.{file_task}
+use Rattle.rbg_recording.specs.Tasks.{record_task}
+use Rattle.rbg_program.specs.Runs.{IsRunFor}
+use Rattle.rbg_program.specs.Words.{match_of_input, on_files, recorded_match, moves_of}
+use Rattle.rbg_program.proofs.WishLemmas.{wish_found}
 use Rattle.rbg_program.proofs.program.run.Goals as goal
 
-pub returns-in-Some-clause-files : goal.returns-in-Some-clause-files
-returns-in-Some-clause-files g c = λ task asks.
-    subst (λ named. IsTaskRun (g.F.Files.told c.args.files.now) (g.R.Read.remaining c.args.input.now) (g.R.Read.remaining c.run_task.new.input) named
+pub returns-in-Input : goal.returns-in-Input
+returns-in-Input g c = λ wish asks.
+    subst (λ w. IsRunFor w g.F.Files.tells_new (g.F.Files.told c.args.files.now) (g.F.Files.told c.args.files.now)
+    (g.R.Read.remaining c.args.input.now) (g.R.Read.remaining c.run_referee.new.input)
+    (g.W.Write.contents c.args.output.now) (g.W.Write.contents c.run_referee.new.output) c.run_referee.result)
+    (wish_found match_of_input wish (c.in-Input.ensures wish asks)) c.run_referee.ensures
+
+pub returns-in-Files : goal.returns-in-Files
+returns-in-Files g c = λ wish asks.
+    subst (λ w. IsRunFor w g.F.Files.tells_new (g.F.Files.told c.args.files.now) (g.F.Files.told c.run_task.new.files)
+    (g.R.Read.remaining c.args.input.now) (g.R.Read.remaining c.run_task.new.input)
     (g.W.Write.contents c.args.output.now) (g.W.Write.contents c.run_task.new.output) c.run_task.result)
-    (c.in-Some.ensures task asks) c.run_task.ensures
+    (wish_found (on_files (file_task c.in-Files.task)) wish (c.in-Files.ensures wish asks)) c.run_task.ensures
+
+pub returns-in-Recorded : goal.returns-in-Recorded
+returns-in-Recorded g c = λ wish asks.
+    subst (λ w. IsRunFor w g.F.Files.tells_new (g.F.Files.told c.args.files.now) (g.F.Files.told c.run_recorded.new.files)
+    (g.R.Read.remaining c.args.input.now) (g.R.Read.remaining c.run_recorded.new.input)
+    (g.W.Write.contents c.args.output.now) (g.W.Write.contents c.run_recorded.new.output) c.run_recorded.result)
+    (wish_found (recorded_match (record_task c.in-Recorded.task)) wish (c.in-Recorded.ensures wish asks)) c.run_recorded.ensures
+
+pub returns-in-Moves : goal.returns-in-Moves
+returns-in-Moves g c = λ wish asks.
+    subst (λ w. IsRunFor w g.F.Files.tells_new (g.F.Files.told c.args.files.now) (g.F.Files.told c.run_moves.new.files)
+    (g.R.Read.remaining c.args.input.now) (g.R.Read.remaining c.args.input.now)
+    (g.W.Write.contents c.args.output.now) (g.W.Write.contents c.run_moves.new.output) c.run_moves.result)
+    (wish_found (moves_of c.in-Moves.file.now) wish (c.in-Moves.ensures wish asks)) c.run_moves.ensures
