@@ -47,9 +47,7 @@ class Match:
     """What was heard of a match."""
 
     def __init__(self):
-        self.player = 0
-        self.name = ""
-        self.text = b""
+        self.player, self.name, self.text = 0, "", b""
         self.moves = []  # the pairs of each move that was made, the keeper's too
         self.refused = []  # the reasons of the refusals
         self.end = None
@@ -82,11 +80,9 @@ class Follower:
     """
 
     def __init__(self, choose, program):
-        self.choose = choose
-        self.program = program
+        self.choose, self.program = choose, program
         self.rules = None
-        self.followed = 0
-        self.has_said = False
+        self.followed, self.has_said = 0, False
 
     def begin(self, text):
         with tempfile.NamedTemporaryFile(suffix=".rbg") as file:
@@ -130,7 +126,8 @@ class Thinker:
         scores = {move: [] for move in moves}
         for move in itertools.cycle(moves):
             rules.make(move)
-            scores[move].append(rules.playout(self.chance)[player - 1])
+            [(ending, _)] = rules.playouts(self.chance.getrandbits(63))
+            scores[move].append(ending[player - 1] if ending else 0)
             rules.back()
             if time.monotonic() >= end:
                 break
@@ -180,12 +177,11 @@ def main():
     parser.add_argument("--match", type=int, metavar="K", help="join match K of a hall")
     words = parser.parse_args()
     chance = random.Random(words.random)
+    choose = lambda rules: rules.moves(1)[0]
     if words.think is not None:
         choose = Thinker(words.think, chance)
     elif words.random is not None:
         choose = lambda rules: chance.choice(rules.moves())
-    else:
-        choose = lambda rules: rules.moves()[0]
     chooser = Follower(choose, words.rbg)
     if words.record is not None:
         with open(words.record, encoding="ascii") as file:
@@ -195,10 +191,8 @@ def main():
         stream.join(words.match)
     match = play(stream, chooser)
     name = match.name or "player"  # before its match begins a player has no name
-    if match.refused:
-        print("%s: refused for reason %d" % (name, match.refused[0]))
-    else:
-        print("%s: %s" % (name, match.end or "the stream has ended"))
+    refused = "refused for reason %d" % match.refused[0] if match.refused else "the stream has ended"
+    print("%s: %s" % (name, match.end or refused))
     return 0 if match.end else 3
 
 

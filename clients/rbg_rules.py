@@ -3,11 +3,12 @@
 ...     moves = rules.moves()
 ...     print(len(moves), rules.player, rules.make(moves[0]), rules.board().count(0))
 ...     print(rules.back(), len(rules.moves(2)), rules.finished)
+...     print(sum(matches for _, matches in rules.playouts(1, 100)), max(scores for scores, _ in rules.playouts(1, 100)))
 9 1 2 8
 1 2 False
+100 [100, 0]
 """
 
-import random
 import subprocess
 from typing import Optional
 
@@ -86,14 +87,13 @@ class Rules:
         """The names of the `players`, `pieces` and `variables`."""
         return {line[0]: line[1:] for line in (self.ask("names"), self.line(), self.line())}
 
-    def playout(self, chance: random.Random) -> list[int]:
-        """The scores of a match played by chance from here. The place is the same afterwards."""
-        made = 0
-        try:
-            while not self.finished:
-                self.make(chance.choice(self.moves()))
-                made += 1
-            return self.scores or []
-        finally:
-            if made:
-                self.back(made)
+    def playouts(self, seed: int, count: int = 1) -> list[tuple[Optional[list[int]], int]]:
+        """How so many matches end that are played by chance from here: scores, and how many matches end with them. A match
+        that is stopped after 10,000 moves has no scores. The place is the same afterwards."""
+        endings = []
+        left = int(self.ask("random %d %d" % (seed, count))[1])
+        while left > 0:
+            *scores, matches = self.line()
+            endings.append((None if scores == ["-"] else list(map(int, scores)), int(matches)))
+            left -= int(matches)
+        return endings

@@ -3,7 +3,8 @@
 
 It plays the matches that lie beside the games over `./rbg serve`, so that the records have moments, and turns each
 record into a page by `./rbg_author page`. The pictures are taken by a browser without a window, if there is one.
-Everything is left in the folder that is named last, or in a new one. It says how many bytes a page has for each move.
+Everything is left in the folder that is named last, or in a new one. It says how many bytes a page has for each move: no
+more than 200, besides those of the board and the script.
 """
 
 import argparse
@@ -19,6 +20,8 @@ GAMES = ["chess", "hex", "abalone", "reversi"]
 BROWSERS = ["chromium", "chromium-browser", "google-chrome"]
 DATA = pathlib.Path("crates/rbg_games/data")
 SIZE = "1000,680"
+# the most bytes of a page for each move
+MOST = 200
 
 
 def moves_of(script: pathlib.Path) -> list[tuple[int, str]]:
@@ -88,6 +91,13 @@ def page_of(game: pathlib.Path, record: str) -> str:
     return made.stdout
 
 
+def bytes_told(page: str) -> int:
+    """How many bytes tell the moves: the lines of the record, behind the one that tells the first board."""
+    _, lines = page.split("<pre id='record'>\n")
+    _, moves = lines.split("\n", 1)
+    return len(moves.split("</pre>")[0])
+
+
 def picture(browser: str, page: pathlib.Path, step: int, to: pathlib.Path) -> None:
     command = [browser, "--headless", "--no-sandbox", "--disable-gpu", "--hide-scrollbars"]
     command += [f"--window-size={SIZE}", f"--screenshot={to}", f"file://{page}#{step}"]
@@ -110,7 +120,10 @@ def main() -> None:
         page = folder / f"{name}.html"
         page.write_text(text)
         (folder / f"{name}.record").write_text(record)
-        print(f"{name}: {len(moves)} moves, {len(text)} bytes, {len(text) // len(moves)} a move")
+        told = bytes_told(text)
+        print(f"{name}: {len(moves)} moves, {len(text)} bytes, {told // len(moves)} of them for each move")
+        if told > MOST * len(moves):
+            sys.exit(f"{name}: more than {MOST} bytes a move")
         if browser:
             for label, step in [("start", 0), ("middle", len(moves) // 2), ("end", len(moves))]:
                 picture(browser, page, step, folder / f"{name}-{label}.png")

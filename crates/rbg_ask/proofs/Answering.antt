@@ -5,12 +5,13 @@ use Rattle.rbg_rules.specs.State.{AbstractGame}
 use Rattle.rbg_rules.specs.Moves.{AbstractPlace}
 use Rattle.rbg_moves.specs.Listing.{IsListed}
 use Rattle.rbg_ask.specs.declared.question.Question.{Question}
-use Rattle.rbg_ask.specs.declared.question.Question.TheVariants.{Moves, Make, Back, Place, Values, Board, Names, Quit}
+use Rattle.rbg_ask.specs.declared.question.Question.TheVariants.{Moves, Make, Back, Place, Values, Board, Names, Random, Quit}
 use Rattle.rbg_ask.specs.declared.refusal.Refusal.{Refusal}
 use Rattle.rbg_ask.specs.Questions.{SpellsQuestion}
-use Rattle.rbg_ask.specs.Answers.{Answer, moves, to_move, values, board, names, farewell, answer_text, refusal_text}
+use Rattle.rbg_ask.specs.Answers.{Answer, moves, to_move, values, board, names, by_chance, farewell, answer_text, refusal_text}
+use Rattle.rbg_ask.specs.Chance.{AreTallied, Counted}
 use Rattle.rbg_ask.specs.Sessions.{AbstractSession, Leads}
-use Rattle.rbg_ask.specs.Answering.{AnswersIn, Answers, GoesBack, StandsAt, goes_on, lists, lists_all, makes, undoes, tells, tells_values, tells_board, tells_names, ends, moved_to, undone, Hears, answered, refused_line, IsLineRefused, refused, IsRefused}
+use Rattle.rbg_ask.specs.Answering.{AnswersIn, Answers, GoesBack, StandsAt, goes_on, lists, lists_all, makes, undoes, tells, tells_values, tells_board, tells_names, plays, ends, moved_to, undone, Hears, answered, refused_line, IsLineRefused, refused, IsRefused}
 use Rattle.rbg_ask.specs.internal.Places.{AreReached}
 use Rattle.rbg_ask.proofs.Places.{led_before, not_finished, place_at}
 
@@ -83,3 +84,7 @@ made_move session pairs to answer before after items kept value now leads is tol
     let new : AbstractSession = record { game = session.game; before = items; place = now } in
     let same : new ≡ moved_to session to = λ i. record { game = session.game; before = whole i; place = same_to i } in
     subst (λ (s : AbstractSession). AnswersIn session (Make pairs) s before after) (sym same) (makes_move session pairs to answer before after leads is told)
+
+-- matches that were played by chance
+pub plays_matches : (session : AbstractSession) (seed count : ℕ) (counted : List Counted) (before after : List ℕ) → AreTallied session.game session.place count counted → after ≡ before ++ answer_text (by_chance count counted) → AnswersIn session (Random seed count) session before after
+plays_matches session seed count counted before after tallied told = record { answer = by_chance count counted; answers = plays tallied; told = told }

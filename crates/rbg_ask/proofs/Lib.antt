@@ -4,3 +4,5 @@ mod Answering
 mod Naming
 mod Places
 mod Faults
+mod Matches
+mod Tallies

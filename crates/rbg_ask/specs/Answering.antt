@@ -7,13 +7,14 @@ use Rattle.rbg_rules.specs.Heavy.{IsHeavyToFind, IsHeavyToTry, IsTooHard}
 use Rattle.rbg_moves.specs.Listing.{IsListed}
 use Rattle.rbg_moves.specs.Settling.{IsEndless, MeetsHeavy}
 use Rattle.rbg_ask.specs.declared.question.Question.{Question}
-use Rattle.rbg_ask.specs.declared.question.Question.TheVariants.{Moves, Make, Back, Place, Values, Board, Names, Quit}
+use Rattle.rbg_ask.specs.declared.question.Question.TheVariants.{Moves, Make, Back, Place, Values, Board, Names, Random, Quit}
 use Rattle.rbg_ask.specs.declared.refusal.Refusal.{Refusal}
 use Rattle.rbg_ask.specs.declared.refusal.Refusal.TheVariants.{Long, Form, Illegal, Start, Over, Keeper, Memory}
 use Rattle.rbg_ask.specs.Limits.{longest_line}
 use Rattle.rbg_ask.specs.Questions.{SpellsQuestion}
-use Rattle.rbg_ask.specs.Answers.{Answer, moves, to_move, finished, values, board, names, farewell, answer_text, refusal_text}
+use Rattle.rbg_ask.specs.Answers.{Answer, moves, to_move, finished, values, board, names, by_chance, farewell, answer_text, refusal_text}
 use Rattle.rbg_ask.specs.Sessions.{AbstractSession, Leads}
+use Rattle.rbg_ask.specs.Chance.{Counted, AreTallied, IsUnplayed}
 
 -- How play stands at the place.
 --   goes_on: there is a legal move, and this player is to move.
@@ -46,6 +47,7 @@ undone (Some many) = many
 --   tells: how play stands.
 --   tells_values, tells_board: what the variables hold, and what stands on the vertices.
 --   tells_names: the names of the game's players, pieces and variables.
+--   plays: so many matches were played by chance, and how many of them ended in which way.
 --   ends: nothing.
 pub data Answers (old : AbstractSession) : Question → (new : AbstractSession) → Answer → Type 0 where
   lists : {max : ℕ} {all : List (List (ℕ × ℕ))} {cut : Bool} →
@@ -71,6 +73,9 @@ pub data Answers (old : AbstractSession) : Question → (new : AbstractSession) 
       Answers old Board old (board old.place.state.pieces)
   tells_names :
       Answers old Names old (names old.game.players old.game.pieces old.game.variables)
+  plays : {seed count : ℕ} {counted : List Counted} →
+      AreTallied old.game old.place count counted →
+      Answers old (Random seed count) old (by_chance count counted)
   ends :
       Answers old Quit old farewell
 
@@ -83,6 +88,7 @@ pub data Answers (old : AbstractSession) : Question → (new : AbstractSession) 
 --   too_far: fewer moves were made than are to be undone.
 --   heavy_to_list: the question for the legal moves is above the limits.
 --   heavy_to_find: the question whether play is finished is above the limits.
+--   unplayed: a match by chance isn't played to its end.
 --   no_memory: it says nothing of the question.
 pub data IsRefused (session : AbstractSession) : Question → Refusal → Type 0 where
   illegal : {pairs : List (ℕ × ℕ)} →
@@ -112,6 +118,9 @@ pub data IsRefused (session : AbstractSession) : Question → Refusal → Type 0
   heavy_to_find :
       IsHeavyToFind session.game session.place →
       IsRefused session Place Over
+  unplayed : {seed count : ℕ} {refusal : Refusal} →
+      IsUnplayed session.game session.place refusal →
+      IsRefused session (Random seed count) refusal
   no_memory : {question : Question} →
       IsRefused session question Memory
 

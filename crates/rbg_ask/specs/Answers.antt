@@ -1,10 +1,12 @@
--- Answers. Each has one spelling: lines, of which the first tells how many follow.
-use Rattle.std.specs.Prelude.{ℕ, Bool, true, false, List, [], ◌++◌, length, codes, decimal}
+-- Answers. Each has one spelling: lines, of which the first tells how many follow. Those of matches by chance follow
+-- until their numbers of matches add up to the first line's.
+use Rattle.std.specs.Prelude.{ℕ, Bool, true, false, List, [], ◌++◌, length, Option, Some, None, codes, decimal}
 use Rattle.std.specs.List.{flat_map}
 use Rattle.rbg_wire.specs.Lines.{line_of}
 use Rattle.rbg_wire.specs.Messages.{pairs_text}
 use Rattle.rbg_ask.specs.declared.refusal.Refusal.{Refusal}
 use Rattle.rbg_ask.specs.declared.refusal.Refusal.TheVariants.{Long, Form, Illegal, Start, Over, Keeper, Memory}
+use Rattle.rbg_ask.specs.Chance.{Counted}
 use Rattle.rbg_ask.specs.declared.standing.Standing.{Standing}
 use Rattle.rbg_ask.specs.declared.standing.Standing.TheVariants.{ToMove, Finished}
 
@@ -15,6 +17,7 @@ use Rattle.rbg_ask.specs.declared.standing.Standing.TheVariants.{ToMove, Finishe
 --   values: what the variables hold.
 --   board: the pieces on the vertices.
 --   names: the names of the players, of the pieces and of the variables.
+--   by_chance: so many matches were played, and how many of them ended in which way.
 --   farewell: nothing, at the end of a session.
 pub data Answer : Type 0 where
   moves : (all : List (List (ℕ × ℕ))) → (cut : Bool) → Answer
@@ -22,6 +25,7 @@ pub data Answer : Type 0 where
   finished : (scores : List ℕ) → Answer
   values board : List ℕ → Answer
   names : (players pieces variables : List (List ℕ)) → Answer
+  by_chance : (matches : ℕ) → (counted : List Counted) → Answer
   farewell : Answer
 
 -- each number, or each name, with a space before it
@@ -34,6 +38,15 @@ names_text listed = flat_map (λ name. codes " " ++ name) listed
 abbrev pub cut_text : Bool → List ℕ
 cut_text true = codes " cut"
 cut_text false = []
+
+-- the scores of a match, each with a space behind it, or a `-` for one that was stopped
+abbrev pub ending_text : Option (List ℕ) → List ℕ
+ending_text None = codes "- "
+ending_text (Some scores) = flat_map (λ score. decimal score ++ codes " ") scores
+
+-- the line of how many matches ended in one way
+abbrev pub counted_text : Counted → List ℕ
+counted_text counted = line_of (ending_text counted.scores ++ decimal counted.matches)
 
 -- the answer of how play stands
 abbrev pub standing_answer : Standing → Answer
@@ -52,6 +65,7 @@ answer_text (names players pieces variables) =
     line_of (codes "players" ++ names_text players)
     ++ line_of (codes "pieces" ++ names_text pieces)
     ++ line_of (codes "variables" ++ names_text variables)
+answer_text (by_chance matches counted) = line_of (codes "random " ++ decimal matches) ++ flat_map counted_text counted
 answer_text farewell = []
 
 -- the word of a refusal

@@ -3,8 +3,8 @@ use Rattle.std.specs.Prelude.{◌≡◌, ℕ, ◌<◌, ◌≤◌, ◌^◌, List,
 use Rattle.rbg_base.specs.Move.{most_pairs}
 use Rattle.rbg_wire.specs.Messages.{ArePairs, pairs_text}
 use Rattle.rbg_ask.specs.declared.question.Question.{Question}
-use Rattle.rbg_ask.specs.declared.question.Question.TheVariants.{Moves, Make, Back, Place, Values, Board, Names, Quit}
-use Rattle.rbg_ask.specs.Limits.{IsCount}
+use Rattle.rbg_ask.specs.declared.question.Question.TheVariants.{Moves, Make, Back, Place, Values, Board, Names, Random, Quit}
+use Rattle.rbg_ask.specs.Limits.{IsCount, IsSeed}
 
 -- the words of a question, with a space between them
 unfoldable pub question_text : Question → List ℕ
@@ -17,13 +17,16 @@ question_text Place = codes "place"
 question_text Values = codes "values"
 question_text Board = codes "board"
 question_text Names = codes "names"
+question_text (Random seed count) = codes "random " ++ decimal seed ++ codes " " ++ decimal count
 question_text Quit = codes "quit"
 
--- a question that has a spelling: its number is 1 to 1,000,000, and it has as many pairs as a move may have
+-- a question that has a spelling: its number of moves or matches is 1 to 1,000,000, it begins chance with a number below
+-- 2^64, and it has as many pairs as a move may have
 abbrev pub QuestionHasSpelling : Question → Type 0
 QuestionHasSpelling (Moves (Some max)) = IsCount max
 QuestionHasSpelling (Make pairs) = ArePairs pairs × (length pairs ≤ most_pairs)
 QuestionHasSpelling (Back (Some moves)) = IsCount moves
+QuestionHasSpelling (Random seed count) = IsSeed seed × IsCount count
 QuestionHasSpelling (Moves None) = Unit {0}
 QuestionHasSpelling (Back None) = Unit {0}
 QuestionHasSpelling Place = Unit {0}

@@ -1,5 +1,7 @@
 -- Definitions that only this crate's own proofs and private contracts use.
 pub mod Codes
+pub mod Counting
+pub mod Moving
 pub mod Places
 pub mod Reading
 pub mod Refusing

@@ -1,13 +1,15 @@
 //! The calls that write an answer or a refusal at the end of a list of bytes: the whole of it, or nothing.
-ghost use Rattle.std.specs.Prelude.{◌++◌, codes, decimal, length};
+ghost use Rattle.std.specs.Prelude.{◌++◌, codes, decimal, length, map};
 ghost use Rattle.std.specs.List.{flat_map};
 ghost use Rattle.rbg_wire.specs.Lines.{line_of};
 ghost use Rattle.rbg_wire.specs.Messages.{pairs_text};
 ghost use Rattle.rbg_wire.specs.Writing.{Appends, AppendsAll};
-ghost use Rattle.rbg_ask.specs.Answers.{Answer, moves as moves_answer, values as values_answer, board as board_answer, answer_text, cut_text, numbers_text, refusal_text, standing_answer};
+ghost use Rattle.rbg_ask.specs.Answers.{Answer, moves as moves_answer, values as values_answer, board as board_answer, by_chance, answer_text, counted_text, cut_text, ending_text, numbers_text, refusal_text, standing_answer};
+ghost use Rattle.rbg_ask.specs.Chance.{counted_by, scores_of};
 
 use crate::refusal::Refusal;
 use crate::standing::Standing;
+use crate::tally::{Ending, Tally};
 use rbg_base::{Memory, Move, Piece};
 use rbg_wire::{all_or_nothing, write_number, write_pairs};
 
@@ -47,6 +49,16 @@ pub fn write_board(pieces: &[Piece], out: &mut Vec<u8>) -> Result<(), Memory>
 {
     let len = out.len();
     let written = put_board(pieces, out);
+    all_or_nothing(written, len, out)
+}
+
+/// Appends the lines of matches that were played by chance. On an error the bytes are unchanged.
+pub fn write_matches(count: u64, tallies: &[Tally], out: &mut Vec<u8>) -> Result<(), Memory>
+    ensures { AppendsAll out.old.items out.new.items
+        (answer_text (by_chance count (map counted_by tallies.now))) result }
+{
+    let len = out.len();
+    let written = put_matches(count, tallies, out);
     all_or_nothing(written, len, out)
 }
 
@@ -172,4 +184,72 @@ fn put_number(head: &[u8], number: u64, out: &mut Vec<u8>) -> Result<(), Memory>
 {
     out.extend_from_slice(head)?;
     write_number(number, out)
+}
+
+#[tactic(auto, unfolding(crate::specs::Answers::answer_text))]
+fn put_matches(count: u64, tallies: &[Tally], out: &mut Vec<u8>) -> Result<(), Memory>
+    ensures { Appends out.old.items out.new.items
+        (answer_text (by_chance count (map counted_by tallies.now))) result }
+{
+    put_matches_head(count, out)?;
+    put_counted(tallies, out)
+}
+
+fn put_matches_head(count: u64, out: &mut Vec<u8>) -> Result<(), Memory>
+    ensures { Appends out.old.items out.new.items (line_of (codes "random " ++ decimal count)) result }
+{
+    put_number(b"random ", count, out)?;
+    out.extend_from_slice(b"\n")
+}
+
+fn put_counted(tallies: &[Tally], out: &mut Vec<u8>) -> Result<(), Memory>
+    ensures { Appends out.old.items out.new.items
+        (flat_map counted_text (map counted_by tallies.now)) result }
+{
+    put_tallies(tallies, out)
+}
+
+fn put_tallies(tallies: &[Tally], out: &mut Vec<u8>) -> Result<(), Memory>
+    ensures { Appends out.old.items out.new.items
+        (flat_map (λ tally. counted_text (counted_by tally)) tallies.now) result }
+{
+    for tally in tallies {
+        put_tally(tally, out)?;
+    }
+    Ok(())
+}
+
+fn put_tally(tally: &Tally, out: &mut Vec<u8>) -> Result<(), Memory>
+    ensures { Appends out.old.items out.new.items (counted_text (counted_by tally.now)) result }
+{
+    put_ending(&tally.ending, out)?;
+    write_number(tally.matches, out)?;
+    out.extend_from_slice(b"\n")
+}
+
+fn put_ending(ending: &Ending, out: &mut Vec<u8>) -> Result<(), Memory>
+    ensures { Appends out.old.items out.new.items (ending_text (scores_of ending.now)) result }
+{
+    match ending {
+        Ending::Finished { scores } => put_spaced_scores(scores.as_slice(), out),
+        Ending::Stopped => out.extend_from_slice(b"- "),
+    }
+}
+
+fn put_spaced_scores(scores: &[u64], out: &mut Vec<u8>) -> Result<(), Memory>
+    ensures { Appends out.old.items out.new.items
+        (flat_map (λ score. decimal score ++ codes " ") scores.now) result }
+{
+    for score in scores {
+        put_spaced_score(*score, out)?;
+    }
+    Ok(())
+}
+
+/// Appends the digits of a score, and a space.
+fn put_spaced_score(score: u64, out: &mut Vec<u8>) -> Result<(), Memory>
+    ensures { Appends out.old.items out.new.items (decimal score ++ codes " ") result }
+{
+    write_number(score, out)?;
+    out.extend_from_slice(b" ")
 }

@@ -3,6 +3,7 @@
 #![tactic(auto)]
 
 mod answer_writer;
+mod chance;
 mod names_writer;
 mod question;
 mod question_reader;
@@ -10,8 +11,12 @@ mod refusal;
 mod session;
 mod standing;
 mod stepping;
+mod tally;
 
-pub use answer_writer::{write_board, write_moves, write_refusal, write_standing, write_values};
+pub use answer_writer::{
+    write_board, write_matches, write_moves, write_refusal, write_standing, write_values,
+};
+pub use chance::MAX_PLAYED;
 pub use names_writer::write_names;
 pub use question::{MAX_COUNT, Question};
 pub use question_reader::read_question;
@@ -19,3 +24,4 @@ pub use rbg_moves::Unsettled;
 pub use refusal::Refusal;
 pub use session::{MAX_LINE, Session};
 pub use standing::Standing;
+pub use tally::{Ending, Tally};

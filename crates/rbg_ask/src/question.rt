@@ -2,7 +2,7 @@
 
 use rbg_base::Move;
 
-/// The greatest number of moves in a question.
+/// The greatest number of moves or of matches in a question.
 pub const MAX_COUNT: u64 = 1_000_000;
 
 /// A question, or an order, to a session.
@@ -22,6 +22,8 @@ pub enum Question {
     Board,
     /// `names`: the names of the players, of the pieces and of the variables.
     Names,
+    /// `random <seed> <matches>`: plays so many matches by chance from here, and tells how they end.
+    Random { seed: u64, count: u64 },
     /// `quit`: ends the session.
     Quit,
 }

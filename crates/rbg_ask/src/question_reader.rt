@@ -3,17 +3,24 @@ ghost use Rattle.std.specs.Prelude.{◌≡◌, ◌≤◌, ◌↔◌, ◌++◌, �
 ghost use Rattle.rbg_base.specs.Move.{most_pairs};
 ghost use Rattle.rbg_wire.specs.Messages.{ArePairs, pairs_text};
 ghost use Rattle.rbg_ask.specs.declared.question.Question.{Question as AnyQuestion};
-ghost use Rattle.rbg_ask.specs.Limits.{IsCount};
+ghost use Rattle.rbg_ask.specs.Limits.{IsCount, IsSeed};
 ghost use Rattle.rbg_ask.specs.Questions.{SpellsQuestion};
-ghost use Rattle.rbg_ask.specs.internal.Reading.{IsPlain};
+ghost use Rattle.rbg_ask.specs.internal.Reading.{IsPlain, SpellsChance};
 
 use crate::question::{MAX_COUNT, Question};
 use rbg_base::{Move, number_of_decimal};
-use rbg_wire::{after_text, read_pairs};
+use rbg_wire::{after_text, cut_at, read_pairs};
+
+/// With what matches by chance begin, and how many they are.
+#[derive(Clone, Copy, Debug)]
+struct Chance {
+    seed: u64,
+    count: u64,
+}
 
 /// The question of which the whole text is the spelling.
 ///
-/// Returns None if it is that of no question, as where a number is above 1,000,000.
+/// Returns None if it is that of no question, as where a number of moves is above 1,000,000.
 pub fn read_question(line: &[u8]) -> Option<Question>
     ensures found { IfSome result (SpellsQuestion line.now) }
     ensures none { IfNone result ((question : AnyQuestion)
@@ -28,6 +35,12 @@ pub fn read_question(line: &[u8]) -> Option<Question>
     }
     if let Some(moves) = count_behind(b"back ", line) {
         return Some(Question::Back { moves: Some(moves) });
+    }
+    if let Some(chance) = chance_behind(line) {
+        return Some(Question::Random {
+            seed: chance.seed,
+            count: chance.count,
+        });
     }
     let pairs = pairs_behind(b"make ", line)?;
     Some(Question::Make { pairs })
@@ -77,7 +90,19 @@ fn count_behind(word: &[u8], line: &[u8]) -> Option<u64>
     Some(count)
 }
 
-/// Whether a number of moves is within the limits of a question.
+/// The seed and the number of matches behind `random`.
+fn chance_behind(line: &[u8]) -> Option<Chance>
+    ensures found { IfSome result (λ chance. SpellsChance line.now chance.seed chance.count) }
+    ensures none { IfNone result ((seed count : ℕ) → ¬ SpellsChance line.now seed count) }
+{
+    let fields = after_text(b"random ", line)?;
+    let (seed, count) = cut_at(b' ', fields)?;
+    let seed = number_of_decimal(seed)?;
+    let count = count_behind(b"", count)?;
+    Some(Chance { seed, count })
+}
+
+/// Whether a number of moves or of matches is within the limits of a question.
 fn is_count(number: u64) -> bool
     ensures { IsTrue result ↔ IsCount number }
 {

@@ -9,7 +9,10 @@ ghost use Rattle.rbg_ask.specs.Limits.{longest_line};
 ghost use Rattle.rbg_ask.specs.Questions.{QuestionHasSpelling};
 ghost use Rattle.rbg_ask.specs.Sessions.{AbstractSession, HasLedTo, beginning_of};
 
-use crate::answer_writer::{write_board, write_moves, write_refusal, write_standing, write_values};
+use crate::answer_writer::{
+    write_board, write_matches, write_moves, write_refusal, write_standing, write_values,
+};
+use crate::chance::play_matches;
 use crate::names_writer::write_names;
 use crate::question::Question;
 use crate::question_reader::read_question;
@@ -131,6 +134,7 @@ impl Session {
             Question::Values => self.tell_values(out),
             Question::Board => self.tell_board(out),
             Question::Names => self.tell_names(out),
+            Question::Random { seed, count } => self.play_by_chance(*seed, *count, out),
             Question::Quit => Ok(()),
         }
     }
@@ -281,6 +285,27 @@ impl Session {
         ensures out { OnErr result (out.new.items ≡ out.old.items) }
     {
         write_names(self.game.as_game(), out)?;
+        Ok(())
+    }
+
+    /// Plays matches by chance from where play stands.
+    fn play_by_chance(&mut self, seed: u64, count: u64, out: &mut Vec<u8>) -> Result<(), Refusal>
+        requires { QuestionHasSpelling (questions.Random seed count) }
+        ensures answers { OnOk result (AnswersIn self.old (questions.Random seed count) self.new
+            out.old.items out.new.items) }
+        ensures refused { IfErr result (IsRefused self.old (questions.Random seed count)) }
+        ensures kept { self.new ≡ self.old }
+        ensures out { OnErr result (out.new.items ≡ out.old.items) }
+    {
+        let tallies = play_matches(
+            self.alloc,
+            &self.game,
+            &self.place,
+            seed,
+            count,
+            &mut self.workspace,
+        )?;
+        write_matches(count, tallies.as_slice(), out)?;
         Ok(())
     }
 }

@@ -1,4 +1,4 @@
-//! The lines of a text on which a macro is called.
+//! Where a macro is called in a text.
 
 use rbg_tokens::{Symbol, Token, count_line_feeds};
 use std::alloc::{AllocError, Global};
@@ -13,35 +13,49 @@ pub fn called_lines(
     let mut lines = Vec::new(alloc);
     let mut number = 1usize;
     let mut start = 0usize;
-    for definition in tokens.split(|token| token.is(Symbol::Hash)) {
-        for call in calls(alloc, definition, name)? {
-            let between = text.get(start..call).unwrap_or(&[]);
-            number = number.saturating_add(count_line_feeds(between));
-            start = call;
-            if lines.last() != Some(&number) {
-                lines.push(number)?;
-            }
+    for call in calls_of(alloc, tokens, name)? {
+        let between = text.get(start..call).unwrap_or(&[]);
+        number = number.saturating_add(count_line_feeds(between));
+        start = call;
+        if lines.last() != Some(&number) {
+            lines.push(number)?;
         }
     }
     Ok(lines)
 }
 
-/// The offsets at which the body of a definition calls a macro. A parameter of the macro's name hides it.
-fn calls(alloc: Global, definition: &[Token<'_>], name: &[u8]) -> Result<Vec<usize>, AllocError> {
+/// The offsets at which a macro is called, in order of the text. A call whose name is joined isn't found.
+pub(crate) fn calls_of(
+    alloc: Global,
+    tokens: &[Token<'_>],
+    name: &[u8],
+) -> Result<Vec<usize>, AllocError> {
     let mut found = Vec::new(alloc);
+    for definition in tokens.split(|token| token.is(Symbol::Hash)) {
+        push_calls_in(definition, name, &mut found)?;
+    }
+    Ok(found)
+}
+
+/// Adds the offsets at which the body of a definition calls a macro. A parameter of the macro's name hides it.
+fn push_calls_in(
+    definition: &[Token<'_>],
+    name: &[u8],
+    found: &mut Vec<usize>,
+) -> Result<(), AllocError> {
     let Some(equals) = definition.iter().position(|token| token.is(Symbol::Equals)) else {
-        return Ok(found);
+        return Ok(());
     };
     let (head, body) = definition.split_at(equals);
     if head.iter().skip(1).any(|token| token.text == name) {
-        return Ok(found);
+        return Ok(());
     }
     for (index, token) in body.iter().enumerate() {
         if token.text == name && !is_joined(body, index) {
             found.push(token.at)?;
         }
     }
-    Ok(found)
+    Ok(())
 }
 
 /// Whether a `~` stands beside a token.

@@ -1,7 +1,8 @@
-//! The places of refusals that name none: of a board, and of too many things.
+//! The places of refusals, also of those that name none: of a board, and of too many things.
 
 use crate::actions::actions;
 use crate::boards::{board_place, nth_direction};
+use crate::place::place_of;
 use crate::sections::{expanded, nth_name, section_tokens};
 use rbg_game::limits::{MAX_DIRECTIONS, MAX_PIECES, MAX_PLAYERS, MAX_POSITIONS, MAX_VARIABLES};
 use rbg_game::{GameError, LoadError, Thing};
@@ -9,9 +10,25 @@ use rbg_macro::{SectionKind, Source};
 use rbg_tokens::{Token, Tokens};
 use std::alloc::{AllocError, Global};
 
+/// The place of a refusal: the exact one, or else that of the section.
+pub(crate) fn find_place(
+    alloc: Global,
+    error: &LoadError,
+    text: &[u8],
+    tokens: Option<&Tokens<'_>>,
+) -> Result<Option<usize>, AllocError> {
+    let Some(tokens) = tokens else {
+        return Ok(place_of(error, text, &[]));
+    };
+    match exact_place(alloc, error, tokens)? {
+        Some(at) => Ok(Some(at)),
+        None => Ok(place_of(error, text, tokens.as_slice())),
+    }
+}
+
 /// The offset of what a refusal without an offset is about, where there is one: a row, a vertex or an edge of the board,
 /// or the first thing above a limit.
-pub(crate) fn exact_place(
+fn exact_place(
     alloc: Global,
     error: &LoadError,
     tokens: &Tokens<'_>,

@@ -2,10 +2,10 @@
 
 use crate::brackets::open_bracket;
 use crate::calls::{called_lines, push_calls};
-use crate::exact::exact_place;
+use crate::exact::find_place;
 use crate::excerpt::Excerpt;
 use crate::message::{Found, Message};
-use crate::place::place_of;
+use crate::origin::faulty_call;
 use crate::spot::{Spot, head_name};
 use rbg_console::Refusal;
 use rbg_game::LoadError;
@@ -61,22 +61,6 @@ fn slice_of<'a>(tokens: Option<&'a Tokens<'a>>) -> &'a [Token<'a>] {
     }
 }
 
-/// The place of a refusal: the exact one, or else that of the section.
-fn find_place(
-    alloc: Global,
-    error: &LoadError,
-    text: &[u8],
-    tokens: Option<&Tokens<'_>>,
-) -> Result<Option<usize>, AllocError> {
-    let Some(tokens) = tokens else {
-        return Ok(place_of(error, text, &[]));
-    };
-    match exact_place(alloc, error, tokens)? {
-        Some(at) => Ok(Some(at)),
-        None => Ok(place_of(error, text, tokens.as_slice())),
-    }
-}
-
 /// Whether the text is refused since it begins with a byte order mark.
 fn begins_with_mark(text: &[u8], error: &LoadError) -> bool {
     matches!(error, LoadError::Text(TextError::BadByte { at: 0 }))
@@ -108,8 +92,8 @@ fn push_place(
     excerpt.write(alloc, output)
 }
 
-/// Which bracket isn't closed, the macro in whose body the place is and the lines that call it, and where the macro is
-/// defined that the refusal is about.
+/// Which bracket isn't closed, the macro in whose body the place is and where it is called, and where the macro is defined
+/// that the refusal is about.
 fn push_notes(
     alloc: Global,
     output: &mut Vec<u8>,
@@ -124,8 +108,7 @@ fn push_notes(
         let name = Found(Some(head));
         let line = format!(in alloc; "in the body of the macro {name}\n")?;
         output.extend_from_slice(line.as_bytes())?;
-        let lines = called_lines(alloc, text, tokens, head.text)?;
-        push_calls(alloc, output, lines.as_slice())?;
+        push_call(alloc, output, text, tokens, head.text)?;
     }
     if let Some(head) = defined_macro(&message, tokens) {
         let number = TextLine::of(text, head.at.min(text.len())).number;
@@ -134,6 +117,27 @@ fn push_notes(
         output.extend_from_slice(line.as_bytes())?;
     }
     Ok(())
+}
+
+/// The line that says at which line and column the macro is called from whose body the fault comes, or else on which
+/// lines it is called.
+fn push_call(
+    alloc: Global,
+    output: &mut Vec<u8>,
+    text: &[u8],
+    tokens: &[Token<'_>],
+    name: &[u8],
+) -> Result<(), AllocError> {
+    let Some(call) = faulty_call(alloc, text, tokens, name)? else {
+        let lines = called_lines(alloc, text, tokens, name)?;
+        return push_calls(alloc, output, lines.as_slice());
+    };
+    let at = call.min(text.len());
+    let line = TextLine::of(text, at);
+    let number = line.number;
+    let column = (at - line.start).saturating_add(1);
+    let line = format!(in alloc; "called at {number}:{column}\n")?;
+    output.extend_from_slice(line.as_bytes())
 }
 
 /// The line that says which bracket isn't closed.

@@ -11,6 +11,7 @@ mod excerpt;
 mod explanation;
 mod listed;
 mod message;
+mod origin;
 mod place;
 mod sections;
 mod spot;

@@ -1,4 +1,5 @@
 -- Lemmas, by topic.
+mod Changes
 mod Parts
 mod Plain
 mod Reading

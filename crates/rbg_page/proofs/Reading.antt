@@ -1,12 +1,14 @@
 -- What was read of a record, line by line, and what it tells.
-use Rattle.std.proofs.Common.{◌≡◌, ℕ, ◌+◌, List, [], ◌∷◌, ◌++◌, length, Option, refl, ap, sym, ◌∙◌, subst, arith}
+use Rattle.std.proofs.lemmas.Bool.{eqb-true}
+use Rattle.std.proofs.Common.{◌≡◌, ℕ, ◌+◌, Bool, true, List, [], ◌∷◌, ◌++◌, length, Option, refl, ap, sym, ◌∙◌, subst, arith}
 use Rattle.rbg_rules.specs.State.{AbstractGame}
 use Rattle.rbg_rules.specs.Places.{IsPlaceOf}
 use Rattle.rbg_lines.specs.Lines.{IsFirstLine}
 use Rattle.rbg_record.specs.declared.fault.Fault.{Fault}
 use Rattle.rbg_record.specs.declared.fault.Fault.TheVariants.{Form, Bad, Over, Memory}
 use Rattle.rbg_rules.specs.Moves.{AbstractPlace}
-use Rattle.rbg_record.specs.Lines.{Reached, version_next, players_next, start_next, entry_next, nothing_next, Leads}
+use Rattle.rbg_record.specs.Lines.{Reached, version_next, players_next, start_next, entry_next, nothing_next, Leads, LeadTo}
+use Rattle.rbg_record.proofs.Deciding.{good_by_lines}
 use Rattle.rbg_record.specs.Judged.{IsJudged}
 use Rattle.rbg_record.specs.ByLine.{IsReachedIn}
 use Rattle.rbg_record.specs.internal.Faults.{told_at}
@@ -21,14 +23,14 @@ use Rattle.std.proofs.lemmas.List.Elements.{All-nil}
 use Rattle.rbg_page.specs.Pages.{IsRefused}
 use Rattle.rbg_page.specs.Telling.{Told, Tells, IsMoveIn, place_in, told_first, told_more}
 use Rattle.rbg_page.specs.Telling as telling
-use Rattle.rbg_page.specs.internal.Reading.{IsTelling, refusal_at}
-use Rattle.rbg_page.specs.Telling.{IsByPlayer, IsPlayersMove}
+use Rattle.rbg_page.specs.internal.Reading.{refusal_at}
+use Rattle.rbg_page.specs.Telling.{IsByPlayer, IsPlayersMove, IsTelling}
 use Rattle.rbg_record.specs.Lines.{with_moment}
 use Rattle.rbg_lines.specs.declared.entry.Entry.{Entry}
 use Rattle.rbg_lines.specs.declared.entry.Timed.{Timed}
 use Rattle.rbg_lines.specs.declared.heading.Version.TheVariants.{One, Two}
 use Rattle.rbg_lines.specs.Entries.{SpellsEntry, SpellsTimed}
-use Rattle.std.specs.Prelude.{IfSome, IfNone, Some, None, unwrap_or}
+use Rattle.std.specs.Prelude.{◌==◌, IfSome, IfNone, Some, None, unwrap_or}
 
 -- The lines before the rest are right in turn, and this is what they tell.
 pub record IsToldSoFar (game : AbstractGame) (bytes : List ℕ) (reached : Reached) (rest : List ℕ) (line : ℕ) (told : Told) : Type 0 where
@@ -79,9 +81,22 @@ told_next game bytes reached to rest text later line told new moved before first
           (place_in_game game to told.place reached_in before.in_game);
     }
 
+-- nothing is left
+pub nothing_left : (rest : List ℕ) (answer : Bool) → answer ≡ (length rest == 0) → answer ≡ true → rest ≡ []
+nothing_left [] answer is holds = refl
+nothing_left (x ∷ rest) answer is holds =
+    let none : length (x ∷ rest) ≡ 0 = eqb-true (length (x ∷ rest)) 0 (sym is ∙ holds) in
+    absurd (omega (arith, none))
+
 -- no line is left, and the record has ended
 pub told_whole : (game : AbstractGame) (bytes : List ℕ) (reached : Reached) (rest : List ℕ) (line : ℕ) (told : Told) → IsToldSoFar game bytes reached rest line told → reached ≡ nothing_next → rest ≡ [] → IsTelling game bytes told
 told_whole game bytes reached rest line told so_far over none = record {
+  right =
+      (good_by_lines game bytes).0 (record {
+        texts = so_far.so_far.texts;
+        begins = subst (λ (left : List ℕ). BeginsWith bytes so_far.so_far.texts left) none so_far.so_far.begins;
+        leads = subst (λ (to : Reached). LeadTo game so_far.so_far.texts to) over so_far.so_far.leads;
+      });
   texts = so_far.so_far.texts;
   begins = subst (λ (left : List ℕ). BeginsWith bytes so_far.so_far.texts left) none so_far.so_far.begins;
   tells = subst (λ (to : Reached). Tells game so_far.so_far.texts to told) over so_far.tells;

@@ -4,6 +4,7 @@ use Rattle.rbg_rules.specs.State.{AbstractGame}
 use Rattle.rbg_rules.specs.Moves.{AbstractPlace}
 use Rattle.rbg_game.specs.declared.layout.Layout.{Layout}
 use Rattle.rbg_record.specs.Lines.{nothing_next}
+use Rattle.rbg_record.specs.Right.{IsRightRecord}
 use Rattle.rbg_record.specs.Judged.{BeginsWith, IsFormFault, IsBadLine, IsHeavyLine}
 use Rattle.rbg_page.specs.declared.error.PageError.{PageError}
 use Rattle.rbg_page.specs.declared.error.PageError.TheVariants.{Form, Bad, Over, Memory}
@@ -49,8 +50,9 @@ unfoldable pub page_text : AbstractGame → Layout → Told → List ℕ
 page_text game layout told =
     HEAD.now ++ place_part game layout told.marked told.place ++ names_part game ++ lines_part told.lines ++ TAIL.now
 
--- The bytes are the lines of a right record, and the page tells these lines.
+-- The bytes are those of a right record, and the page tells its lines.
 pub record IsPage (game : AbstractGame) (layout : Layout) (bytes page : List ℕ) : Type 0 where
+  pub right : IsRightRecord game bytes
   pub texts : List (List ℕ)
   pub begins : BeginsWith bytes texts []
   pub told : Told

@@ -8,16 +8,18 @@ use Rattle.rbg_lines.specs.declared.entry.Entry.TheVariants.{Move}
 use Rattle.rbg_lines.specs.declared.entry.Timed.{Timed}
 use Rattle.rbg_lines.specs.declared.heading.Version.{Version}
 use Rattle.rbg_record.specs.Lines.{Reached, version_next, players_next, start_next, entry_next, nothing_next, SpellsIn, Leads}
+use Rattle.rbg_record.specs.Judged.{BeginsWith}
+use Rattle.rbg_record.specs.Right.{IsRightRecord}
 use Rattle.rbg_page.specs.Texts.{escaped}
-use Rattle.rbg_page.specs.Places.{place_text}
+use Rattle.rbg_page.specs.Places.{place_text, whole_text}
 
--- The text of a line of a record, and behind it the place to which it leads, if it leads to one.
-unfoldable pub line_text : (text : List ℕ) → Reached → List ℕ
-line_text text (entry_next standing) = line_of (escaped text ++ place_text standing.place)
-line_text text version_next = line_of (escaped text)
-line_text text players_next = line_of (escaped text)
-line_text text start_next = line_of (escaped text)
-line_text text nothing_next = line_of (escaped text)
+-- The text of a line of a record, and behind it the place to which it leads from the one before, if it leads to one.
+unfoldable pub line_text : (text : List ℕ) → (before : AbstractPlace) → Reached → List ℕ
+line_text text before (entry_next standing) = line_of (escaped text ++ place_text before standing.place)
+line_text text before version_next = line_of (escaped text)
+line_text text before players_next = line_of (escaped text)
+line_text text before start_next = line_of (escaped text)
+line_text text before nothing_next = line_of (escaped text)
 
 -- the place to which a line leads, or else the one before it
 abbrev pub place_in : Reached → AbstractPlace → AbstractPlace
@@ -43,19 +45,23 @@ IsMoveIn (entry_next standing) text None = (pairs : List (ℕ × ℕ)) → ¬ Is
 IsMoveIn _ text (Some pairs) = ⊥
 IsMoveIn _ text None = Unit {0}
 
--- What is told so far: the lines with their places, the last place, and the pairs of the last move of a player.
+-- What is told so far: the line of the first place and the lines with their places, the last place, and the pairs of the
+-- last move of a player.
 pub record Told : Type 0 where
   pub lines : List ℕ
   pub place : AbstractPlace
   pub marked : List (ℕ × ℕ)
 
+abbrev pub first_place : AbstractGame → AbstractPlace
+first_place game = record { state = start_of game; last = None }
+
 abbrev pub told_first : AbstractGame → Told
-told_first game = record { lines = []; place = record { state = start_of game; last = None }; marked = [] }
+told_first game = record { lines = line_of (whole_text (first_place game)); place = first_place game; marked = [] }
 
 -- what is told with one line more, which leads there and may be a player's move
 abbrev pub told_more : Told → (text : List ℕ) → Reached → Option (List (ℕ × ℕ)) → Told
 told_more told text to moved = record {
-  lines = told.lines ++ line_text text to;
+  lines = told.lines ++ line_text text told.place to;
   place = place_in to told.place;
   marked = unwrap_or moved told.marked;
 }
@@ -70,3 +76,10 @@ pub data Tells (game : AbstractGame) : (texts : List (List ℕ)) → Reached →
       Leads game from text to →
       IsMoveIn from text moved →
       Tells game (texts ++ text ∷ []) to (told_more told text to moved)
+
+-- The bytes are those of a right record, and this is what their lines tell.
+pub record IsTelling (game : AbstractGame) (bytes : List ℕ) (told : Told) : Type 0 where
+  pub right : IsRightRecord game bytes
+  pub texts : List (List ℕ)
+  pub begins : BeginsWith bytes texts []
+  pub tells : Tells game texts nothing_next told

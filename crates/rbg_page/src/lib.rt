@@ -13,3 +13,4 @@ mod texts;
 
 pub use error::PageError;
 pub use making::page;
+pub use telling::{Telling, tell};

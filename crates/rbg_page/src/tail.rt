@@ -11,7 +11,7 @@ pub(crate) const TAIL: &[u8] = b"</pre></details>
   const pieces = texts('pieces');
   const cells = Array.from(document.querySelectorAll('#board g[data-piece]'));
   const labels = Array.from(document.querySelectorAll('#board .label'), label => label.textContent);
-  const lines = get('record').textContent.trim().split('\\n');
+  const [start, ...lines] = get('record').textContent.trim().split('\\n');
   const name = player => player > 0 ? players[player - 1] : 'the keeper';
 
   // What pieces are called on the board: their names, cut where they all differ.
@@ -19,18 +19,32 @@ pub(crate) const TAIL: &[u8] = b"</pre></details>
   const width = 1 + Math.max(0, ...pieces.map((one, at) => Math.max(0, ...pieces.slice(0, at).map(other => shared(one, other)))));
   const signs = pieces.map(piece => piece.slice(0, width));
 
+  // An item is a letter, or a number with a point. The first line has all items of the start, the later ones those that
+  // have changed, each with its index.
+  const number = item => item.endsWith('.') ? parseInt(item) : item.charCodeAt(0) - 97;
+  const items = text => (text.match(/[a-z]|[0-9]+[.]/g) || []).map(number);
+  const changed = (before, text) => {
+    const after = before.slice();
+    for (const [, item, at] of text.matchAll(/ ([a-z]|[0-9]+[.])([0-9]+)/g)) after[at] = number(item);
+    return after;
+  };
+
   // A step is the start or a player's move, with the keeper's moves behind it.
+  let [board, values] = start.split('|').map(items);
   const steps = [];
   for (const line of lines) {
-    const [text, board, values, player] = line.split('|');
-    if (board === undefined) continue;
-    const place = { board: board.match(/[a-z]|[0-9]+[.]/g) || [], values: values.trim().split(' '), player: Number(player) };
+    const [text, vertices, variables, player] = line.split('|');
+    if (vertices === undefined) continue;
+    board = changed(board, vertices);
+    values = changed(values, variables);
+    const place = { board, values, player: Number(player) };
     const numbers = text.split(' ').map(Number);
     const moment = lines[0] === 'rbg 2' ? numbers.shift() : undefined;
     const mover = numbers.shift();
-    if (mover > 0) steps.push({ mover, moment, vertices: numbers.filter((_, at) => at % 2 === 0), ...place });
-    else if (steps.length > 0) Object.assign(steps[steps.length - 1], place);
-    else steps.push({ mover: 0, vertices: [], ...place });
+    // the line before the first move begins with a word
+    if (steps.length === 0) steps.push({ mover: 0, vertices: [], ...place });
+    else if (mover > 0) steps.push({ mover, moment, vertices: numbers.filter((_, at) => at % 2 === 0), ...place });
+    else Object.assign(steps[steps.length - 1], place);
   }
   const began = lines[0] === 'rbg 2' ? Number(lines.find(line => line.startsWith('start ')).split(/[ |]/)[2]) : 0;
   const [how, ...numbers] = lines[lines.length - 1].split(' ').slice(lines[0] === 'rbg 2' ? 1 : 0);
@@ -43,7 +57,6 @@ pub(crate) const TAIL: &[u8] = b"</pre></details>
     '-': () => 'still in play',
   }[how]();
 
-  const number = piece => piece.endsWith('.') ? parseInt(piece) : piece.charCodeAt(0) - 97;
   const seconds = step => step.moment === undefined ? '' : ((step.moment - began) / 1000).toFixed(1) + ' s';
   const vertex = at => labels[at] || at;
   const told = (step, at) => at === 0 ? 'start' : at + ' ' + name(step.mover) + ' ' + step.vertices.filter((one, k, all) => one !== all[k - 1]).map(vertex).join(' ');
@@ -66,7 +79,7 @@ pub(crate) const TAIL: &[u8] = b"</pre></details>
     const step = steps[now];
     slider.value = now;
     cells.forEach((cell, at) => {
-      const piece = number(step.board[at]);
+      const piece = step.board[at];
       cell.dataset.piece = pieces[piece];
       cell.style.setProperty('--p', piece);
       cell.querySelector('text').textContent = signs[piece];

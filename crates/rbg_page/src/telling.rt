@@ -6,12 +6,12 @@ ghost use Rattle.rbg_record.specs.Lines.{nothing_next};
 ghost use Rattle.rbg_page.specs.Pages.{IsRefused};
 ghost use Rattle.rbg_wire.specs.Lines.{line_of};
 ghost use Rattle.rbg_page.specs.Texts.{escaped};
-ghost use Rattle.rbg_page.specs.Places.{place_text};
-ghost use Rattle.rbg_page.specs.Telling.{IsByPlayer, IsMoveIn, IsPlayersMove, line_text, place_in};
-ghost use Rattle.rbg_page.specs.internal.Reading.{IsTelling, refusal_at};
+ghost use Rattle.rbg_page.specs.Places.{place_text, whole_text};
+ghost use Rattle.rbg_page.specs.Telling.{IsByPlayer, IsMoveIn, IsPlayersMove, IsTelling, line_text, place_in};
+ghost use Rattle.rbg_page.specs.internal.Reading.{refusal_at};
 
 use crate::error::PageError;
-use crate::places::{put_place, values_at};
+use crate::places::{put_place, put_whole, values_at};
 use crate::texts::put_escaped;
 use rbg_base::{Memory, Move, Pair};
 use rbg_lines::{Entry, Version, next_line, read_entry, read_timed};
@@ -20,9 +20,9 @@ use rbg_record::{Fault, Reached, read_line};
 use std::alloc::Global;
 use std::marker::Model;
 
-/// What is told so far. Contracts see it.
+/// What the lines of a record tell. Contracts see the lines of a page, the last place and the last move of a player.
 #[derive(Drop)]
-pub(crate) struct Telling {
+pub struct Telling {
     /// The lines with their places.
     lines: Vec<u8>,
     /// The last place.
@@ -42,21 +42,21 @@ impl Model for Telling {
 
 impl Telling {
     /// The lines with their places.
-    pub(crate) fn as_lines(&self) -> &[u8]
+    pub fn as_lines(&self) -> &[u8]
         ensures { result.now ≡ self.now.lines }
     {
         self.lines.as_slice()
     }
 
     /// The last place.
-    pub(crate) fn last_place(&self) -> &Place
+    pub fn last_place(&self) -> &Place
         ensures { result.now ≡ self.now.place }
     {
         &self.place
     }
 
     /// The pairs of the last move of a player.
-    pub(crate) fn marked(&self) -> &[Pair]
+    pub fn marked(&self) -> &[Pair]
         ensures { result.now ≡ self.now.marked }
     {
         match &self.moved {
@@ -66,21 +66,23 @@ impl Telling {
     }
 }
 
-/// Appends a line and, if it leads to a place, what is told of this place.
+/// Appends a line and, if it leads to a place, what is told of this place behind the one before.
 #[tactic(auto, unfolding(crate::specs::Telling::line_text))]
 fn put_line(
     alloc: Global,
     game: &PlayedGame,
     text: &[u8],
+    before: &Place,
     to: &Reached,
     out: &mut Vec<u8>,
 ) -> Result<(), Memory>
-    requires { IsReachedIn game.now (reached_of to.now) }
+    requires before { IsPlaceOf game.now before.now }
+    requires reached { IsReachedIn game.now (reached_of to.now) }
     ensures { OnOk result (out.new.items ≡ out.old.items
-        ++ line_text text.now (reached_of to.now)) }
+        ++ line_text text.now before.now (reached_of to.now)) }
 {
     match to {
-        Reached::Entry(standing) => put_place_line(alloc, game, text, &standing.place, out),
+        Reached::Entry(standing) => put_place_line(alloc, game, text, before, &standing.place, out),
         Reached::Version => put_plain_line(text, out),
         Reached::Players => put_plain_line(text, out),
         Reached::Start => put_plain_line(text, out),
@@ -100,18 +102,33 @@ fn put_place_line(
     alloc: Global,
     game: &PlayedGame,
     text: &[u8],
+    before: &Place,
     place: &Place,
     out: &mut Vec<u8>,
 ) -> Result<(), Memory>
-    requires { IsPlaceOf game.now place.now }
+    requires before { IsPlaceOf game.now before.now }
+    requires place { IsPlaceOf game.now place.now }
     ensures { OnOk result (out.new.items ≡ out.old.items
-        ++ line_of (escaped text.now ++ place_text place.now)) }
+        ++ line_of (escaped text.now ++ place_text before.now place.now)) }
 {
+    let values_before = values_at(alloc, game.as_game(), before)?;
     let values = values_at(alloc, game.as_game(), place)?;
     put_escaped(text, out)?;
-    put_place(place, &values, out)?;
+    put_place(before, &values_before, place, &values, out)?;
     out.push(b'\n')?;
     Ok(())
+}
+
+/// The line of the first place.
+fn first_line(alloc: Global, game: &PlayedGame, place: &Place) -> Result<Vec<u8>, Memory>
+    requires { IsPlaceOf game.now place.now }
+    ensures { IfOk result (λ line. line.items ≡ line_of (whole_text place.now)) }
+{
+    let values = values_at(alloc, game.as_game(), place)?;
+    let mut line = Vec::new(alloc);
+    put_whole(place, &values, &mut line)?;
+    line.push(b'\n')?;
+    Ok(line)
 }
 
 /// The place to which a line leads, or else the one before it.
@@ -146,14 +163,14 @@ fn copy_of(place: &Place) -> Result<Place, Memory>
     })
 }
 
-/// Reads a record, and tells its lines.
-pub(crate) fn tell(alloc: Global, game: &PlayedGame, bytes: &[u8]) -> Result<Telling, PageError>
+/// Reads a record, of either version, and tells its lines. A record that isn't right is refused.
+pub fn tell(alloc: Global, game: &PlayedGame, bytes: &[u8]) -> Result<Telling, PageError>
     ensures told { IfOk result (IsTelling game.now bytes.now) }
     ensures in_game { IfOk result (λ telling. IsPlaceOf game.now telling.place) }
     ensures refused { IfErr result (IsRefused game.now bytes.now) }
 {
-    let mut lines = Vec::new(alloc);
     let mut place = game.start()?;
+    let mut lines = first_line(alloc, game, &place)?;
     let mut last = None;
     let mut reached = Reached::Version;
     let mut rest = bytes;
@@ -164,7 +181,7 @@ pub(crate) fn tell(alloc: Global, game: &PlayedGame, bytes: &[u8]) -> Result<Tel
             Ok(to) => reached = to,
             Err(fault) => return Err(refusal(fault, line)),
         }
-        put_line(alloc, game, text, &reached, &mut lines)?;
+        put_line(alloc, game, text, &place, &reached, &mut lines)?;
         place = place_after(&reached, place)?;
         last = later_of(moved, last);
         rest = later;

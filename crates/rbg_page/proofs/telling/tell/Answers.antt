@@ -1,19 +1,22 @@
 -- Each line is read and told behind those before it.
-use Rattle.std.proofs.Common.{sym, ◌∙◌, subst, []}
+use Rattle.std.proofs.Common.{ap, sym, ◌∙◌, subst, []}
 use Rattle.std.specs.Prelude.{unwrap_or}
 use Rattle.std.proofs.lemmas.Bool.{true≢false}
 use Rattle.rbg_record.specs.ByLine.{reached_of}
 use Rattle.rbg_record.proofs.SoFarLemmas.{read_fault, read_short, not_empty}
+use Rattle.rbg_rules.specs.Moves.{AbstractPlace}
+use Rattle.rbg_wire.specs.Lines.{line_of}
+use Rattle.rbg_page.specs.Places.{whole_text}
 use Rattle.rbg_page.specs.Pages.{IsRefused}
 use Rattle.rbg_page.specs.declared.error.PageError.{PageError}
-use Rattle.rbg_page.proofs.Reading.{told_none, told_next, refused_at}
+use Rattle.rbg_page.proofs.Reading.{nothing_left, told_none, told_next, told_whole, refused_at}
 use Rattle.rbg_page.proofs.telling.tell.Goals as goal
 use Rattle.rbg_page.proofs.telling.tell.Goals.{else-over-via-then-over+else-is_empty, else-over-via-else-over}
 
 pub loop-text-init : goal.loop-text-init
 loop-text-init c =
     told_none c.args.game.now c.args.bytes.now _
-    (λ i. record { lines = c.new-lines.ensures.items i; place = c.in_ok-place.ensures.start i; marked = [] })
+    (λ i. record { lines = (c.in_ok-lines.ensures ∙ ap (λ (p : AbstractPlace). line_of (whole_text p)) c.in_ok-place.ensures.start) i; place = c.in_ok-place.ensures.start i; marked = [] })
     c.in_ok-place.ensures.in_game
 
 pub returns-in-Err-clause-refused : goal.returns-in-Err-clause-refused
@@ -36,3 +39,9 @@ returns-else-over-clause-refused c =
       | else-over-via-then-over+else-is_empty w ↦ (λ over none. not_empty c.loop-text.rest.now w.is_empty.result w.is_empty.ensures w.if-is_empty.false none)
       | else-over-via-else-over w ↦ (λ over none. true≢false (sym (c.is_over-over.ensures.1 over) ∙ w.if-over.false))
     ])
+
+pub returns-then-is_empty-clause-told : goal.returns-then-is_empty-clause-told
+returns-then-is_empty-clause-told c =
+    told_whole c.args.game.now c.args.bytes.now (reached_of c.loop-text.reached) c.loop-text.rest.now c.loop-text.line
+    (record { lines = c.loop-text.lines.items; place = c.loop-text.place; marked = unwrap_or c.loop-text.last [] })
+    c.loop-text.invariant (c.is_over-over.ensures.0 c.if-over.true) (nothing_left c.loop-text.rest.now c.is_empty.result c.is_empty.ensures c.if-is_empty.true)

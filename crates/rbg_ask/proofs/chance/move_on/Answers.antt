@@ -1,0 +1,33 @@
+-- A move is made, or there is none, or the question or the keeper's moves behind it were given up.
+use Rattle.std.proofs.Common.{◌∙◌, sym, arith}
+use Rattle.rbg_ask.specs.declared.refusal.Refusal.TheVariants.{Memory}
+use Rattle.rbg_ask.specs.Chance.{no_memory}
+use Rattle.rbg_ask.specs.internal.Moving.{rests}
+use Rattle.rbg_ask.specs.internal.Refusing.{refusal_of_over, refusal_of_unsettled}
+use Rattle.rbg_ask.proofs.Faults.{passed_on}
+use Rattle.rbg_ask.proofs.Matches.{legal_at, list_unmoved, moves_on, nothing_listed, settle_unmoved}
+use Rattle.rbg_ask.proofs.chance.move_on.Goals as goal
+
+pub returns-in_err-gathered-clause-unmoved : goal.returns-in_err-gathered-clause-unmoved
+returns-in_err-gathered-clause-unmoved c =
+    passed_on c.from_residual.result (refusal_of_over c.in_err-gathered.field-0.0) _ c.from_residual.ensures.1 (list_unmoved _ _ _ c.in_err-gathered.field-0.0 c.in_err-gathered.ensures.heavy)
+
+pub returns-then-count-eq0-clause-moves : goal.returns-then-count-eq0-clause-moves
+returns-then-count-eq0-clause-moves c =
+    rests (nothing_listed _ _ _ _ _ (omega arith) c.in_ok-gathered.ensures.gathered (sym c.len-count.ensures.count ∙ c.if-count-eq0.true))
+
+pub make_move_on-requires-clause-legal : goal.make_move_on-requires-clause-legal
+make_move_on-requires-clause-legal c =
+    legal_at _ _ _ c.choose-index.result _ c.in_ok-gathered.ensures.gathered.legal c.get.ensures.pairs
+
+pub returns-in_err-make_move_on-clause-unmoved : goal.returns-in_err-make_move_on-clause-unmoved
+returns-in_err-make_move_on-clause-unmoved c =
+    passed_on c.from_residual-in_err-make_move_on.result Memory _ c.from_residual-in_err-make_move_on.ensures.1 no_memory
+
+pub returns-in_err-settle-clause-unmoved : goal.returns-in_err-settle-clause-unmoved
+returns-in_err-settle-clause-unmoved c =
+    passed_on c.from_residual-in_err-settle.result (refusal_of_unsettled c.in_err-settle.field-0.0) _ c.from_residual-in_err-settle.ensures.1
+    (settle_unmoved _ _ _ _ _ c.in_err-settle.field-0.0 c.in_ok-make_move_on.ensures.to c.in_err-settle.ensures.heavy c.in_err-settle.ensures.endless)
+
+pub returns-clause-moves : goal.returns-clause-moves
+returns-clause-moves c = moves_on _ _ _ _ _ c.in_ok-make_move_on.ensures.to c.in_ok-settle.ensures.settles

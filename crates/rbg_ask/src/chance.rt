@@ -1,0 +1,106 @@
+//! Matches that are played by chance.
+ghost use Rattle.std.specs.Prelude.{◌≡◌, ◌<◌, IfErr, IfOk, OnOk, map};
+ghost use Rattle.rbg_rules.specs.Places.{IsPlaceOf};
+ghost use Rattle.rbg_ask.specs.Chance.{AreTallied, Ends, IsUnmoved, IsUnplayed, counted_by, scores_of};
+ghost use Rattle.rbg_ask.specs.Limits.{IsCount};
+ghost use Rattle.rbg_ask.specs.internal.Moving.{IsPlayedTo, MovesOn};
+
+use crate::refusal::Refusal;
+use crate::tally::{Ending, Tally, count_in};
+use rand_core::{Rng, SeedableRng};
+use rand_pcg::Pcg32;
+use rbg_base::Memory;
+use rbg_moves::{Place, PlayedGame, Workspace};
+use std::alloc::Global;
+
+/// The most moves of the players in a match that is played by chance.
+pub const MAX_PLAYED: u32 = 10_000;
+
+/// Plays so many matches by chance from a place, and counts how they end. A seed always gives the same matches.
+pub(crate) fn play_matches(
+    alloc: Global,
+    game: &PlayedGame,
+    from: &Place,
+    seed: u64,
+    count: u64,
+    workspace: &mut Workspace,
+) -> Result<Vec<Tally>, Refusal>
+    requires place { IsPlaceOf game.now from.now }
+    requires count { IsCount count }
+    ensures tallied { IfOk result (λ tallies.
+        AreTallied game.now from.now count (map counted_by tallies.items)) }
+    ensures unplayed { IfErr result (IsUnplayed game.now from.now) }
+{
+    let mut chance = Pcg32::seed_from_u64(seed);
+    let mut tallies = Vec::new(alloc);
+    for _ in 0..count {
+        let ending = play_match(game, from, &mut chance, workspace)?;
+        count_in(ending, &mut tallies)?;
+    }
+    Ok(tallies)
+}
+
+/// Plays a match by chance from a place.
+fn play_match(
+    game: &PlayedGame,
+    from: &Place,
+    chance: &mut Pcg32,
+    workspace: &mut Workspace,
+) -> Result<Ending, Refusal>
+    requires { IsPlaceOf game.now from.now }
+    ensures ends { IfOk result (λ ending. IsPlayedTo game.now from.now (scores_of ending)) }
+    ensures unplayed { IfErr result (IsUnplayed game.now from.now) }
+{
+    let mut place = copy_of(from)?;
+    for _ in 0..MAX_PLAYED {
+        if !move_on(game, &mut place, chance, workspace)? {
+            let scores = game.scores(&place);
+            workspace.keep(place);
+            return Ok(Ending::Finished { scores });
+        }
+    }
+    workspace.keep(place);
+    Ok(Ending::Stopped)
+}
+
+/// Makes a move by chance, and the keeper's moves behind it. False where there is no legal move.
+fn move_on(
+    game: &PlayedGame,
+    place: &mut Place,
+    chance: &mut Pcg32,
+    workspace: &mut Workspace,
+) -> Result<bool, Refusal>
+    requires { IsPlaceOf game.now place.old }
+    ensures moves { IfOk result (λ moved. MovesOn game.now place.old moved place.new) }
+    ensures in_game { OnOk result (IsPlaceOf game.now place.new) }
+    ensures unmoved { IfErr result (IsUnmoved game.now place.old) }
+{
+    let gathered = game.gather_moves(place, usize::MAX, workspace)?;
+    let moves = gathered.moves;
+    let count = moves.len();
+    if count == 0 {
+        return Ok(false);
+    }
+    let index = choose(count, chance);
+    game.make_move_on(place, moves.get(index))?;
+    game.settle(place, workspace)?;
+    workspace.keep_moves(moves);
+    Ok(true)
+}
+
+/// A number below another one, by chance.
+fn choose(count: usize, chance: &mut Pcg32) -> usize
+    requires { 0 < count }
+    ensures { result < count }
+{
+    (chance.next_u64() % count as u64) as usize
+}
+
+fn copy_of(place: &Place) -> Result<Place, Memory>
+    ensures { IfOk result (λ copy. copy ≡ place.now) }
+{
+    Ok(Place {
+        state: place.state.try_clone()?,
+        after: place.after,
+    })
+}

@@ -1,0 +1,100 @@
+//! How matches that were played by chance ended, counted.
+ghost use Rattle.std.specs.Prelude.{◌≡◌, ◌≢◌, ◌↔◌, ◌<◌, ◌^◌, ◌∷◌, ◌++◌, [], All, IfNone, IfSome, IsTrue, List, None, OnOk, Option, Some, length, map, ℕ};
+ghost use Rattle.rbg_ask.specs.Chance.{counted_by, scores_of};
+ghost use Rattle.rbg_ask.specs.internal.Counting.{CountsIn, IsTallyAt};
+
+use arrayvec::ArrayVec;
+use rbg_base::Memory;
+use rbg_rules::limits::MAX_PLAYERS;
+
+/// How a match that was played by chance ended.
+#[derive(Clone, Debug, Drop, PartialEq, Eq)]
+pub enum Ending {
+    /// `<scores>`: nobody has a legal move. The players have these scores, in order.
+    Finished { scores: ArrayVec<u64, MAX_PLAYERS> },
+    /// `-`: it was stopped after 10,000 moves.
+    Stopped,
+}
+
+/// How many matches ended in one way.
+#[derive(Clone, Debug, Drop, PartialEq, Eq)]
+pub struct Tally {
+    /// How they ended.
+    pub ending: Ending,
+    /// How many they are.
+    pub matches: u64,
+}
+
+/// Whether two endings are the same.
+fn is_same(one: &Ending, other: &Ending) -> bool
+    ensures { IsTrue result ↔ (scores_of one.now ≡ scores_of other.now) }
+{
+    match one {
+        Ending::Finished { scores } => is_finished_so(other, scores.as_slice()),
+        Ending::Stopped => is_stopped(other),
+    }
+}
+
+fn is_finished_so(ending: &Ending, wanted: &[u64]) -> bool
+    ensures { IsTrue result ↔ (Some wanted.now ≡ scores_of ending.now) }
+{
+    match ending {
+        Ending::Finished { scores } => wanted == scores.as_slice(),
+        Ending::Stopped => false,
+    }
+}
+
+fn is_stopped(ending: &Ending) -> bool
+    ensures { IsTrue result ↔ (None ≡ scores_of ending.now) }
+{
+    match ending {
+        Ending::Finished { .. } => false,
+        Ending::Stopped => true,
+    }
+}
+
+/// The index of the tally of an ending, if there is one.
+fn index_of(ending: &Ending, tallies: &[Tally]) -> Option<usize>
+    ensures found { IfSome result (IsTallyAt (scores_of ending.now) tallies.now) }
+    ensures none { IfNone result (All (λ tally. scores_of tally.ending ≢ scores_of ending.now)
+        tallies.now) }
+{
+    tallies
+        .iter()
+        .position(|tally| is_same(&tally.ending, ending))
+}
+
+/// Counts one more match in the tally at an index.
+fn count_one(index: usize, tallies: &mut [Tally])
+    requires there { index < length tallies.old }
+    requires small { All (λ tally. tally.matches < 2 ^ 63) tallies.old }
+    ensures { (scores : Option (List ℕ))
+        → IsTallyAt scores tallies.old index
+        → CountsIn scores (map counted_by tallies.old) (map counted_by tallies.new) }
+{
+    tallies[index].matches += 1;
+}
+
+/// Counts one more match that ended so.
+pub(crate) fn count_in(ending: Ending, tallies: &mut Vec<Tally>) -> Result<(), Memory>
+    requires { All (λ tally. tally.matches < 2 ^ 63) tallies.old.items }
+    ensures { OnOk result (CountsIn (scores_of ending) (map counted_by tallies.old.items)
+        (map counted_by tallies.new.items)) }
+{
+    match index_of(&ending, tallies.as_slice()) {
+        Some(index) => {
+            count_one(index, tallies.as_mut_slice());
+            Ok(())
+        }
+        None => push_first(ending, tallies),
+    }
+}
+
+/// Counts the first match that ended so.
+fn push_first(ending: Ending, tallies: &mut Vec<Tally>) -> Result<(), Memory>
+    ensures { OnOk result (tallies.new.items
+        ≡ tallies.old.items ++ (record { ending = ending; matches = 1 }) ∷ []) }
+{
+    tallies.push(Tally { ending, matches: 1 })?;
+    Ok(())
+}
