@@ -203,6 +203,29 @@ def streams(run, programs):
         row(f"{turns:,} messages of chess without end", "", "", f"{run.plain(words, texts.knights(turns))[2]:.0f}")
 
 
+# Floods of a hall: which lines have seats, and the event of a line in a turn. Without the last 16 lines no match begins.
+FLOODS = (
+    ("one byte that ends no message", "none", 0, lambda turn: ("p", 1, "78")),
+    ("one byte that ends no message", "all", 128, lambda turn: ("p", 1, "78")),
+    ("a message before its match begins", "all but 16", 112, lambda turn: ("m", 1, "M1 8 1 9")),
+    ("a message out of turn", "all", 128, lambda turn: ("m", 1, "M1 8 1 9")),
+    ("one byte, at the moments 0 and the greatest in turn", "all", 128, lambda turn: ("p", turn % 2 * (2**64 - 1), "78")),
+)  # fmt: skip
+
+
+def halls(run, programs):
+    """A flood is compared with the same from lines that no hall has, which costs the reading of the script alone."""
+    file = run.file("text.rbg", texts.for_eight())
+    words = [programs.rbg, "hallscript", *[file] * 16]
+    head("Floods of a hall of 16 tables for eight: `rbg hallscript GAME .. < SCRIPT`", "Each line sends", "Seats", "Lines", "Times", "Instructions a piece", "Messages to the lines", "Megabytes", "From lines that are not there")
+    for label, seats, seated, event in FLOODS:
+        for lines, times in ((8, 1000), (128, 1000), (128, 4000)):
+            flood, spare = (texts.hall_flood(lines, times, seated, event, first) for first in (0, 128))
+            spent = run.counted(words, flood)[1] - run.counted(words, spare)[1]
+            printed, _, memory = run.plain(words, flood)
+            row(label, seats, lines, f"{times:,}", round(spent / (lines * times)), f"{printed.count(chr(10)):,}", f"{memory:.0f}", f"{run.plain(words, spare)[2]:.0f}")
+
+
 def built(run):
     """Builds the program of the folder forms in a copy of the repository, with what is proved there."""
     copy = run.room / "copy"
@@ -265,7 +288,7 @@ def changes(run, programs):
 
 SECTIONS = {
     "texts": heavy_texts, "loading": loading, "automaton": automaton, "search": search, "limit": limit,
-    "matches": matches, "streams": streams, "forms": forms, "changes": changes,
+    "matches": matches, "streams": streams, "halls": halls, "forms": forms, "changes": changes,
 }  # fmt: skip
 
 

@@ -172,3 +172,23 @@ def bytewise(script_text):
 def flood(size):
     """A script in which seat 1 sends so many bytes that are no message."""
     return "config 1000 3 0\np 1 0 " + "78" * size + "\n"
+
+
+def for_eight():
+    """Eight players of whom the first is to move, on a board of one vertex."""
+    players = ", ".join(f"{name}(1)" for name in "abcdefgh")
+    board = "#board = rectangle(up,down,left,right,[o])\n"
+    return f"#players = {players}\n#pieces = o, x\n" + board + "#rules = ->a {o}[x] ->> {}\n"
+
+
+def hall_flood(lines, times, seated, event, first):
+    """A script for a hall of 16 tables for eight: so many lines, from the first on, send something so many times, in turn.
+
+    Before that the lines from 0 on take a seat each, as many as are to have one.
+    """
+    script = ["config 3600000 100 0\n"]
+    script += [f"m {line} 0 H{line % 16 + 1}\n" for line in range(seated)]
+    for turn in range(times):
+        kind, at, text = event(turn)
+        script += [f"{kind} {line} {at} {text}\n" for line in range(first, first + lines)]
+    return "".join(script)
