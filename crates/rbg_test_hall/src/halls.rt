@@ -2,6 +2,7 @@
 use crate::tables::{CONFIG, TWO, tables};
 use rbg_floor::{Hall, HallError, HallEvent, whole_hall};
 use rbg_match::Config;
+use rbg_player::Player;
 use rbg_wire::Outcome;
 use std::test::Fail;
 
@@ -61,5 +62,14 @@ fn begun_matches_are_told_of(rt: HostRuntime) -> Result<(), Fail> {
         .begun(2)
         .map(|playing| (playing.began(), playing.outcome()));
     assert_eq!(rt; told, Some((4, Some(Outcome::Time { player: 1 }))));
+    Ok(())
+}
+
+/// A player that joins a table sends its number first.
+#[test]
+fn players_ask_for_their_table(rt: HostRuntime) -> Result<(), Fail> {
+    let mut said = Vec::from_slice(rt.alloc(), b"R")?;
+    Player::join(rt.alloc(), 2, &mut said)?;
+    assert_eq!(rt; said.as_slice(), b"RH2\0".as_slice());
     Ok(())
 }
