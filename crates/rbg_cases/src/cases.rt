@@ -45,6 +45,8 @@ pub struct Case<'a> {
     pub shown: usize,
     /// Whether what is told on standard error is shown too.
     pub news: bool,
+    /// Whether what its logs hold is shown too.
+    pub logs: bool,
     pub words: Vec<String>,
     pub files: Vec<Text<'a>>,
     pub streams: Vec<Stream>,
@@ -116,6 +118,9 @@ impl<'a> Reader<'a> {
         if line == b"news".as_slice() {
             return Ok(self.show_news());
         }
+        if line == b"logs".as_slice() {
+            return Ok(self.show_logs());
+        }
         if let Some(count) = line.strip_prefix(b"last ") {
             return Ok(self.show_last(count));
         }
@@ -126,6 +131,7 @@ impl<'a> Reader<'a> {
                 program: Program::Rbg,
                 shown: usize::MAX,
                 news: false,
+                logs: false,
                 words: Vec::new(alloc),
                 files: Vec::new(alloc),
                 streams: Vec::new(alloc),
@@ -175,6 +181,17 @@ impl<'a> Reader<'a> {
         match self.cases.last_mut() {
             Some(case) => {
                 case.news = true;
+                true
+            }
+            None => false,
+        }
+    }
+
+    /// What the logs of the case hold is shown.
+    fn show_logs(&mut self) -> bool {
+        match self.cases.last_mut() {
+            Some(case) => {
+                case.logs = true;
                 true
             }
             None => false,

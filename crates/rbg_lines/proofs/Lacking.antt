@@ -74,7 +74,7 @@ two_numbers m n first second =
 pair_feedless : (p : ℕ × ℕ) → IsShortPair p → LacksByte 10 (pair_text p)
 pair_feedless p short = two_numbers p.0 p.1 (omega (arith, short.0)) (omega (arith, short.1))
 
-pairs_feedless : (pairs : List (ℕ × ℕ)) → All IsShortPair pairs → LacksByte 10 (pairs_text pairs)
+pub pairs_feedless : (pairs : List (ℕ × ℕ)) → All IsShortPair pairs → LacksByte 10 (pairs_text pairs)
 unfolding pairs_text
 pairs_feedless [] short = nothing_lacks 10
 pairs_feedless (p ∷ ps) short =

@@ -4,12 +4,15 @@
 
 mod ask;
 mod commands;
+mod cut;
 mod fault;
 mod inputs;
 mod moves;
 mod player_refusal;
 mod printed;
 mod program;
+mod resuming;
+mod script;
 mod serving;
 mod task;
 mod words;
@@ -17,5 +20,6 @@ mod words;
 pub use fault::{Fault, report};
 pub use program::run;
 pub use rbg_console::{Files, Input, Status};
+pub use rbg_log::{Log, LogFailure};
 pub use rbg_network::{Network, News, SystemClock, SystemNetwork};
 pub use rbg_serving::Clock;

@@ -7,8 +7,10 @@ ghost use Rattle.rbg_program.specs.Words.{AsksForFiles, AsksForInput};
 ghost use Rattle.rbg_refereeing.specs.Runs.{IsRun};
 
 use crate::ask::ask_file;
+use crate::cut::referee_cut;
 use crate::fault::{Fault, report};
 use crate::moves::list_file;
+use crate::script::script_file;
 use crate::serving::{demo_file, play, serve_file, serve_hall};
 use crate::task::Task;
 use crate::words::files_of;
@@ -82,6 +84,7 @@ fn obey<F: Files, N: Network, R: Read, W: Write>(
 ) -> Status {
     let outcome = match task {
         Task::Referee => return run_referee(alloc, input, output),
+        Task::Cut { file } => return referee_cut(alloc, file, files, input, output),
         Task::Files(task) => return run_task(alloc, task, files, input, output),
         Task::HallScript { names } => {
             return run_hall_script(alloc, names.as_slice(), files, input, output);
@@ -103,12 +106,12 @@ fn obey<F: Files, N: Network, R: Read, W: Write>(
         Task::Moves { file } => list_file(alloc, files, file),
         Task::Ask { file } => ask_file(alloc, files, file, input, output),
         Task::Demo { file, service } => demo_file(alloc, files, file, network, service),
+        Task::Script { record } => script_file(alloc, files, record),
         Task::Serve {
             file,
             port,
-            service,
-            hosting,
-        } => serve_file(alloc, files, file, network, port, service, hosting),
+            serving,
+        } => serve_file(alloc, files, file, network, port, &serving),
         Task::Play {
             port,
             table,

@@ -20,5 +20,5 @@ pub use error::RecordError;
 pub use fault::Fault;
 pub use migrating::migrate;
 pub use reached::{Reached, Standing};
-pub use reading::read_line;
+pub use reading::{read_in, read_line};
 pub use writing::{write_record, write_record_1};

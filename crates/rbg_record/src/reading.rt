@@ -116,7 +116,7 @@ fn go_on(game: &PlayedGame, standing: Standing, text: &[u8]) -> Result<Reached, 
 }
 
 /// The entry of a line in a record of that version. In version 1 it has the moment that is not written.
-fn read_in(version: Version, text: &[u8]) -> Option<Timed>
+pub fn read_in(version: Version, text: &[u8]) -> Option<Timed>
     ensures found { IfSome result (SpellsIn version text.now) }
     ensures none { IfNone result ((told : AnyTimed) → ¬ SpellsIn version text.now told) }
 {

@@ -1,0 +1,72 @@
+//! A match with a log.
+ghost use Rattle.std.specs.Prelude.{◌≡◌};
+
+use crate::Log;
+use rbg_match::Match;
+
+/// Why no more events are handled.
+#[derive(Clone, Copy, Debug, PartialEq, Eq)]
+pub enum Stop {
+    /// The log failed.
+    Log,
+    /// An event came when the time for the match was over.
+    Time,
+}
+
+/// A match with a log, in which each event is written before the match handles it.
+#[derive(Drop)]
+pub struct LoggedMatch<W: Log> {
+    pub(crate) played: Match,
+    pub(crate) log: W,
+    /// The line at hand.
+    pub(crate) line: Vec<u8>,
+    /// The first moment at which events aren't handled any more, if there is one.
+    pub(crate) until: Option<u64>,
+    pub(crate) stopped: Option<Stop>,
+}
+
+impl<W: Log> LoggedMatch<W> {
+    /// The match.
+    pub fn played(&self) -> &Match
+        ensures { result.now ≡ self.now.played }
+    {
+        &self.played
+    }
+
+    /// The match, without its log.
+    pub fn into_played(self) -> Match
+        ensures { result ≡ self.played }
+    {
+        self.played
+    }
+
+    /// The log.
+    pub fn log(&self) -> &W
+        ensures { result.now ≡ self.now.log }
+    {
+        &self.log
+    }
+
+    /// Why no more events are handled, if so.
+    pub fn stopped(&self) -> Option<Stop>
+        ensures { result ≡ self.now.stopped }
+    {
+        self.stopped
+    }
+
+    /// Handles no event at this moment or later.
+    pub fn stop_at(&mut self, moment: u64)
+        ensures played { self.new.played ≡ self.old.played }
+        ensures log { self.new.log ≡ self.old.log }
+    {
+        self.until = Some(moment);
+    }
+
+    /// Whether the time for the match is over when an event comes at this moment.
+    pub(crate) fn is_over_at(&self, moment: u64) -> bool {
+        match self.until {
+            Some(until) => until <= moment,
+            None => false,
+        }
+    }
+}

@@ -1,0 +1,102 @@
+//! A match begins, and its log with it.
+ghost use Rattle.std.specs.Prelude.{◌≡◌, ◌++◌, [], ℕ, List, length, IfOk, OnOk};
+ghost use Rattle.rbg_game.specs.Loading.{Loads};
+ghost use Rattle.rbg_match.specs.Matches.{HasHistory, Opens};
+ghost use Rattle.rbg_match.specs.PlayingOn.{seats_of};
+ghost use Rattle.rbg_log.specs.Logs.{Appends, IsLog, first_line};
+
+use crate::{Log, LogFailure, LoggedMatch};
+use rbg_base::Memory;
+use rbg_match::{Config, Match, MatchError, Outbox};
+use rbg_rules::Game;
+use rbg_script::{ScriptConfig, write_config};
+use std::alloc::Global;
+use thiserror::Error;
+
+/// Why a match doesn't begin.
+#[derive(Clone, Copy, Debug, PartialEq, Eq, Error)]
+pub enum OpenError {
+    /// A number of the config is outside its limits.
+    #[error("a number of the config is outside its limits")]
+    Config,
+    /// A request for memory failed.
+    #[error("out of memory")]
+    Memory,
+    /// The log failed.
+    #[error("the log failed")]
+    Log,
+}
+
+impl From<Memory> for OpenError {
+    fn from(_memory: Memory) -> OpenError {
+        OpenError::Memory
+    }
+}
+
+impl From<MatchError> for OpenError {
+    fn from(error: MatchError) -> OpenError {
+        match error {
+            MatchError::Config => OpenError::Config,
+            MatchError::Memory => OpenError::Memory,
+        }
+    }
+}
+
+impl From<LogFailure> for OpenError {
+    fn from(_failure: LogFailure) -> OpenError {
+        OpenError::Log
+    }
+}
+
+/// Writes the first line of the log of a match.
+fn write_first<W: Log>(
+    config: Config,
+    now: u64,
+    log: &mut W,
+    line: &mut Vec<u8>,
+) -> Result<(), OpenError>
+    ensures { OnOk result (Appends W.told log.old log.new (first_line config now)) }
+{
+    let config = ScriptConfig {
+        turn_ms: config.turn_ms,
+        refusals: config.refusals,
+        now,
+    };
+    line.clear();
+    write_config(config, line)?;
+    log.append(line.as_slice())?;
+    Ok(())
+}
+
+impl<W: Log> LoggedMatch<W> {
+    /// Makes a match of a game at the moment `now`, and begins its log. Each seat is greeted, and play goes on from the
+    /// start. Returns the match and its outbox.
+    pub fn open(
+        alloc: Global,
+        game: Game,
+        text: &[u8],
+        config: Config,
+        now: u64,
+        log: W,
+    ) -> Result<(LoggedMatch<W>, Outbox), OpenError>
+        requires { Loads text.now game }
+        ensures begins { IfOk result (λ made. W.told log [] →
+            (held : List ℕ) × W.told made.0.log held × IsLog text.now held made.0.played made.1) }
+        ensures game { IfOk result (λ made. made.0.played.game ≡ game) }
+        ensures seats { IfOk result (λ made. length made.1 ≡ seats_of made.0.played.game) }
+        ensures history { IfOk result (λ made. HasHistory made.0.played) }
+    {
+        let (played, outbox) = Match::new(alloc, game, text, config, now)?;
+        let mut log = log;
+        let mut line = Vec::new(alloc);
+        write_first(config, now, &mut log, &mut line)?;
+        let logged = LoggedMatch {
+            played,
+            log,
+            line,
+            until: None,
+            stopped: None,
+        };
+        Ok((logged, outbox))
+    }
+}

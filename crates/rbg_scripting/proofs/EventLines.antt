@@ -1,0 +1,65 @@
+-- The lines of the events of an entry.
+use Rattle.std.proofs.Common.{◌≡◌, ◌≢◌, ℕ, zero, suc, ◌<◌, ◌^◌, List, [], ◌∷◌, ◌++◌, length, All, Bool, true, false, codes, decimal, refl, sym, ap, ◌∙◌, subst, arith, append-nil, append_assoc, Result, Ok, Err}
+use Rattle.std.specs.Prelude.{OnOk, ◌==◌}
+use Rattle.std.specs.List.{flat_map, AllZip}
+use Rattle.std.proofs.lemmas.Grind.{flat_map-append}
+use Rattle.std.proofs.lemmas.List.Elements.{All-nil, All-cons, All-append}
+use Rattle.rbg_base.proofs.CallerLemmas.{AllZip-append}
+use Rattle.rbg_wire.specs.Bytes.{LacksByte}
+use Rattle.rbg_wire.specs.Lines.{line_feed, line_of, lines_of}
+use Rattle.rbg_wire.specs.Messages.{ArePairs, message_text, move_message, pairs_text, spelling}
+use Rattle.rbg_wire.specs.Writing.{AppendsAll}
+use Rattle.rbg_wire.proofs.NumberLemmas.{lacks_byte-decimal}
+use Rattle.rbg_lines.proofs.Lacking.{pairs_feedless}
+use Rattle.rbg_script.specs.Events.{AbstractEvent, piece_event, end_event, tick_event, EventHasSpelling, HasFields, SpellsEvent, by_message, event_text, fields_text}
+use Rattle.rbg_script.proofs.Lacking.{written_read, message_lacks}
+use Rattle.rbg_scripting.specs.Scripting.{move_events}
+use Rattle.rbg_scripting.specs.internal.Telling.{TellsEvents}
+
+pub tells_nothing : (old : List ℕ) → TellsEvents [] old old
+tells_nothing old = record { lines = []; is = sym (append-nil old); spelled = tt; whole = All-nil (LacksByte line_feed) }
+
+-- one line
+tells_line : (line : List ℕ) (event : AbstractEvent) (old new : List ℕ) → SpellsEvent line event → LacksByte line_feed line → new ≡ old ++ line_of line → TellsEvents (event ∷ []) old new
+tells_line line event old new spells lacks is = record {
+  lines = line ∷ [];
+  is = is ∙ ap (λ (bytes : List ℕ). old ++ bytes) (sym (append-nil (line_of line)));
+  spelled = (spells, tt);
+  whole = All-cons (LacksByte line_feed) line [] lacks (All-nil (LacksByte line_feed));
+}
+
+-- an event that is written as such
+pub tells_event : {E : Type 0} (event : AbstractEvent) (old new : List ℕ) (result : Result (Unit {0}) E) → EventHasSpelling event → AppendsAll old new (line_of (event_text event)) result → OnOk result (TellsEvents (event ∷ []) old new)
+tells_event event old new (Ok done) has appends = tells_line (event_text event) event old new (written_read.events event has) (written_read.event_lines event has) appends.ok
+tells_event event old new (Err error) has appends = tt
+
+-- a message
+pub tells_message : {E : Type 0} (seat at : ℕ) (said old new : List ℕ) (result : Result (Unit {0}) E) → HasFields (fields_text (codes "m ") seat at said) (codes "m ") seat at said → LacksByte line_feed said → AppendsAll old new (line_of (fields_text (codes "m ") seat at said)) result → OnOk result (TellsEvents (piece_event seat at (said ++ 0 ∷ []) ∷ []) old new)
+tells_message seat at said old new (Ok done) fields lacks appends =
+    tells_line (fields_text (codes "m ") seat at said) (piece_event seat at (said ++ 0 ∷ [])) old new (by_message seat at said fields) (message_lacks seat at said fields.numbers lacks) appends.ok
+tells_message seat at said old new (Err error) fields lacks appends = tt
+
+-- the text of a move
+pub move_lacks : (pairs : List (ℕ × ℕ)) → ArePairs pairs → LacksByte line_feed (77 ∷ pairs_text pairs)
+move_lacks pairs are = All-cons (λ byte. byte ≢ line_feed) 77 (pairs_text pairs) (λ same. absurd (omega (arith, same))) (pairs_feedless pairs are.short)
+
+pub moves_of_player : (at player : ℕ) (pairs : List (ℕ × ℕ)) → player ≢ 0 → move_events at player pairs ≡ piece_event player at ((77 ∷ pairs_text pairs) ++ 0 ∷ []) ∷ []
+unfolding spelling message_text
+moves_of_player at zero pairs other = absurd (other refl)
+moves_of_player at (suc before) pairs other = refl
+
+pub moves_of_keeper : (at player : ℕ) (pairs : List (ℕ × ℕ)) → player ≡ 0 → move_events at player pairs ≡ []
+moves_of_keeper at player pairs keeper = ap (λ (one : ℕ). move_events at one pairs) keeper
+
+-- events behind others
+pub tells_both : (first next : List AbstractEvent) (old middle new : List ℕ) → TellsEvents first old middle → TellsEvents next middle new → TellsEvents (first ++ next) old new
+tells_both first next old middle new one other = record {
+  lines = one.lines ++ other.lines;
+  is =
+      other.is
+      ∙ ap (λ (bytes : List ℕ). bytes ++ lines_of other.lines) one.is
+      ∙ append_assoc old (lines_of one.lines) (lines_of other.lines)
+      ∙ ap (λ (bytes : List ℕ). old ++ bytes) (sym (flat_map-append line_of one.lines other.lines));
+  spelled = AllZip-append SpellsEvent one.lines other.lines first next one.spelled other.spelled;
+  whole = All-append (LacksByte line_feed) one.lines other.lines one.whole other.whole;
+}

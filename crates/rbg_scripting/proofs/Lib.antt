@@ -1,0 +1,3 @@
+-- Lemmas, by topic.
+mod EventLines
+mod TellingLemmas

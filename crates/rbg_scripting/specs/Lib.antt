@@ -1,0 +1,3 @@
+-- Scripts of records.
+pub mod Scripting
+pub mod internal
