@@ -222,8 +222,3 @@ played_seats text script state outbox played =
     ∙ length-delivered (replicate seats []) played.refereed.said
     ∙ length-replicate seats []
     ∙ ap seats_of played.of_game
-
--- a refused step keeps what is queued
-pub kept_of : {E A B : Type 0} (result : Result (Unit {0}) E) → OnErr result (A × B) → OnErr result A
-kept_of (Ok done) both = tt
-kept_of (Err error) both = both.0

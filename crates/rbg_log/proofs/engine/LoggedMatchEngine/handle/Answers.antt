@@ -1,13 +1,13 @@
 -- The match handles what was written.
-use Rattle.std.proofs.lemmas.Result.{on_ok_weaker}
+use Rattle.std.proofs.lemmas.Result.{on_err_weaker, on_ok_weaker}
 use Rattle.rbg_match.specs.Inputs.{event_of}
 use Rattle.rbg_serving.proofs.LinesLemmas.{step_extends}
-use Rattle.rbg_log.proofs.Logging.{kept_of, unhandled_so}
+use Rattle.rbg_log.proofs.Logging.{unhandled_so}
 use Rattle.rbg_log.proofs.engine.LoggedMatchEngine.handle.Goals as goal
 
 pub returns-clause-err : goal.returns-clause-err
 returns-clause-err g c =
-    unhandled_so g.W.Log.told c.args.self.now _ (event_of c.args.event) c.args.outbox.now c.step.new.outbox c.step.result c.in_ok-write.ensures.ok (kept_of c.step.result c.step.ensures.err)
+    unhandled_so g.W.Log.told c.args.self.now _ (event_of c.args.event) c.args.outbox.now c.step.new.outbox c.step.result c.in_ok-write.ensures.ok (on_err_weaker c.step.result (λ kept. kept.0) c.step.ensures.err)
 
 pub returns-clause-extends : goal.returns-clause-extends
 returns-clause-extends g c = on_ok_weaker c.step.result step_extends c.step.ensures.ok

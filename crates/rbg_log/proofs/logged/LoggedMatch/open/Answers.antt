@@ -1,0 +1,9 @@
+-- The log begins with its first line.
+use Rattle.std.proofs.Common.{◌<◌, ◌^◌, ℕ, rules}
+use Rattle.rbg_log.proofs.Logging.{opened_so}
+use Rattle.rbg_log.proofs.logged.LoggedMatch.open.Goals as goal
+
+pub returns-clause-begins : goal.returns-clause-begins
+returns-clause-begins g c =
+    let fits : c.args.now < 2 ^ 64 = search rules in
+    opened_so g.W.Log.told c.args.game c.args.text.now c.args.config c.args.now c.in_ok-played.played c.in_ok-played.outbox c.args.log c.write_first.new.log c.requires fits c.in_ok-played.ensures.opens c.in_ok-write_first.ensures
