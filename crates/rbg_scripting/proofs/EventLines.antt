@@ -43,21 +43,13 @@ tells_message seat at said old new (Err error) fields lacks appends = tt
 pub move_lacks : (pairs : List (ℕ × ℕ)) → ArePairs pairs → LacksByte line_feed (77 ∷ pairs_text pairs)
 move_lacks pairs are = All-cons (λ byte. byte ≢ line_feed) 77 (pairs_text pairs) (λ same. absurd (omega (arith, same))) (pairs_feedless pairs are.short)
 
-pub moves_of_player : (at player : ℕ) (pairs : List (ℕ × ℕ)) → (player ≡ 0 → ⊥) → move_events at player pairs ≡ piece_event player at ((77 ∷ pairs_text pairs) ++ 0 ∷ []) ∷ []
+pub moves_of_player : (at player : ℕ) (pairs : List (ℕ × ℕ)) → player ≢ 0 → move_events at player pairs ≡ piece_event player at ((77 ∷ pairs_text pairs) ++ 0 ∷ []) ∷ []
 unfolding spelling message_text
 moves_of_player at zero pairs other = absurd (other refl)
 moves_of_player at (suc before) pairs other = refl
 
 pub moves_of_keeper : (at player : ℕ) (pairs : List (ℕ × ℕ)) → player ≡ 0 → move_events at player pairs ≡ []
 moves_of_keeper at player pairs keeper = ap (λ (one : ℕ). move_events at one pairs) keeper
-
--- the line of a move that a player makes
-pub made_told : (at player : ℕ) (pairs : List (ℕ × ℕ)) (said old new : List ℕ) → (player ≡ 0 → ⊥) → ArePairs pairs → said ≡ codes "M" ++ pairs_text pairs → HasFields (fields_text (codes "m ") player at said) (codes "m ") player at said → new ≡ old ++ line_of (fields_text (codes "m ") player at said) → TellsEvents (move_events at player pairs) old new
-made_told at player pairs said old new other are is fields written =
-    let spells = subst (λ (one : List ℕ). SpellsEvent (fields_text (codes "m ") player at said) (piece_event player at (one ++ 0 ∷ []))) is (by_message player at said fields) in
-    let lacks = message_lacks player at said fields.numbers (subst (LacksByte line_feed) (sym is) (move_lacks pairs are)) in
-    subst (λ (events : List AbstractEvent). TellsEvents events old new) (sym (moves_of_player at player pairs other))
-    (tells_line (fields_text (codes "m ") player at said) (piece_event player at ((77 ∷ pairs_text pairs) ++ 0 ∷ [])) old new spells lacks written)
 
 -- events behind others
 pub tells_both : (first next : List AbstractEvent) (old middle new : List ℕ) → TellsEvents first old middle → TellsEvents next middle new → TellsEvents (first ++ next) old new

@@ -1,6 +1,5 @@
 -- A record is told line by line.
-use Rattle.std.proofs.Common.{◌≡◌, ℕ, ◌+◌, ◌≤◌, ◌<◌, ◌^◌, List, [], ◌∷◌, ◌++◌, length, All, Option, Some, None, Result, Err, refl, sym, ap, ◌∙◌, subst, arith, append-nil, append_assoc}
-use Rattle.std.specs.Prelude.{IfSome}
+use Rattle.std.proofs.Common.{◌≡◌, ℕ, ◌+◌, ◌≤◌, ◌<◌, ◌^◌, List, [], ◌∷◌, ◌++◌, length, All, Option, refl, sym, ap, ◌∙◌, subst, arith, append-nil, append_assoc}
 use Rattle.std.specs.List.{flat_map, AllZip}
 use Rattle.std.proofs.lemmas.Grind.{flat_map-append}
 use Rattle.std.proofs.lemmas.List.{length-append}
@@ -29,8 +28,6 @@ use Rattle.rbg_script.specs.Scripts.{SpellsScript}
 use Rattle.rbg_script.specs.Events.{AbstractEvent}
 use Rattle.rbg_script.proofs.Lacking.{written_read}
 use Rattle.rbg_script.proofs.LineLemmas.{whole_lines}
-use Rattle.rbg_scripting.specs.declared.error.ScriptingError.{ScriptingError}
-use Rattle.rbg_scripting.specs.declared.error.ScriptingError.TheVariants.{Form}
 use Rattle.rbg_scripting.specs.declared.part.Part.{Part}
 use Rattle.rbg_scripting.specs.declared.part.Part.TheVariants as parts
 use Rattle.rbg_scripting.specs.Scripting.{HasForm, IsHead, head_1, head_2, IsMove, IsNoRecord, IsScriptOfRecord, LeadsOn, LeadThere, config_at, events_in, turns_of}
@@ -114,7 +111,7 @@ entries_more version entries texts text told old new tells spells events =
 
 entry_told_at : (version : Version) (text : List ℕ) (at : ℕ) (entry : Entry) (old new : List ℕ) → SpellsIn version text (record { at = at; entry = entry }) → TellsEvents (events_in (record { at = at; entry = entry })) old new → TellsNext (parts.Entry version) text (part_behind version entry) old new
 entry_told_at version text at (Move player pairs) old new spells events = record {
-  leads = scripting.move (record { at = at; entry = Move player pairs }) spells tt;
+  leads = scripting.move spells tt;
   told = λ texts so_far. record {
     moves = so_far.moves ++ record { at = at; entry = Move player pairs } ∷ [];
     are_moves = All-push (λ (one : Timed). IsMove one.entry) so_far.moves (record { at = at; entry = Move player pairs }) so_far.are_moves tt;
@@ -122,7 +119,7 @@ entry_told_at version text at (Move player pairs) old new spells events = record
   };
 }
 entry_told_at version text at (End outcome) old new spells events = record {
-  leads = scripting.end at outcome spells;
+  leads = scripting.end spells;
   told = λ texts so_far. record {
     version = version;
     moves = so_far.moves;
@@ -225,12 +222,3 @@ pub told_whole : (bytes : List ℕ) (part : Part) (rest : List ℕ) (line : ℕ)
 told_whole bytes part rest line out so_far over none =
     let tells : TellsWhole so_far.texts out = subst (λ (one : Part). IsTold one so_far.texts out) over so_far.told in
     whole_told bytes so_far.texts out (so_far.begins.parts ∙ ap (λ (left : List ℕ). lines_of so_far.texts ++ left) none ∙ append-nil (lines_of so_far.texts)) tells
-
--- what comes behind the players
-pub players_so : (part : Part) (result : Option Part) (text out : List ℕ) → part ≡ parts.Players → IfSome result (λ next. (old : List ℕ) → TellsNext parts.Players text next old old) → IfSome result (λ next. TellsNext part text next out out)
-players_so part (Some next) text out is tells = subst (λ (one : Part). TellsNext one text next out out) (sym is) (tells out)
-players_so part None text out is tells = tt
-
--- the line that an error names
-pub form_line : {T : Type 0} (bytes : List ℕ) (number line : ℕ) → ◌≡◌ {A = Result T ScriptingError} (Err (Form number)) (Err (Form line)) → IsNoRecord bytes number → IsNoRecord bytes line
-form_line bytes number line same none = subst (IsNoRecord bytes) (let is : number ≡ line = cc in is) none

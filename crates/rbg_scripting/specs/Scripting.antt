@@ -106,11 +106,11 @@ pub data LeadsOn : Part → (text : List ℕ) → Part → Type 0 where
       SpellsStart text start →
       IsWithinLimits (turns_of start.turn_ms) →
       LeadsOn parts.Start text (parts.Entry Two)
-  move : {version : Version} {text : List ℕ} (told : Timed) →
+  move : {version : Version} {text : List ℕ} {told : Timed} →
       SpellsIn version text told →
       IsMove told.entry →
       LeadsOn (parts.Entry version) text (parts.Entry version)
-  end : {version : Version} {text : List ℕ} (at : ℕ) (outcome : Option Outcome) →
+  end : {version : Version} {text : List ℕ} {at : ℕ} {outcome : Option Outcome} →
       SpellsIn version text (record { at = at; entry = End outcome }) →
       LeadsOn (parts.Entry version) text parts.Nothing
 

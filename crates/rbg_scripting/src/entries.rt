@@ -1,7 +1,9 @@
 //! The events that bring an entry of a record about.
-ghost use Rattle.std.specs.Prelude.{◌≡◌, ◌++◌, IfOk, OnOk, Some, codes};
-ghost use Rattle.rbg_lines.specs.Entries.{EntryHasSpelling};
-ghost use Rattle.rbg_wire.specs.Messages.{ArePairs, pairs_text};
+ghost use Rattle.std.specs.Prelude.{◌≡◌, ℕ, ◌<◌, ◌^◌, ◌∷◌, [], OnOk, codes};
+ghost use Rattle.rbg_lines.specs.declared.entry.Entry.TheVariants.{Move as MoveEntry};
+ghost use Rattle.rbg_script.specs.Events.{AbstractEvent, fields_text};
+ghost use Rattle.rbg_wire.specs.Messages.{ArePairs, message_text, move_message};
+ghost use Rattle.rbg_wire.specs.Writing.{Appends};
 ghost use Rattle.rbg_scripting.specs.Scripting.{end_events, events_in, move_events};
 ghost use Rattle.rbg_scripting.specs.internal.Telling.{TellsEvents};
 
@@ -36,19 +38,11 @@ fn write_made(
     if player == 0 {
         return Ok(());
     }
-    let text = move_text(alloc, pairs)?;
+    let mut text = Vec::new(alloc);
+    text.push(b'M')?;
+    write_pairs(pairs.as_slice(), &mut text)?;
     write_message(player, at, text.as_slice(), out)?;
     Ok(())
-}
-
-/// The message of a move, without its zero byte.
-fn move_text(alloc: Global, pairs: &Move) -> Result<Vec<u8>, Memory>
-    ensures { IfOk result (λ text. text.items ≡ codes "M" ++ pairs_text pairs.now) }
-{
-    let mut text = Vec::new(alloc);
-    text.extend_from_slice(b"M")?;
-    write_pairs(pairs.as_slice(), &mut text)?;
-    Ok(text)
 }
 
 /// Appends the lines of the events by which a match ends so, if it doesn't by itself.

@@ -2,7 +2,7 @@
 ghost use Rattle.std.specs.Prelude.{◌≡◌, ◌∷◌, ◌++◌, ◌↔◌, [], ℕ, List, IfOk, IfSome, IfNone, IsErrOf, IsTrue, Err};
 ghost use Rattle.rbg_lines.specs.declared.entry.Timed.{Timed as AnyTimed};
 ghost use Rattle.rbg_scripting.specs.Scripting.{HasForm, IsNoRecord, IsScriptOfRecord};
-ghost use Rattle.rbg_scripting.specs.internal.Telling.{TellsNext, part_behind};
+ghost use Rattle.rbg_scripting.specs.internal.Telling.{IsTold, TellsNext};
 
 use crate::ScriptingError;
 use crate::entries::write_entry;

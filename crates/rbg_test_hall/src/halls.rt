@@ -70,6 +70,6 @@ fn begun_matches_are_told_of(rt: HostRuntime) -> Result<(), Fail> {
 fn players_ask_for_their_table(rt: HostRuntime) -> Result<(), Fail> {
     let mut said = Vec::from_slice(rt.alloc(), b"R")?;
     Player::join(rt.alloc(), 2, &mut said)?;
-    assert_eq!(rt; said.as_slice(), b"RH2\0".as_slice());
+    assert_eq!(rt; said.as_slice(), b"RH2\0");
     Ok(())
 }
