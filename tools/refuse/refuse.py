@@ -55,8 +55,6 @@ AFTERWARDS = {
     "step": ["the outbox is as before", "again memory"],
     "hear": ["the bytes are as before", "again memory"],
     "serve": ["each line took the beginning of what is queued"],
-    "hall-step": ["the queues are as before", "again memory"],
-    "hall-run": ["each line took the beginning of what is queued"],
 }
 # The same of `referee`, which tells how far it came: before the match, before the first event, or before the second one.
 REFEREED = [["done 0"], ["done 0", "seat 1 186 bytes", "seat 2 186 bytes"], ["done 1", "seat 1 199 bytes", "seat 2 199 bytes"]]

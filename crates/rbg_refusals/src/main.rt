@@ -8,7 +8,6 @@
 #![tactic(auto)]
 
 mod games;
-mod halls;
 mod limits;
 mod matches;
 mod players;
@@ -38,7 +37,6 @@ fn run_named<W: Write>(rt: &HostRuntime, name: &str, output: &mut W) -> Result<b
         texts::run(alloc, name, output)?
             || searches::run(alloc, name, output)?
             || matches::run(alloc, name, output)?
-            || halls::run(alloc, name, output)?
             || records::run(alloc, name, output)?
             || players::run(alloc, name, output)?
             || programs::run_program(rt, name, output)?,

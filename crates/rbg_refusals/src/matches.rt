@@ -4,7 +4,7 @@ ghost use Rattle.rbg_match.specs.PlayingOn.{seats_of};
 
 use crate::games::{CONFIG, GAME};
 use crate::stop::Stop;
-use crate::telling::{tell_again, tell_beginnings, tell_kept, tell_memory, tell_messages};
+use crate::telling::{tell_again, tell_kept, tell_memory, tell_messages};
 use rbg_game::load;
 use rbg_match::{Event, Match, MatchError, Outbox, RefereeError, referee};
 use rbg_serving::{Give, ListClock, MemoryLine, ServeError, Served, Take, serve};
@@ -13,10 +13,10 @@ use std::alloc::Global;
 use std::io::{self, Write};
 
 /// White's move in the small game, as a message.
-pub const WHITE: &[u8] = b"M0 3 0 4 0 5\0";
+const WHITE: &[u8] = b"M0 3 0 4 0 5\0";
 
 /// Black's move.
-pub const BLACK: &[u8] = b"M1 8 1 9\0";
+const BLACK: &[u8] = b"M1 8 1 9\0";
 
 /// What the seats say in the small game.
 const EVENTS: [Event<'static>; 2] = [
@@ -36,10 +36,10 @@ const EVENTS: [Event<'static>; 2] = [
 const PIECE: &[u8] = b" 3 0 4 0 5\0M1 8 1 9\0E0 100 0\0";
 
 /// How many bytes a line takes at most.
-pub const ROOM: usize = 1000;
+const ROOM: usize = 1000;
 
 /// How many rounds a match is served at most.
-pub const ROUNDS: u64 = 100;
+const ROUNDS: u64 = 100;
 
 /// Makes the run of a name, if it is one of these, and tells whether it is.
 pub fn run<W: Write>(alloc: Global, name: &str, output: &mut W) -> Result<bool, Stop> {
@@ -249,15 +249,24 @@ fn tell_served<W: Write>(
         }
         Err(ServeError::Memory) => {
             tell_memory(output)?;
-            tell_beginnings(took_beginnings(lines, outbox), output)
+            tell_beginnings(lines, outbox, output)
         }
         Err(error) => writeln!(output, "{error}"),
     }
 }
 
-/// Whether each line took the beginning of what is queued for its seat.
-fn took_beginnings(lines: &[MemoryLine; 2], outbox: &Outbox) -> bool {
-    outbox.seats() == 2
+/// Says whether each line took the beginning of what is queued for its seat.
+fn tell_beginnings<W: Write>(
+    lines: &[MemoryLine; 2],
+    outbox: &Outbox,
+    output: &mut W,
+) -> io::Result<()> {
+    let right = outbox.seats() == 2
         && outbox.bytes(1).starts_with(lines[0].took())
-        && outbox.bytes(2).starts_with(lines[1].took())
+        && outbox.bytes(2).starts_with(lines[1].took());
+    output.write_all(if right {
+        b"each line took the beginning of what is queued\n".as_slice()
+    } else {
+        b"a line took something else\n".as_slice()
+    })
 }

@@ -25,15 +25,6 @@ pub fn tell_again<W: Write>(memory: bool, output: &mut W) -> io::Result<()> {
     })
 }
 
-/// Says whether each line took the beginning of what is queued for it.
-pub fn tell_beginnings<W: Write>(right: bool, output: &mut W) -> io::Result<()> {
-    output.write_all(if right {
-        b"each line took the beginning of what is queued\n".as_slice()
-    } else {
-        b"a line took something else\n".as_slice()
-    })
-}
-
 /// Numbers behind a word, in a line.
 pub fn tell_numbers<W: Write>(word: &str, numbers: &[u32], output: &mut W) -> io::Result<()> {
     output.write_all(word.as_bytes())?;
