@@ -1,12 +1,12 @@
 //! The places of refusals, also of those that name none: of a board, and of too many things.
 
-use crate::actions::actions;
 use crate::boards::{board_place, nth_direction};
 use crate::place::place_of;
 use crate::sections::{expanded, nth_name, section_tokens};
 use rbg_game::limits::{MAX_DIRECTIONS, MAX_PIECES, MAX_PLAYERS, MAX_POSITIONS, MAX_VARIABLES};
 use rbg_game::{GameError, LoadError, Thing};
 use rbg_macro::{SectionKind, Source};
+use rbg_passages::actions;
 use rbg_tokens::{Token, Tokens};
 use std::alloc::{AllocError, Global};
 

@@ -3,13 +3,13 @@
 use crate::brackets::open_bracket;
 use crate::calls::{called_lines, push_calls};
 use crate::exact::find_place;
-use crate::excerpt::Excerpt;
 use crate::message::{Found, Message};
 use crate::origin::faulty_call;
 use crate::spot::{Spot, head_name};
 use rbg_console::Refusal;
 use rbg_game::LoadError;
 use rbg_macro::MacroError;
+use rbg_passages::Excerpt;
 use rbg_syntax::SyntaxError;
 use rbg_tokens::{Symbol, TextError, TextLine, Token, Tokens};
 use std::alloc::{AllocError, Global};

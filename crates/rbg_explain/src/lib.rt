@@ -2,12 +2,10 @@
 //! vertices are, and what they are warned of.
 #![tactic(auto)]
 
-mod actions;
 mod boards;
 mod brackets;
 mod calls;
 mod exact;
-mod excerpt;
 mod explanation;
 mod listed;
 mod message;

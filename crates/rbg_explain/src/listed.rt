@@ -1,9 +1,9 @@
 //! What a game's positions and vertices are: a line for each.
 
-use crate::actions::{actions, push_action};
 use crate::sections::{cut, expanded, section_tokens};
 use rbg_game::Layout;
 use rbg_macro::SectionKind;
+use rbg_passages::{actions, push_action};
 use rbg_tokens::{TextLine, Token};
 use std::alloc::{AllocError, Global};
 

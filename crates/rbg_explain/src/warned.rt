@@ -1,12 +1,12 @@
 //! What an author is warned of, in words.
 
-use crate::actions::actions;
 use crate::boards::nth_direction;
 use crate::calls::called_lines;
 use crate::sections::{cut, expanded, nth_name, section_tokens};
 use crate::spot::is_section;
 use rbg_game::Game;
 use rbg_macro::{SectionKind, Source};
+use rbg_passages::actions;
 use rbg_tokens::{Symbol, TextLine, Token, Tokens};
 use rbg_warnings::{Thing, Warning, warnings};
 use std::alloc::{AllocError, Global};

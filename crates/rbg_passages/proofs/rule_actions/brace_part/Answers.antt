@@ -1,7 +1,7 @@
 -- A mark follows, or the end is found, or there is none.
-use Rattle.rbg_explain.specs.Actions.IsPart.{pattern, braces, open_braces}
-use Rattle.rbg_explain.proofs.Parts.{told}
-use Rattle.rbg_explain.proofs.actions.brace_part.Goals as goal
+use Rattle.rbg_passages.specs.Actions.IsPart.{pattern, braces, open_braces}
+use Rattle.rbg_passages.proofs.Parts.{told}
+use Rattle.rbg_passages.proofs.rule_actions.brace_part.Goals as goal
 
 pub returns-then-begins_pattern : goal.returns-then-begins_pattern
 returns-then-begins_pattern c t is = told t _ _ _ _ c.action.ensures.is_action c.action.ensures.further (pattern is (rw c.begins_pattern.ensures at c.if-begins_pattern.true))

@@ -1,9 +1,9 @@
 -- Nothing else is left at the end.
 use Rattle.std.proofs.Common.{sym, ◌∙◌}
 use Rattle.std.proofs.lemmas.Bool.{true≢false}
-use Rattle.rbg_explain.specs.Actions.IsPart.{single, between}
-use Rattle.rbg_explain.proofs.Parts.{told}
-use Rattle.rbg_explain.proofs.actions.part_of.Goals as goal
+use Rattle.rbg_passages.specs.Actions.IsPart.{single, between}
+use Rattle.rbg_passages.proofs.Parts.{told}
+use Rattle.rbg_passages.proofs.rule_actions.part_of.Goals as goal
 
 pub returns-then-is_single : goal.returns-then-is_single
 returns-then-is_single c =

@@ -1,7 +1,7 @@
 -- What ends it is found, or there is none.
-use Rattle.rbg_explain.specs.Actions.IsPart.{change, open_change}
-use Rattle.rbg_explain.proofs.Parts.{told}
-use Rattle.rbg_explain.proofs.actions.change_part.Goals as goal
+use Rattle.rbg_passages.specs.Actions.IsPart.{change, open_change}
+use Rattle.rbg_passages.proofs.Parts.{told}
+use Rattle.rbg_passages.proofs.rule_actions.change_part.Goals as goal
 
 pub returns-in-Some : goal.returns-in-Some
 returns-in-Some c t is = told t _ _ _ _ c.action.ensures.is_action c.action.ensures.further (change is c.in-Some.ensures.found)

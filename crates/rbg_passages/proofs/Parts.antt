@@ -4,7 +4,7 @@ use Rattle.std.proofs.lemmas.Bool.{true≢false}
 use Rattle.std.proofs.lemmas.List.{take_rest, length-drop, map-append}
 use Rattle.std.proofs.Math.Seq.{drop-cons, drop-drop}
 use Rattle.rbg_tokens.specs.declared.token.Token.{Token}
-use Rattle.rbg_explain.specs.Actions.{AreCut, action, none, IsPart, single, to_player, to_nobody, pattern, braces, open_braces, change, open_change, between, marks_pattern}
+use Rattle.rbg_passages.specs.Actions.{AreCut, action, none, IsPart, single, to_player, to_nobody, pattern, braces, open_braces, change, open_change, between, marks_pattern}
 
 -- an action with so many further tokens
 pub told : (t : Token) (ts : List Token) (is_action : Bool) (m n : ℕ) → is_action ≡ true → m ≡ n → IsPart t ts true n → IsPart t ts is_action m

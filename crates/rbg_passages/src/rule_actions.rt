@@ -3,14 +3,14 @@ ghost use Rattle.std.specs.Prelude.{◌≡◌, ◌↔◌, ◌<◌, ◌≤◌, Is
 ghost use Rattle.rbg_tokens.specs.declared.token.Token.{Token as AbstractToken};
 ghost use Rattle.rbg_tokens.specs.declared.token.TokenKind.TheVariants.{Symbol as OfSymbol};
 ghost use Rattle.rbg_tokens.specs.declared.token.Symbol.TheVariants.{OpenBrace, Arrow};
-ghost use Rattle.rbg_explain.specs.Actions.{AreCut, EndsChange, EndsOn, IsFirst, IsPart, ends_change, is_change, is_single as is_single_kind, marks_pattern};
+ghost use Rattle.rbg_passages.specs.Actions.{AreCut, EndsChange, EndsOn, IsFirst, IsPart, ends_change, is_change, is_single as is_single_kind, marks_pattern};
 
 use rbg_tokens::{Symbol, Token, TokenKind};
 use std::alloc::{AllocError, Global};
 
 /// The tokens of each action, in order of the positions. The bracket that closes an assignment list or an off, and what
 /// is inside a pattern, are no part of the action.
-pub(crate) fn actions<'a>(
+pub fn actions<'a>(
     alloc: Global,
     rules: &'a [Token<'a>],
 ) -> Result<Vec<&'a [Token<'a>]>, AllocError>
@@ -174,7 +174,7 @@ fn is_pattern_mark(token: &Token<'_>) -> bool {
 
 /// Adds an action as it is written, the brackets of an assignment and of an off included. Of a pattern the beginning is
 /// written.
-pub(crate) fn push_action(output: &mut Vec<u8>, action: &[Token<'_>]) -> Result<(), AllocError> {
+pub fn push_action(output: &mut Vec<u8>, action: &[Token<'_>]) -> Result<(), AllocError> {
     match action {
         [first, rest @ ..] if first.is(Symbol::Comma) => {
             output.extend_from_slice(b"[$ ")?;

@@ -1,6 +1,6 @@
 //! A line of a text, with carets below a place in it.
 ghost use Rattle.std.specs.Prelude.{◌≡◌, IfOk, map};
-ghost use Rattle.rbg_explain.specs.Excerpts.{shown_as, padded_as};
+ghost use Rattle.rbg_passages.specs.Excerpts.{shown_as, padded_as};
 
 use std::alloc::{AllocError, Global};
 

@@ -1,8 +1,8 @@
 -- A token follows, or none does.
 use Rattle.std.proofs.Common.{arith}
-use Rattle.rbg_explain.specs.Actions.IsPart.{to_player, to_nobody}
-use Rattle.rbg_explain.proofs.Parts.{told}
-use Rattle.rbg_explain.proofs.actions.player_part.Goals as goal
+use Rattle.rbg_passages.specs.Actions.IsPart.{to_player, to_nobody}
+use Rattle.rbg_passages.proofs.Parts.{told}
+use Rattle.rbg_passages.proofs.rule_actions.player_part.Goals as goal
 
 pub returns-in-empty : goal.returns-in-empty
 returns-in-empty c t is = to_nobody is (omega (arith, c.in-empty.len_below))

@@ -1,9 +1,9 @@
 -- One part after the other.
 use Rattle.std.proofs.Common.{◌≡◌, ℕ, List, map, refl, arith, length, drop, take, sym, ◌∙◌, ap, ◌≤◌, ◌<◌, ◌+◌, ◌-◌, ◌++◌, [], append-nil, subst}
 use Rattle.std.proofs.lemmas.List.{take_rest, length-drop, drop_all}
-use Rattle.rbg_explain.specs.Actions.{AreCut, nothing}
-use Rattle.rbg_explain.proofs.Parts.{grown, within_rest, step_at}
-use Rattle.rbg_explain.proofs.actions.actions.Goals as goal
+use Rattle.rbg_passages.specs.Actions.{AreCut, nothing}
+use Rattle.rbg_passages.proofs.Parts.{grown, within_rest, step_at}
+use Rattle.rbg_passages.proofs.rule_actions.actions.Goals as goal
 
 pub overflow_add-end-in-loop-at : goal.overflow_add-end-in-loop-at
 overflow_add-end-in-loop-at c =
