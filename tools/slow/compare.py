@@ -37,7 +37,8 @@ class Comparer:
         self.folder = tempfile.TemporaryDirectory(prefix="compare-")
 
     def run_program(self, case):
-        """What the program prints, and its status. What standard error has beside the lines it may have counts as printed."""
+        """What the program prints with the file that it has made, and its status. What standard error has beside the lines it
+        may have counts as printed."""
         for left in pathlib.Path(self.folder.name).iterdir():
             left.unlink()
         for name, content in case.files.items():
@@ -48,11 +49,14 @@ class Comparer:
             )
         except subprocess.TimeoutExpired:
             raise TooLate
-        return done.stdout + TOLD.sub(b"", done.stderr), done.returncode
+        folder = pathlib.Path(self.folder.name)
+        files = {case.made: (folder / case.made).read_bytes()} if case.made and (folder / case.made).exists() else {}
+        return done.stdout + TOLD.sub(b"", done.stderr) + case.shown_file(files), done.returncode
 
     def run_interpreter(self, case):
         files = {name: bytes(content) for name, content in case.files.items()}
-        return program.run(case.words, bytes(case.standard_input), files)
+        printed, status = program.run(case.words, bytes(case.standard_input), files)
+        return printed + case.shown_file(files), status
 
     def both(self, case):
         """What both print, and their statuses."""
@@ -74,6 +78,7 @@ def content(case, part):
 def with_content(case, part, new):
     changed = stored.Case(case.name)
     changed.words, changed.standard_input, changed.files = case.words, case.standard_input, dict(case.files)
+    changed.made = case.made
     if part is None:
         changed.standard_input = new
     else:
@@ -114,6 +119,7 @@ def still_differs(comparer, case):
 def spell(case, ours, theirs):
     """A case as rbg_cases writes it, and what came out, as comments."""
     lines = ["case " + case.name.decode(), *(["words " + " ".join(case.words)] if case.words else [])]
+    lines += ["made " + case.made] if case.made else []
     for part in parts_of(case):
         lines += [] if part is None else ["file " + part]
         for line in re.findall(rb"[^\n]*\n|[^\n]+", content(case, part)):
@@ -134,7 +140,7 @@ def compare_stored():
     for case, expected in [*stored.cases(), *stored.matches()]:
         files = {name: bytes(content) for name, content in case.files.items()}
         count += 1
-        if case.shown(*program.run(case.words, bytes(case.standard_input), files)) != expected:
+        if case.shown(*program.run(case.words, bytes(case.standard_input), files), files) != expected:
             faults.append(case.name.decode())
     print(f"stored cases {count} different {len(faults)}", *faults, sep="\n  ", flush=True)
     return bool(faults)

@@ -54,6 +54,7 @@ def limits_case(chance, case):
 def stored_case(chance, case):
     """A stored case of rbg_cases with a mutation, but none of those that take long."""
     found = chance.choice(stored_cases())
+    case.made = found.made
     case.words, case.files = found.words, {name: bytes(content) for name, content in found.files.items()}
     case.standard_input = bytes(found.standard_input)
     mutate = chance.choice([texts.mutate, texts.mutate, texts.mutate_names])
@@ -121,10 +122,17 @@ def give_script(chance, case, text, script):
         case.words = ["referee", "game.rbg"]
         case.files["game.rbg"] = text
         case.standard_input = script
-        return
-    case.words = chance.choice([[], ["referee"]])
-    mark = b"%%\n" if chance.random() < 0.98 else chance.choice([b"%%", b"%% \n", b"", b"%%\r\n", b"\n%%\n"])
-    case.standard_input = text + b"\n" + mark + script
+    else:
+        case.words = chance.choice([[], ["referee"]])
+        case.standard_input = text + b"\n" + mark_line(chance) + script
+    if case.words and chance.random() < 0.3:
+        at = chance.randint(1, len(case.words))
+        case.words[at:at] = chance.choice([["--record", "made.record"], ["--record=made.record"]])
+        case.made = "made.record"
+
+
+def mark_line(chance):
+    return b"%%\n" if chance.random() < 0.98 else chance.choice([b"%%", b"%% \n", b"", b"%%\r\n", b"\n%%\n"])
 
 
 def replay(chance, case, text):

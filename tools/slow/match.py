@@ -10,7 +10,8 @@ MOST_KEEPER_MOVES = 1_000
 
 
 class Match:
-    """`sent` holds for each seat, from 1 on, the messages that it was sent. Once it has `ended`, events are ignored."""
+    """`sent` holds for each seat, from 1 on, the messages that it was sent, and `made` each move with its moment and its
+    player. Once there is an `outcome`, events are ignored."""
 
     def __init__(self, game, text, turn, refusals, now):
         self.place = Place(game)
@@ -19,8 +20,9 @@ class Match:
         self.streams = {seat: Stream() for seat in self.seats}
         self.refused = {seat: 0 for seat in self.seats}
         self.turn, self.allowed = turn, refusals
-        self.now = min(now, MOST_MOMENT)
-        self.ended = False
+        self.began = self.now = min(now, MOST_MOMENT)
+        self.made = []
+        self.outcome = None
         for seat in self.seats:
             self.send(seat, f"W{seat} {game.players[seat - 1]}")
             self.send(seat, f"G {len(text)}")  # as it is printed
@@ -34,9 +36,13 @@ class Match:
         for seat in self.seats:
             self.send(seat, message)
 
+    @property
+    def ended(self):
+        return self.outcome is not None
+
     def end(self, message):
         self.send_all(message)
-        self.ended = True
+        self.outcome = message
 
     # Play
 
@@ -59,6 +65,7 @@ class Match:
             return self.end("E4")
 
     def make(self, pairs):
+        self.made.append((self.now, self.place.mover(), pairs))
         self.place.make(pairs)
         self.send_all("M" + wire.spell(pairs))
 
@@ -81,7 +88,7 @@ class Match:
             for other in self.seats:
                 if other != seat:
                     self.send(other, f"E3 {seat}")
-            self.ended = True
+            self.outcome = f"E3 {seat}"
 
     def piece(self, seat, moment, piece):
         if self.begins(moment) and seat in self.seats:

@@ -33,7 +33,8 @@ class Fault(Exception):
 
 
 def run(words, standard_input, files):
-    """The bytes that are printed, and the status. `files` has the bytes of each file that can be read, by its name."""
+    """The bytes that are printed, and the status. `files` has the bytes of each file that can be read, by its name; a file
+    that is made is added."""
     try:
         lines, status = COMMANDS[tuple(words[:1])](words[1:], standard_input, files), 0
     except Fault as fault:
@@ -68,18 +69,42 @@ def split_at_mark(given):
     raise Fault("script 0", 2)
 
 
+def named_files(words):
+    """The description's file and the record's of `referee`, or None for each that isn't named."""
+    words = list(words)
+    record = None
+    for at, word in enumerate(words):
+        if word == "--record":
+            record = words[at + 1]
+            del words[at : at + 2]
+            break
+        if word.startswith("--record="):
+            record = words.pop(at).removeprefix("--record=")
+            break
+    return words[0] if words else None, record
+
+
 def referee(words, standard_input, files):
-    if words:
-        text, script = take_file(files, words[0]), standard_input
+    file, record = named_files(words)
+    text = None if file is None else take_file(files, file)
+    if record is not None:
+        if record in files:
+            raise Fault("device", 3)
+        files[record] = b""
+    if text is None:
+        text, script = split_at_mark(standard_input)
+    else:
+        script = standard_input
         if len(script) > MOST_INPUT:
             raise Fault("script 0", 2)
-    else:
-        text, script = split_at_mark(standard_input)
     game = load(text)
     try:
-        return scripts.referee(game, text, script)
+        match = scripts.referee(game, text, script)
     except scripts.Faulty as faulty:
         raise Fault(str(faulty), 2)
+    if record is not None:
+        files[record] = "".join(line + "\n" for line in records.of_match(match)).encode("latin-1")
+    return scripts.sent(match)
 
 
 def check(words, standard_input, files):

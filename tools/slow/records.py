@@ -179,3 +179,13 @@ def migrate(game, record):
         lines.number += 1
         raise lines.form()
     return migrated
+
+
+# The record of a match
+
+
+def of_match(match):
+    """The lines of the match's record of version 2."""
+    names = " ".join(["players", *match.place.game.players])
+    moves = [f"{moment} {player} {wire.spell(pairs)}" for moment, player, pairs in match.made]
+    return ["rbg 2", names, f"start {match.turn} {match.began}", *moves, f"{match.now} {match.outcome or '-'}"]

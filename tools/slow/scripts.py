@@ -66,9 +66,14 @@ def read_event(line):
 
 
 def referee(game, text, script):
-    """What is printed of the match."""
+    """The match after the events of a script."""
     config, events = read(script)
     match = Match(game, text, *config)
     for event in events:
         event(match)
+    return match
+
+
+def sent(match):
+    """What is printed of a match."""
     return [f"{seat} {message}" for seat in match.seats for message in match.sent[seat]]

@@ -2,6 +2,8 @@
 
 import pathlib
 
+import program
+
 CRATES = pathlib.Path(__file__).resolve().parents[2] / "crates"
 COVERED = ("referee", "check", "moves", "replay", "migrate")
 
@@ -14,6 +16,7 @@ class Case:
         self.words = []
         self.standard_input = bytearray()
         self.files = {}
+        self.made = None  # the file that is shown too
         self.last = None
         self.author = False
 
@@ -21,30 +24,43 @@ class Case:
         if self.author:
             return False
         arguments = self.words[1:]
-        fits = {"referee": len(arguments) < 2, "replay": len(arguments) == 2, "migrate": len(arguments) == 2}
+        if self.words[:1] == ["referee"] and arguments[-1:] != ["--record"]:
+            arguments = [name for name in program.named_files(arguments) if name is not None]
+        fits = {"referee": len(arguments) < 3, "replay": len(arguments) == 2, "migrate": len(arguments) == 2}
         return not self.words or (
             self.words[0] in COVERED
             and fits.get(self.words[0], len(arguments) == 1)
             and not any(word.startswith("-") for word in arguments)
         )
 
-    def shown(self, printed, status):
-        """What the stored output has of the run."""
+    def shown(self, printed, status, files):
+        """What the stored output has of the run, which left these files."""
         lines = printed.splitlines(keepends=True)
         kept = lines if self.last is None else lines[len(lines) - self.last :]
-        return b"".join(kept) + f"status {status}\n".encode()
+        return b"".join(kept) + self.shown_file(files) + f"status {status}\n".encode()
+
+    def shown_file(self, files):
+        """What is shown of the file that the run has made."""
+        if self.made is None or self.made in self.files or self.made not in files:
+            return b""
+        return f"made {self.made}\n".encode() + bytes(files[self.made])
 
 
 def cases():
-    """Pairs of a covered case of rbg_cases and its stored output."""
+    """Pairs of a covered case of rbg_cases and its stored output. What a case has made is there for those behind it."""
+    made = {}
     read = list(read_cases((CRATES / "rbg_cases/stdin").read_bytes().splitlines()))
     stored = (CRATES / "rbg_cases/stdout").read_bytes()
     for case, following in zip(read, read[1:] + [None]):
         head = b"case " + case.name + b"\n"
         assert stored.startswith(head), case.name
         end = len(stored) if following is None else stored.index(b"\ncase " + following.name + b"\n") + 1
+        expected = stored[len(head) : end]
+        case.files = {**{name: made[name] for name in case.words if name in made}, **case.files}
         if case.covered():
-            yield case, stored[len(head) : end]
+            yield case, expected
+        if case.made is not None:
+            made[case.made] = expected.partition(f"made {case.made}\n".encode())[2].rpartition(b"status ")[0]
         stored = stored[end:]
 
 
@@ -68,6 +84,8 @@ def read_cases(lines):
             case.words = name.decode().split()
         elif word == b"file":
             target = case.files[name.decode()] = bytearray()
+        elif word == b"made":
+            case.made = name.decode()
         elif word == b"last":
             case.last = int(name)
         elif word == b"author":
