@@ -4,9 +4,13 @@ use crate::player_refusal::PlayerRefusal;
 use rbg_console::{Refusal, Status, WordsError, write_text};
 use rbg_game::LoadError;
 use rbg_hosting::HallFault;
+use rbg_log::{OpenError, ResumeError, Stop};
 use rbg_match::MatchError;
 use rbg_network::{ClientError, GatherError};
 use rbg_player::PlayerError;
+use rbg_refereeing::RefereeingError;
+use rbg_script::ScriptError;
+use rbg_scripting::ScriptingError;
 use rbg_serving::ServeError;
 use std::alloc::AllocError;
 use std::io::{self, Write};
@@ -21,6 +25,12 @@ pub enum Fault {
     /// The config of the match is outside its limits. The words of no command give such a one.
     #[error("script 1")]
     Config,
+    /// This line of a record is missing, or not of the form; 0 if the record is longer than one may be.
+    #[error("form {0}")]
+    Form(usize),
+    /// This line of a script is missing, or not of its form; 0 if the script is longer than one may be.
+    #[error("script {0}")]
+    Script(usize),
     /// A file or standard input can't be read, or a connection can't be made, read or written.
     #[error("device")]
     Device,
@@ -49,6 +59,8 @@ impl Fault {
         match self {
             Fault::Refused(_) => Status::Refused,
             Fault::Config => Status::BadInput,
+            Fault::Form(_) => Status::BadInput,
+            Fault::Script(_) => Status::BadInput,
             Fault::Device => Status::Device,
             Fault::Rounds => Status::Device,
             Fault::Absent => Status::Device,
@@ -88,6 +100,62 @@ impl From<HallFault> for Fault {
             HallFault::Absent => Fault::Absent,
             HallFault::Rounds => Fault::Rounds,
             HallFault::Memory(error) => Fault::Memory(error),
+        }
+    }
+}
+
+impl From<ScriptingError> for Fault {
+    fn from(error: ScriptingError) -> Fault {
+        match error {
+            ScriptingError::Form(line) => Fault::Form(line),
+            ScriptingError::Memory => Fault::Memory(AllocError),
+        }
+    }
+}
+
+impl From<OpenError> for Fault {
+    fn from(error: OpenError) -> Fault {
+        match error {
+            OpenError::Config => Fault::Config,
+            OpenError::Log => Fault::Device,
+            OpenError::Memory => Fault::Memory(AllocError),
+        }
+    }
+}
+
+impl From<ScriptError> for Fault {
+    fn from(error: ScriptError) -> Fault {
+        match error {
+            ScriptError::Line(line) => Fault::Script(line),
+            ScriptError::Memory => Fault::Memory(AllocError),
+        }
+    }
+}
+
+impl From<RefereeingError> for Fault {
+    fn from(error: RefereeingError) -> Fault {
+        match error {
+            RefereeingError::Load(error) => Fault::from(error),
+            RefereeingError::Script(line) => Fault::Script(line),
+            RefereeingError::Memory => Fault::Memory(AllocError),
+        }
+    }
+}
+
+impl From<ResumeError> for Fault {
+    fn from(error: ResumeError) -> Fault {
+        match error {
+            ResumeError::Refereeing(error) => Fault::from(error),
+            ResumeError::Log => Fault::Device,
+        }
+    }
+}
+
+impl From<Stop> for Fault {
+    fn from(stop: Stop) -> Fault {
+        match stop {
+            Stop::Log => Fault::Device,
+            Stop::Time => Fault::Rounds,
         }
     }
 }

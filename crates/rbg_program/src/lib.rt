@@ -4,11 +4,14 @@
 
 mod ask;
 mod commands;
+mod cut;
 mod fault;
 mod inputs;
 mod player_refusal;
 mod printed;
 mod program;
+mod resuming;
+mod script;
 mod serving;
 mod task;
 mod words;
@@ -16,5 +19,6 @@ mod words;
 pub use fault::{Fault, report};
 pub use program::run;
 pub use rbg_console::{Files, Input, Status};
+pub use rbg_log::{Log, LogFailure};
 pub use rbg_network::{Network, News, SystemClock, SystemNetwork};
 pub use rbg_serving::Clock;

@@ -5,7 +5,9 @@ ghost use Rattle.rbg_program.specs.Runs.{IsRunFor};
 ghost use Rattle.rbg_program.specs.Words.{Asks, Wish};
 
 use crate::ask::ask_file;
+use crate::cut::referee_cut;
 use crate::fault::{Fault, report};
+use crate::script::script_file;
 use crate::serving::{demo_file, play, serve_file, serve_hall};
 use crate::task::Task;
 use crate::words::{Asked, asked_by};
@@ -67,6 +69,7 @@ fn obey<F: Files, N: Network, R: Read, W: Write>(
 ) -> Status {
     let outcome = match task {
         Task::Referee => return run_referee(alloc, input, output),
+        Task::Cut { file } => return referee_cut(alloc, file, files, input, output),
         Task::Files(task) => return run_task(alloc, task, files, input, output),
         Task::Recorded(task) => return run_recorded(alloc, task, files, input, output),
         Task::Moves { file } => return run_moves(alloc, file, files, output),
@@ -89,12 +92,12 @@ fn obey<F: Files, N: Network, R: Read, W: Write>(
         ),
         Task::Ask { file } => ask_file(alloc, files, file, input, output),
         Task::Demo { file, service } => demo_file(alloc, files, file, network, service),
+        Task::Script { record } => script_file(alloc, files, record),
         Task::Serve {
             file,
             port,
-            service,
-            hosting,
-        } => serve_file(alloc, files, file, network, port, service, hosting),
+            serving,
+        } => serve_file(alloc, files, file, network, port, &serving),
         Task::Play {
             port,
             table,

@@ -8,19 +8,21 @@ ghost use Rattle.rbg_program.specs.Served.{IsMatchRecord, IsPlayedMatch, plain_r
 use crate::fault::Fault;
 use crate::inputs::read_description;
 use crate::printed::outcome_line;
-use crate::task::Service;
+use crate::resuming::resume_text;
+use crate::task::{Keeping, Service, Serving};
 use rbg_console::Files;
 use rbg_game::{Game, load};
 use rbg_hosting::{HallService, serve_files};
-use rbg_match::Match;
+use rbg_log::{Log, LoggedMatch};
+use rbg_match::{Match, Outbox};
 use rbg_network::{
     Client, Hosting, Network, News, StreamLine, connect_players, gather, tell_who_gave_up,
 };
 use rbg_player::Heard;
 use rbg_record::{write_record, write_record_1};
-use rbg_serving::{Clock, Line, serve};
+use rbg_serving::{Clock, Line, ServeError, serve};
 use rbg_wire::Outcome;
-use std::alloc::Global;
+use std::alloc::{AllocError, Global};
 
 /// Referees a match of the file's game between the first players that connect to the port, and gives its record.
 pub fn serve_file<F: Files, N: Network>(
@@ -29,14 +31,17 @@ pub fn serve_file<F: Files, N: Network>(
     file: &str,
     network: &mut N,
     port: u16,
-    service: Service,
-    hosting: Hosting,
+    serving: &Serving<'_>,
 ) -> Result<Vec<u8>, Fault>
     ensures { IfOk result (λ told. IsMatchRecord timed_record (F.told files.old file.now) told.items) }
 {
     let text = read_description(alloc, files, file)?;
-    let played = serve_text(alloc, text.as_slice(), network, port, service, hosting);
-    tell_end(network, service, hosting, &played);
+    let text = text.as_slice();
+    let played = match serving.keeping.resume {
+        Some(log) => resume_text(alloc, text, files, log, network, port, serving),
+        None => serve_text(alloc, text, network, port, serving),
+    };
+    tell_end(network, serving, &played);
     record_match(alloc, &played?)
 }
 
@@ -50,41 +55,146 @@ fn record_match(alloc: Global, played: &Match) -> Result<Vec<u8>, Fault>
 }
 
 /// Tells how a match ended, or that it didn't.
-fn tell_end<N: Network>(
-    network: &mut N,
-    service: Service,
-    hosting: Hosting,
-    played: &Result<Match, Fault>,
-) {
+fn tell_end<N: Network>(network: &mut N, serving: &Serving<'_>, played: &Result<Match, Fault>) {
     match played {
         Ok(played) => {
             if let Some(outcome) = played.outcome() {
-                hosting.tell(network, &News::Ended { outcome });
+                serving.hosting.tell(network, &News::Ended { outcome });
             }
         }
-        Err(Fault::Rounds) => {
-            let rounds = service.rounds;
-            hosting.tell(network, &News::Unfinished { rounds });
-        }
+        Err(Fault::Rounds) => serving.hosting.tell(network, &bound_of(serving)),
         Err(_) => {}
     }
 }
 
-/// Referees a match of the text's game between the first players that connect to the port.
+/// The news that a match didn't end within its bound.
+fn bound_of(serving: &Serving<'_>) -> News<'static> {
+    match serving.keeping.minutes {
+        Some(minutes) => News::OutOfTime { minutes },
+        None => News::Unfinished {
+            rounds: serving.service.rounds,
+        },
+    }
+}
+
+/// Referees a match of the text's game between the first players that connect to the port. Its log is begun before
+/// they are waited for.
 fn serve_text<N: Network>(
     alloc: Global,
     text: &[u8],
     network: &mut N,
     port: u16,
-    service: Service,
-    hosting: Hosting,
+    serving: &Serving<'_>,
 ) -> Result<Match, Fault>
     ensures { IfOk result (λ played. IsPlayedMatch text.now played) }
 {
     let game = load(alloc, text)?;
+    let log = create_log(network, &serving.keeping)?;
+    let hosting = serving.hosting;
     let mut lines = accept_players(alloc, network, port, game.players(), hosting)?;
+    tell_names(network, serving);
     hosting.tell(network, &News::Begins);
-    serve_lines(alloc, game, text, network, service, lines.as_mut_slice())
+    serve_logged(alloc, game, text, network, serving, log, lines.as_mut_slice())
+}
+
+/// The new log of a match, if one is wanted.
+fn create_log<N: Network>(network: &mut N, keeping: &Keeping<'_>) -> Result<Option<N::Log>, Fault> {
+    match keeping.log {
+        Some(name) => Ok(Some(network.create_log(name, keeping.sync)?)),
+        None => Ok(None),
+    }
+}
+
+/// Tells who sits where, as far as the organiser says.
+pub(crate) fn tell_names<N: Network>(network: &mut N, serving: &Serving<'_>) {
+    if let Some(names) = serving.keeping.names {
+        for (index, name) in names.split(',').enumerate() {
+            let seat = index.saturating_add(1);
+            serving.hosting.tell(network, &News::Sits { seat, name });
+        }
+    }
+}
+
+/// Referees a match over the lines, one for each seat, until it has ended, and writes its log. A clock begins with it.
+fn serve_logged<N: Network, L: Line>(
+    alloc: Global,
+    game: Game,
+    text: &[u8],
+    network: &mut N,
+    serving: &Serving<'_>,
+    log: Option<N::Log>,
+    lines: &mut [L],
+) -> Result<Match, Fault>
+    requires loaded { Loads text.now game }
+    requires lines { length lines.old ≡ seats_of game }
+    ensures { IfOk result (λ played. IsPlayedMatch text.now played) }
+{
+    let mut clock = network.start_clock()?;
+    play_logged(alloc, game, text, serving, log, lines, &mut clock)
+}
+
+fn play_logged<L: Line, C: Clock, W: Log>(
+    alloc: Global,
+    game: Game,
+    text: &[u8],
+    serving: &Serving<'_>,
+    log: W,
+    lines: &mut [L],
+    clock: &mut C,
+) -> Result<Match, Fault>
+    requires loaded { Loads text.now game }
+    requires lines { length lines.old ≡ seats_of game }
+    ensures { IfOk result (λ played. IsPlayedMatch text.now played) }
+{
+    let config = serving.service.config;
+    let now = clock.now();
+    let (logged, mut outbox) = LoggedMatch::open(alloc, game, text, config, now, log)?;
+    play_on(alloc, logged, serving, now, lines, &mut outbox, clock)
+}
+
+/// Serves a match from this moment on, until it has ended or its bound is used up.
+pub(crate) fn play_on<L: Line, C: Clock, W: Log>(
+    alloc: Global,
+    logged: LoggedMatch<W>,
+    serving: &Serving<'_>,
+    now: u64,
+    lines: &mut [L],
+    outbox: &mut Outbox,
+    clock: &mut C,
+) -> Result<Match, Fault>
+    requires lines { length lines.old ≡ seats_of logged.played.game }
+    requires seats { length outbox.old ≡ seats_of logged.played.game }
+    ensures { (description : List ℕ) → IsPlayedMatch description logged.played →
+        IfOk result (λ played. IsPlayedMatch description played) }
+{
+    let mut logged = logged;
+    let rounds = begin_bound(&mut logged, serving, now);
+    match logged.serve(alloc, lines, outbox, clock, rounds) {
+        Ok(_) => Ok(logged.into_played()),
+        Err(ServeError::Rounds) => Err(Fault::Rounds),
+        Err(ServeError::Memory) => Err(fault_of(&logged)),
+    }
+}
+
+/// Sets how long a match may take, and returns the most rounds.
+fn begin_bound<W: Log>(logged: &mut LoggedMatch<W>, serving: &Serving<'_>, now: u64) -> u64
+    ensures played { logged.new.played ≡ logged.old.played }
+{
+    match serving.keeping.minutes {
+        Some(minutes) => {
+            logged.stop_at(now.saturating_add(minutes.saturating_mul(60_000)));
+            u64::MAX
+        }
+        None => serving.service.rounds,
+    }
+}
+
+/// Why a match handles no more events.
+fn fault_of<W: Log>(logged: &LoggedMatch<W>) -> Fault {
+    match logged.stopped() {
+        Some(stop) => Fault::from(stop),
+        None => Fault::Memory(AllocError),
+    }
 }
 
 /// Referees a match of each file's game at once, between the players that connect to the port and join it, and gives the
@@ -172,7 +282,7 @@ fn play_rounds<N: Network>(
 ) -> Result<Outcome, Fault> {
     let mut told = false;
     for _ in 0..rounds {
-        let heard = client.turn()?;
+        let heard = client.patient_turn()?;
         told = told || tell_seat(network, client);
         if let Heard::Ended(outcome) = heard {
             return Ok(outcome);
@@ -193,7 +303,7 @@ fn tell_seat<N: Network>(network: &mut N, client: &Client<N::Stream>) -> bool {
 }
 
 /// Waits until that many players have connected to the port. Their lines are in order of seats.
-fn accept_players<N: Network>(
+pub(crate) fn accept_players<N: Network>(
     alloc: Global,
     network: &mut N,
     port: u16,

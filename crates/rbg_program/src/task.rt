@@ -24,6 +24,29 @@ pub struct Service {
     pub rounds: u64,
 }
 
+/// What is kept of a match that is served, and how long it may take.
+#[derive(Clone, Copy, Debug)]
+pub struct Keeping<'a> {
+    /// The new file for the log.
+    pub log: Option<&'a str>,
+    /// The log of a match that goes on.
+    pub resume: Option<&'a str>,
+    /// Whether each write to the log waits for the disk.
+    pub sync: bool,
+    /// How many minutes the match may take. Then its rounds aren't counted.
+    pub minutes: Option<u64>,
+    /// Who sits where, seat 1 first, with a comma between two names.
+    pub names: Option<&'a str>,
+}
+
+/// How a match between players at a port is served.
+#[derive(Clone, Copy, Debug)]
+pub struct Serving<'a> {
+    pub service: Service,
+    pub keeping: Keeping<'a>,
+    pub hosting: Hosting,
+}
+
 /// What the program is asked to do.
 #[derive(Debug, Drop)]
 pub enum Task<'a> {
@@ -39,6 +62,11 @@ pub enum Task<'a> {
     Ask {
         file: &'a str,
     },
+    /// To referee a match whose script is on standard input, where a last line that isn't whole is left out. Without a
+    /// file the description stands before the script.
+    Cut {
+        file: Option<&'a str>,
+    },
     /// To referee a match, whose description stands before the script on standard input.
     Referee,
     /// To referee a match between players of this process.
@@ -46,12 +74,15 @@ pub enum Task<'a> {
         file: &'a str,
         service: Service,
     },
+    /// To print a script of a record.
+    Script {
+        record: &'a str,
+    },
     /// To referee a match between the players that connect to the port.
     Serve {
         file: &'a str,
         port: u16,
-        service: Service,
-        hosting: Hosting,
+        serving: Serving<'a>,
     },
     /// To let a hall, with a table for the game of each file, hear a script.
     HallScript {
@@ -113,6 +144,9 @@ impl<'a> Task<'a> {
                 file: text_of(words, "FILE"),
                 record: text_of(words, "RECORD"),
             }),
+            "script" => Task::Script {
+                record: text_of(words, "RECORD"),
+            },
             "demo" => Task::Demo {
                 file: text_of(words, "FILE"),
                 service: service_of(words),
@@ -120,13 +154,19 @@ impl<'a> Task<'a> {
             "serve" => Task::Serve {
                 file: text_of(words, "FILE"),
                 port: port_of(words),
-                service: service_of(words),
-                hosting: hosting_of(words),
+                serving: Serving {
+                    service: service_of(words),
+                    keeping: keeping_of(words),
+                    hosting: hosting_of(words),
+                },
             },
             "play" => Task::Play {
                 port: port_of(words),
                 table: words.get_one("match"),
                 rounds: rounds_of(words),
+            },
+            _ if words.get_flag("cut") => Task::Cut {
+                file: words.get_str("FILE"),
             },
             _ => referee_of(words),
         }
@@ -169,6 +209,16 @@ fn hosting_of(words: &ArgMatches<'_>) -> Hosting {
     Hosting {
         wait: words.get_one("wait"),
         quiet: words.get_flag("quiet"),
+    }
+}
+
+fn keeping_of<'a>(words: &ArgMatches<'a>) -> Keeping<'a> {
+    Keeping {
+        log: words.get_str("log"),
+        resume: words.get_str("resume"),
+        sync: words.get_flag("sync"),
+        minutes: words.get_one("minutes"),
+        names: words.get_str("names"),
     }
 }
 
