@@ -38,11 +38,7 @@ pub struct MemoryNetwork<'a> {
 
 impl<'a> MemoryNetwork<'a> {
     /// The network of a case: where nothing listens, each connection gives the next of these streams.
-    pub fn new(
-        alloc: Global,
-        streams: &'a [Stream],
-        files: &'a [Text<'a>],
-    ) -> MemoryNetwork<'a> {
+    pub fn new(alloc: Global, streams: &'a [Stream], files: &'a [Text<'a>]) -> MemoryNetwork<'a> {
         MemoryNetwork {
             alloc,
             streams,

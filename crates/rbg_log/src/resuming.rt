@@ -55,6 +55,8 @@ pub fn play_script(
     ensures played { IfOk result (λ made.
         IsScriptPlayed description.now (script_of script.now) made.0 made.1) }
     ensures seats { IfOk result (λ made. length made.1 ≡ seats_of made.0.game) }
+    ensures loads { IfOk result (λ made. Loads description.now made.0.game) }
+    ensures history { IfOk result (λ made. HasHistory made.0) }
 {
     let events = match events_of(alloc, script.events.as_slice()) {
         Ok(events) => events,

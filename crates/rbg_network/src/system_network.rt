@@ -1,8 +1,7 @@
 //! The connections and the clock of the system. What fails is said on standard error, and so is what is told.
 
-use crate::News;
 use crate::network::{Network, is_nothing_yet};
-use crate::SystemLog;
+use crate::{News, SystemLog};
 use rbg_serving::Clock;
 use std::fs::{self, File};
 use std::net::{Ipv4Addr, TcpListener, TcpStream};

@@ -65,7 +65,7 @@ fn referee_command<'a>(alloc: Global) -> Result<Command<'a>, AllocError> {
         )
         .arg(file)?
         .arg(record_option(alloc))?
-        .arg(cut_option(alloc))
+        .arg(cut_option(alloc)?)
 }
 
 fn replay_command<'a>(alloc: Global) -> Result<Command<'a>, AllocError> {
@@ -93,7 +93,7 @@ fn serve_command<'a>(alloc: Global) -> Result<Command<'a>, AllocError> {
     let command = Command::new(alloc, "serve")
         .about("Referees a match between the players that connect to a port, and prints its record")
         .arg(game_argument(alloc))?
-        .arg(log_option(alloc))?
+        .arg(log_option(alloc)?)?
         .arg(resume_option(alloc))?
         .arg(sync_option(alloc))?
         .arg(minutes_option(alloc))?
@@ -198,25 +198,31 @@ fn quiet_option<'a>(alloc: Global) -> Arg<'a> {
         .action(ArgAction::SetTrue)
 }
 
-fn cut_option<'a>(alloc: Global) -> Arg<'a> {
+fn cut_option<'a>(alloc: Global) -> Result<Arg<'a>, AllocError> {
     Arg::new(alloc, "cut")
         .long("cut")
         .help("Leaves out a last line of the script that has no line feed")
         .action(ArgAction::SetTrue)
+        .conflicts_with("record")
 }
 
-fn log_option<'a>(alloc: Global) -> Arg<'a> {
+fn log_option<'a>(alloc: Global) -> Result<Arg<'a>, AllocError> {
     Arg::new(alloc, "log")
         .long("log")
         .value_name("LOG")
-        .help("A new file in which each event of the match is written before it is handled, as a script")
+        .help(
+            "A new file in which each event of the match is written before it is handled, as a script",
+        )
+        .conflicts_with("resume")
 }
 
 fn resume_option<'a>(alloc: Global) -> Arg<'a> {
     Arg::new(alloc, "resume")
         .long("resume")
         .value_name("LOG")
-        .help("The log of a match that was stopped and is to go on, with the log's time for a turn and refusals")
+        .help(
+            "The log of a match that was stopped and is to go on, with the log's time for a turn and refusals",
+        )
 }
 
 fn sync_option<'a>(alloc: Global) -> Arg<'a> {
@@ -238,7 +244,9 @@ fn names_option<'a>(alloc: Global) -> Arg<'a> {
     Arg::new(alloc, "names")
         .long("names")
         .value_name("NAMES")
-        .help("Who sits where, seat 1 first, with a comma between two names; they are told on standard error")
+        .help(
+            "Who sits where, seat 1 first, with a comma between two names; they are told on standard error",
+        )
 }
 
 fn match_option<'a>(alloc: Global) -> Arg<'a> {

@@ -4,13 +4,10 @@ use crate::player_refusal::PlayerRefusal;
 use rbg_console::{Refusal, Status, WordsError, write_text};
 use rbg_game::LoadError;
 use rbg_hosting::HallFault;
-use rbg_log::{OpenError, ResumeError, Stop};
+use rbg_keeping::KeepingFault;
 use rbg_match::MatchError;
 use rbg_network::{ClientError, GatherError};
 use rbg_player::PlayerError;
-use rbg_refereeing::RefereeingError;
-use rbg_script::ScriptError;
-use rbg_scripting::ScriptingError;
 use rbg_serving::ServeError;
 use std::alloc::AllocError;
 use std::io::{self, Write};
@@ -25,16 +22,14 @@ pub enum Fault {
     /// The config of the match is outside its limits. The words of no command give such a one.
     #[error("script 1")]
     Config,
-    /// This line of a record is missing, or not of the form; 0 if the record is longer than one may be.
-    #[error("form {0}")]
-    Form(usize),
-    /// This line of a script is missing, or not of its form; 0 if the script is longer than one may be.
+    /// This line of the log of a match that goes on is missing, or not of its form; 0 if it is longer than an input may be.
     #[error("script {0}")]
     Script(usize),
-    /// A file or standard input can't be read, or a connection can't be made, read or written.
+    /// A file or standard input can't be read, a log can't be made or written, or a connection can't be made, read or
+    /// written.
     #[error("device")]
     Device,
-    /// The match, or the player's part in it, did not end in as many rounds as it may have.
+    /// The match, or the player's part in it, did not end in as many rounds, or as much time, as it may have.
     #[error("rounds")]
     Rounds,
     /// Not all players have come in time. This is told on standard error, and has no printed line.
@@ -59,7 +54,6 @@ impl Fault {
         match self {
             Fault::Refused(_) => Status::Refused,
             Fault::Config => Status::BadInput,
-            Fault::Form(_) => Status::BadInput,
             Fault::Script(_) => Status::BadInput,
             Fault::Device => Status::Device,
             Fault::Rounds => Status::Device,
@@ -104,58 +98,16 @@ impl From<HallFault> for Fault {
     }
 }
 
-impl From<ScriptingError> for Fault {
-    fn from(error: ScriptingError) -> Fault {
+impl From<KeepingFault> for Fault {
+    fn from(error: KeepingFault) -> Fault {
         match error {
-            ScriptingError::Form(line) => Fault::Form(line),
-            ScriptingError::Memory => Fault::Memory(AllocError),
-        }
-    }
-}
-
-impl From<OpenError> for Fault {
-    fn from(error: OpenError) -> Fault {
-        match error {
-            OpenError::Config => Fault::Config,
-            OpenError::Log => Fault::Device,
-            OpenError::Memory => Fault::Memory(AllocError),
-        }
-    }
-}
-
-impl From<ScriptError> for Fault {
-    fn from(error: ScriptError) -> Fault {
-        match error {
-            ScriptError::Line(line) => Fault::Script(line),
-            ScriptError::Memory => Fault::Memory(AllocError),
-        }
-    }
-}
-
-impl From<RefereeingError> for Fault {
-    fn from(error: RefereeingError) -> Fault {
-        match error {
-            RefereeingError::Load(error) => Fault::from(error),
-            RefereeingError::Script(line) => Fault::Script(line),
-            RefereeingError::Memory => Fault::Memory(AllocError),
-        }
-    }
-}
-
-impl From<ResumeError> for Fault {
-    fn from(error: ResumeError) -> Fault {
-        match error {
-            ResumeError::Refereeing(error) => Fault::from(error),
-            ResumeError::Log => Fault::Device,
-        }
-    }
-}
-
-impl From<Stop> for Fault {
-    fn from(stop: Stop) -> Fault {
-        match stop {
-            Stop::Log => Fault::Device,
-            Stop::Time => Fault::Rounds,
+            KeepingFault::Refused(error) => Fault::from(error),
+            KeepingFault::Config => Fault::Config,
+            KeepingFault::Script(line) => Fault::Script(line),
+            KeepingFault::Device => Fault::Device,
+            KeepingFault::Absent => Fault::Absent,
+            KeepingFault::Rounds => Fault::Rounds,
+            KeepingFault::Memory(error) => Fault::Memory(error),
         }
     }
 }

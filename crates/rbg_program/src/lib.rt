@@ -4,14 +4,11 @@
 
 mod ask;
 mod commands;
-mod cut;
 mod fault;
 mod inputs;
 mod player_refusal;
 mod printed;
 mod program;
-mod resuming;
-mod script;
 mod serving;
 mod task;
 mod words;

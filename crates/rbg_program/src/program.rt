@@ -5,15 +5,14 @@ ghost use Rattle.rbg_program.specs.Runs.{IsRunFor};
 ghost use Rattle.rbg_program.specs.Words.{Asks, Wish};
 
 use crate::ask::ask_file;
-use crate::cut::referee_cut;
 use crate::fault::{Fault, report};
-use crate::script::script_file;
 use crate::serving::{demo_file, play, serve_file, serve_hall};
 use crate::task::Task;
 use crate::words::{Asked, asked_by};
 use rbg_answering::run_task;
 use rbg_console::{Files, Status};
 use rbg_hosting::run_hall_script;
+use rbg_keeping::{run_cut, run_script};
 use rbg_listing::run_moves;
 use rbg_network::Network;
 use rbg_recording::run_recorded;
@@ -39,7 +38,9 @@ pub fn run<F: Files, N: Network, R: Read, W: Write>(
         Asked::Input => run_referee(alloc, input, output),
         Asked::Files(task) => run_task(alloc, task, files, input, output),
         Asked::Recorded(task) => run_recorded(alloc, task, files, input, output),
+        Asked::Cut { file } => run_cut(alloc, file, files, input, output),
         Asked::Moves { file } => run_moves(alloc, file, files, output),
+        Asked::Script { file } => run_script(alloc, file, files, output),
         Asked::Other => run_command(alloc, words, files, network, input, output),
     }
 }
@@ -69,10 +70,11 @@ fn obey<F: Files, N: Network, R: Read, W: Write>(
 ) -> Status {
     let outcome = match task {
         Task::Referee => return run_referee(alloc, input, output),
-        Task::Cut { file } => return referee_cut(alloc, file, files, input, output),
+        Task::Cut { file } => return run_cut(alloc, file, files, input, output),
         Task::Files(task) => return run_task(alloc, task, files, input, output),
         Task::Recorded(task) => return run_recorded(alloc, task, files, input, output),
         Task::Moves { file } => return run_moves(alloc, file, files, output),
+        Task::Script { file } => return run_script(alloc, file, files, output),
         Task::HallScript { names } => {
             return run_hall_script(alloc, names.as_slice(), files, input, output);
         }
@@ -92,7 +94,6 @@ fn obey<F: Files, N: Network, R: Read, W: Write>(
         ),
         Task::Ask { file } => ask_file(alloc, files, file, input, output),
         Task::Demo { file, service } => demo_file(alloc, files, file, network, service),
-        Task::Script { record } => script_file(alloc, files, record),
         Task::Serve {
             file,
             port,

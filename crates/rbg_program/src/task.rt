@@ -4,6 +4,7 @@ use crate::commands::rbg_command;
 use clap::ArgMatches;
 use rbg_answering::FileTask;
 use rbg_console::{WordsError, match_words};
+use rbg_keeping::{Keeping, Serving};
 use rbg_match::Config;
 use rbg_network::Hosting;
 use rbg_recording::RecordTask;
@@ -22,29 +23,6 @@ pub struct Service {
     pub config: Config,
     /// The most rounds.
     pub rounds: u64,
-}
-
-/// What is kept of a match that is served, and how long it may take.
-#[derive(Clone, Copy, Debug)]
-pub struct Keeping<'a> {
-    /// The new file for the log.
-    pub log: Option<&'a str>,
-    /// The log of a match that goes on.
-    pub resume: Option<&'a str>,
-    /// Whether each write to the log waits for the disk.
-    pub sync: bool,
-    /// How many minutes the match may take. Then its rounds aren't counted.
-    pub minutes: Option<u64>,
-    /// Who sits where, seat 1 first, with a comma between two names.
-    pub names: Option<&'a str>,
-}
-
-/// How a match between players at a port is served.
-#[derive(Clone, Copy, Debug)]
-pub struct Serving<'a> {
-    pub service: Service,
-    pub keeping: Keeping<'a>,
-    pub hosting: Hosting,
 }
 
 /// What the program is asked to do.
@@ -76,7 +54,7 @@ pub enum Task<'a> {
     },
     /// To print a script of a record.
     Script {
-        record: &'a str,
+        file: &'a str,
     },
     /// To referee a match between the players that connect to the port.
     Serve {
@@ -145,7 +123,7 @@ impl<'a> Task<'a> {
                 record: text_of(words, "RECORD"),
             }),
             "script" => Task::Script {
-                record: text_of(words, "RECORD"),
+                file: text_of(words, "RECORD"),
             },
             "demo" => Task::Demo {
                 file: text_of(words, "FILE"),
@@ -154,11 +132,7 @@ impl<'a> Task<'a> {
             "serve" => Task::Serve {
                 file: text_of(words, "FILE"),
                 port: port_of(words),
-                serving: Serving {
-                    service: service_of(words),
-                    keeping: keeping_of(words),
-                    hosting: hosting_of(words),
-                },
+                serving: serving_of(words),
             },
             "play" => Task::Play {
                 port: port_of(words),
@@ -209,6 +183,16 @@ fn hosting_of(words: &ArgMatches<'_>) -> Hosting {
     Hosting {
         wait: words.get_one("wait"),
         quiet: words.get_flag("quiet"),
+    }
+}
+
+fn serving_of<'a>(words: &ArgMatches<'a>) -> Serving<'a> {
+    let service = service_of(words);
+    Serving {
+        config: service.config,
+        rounds: service.rounds,
+        keeping: keeping_of(words),
+        hosting: hosting_of(words),
     }
 }
 
