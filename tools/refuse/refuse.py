@@ -42,6 +42,7 @@ GAME = """#players = white(100), black(100)
 #rules = ->white {e}[w][$ white=100] ->black right {e}[b] ->> {}
 """
 SCRIPT = "config 1000 3 0\nm 1 10 M0 3 0 4 0 5\nm 2 20 M1 8 1 9\n"
+HALL_SCRIPT = "config 1000 3 0\nm 0 0 H1\nm 1 0 H1\nm 0 10 M0 3 0 4 0 5\nm 1 20 M1 8 1 9\n"
 RECORD = "rbg 2\nplayers white black\nstart 1000 0\n0 0 0 1\n10 1 0 3 0 4 0 5\n20 2 1 8 1 9\n20 E0 100 0\n"
 PLAIN_RECORD = "rbg 1\n0 0 1\n1 0 3 0 4 0 5\n2 1 8 1 9\nE0 100 0\n"
 
@@ -88,6 +89,7 @@ def whole_programs(program, folder):
     runs = [Run(" ".join(["rbg", *words]), [program, words[0], *(files[name] for name in words[1:])], "", memory) for words in wanted]
     runs.append(Run("rbg referee", [program, "referee"], f"{GAME}%%\n{SCRIPT}", memory))
     runs.append(Run("rbg referee game", [program, "referee", files["game"]], SCRIPT, memory))
+    runs.append(Run("rbg hallscript game", [program, "hallscript", files["game"]], HALL_SCRIPT, memory))
     for path in sorted((TOP / "crates" / "rbg_games" / "data").glob("*.rbg")):
         runs.append(Run(f"rbg check {path.name}", [program, "check", str(path)], "", memory))
     return runs

@@ -1,4 +1,3 @@
 pub mod Asked
 pub mod Runs
-pub mod Served
 pub mod Words

@@ -2,19 +2,11 @@
 //! its status.
 #![tactic(auto)]
 
-mod ask;
-mod commands;
-mod fault;
-mod inputs;
-mod player_refusal;
-mod printed;
 mod program;
-mod serving;
-mod task;
 mod words;
 
-pub use fault::{Fault, report};
 pub use program::run;
+pub use rbg_commands::{Fault, report};
 pub use rbg_console::{Files, Input, Status};
 pub use rbg_log::{Log, LogFailure};
 pub use rbg_network::{Network, News, SystemClock, SystemNetwork};

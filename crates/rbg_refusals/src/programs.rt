@@ -16,6 +16,14 @@ m 1 10 M0 3 0 4 0 5
 m 2 20 M1 8 1 9
 ";
 
+/// The same match in a hall.
+const HALL_SCRIPT: &[u8] = b"config 1000 3 0
+m 0 0 H1
+m 1 0 H1
+m 0 10 M0 3 0 4 0 5
+m 1 20 M1 8 1 9
+";
+
 /// The record of that match.
 const RECORD: &[u8] = b"rbg 2
 players white black
@@ -57,31 +65,37 @@ impl Files for GameFiles {
 /// Makes the run of a name, if it is one of these, and tells whether it is.
 pub fn run_program<W: Write>(rt: &HostRuntime, name: &str, output: &mut W) -> Result<bool, Stop> {
     match name {
-        "rbg-check" => run_words(rt, &["check", "game"], output)?,
-        "rbg-referee" => run_words(rt, &["referee", "game"], output)?,
-        "rbg-replay" => run_words(rt, &["replay", "game", "record"], output)?,
-        "rbg-moves" => run_words(rt, &["moves", "game"], output)?,
+        "rbg-check" => run_words(rt, &["check", "game"], SCRIPT, output)?,
+        "rbg-referee" => run_words(rt, &["referee", "game"], SCRIPT, output)?,
+        "rbg-replay" => run_words(rt, &["replay", "game", "record"], SCRIPT, output)?,
+        "rbg-moves" => run_words(rt, &["moves", "game"], SCRIPT, output)?,
+        "rbg-hallscript" => run_words(rt, &["hallscript", "game"], HALL_SCRIPT, output)?,
         "show" => show_moves(rt.alloc(), output)?,
         _ => return Ok(false),
     }
     Ok(true)
 }
 
-/// Runs `rbg` with these words, and tells its status.
-fn run_words<W: Write>(rt: &HostRuntime, words: &[&str], output: &mut W) -> Result<(), Stop> {
+/// Runs `rbg` with these words on an input, and tells its status.
+fn run_words<W: Write>(
+    rt: &HostRuntime,
+    words: &[&str],
+    input: &[u8],
+    output: &mut W,
+) -> Result<(), Stop> {
     let alloc = rt.alloc();
     let mut list = Vec::with_capacity(alloc, words.len())?;
     for word in words {
         list.push(String::from_str(alloc, word)?)?;
     }
-    let status = status_of(rt, list.as_slice(), output);
+    let status = status_of(rt, list.as_slice(), input, output);
     writeln!(output, "status {status}")?;
     Ok(())
 }
 
 /// Runs `rbg`, and gives its status.
-fn status_of<W: Write>(rt: &HostRuntime, words: &[String], output: &mut W) -> u8 {
-    let mut input = SCRIPT;
+fn status_of<W: Write>(rt: &HostRuntime, words: &[String], input: &[u8], output: &mut W) -> u8 {
+    let mut input = input;
     let status = run(
         rt.alloc(),
         words,

@@ -1,10 +1,10 @@
 //! The commands `serve`, `demo` and `play`: matches over connections.
 ghost use Rattle.std.specs.Prelude.{◌≡◌, ℕ, List, Option, length, IfOk};
+ghost use Rattle.rbg_commands.specs.Served.{IsMatchRecord, plain_record, timed_record};
 ghost use Rattle.rbg_console.specs.Files.{MayBe};
 ghost use Rattle.rbg_game.specs.Loading.{Loads};
 ghost use Rattle.rbg_keeping.specs.Played.{IsPlayedMatch};
 ghost use Rattle.rbg_match.specs.PlayingOn.{seats_of};
-ghost use Rattle.rbg_program.specs.Served.{IsMatchRecord, plain_record, timed_record};
 
 use crate::fault::Fault;
 use crate::inputs::read_description;

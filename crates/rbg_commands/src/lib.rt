@@ -1,0 +1,16 @@
+//! The commands of the program `rbg` that its command line spells out: what each one's words are, what it prints and with
+//! which status it ends.
+#![tactic(auto)]
+
+mod ask;
+mod commands;
+mod fault;
+mod inputs;
+mod player_refusal;
+mod printed;
+mod running;
+mod serving;
+mod task;
+
+pub use fault::{Fault, report};
+pub use running::run_command;

@@ -1,0 +1,80 @@
+//! What the words of the command line ask for is done.
+
+use crate::ask::ask_file;
+use crate::fault::{Fault, report};
+use crate::serving::{demo_file, play, serve_file, serve_hall};
+use crate::task::Task;
+use rbg_answering::run_task;
+use rbg_console::{Files, Status};
+use rbg_hosting::run_hall_script;
+use rbg_keeping::{run_cut, run_script};
+use rbg_listing::run_moves;
+use rbg_network::Network;
+use rbg_recording::run_recorded;
+use rbg_refereeing::run_referee;
+use std::alloc::Global;
+use std::io::{Read, Write};
+
+/// Runs what the command line asks for, and returns the status. Words that are no command's are told on the output, with
+/// the status for them.
+pub fn run_command<F: Files, N: Network, R: Read, W: Write>(
+    alloc: Global,
+    words: &[String],
+    files: &mut F,
+    network: &mut N,
+    input: &mut R,
+    output: &mut W,
+) -> Status {
+    match Task::read(alloc, words) {
+        Ok(task) => obey(alloc, task, files, network, input, output),
+        Err(error) => report(output, &Err(Fault::from(error))),
+    }
+}
+
+fn obey<F: Files, N: Network, R: Read, W: Write>(
+    alloc: Global,
+    task: Task<'_>,
+    files: &mut F,
+    network: &mut N,
+    input: &mut R,
+    output: &mut W,
+) -> Status {
+    let outcome = match task {
+        Task::Referee => return run_referee(alloc, input, output),
+        Task::Cut { file } => return run_cut(alloc, file, files, input, output),
+        Task::Files(task) => return run_task(alloc, task, files, input, output),
+        Task::Recorded(task) => return run_recorded(alloc, task, files, input, output),
+        Task::Moves { file } => return run_moves(alloc, file, files, output),
+        Task::Script { file } => return run_script(alloc, file, files, output),
+        Task::HallScript { names } => {
+            return run_hall_script(alloc, names.as_slice(), files, input, output);
+        }
+        Task::Hall {
+            names,
+            port,
+            service,
+            hosting,
+        } => serve_hall(
+            alloc,
+            names.as_slice(),
+            files,
+            network,
+            port,
+            service,
+            hosting,
+        ),
+        Task::Ask { file } => ask_file(alloc, files, file, input, output),
+        Task::Demo { file, service } => demo_file(alloc, files, file, network, service),
+        Task::Serve {
+            file,
+            port,
+            serving,
+        } => serve_file(alloc, files, file, network, port, &serving),
+        Task::Play {
+            port,
+            table,
+            rounds,
+        } => play(alloc, network, port, table, rounds),
+    };
+    report(output, &outcome)
+}
