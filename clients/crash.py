@@ -6,7 +6,7 @@
 Each match is played once to its end, by example clients that choose by chance. Then clients that say the moves of its
 record play it again, with a log, and `rbg` is killed at a random moment, and once more after the match went on. In the
 end the record has to be good and to have the moves and the outcome of the first match, and `rbg referee GAME < LOG` has
-to tell the same. A log that is cut at each of its bytes has to be refereed up to the cut.
+to tell the same. A log that is cut at any of its bytes has to be refereed up to the cut, and to go on from there.
 
 It needs nothing but Linux, Python 3.11 and the program rbg.
 """
@@ -52,6 +52,7 @@ class Match:
     def __init__(self, rbg: str, game: Path, folder: Path):
         self.rbg, self.game = rbg, game
         self.log, self.record = folder / "match.log", folder / "match.record"
+        self.lasted = 0.0  # how many seconds the last match took, from the last connection on
 
     def serve(self, players: list[list[str]], *words: str) -> tuple[subprocess.Popen, list[subprocess.Popen]]:
         """Starts a referee and, one after the other, its clients."""
@@ -89,6 +90,7 @@ class Match:
     def play(self, players: list[list[str]], *words: str, kill_after: Optional[float] = None) -> Optional[str]:
         """Plays on. Returns the record, or None if the referee was killed before the end."""
         referee, clients = self.serve(players, *words)
+        began = time.monotonic()
         try:
             output, _ = referee.communicate(timeout=PATIENCE if kill_after is None else kill_after)
         except subprocess.TimeoutExpired:
@@ -98,6 +100,7 @@ class Match:
             referee.communicate()
             return None
         finally:
+            self.lasted = time.monotonic() - began
             self.end(referee, clients)
         if referee.returncode:
             raise Wrong(f"the referee ended with status {referee.returncode}: {output.strip()}")
@@ -160,17 +163,23 @@ def resume(match: Match, kill_after: Optional[float]) -> Optional[str]:
 
 
 def cut_everywhere(match: Match) -> int:
-    """A log that is cut at each of its bytes goes on, or the line that isn't whole is named. Returns how many cuts."""
+    """A log that is cut at any of its bytes goes on from its whole lines, or lacks its first line. Returns how many cuts."""
     whole = match.log.read_bytes()
     for length in range(len(whole)):
         text = whole[:length]
-        lines = text.count(b"\n")
-        status, printed = match.run("referee", "--cut", str(match.game), text=text)
-        if lines == 0:
-            if (status, printed) != (2, b"script 1\n"):
-                raise Wrong(f"cut at {length}: status {status}, {printed[:40]!r}")
-        elif status:
-            raise Wrong(f"cut at {length}: status {status}, {printed[:40]!r}")
+        match.log.write_bytes(text)
+        lines = [line.decode() for line in text.split(b"\n")[:-1]]
+        cut = match.run("referee", "--cut", str(match.game), text=text)
+        words = ["serve", str(match.game), "--port", str(free_port()), "--resume", str(match.log), "--wait", "0", "--quiet"]
+        gone_on = match.run(*words)
+        if not lines:
+            if cut != (2, b"script 1\n") or gone_on != cut:
+                raise Wrong(f"cut at {length}: {cut}, {gone_on}")
+        elif cut[0] or gone_on != (3, b"") or match.run("referee", str(match.game), text=match.log.read_bytes()) != cut:
+            raise Wrong(f"cut at {length}: {cut}, {gone_on}")
+        elif match.log.read_text().splitlines() != lines:
+            raise Wrong(f"cut at {length}: the log that goes on has other lines")
+    match.log.write_bytes(whole)
     return len(whole)
 
 
@@ -192,14 +201,14 @@ def main() -> int:
                 whole = match.play([["--random", seed] for seed in seeds])
                 assert whole is not None
                 match.record.write_text(whole)
-                began = time.monotonic()
                 match.log.unlink(missing_ok=True)
                 again = match.play_again("--log", str(match.log))
                 assert again is not None
                 match.check(again)
+                longest = match.lasted
                 if number == 0:
                     print(f"{cut_everywhere(match)} cuts of a log were looked at", flush=True)
-                often = crash_once(match, chance, time.monotonic() - began)
+                often = crash_once(match, chance, longest)
                 killed += often
                 print(f"match {number + 1} of {words.count}, {game.stem}: killed {often} times", flush=True)
     except Wrong as wrong:

@@ -88,18 +88,18 @@ impl<S: Read + Write + Drop> Client<S> {
         }
     }
 
-    /// Hears a piece, message by message. What the player has said to one is dropped when the next one comes.
+    /// Hears a piece, message by message. What the player has said to a move is dropped when the next move comes.
     fn hear_messages(&mut self, piece: &[u8]) -> Result<Heard, ClientError> {
-        let mut left = piece;
-        while let Some((_, rest)) = cut_at(0, left) {
-            self.unsent.clear();
-            let heard = self.hear_piece(&left[..left.len() - rest.len()])?;
+        for part in piece.split_inclusive(|byte| *byte == 0) {
+            if part.starts_with(b"M") {
+                self.unsent.clear();
+            }
+            let heard = self.hear_piece(part)?;
             if !matches!(heard, Heard::Going) {
                 return Ok(heard);
             }
-            left = rest;
         }
-        self.hear_piece(left)
+        Ok(Heard::Going)
     }
 
     /// Which player this one is, once it has been told. A name of more bytes than a piece isn't known.
