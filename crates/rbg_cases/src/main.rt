@@ -8,7 +8,7 @@
 //! | `words WORD ..` | the words of the case's command line, with single spaces between them |
 //! | `author` | the case runs `rbg_author`, else it runs `rbg` |
 //! | `news` | what the case tells an organiser on standard error is shown too, each line behind `news: ` |
-//! | `logs` | what the logs of the case hold is shown too, each line behind `log: `; a log is full at 1,000 bytes |
+//! | `logs` | what the logs of the case hold is shown too, each line behind `log: `; a new log is full at 1,000 bytes |
 //! | `last COUNT` | of what the case prints only this many lines are shown, the last ones |
 //! | `made NAME` | the bytes of a file that the case has made are shown too, behind a line `made NAME` |
 //! | `file NAME` | a file of the case begins; what follows is its bytes |

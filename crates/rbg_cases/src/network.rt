@@ -72,6 +72,13 @@ impl<'a> MemoryNetwork<'a> {
         Ok(Rc::new(self.alloc, RefCell::new(Vec::new(self.alloc)))?)
     }
 
+    /// A log that can hold so many bytes.
+    fn begin_log(&mut self, room: usize) -> io::Result<MemoryLog> {
+        let bytes = self.new_channel()?;
+        self.logs.push(bytes.clone()?)?;
+        Ok(MemoryLog { bytes, room })
+    }
+
     /// The next stream of the case.
     fn next_stream(&mut self) -> io::Result<MemoryStream> {
         let Some((stream, others)) = self.streams.split_first() else {
@@ -138,15 +145,11 @@ impl<'a> Network for MemoryNetwork<'a> {
         if self.files.iter().any(|file| file.name == name.as_bytes()) {
             return Err(io::Error::from(ErrorKind::AlreadyExists));
         }
-        let bytes = self.new_channel()?;
-        self.logs.push(bytes.clone()?)?;
-        Ok(MemoryLog { bytes })
+        self.begin_log(NEW_ROOM)
     }
 
     fn rewrite_log(&mut self, _name: &str, _sync: bool) -> io::Result<MemoryLog> {
-        let bytes = self.new_channel()?;
-        self.logs.push(bytes.clone()?)?;
-        Ok(MemoryLog { bytes })
+        self.begin_log(REPLACING_ROOM)
     }
 
     fn replace_log(&mut self, _name: &str) -> io::Result<()> {
@@ -196,10 +199,15 @@ impl Write for MemoryStream {
 #[derive(Drop)]
 pub struct MemoryLog {
     bytes: Channel,
+    /// How many bytes it can hold.
+    room: usize,
 }
 
-/// How many bytes a log can hold.
-const LOG_ROOM: usize = 1000;
+/// How many bytes a new log can hold.
+const NEW_ROOM: usize = 1_000;
+
+/// How many bytes a log can hold that replaces another one.
+const REPLACING_ROOM: usize = 100_000;
 
 impl Log for MemoryLog {
     ghost told = { λ _ _. Unit {0} };
@@ -208,7 +216,7 @@ impl Log for MemoryLog {
         let Ok(mut bytes) = self.bytes.try_borrow_mut() else {
             return Err(LogFailure);
         };
-        if LOG_ROOM.saturating_sub(bytes.len()) < added.len() {
+        if self.room.saturating_sub(bytes.len()) < added.len() {
             return Err(LogFailure);
         }
         match bytes.extend_from_slice(added) {

@@ -20,7 +20,7 @@ pub fn run_cut<F: Files, R: Read, W: Write>(
     output: &mut W,
 ) -> Status
     ensures { IsCutRun (F.told files.old) (R.remaining input.old) (R.remaining input.new)
-        (option_map (λ name. name.now) file) (W.contents output.old) (W.contents output.new) result }
+        (option_map (λ name. name.now) file.entry) (W.contents output.old) (W.contents output.new) result }
 {
     match read_input(alloc, input, MAX_INPUT) {
         Ok(read) => run_read(alloc, file, files, &read, output),
@@ -38,7 +38,7 @@ fn run_read<F: Files, W: Write>(
 ) -> Status
     ensures { (unread left : Option (List ℕ)) → IsReading most_input unread left read.now →
         IsCutRun (F.told files.old) unread left
-        (option_map (λ name. name.now) file) (W.contents output.old) (W.contents output.new) result }
+        (option_map (λ name. name.now) file.entry) (W.contents output.old) (W.contents output.new) result }
 {
     match read {
         Input::Whole(bytes) => run_bytes(alloc, file, files, whole_lines(bytes.as_slice()), output),
@@ -55,7 +55,7 @@ fn run_bytes<F: Files, W: Write>(
     bytes: &[u8],
     output: &mut W,
 ) -> Status
-    ensures { IsRefereeRun (F.told files.old) (option_map (λ name. name.now) file) bytes.now
+    ensures { IsRefereeRun (F.told files.old) (option_map (λ name. name.now) file.entry) bytes.now
         (W.contents output.old) (W.contents output.new) result }
 {
     let mut input = bytes;
