@@ -26,7 +26,7 @@ SECONDS := 600
 # The requests for memory of the first match that `make try` refuses, one in each of ten runs.
 REFUSED := 1 2 5 10 20 50 100 150 200 300
 
-.PHONY: help run demo games clients clients-match hall tournament page compare refusals try build bench test check fmt clean
+.PHONY: help run demo games clients clients-match hall tournament crash page compare refusals try build bench test check fmt clean
 
 help:
 	@echo 'make run      referees the first match of README.md (crates/rbg_manager/stdin), with no proof'
@@ -35,6 +35,7 @@ help:
 	@echo 'make clients  lets two example clients play matches of five games over ./rbg serve, and checks their records (after make build)'
 	@echo 'make hall     lets example clients play three matches at once over ./rbg hall, and checks the records (after make build)'
 	@echo 'make tournament lets three example players meet in three games, 36 matches, and prints the table (after make build)'
+	@echo 'make crash    kills ./rbg in the middle of 50 matches, lets each go on, and compares its record (after make build)'
 	@echo 'make page     plays a match of chess, hex, abalone and reversi, makes a page of each, and takes pictures by a browser if there is one (after make build)'
 	@echo 'make compare  compares ./rbg with the interpreter of tools/slow, on stored cases and N=10000 others of SEED=1 (after make build)'
 	@echo 'make refusals refuses each request for memory in turn, and checks each answer; this alone needs gcc (after make build)'
@@ -84,6 +85,12 @@ tournament:
 	  else tr '\n' '\0' < $$folder/jobs.txt | xargs -0 -P 4 -n 1 sh -c; fi; } && \
 	python3 clients/tournament.py table $$folder --html $$folder/table.html > $$folder/table.txt && cat $$folder/table.txt && \
 	echo "the files are in $$folder" && grep -q '^36 of 36 matches' $$folder/table.txt
+
+# Matches of these games are killed and go on.
+crash:
+	@test -x ./rbg || { echo 'make crash needs ./rbg: run make build first'; exit 1; }
+	@python3 -m doctest clients/crash.py
+	@python3 clients/crash.py $(HALL:%=crates/rbg_games/data/%.rbg)
 
 page:
 	@test -x ./rbg && test -x ./rbg_author || { echo 'make page needs ./rbg and ./rbg_author: run make build first'; exit 1; }

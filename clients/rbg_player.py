@@ -9,6 +9,7 @@ as the match goes as the record says. If a move is refused, it says so and stops
 import argparse
 import itertools
 import random
+import select
 import socket
 import statistics
 import sys
@@ -16,6 +17,9 @@ import tempfile
 import time
 
 from rbg_rules import Refused, Rules
+
+
+QUIET = 0.005  # seconds in which nothing comes before a move is said
 
 
 class Stream:
@@ -34,6 +38,10 @@ class Stream:
             self.rest += piece
         message, self.rest = self.rest.split(b"\0", 1)
         return message
+
+    def has_more(self, seconds):
+        """Whether more has come, or comes within this time."""
+        return b"\0" in self.rest or bool(select.select([self.socket], [], [], seconds)[0])
 
     def say(self, pairs):
         self.socket.sendall(b"M" + pairs.encode() + b"\0")
@@ -156,11 +164,15 @@ class Recorded:
 def play(stream, chooser):
     """Plays a match to its end, or until a move is refused, and gives what was heard of it."""
     match = Match()
+    asked = False
     while match.end is None and not match.refused:
         message = stream.hear()
         if message is None:
             break
-        if match.hear(message):
+        asked = match.hear(message) or asked
+        # what follows at once was made already: so it is where a match goes on that was stopped
+        if asked and not stream.has_more(QUIET):
+            asked = False
             pairs = chooser.move(match)
             if pairs is not None:
                 stream.say(pairs)

@@ -1,6 +1,7 @@
 """One match of a tournament: its files, its processes and its result."""
 
 import json
+import math
 import os
 import shlex
 import signal
@@ -82,10 +83,18 @@ class Files:
         stem = folder / "matches" / f"{number:04}"
         self.game = folder / "games" / pairing.game
         self.record = stem.with_suffix(".record")
+        self.log = stem.with_suffix(".log")
         self.result = stem.with_suffix(".json")
         self.page = stem.with_suffix(".html")
         self.referee = stem.with_suffix(".referee.txt")
         self.seats = [stem.with_suffix(f".seat{seat}.txt") for seat in range(1, len(pairing.seats) + 1)]
+
+
+def has_begun(log: Path) -> bool:
+    """Whether the log of a match has its first line. One without it tells nothing, and is taken away."""
+    if log.exists() and b"\n" not in log.read_bytes():
+        log.unlink()
+    return log.exists()
 
 
 def outcome_of(plan: Plan, files: Files) -> Optional[str]:
@@ -175,27 +184,33 @@ class Play:
         grace = 0.0
         try:
             referee, port = self.listen()
-            if referee is not None and self.seat_all(referee, port):
+            if referee is not None and (referee.poll() == 0 or self.seat_all(referee, port)):
                 grace = 5.0
                 self.finish(referee)
         finally:
             self.processes.end(grace)
             self.part.unlink(missing_ok=True)
+            has_begun(self.files.log)
             self.result.seconds = round(time.monotonic() - began, 2)
 
     def listen(self) -> tuple[Optional[subprocess.Popen], int]:
-        """A referee that listens, and its port. If another program takes the port before it, a new one is tried."""
+        """A referee that listens, and its port. If another program takes the port before it, a new one is tried.
+
+        A match that has a log goes on. If it had ended, the referee has printed its record, with status 0.
+        """
         plan = self.plan
         for _ in range(TRIES):
             port = free_port()
             words = [plan.rbg, "serve", str(self.files.game), "--port", str(port), "--turn", str(plan.turn)]
-            words += ["--refusals", str(plan.refusals), "--rounds", "4294967295"]
+            words += ["--refusals", str(plan.refusals), "--minutes", str(max(1, math.ceil(plan.minutes)))]
+            words += ["--names", ",".join(self.result.seats)]
+            words += ["--resume" if has_begun(self.files.log) else "--log", str(self.files.log)]
             referee = self.processes.start(words, plan.folder, self.files.referee, self.part)
-            if is_so(lambda: sockets(port, LISTENING) == 1, plan.wait, referee):
+            if is_so(lambda: sockets(port, LISTENING) == 1, plan.wait, referee) or referee.poll() == 0:
                 return referee, port
             if referee.poll() is None:
                 break
-        self.result.reason = "the referee doesn't listen"
+        self.result.reason = f"the referee doesn't listen: {self.part.read_text(errors='replace').strip()}"
         return None, 0
 
     def seat_all(self, referee: subprocess.Popen, port: int) -> bool:
@@ -228,10 +243,13 @@ class Play:
         try:
             status = referee.wait(self.plan.minutes * 60)
         except subprocess.TimeoutExpired:
+            status = None
+        answer = self.part.read_text(errors="replace").strip()
+        if status is None or answer == "rounds":
             self.result.reason = f"not ended after {self.plan.minutes:g} minutes"
             return
         if status:
-            self.result.reason = f"the referee: {self.part.read_text(errors='replace').strip() or status}"
+            self.result.reason = f"the referee: {answer or status}"
             return
         os.replace(self.part, self.files.record)
         self.result.outcome = outcome_of(self.plan, self.files)

@@ -47,6 +47,8 @@ pub struct Case<'a> {
     pub news: bool,
     /// The file that the case makes, if it is to be shown.
     pub made: Option<String>,
+    /// Whether what its logs hold is shown too.
+    pub logs: bool,
     pub words: Vec<String>,
     pub files: Vec<Text<'a>>,
     pub streams: Vec<Stream>,
@@ -118,6 +120,9 @@ impl<'a> Reader<'a> {
         if line == b"news".as_slice() {
             return Ok(self.show_news());
         }
+        if line == b"logs".as_slice() {
+            return Ok(self.show_logs());
+        }
         if let Some(count) = line.strip_prefix(b"last ") {
             return Ok(self.show_last(count));
         }
@@ -132,6 +137,7 @@ impl<'a> Reader<'a> {
                 shown: usize::MAX,
                 news: false,
                 made: None,
+                logs: false,
                 words: Vec::new(alloc),
                 files: Vec::new(alloc),
                 streams: Vec::new(alloc),
@@ -195,6 +201,17 @@ impl<'a> Reader<'a> {
                 Ok(true)
             }
             _ => Ok(false),
+        }
+    }
+
+    /// What the logs of the case hold is shown.
+    fn show_logs(&mut self) -> bool {
+        match self.cases.last_mut() {
+            Some(case) => {
+                case.logs = true;
+                true
+            }
+            None => false,
         }
     }
 

@@ -8,6 +8,7 @@
 //! | `words WORD ..` | the words of the case's command line, with single spaces between them |
 //! | `author` | the case runs `rbg_author`, else it runs `rbg` |
 //! | `news` | what the case tells an organiser on standard error is shown too, each line behind `news: ` |
+//! | `logs` | what the logs of the case hold is shown too, each line behind `log: `; a new log is full at 1,000 bytes |
 //! | `last COUNT` | of what the case prints only this many lines are shown, the last ones |
 //! | `made NAME` | the bytes of a file that the case has made are shown too, behind a line `made NAME` |
 //! | `file NAME` | a file of the case begins; what follows is its bytes |
@@ -90,13 +91,14 @@ fn last_lines(text: &[u8], count: usize) -> &[u8] {
     text
 }
 
-/// Runs the case's program. Returns its status and what it told.
+/// Runs the case's program. Returns its status.
 fn run_program(
     alloc: Global,
     case: &Case<'_>,
     made: &mut MemoryFiles,
     printed: &mut Vec<u8>,
-) -> (Status, Vec<u8>) {
+    told: &mut Vec<u8>,
+) -> Result<Status, AllocError> {
     let words = case.words.as_slice();
     let mut files = CaseFiles {
         files: case.files.as_slice(),
@@ -105,7 +107,7 @@ fn run_program(
     let mut input = case.input.as_slice();
     match case.program {
         Program::Rbg => {
-            let mut network = MemoryNetwork::new(alloc, case.streams.as_slice());
+            let mut network = MemoryNetwork::new(alloc, case.streams.as_slice(), files.files);
             let status = rbg_program::run(
                 alloc,
                 words,
@@ -114,11 +116,17 @@ fn run_program(
                 &mut input,
                 printed,
             );
-            (status, network.into_told())
+            if case.news {
+                told.extend_from_slice(network.told())?;
+            }
+            if case.logs {
+                network.add_logs(told)?;
+            }
+            Ok(status)
         }
         Program::RbgAuthor => {
             let status = rbg_author::run(alloc, words, &mut files, &mut input, printed);
-            (status, Vec::new(alloc))
+            Ok(status)
         }
     }
 }
@@ -145,11 +153,10 @@ fn run_case(
     output.extend_from_slice(case.name)?;
     output.push(b'\n')?;
     let mut printed = Vec::new(alloc);
-    let (status, told) = run_program(alloc, case, made, &mut printed);
+    let mut told = Vec::new(alloc);
+    let status = run_program(alloc, case, made, &mut printed, &mut told)?;
     output.extend_from_slice(last_lines(printed.as_slice(), case.shown))?;
-    if case.news {
-        output.extend_from_slice(told.as_slice())?;
-    }
+    output.extend_from_slice(told.as_slice())?;
     if let Some(name) = &case.made {
         push_made(name.as_str(), made, output)?;
     }

@@ -1,8 +1,8 @@
 //! A network in memory. Its clock stands still, and a stream never waits.
 
-use crate::cases::Stream;
-use rbg_program::{Clock, Network, News};
-use std::alloc::Global;
+use crate::cases::{Stream, Text};
+use rbg_program::{Clock, Log, LogFailure, Network, News};
+use std::alloc::{AllocError, Global};
 use std::cell::RefCell;
 use std::io::{self, ErrorKind, Read, Write};
 use std::rc::Rc;
@@ -30,27 +30,53 @@ pub struct MemoryNetwork<'a> {
     waiting: Vec<MemoryStream>,
     /// What was told, each in a line.
     told: Vec<u8>,
+    /// The files of the case. None of them becomes a log.
+    files: &'a [Text<'a>],
+    /// The logs, in the order in which they were begun.
+    logs: Vec<Channel>,
 }
 
 impl<'a> MemoryNetwork<'a> {
     /// The network of a case: where nothing listens, each connection gives the next of these streams.
-    pub fn new(alloc: Global, streams: &'a [Stream]) -> MemoryNetwork<'a> {
+    pub fn new(alloc: Global, streams: &'a [Stream], files: &'a [Text<'a>]) -> MemoryNetwork<'a> {
         MemoryNetwork {
             alloc,
             streams,
             listens: false,
             waiting: Vec::new(alloc),
             told: Vec::new(alloc),
+            files,
+            logs: Vec::new(alloc),
         }
     }
 
     /// What was told, each in a line.
-    pub fn into_told(self) -> Vec<u8> {
-        self.told
+    pub fn told(&self) -> &[u8] {
+        self.told.as_slice()
+    }
+
+    /// Appends what the logs hold, each line behind `log: `.
+    pub fn add_logs(&self, output: &mut Vec<u8>) -> Result<(), AllocError> {
+        for log in &self.logs {
+            if let Ok(bytes) = log.try_borrow() {
+                for line in bytes.as_slice().split_inclusive(|byte| *byte == b'\n') {
+                    output.extend_from_slice(b"log: ")?;
+                    output.extend_from_slice(line)?;
+                }
+            }
+        }
+        Ok(())
     }
 
     fn new_channel(&self) -> io::Result<Channel> {
         Ok(Rc::new(self.alloc, RefCell::new(Vec::new(self.alloc)))?)
+    }
+
+    /// A log that can hold so many bytes.
+    fn begin_log(&mut self, room: usize) -> io::Result<MemoryLog> {
+        let bytes = self.new_channel()?;
+        self.logs.push(bytes.clone()?)?;
+        Ok(MemoryLog { bytes, room })
     }
 
     /// The next stream of the case.
@@ -74,6 +100,8 @@ impl<'a> Network for MemoryNetwork<'a> {
     type Listener = u16;
 
     type Clock = StandingClock;
+
+    type Log = MemoryLog;
 
     fn listen(&mut self, port: u16) -> io::Result<u16> {
         self.listens = true;
@@ -113,6 +141,21 @@ impl<'a> Network for MemoryNetwork<'a> {
         Ok(StandingClock)
     }
 
+    fn create_log(&mut self, name: &str, _sync: bool) -> io::Result<MemoryLog> {
+        if self.files.iter().any(|file| file.name == name.as_bytes()) {
+            return Err(io::Error::from(ErrorKind::AlreadyExists));
+        }
+        self.begin_log(NEW_ROOM)
+    }
+
+    fn rewrite_log(&mut self, _name: &str, _sync: bool) -> io::Result<MemoryLog> {
+        self.begin_log(REPLACING_ROOM)
+    }
+
+    fn replace_log(&mut self, _name: &str) -> io::Result<()> {
+        Ok(())
+    }
+
     fn tell(&mut self, news: &News<'_>) {
         let _told = writeln!(&mut self.told, "news: {news}");
     }
@@ -149,6 +192,37 @@ impl Write for MemoryStream {
 
     fn flush(&mut self) -> io::Result<()> {
         Ok(())
+    }
+}
+
+/// A log in memory, which is full at some size.
+#[derive(Drop)]
+pub struct MemoryLog {
+    bytes: Channel,
+    /// How many bytes it can hold.
+    room: usize,
+}
+
+/// How many bytes a new log can hold.
+const NEW_ROOM: usize = 1_000;
+
+/// How many bytes a log can hold that replaces another one.
+const REPLACING_ROOM: usize = 100_000;
+
+impl Log for MemoryLog {
+    ghost told = { λ _ _. Unit {0} };
+
+    fn append(&mut self, added: &[u8]) -> Result<(), LogFailure> {
+        let Ok(mut bytes) = self.bytes.try_borrow_mut() else {
+            return Err(LogFailure);
+        };
+        if self.room.saturating_sub(bytes.len()) < added.len() {
+            return Err(LogFailure);
+        }
+        match bytes.extend_from_slice(added) {
+            Ok(()) => Ok(()),
+            Err(_) => Err(LogFailure),
+        }
     }
 }
 

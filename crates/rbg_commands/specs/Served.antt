@@ -1,16 +1,11 @@
 -- The records of matches that were served.
 use Rattle.std.specs.Prelude.{ℕ, List, Option}
 use Rattle.rbg_console.specs.Files.{MayBe}
-use Rattle.rbg_game.specs.Loading.{Loads}
-use Rattle.rbg_match.specs.Matches.{MatchState, HasHistory}
+use Rattle.rbg_keeping.specs.Played.{IsPlayedMatch}
+use Rattle.rbg_match.specs.Matches.{MatchState}
 use Rattle.rbg_record.specs.OfMatch.{record_of, plain_record_of}
 use Rattle.rbg_record.specs.Records.{AbstractRecord, plain, timed, Spells}
 use Rattle.rbg_record.specs.Right.{IsRightRecord}
-
--- This is a match of the description's game, with its history.
-pub record IsPlayedMatch (description : List ℕ) (state : MatchState) : Type 0 where
-  pub loads : Loads description state.game
-  pub history : HasHistory state
 
 -- The bytes are a record of a match of the game that a file describes, and the record is right.
 pub record IsMatchRecord (record_for : MatchState → AbstractRecord) (known : Option (List ℕ)) (told : List ℕ) : Type 0 where

@@ -18,6 +18,7 @@ pub fn rbg_command<'a>(alloc: Global) -> Result<Command<'a>, AllocError> {
     let command = add(command, referee_command(alloc));
     let command = add(command, replay_command(alloc));
     let command = add(command, migrate_command(alloc));
+    let command = add(command, script_command(alloc));
     let command = add(command, demo_command(alloc));
     let command = add(command, serve_command(alloc));
     let command = add(command, play_command(alloc));
@@ -63,7 +64,8 @@ fn referee_command<'a>(alloc: Global) -> Result<Command<'a>, AllocError> {
             "Referees the match whose script is on standard input, and prints what each seat is sent",
         )
         .arg(file)?
-        .arg(record_option(alloc))
+        .arg(record_option(alloc))?
+        .arg(cut_option(alloc)?)
 }
 
 fn replay_command<'a>(alloc: Global) -> Result<Command<'a>, AllocError> {
@@ -90,8 +92,19 @@ fn demo_command<'a>(alloc: Global) -> Result<Command<'a>, AllocError> {
 fn serve_command<'a>(alloc: Global) -> Result<Command<'a>, AllocError> {
     let command = Command::new(alloc, "serve")
         .about("Referees a match between the players that connect to a port, and prints its record")
-        .arg(game_argument(alloc))?;
+        .arg(game_argument(alloc))?
+        .arg(log_option(alloc)?)?
+        .arg(resume_option(alloc))?
+        .arg(sync_option(alloc))?
+        .arg(minutes_option(alloc))?
+        .arg(names_option(alloc))?;
     add_hosting(alloc, command)
+}
+
+fn script_command<'a>(alloc: Global) -> Result<Command<'a>, AllocError> {
+    Command::new(alloc, "script")
+        .about("Prints a script of a record: its events bring the record's moves and its end about")
+        .arg(record_argument(alloc, "A record of a match, of either version"))
 }
 
 fn hall_command<'a>(alloc: Global) -> Result<Command<'a>, AllocError> {
@@ -183,6 +196,57 @@ fn quiet_option<'a>(alloc: Global) -> Arg<'a> {
         .long("quiet")
         .help("Says nothing of the players and the match on standard error")
         .action(ArgAction::SetTrue)
+}
+
+fn cut_option<'a>(alloc: Global) -> Result<Arg<'a>, AllocError> {
+    Arg::new(alloc, "cut")
+        .long("cut")
+        .help("Leaves out a last line of the script that has no line feed")
+        .action(ArgAction::SetTrue)
+        .conflicts_with("record")
+}
+
+fn log_option<'a>(alloc: Global) -> Result<Arg<'a>, AllocError> {
+    Arg::new(alloc, "log")
+        .long("log")
+        .value_name("LOG")
+        .help(
+            "A new file in which each event of the match is written before it is handled, as a script",
+        )
+        .conflicts_with("resume")
+}
+
+fn resume_option<'a>(alloc: Global) -> Arg<'a> {
+    Arg::new(alloc, "resume")
+        .long("resume")
+        .value_name("LOG")
+        .help(
+            "The log of a match that was stopped and is to go on, with the log's time for a turn and refusals",
+        )
+}
+
+fn sync_option<'a>(alloc: Global) -> Arg<'a> {
+    Arg::new(alloc, "sync")
+        .long("sync")
+        .help("What is written to the log is on the disk before the match goes on")
+        .action(ArgAction::SetTrue)
+}
+
+fn minutes_option<'a>(alloc: Global) -> Arg<'a> {
+    Arg::new(alloc, "minutes")
+        .long("minutes")
+        .value_name("MINUTES")
+        .help("How long the match may take, 1 to 4294967295, in place of a bound on rounds")
+        .value_parser(clap::value_parser!(u64).range(1..=4_294_967_295))
+}
+
+fn names_option<'a>(alloc: Global) -> Arg<'a> {
+    Arg::new(alloc, "names")
+        .long("names")
+        .value_name("NAMES")
+        .help(
+            "Who sits where, seat 1 first, with a comma between two names; they are told on standard error",
+        )
 }
 
 fn match_option<'a>(alloc: Global) -> Arg<'a> {

@@ -4,6 +4,7 @@ use crate::player_refusal::PlayerRefusal;
 use rbg_console::{Refusal, Status, WordsError, write_text};
 use rbg_game::LoadError;
 use rbg_hosting::HallFault;
+use rbg_keeping::KeepingFault;
 use rbg_match::MatchError;
 use rbg_network::{ClientError, GatherError};
 use rbg_player::PlayerError;
@@ -21,10 +22,14 @@ pub enum Fault {
     /// The config of the match is outside its limits. The words of no command give such a one.
     #[error("script 1")]
     Config,
-    /// A file or standard input can't be read, or a connection can't be made, read or written.
+    /// This line of the log of a match that goes on is missing, or not of its form; 0 if it is longer than an input may be.
+    #[error("script {0}")]
+    Script(usize),
+    /// A file or standard input can't be read, a log can't be made or written, or a connection can't be made, read or
+    /// written.
     #[error("device")]
     Device,
-    /// The match, or the player's part in it, did not end in as many rounds as it may have.
+    /// The match, or the player's part in it, did not end in as many rounds, or as much time, as it may have.
     #[error("rounds")]
     Rounds,
     /// Not all players have come in time. This is told on standard error, and has no printed line.
@@ -49,6 +54,7 @@ impl Fault {
         match self {
             Fault::Refused(_) => Status::Refused,
             Fault::Config => Status::BadInput,
+            Fault::Script(_) => Status::BadInput,
             Fault::Device => Status::Device,
             Fault::Rounds => Status::Device,
             Fault::Absent => Status::Device,
@@ -88,6 +94,20 @@ impl From<HallFault> for Fault {
             HallFault::Absent => Fault::Absent,
             HallFault::Rounds => Fault::Rounds,
             HallFault::Memory(error) => Fault::Memory(error),
+        }
+    }
+}
+
+impl From<KeepingFault> for Fault {
+    fn from(error: KeepingFault) -> Fault {
+        match error {
+            KeepingFault::Refused(error) => Fault::from(error),
+            KeepingFault::Config => Fault::Config,
+            KeepingFault::Script(line) => Fault::Script(line),
+            KeepingFault::Device => Fault::Device,
+            KeepingFault::Absent => Fault::Absent,
+            KeepingFault::Rounds => Fault::Rounds,
+            KeepingFault::Memory(error) => Fault::Memory(error),
         }
     }
 }

@@ -7,6 +7,7 @@ use crate::task::Task;
 use rbg_answering::run_task;
 use rbg_console::{Files, Status};
 use rbg_hosting::run_hall_script;
+use rbg_keeping::{run_cut, run_script};
 use rbg_listing::run_moves;
 use rbg_network::Network;
 use rbg_recording::run_recorded;
@@ -40,9 +41,11 @@ fn obey<F: Files, N: Network, R: Read, W: Write>(
 ) -> Status {
     let outcome = match task {
         Task::Referee => return run_referee(alloc, input, output),
+        Task::Cut { file } => return run_cut(alloc, file, files, input, output),
         Task::Files(task) => return run_task(alloc, task, files, input, output),
         Task::Recorded(task) => return run_recorded(alloc, task, files, input, output),
         Task::Moves { file } => return run_moves(alloc, file, files, output),
+        Task::Script { file } => return run_script(alloc, file, files, output),
         Task::HallScript { names } => {
             return run_hall_script(alloc, names.as_slice(), files, input, output);
         }
@@ -65,9 +68,8 @@ fn obey<F: Files, N: Network, R: Read, W: Write>(
         Task::Serve {
             file,
             port,
-            service,
-            hosting,
-        } => serve_file(alloc, files, file, network, port, service, hosting),
+            serving,
+        } => serve_file(alloc, files, file, network, port, &serving),
         Task::Play {
             port,
             table,

@@ -1,9 +1,10 @@
 //! The commands `serve`, `demo` and `play`: matches over connections.
 ghost use Rattle.std.specs.Prelude.{◌≡◌, ℕ, List, Option, length, IfOk};
+ghost use Rattle.rbg_commands.specs.Served.{IsMatchRecord, plain_record, timed_record};
 ghost use Rattle.rbg_console.specs.Files.{MayBe};
 ghost use Rattle.rbg_game.specs.Loading.{Loads};
+ghost use Rattle.rbg_keeping.specs.Played.{IsPlayedMatch};
 ghost use Rattle.rbg_match.specs.PlayingOn.{seats_of};
-ghost use Rattle.rbg_commands.specs.Served.{IsMatchRecord, IsPlayedMatch, plain_record, timed_record};
 
 use crate::fault::Fault;
 use crate::inputs::read_description;
@@ -12,10 +13,9 @@ use crate::task::Service;
 use rbg_console::Files;
 use rbg_game::{Game, load};
 use rbg_hosting::{HallService, serve_files};
+use rbg_keeping::{Serving, serve_match};
 use rbg_match::Match;
-use rbg_network::{
-    Client, Hosting, Network, News, StreamLine, connect_players, gather, tell_who_gave_up,
-};
+use rbg_network::{Client, Hosting, Network, connect_players, tell_who_gave_up};
 use rbg_player::Heard;
 use rbg_record::{write_record, write_record_1};
 use rbg_serving::{Clock, Line, serve};
@@ -29,15 +29,13 @@ pub fn serve_file<F: Files, N: Network>(
     file: &str,
     network: &mut N,
     port: u16,
-    service: Service,
-    hosting: Hosting,
+    serving: &Serving<'_>,
 ) -> Result<Vec<u8>, Fault>
     ensures { IfOk result (λ told. IsMatchRecord timed_record (F.told files.old file.now) told.items) }
 {
     let text = read_description(alloc, files, file)?;
-    let played = serve_text(alloc, text.as_slice(), network, port, service, hosting);
-    tell_end(network, service, hosting, &played);
-    record_match(alloc, &played?)
+    let played = serve_match(alloc, text.as_slice(), files, network, port, serving)?;
+    record_match(alloc, &played)
 }
 
 /// The record of a match, in version 2.
@@ -47,44 +45,6 @@ fn record_match(alloc: Global, played: &Match) -> Result<Vec<u8>, Fault>
         IfOk result (λ told. IsMatchRecord timed_record known told.items) }
 {
     Ok(write_record(alloc, played)?)
-}
-
-/// Tells how a match ended, or that it didn't.
-fn tell_end<N: Network>(
-    network: &mut N,
-    service: Service,
-    hosting: Hosting,
-    played: &Result<Match, Fault>,
-) {
-    match played {
-        Ok(played) => {
-            if let Some(outcome) = played.outcome() {
-                hosting.tell(network, &News::Ended { outcome });
-            }
-        }
-        Err(Fault::Rounds) => {
-            let rounds = service.rounds;
-            hosting.tell(network, &News::Unfinished { rounds });
-        }
-        Err(_) => {}
-    }
-}
-
-/// Referees a match of the text's game between the first players that connect to the port.
-fn serve_text<N: Network>(
-    alloc: Global,
-    text: &[u8],
-    network: &mut N,
-    port: u16,
-    service: Service,
-    hosting: Hosting,
-) -> Result<Match, Fault>
-    ensures { IfOk result (λ played. IsPlayedMatch text.now played) }
-{
-    let game = load(alloc, text)?;
-    let mut lines = accept_players(alloc, network, port, game.players(), hosting)?;
-    hosting.tell(network, &News::Begins);
-    serve_lines(alloc, game, text, network, service, lines.as_mut_slice())
 }
 
 /// Referees a match of each file's game at once, between the players that connect to the port and join it, and gives the
@@ -172,7 +132,7 @@ fn play_rounds<N: Network>(
 ) -> Result<Outcome, Fault> {
     let mut told = false;
     for _ in 0..rounds {
-        let heard = client.turn()?;
+        let heard = client.patient_turn()?;
         told = told || tell_seat(network, client);
         if let Heard::Ended(outcome) = heard {
             return Ok(outcome);
@@ -192,21 +152,6 @@ fn tell_seat<N: Network>(network: &mut N, client: &Client<N::Stream>) -> bool {
     }
 }
 
-/// Waits until that many players have connected to the port. Their lines are in order of seats.
-fn accept_players<N: Network>(
-    alloc: Global,
-    network: &mut N,
-    port: u16,
-    players: usize,
-    hosting: Hosting,
-) -> Result<Vec<StreamLine<N::Stream>>, Fault>
-    ensures { IfOk result (λ lines. length lines.items ≡ players) }
-{
-    let mut listener = network.listen(port)?;
-    hosting.tell(network, &News::Listening { port });
-    Ok(gather(alloc, network, &mut listener, players, hosting)?)
-}
-
 /// Referees a match over the lines, one for each seat, until it has ended. A clock begins with it.
 fn serve_lines<N: Network, L: Line>(
     alloc: Global,
@@ -221,10 +166,10 @@ fn serve_lines<N: Network, L: Line>(
     ensures { IfOk result (λ played. IsPlayedMatch text.now played) }
 {
     let mut clock = network.start_clock()?;
-    serve_match(alloc, game, text, service, lines, &mut clock)
+    serve_by(alloc, game, text, service, lines, &mut clock)
 }
 
-fn serve_match<L: Line, C: Clock>(
+fn serve_by<L: Line, C: Clock>(
     alloc: Global,
     game: Game,
     text: &[u8],

@@ -4,6 +4,7 @@ use crate::commands::rbg_command;
 use clap::ArgMatches;
 use rbg_answering::FileTask;
 use rbg_console::{WordsError, match_words};
+use rbg_keeping::{Keeping, Serving};
 use rbg_match::Config;
 use rbg_network::Hosting;
 use rbg_recording::RecordTask;
@@ -39,6 +40,11 @@ pub enum Task<'a> {
     Ask {
         file: &'a str,
     },
+    /// To referee a match whose script is on standard input, where a last line that isn't whole is left out. Without a
+    /// file the description stands before the script.
+    Cut {
+        file: Option<&'a str>,
+    },
     /// To referee a match, whose description stands before the script on standard input.
     Referee,
     /// To referee a match between players of this process.
@@ -46,12 +52,15 @@ pub enum Task<'a> {
         file: &'a str,
         service: Service,
     },
+    /// To print a script of a record.
+    Script {
+        file: &'a str,
+    },
     /// To referee a match between the players that connect to the port.
     Serve {
         file: &'a str,
         port: u16,
-        service: Service,
-        hosting: Hosting,
+        serving: Serving<'a>,
     },
     /// To let a hall, with a table for the game of each file, hear a script.
     HallScript {
@@ -113,6 +122,9 @@ impl<'a> Task<'a> {
                 file: text_of(words, "FILE"),
                 record: text_of(words, "RECORD"),
             }),
+            "script" => Task::Script {
+                file: text_of(words, "RECORD"),
+            },
             "demo" => Task::Demo {
                 file: text_of(words, "FILE"),
                 service: service_of(words),
@@ -120,13 +132,15 @@ impl<'a> Task<'a> {
             "serve" => Task::Serve {
                 file: text_of(words, "FILE"),
                 port: port_of(words),
-                service: service_of(words),
-                hosting: hosting_of(words),
+                serving: serving_of(words),
             },
             "play" => Task::Play {
                 port: port_of(words),
                 table: words.get_one("match"),
                 rounds: rounds_of(words),
+            },
+            _ if words.get_flag("cut") => Task::Cut {
+                file: words.get_str("FILE"),
             },
             _ => referee_of(words),
         }
@@ -169,6 +183,26 @@ fn hosting_of(words: &ArgMatches<'_>) -> Hosting {
     Hosting {
         wait: words.get_one("wait"),
         quiet: words.get_flag("quiet"),
+    }
+}
+
+fn serving_of<'a>(words: &ArgMatches<'a>) -> Serving<'a> {
+    let service = service_of(words);
+    Serving {
+        config: service.config,
+        rounds: service.rounds,
+        keeping: keeping_of(words),
+        hosting: hosting_of(words),
+    }
+}
+
+fn keeping_of<'a>(words: &ArgMatches<'a>) -> Keeping<'a> {
+    Keeping {
+        log: words.get_str("log"),
+        resume: words.get_str("resume"),
+        sync: words.get_flag("sync"),
+        minutes: words.get_one("minutes"),
+        names: words.get_str("names"),
     }
 }
 

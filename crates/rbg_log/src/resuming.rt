@@ -1,5 +1,6 @@
 //! A match goes on from the script of its log.
 ghost use Rattle.std.specs.Prelude.{◌≡◌, ◌++◌, [], ℕ, List, All, length, map, IfOk, OnOk};
+ghost use Rattle.rbg_game.specs.Loading.{Loads};
 ghost use Rattle.rbg_match.specs.Matches.{HasHistory};
 ghost use Rattle.rbg_match.specs.PlayingOn.{seats_of};
 ghost use Rattle.rbg_script.specs.Config.{ConfigHasSpelling};
@@ -54,6 +55,8 @@ pub fn play_script(
     ensures played { IfOk result (λ made.
         IsScriptPlayed description.now (script_of script.now) made.0 made.1) }
     ensures seats { IfOk result (λ made. length made.1 ≡ seats_of made.0.game) }
+    ensures loads { IfOk result (λ made. Loads description.now made.0.game) }
+    ensures history { IfOk result (λ made. HasHistory made.0) }
 {
     let events = match events_of(alloc, script.events.as_slice()) {
         Ok(events) => events,
@@ -108,6 +111,7 @@ impl<W: Log> LoggedMatch<W> {
             (held : List ℕ) × W.told made.0.log held
             × IsLog description.now held made.0.played made.1) }
         ensures seats { IfOk result (λ made. length made.1 ≡ seats_of made.0.played.game) }
+        ensures loads { IfOk result (λ made. Loads description.now made.0.played.game) }
         ensures history { IfOk result (λ made. HasHistory made.0.played) }
     {
         let (played, outbox) = play_script(alloc, description, script)?;

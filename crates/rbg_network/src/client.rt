@@ -72,6 +72,36 @@ impl<S: Read + Write + Drop> Client<S> {
         Ok(heard)
     }
 
+    /// Hears what has come, in one read. Only where nothing has come it sends what the player says, as far as the stream
+    /// takes it. So a player that hears a match again from its first message on says nothing to moves that were made
+    /// already.
+    pub fn patient_turn(&mut self) -> Result<Heard, ClientError> {
+        let mut piece = [0u8; PIECE];
+        match self.stream.read(&mut piece) {
+            Ok(0) => Err(ClientError::Device),
+            Ok(count) => self.hear_messages(&piece[..count]),
+            Err(error) if is_nothing_yet(&error) => {
+                self.send()?;
+                Ok(Heard::Going)
+            }
+            Err(_) => Err(ClientError::Device),
+        }
+    }
+
+    /// Hears a piece, message by message. What the player has said to a move is dropped when the next move comes.
+    fn hear_messages(&mut self, piece: &[u8]) -> Result<Heard, ClientError> {
+        for part in piece.split_inclusive(|byte| *byte == 0) {
+            if part.starts_with(b"M") {
+                self.unsent.clear();
+            }
+            let heard = self.hear_piece(part)?;
+            if !matches!(heard, Heard::Going) {
+                return Ok(heard);
+            }
+        }
+        Ok(Heard::Going)
+    }
+
     /// Which player this one is, once it has been told. A name of more bytes than a piece isn't known.
     pub fn seat(&self) -> Option<News<'_>> {
         let (message, _) = cut_at(0, self.first.as_slice())?;

@@ -7,6 +7,7 @@ mod gathering;
 mod network;
 mod news;
 mod stream_line;
+mod system_log;
 mod system_network;
 
 pub use client::{Client, ClientError};
@@ -14,4 +15,5 @@ pub use gathering::{GatherError, Hosting, connect_players, gather, tell_who_gave
 pub use network::Network;
 pub use news::News;
 pub use stream_line::{PlayedLine, StreamLine};
+pub use system_log::SystemLog;
 pub use system_network::{SystemClock, SystemNetwork};

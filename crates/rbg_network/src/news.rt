@@ -17,10 +17,16 @@ pub enum News<'a> {
     Absent { seconds: u64 },
     /// All seats are taken.
     Begins,
+    /// All seats are taken, and a match goes on that was stopped.
+    GoesOn,
     /// The match has ended.
     Ended { outcome: Outcome },
     /// The match did not end in this many rounds.
     Unfinished { rounds: u64 },
+    /// The match did not end within this many minutes.
+    OutOfTime { minutes: u64 },
+    /// Who sits on a seat, as the organiser says.
+    Sits { seat: usize, name: &'a str },
     /// The player of this process that has this seat gave up.
     GaveUp { seat: usize, error: ClientError },
     /// This process plays for this player.
@@ -37,8 +43,11 @@ impl fmt::Display for News<'_> {
                 write!(f, "not all seats were taken within {seconds} seconds")
             }
             News::Begins => f.write_str("match begins"),
+            News::GoesOn => f.write_str("match goes on"),
             News::Ended { outcome } => write_end(f, outcome),
             News::Unfinished { rounds } => write!(f, "match not ended within {rounds} rounds"),
+            News::OutOfTime { minutes } => write!(f, "match not ended within {minutes} minutes"),
+            News::Sits { seat, name } => write!(f, "seat {seat} is {name}"),
             News::GaveUp { seat, error } => write!(f, "seat {seat} gave up: {error}"),
             News::Plays { player, name } => write!(f, "seat {player} plays {name}"),
         }

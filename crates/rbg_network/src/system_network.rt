@@ -1,8 +1,9 @@
 //! The connections and the clock of the system. What fails is said on standard error, and so is what is told.
 
-use crate::News;
 use crate::network::{Network, is_nothing_yet};
+use crate::{News, SystemLog};
 use rbg_serving::Clock;
+use std::fs::{self, File};
 use std::net::{Ipv4Addr, TcpListener, TcpStream};
 use std::time::{Duration, Instant};
 use std::{io, thread};
@@ -27,6 +28,22 @@ impl<'a> SystemNetwork<'a> {
         let listener = TcpListener::bind(self.rt, (Ipv4Addr::LOCALHOST, port))?;
         listener.set_nonblocking(true)?;
         Ok(listener)
+    }
+
+    /// The log in a file, if that could be opened.
+    fn begin_log(
+        &self,
+        name: &str,
+        file: io::Result<File>,
+        sync: bool,
+    ) -> io::Result<SystemLog<'a>> {
+        match file {
+            Ok(file) => Ok(SystemLog::new(self.rt, file, sync)),
+            Err(error) => {
+                let _said = eprintln!(self.rt; "can't begin the log {name}: {error}");
+                Err(error)
+            }
+        }
     }
 
     /// The next connection. Where there is none yet, a few milliseconds pass.
@@ -54,6 +71,8 @@ impl<'a> Network for SystemNetwork<'a> {
     type Listener = TcpListener;
 
     type Clock = SystemClock<'a>;
+
+    type Log = SystemLog<'a>;
 
     fn listen(&mut self, port: u16) -> io::Result<TcpListener> {
         let listener = self.bind(port);
@@ -87,6 +106,26 @@ impl<'a> Network for SystemNetwork<'a> {
             start: Instant::now(self.rt)?,
             last: 0,
         })
+    }
+
+    fn create_log(&mut self, name: &str, sync: bool) -> io::Result<SystemLog<'a>> {
+        let file = File::create_new(self.rt, name);
+        self.begin_log(name, file, sync)
+    }
+
+    fn rewrite_log(&mut self, name: &str, sync: bool) -> io::Result<SystemLog<'a>> {
+        let beside = format!(in self.rt.alloc(); "{name}.new")?;
+        let file = File::create(self.rt, beside.as_str());
+        self.begin_log(beside.as_str(), file, sync)
+    }
+
+    fn replace_log(&mut self, name: &str) -> io::Result<()> {
+        let beside = format!(in self.rt.alloc(); "{name}.new")?;
+        let renamed = fs::rename(self.rt, beside.as_str(), name);
+        if let Err(error) = &renamed {
+            let _said = eprintln!(self.rt; "can't replace the log {name}: {error}");
+        }
+        renamed
     }
 
     fn tell(&mut self, news: &News<'_>) {

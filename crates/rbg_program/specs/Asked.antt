@@ -1,14 +1,16 @@
 -- What the program takes words to ask for.
-use Rattle.std.specs.Prelude.{Option, Some, None}
+use Rattle.std.specs.Prelude.{Option, Some, None, option_map}
 use Rattle.rbg_answering.specs.Tasks.{file_task}
 use Rattle.rbg_recording.specs.Tasks.{record_task}
 use Rattle.rbg_program.specs.declared.words.Asked.{Asked}
-use Rattle.rbg_program.specs.declared.words.Asked.TheVariants.{Input, Files, Recorded, Moves, Other}
-use Rattle.rbg_program.specs.Words.{Wish, match_of_input, on_files, recorded_match, moves_of}
+use Rattle.rbg_program.specs.declared.words.Asked.TheVariants.{Input, Files, Recorded, Cut, Moves, Script, Other}
+use Rattle.rbg_program.specs.Words.{Wish, match_of_input, on_files, recorded_match, cut_match, moves_of, script_of}
 
 abbrev pub wish_of : Asked → Option Wish
 wish_of Input = Some match_of_input
 wish_of (Files task) = Some (on_files (file_task task))
 wish_of (Recorded task) = Some (recorded_match (record_task task))
+wish_of (Cut file) = Some (cut_match (option_map (λ name. name.now) file))
 wish_of (Moves file) = Some (moves_of file.now)
+wish_of (Script file) = Some (script_of file.now)
 wish_of Other = None

@@ -8,6 +8,7 @@ use crate::words::{Asked, asked_by};
 use rbg_answering::run_task;
 use rbg_commands::run_command;
 use rbg_console::{Files, Status};
+use rbg_keeping::{run_cut, run_script};
 use rbg_listing::run_moves;
 use rbg_network::Network;
 use rbg_recording::run_recorded;
@@ -33,7 +34,9 @@ pub fn run<F: Files, N: Network, R: Read, W: Write>(
         Asked::Input => run_referee(alloc, input, output),
         Asked::Files(task) => run_task(alloc, task, files, input, output),
         Asked::Recorded(task) => run_recorded(alloc, task, files, input, output),
+        Asked::Cut { file } => run_cut(alloc, file, files, input, output),
         Asked::Moves { file } => run_moves(alloc, file, files, output),
+        Asked::Script { file } => run_script(alloc, file, files, output),
         Asked::Other => run_command(alloc, words, files, network, input, output),
     }
 }

@@ -3,7 +3,7 @@
 ghost use Rattle.std.specs.Prelude.{◌≡◌, [], ◌∷◌, Some, codes, map, nat_eq, string_bytes};
 ghost use Rattle.std.specs.List.{starts_with};
 ghost use Rattle.rbg_program.specs.Asked.{wish_of};
-ghost use Rattle.rbg_program.specs.Words.{Asks, IsName, Wish, recorded_file};
+ghost use Rattle.rbg_program.specs.Words.{Asks, IsName, Wish, cut_file, recorded_file};
 
 use rbg_answering::FileTask;
 use rbg_recording::RecordTask;
@@ -17,8 +17,12 @@ pub enum Asked<'a> {
     Files(FileTask<'a>),
     /// A match and its record.
     Recorded(RecordTask<'a>),
+    /// A match whose script may be cut off in its last line, and whose description is in the file, if one is named.
+    Cut { file: Option<&'a str> },
     /// The moves with which the game of the file opens and can go on.
     Moves { file: &'a str },
+    /// A script of the record that the file has.
+    Script { file: &'a str },
     /// Something else, or nothing that the program can do.
     Other,
 }
@@ -59,6 +63,9 @@ fn asked_alone<'a>(command: &str) -> Asked<'a>
 fn asked_of_file<'a>(command: &str, file: &'a str) -> Asked<'a>
     ensures { (wish : Wish) → Asks (command.now ∷ file.now ∷ []) wish → wish_of result ≡ Some wish }
 {
+    if command == "referee" && file == "--cut" {
+        return Asked::Cut { file: None };
+    }
     if is_option(file) {
         return Asked::Other;
     }
@@ -71,6 +78,9 @@ fn asked_of_file<'a>(command: &str, file: &'a str) -> Asked<'a>
     if command == "moves" {
         return Asked::Moves { file };
     }
+    if command == "script" {
+        return Asked::Script { file };
+    }
     Asked::Other
 }
 
@@ -79,8 +89,14 @@ fn asked_of_two<'a>(command: &str, first: &'a str, second: &'a str) -> Asked<'a>
     ensures { (wish : Wish) → Asks (command.now ∷ first.now ∷ second.now ∷ []) wish
         → wish_of result ≡ Some wish }
 {
+    if command == "referee" && second == "--cut" {
+        return asked_to_cut(first);
+    }
     if is_option(second) {
         return Asked::Other;
+    }
+    if command == "referee" && first == "--cut" {
+        return asked_to_cut(second);
     }
     if command == "referee" && first == "--record" {
         return Asked::Recorded(RecordTask {
@@ -132,6 +148,17 @@ fn asked_to_record<'a>(file: &'a str, other: &'a str) -> Asked<'a>
         description: Some(file),
         target: other,
     })
+}
+
+/// A match whose script may be cut off, of a file's description, if the word is a name.
+fn asked_to_cut(file: &str) -> Asked<'_>
+    ensures { IsName file.now → wish_of result ≡ Some (cut_file file.now) }
+{
+    if is_option(file) {
+        Asked::Other
+    } else {
+        Asked::Cut { file: Some(file) }
+    }
 }
 
 /// Whether a word begins with `-`.

@@ -1,4 +1,4 @@
-//! Tests of the automaton of positions, of a player, and of serving over lines and clocks in memory.
+//! Tests of the automaton of positions, of a player, of serving over lines and clocks in memory, and of logs.
 #![tactic(auto)]
 
 #[cfg(test)]
@@ -9,5 +9,7 @@ mod generated;
 mod hearing;
 #[cfg(test)]
 mod lists;
+#[cfg(test)]
+mod logs;
 #[cfg(test)]
 mod serving;

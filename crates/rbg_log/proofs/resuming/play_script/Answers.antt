@@ -1,6 +1,7 @@
 -- The match is that of the script's events.
 use Rattle.std.proofs.Common.{◌∙◌, ap, map, sym, subst}
 use Rattle.std.proofs.lemmas.Simd.{map-map}
+use Rattle.rbg_game.specs.Loading.{Loads}
 use Rattle.rbg_match.specs.Inputs.{event_of as match_event}
 use Rattle.rbg_match.specs.Played.{IsMatchOf}
 use Rattle.rbg_refereeing.specs.Scripts.{event_for}
@@ -20,3 +21,11 @@ returns-clause-played c =
 
 pub returns-clause-seats : goal.returns-clause-seats
 returns-clause-seats c = played_seats c.args.description.now (script_of c.args.script.now) c.in_ok-referee_match.field-0.0 c.in_ok-referee_match.field-0.1 (returns-clause-played c)
+
+pub returns-clause-loads : goal.returns-clause-loads
+returns-clause-loads c =
+    let played = returns-clause-played c in
+    subst (Loads c.args.description.now) played.of_game played.refereed.loads
+
+pub returns-clause-history : goal.returns-clause-history
+returns-clause-history c = (returns-clause-played c).history

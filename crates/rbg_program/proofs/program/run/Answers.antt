@@ -1,9 +1,10 @@
 -- What is run is what the words ask for.
 use Rattle.std.proofs.Common.{subst}
+use Rattle.std.specs.Prelude.{option_map}
 use Rattle.rbg_answering.specs.Tasks.{file_task}
 use Rattle.rbg_recording.specs.Tasks.{record_task}
 use Rattle.rbg_program.specs.Runs.{IsRunFor}
-use Rattle.rbg_program.specs.Words.{match_of_input, on_files, recorded_match, moves_of}
+use Rattle.rbg_program.specs.Words.{match_of_input, on_files, recorded_match, cut_match, moves_of, script_of}
 use Rattle.rbg_program.proofs.WishLemmas.{wish_found}
 use Rattle.rbg_program.proofs.program.run.Goals as goal
 
@@ -34,3 +35,17 @@ returns-in-Moves g c = λ wish asks.
     (g.R.Read.remaining c.args.input.now) (g.R.Read.remaining c.args.input.now)
     (g.W.Write.contents c.args.output.now) (g.W.Write.contents c.run_moves.new.output) c.run_moves.result)
     (wish_found (moves_of c.in-Moves.file.now) wish (c.in-Moves.ensures wish asks)) c.run_moves.ensures
+
+pub returns-in-Cut : goal.returns-in-Cut
+returns-in-Cut g c = λ wish asks.
+    subst (λ w. IsRunFor w g.F.Files.tells_new (g.F.Files.told c.args.files.now) (g.F.Files.told c.run_cut.new.files)
+    (g.R.Read.remaining c.args.input.now) (g.R.Read.remaining c.run_cut.new.input)
+    (g.W.Write.contents c.args.output.now) (g.W.Write.contents c.run_cut.new.output) c.run_cut.result)
+    (wish_found (cut_match (option_map (λ name. name.now) c.in-Cut.file)) wish (c.in-Cut.ensures wish asks)) c.run_cut.ensures
+
+pub returns-in-Script : goal.returns-in-Script
+returns-in-Script g c = λ wish asks.
+    subst (λ w. IsRunFor w g.F.Files.tells_new (g.F.Files.told c.args.files.now) (g.F.Files.told c.run_script.new.files)
+    (g.R.Read.remaining c.args.input.now) (g.R.Read.remaining c.args.input.now)
+    (g.W.Write.contents c.args.output.now) (g.W.Write.contents c.run_script.new.output) c.run_script.result)
+    (wish_found (script_of c.in-Script.file.now) wish (c.in-Script.ensures wish asks)) c.run_script.ensures

@@ -1,0 +1,222 @@
+#!/usr/bin/env python3
+"""Kills `rbg serve` in the middle of matches, lets them go on from their logs, and compares their records.
+
+    crash.py GAME.. [--rbg FILE] [--count N] [--seed N]
+
+Each match is played once to its end, by example clients that choose by chance. Then clients that say the moves of its
+record play it again, with a log, and `rbg` is killed at a random moment, and once more after the match went on. In the
+end the record has to be good and to have the moves and the outcome of the first match, and `rbg referee GAME < LOG` has
+to tell the same. A log that is cut at any of its bytes has to be refereed up to the cut, and to go on from there.
+
+It needs nothing but Linux, Python 3.11 and the program rbg.
+"""
+
+import argparse
+import random
+import signal
+import socket
+import subprocess
+import sys
+import tempfile
+import time
+from pathlib import Path
+from typing import Optional
+
+CLIENT = Path(__file__).resolve().with_name("rbg_player.py")
+PATIENCE = 60  # seconds in which a match has to end
+
+
+class Wrong(Exception):
+    """What isn't as it should be."""
+
+
+def free_port() -> int:
+    """A port on which nothing listens now."""
+    with socket.socket() as tried:
+        tried.bind(("127.0.0.1", 0))
+        return tried.getsockname()[1]
+
+
+def moves_of(record: str) -> list[str]:
+    """The moves and the outcome of a record of version 2, without their moments.
+
+    >>> moves_of("rbg 2\\nplayers a b\\nstart 1 0\\n5 1 0 3\\n9 E0 1 2\\n")
+    ['1 0 3', 'E0 1 2']
+    """
+    return [line.split(" ", 1)[1] for line in record.splitlines()[3:]]
+
+
+class Match:
+    """A match of a game, and its files."""
+
+    def __init__(self, rbg: str, game: Path, folder: Path):
+        self.rbg, self.game = rbg, game
+        self.log, self.record = folder / "match.log", folder / "match.record"
+        self.lasted = 0.0  # how many seconds the last match took, from the last connection on
+
+    def serve(self, players: list[list[str]], *words: str) -> tuple[subprocess.Popen, list[subprocess.Popen]]:
+        """Starts a referee and, one after the other, its clients."""
+        port = free_port()
+        referee = subprocess.Popen(
+            [self.rbg, "serve", str(self.game), "--port", str(port), "--minutes", "5", *words],
+            stdout=subprocess.PIPE, stderr=subprocess.PIPE, text=True,
+        )
+        self.wait_for(referee, "listening")
+        clients = []
+        for seat, player in enumerate(players, 1):
+            clients.append(subprocess.Popen(
+                [sys.executable, str(CLIENT), str(port), "--rbg", self.rbg, *player],
+                stdout=subprocess.DEVNULL, stderr=subprocess.DEVNULL,
+            ))
+            self.wait_for(referee, f"seat {seat} connected")
+        return referee, clients
+
+    @staticmethod
+    def wait_for(referee: subprocess.Popen, news: str) -> None:
+        """Reads standard error up to a line that begins so."""
+        assert referee.stderr is not None
+        for line in referee.stderr:
+            if line.startswith(news):
+                return
+        raise Wrong(f"the referee ended before it said {news!r}")
+
+    @staticmethod
+    def end(referee: subprocess.Popen, clients: list[subprocess.Popen]) -> None:
+        for process in (referee, *clients):
+            if process.poll() is None:
+                process.kill()
+            process.wait()
+
+    def play(self, players: list[list[str]], *words: str, kill_after: Optional[float] = None) -> Optional[str]:
+        """Plays on. Returns the record, or None if the referee was killed before the end."""
+        referee, clients = self.serve(players, *words)
+        began = time.monotonic()
+        try:
+            output, _ = referee.communicate(timeout=PATIENCE if kill_after is None else kill_after)
+        except subprocess.TimeoutExpired:
+            if kill_after is None:
+                raise Wrong(f"not ended after {PATIENCE} seconds") from None
+            referee.send_signal(signal.SIGKILL)
+            referee.communicate()
+            return None
+        finally:
+            self.lasted = time.monotonic() - began
+            self.end(referee, clients)
+        if referee.returncode:
+            raise Wrong(f"the referee ended with status {referee.returncode}: {output.strip()}")
+        return output
+
+    def play_again(self, *words: str, kill_after: Optional[float] = None) -> Optional[str]:
+        """Plays as the record says."""
+        return self.play([["--record", str(self.record)]] * 2, *words, kill_after=kill_after)
+
+    def run(self, *words: str, text: Optional[bytes] = None) -> tuple[int, bytes]:
+        """What another command of rbg prints, and its status."""
+        done = subprocess.run([self.rbg, *words], input=text, capture_output=True)
+        return done.returncode, done.stdout
+
+    def check(self, record: str) -> None:
+        """The record is good, has the moves of the first one, and the log tells the same match."""
+        if moves_of(record) != moves_of(self.record.read_text()):
+            raise Wrong(f"another match than without a crash:\n{record}")
+        file = self.log.with_suffix(".again")
+        file.write_text(record)
+        if self.run("replay", str(self.game), str(file)) != (0, b"good\n"):
+            raise Wrong("the record isn't good")
+        status, printed = self.run("referee", str(self.game), text=self.log.read_bytes())
+        if status:
+            raise Wrong(f"the log is refused: {printed!r}")
+        heard = [line.removeprefix("1 ") for line in printed.decode().splitlines() if line[:3] in ("1 M", "1 E")]
+        moves = [move if move[0] == "E" else "M" + move.split(" ", 1)[1] for move in moves_of(record)]
+        if heard != moves:
+            raise Wrong("the log tells another match than the record")
+
+
+def crash_once(match: Match, chance: random.Random, longest: float) -> int:
+    """Plays a match that is killed twice at most. Returns how often it was killed."""
+    killed = 0
+    match.log.unlink(missing_ok=True)
+    record = match.play_again("--log", str(match.log), kill_after=chance.uniform(0.0, longest))
+    while record is None:
+        killed += 1
+        later = chance.uniform(0.0, longest) if killed < 2 else None
+        if b"\n" in match.log.read_bytes():
+            record = resume(match, later)
+        else:
+            match.log.unlink()  # it was killed before the match began
+            record = match.play_again("--log", str(match.log), kill_after=later)
+    match.check(record)
+    return killed
+
+
+def resume(match: Match, kill_after: Optional[float]) -> Optional[str]:
+    """Goes on with a match, which may have ended when the referee was killed: then its record comes at once."""
+    status, printed = match.run("referee", "--cut", str(match.game), text=match.log.read_bytes())
+    if status:
+        raise Wrong(f"the log is refused: {printed!r}")
+    if any(line.split(b" ", 1)[1].startswith(b"E") for line in printed.splitlines()):
+        status, printed = match.run("serve", str(match.game), "--port", str(free_port()), "--resume", str(match.log))
+        if status:
+            raise Wrong(f"an ended match isn't printed: {printed!r}")
+        return printed.decode()
+    return match.play_again("--resume", str(match.log), kill_after=kill_after)
+
+
+def cut_everywhere(match: Match) -> int:
+    """A log that is cut at any of its bytes goes on from its whole lines, or lacks its first line. Returns how many cuts."""
+    whole = match.log.read_bytes()
+    for length in range(len(whole)):
+        text = whole[:length]
+        match.log.write_bytes(text)
+        lines = [line.decode() for line in text.split(b"\n")[:-1]]
+        cut = match.run("referee", "--cut", str(match.game), text=text)
+        words = ["serve", str(match.game), "--port", str(free_port()), "--resume", str(match.log), "--wait", "0", "--quiet"]
+        gone_on = match.run(*words)
+        if not lines:
+            if cut != (2, b"script 1\n") or gone_on != cut:
+                raise Wrong(f"cut at {length}: {cut}, {gone_on}")
+        elif cut[0] or gone_on != (3, b"") or match.run("referee", str(match.game), text=match.log.read_bytes()) != cut:
+            raise Wrong(f"cut at {length}: {cut}, {gone_on}")
+        elif match.log.read_text().splitlines() != lines:
+            raise Wrong(f"cut at {length}: the log that goes on has other lines")
+    match.log.write_bytes(whole)
+    return len(whole)
+
+
+def main() -> int:
+    parser = argparse.ArgumentParser(description=__doc__.splitlines()[0])
+    parser.add_argument("games", type=Path, nargs="+", metavar="GAME")
+    parser.add_argument("--rbg", default="./rbg", help="the program")
+    parser.add_argument("--count", type=int, default=50, help="how many matches are killed")
+    parser.add_argument("--seed", type=int, default=1)
+    words = parser.parse_args()
+    chance = random.Random(words.seed)
+    killed = 0
+    try:
+        with tempfile.TemporaryDirectory() as folder:
+            for number in range(words.count):
+                game = words.games[number % len(words.games)]
+                match = Match(words.rbg, game, Path(folder))
+                seeds = [str(chance.randrange(10**6)) for _ in range(2)]
+                whole = match.play([["--random", seed] for seed in seeds])
+                assert whole is not None
+                match.record.write_text(whole)
+                match.log.unlink(missing_ok=True)
+                again = match.play_again("--log", str(match.log))
+                assert again is not None
+                match.check(again)
+                longest = match.lasted
+                if number == 0:
+                    print(f"{cut_everywhere(match)} cuts of a log were looked at", flush=True)
+                often = crash_once(match, chance, longest)
+                killed += often
+                print(f"match {number + 1} of {words.count}, {game.stem}: killed {often} times", flush=True)
+    except Wrong as wrong:
+        print(f"wrong: {wrong}", file=sys.stderr)
+        return 1
+    print(f"{words.count} matches, killed {killed} times: each record is good, and its log tells the same match")
+    return 0
+
+
+if __name__ == "__main__":
+    sys.exit(main())

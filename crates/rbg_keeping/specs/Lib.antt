@@ -1,0 +1,3 @@
+-- Matches that outlive the process that served them.
+pub mod Played
+pub mod Runs

@@ -1,0 +1,31 @@
+//! The players of a match.
+ghost use Rattle.std.specs.Prelude.{◌≡◌, length, IfOk};
+
+use crate::{KeepingFault, Serving};
+use rbg_network::{Hosting, Network, News, StreamLine, gather};
+use std::alloc::Global;
+
+/// Waits until that many players have connected to the port. Their lines are in order of seats.
+pub(crate) fn accept_players<N: Network>(
+    alloc: Global,
+    network: &mut N,
+    port: u16,
+    players: usize,
+    hosting: Hosting,
+) -> Result<Vec<StreamLine<N::Stream>>, KeepingFault>
+    ensures { IfOk result (λ lines. length lines.items ≡ players) }
+{
+    let mut listener = network.listen(port)?;
+    hosting.tell(network, &News::Listening { port });
+    Ok(gather(alloc, network, &mut listener, players, hosting)?)
+}
+
+/// Tells who sits where, as far as the organiser says.
+pub(crate) fn tell_names<N: Network>(network: &mut N, serving: &Serving<'_>) {
+    if let Some(names) = serving.keeping.names {
+        for (index, name) in names.split(',').enumerate() {
+            let seat = index.saturating_add(1);
+            serving.hosting.tell(network, &News::Sits { seat, name });
+        }
+    }
+}

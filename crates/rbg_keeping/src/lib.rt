@@ -1,0 +1,19 @@
+//! Matches that outlive the process that served them: serving with a log, going on from one, refereeing one that was cut
+//! off, and the script of a record.
+#![tactic(auto)]
+
+mod beginning;
+mod bounded;
+mod cut;
+mod fault;
+mod joining;
+mod resuming;
+mod script;
+mod serving;
+mod task;
+
+pub use cut::run_cut;
+pub use fault::KeepingFault;
+pub use script::run_script;
+pub use serving::serve_match;
+pub use task::{Keeping, Serving};

@@ -1,0 +1,141 @@
+//! A match from its log on.
+ghost use Rattle.std.specs.Prelude.{◌≡◌, ℕ, List, length, IfOk};
+ghost use Rattle.rbg_match.specs.PlayingOn.{seats_of};
+ghost use Rattle.rbg_keeping.specs.Played.{IsPlayedMatch};
+
+use crate::bounded::play_on;
+use crate::joining::{accept_players, tell_names};
+use crate::{KeepingFault, Serving};
+use rbg_console::{Files, Input, MAX_INPUT};
+use rbg_game::load;
+use rbg_log::{LaterClock, Log, LoggedMatch, cut_stumps, play_script, whole_lines};
+use rbg_match::{Match, Outbox};
+use rbg_network::{Network, News};
+use rbg_script::{Script, read_script};
+use std::alloc::Global;
+
+/// Goes on with a match of the text's game from its log, between the first players that connect to the port. A match
+/// that has ended is given at once.
+pub(crate) fn resume_text<F: Files, N: Network>(
+    alloc: Global,
+    text: &[u8],
+    files: &mut F,
+    name: &str,
+    network: &mut N,
+    port: u16,
+    serving: &Serving<'_>,
+) -> Result<Match, KeepingFault>
+    ensures { IfOk result (λ played. IsPlayedMatch text.now played) }
+{
+    load(alloc, text)?;
+    let script = read_log(alloc, files, name)?;
+    let played = stopped_match(alloc, text, &script)?;
+    if played.outcome().is_some() {
+        return Ok(played);
+    }
+    let moment = played.moment();
+    let seats = played.players();
+    resume_script(
+        alloc, text, script, name, network, port, serving, moment, seats,
+    )
+}
+
+/// The script that a log holds. A last line that isn't whole is left out.
+fn read_log<F: Files>(alloc: Global, files: &mut F, name: &str) -> Result<Script, KeepingFault> {
+    match files.read_file(alloc, name, MAX_INPUT)? {
+        Input::Whole(bytes) => Ok(read_script(alloc, whole_lines(bytes.as_slice()))?),
+        Input::TooLong => Err(KeepingFault::Script(0)),
+        Input::Device => Err(KeepingFault::Device),
+    }
+}
+
+/// The match where its script leaves it.
+fn stopped_match(alloc: Global, text: &[u8], script: &Script) -> Result<Match, KeepingFault>
+    ensures { IfOk result (λ played. IsPlayedMatch text.now played) }
+{
+    let (played, _) = play_script(alloc, text, script)?;
+    Ok(played)
+}
+
+/// Goes on with the match of a script for so many seats, of which the last moment is this one.
+fn resume_script<N: Network>(
+    alloc: Global,
+    text: &[u8],
+    script: Script,
+    name: &str,
+    network: &mut N,
+    port: u16,
+    serving: &Serving<'_>,
+    moment: u64,
+    seats: usize,
+) -> Result<Match, KeepingFault>
+    ensures { IfOk result (λ played. IsPlayedMatch text.now played) }
+{
+    let mut script = script;
+    cut_stumps(seats, moment, &mut script.events)?;
+    let (logged, outbox) = begin_again(alloc, text, &script, name, network, serving)?;
+    go_on(alloc, network, port, serving, logged, outbox, moment)
+}
+
+/// The match of a script, with a log that replaces the old one.
+fn begin_again<N: Network>(
+    alloc: Global,
+    text: &[u8],
+    script: &Script,
+    name: &str,
+    network: &mut N,
+    serving: &Serving<'_>,
+) -> Result<(LoggedMatch<N::Log>, Outbox), KeepingFault>
+    ensures played { IfOk result (λ made. IsPlayedMatch text.now made.0.played) }
+    ensures seats { IfOk result (λ made. length made.1 ≡ seats_of made.0.played.game) }
+{
+    let log = network.rewrite_log(name, serving.keeping.sync)?;
+    let made = resume(alloc, text, script, log)?;
+    network.replace_log(name)?;
+    Ok(made)
+}
+
+/// The match of a script, which is written to a new log.
+fn resume<W: Log>(
+    alloc: Global,
+    text: &[u8],
+    script: &Script,
+    log: W,
+) -> Result<(LoggedMatch<W>, Outbox), KeepingFault>
+    ensures played { IfOk result (λ made. IsPlayedMatch text.now made.0.played) }
+    ensures seats { IfOk result (λ made. length made.1 ≡ seats_of made.0.played.game) }
+{
+    let made = LoggedMatch::resume(alloc, text, script, log)?;
+    Ok(made)
+}
+
+/// Waits for the players of a match, and goes on with it from this moment.
+fn go_on<N: Network, W: Log>(
+    alloc: Global,
+    network: &mut N,
+    port: u16,
+    serving: &Serving<'_>,
+    logged: LoggedMatch<W>,
+    outbox: Outbox,
+    moment: u64,
+) -> Result<Match, KeepingFault>
+    requires { length outbox ≡ seats_of logged.played.game }
+    ensures { (text : List ℕ) → IsPlayedMatch text logged.played →
+        IfOk result (λ played. IsPlayedMatch text played) }
+{
+    let players = logged.played().players();
+    let mut lines = accept_players(alloc, network, port, players, serving.hosting)?;
+    tell_names(network, serving);
+    serving.hosting.tell(network, &News::GoesOn);
+    let mut outbox = outbox;
+    let mut clock = LaterClock::new(network.start_clock()?, moment);
+    play_on(
+        alloc,
+        logged,
+        serving,
+        moment,
+        lines.as_mut_slice(),
+        &mut outbox,
+        &mut clock,
+    )
+}

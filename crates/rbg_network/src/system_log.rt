@@ -1,0 +1,43 @@
+//! Logs in files of the system. What fails is said on standard error.
+
+use rbg_log::{Log, LogFailure};
+use std::fs::File;
+use std::io::{self, Write};
+
+/// A log in a file of the system.
+#[derive(Drop)]
+pub struct SystemLog<'a> {
+    rt: &'a HostRuntime,
+    file: File,
+    /// Whether each write waits until the bytes are on the disk.
+    sync: bool,
+}
+
+impl<'a> SystemLog<'a> {
+    /// A log in a file that was opened to write.
+    pub(crate) fn new(rt: &'a HostRuntime, file: File, sync: bool) -> SystemLog<'a> {
+        SystemLog { rt, file, sync }
+    }
+
+    fn write(&mut self, bytes: &[u8]) -> io::Result<()> {
+        self.file.write_all(bytes)?;
+        if self.sync {
+            self.file.sync_data()?;
+        }
+        Ok(())
+    }
+}
+
+impl Log for SystemLog<'_> {
+    ghost told = { λ _ _. Unit {0} };
+
+    fn append(&mut self, bytes: &[u8]) -> Result<(), LogFailure> {
+        match self.write(bytes) {
+            Ok(()) => Ok(()),
+            Err(error) => {
+                let _said = eprintln!(self.rt; "can't write the log: {error}");
+                Err(LogFailure)
+            }
+        }
+    }
+}
