@@ -146,7 +146,8 @@ def free_port() -> int:
 
 
 def sockets(port: int, state: str) -> int:
-    """How many sockets of this machine have this local port and this state, as Linux lists them.
+    """How many sockets of this machine have this local port and this state, as Linux lists them. A socket may be listed
+    more than once while others come and go, so each pair of addresses counts once.
 
     >>> with socket.create_server(("127.0.0.1", 0)) as server:
     ...     port = server.getsockname()[1]
@@ -155,7 +156,8 @@ def sockets(port: int, state: str) -> int:
     (1, 1)
     """
     lines = Path("/proc/net/tcp").read_text().splitlines()[1:]
-    return sum(local.endswith(f":{port:04X}") and found == state for _, local, _, found, *_ in map(str.split, lines))
+    listed = {(local, remote) for _, local, remote, found, *_ in map(str.split, lines) if found == state}
+    return sum(local.endswith(f":{port:04X}") for local, _ in listed)
 
 
 def is_so(test: Callable[[], bool], seconds: float, *needed: subprocess.Popen) -> bool:
