@@ -86,17 +86,16 @@ def named_files(words):
 
 def referee(words, standard_input, files):
     file, record = named_files(words)
-    text = None if file is None else take_file(files, file)
+    if file is None:
+        text, script = split_at_mark(standard_input)
+    else:
+        text, script = take_file(files, file), standard_input
+        if len(script) > MOST_INPUT:
+            raise Fault("script 0", 2)
     if record is not None:
         if record in files:
             raise Fault("device", 3)
         files[record] = b""
-    if text is None:
-        text, script = split_at_mark(standard_input)
-    else:
-        script = standard_input
-        if len(script) > MOST_INPUT:
-            raise Fault("script 0", 2)
     game = load(text)
     try:
         match = scripts.referee(game, text, script)

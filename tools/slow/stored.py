@@ -24,7 +24,7 @@ class Case:
         if self.author:
             return False
         arguments = self.words[1:]
-        if self.words[:1] == ["referee"] and arguments[-1:] != ["--record"]:
+        if self.words[:1] == ["referee"] and arguments[-1:] != ["--record"] and "--cut" not in arguments:
             arguments = [name for name in program.named_files(arguments) if name is not None]
         fits = {"referee": len(arguments) < 3, "replay": len(arguments) == 2, "migrate": len(arguments) == 2}
         return not self.words or (
