@@ -24,7 +24,7 @@ SECONDS = 60  # for one run of the program
 STEPS = 1_000_000  # of the interpreter's questions, for one case by chance
 TRIES = 400  # to make a difference smaller
 # What standard error says of files and records beside the answer, which the interpreter doesn't know.
-TOLD = re.compile(rb"(?m)^(can't read .*|lines of .* end in CR LF, and not in LF alone)\n")
+TOLD = re.compile(rb"(?m)^(can't (read|create) .*|lines of .* end in CR LF, and not in LF alone)\n")
 
 
 class TooLate(Exception):
