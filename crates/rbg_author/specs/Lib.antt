@@ -1,0 +1,2 @@
+-- What the program for authors prints.
+pub mod Printing

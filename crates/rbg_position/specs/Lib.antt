@@ -1,0 +1,2 @@
+-- A place as a description.
+pub mod Positions
