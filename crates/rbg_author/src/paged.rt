@@ -1,8 +1,4 @@
 //! What `page` prints of a game and a record.
-ghost use Rattle.std.specs.Prelude.{IfOk, Some};
-ghost use Rattle.std.specs.Option.{option_map};
-ghost use Rattle.rbg_page.specs.declared.error.PageError.TheVariants as errors;
-ghost use Rattle.rbg_author.specs.Printing.{PrintsPage, SaysRefused};
 
 use crate::reading::{Read, load_text, read_text, unreadable};
 use crate::report::Report;
@@ -47,29 +43,14 @@ fn page_texts(
 fn page_record(
     alloc: Global,
     loaded: LoadedGame,
-    bytes: Option<Vec<u8>>,
-) -> Result<Report, AllocError>
-    ensures { IfOk result (PrintsPage loaded.game loaded.layout (option_map (λ b. b.items) bytes)) }
-{
-    match bytes {
-        Some(bytes) => page_bytes(alloc, loaded, &bytes),
-        None => refused_whole(alloc),
-    }
-}
-
-/// What is said of a record that is too long.
-fn refused_whole(alloc: Global) -> Result<Report, AllocError>
-    ensures { IfOk result (SaysRefused (errors.Form 0)) }
-{
-    refused(alloc, PageError::Form { line: 0 })
-}
-
-fn page_bytes(alloc: Global, loaded: LoadedGame, bytes: &[u8]) -> Result<Report, AllocError>
-    ensures { IfOk result (PrintsPage loaded.game loaded.layout (Some bytes.now)) }
-{
+    record: Option<Vec<u8>>,
+) -> Result<Report, AllocError> {
+    let Some(record) = record else {
+        return refused(alloc, PageError::Form { line: 0 });
+    };
     let LoadedGame { game, layout } = loaded;
     let game = PlayedGame::new(alloc, game)?;
-    match page(alloc, &game, &layout, bytes) {
+    match page(alloc, &game, &layout, &record) {
         Ok(text) => Ok(Report {
             text,
             status: Status::Success,
@@ -78,10 +59,8 @@ fn page_bytes(alloc: Global, loaded: LoadedGame, bytes: &[u8]) -> Result<Report,
     }
 }
 
-/// The line that says why a record isn't right, as `rbg replay` prints it.
-pub(crate) fn refused(alloc: Global, error: PageError) -> Result<Report, AllocError>
-    ensures { IfOk result (SaysRefused error) }
-{
+/// The line that says why there is no page, as `rbg replay` prints it.
+pub(crate) fn refused(alloc: Global, error: PageError) -> Result<Report, AllocError> {
     let line = match error {
         PageError::Form { line } => format!(in alloc; "form {line}\n")?,
         PageError::Bad { line } => format!(in alloc; "bad {line}\n")?,

@@ -1,11 +1,8 @@
 //! What `show` prints of a game and a list of moves.
-ghost use Rattle.std.specs.Prelude.{◌≡◌, IfOk};
-ghost use Rattle.rbg_author.specs.Printing.{PrintsShown, shown_status};
 
 use crate::reading::{Read, load_text, read_text, unreadable};
 use crate::report::Report;
 use rbg_console::{Files, Input, MAX_INPUT, Status, read_input};
-use rbg_game::LoadedGame;
 use rbg_show::show;
 use std::alloc::{AllocError, Global};
 use std::io;
@@ -36,33 +33,17 @@ fn show_moves(
     only_last: bool,
 ) -> Result<Report, AllocError> {
     match load_text(alloc, file, text)? {
-        Read::Found(loaded) => show_loaded(alloc, &loaded, moves, only_last),
+        Read::Found(loaded) => {
+            let shown = show(alloc, &loaded, moves, only_last)?;
+            Ok(Report {
+                text: shown.text,
+                status: if shown.is_whole {
+                    Status::Success
+                } else {
+                    Status::Refused
+                },
+            })
+        }
         Read::Other(report) => Ok(report),
-    }
-}
-
-fn show_loaded(
-    alloc: Global,
-    loaded: &LoadedGame,
-    moves: &[u8],
-    only_last: bool,
-) -> Result<Report, AllocError>
-    ensures { IfOk result (PrintsShown loaded.now.game moves.now) }
-{
-    let shown = show(alloc, loaded, moves, only_last)?;
-    Ok(Report {
-        status: status_of(shown.is_whole),
-        text: shown.text,
-    })
-}
-
-/// The status where moves are shown, all of them or not.
-fn status_of(is_whole: bool) -> Status
-    ensures { result ≡ shown_status is_whole }
-{
-    if is_whole {
-        Status::Success
-    } else {
-        Status::Refused
     }
 }

@@ -1,2 +1,0 @@
--- What the program for authors prints.
-pub mod Printing
