@@ -1,11 +1,12 @@
 //! The program for authors of games: why a description is refused, what its game has, how many sequences of moves, how
-//! the board looks after each move of a match, and the page of a match.
+//! the board looks after each move of a match, the page of a match, and the description of a place.
 #![tactic(auto)]
 
 mod explained;
 mod listing;
 mod paged;
 mod perft;
+mod positioned;
 mod program;
 mod reading;
 mod report;

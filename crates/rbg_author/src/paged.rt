@@ -60,7 +60,7 @@ fn page_record(
 }
 
 /// The line that says why there is no page, as `rbg replay` prints it.
-fn refused(alloc: Global, error: PageError) -> Result<Report, AllocError> {
+pub(crate) fn refused(alloc: Global, error: PageError) -> Result<Report, AllocError> {
     let line = match error {
         PageError::Form { line } => format!(in alloc; "form {line}\n")?,
         PageError::Bad { line } => format!(in alloc; "bad {line}\n")?,

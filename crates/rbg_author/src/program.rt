@@ -3,6 +3,7 @@
 use crate::explained::{Lists, check_file, explain_file};
 use crate::paged::page_file;
 use crate::perft::perft;
+use crate::positioned::position_file;
 use crate::reading::{Read, read_game};
 use crate::report::{Report, print};
 use crate::shown::show_file;
@@ -48,6 +49,10 @@ fn obey<F: Files, R: io::Read, W: Write>(
         }
         Some(("check", words)) => Ok(check_file(alloc, files, file_of(words))?),
         Some(("page", words)) => Ok(page_file(alloc, files, file_of(words), input)?),
+        Some(("position", words)) => {
+            let record = words.get_str("RECORD").unwrap_or("");
+            Ok(position_file(alloc, files, file_of(words), record)?)
+        }
         Some((_, words)) => {
             let lists = Lists {
                 vertices: words.get_flag("vertices"),
@@ -73,7 +78,8 @@ fn author_command<'a>(alloc: Global) -> Result<Command<'a>, AllocError> {
         .subcommand(check_command(alloc)?)?
         .subcommand(perft_command(alloc)?)?
         .subcommand(show_command(alloc)?)?
-        .subcommand(page_command(alloc)?)
+        .subcommand(page_command(alloc)?)?
+        .subcommand(position_command(alloc)?)
 }
 
 fn explain_command<'a>(alloc: Global) -> Result<Command<'a>, AllocError> {
@@ -134,6 +140,17 @@ fn page_command<'a>(alloc: Global) -> Result<Command<'a>, AllocError> {
             "Makes a page for a browser of the record on standard input, with the board after each move",
         )
         .arg(file.required(true))
+}
+
+fn position_command<'a>(alloc: Global) -> Result<Command<'a>, AllocError> {
+    let file = file_argument(alloc, "The description of a game");
+    let record = Arg::new(alloc, "RECORD").help("The record of a match of this game");
+    Command::new(alloc, "position")
+        .about(
+            "Prints the description with the board as it stands after the moves of a record, or says why not",
+        )
+        .arg(file.required(true))?
+        .arg(record.required(true))
 }
 
 fn perft_file<F: Files, W: Write>(

@@ -68,7 +68,7 @@ pub(crate) fn unreadable(alloc: Global, file: &str) -> Result<Report, AllocError
 }
 
 /// What is said of a text that is refused. A want of memory is passed on.
-fn refuse(
+pub(crate) fn refuse(
     alloc: Global,
     file: &str,
     text: &[u8],

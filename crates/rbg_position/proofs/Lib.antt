@@ -1,0 +1,4 @@
+-- Lemmas, by topic.
+pub mod Faults
+pub mod Narrow
+pub mod Tokens

@@ -1,0 +1,43 @@
+-- The description of a place to which a record leads: that of the same game, with the board as it stands there.
+use Rattle.std.specs.Prelude.{◌≡◌, ℕ, List, None}
+use Rattle.rbg_rules.specs.State.{AbstractGame, start_of}
+use Rattle.rbg_rules.specs.Moves.{AbstractPlace}
+use Rattle.rbg_moves.specs.Settling.{Settles}
+use Rattle.rbg_game.specs.Loading.{Loads}
+use Rattle.rbg_page.specs.Telling.{Told, IsTelling}
+use Rattle.rbg_same.specs.Same.{game_with}
+use Rattle.rbg_position.specs.Boards.{IsRewritten}
+
+-- where play begins
+abbrev pub first_place : AbstractGame → AbstractPlace
+first_place game = record { state = start_of game; last = None }
+
+-- The same pieces stand at both places, the variables hold the same numbers, and the same player is to move.
+pub record StandAlike (here there : AbstractPlace) : Type 0 where
+  pub pieces : here.state.pieces ≡ there.state.pieces
+  pub values : here.state.values ≡ there.state.values
+  pub player : here.state.player ≡ there.state.player
+
+-- The game begins as play stands at the place: the keeper's first moves lead to where all stands alike.
+pub record BeginsAs (game : AbstractGame) (place : AbstractPlace) : Type 0 where
+  pub to : AbstractPlace
+  pub settles : Settles game (first_place game) to
+  pub alike : StandAlike to place
+
+-- the game with the board as it stands at the place
+abbrev pub game_at : AbstractGame → AbstractPlace → AbstractGame
+game_at game place = game_with game place.state.pieces
+
+-- The new text is the old one with another section of its board. It describes the game with the board as it stands at
+-- the place, which begins as play stands there.
+pub record IsDescription (text : List ℕ) (game : AbstractGame) (place : AbstractPlace) (new : List ℕ) : Type 0 where
+  pub section : List ℕ
+  pub rewritten : IsRewritten text section new
+  pub loads : Loads new (game_at game place)
+  pub begins : BeginsAs (game_at game place) place
+
+-- The bytes are those of a right record of the game, and the new text is the description of the place to which it leads.
+pub record IsPosition (text : List ℕ) (game : AbstractGame) (bytes new : List ℕ) : Type 0 where
+  pub told : Told
+  pub tells : IsTelling game bytes told
+  pub describes : IsDescription text game told.place new
