@@ -1,0 +1,4 @@
+-- Lemmas, by topic.
+pub mod ChainLemmas
+pub mod Listings
+pub mod Steps

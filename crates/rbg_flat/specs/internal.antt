@@ -1,0 +1,3 @@
+-- Definitions that the crate's own proofs use.
+pub mod Sets
+pub mod Begun
