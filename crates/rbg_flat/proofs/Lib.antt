@@ -2,3 +2,5 @@
 pub mod ChainLemmas
 pub mod Listings
 pub mod Steps
+pub mod WordLemmas
+pub mod SetLemmas

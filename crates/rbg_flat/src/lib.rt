@@ -3,3 +3,4 @@
 
 pub mod laws;
 mod positions;
+mod sets;

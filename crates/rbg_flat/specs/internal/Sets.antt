@@ -15,6 +15,63 @@ pub record AreListed (room : List ℕ) (many : ℕ) (inside : List Bool) : Type 
   pub different : AllPairs (λ p q. p ≢ q) (take many room)
   pub told : (p : ℕ) → IsTrue (slice_index_or inside p false) ↔ Contains (take many room) p
 
--- the bit of a position and a vertex in rows of so many words
-abbrev pub bit_in : (columns : ℕ) → (words : List ℕ) → (p v : ℕ) → ℕ
-bit_in columns words p v = bit_at (slice_index words (p * columns + v / 64)) (v % 64)
+-- Rows of vertices by position: so many words for each of so many positions.
+--   marks: what was met
+--   pending: what of it is still to be looked at
+--   waiting, touched: the positions that have something open, or something marked, and maybe others
+pub record SetsOfVertices : Type 0 where
+  pub size : ℕ
+  pub columns : ℕ
+  pub marks : List ℕ
+  pub pending : List ℕ
+  pub waiting : List ℕ
+  pub touched : List ℕ
+
+-- The bit of a vertex in the row of a position is set.
+pub record HasBitAt (columns : ℕ) (words : List ℕ) (v p : ℕ) : Type 0 where
+  pub column : v / 64 < columns
+  pub set : bit_at (slice_index words (p * columns + v / 64)) (v % 64) ≡ 1
+
+-- The vertex is a bit of that word of the row of a position.
+pub record IsInWord (q c word v p : ℕ) : Type 0 where
+  pub position : p ≡ q
+  pub column : v / 64 ≡ c
+  pub set : bit_at word (v % 64) ≡ 1
+
+abbrev pub IsMarked : SetsOfVertices → (v p : ℕ) → Type 0
+IsMarked sets = HasBitAt sets.columns sets.marks
+
+abbrev pub IsOpen : SetsOfVertices → (v p : ℕ) → Type 0
+IsOpen sets = HasBitAt sets.columns sets.pending
+
+abbrev pub sets_of : (size columns : ℕ) → (marks pending waiting touched : List ℕ) → SetsOfVertices
+sets_of size columns marks pending waiting touched =
+    record { size = size; columns = columns; marks = marks; pending = pending; waiting = waiting; touched = touched }
+
+-- There is a row for each position, and the lists name all positions that have bits.
+pub record AreSets (sets : SetsOfVertices) : Type 0 where
+  pub marks : length sets.marks ≡ sets.size * sets.columns
+  pub pendings : length sets.pending ≡ sets.size * sets.columns
+  pub under : (v p : ℕ) → IsOpen sets v p → IsMarked sets v p
+  pub waits : (v p : ℕ) → IsOpen sets v p → Contains sets.waiting p
+  pub touches : (v p : ℕ) → IsMarked sets v p → Contains sets.touched p
+
+-- A word of a row was met: its bits are marked, and what is new of it is open where that is wanted.
+pub record MeetsWord (old new : SetsOfVertices) (position column word : ℕ) (opens : Bool) : Type 0 where
+  pub size : new.size ≡ old.size
+  pub columns : new.columns ≡ old.columns
+  pub kept : (v p : ℕ) → IsMarked old v p → IsMarked new v p
+  pub met : (v p : ℕ) → IsInWord position column word v p → IsMarked new v p
+  pub only :
+      (v p : ℕ) → IsMarked new v p →
+      IsMarked old v p ⊎ (IsInWord position column word v p × (opens ≡ true → IsOpen new v p))
+  pub still : (v p : ℕ) → IsOpen old v p → IsOpen new v p
+  pub no_other : (v p : ℕ) → IsOpen new v p → IsOpen old v p ⊎ (IsInWord position column word v p × (opens ≡ true))
+
+-- Bits of a word of a row are no longer open.
+pub record ClosesWord (old new : SetsOfVertices) (position column word : ℕ) : Type 0 where
+  pub size : new.size ≡ old.size
+  pub columns : new.columns ≡ old.columns
+  pub marks : new.marks ≡ old.marks
+  pub still : (v p : ℕ) → IsOpen old v p → IsOpen new v p ⊎ IsInWord position column word v p
+  pub only : (v p : ℕ) → IsOpen new v p → IsOpen old v p

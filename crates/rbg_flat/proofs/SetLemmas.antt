@@ -1,0 +1,171 @@
+-- How sets change where a word is met, and where bits are closed.
+use Rattle.std.proofs.Common.{◌≡◌, ℕ, ◌+◌, ◌*◌, ◌/◌, ◌%◌, ◌<◌, ◌^◌, ◌⊎◌, inl, inr, List, [], ◌∷◌, ◌++◌, Bool, true, false, length, get_or, refl, sym, ap, subst, ◌∙◌, slice_set, arith}
+use Rattle.std.specs.Prelude.{bit_or, bit_and, Contains}
+use Rattle.std.specs.Int.{bit_at, bit_not, w64}
+use Rattle.std.proofs.lemmas.Nat.Bits.{bit_at-zero}
+use Rattle.std.proofs.lemmas.List.{length-set}
+use Rattle.std.proofs.lemmas.List.Elements.{Contains-push, Contains-append_left}
+use Rattle.rbg_flat.specs.internal.Sets.{SetsOfVertices, sets_of, HasBitAt, IsInWord, IsMarked, IsOpen, AreSets, MeetsWord, ClosesWord}
+use Rattle.rbg_flat.proofs.WordLemmas.{added_to, added_old, added_new, taken_of, taken_left, known_or_new, new_in_word}
+
+-- What a list has after a position was added.
+abbrev pub Added : (old new : List ℕ) → ℕ → Type 0
+Added old new p = (Contains old p × (new ≡ old)) ⊎ ((¬ Contains old p) × (new ≡ old ++ p ∷ []))
+
+pub still_listed : (old new : List ℕ) (p x : ℕ) → Added old new p → Contains old x → Contains new x
+still_listed old new p x (inl same) there = subst (λ (xs : List ℕ). Contains xs x) (sym same.1) there
+still_listed old new p x (inr more) there = subst (λ (xs : List ℕ). Contains xs x) (sym more.1) (Contains-append_left old (p ∷ []) x there)
+
+pub now_listed : (old new : List ℕ) (p : ℕ) → Added old new p → Contains new p
+now_listed old new p (inl same) = subst (λ (xs : List ℕ). Contains xs p) (sym same.1) same.0
+now_listed old new p (inr more) = subst (λ (xs : List ℕ). Contains xs p) (sym more.1) (Contains-push old p)
+
+false_not_true : false ≡ true → ⊥
+false_not_true e = cc
+
+-- A word x of the row of position q is met in column c; n is what is new of it.
+module _
+    (size columns : ℕ) (marks pending waiting touched : List ℕ)
+    (place q c x n : ℕ)
+    (is : place ≡ q * columns + c)
+    (below : c < columns)
+    (in_marks : place < length marks)
+    (in_pending : place < length pending)
+    (only : (b : ℕ) → bit_at n b ≡ 1 → bit_at x b ≡ 1)
+    (all : (b : ℕ) → b < 64 → bit_at x b ≡ 1 → (bit_at (get_or marks place 0) b ≡ 1) ⊎ (bit_at n b ≡ 1))
+  where
+    abbrev old : SetsOfVertices
+    old = sets_of size columns marks pending waiting touched
+
+    abbrev marks_then : List ℕ
+    marks_then = slice_set marks place (bit_or (get_or marks place 0) n)
+
+    abbrev pending_then : List ℕ
+    pending_then = slice_set pending place (bit_or (get_or pending place 0) n)
+
+    -- Nothing of it is new.
+    pub meets_nothing : n ≡ 0 → (opens : Bool) → MeetsWord old old q c x opens
+    meets_nothing none opens = record {
+      size = refl;
+      columns = refl;
+      kept = λ v p has. has;
+      met = λ v p there. known v p (known_or_new columns marks place q c is below in_marks x n v p all there);
+      only = λ v p has. inl has;
+      still = λ v p has. has;
+      no_other = λ v p has. inl has;
+    }
+      where
+        no_bit : (b : ℕ) → bit_at n b ≡ 1 → ⊥
+        no_bit b set = let zero_bit : bit_at n b ≡ 0 = ap (λ (k : ℕ). bit_at k b) none ∙ bit_at-zero b in omega (arith, set, zero_bit)
+
+        known : (v p : ℕ) → HasBitAt columns marks v p ⊎ IsInWord q c n v p → HasBitAt columns marks v p
+        known v p (inl was) = was
+        known v p (inr new) = absurd (no_bit (v % 64) new.set)
+
+    met_then : (v p : ℕ) → IsInWord q c x v p → HasBitAt columns marks_then v p
+    met_then v p there = by_case (known_or_new columns marks place q c is below in_marks x n v p all there)
+      where
+        by_case : HasBitAt columns marks v p ⊎ IsInWord q c n v p → HasBitAt columns marks_then v p
+        by_case (inl was) = added_old columns marks place q c is below in_marks n v p was
+        by_case (inr new) = added_new columns marks place q c is below in_marks n v p new
+
+    -- What is new is opened.
+    pub meets_open : (waiting' touched' : List ℕ) → MeetsWord old (sets_of size columns marks_then pending_then waiting' touched') q c x true
+    meets_open waiting' touched' = record {
+      size = refl;
+      columns = refl;
+      kept = added_old columns marks place q c is below in_marks n;
+      met = met_then;
+      only = λ v p has. by_marks v p (added_to columns marks place q c is below in_marks n v p has);
+      still = added_old columns pending place q c is below in_pending n;
+      no_other = λ v p has. by_pending v p (added_to columns pending place q c is below in_pending n v p has);
+    }
+      where
+        by_marks : (v p : ℕ) → HasBitAt columns marks v p ⊎ IsInWord q c n v p → HasBitAt columns marks v p ⊎ (IsInWord q c x v p × (true ≡ true → HasBitAt columns pending_then v p))
+        by_marks v p (inl was) = inl was
+        by_marks v p (inr new) = inr (new_in_word q c x n v p only new, λ _. added_new columns pending place q c is below in_pending n v p new)
+
+        by_pending : (v p : ℕ) → HasBitAt columns pending v p ⊎ IsInWord q c n v p → HasBitAt columns pending v p ⊎ (IsInWord q c x v p × (true ≡ true))
+        by_pending v p (inl was) = inl was
+        by_pending v p (inr new) = inr (new_in_word q c x n v p only new, refl)
+
+    -- What is new isn't opened.
+    pub meets_closed : (touched' : List ℕ) → MeetsWord old (sets_of size columns marks_then pending waiting touched') q c x false
+    meets_closed touched' = record {
+      size = refl;
+      columns = refl;
+      kept = added_old columns marks place q c is below in_marks n;
+      met = met_then;
+      only = λ v p has. by_marks v p (added_to columns marks place q c is below in_marks n v p has);
+      still = λ v p has. has;
+      no_other = λ v p has. inl has;
+    }
+      where
+        by_marks : (v p : ℕ) → HasBitAt columns marks v p ⊎ IsInWord q c n v p → HasBitAt columns marks v p ⊎ (IsInWord q c x v p × (false ≡ true → HasBitAt columns pending v p))
+        by_marks v p (inl was) = inl was
+        by_marks v p (inr new) = inr (new_in_word q c x n v p only new, λ e. absurd (false_not_true e))
+
+    -- The lists still name all positions that have bits.
+    pub sets_open : AreSets old → (waiting' touched' : List ℕ) → Added waiting waiting' q → Added touched touched' q → AreSets (sets_of size columns marks_then pending_then waiting' touched')
+    sets_open are waiting' touched' waits touches = record {
+      marks = length-set marks place (bit_or (get_or marks place 0) n) ∙ are.marks;
+      pendings = length-set pending place (bit_or (get_or pending place 0) n) ∙ are.pendings;
+      under = λ v p has. by_under v p (added_to columns pending place q c is below in_pending n v p has);
+      waits = λ v p has. by_waits v p (added_to columns pending place q c is below in_pending n v p has);
+      touches = λ v p has. by_touches v p (added_to columns marks place q c is below in_marks n v p has);
+    }
+      where
+        by_under : (v p : ℕ) → HasBitAt columns pending v p ⊎ IsInWord q c n v p → HasBitAt columns marks_then v p
+        by_under v p (inl was) = added_old columns marks place q c is below in_marks n v p (are.under v p was)
+        by_under v p (inr new) = added_new columns marks place q c is below in_marks n v p new
+
+        by_waits : (v p : ℕ) → HasBitAt columns pending v p ⊎ IsInWord q c n v p → Contains waiting' p
+        by_waits v p (inl was) = still_listed waiting waiting' q p waits (are.waits v p was)
+        by_waits v p (inr new) = subst (λ (k : ℕ). Contains waiting' k) (sym new.position) (now_listed waiting waiting' q waits)
+
+        by_touches : (v p : ℕ) → HasBitAt columns marks v p ⊎ IsInWord q c n v p → Contains touched' p
+        by_touches v p (inl was) = still_listed touched touched' q p touches (are.touches v p was)
+        by_touches v p (inr new) = subst (λ (k : ℕ). Contains touched' k) (sym new.position) (now_listed touched touched' q touches)
+
+    pub sets_closed : AreSets old → (touched' : List ℕ) → Added touched touched' q → AreSets (sets_of size columns marks_then pending waiting touched')
+    sets_closed are touched' touches = record {
+      marks = length-set marks place (bit_or (get_or marks place 0) n) ∙ are.marks;
+      pendings = are.pendings;
+      under = λ v p has. added_old columns marks place q c is below in_marks n v p (are.under v p has);
+      waits = are.waits;
+      touches = λ v p has. by_touches v p (added_to columns marks place q c is below in_marks n v p has);
+    }
+      where
+        by_touches : (v p : ℕ) → HasBitAt columns marks v p ⊎ IsInWord q c n v p → Contains touched' p
+        by_touches v p (inl was) = still_listed touched touched' q p touches (are.touches v p was)
+        by_touches v p (inr new) = subst (λ (k : ℕ). Contains touched' k) (sym new.position) (now_listed touched touched' q touches)
+
+-- Bits x of a word of the row of position q are closed.
+module _
+    (size columns : ℕ) (marks pending waiting touched : List ℕ)
+    (place q c x : ℕ)
+    (is : place ≡ q * columns + c)
+    (below : c < columns)
+    (in_pending : place < length pending)
+    (fits : x < 2 ^ 64)
+  where
+    abbrev pending_less : List ℕ
+    pending_less = slice_set pending place (bit_and (get_or pending place 0) (bit_not w64 x))
+
+    pub closes_word : ClosesWord (sets_of size columns marks pending waiting touched) (sets_of size columns marks pending_less waiting touched) q c x
+    closes_word = record {
+      size = refl;
+      columns = refl;
+      marks = refl;
+      still = λ v p has. taken_left columns pending place q c is below in_pending x v p fits has;
+      only = taken_of columns pending place q c is below in_pending x;
+    }
+
+    pub sets_less : AreSets (sets_of size columns marks pending waiting touched) → AreSets (sets_of size columns marks pending_less waiting touched)
+    sets_less are = record {
+      marks = are.marks;
+      pendings = length-set pending place (bit_and (get_or pending place 0) (bit_not w64 x)) ∙ are.pendings;
+      under = λ v p has. are.under v p (taken_of columns pending place q c is below in_pending x v p has);
+      waits = λ v p has. are.waits v p (taken_of columns pending place q c is below in_pending x v p has);
+      touches = are.touches;
+    }

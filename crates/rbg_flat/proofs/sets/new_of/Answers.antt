@@ -1,0 +1,15 @@
+use Rattle.std.proofs.Common.{◌≡◌, ℕ, ◌⊎◌, inl, inr}
+use Rattle.std.specs.Prelude.{bit_and}
+use Rattle.std.specs.Int.{bit_at, bit_not, w64}
+use Rattle.rbg_flat.proofs.WordLemmas.{bit_of_first, left_or_taken}
+use Rattle.rbg_flat.proofs.sets.new_of.Goals as goal
+
+pub returns-clause-only : goal.returns-clause-only
+returns-clause-only c = λ b set. bit_of_first c.args.word (bit_not w64 c.args.known) b set
+
+other_way : {A B : Type 0} → A ⊎ B → B ⊎ A
+other_way (inl x) = inr x
+other_way (inr y) = inl y
+
+pub returns-clause-all : goal.returns-clause-all
+returns-clause-all c = λ b small set. other_way (left_or_taken c.args.word c.args.known b c.ranges.known.fits small set)
