@@ -4,3 +4,4 @@ pub mod Listings
 pub mod Steps
 pub mod WordLemmas
 pub mod SetLemmas
+pub mod Meetings

@@ -1,7 +1,7 @@
 //! Sets of vertices for each position: what was met, and what of it is still to be looked at.
-ghost use Rattle.std.specs.Prelude.{◌≡◌, ℕ, ◌<◌, ◌+◌, ◌*◌, ◌^◌, ◌⊎◌, [], length, slice_index, slice_set, bit_or, bit_and, Contains, IfOk, IfSome, IfNone};
+ghost use Rattle.std.specs.Prelude.{◌≡◌, ℕ, ◌<◌, ◌≤◌, ◌+◌, ◌*◌, ◌^◌, ◌⊎◌, [], length, slice_index, slice_set, bit_or, bit_and, Contains, IfOk, IfSome, IfNone, true};
 ghost use Rattle.std.specs.Int.{bit_at, bit_not, w64};
-ghost use Rattle.rbg_flat.specs.internal.Sets.{MeetsWord, ClosesWord, IsOpen};
+ghost use Rattle.rbg_flat.specs.internal.Sets.{MeetsWord, Meets, IsInRow, ClosesWord, IsOpen};
 
 use crate::positions::Positions;
 use rbg_base::{Memory, Position};
@@ -92,6 +92,18 @@ impl Sets {
         if opens {
             add_word(&mut self.pending, place, new);
             self.waiting.add(position);
+        }
+    }
+
+    /// Meets the vertices of a row at a position. What is new of them is to be looked at where `opens` tells so.
+    #[inline(always)]
+    pub(crate) fn meet_row(&mut self, position: Position, row: &[u64], opens: bool)
+        requires position { position < self.old.size }
+        requires row { length row.now ≤ self.old.columns }
+        ensures { Meets self.old self.new (IsInRow position row.now) (λ _. opens ≡ true) }
+    {
+        for column in 0..row.len() {
+            self.meet_word(position, column, row[column], opens);
         }
     }
 

@@ -75,3 +75,19 @@ pub record ClosesWord (old new : SetsOfVertices) (position column word : ℕ) : 
   pub marks : new.marks ≡ old.marks
   pub still : (v p : ℕ) → IsOpen old v p → IsOpen new v p ⊎ IsInWord position column word v p
   pub only : (v p : ℕ) → IsOpen new v p → IsOpen old v p
+
+-- These vertices with positions were met: they are marked, and those of them that are new and of such positions are
+-- open.
+pub record Meets (old new : SetsOfVertices) (In : (v p : ℕ) → Type 0) (Opens : ℕ → Type 0) : Type 0 where
+  pub size : new.size ≡ old.size
+  pub columns : new.columns ≡ old.columns
+  pub kept : (v p : ℕ) → IsMarked old v p → IsMarked new v p
+  pub met : (v p : ℕ) → In v p → IsMarked new v p
+  pub only : (v p : ℕ) → IsMarked new v p → IsMarked old v p ⊎ (In v p × (Opens p → IsOpen new v p))
+  pub still : (v p : ℕ) → IsOpen old v p → IsOpen new v p
+  pub no_other : (v p : ℕ) → IsOpen new v p → IsOpen old v p ⊎ (In v p × Opens p)
+
+-- The vertex is in a row of a position.
+pub record IsInRow (q : ℕ) (row : List ℕ) (v p : ℕ) : Type 0 where
+  pub position : p ≡ q
+  pub set : bit_at (slice_index row (v / 64)) (v % 64) ≡ 1
