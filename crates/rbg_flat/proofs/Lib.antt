@@ -5,3 +5,5 @@ pub mod Steps
 pub mod WordLemmas
 pub mod SetLemmas
 pub mod Meetings
+pub mod Modifiers
+pub mod Leadings

@@ -2,5 +2,6 @@
 #![tactic(auto)]
 
 pub mod laws;
+mod leading;
 mod positions;
 mod sets;
