@@ -7,3 +7,5 @@ pub mod SetLemmas
 pub mod Meetings
 pub mod Modifiers
 pub mod Leadings
+pub mod Leaping
+pub mod Takings

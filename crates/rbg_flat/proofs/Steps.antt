@@ -34,19 +34,17 @@ module _ (game : AbstractGame) (s : AbstractState) (f : Start) where
     closed_end = λ v q there closed holds end. closed_end_by v q closed holds end (marks.only v q there);
   }
     where
-      sound : (v p : ℕ) → Marked v p ⊎ (IsMet game s f v p × (Open' v p ⊎ ¬ Holds game s v p)) → IsMet game s f v p
+      sound : (v p : ℕ) → Marked v p ⊎ (IsMet game s f v p × (Holds game s v p → Open' v p)) → IsMet game s f v p
       sound v p (inl was) = is.sound v p was
       sound v p (inr is_new) = is_new.0
 
-      closed_by : (v q u p : ℕ) → ¬ Open' v q → Holds game s v q → IsLeap game (after q) v p u → Marked v q ⊎ (IsMet game s f v q × (Open' v q ⊎ ¬ Holds game s v q)) → Marked u p
+      closed_by : (v q u p : ℕ) → ¬ Open' v q → Holds game s v q → IsLeap game (after q) v p u → Marked v q ⊎ (IsMet game s f v q × (Holds game s v q → Open' v q)) → Marked u p
       closed_by v q u p closed holds leap (inl was) = is.closed v q u p was (λ still. closed (marks.still v q still)) holds leap
-      closed_by v q u p closed holds leap (inr (_, inl still)) = absurd (closed still)
-      closed_by v q u p closed holds leap (inr (_, inr never)) = absurd (never holds)
+      closed_by v q u p closed holds leap (inr (_, opens)) = absurd (closed (opens holds))
 
-      closed_end_by : (v q : ℕ) → ¬ Open' v q → Holds game s v q → EndsAcross game (after q) v → Marked v q ⊎ (IsMet game s f v q × (Open' v q ⊎ ¬ Holds game s v q)) → ends ≡ true
+      closed_end_by : (v q : ℕ) → ¬ Open' v q → Holds game s v q → EndsAcross game (after q) v → Marked v q ⊎ (IsMet game s f v q × (Holds game s v q → Open' v q)) → ends ≡ true
       closed_end_by v q closed holds end (inl was) = is.closed_end v q was (λ still. closed (marks.still v q still)) holds end
-      closed_end_by v q closed holds end (inr (_, inl still)) = absurd (closed still)
-      closed_end_by v q closed holds end (inr (_, inr never)) = absurd (never holds)
+      closed_end_by v q closed holds end (inr (_, opens)) = absurd (closed (opens holds))
 
   -- Closing what is led on from keeps it so. (Whether something is still is decided by a bit.)
   pub closes_more : (Marked Open Open' : Pairs) (ends : Bool) → ((v q : ℕ) → Open v q ⊎ ¬ Open v q) → IsBegun game s f Marked Open ends → Closes game s Marked Open Open' ends → IsBegun game s f Marked Open' ends

@@ -1,5 +1,6 @@
 //! A list of positions in which each stands once.
 ghost use Rattle.std.specs.Prelude.{◌≡◌, ℕ, ◌<◌, ◌-◌, ◌⊎◌, [], ◌∷◌, ◌++◌, length, take, Contains, IfOk, IfSome, IfNone};
+ghost use Rattle.rbg_flat.specs.internal.Sets.{IsLastOf};
 
 use rbg_base::{Memory, Position};
 use std::alloc::Global;
@@ -60,6 +61,7 @@ impl Positions {
     #[inline(always)]
     pub(crate) fn last(&self) -> Option<Position>
         ensures some { IfSome result (λ p. Contains self.now.positions p) }
+        ensures last { IfSome result (λ p. IsLastOf self.now.positions p) }
         ensures below { IfSome result (λ p. p < self.now.size) }
         ensures none { IfNone result (self.now.positions ≡ []) }
     {

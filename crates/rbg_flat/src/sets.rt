@@ -1,7 +1,7 @@
 //! Sets of vertices for each position: what was met, and what of it is still to be looked at.
-ghost use Rattle.std.specs.Prelude.{◌≡◌, ℕ, ◌<◌, ◌≤◌, ◌+◌, ◌*◌, ◌^◌, ◌⊎◌, [], length, slice_index, slice_set, bit_or, bit_and, Contains, IfOk, IfSome, IfNone, true};
+ghost use Rattle.std.specs.Prelude.{◌≡◌, ℕ, ◌<◌, ◌≤◌, ◌+◌, ◌-◌, ◌*◌, ◌^◌, ◌⊎◌, [], length, take, slice_index, slice_set, bit_or, bit_and, Contains, IfOk, IfSome, IfNone, true};
 ghost use Rattle.std.specs.Int.{bit_at, bit_not, w64};
-ghost use Rattle.rbg_flat.specs.internal.Sets.{MeetsWord, Meets, IsInRow, ClosesWord, IsOpen};
+ghost use Rattle.rbg_flat.specs.internal.Sets.{MeetsWord, Meets, IsInRow, ClosesWord, IsMarked, IsOpen, IsLastOf};
 
 use crate::positions::Positions;
 use rbg_base::{Memory, Position};
@@ -61,6 +61,31 @@ impl Sets {
             waiting: Positions::new(alloc, size)?,
             touched: Positions::new(alloc, size)?,
         })
+    }
+
+    /// Forgets what was met.
+    pub(crate) fn clear(&mut self)
+        ensures size { self.new.size ≡ self.old.size }
+        ensures columns { self.new.columns ≡ self.old.columns }
+        ensures none { (v p : ℕ) → ¬ IsMarked self.new v p }
+    {
+        while let Some(position) = self.touched.last() {
+            self.forget(position);
+        }
+    }
+
+    /// Forgets what was met at the position that was touched last.
+    fn forget(&mut self, position: Position)
+        requires position { position < self.old.size }
+        requires last { IsLastOf self.old.touched position }
+        ensures size { self.new.size ≡ self.old.size }
+        ensures columns { self.new.columns ≡ self.old.columns }
+        ensures touched { self.new.touched ≡ take (length self.old.touched - 1) self.old.touched }
+    {
+        let start = position as usize * self.columns;
+        clear_row(&mut self.marks, start, self.columns);
+        clear_row(&mut self.pending, start, self.columns);
+        self.touched.take_last();
     }
 
     /// Where a word of the row of a position is.
@@ -166,4 +191,17 @@ fn take_word(words: &mut Vec<u64>, place: usize, word: u64)
         ≡ slice_set words.old.items place (bit_and (slice_index words.old.items place) (bit_not w64 word)) }
 {
     words[place] &= !word;
+}
+
+/// Clears some words.
+fn clear_row(words: &mut Vec<u64>, start: usize, columns: usize)
+    requires { start + columns ≤ length words.old.items }
+    ensures size { length words.new.items ≡ length words.old.items }
+    ensures clear { (i : ℕ) → start ≤ i → i < start + columns → slice_index words.new.items i ≡ 0 }
+    ensures others { (i : ℕ) → (i < start) ⊎ (start + columns ≤ i)
+        → slice_index words.new.items i ≡ slice_index words.old.items i }
+{
+    for column in 0..columns {
+        words[start + column] = 0;
+    }
 }

@@ -35,13 +35,13 @@ pub record IsLedOn
     pub leaps : (u p : ℕ) → IsLeap game (after q) v p u → Marked u p
     pub end : EndsAcross game (after q) v → ends ≡ true
 
--- More is marked: what is new is met, and is open unless it holds nowhere. What was open stays so.
+-- More is marked: what is new is met, and is open if it holds. What was open stays so.
 pub record Marks
     (game : AbstractGame) (s : AbstractState) (f : Start) (Marked Open Marked' Open' : Pairs)
     : Type 0
   where
     pub kept : (v p : ℕ) → Marked v p → Marked' v p
-    pub only : (v p : ℕ) → Marked' v p → (Marked v p) ⊎ (IsMet game s f v p × (Open' v p ⊎ ¬ Holds game s v p))
+    pub only : (v p : ℕ) → Marked' v p → Marked v p ⊎ (IsMet game s f v p × (Holds game s v p → Open' v p))
     pub still : (v p : ℕ) → Open v p → Open' v p
 
 -- Less is open: what no longer is holds nowhere, or is led on from.

@@ -1,5 +1,5 @@
 -- Sets of vertices for each position, as rows of bits, and lists of positions in which each stands once.
-use Rattle.std.specs.Prelude.{◌≡◌, ◌≢◌, ◌↔◌, ◌⊎◌, ℕ, ◌+◌, ◌*◌, ◌/◌, ◌%◌, ◌<◌, ◌≤◌, List, length, slice_index, slice_index_or, true, false, Bool, take, All, AllPairs, Contains, IsTrue}
+use Rattle.std.specs.Prelude.{◌≡◌, ◌≢◌, ◌↔◌, ◌⊎◌, ℕ, ◌+◌, ◌-◌, ◌*◌, ◌/◌, ◌%◌, ◌<◌, ◌≤◌, List, length, slice_index, slice_index_or, true, false, Bool, take, All, AllPairs, Contains, IsTrue}
 use Rattle.std.specs.Int.{bit_at}
 
 -- Positions below a size, each once.
@@ -14,6 +14,11 @@ pub record AreListed (room : List ℕ) (many : ℕ) (inside : List Bool) : Type 
   pub below : All (λ p. p < length room) (take many room)
   pub different : AllPairs (λ p q. p ≢ q) (take many room)
   pub told : (p : ℕ) → IsTrue (slice_index_or inside p false) ↔ Contains (take many room) p
+
+-- The position is the last of the list.
+pub record IsLastOf (positions : List ℕ) (p : ℕ) : Type 0 where
+  pub some : 0 < length positions
+  pub last : slice_index positions (length positions - 1) ≡ p
 
 -- Rows of vertices by position: so many words for each of so many positions.
 --   marks: what was met
