@@ -1,11 +1,15 @@
 -- How sets change where a word is met, and where bits are closed.
-use Rattle.std.proofs.Common.{◌≡◌, ℕ, ◌+◌, ◌*◌, ◌/◌, ◌%◌, ◌<◌, ◌^◌, ◌⊎◌, inl, inr, List, [], ◌∷◌, ◌++◌, Bool, true, false, length, get_or, refl, sym, ap, subst, ◌∙◌, slice_set, arith}
+use Rattle.std.proofs.Common.{◌≡◌, ℕ, ◌+◌, ◌-◌, ◌*◌, ◌/◌, ◌%◌, ◌<◌, ◌≤◌, ◌^◌, ◌⊎◌, inl, inr, List, [], ◌∷◌, ◌++◌, Bool, true, false, length, get_or, take, refl, sym, ap, subst, ◌∙◌, slice_set, arith}
 use Rattle.std.specs.Prelude.{bit_or, bit_and, Contains}
 use Rattle.std.specs.Int.{bit_at, bit_not, w64}
 use Rattle.std.proofs.lemmas.Nat.Bits.{bit_at-zero}
-use Rattle.std.proofs.lemmas.List.{length-set}
+use Rattle.std.proofs.lemmas.List.{length-set, length-take-le, get_or-take, get_or_default}
+use Rattle.std.proofs.lemmas.Bool.{cases_lt}
+use Rattle.std.proofs.lemmas.Nat.{mul-add-lt}
+use Rattle.std.proofs.Math.Nat.{mul_comm}
+use native.Mathlib.Decide.{ℕ_discrete}
 use Rattle.std.proofs.lemmas.List.Elements.{Contains-push, Contains-append_left}
-use Rattle.rbg_flat.specs.internal.Sets.{SetsOfVertices, sets_of, HasBitAt, IsInWord, IsMarked, IsOpen, AreSets, MeetsWord, ClosesWord}
+use Rattle.rbg_flat.specs.internal.Sets.{SetsOfVertices, sets_of, HasBitAt, IsInWord, IsMarked, IsOpen, AreSets, MeetsWord, ClosesWord, IsLastOf}
 use Rattle.rbg_flat.proofs.WordLemmas.{added_to, added_old, added_new, taken_of, taken_left, known_or_new, new_in_word}
 
 -- What a list has after a position was added.
@@ -168,4 +172,64 @@ module _
       under = λ v p has. are.under v p (taken_of columns pending place q c is below in_pending x v p has);
       waits = λ v p has. are.waits v p (taken_of columns pending place q c is below in_pending x v p has);
       touches = are.touches;
+    }
+
+-- The rows of position q are cleared, which is the last that was touched.
+module _
+    (size columns : ℕ) (marks pending waiting touched : List ℕ) (q : ℕ) (marks' pending' : List ℕ)
+    (same_marks : length marks' ≡ length marks)
+    (clear_marks : (i : ℕ) → q * columns ≤ i → i < q * columns + columns → get_or marks' i 0 ≡ 0)
+    (other_marks : (i : ℕ) → (i < q * columns) ⊎ (q * columns + columns ≤ i) → get_or marks' i 0 ≡ get_or marks i 0)
+    (same_pending : length pending' ≡ length pending)
+    (clear_pending : (i : ℕ) → q * columns ≤ i → i < q * columns + columns → get_or pending' i 0 ≡ 0)
+    (other_pending : (i : ℕ) → (i < q * columns) ⊎ (q * columns + columns ≤ i) → get_or pending' i 0 ≡ get_or pending i 0)
+    (last : IsLastOf touched q)
+  where
+    no_bit_in : (words : List ℕ) → ((i : ℕ) → q * columns ≤ i → i < q * columns + columns → get_or words i 0 ≡ 0) → (v : ℕ) → ¬ HasBitAt columns words v q
+    no_bit_in words clear v has =
+        let column = has.column in
+        let none : bit_at (get_or words (q * columns + v / 64) 0) (v % 64) ≡ 0 = ap (λ (n : ℕ). bit_at n (v % 64)) (clear (q * columns + v / 64) (omega arith) (omega (arith, column))) ∙ bit_at-zero (v % 64) in
+        let set = has.set in
+        omega (arith, none, set)
+
+    outside : (p k : ℕ) → ¬ (p ≡ q) → k < columns → (p * columns + k < q * columns) ⊎ (q * columns + columns ≤ p * columns + k)
+    outside p k other column = elim (cases_lt p q) [
+      | inl below ↦ inl (let row = mul-add-lt p columns k q below column in let turned = mul_comm columns q in omega (arith, row, turned))
+      | inr above ↦ inr (let more : q < p = elim (cases_lt q p) [ inl less ↦ less | inr no_less ↦ absurd (other (omega (arith, above, no_less))) ] in
+          let row = mul-add-lt q columns (columns - 1) p more (omega (arith, column)) in let turned = mul_comm columns p in omega (arith, row, turned, column))
+    ]
+
+    was_there : (words words' : List ℕ) → ((i : ℕ) → (i < q * columns) ⊎ (q * columns + columns ≤ i) → get_or words' i 0 ≡ get_or words i 0) → (v p : ℕ) → ¬ (p ≡ q) → HasBitAt columns words' v p → HasBitAt columns words v p
+    was_there words words' others v p other has = record {
+      column = has.column;
+      set = sym (ap (λ (n : ℕ). bit_at n (v % 64)) (others (p * columns + v / 64) (outside p (v / 64) other has.column))) ∙ has.set;
+    }
+
+    is_there : (words words' : List ℕ) → ((i : ℕ) → (i < q * columns) ⊎ (q * columns + columns ≤ i) → get_or words' i 0 ≡ get_or words i 0) → (v p : ℕ) → ¬ (p ≡ q) → HasBitAt columns words v p → HasBitAt columns words' v p
+    is_there words words' others v p other has = record {
+      column = has.column;
+      set = ap (λ (n : ℕ). bit_at n (v % 64)) (others (p * columns + v / 64) (outside p (v / 64) other has.column)) ∙ has.set;
+    }
+
+    not_here : (words : List ℕ) → ((i : ℕ) → q * columns ≤ i → i < q * columns + columns → get_or words i 0 ≡ 0) → (v p : ℕ) → HasBitAt columns words v p → ¬ (p ≡ q)
+    not_here words clear v p has same = no_bit_in words clear v (subst (λ (k : ℕ). HasBitAt columns words v k) same has)
+
+    among_rest : (p : ℕ) → ¬ (p ≡ q) → Contains touched p → Contains (take (length touched - 1) touched) p
+    among_rest p other (i, within, is) =
+        let some = last.some in
+        let read : get_or touched i 0 ≡ p = get_or_default touched i 0 p within ∙ is in
+        let before : i < length touched - 1 = elim (ℕ_discrete i (length touched - 1)) [
+          | yes same ↦ absurd (other (sym read ∙ ap (λ (k : ℕ). get_or touched k 0) same ∙ last.last))
+          | no apart ↦ elim (cases_lt i (length touched - 1)) [ inl less ↦ less | inr no_less ↦ absurd (apart (omega (arith, within, no_less, some))) ]
+        ] in
+        let long = length-take-le (length touched - 1) touched (omega (arith, some)) in
+        (i, omega (arith, before, long), get_or-take (length touched - 1) touched i p before ∙ is)
+
+    pub sets_forgotten : AreSets (sets_of size columns marks pending waiting touched) → AreSets (sets_of size columns marks' pending' waiting (take (length touched - 1) touched))
+    sets_forgotten are = record {
+      marks = same_marks ∙ are.marks;
+      pendings = same_pending ∙ are.pendings;
+      under = λ v p has. let other = not_here pending' clear_pending v p has in is_there marks marks' other_marks v p other (are.under v p (was_there pending pending' other_pending v p other has));
+      waits = λ v p has. let other = not_here pending' clear_pending v p has in are.waits v p (was_there pending pending' other_pending v p other has);
+      touches = λ v p has. let other = not_here marks' clear_marks v p has in among_rest p other (are.touches v p (was_there marks marks' other_marks v p other has));
     }

@@ -1,5 +1,5 @@
 -- How a flat part that is being found goes on by the sets that hold it.
-use Rattle.std.proofs.Common.{◌≡◌, ℕ, ◌+◌, ◌*◌, ◌/◌, ◌%◌, ◌<◌, ◌≤◌, ◌⊎◌, inl, inr, List, Bool, true, get_or, refl, sym, ap, subst, ◌∙◌, arith}
+use Rattle.std.proofs.Common.{◌≡◌, ℕ, ◌+◌, ◌*◌, ◌/◌, ◌%◌, ◌<◌, ◌≤◌, ◌⊎◌, inl, inr, List, Bool, true, false, get_or, refl, sym, ap, subst, ◌∙◌, arith}
 use Rattle.std.specs.Int.{bit_at}
 use native.Mathlib.Decide.{ℕ_discrete}
 use Rattle.rbg_rules.specs.Expression.{AbstractAction, shift, on, off, assignment, comparison, switch, positive, negative, Expression}
@@ -105,3 +105,18 @@ led_and_closed game s f old middle new ends more v q word here holds meets learn
         let bits = only (u % 64) there.set in
         let columns = there.column in
         omega (arith, bits, columns)
+
+-- All begins at a vertex where nothing was met.
+pub begins_at : (game : AbstractGame) (s : AbstractState) (f : Start) (old new : SetsOfVertices) (ends : Bool) (vertex : ℕ) → s.vertex ≡ vertex → ((v p : ℕ) → ¬ IsMarked old v p) → Meets old new (λ v p. IsLeap game f vertex p v) (λ p. ¬ IsModifierAt game.rules p) → LearnsEnd false ends (EndsAcross game f vertex) → IsBegun game s f (IsMarked new) (IsOpen new) ends
+begins_at game s f old new ends vertex same none meets learns =
+    begins game s f old new ends none
+    (subst (λ (k : ℕ). Meets old new (λ v p. IsLeap game f k p v) (λ p. ¬ IsModifierAt game.rules p)) (sym same) meets)
+    (λ end. learns.all (subst (λ (k : ℕ). EndsAcross game f k) same end))
+    (λ told. subst (λ (k : ℕ). EndsAcross game f k) (sym same) (end_of (learns.only told)))
+  where
+    false_not_true : false ≡ true → ⊥
+    false_not_true e = cc
+
+    end_of : (false ≡ true) ⊎ EndsAcross game f vertex → EndsAcross game f vertex
+    end_of (inl no_end) = absurd (false_not_true no_end)
+    end_of (inr end) = end

@@ -41,6 +41,23 @@ impl Flat {
         })
     }
 
+    /// Begins anew, at a place in the rules and a vertex.
+    pub fn begin(&mut self, game: &Game, leaps: &Leaps, origin: Origin, vertex: Vertex)
+        requires lawful { IsGame game.now }
+        requires leaps { AreLeapsOf game.now leaps.now }
+        requires sized { AreSizedFor game.now self.old.sets }
+        requires vertex { vertex < length game.now.board.first }
+        requires stands { IsStart game.now.rules (start_of origin) }
+        ensures sized { AreSizedFor game.now self.new.sets }
+        ensures begun { (s : AbstractState) → s.vertex ≡ vertex
+            → IsBegun game.now s (start_of origin) (IsMarked self.new.sets) (IsOpen self.new.sets)
+            self.new.ends }
+    {
+        self.sets.clear();
+        self.ends = false;
+        self.lead(game, leaps, origin, vertex);
+    }
+
     /// Leads on from a place in the rules and a vertex: meets where leaps lead from there.
     #[inline(always)]
     fn lead(&mut self, game: &Game, leaps: &Leaps, origin: Origin, vertex: Vertex)
