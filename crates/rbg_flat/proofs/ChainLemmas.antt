@@ -16,7 +16,7 @@ use Rattle.rbg_flat.specs.Candidates.{IsCandidate, MayEnd}
 use Rattle.rbg_flat.specs.Chains.{at_vertex, Holds, IsMet, first, then, EndsBehind, EndsMet, ChainLaw}
 
 -- An action that is applied and is no modifier is a shift, or it is none and leaves all as it is.
-data QuietStep (game : AbstractGame) (q : ℕ) (s t : AbstractState) : Type 0 where
+pub data QuietStep (game : AbstractGame) (q : ℕ) (s t : AbstractState) : Type 0 where
   shifts : (d u : ℕ) → HasAction game.rules q (shift d) → next game.board s.vertex d ≡ Some u → t ≡ at_vertex s u → QuietStep game q s t
   holds : ¬ IsShiftAt game.rules q → t ≡ s → QuietStep game q s t
 
@@ -43,7 +43,7 @@ module _ (game : AbstractGame) (numbered : IsNumbered game.rules) where
   quiet_by q s t (positive x) stands quiet (_, is) = holds (no_shift q (positive x) stands refl) is
   quiet_by q s t (negative x) stands quiet (_, is) = holds (no_shift q (negative x) stands refl) is
 
-  quiet_step : (q : ℕ) (s t : AbstractState) → ¬ IsModifierAt game.rules q → Applies game q s t → QuietStep game q s t
+  pub quiet_step : (q : ℕ) (s t : AbstractState) → ¬ IsModifierAt game.rules q → Applies game q s t → QuietStep game q s t
   quiet_step q s t quiet applied = quiet_by q s t applied.action applied.stands quiet applied.acts
 
   -- A leap behind a shift is one before it.

@@ -1,5 +1,5 @@
 -- What targets tell of leaps.
-use Rattle.std.proofs.Common.{◌≡◌, ℕ, ◌+◌, ◌*◌, ◌/◌, ◌%◌, ◌<◌, ◌≤◌, List, [], ◌∷◌, ◌++◌, Bool, true, length, get_or, map, refl, sym, ap, subst, ◌∙◌, arith}
+use Rattle.std.proofs.Common.{◌≡◌, ℕ, ◌+◌, ◌*◌, ◌/◌, ◌%◌, ◌<◌, ◌≤◌, ◌⊎◌, inl, inr, List, [], ◌∷◌, ◌++◌, Bool, true, length, get_or, map, refl, sym, ap, subst, ◌∙◌, arith}
 use Rattle.std.specs.Prelude.{Contains, All, ◌==◌, ◌↔◌}
 use Rattle.std.specs.Int.{bit_at}
 use Rattle.std.proofs.lemmas.Bool.Decides.{Decides-eqb}
@@ -12,11 +12,13 @@ use Rattle.rbg_rules.proofs.LocalityLemmas.{locality_law}
 use Rattle.rbg_leaps.specs.declared.asking.Leaps.{Leaps}
 use Rattle.rbg_leaps.specs.declared.table.Target.{Target}
 use Rattle.rbg_leaps.specs.Asked.{row_of, HasRow, AreTargetsFrom}
-use Rattle.rbg_leaps.specs.Leaps.{IsLeap}
+use Rattle.rbg_board.specs.Graph.{IsClosed}
+use Rattle.rbg_rules.specs.Games.{IsGame}
+use Rattle.rbg_leaps.specs.Leaps.{IsLeap, Leads, stay, go}
 use Rattle.rbg_leaps.specs.Rows.{has_bit}
 use Rattle.rbg_leaps.proofs.ShiftLemmas.{follower_stands, action_within}
-use Rattle.rbg_flat.specs.internal.Sets.{IsInRow}
-use Rattle.rbg_flat.specs.internal.Leading.{IsAmong, IsTargetFor}
+use Rattle.rbg_flat.specs.internal.Sets.{SetsOfVertices, HasBitAt, IsInRow, IsMarked, IsOpen, Meets, ClosesWord}
+use Rattle.rbg_flat.specs.internal.Leading.{IsAmong, IsTargetFor, AreOn}
 
 -- What follows stands in the rules.
 pub within : (game : AbstractGame) → IsNumbered game.rules → (f : Start) (m : List ℕ) (p : ℕ) → Follows game.rules f (m ++ p ∷ []) → (0 < p) × (p ≤ length (positions_of game.rules))
@@ -66,3 +68,47 @@ module _ (game : AbstractGame) (numbered : IsNumbered game.rules) (f : Start) (v
         row = All-contains (λ (x : Target). x.row + leaps.table.columns ≤ length leaps.table.words.items) targets t are.are.rows listed;
         columns = are.size;
       }
+
+-- Shifts lead from the board to the board.
+leads_on_board : (game : AbstractGame) → IsClosed game.board → (v : ℕ) (m : List ℕ) (u : ℕ) → v < length game.board.first → Leads game v m u → u < length game.board.first
+leads_on_board game closed v m u here stay = here
+leads_on_board game closed v m u here (go {w = w} {m = rest} d stands edge more) = leads_on_board game closed w rest u (closed.to_vertex v d w edge) more
+
+-- What leaps lead to is on the board, at positions of the game.
+pub still_on : (game : AbstractGame) → IsGame game → (f : Start) (vertex : ℕ) (Opens : ℕ → Type 0) (old new : SetsOfVertices) → vertex < length game.board.first → Meets old new (λ v p. IsLeap game f vertex p v) Opens → AreOn game old → AreOn game new
+still_on game lawful f vertex Opens old new here meets on = record {
+  vertex = λ v p has. by_vertex v p (meets.only v p has);
+  from_one = λ v p has. by_first v p (meets.only v p has);
+  there = λ v p has. by_last v p (meets.only v p has);
+}
+  where
+    by_vertex : (v p : ℕ) → IsMarked old v p ⊎ (IsLeap game f vertex p v × (Opens p → IsOpen new v p)) → v < length game.board.first
+    by_vertex v p (inl was) = on.vertex v p was
+    by_vertex v p (inr (leap, _)) = leads_on_board game lawful.board vertex leap.shifts v here leap.leads
+
+    by_first : (v p : ℕ) → IsMarked old v p ⊎ (IsLeap game f vertex p v × (Opens p → IsOpen new v p)) → 0 < p
+    by_first v p (inl was) = on.from_one v p was
+    by_first v p (inr (leap, _)) = (within game lawful.numbered f leap.shifts p leap.follows).0
+
+    by_last : (v p : ℕ) → IsMarked old v p ⊎ (IsLeap game f vertex p v × (Opens p → IsOpen new v p)) → p ≤ length (positions_of game.rules)
+    by_last v p (inl was) = on.there v p was
+    by_last v p (inr (leap, _)) = (within game lawful.numbered f leap.shifts p leap.follows).1
+
+-- Nothing is marked.
+pub none_on : (game : AbstractGame) (sets : SetsOfVertices) → ((v p : ℕ) → ¬ IsMarked sets v p) → AreOn game sets
+none_on game sets none = record {
+  vertex = λ v p has. absurd (none v p has);
+  from_one = λ v p has. absurd (none v p has);
+  there = λ v p has. absurd (none v p has);
+}
+
+-- The same is marked.
+pub same_on : (game : AbstractGame) (old new : SetsOfVertices) (q c word : ℕ) → ClosesWord old new q c word → AreOn game old → AreOn game new
+same_on game old new q c word closing on = record {
+  vertex = λ v p has. on.vertex v p (was v p has);
+  from_one = λ v p has. on.from_one v p (was v p has);
+  there = λ v p has. on.there v p (was v p has);
+}
+  where
+    was : (v p : ℕ) → IsMarked new v p → IsMarked old v p
+    was v p has = subst (λ (marks : List ℕ). HasBitAt old.columns marks v p) closing.marks (subst (λ (k : ℕ). HasBitAt k new.marks v p) closing.columns has)

@@ -5,7 +5,7 @@ use Rattle.std.proofs.lemmas.Bool.{cases_lt}
 use Rattle.std.proofs.lemmas.Nat.Bits.{bit_at-zero}
 use Rattle.std.proofs.lemmas.List.{get_or-take, get_or_past, length-take-le, take_all}
 use native.Mathlib.Decide.{ℕ_discrete}
-use Rattle.rbg_flat.specs.internal.Sets.{SetsOfVertices, IsMarked, IsOpen, IsInWord, IsInRow, MeetsWord, Meets}
+use Rattle.rbg_flat.specs.internal.Sets.{SetsOfVertices, IsMarked, IsOpen, IsInWord, IsInRow, MeetsWord, Meets, weight}
 
 -- Nothing is met.
 pub meets_none : (sets : SetsOfVertices) (In : (v p : ℕ) → Type 0) (Opens : ℕ → Type 0) → ((v p : ℕ) → ¬ In v p) → Meets sets sets In Opens
@@ -17,6 +17,7 @@ meets_none sets In Opens none = record {
   only = λ v p has. inl has;
   still = λ v p has. has;
   no_other = λ v p has. inl has;
+  lighter = omega arith;
 }
 
 pub meets_word : (old new : SetsOfVertices) (q c word : ℕ) (opens : Bool) → MeetsWord old new q c word opens → Meets old new (IsInWord q c word) (λ _. opens ≡ true)
@@ -28,7 +29,11 @@ meets_word old new q c word opens meets = record {
   only = meets.only;
   still = meets.still;
   no_other = meets.no_other;
+  lighter = meets.lighter;
 }
+
+no_heavier : (a b c : ℕ) → a ≤ b → b ≤ c → a ≤ c
+no_heavier a b c one other = omega (arith, one, other)
 
 -- Both are met, one after the other.
 pub meets_both : (old middle new : SetsOfVertices) (In In' Both : (v p : ℕ) → Type 0) (Opens : ℕ → Type 0) → Meets old middle In Opens → Meets middle new In' Opens → ((v p : ℕ) → Both v p → In v p ⊎ In' v p) → ((v p : ℕ) → In v p → Both v p) → ((v p : ℕ) → In' v p → Both v p) → Meets old new Both Opens
@@ -40,6 +45,7 @@ meets_both old middle new In In' Both Opens one other apart first second = recor
   only = λ v p has. by_only v p (other.only v p has);
   still = λ v p has. other.still v p (one.still v p has);
   no_other = λ v p has. by_other v p (other.no_other v p has);
+  lighter = no_heavier (weight new) (weight middle) (weight old) other.lighter one.lighter;
 }
   where
     by_met : (v p : ℕ) → In v p ⊎ In' v p → IsMarked new v p
@@ -72,6 +78,7 @@ meets_same old new In In' Opens Opens' meets to of opens_to opens_of = record {
   only = λ v p has. by_only v p (meets.only v p has);
   still = meets.still;
   no_other = λ v p has. by_other v p (meets.no_other v p has);
+  lighter = meets.lighter;
 }
   where
     by_only : (v p : ℕ) → IsMarked old v p ⊎ (In v p × (Opens p → IsOpen new v p)) → IsMarked old v p ⊎ (In' v p × (Opens' p → IsOpen new v p))

@@ -1,6 +1,7 @@
 -- Where modifiers stand.
 use Rattle.std.proofs.Common.{◌≡◌, ℕ, Bool, true, false, refl, sym, ap, ◌∙◌}
 use Rattle.std.specs.Prelude.{IsTrue, ◌↔◌}
+use mathlib.Core.Bool.{not}
 use Rattle.rbg_rules.specs.Expression.{AbstractAction, shift, on, off, assignment, comparison, switch, positive, negative, Expression}
 use Rattle.rbg_rules.specs.Positions.{HasAction, IsNumbered, IsModifierAt, is_modifier}
 use Rattle.rbg_rules.specs.Table.{Stands}
@@ -31,3 +32,12 @@ stands_modifier rules numbered p (Compare e r f) stands = other_stands rules num
 stands_modifier rules numbered p (Switch n) stands = modifier_stands rules p (switch n) stands refl
 stands_modifier rules numbered p Positive (x, stands) = other_stands rules numbered p (positive x) stands refl
 stands_modifier rules numbered p Negative (x, stands) = other_stands rules numbered p (negative x) stands refl
+
+-- What is told of one thing is told of the other.
+pub opens_quiet : (b : Bool) (A : Type 0) → IsTrue b ↔ A → not b ≡ true → ¬ A
+opens_quiet true A is opens there = cc
+opens_quiet false A is opens there = true_not_false (sym (is.1 there))
+
+pub quiet_opens : (b : Bool) (A : Type 0) → IsTrue b ↔ A → ¬ A → not b ≡ true
+quiet_opens true A is quiet = absurd (quiet (is.0 refl))
+quiet_opens false A is quiet = refl

@@ -3,14 +3,16 @@ use Rattle.std.proofs.Common.{◌≡◌, ℕ, ◌+◌, ◌-◌, ◌*◌, ◌/◌
 use Rattle.std.specs.Prelude.{bit_or, bit_and, Contains}
 use Rattle.std.specs.Int.{bit_at, bit_not, w64}
 use Rattle.std.proofs.lemmas.Nat.Bits.{bit_at-zero}
-use Rattle.std.proofs.lemmas.List.{length-set, length-take-le, get_or-take, get_or_default}
+use Rattle.std.proofs.lemmas.List.{length-set, length_push, length-take-le, get_or-take, get_or_default}
 use Rattle.std.proofs.lemmas.Bool.{cases_lt}
-use Rattle.std.proofs.lemmas.Nat.{mul-add-lt}
+use Rattle.std.proofs.lemmas.Nat.{mul-add-lt, and_le_l}
+use Rattle.std.proofs.lemmas.List.Sums.{sum_by-set}
+use Rattle.std.specs.List.{sum_by}
 use Rattle.std.proofs.Math.Nat.{mul_comm}
 use native.Mathlib.Decide.{ℕ_discrete}
 use Rattle.std.proofs.lemmas.List.Elements.{Contains-push, Contains-append_left}
 use Rattle.rbg_flat.specs.internal.Sets.{SetsOfVertices, sets_of, HasBitAt, IsInWord, IsMarked, IsOpen, AreSets, MeetsWord, ClosesWord, IsLastOf}
-use Rattle.rbg_flat.proofs.WordLemmas.{added_to, added_old, added_new, taken_of, taken_left, known_or_new, new_in_word}
+use Rattle.rbg_flat.proofs.WordLemmas.{added_to, added_old, added_new, taken_of, taken_left, known_or_new, new_in_word, or_at_most, less_left, of_word}
 
 -- What a list has after a position was added.
 abbrev pub Added : (old new : List ℕ) → ℕ → Type 0
@@ -23,6 +25,16 @@ still_listed old new p x (inr more) there = subst (λ (xs : List ℕ). Contains 
 pub now_listed : (old new : List ℕ) (p : ℕ) → Added old new p → Contains new p
 now_listed old new p (inl same) = subst (λ (xs : List ℕ). Contains xs p) (sym same.1) same.0
 now_listed old new p (inr more) = subst (λ (xs : List ℕ). Contains xs p) (sym more.1) (Contains-push old p)
+
+one_longer : (old new : List ℕ) (p : ℕ) → Added old new p → length new ≤ length old + 1
+one_longer old new p (inl same) = let long = ap length same.1 in omega (arith, long)
+one_longer old new p (inr more) = let long = ap length more.1 ∙ length_push old p in omega (arith, long)
+
+at_least_one : (n : ℕ) → ¬ (n ≡ 0) → 1 ≤ n
+at_least_one n some = elim (cases_lt n 1) [
+  | inl none ↦ absurd (some (omega (arith, none)))
+  | inr one ↦ one
+]
 
 false_not_true : false ≡ true → ⊥
 false_not_true e = cc
@@ -57,6 +69,7 @@ module _
       only = λ v p has. inl has;
       still = λ v p has. has;
       no_other = λ v p has. inl has;
+      lighter = omega arith;
     }
       where
         no_bit : (b : ℕ) → bit_at n b ≡ 1 → ⊥
@@ -73,9 +86,21 @@ module _
         by_case (inl was) = added_old columns marks place q c is below in_marks n v p was
         by_case (inr new) = added_new columns marks place q c is below in_marks n v p new
 
+    -- Marks take something off.
+    marks_less : bit_or (get_or marks place 0) n ≡ get_or marks place 0 + n → get_or marks place 0 + n < 2 ^ 64 → sum_by (λ (m : ℕ). 2 ^ 64 - m) marks_then + n ≡ sum_by (λ (m : ℕ). 2 ^ 64 - m) marks
+    marks_less sum fits =
+        let put = sum_by-set (λ (m : ℕ). 2 ^ 64 - m) marks place (bit_or (get_or marks place 0) n) 0 in_marks in
+        omega (arith, put, sum, fits)
+
+    pending_more : sum_by (λ (m : ℕ). m) pending_then ≤ sum_by (λ (m : ℕ). m) pending + n
+    pending_more =
+        let put = sum_by-set (λ (m : ℕ). m) pending place (bit_or (get_or pending place 0) n) 0 in_pending in
+        let most = or_at_most (get_or pending place 0) n in
+        omega (arith, put, most)
+
     -- What is new is opened.
-    pub meets_open : (waiting' touched' : List ℕ) → MeetsWord old (sets_of size columns marks_then pending_then waiting' touched') q c x true
-    meets_open waiting' touched' = record {
+    pub meets_open : (waiting' touched' : List ℕ) → ¬ (n ≡ 0) → bit_or (get_or marks place 0) n ≡ get_or marks place 0 + n → get_or marks place 0 + n < 2 ^ 64 → Added waiting waiting' q → MeetsWord old (sets_of size columns marks_then pending_then waiting' touched') q c x true
+    meets_open waiting' touched' some sum fits adds = record {
       size = refl;
       columns = refl;
       kept = added_old columns marks place q c is below in_marks n;
@@ -83,6 +108,12 @@ module _
       only = λ v p has. by_marks v p (added_to columns marks place q c is below in_marks n v p has);
       still = added_old columns pending place q c is below in_pending n;
       no_other = λ v p has. by_pending v p (added_to columns pending place q c is below in_pending n v p has);
+      lighter =
+          let less = marks_less sum fits in
+          let more = pending_more in
+          let one = one_longer waiting waiting' q adds in
+          let least = at_least_one n some in
+          omega (arith, less, more, one, least);
     }
       where
         by_marks : (v p : ℕ) → HasBitAt columns marks v p ⊎ IsInWord q c n v p → HasBitAt columns marks v p ⊎ (IsInWord q c x v p × (true ≡ true → HasBitAt columns pending_then v p))
@@ -94,8 +125,8 @@ module _
         by_pending v p (inr new) = inr (new_in_word q c x n v p only new, refl)
 
     -- What is new isn't opened.
-    pub meets_closed : (touched' : List ℕ) → MeetsWord old (sets_of size columns marks_then pending waiting touched') q c x false
-    meets_closed touched' = record {
+    pub meets_closed : (touched' : List ℕ) → bit_or (get_or marks place 0) n ≡ get_or marks place 0 + n → get_or marks place 0 + n < 2 ^ 64 → MeetsWord old (sets_of size columns marks_then pending waiting touched') q c x false
+    meets_closed touched' sum fits = record {
       size = refl;
       columns = refl;
       kept = added_old columns marks place q c is below in_marks n;
@@ -103,6 +134,7 @@ module _
       only = λ v p has. by_marks v p (added_to columns marks place q c is below in_marks n v p has);
       still = λ v p has. has;
       no_other = λ v p has. inl has;
+      lighter = let less = marks_less sum fits in omega (arith, less);
     }
       where
         by_marks : (v p : ℕ) → HasBitAt columns marks v p ⊎ IsInWord q c n v p → HasBitAt columns marks v p ⊎ (IsInWord q c x v p × (false ≡ true → HasBitAt columns pending v p))
@@ -163,7 +195,17 @@ module _
       marks = refl;
       still = λ v p has. taken_left columns pending place q c is below in_pending x v p fits has;
       only = taken_of columns pending place q c is below in_pending x;
+      lighter = let put = sum_put in let most = and_le_l (get_or pending place 0) (bit_not w64 x) in omega (arith, put, most);
+      less = λ v was there.
+          let put = sum_put in
+          let same = of_word columns pending place q c is below in_pending x v q there in
+          let bit : bit_at (get_or pending place 0) (v % 64) ≡ 1 = sym (ap (λ (k : ℕ). bit_at (get_or pending k 0) (v % 64)) same) ∙ was.set in
+          let less = less_left (get_or pending place 0) x (v % 64) fits (omega arith) bit there.set in
+          omega (arith, put, less);
     }
+      where
+        sum_put : sum_by (λ (m : ℕ). m) pending_less + get_or pending place 0 ≡ sum_by (λ (m : ℕ). m) pending + bit_and (get_or pending place 0) (bit_not w64 x)
+        sum_put = sum_by-set (λ (m : ℕ). m) pending place (bit_and (get_or pending place 0) (bit_not w64 x)) 0 in_pending
 
     pub sets_less : AreSets (sets_of size columns marks pending waiting touched) → AreSets (sets_of size columns marks pending_less waiting touched)
     sets_less are = record {

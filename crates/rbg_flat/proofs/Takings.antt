@@ -9,14 +9,16 @@ use Rattle.rbg_rules.specs.Translation.{arithmetic_of}
 use Rattle.rbg_rules.specs.declared.rule.Action.{Action}
 use Rattle.rbg_rules.specs.declared.rule.Action.TheVariants.{Shift, On, Off, Assign, Compare, Switch, Positive, Negative}
 use Rattle.std.proofs.lemmas.Bool.{cases_lt}
-use Rattle.rbg_rules.specs.Positions.{IsModifierAt}
+use Rattle.rbg_rules.specs.Positions.{IsModifierAt, IsNumbered}
 use Rattle.rbg_rules.specs.State.{AbstractGame, AbstractState}
 use Rattle.rbg_rules.specs.Words.{Start, after}
-use Rattle.rbg_leaps.specs.Leaps.{IsLeap, EndsAcross}
+use Rattle.rbg_leaps.specs.Leaps.{IsShiftAt, IsLeap, EndsAcross}
 use Rattle.rbg_flat.specs.Chains.{Holds, IsMet, first, then, EndsBehind, EndsMet}
 use Rattle.rbg_flat.specs.internal.Begun.{IsBegun, IsLedOn, Marks, Closes}
 use Rattle.rbg_flat.specs.internal.Leading.{LearnsEnd}
-use Rattle.rbg_flat.specs.internal.Sets.{SetsOfVertices, IsMarked, IsOpen, IsInWord, Meets, ClosesWord, HasBitAt}
+use Rattle.rbg_flat.specs.internal.Sets.{SetsOfVertices, IsMarked, IsOpen, IsInWord, Meets, ClosesWord, HasBitAt, weight}
+use Rattle.rbg_rules.specs.Actions.{Applies}
+use Rattle.rbg_flat.proofs.ChainLemmas.{QuietStep, shifts, holds, quiet_step}
 use Rattle.rbg_flat.proofs.Steps.{marks_more, closes_more, learns_end}
 
 module _ (game : AbstractGame) (s : AbstractState) (f : Start) where
@@ -37,20 +39,20 @@ module _ (game : AbstractGame) (s : AbstractState) (f : Start) where
 
   -- What is met and holds leads on.
   pub leads_on : (old new : SetsOfVertices) (ends more : Bool) (v q : ℕ) → IsMet game s f v q → Holds game s v q → Meets old new (λ u p. IsLeap game (after q) v p u) (λ p. ¬ IsModifierAt game.rules p) → LearnsEnd ends more (EndsAcross game (after q) v) → IsBegun game s f (IsMarked old) (IsOpen old) ends → IsBegun game s f (IsMarked new) (IsOpen new) more × IsLedOn game v q (IsMarked new) more
-  leads_on old new ends more v q here holds meets learns is =
+  leads_on old new ends more v q here valid meets learns is =
       let marked = marks_more game s f (IsMarked old) (IsOpen old) (IsMarked new) (IsOpen new) ends is marks in
       (learns_end game s f (IsMarked new) (IsOpen new) ends more marked learns.kept sound, record { leaps = λ u p leap. meets.met u p leap; end = learns.all })
     where
       by_new : (u p : ℕ) → IsMarked old u p ⊎ (IsLeap game (after q) v p u × (¬ IsModifierAt game.rules p → IsOpen new u p)) → IsMarked old u p ⊎ (IsMet game s f u p × (Holds game s u p → IsOpen new u p))
       by_new u p (inl was) = inl was
-      by_new u p (inr (leap, opens)) = inr (then here holds leap, λ there. opens there.quiet)
+      by_new u p (inr (leap, opens)) = inr (then here valid leap, λ there. opens there.quiet)
 
       marks : Marks game s f (IsMarked old) (IsOpen old) (IsMarked new) (IsOpen new)
       marks = record { kept = meets.kept; only = λ u p has. by_new u p (meets.only u p has); still = meets.still }
 
       by_end : (ends ≡ true) ⊎ EndsAcross game (after q) v → EndsMet game s f
       by_end (inl was) = is.sound_end was
-      by_end (inr end) = inr (record { vertex = v; position = q; met = here; holds = holds; ends = end })
+      by_end (inr end) = inr (record { vertex = v; position = q; met = here; holds = valid; ends = end })
 
       sound : more ≡ true → EndsMet game s f
       sound told = by_end (learns.only told)
@@ -96,8 +98,8 @@ goes_on rules p Negative (x, stands) = (negative x, stands)
 
 -- The word that has one bit is closed behind what was led on.
 pub led_and_closed : (game : AbstractGame) (s : AbstractState) (f : Start) (old middle new : SetsOfVertices) (ends more : Bool) (v q word : ℕ) → IsMet game s f v q → Holds game s v q → Meets old middle (λ u p. IsLeap game (after q) v p u) (λ p. ¬ IsModifierAt game.rules p) → LearnsEnd ends more (EndsAcross game (after q) v) → ClosesWord middle new q (v / 64) word → ((b : ℕ) → bit_at word b ≡ 1 → b ≡ v % 64) → IsBegun game s f (IsMarked old) (IsOpen old) ends → IsBegun game s f (IsMarked new) (IsOpen new) more
-led_and_closed game s f old middle new ends more v q word here holds meets learns closing only is =
-    let both = leads_on game s f old middle ends more v q here holds meets learns is in
+led_and_closed game s f old middle new ends more v q word here valid meets learns closing only is =
+    let both = leads_on game s f old middle ends more v q here valid meets learns is in
     closes game s f middle new more q (v / 64) word closing (λ u there. inr (subst (λ (k : ℕ). IsLedOn game k q (IsMarked middle) more) (sym (same u there)) both.1)) (bit_decided middle.columns middle.pending) both.0
   where
     same : (u : ℕ) → IsInWord q (v / 64) word u q → u ≡ v
@@ -120,3 +122,39 @@ begins_at game s f old new ends vertex same none meets learns =
     end_of : (false ≡ true) ⊎ EndsAcross game f vertex → EndsAcross game f vertex
     end_of (inl no_end) = absurd (false_not_true no_end)
     end_of (inr end) = end
+
+-- A bit that doesn't hold is closed.
+pub dropped : (game : AbstractGame) (s : AbstractState) (f : Start) (old new : SetsOfVertices) (ends : Bool) (v q word : ℕ) → ¬ Holds game s v q → ClosesWord old new q (v / 64) word → ((b : ℕ) → bit_at word b ≡ 1 → b ≡ v % 64) → IsBegun game s f (IsMarked old) (IsOpen old) ends → IsBegun game s f (IsMarked new) (IsOpen new) ends
+dropped game s f old new ends v q word never closing only is =
+    closes game s f old new ends q (v / 64) word closing (λ u there. inl (subst (λ (k : ℕ). ¬ Holds game s k q) (sym (same u there)) never)) (bit_decided old.columns old.pending) is
+  where
+    same : (u : ℕ) → IsInWord q (v / 64) word u q → u ≡ v
+    same u there =
+        let bits = only (u % 64) there.set in
+        let columns = there.column in
+        omega (arith, bits, columns)
+
+-- What is met is no shift.
+pub met_plain : (game : AbstractGame) (s : AbstractState) (f : Start) (v p : ℕ) → IsMet game s f v p → ¬ IsShiftAt game.rules p
+met_plain game s f v p (first leap) = leap.plain
+met_plain game s f v p (then here is leap) = leap.plain
+
+-- What is met holds where it is tried and leads on.
+pub tried_holds : (game : AbstractGame) → IsNumbered game.rules → (s : AbstractState) (f : Start) (v p u : ℕ) → IsMet game s f v p → ¬ IsModifierAt game.rules p → Applies game p (record s { vertex = v }) (record s { vertex = u }) → Holds game s v p
+tried_holds game numbered s f v p u here quiet applies = by_step (quiet_step game numbered p (record s { vertex = v }) (record s { vertex = u }) quiet applies)
+  where
+    by_step : QuietStep game p (record s { vertex = v }) (record s { vertex = u }) → Holds game s v p
+    by_step (shifts d w stands leads is) = absurd (met_plain game s f v p here (record { direction = d; stands = stands }))
+    by_step (holds plain is) = record { quiet = quiet; plain = plain; applies = subst (λ (t : AbstractState). Applies game p (record s { vertex = v }) t) is applies }
+
+pub invalid_not : (game : AbstractGame) (s : AbstractState) (v p : ℕ) → ((t : AbstractState) → ¬ Applies game p (record s { vertex = v }) t) → ¬ Holds game s v p
+invalid_not game s v p none is = none (record s { vertex = v }) is.applies
+
+pub modifier_not : (game : AbstractGame) (s : AbstractState) (v p : ℕ) → IsModifierAt game.rules p → ¬ Holds game s v p
+modifier_not game s v p modifies is = is.quiet modifies
+
+-- One bit less is open.
+pub bit_less : (old middle new : SetsOfVertices) (v q word : ℕ) → weight middle ≤ weight old → IsOpen middle v q → ClosesWord middle new q (v / 64) word → bit_at word (v % 64) ≡ 1 → weight new < weight old
+bit_less old middle new v q word lighter is closing set =
+    let less = closing.less v is (record { position = refl; column = refl; set = set }) in
+    omega (arith, less, lighter)

@@ -1,9 +1,11 @@
 -- Words of rows: bits that are set and cleared.
-use Rattle.std.proofs.Common.{◌≡◌, ◌≢◌, ℕ, zero, suc, ◌+◌, ◌*◌, ◌/◌, ◌%◌, ◌<◌, ◌^◌, ◌-◌, ◌⊎◌, inl, inr, List, length, get_or, refl, sym, ap, subst, ◌∙◌, slice_set, arith}
+use Rattle.std.proofs.Common.{◌≡◌, ◌≢◌, ℕ, zero, suc, ◌+◌, ◌*◌, ◌/◌, ◌%◌, ◌<◌, ◌≤◌, ◌^◌, ◌-◌, ◌⊎◌, inl, inr, List, length, get_or, refl, sym, ap, subst, ◌∙◌, slice_set, arith}
 use Rattle.std.specs.Prelude.{bit_or, bit_and, max, min}
 use Rattle.std.specs.Int.{bit_at, bit_not, w64}
-use Rattle.std.proofs.lemmas.Nat.{div-mul-add}
-use Rattle.std.proofs.lemmas.Nat.Bits.{bit_at-zero, bit_at-lt, bit_at_and, bit_at_or, bit_at_not}
+use Rattle.std.proofs.lemmas.Nat.{div-mul-add, or_disjoint, or_lt, and_le_l}
+use Rattle.std.specs.Int.Bits.{or_add_and}
+use Rattle.std.proofs.lemmas.Bool.{cases_lt}
+use Rattle.std.proofs.lemmas.Nat.Bits.{bit_at-zero, bit_at-lt, bit_at_and, bit_at_or, bit_at_not, bit_at_above, same_from_bits}
 use Rattle.std.proofs.lemmas.List.{get_or-set_same, get_or-set_other}
 use native.Mathlib.Decide.{ℕ_discrete}
 use native.Mathlib.Numerals.{unary_clauses}
@@ -60,7 +62,7 @@ module _ (columns : ℕ) (words : List ℕ) (place q c : ℕ) (is : place ≡ q 
       let products : p * columns ≡ q * columns = ap (λ (k : ℕ). k * columns) positions in
       (positions, omega (arith, whole, products))
 
-  of_word : (x v p : ℕ) → IsInWord q c x v p → p * columns + v / 64 ≡ place
+  pub of_word : (x v p : ℕ) → IsInWord q c x v p → p * columns + v / 64 ≡ place
   of_word x v p there = ap (λ (k : ℕ). k * columns + v / 64) there.position ∙ ap (λ (k : ℕ). q * columns + k) there.column ∙ sym is
 
   -- the word at the place, after it got this value
@@ -140,3 +142,58 @@ module _ (columns : ℕ) (words : List ℕ) (place q c : ℕ) (is : place ≡ q 
 
 pub new_in_word : (q c x n v p : ℕ) → ((b : ℕ) → bit_at n b ≡ 1 → bit_at x b ≡ 1) → IsInWord q c n v p → IsInWord q c x v p
 new_in_word q c x n v p only there = record { position = there.position; column = there.column; set = only (v % 64) there.set }
+
+-- What is left of a number shares no bit with what was taken away.
+pub apart : (a b : ℕ) → b < 2 ^ 64 → bit_and b (bit_and a (bit_not w64 b)) ≡ 0
+apart a b fits = same_from_bits (bit_and b (bit_and a (bit_not w64 b))) 0 (λ i. by_place i (cases_lt i 64) ∙ sym (bit_at-zero i))
+  where
+    whole : (i : ℕ) → bit_at (bit_and b (bit_and a (bit_not w64 b))) i ≡ min (bit_at b i) (min (bit_at a i) (bit_at (bit_not w64 b) i))
+    whole i = bit_at_and b (bit_and a (bit_not w64 b)) i ∙ ap (λ (n : ℕ). min (bit_at b i) n) (bit_at_and a (bit_not w64 b) i)
+
+    by_place : (i : ℕ) → (i < 64) ⊎ (64 ≤ i) → bit_at (bit_and b (bit_and a (bit_not w64 b))) i ≡ 0
+    by_place i (inl below) =
+        let other = bit_at_not w64 b i fits below in
+        let one = bit_at-lt b i in
+        let all = whole i in
+        grind (arith, other, one, all)
+    by_place i (inr above) =
+        let none = bit_at_above b 64 i fits above in
+        let all = whole i in
+        grind (arith, none, all)
+
+pub new_sum : (word known : ℕ) → known < 2 ^ 64 → bit_or known (bit_and word (bit_not w64 known)) ≡ known + bit_and word (bit_not w64 known)
+new_sum word known fits = or_disjoint known (bit_and word (bit_not w64 known)) (apart word known fits)
+
+pub new_fits : (word known : ℕ) → word < 2 ^ 64 → known < 2 ^ 64 → known + bit_and word (bit_not w64 known) < 2 ^ 64
+new_fits word known small fits =
+    let sum = new_sum word known fits in
+    let part = and_le_l word (bit_not w64 known) in
+    let below = or_lt 64 known (bit_and word (bit_not w64 known)) fits (omega (arith, part, small)) in
+    subst (λ (n : ℕ). n < 2 ^ 64) sum below
+
+pub or_at_most : (a b : ℕ) → bit_or a b ≤ a + b
+or_at_most a b = let all = or_add_and a b in omega (arith, all)
+
+-- Where a bit is taken away, less is left.
+pub less_left : (a b k : ℕ) → b < 2 ^ 64 → k < 64 → bit_at a k ≡ 1 → bit_at b k ≡ 1 → bit_and a (bit_not w64 b) < a
+less_left a b k fits within here taken = elim (ℕ_discrete (bit_and a (bit_not w64 b)) a) [
+  | yes same ↦
+      let kept : bit_at (bit_and a (bit_not w64 b)) k ≡ 1 = ap (λ (n : ℕ). bit_at n k) same ∙ here in
+      let other = bit_at_not w64 b k fits within in
+      let both = bit_at_and a (bit_not w64 b) k in
+      absurd (no_bit_left kept both other)
+  | no apart ↦
+      let most = and_le_l a (bit_not w64 b) in
+      strictly most apart
+]
+  where
+    strictly : {x y : ℕ} → x ≤ y → ¬ (x ≡ y) → x < y
+    strictly {x} {y} most apart = elim (cases_lt x y) [
+      | inl less ↦ less
+      | inr no_less ↦ absurd (apart (omega (arith, most, no_less)))
+    ]
+
+    no_bit_left : bit_at (bit_and a (bit_not w64 b)) k ≡ 1 → bit_at (bit_and a (bit_not w64 b)) k ≡ min (bit_at a k) (bit_at (bit_not w64 b) k) → bit_at (bit_not w64 b) k ≡ 1 - bit_at b k → ⊥
+    no_bit_left kept both other =
+        let second : bit_at (bit_not w64 b) k ≡ 0 = other ∙ ap (λ (n : ℕ). 1 - n) taken in
+        grind (arith, kept, both, second)

@@ -1,24 +1,25 @@
 //! A flat part that is being found, by sets of vertices.
-ghost use Rattle.std.specs.Prelude.{◌≡◌, ℕ, ◌<◌, ◌≤◌, length, IfOk};
+ghost use Rattle.std.specs.Prelude.{◌≡◌, ℕ, ◌<◌, ◌≤◌, length, IfOk, IfSome, IfNone, IsTrue, false};
 ghost use Rattle.std.specs.Int.{bit_at};
 ghost use Rattle.rbg_rules.specs.Games.{IsGame};
 ghost use Rattle.rbg_rules.specs.Laws.{IsStart};
-ghost use Rattle.rbg_rules.specs.Positions.{IsModifierAt, positions_of};
-ghost use Rattle.rbg_rules.specs.State.{AbstractGame, AbstractState};
+ghost use Rattle.rbg_rules.specs.Positions.{IsModifierAt, IsPatternAt, positions_of};
+ghost use Rattle.rbg_rules.specs.State.{AbstractState, IsStateOf};
 ghost use Rattle.rbg_rules.specs.Words.{Start};
 ghost use Rattle.rbg_leaps.specs.Leaps.{IsLeap, EndsAcross};
 ghost use Rattle.rbg_leaps.specs.Made.{AreLeapsOf};
 ghost use Rattle.rbg_leaps.specs.Origin.{start_of};
 ghost use Rattle.rbg_flat.specs.Chains.{Holds, IsMet};
 ghost use Rattle.rbg_flat.specs.internal.Begun.{IsBegun};
-ghost use Rattle.rbg_flat.specs.internal.Sets.{Meets, IsMarked, IsOpen, IsInWord};
-ghost use Rattle.rbg_flat.specs.internal.Leading.{AreSizedFor, LearnsEnd};
+ghost use Rattle.rbg_flat.specs.internal.Sets.{Meets, IsMarked, IsOpen, weight};
+ghost use Rattle.rbg_flat.specs.internal.Leading.{AreSizedFor, AreOn, LearnsEnd};
 
 use crate::leading::meet_targets;
 use crate::sets::Sets;
 use rbg_base::{Memory, Position, Vertex};
 use rbg_leaps::{Leaps, Origin};
 use rbg_rules::Game;
+use rbg_state::{SemiState, Trial};
 use std::alloc::Global;
 
 /// A flat part that is being found: what may come next from one place with no modifier before it.
@@ -52,10 +53,48 @@ impl Flat {
         ensures begun { (s : AbstractState) → s.vertex ≡ vertex
             → IsBegun game.now s (start_of origin) (IsMarked self.new.sets) (IsOpen self.new.sets)
             self.new.ends }
+        ensures on { AreOn game.now self.new.sets }
     {
         self.sets.clear();
         self.ends = false;
         self.lead(game, leaps, origin, vertex);
+    }
+
+    /// Goes on up to the next vertex that is to be asked about a pattern, and returns it with the pattern's position;
+    /// none where nothing is left to be looked at. Each turn takes one bit, or one position off those that wait.
+    pub fn advance(
+        &mut self,
+        game: &Game,
+        leaps: &Leaps,
+        state: &SemiState,
+    ) -> Option<(Vertex, Position)>
+        requires lawful { IsGame game.now }
+        requires leaps { AreLeapsOf game.now leaps.now }
+        requires fits { IsStateOf game.now state.now.state }
+        requires sized { AreSizedFor game.now self.old.sets }
+        requires on { AreOn game.now self.old.sets }
+        ensures sized { AreSizedFor game.now self.new.sets }
+        ensures on { AreOn game.now self.new.sets }
+        ensures begun { (f : Start)
+            → IsBegun game.now state.now.state f (IsMarked self.old.sets) (IsOpen self.old.sets)
+            self.old.ends
+            → IsBegun game.now state.now.state f (IsMarked self.new.sets) (IsOpen self.new.sets)
+            self.new.ends }
+        ensures asked { IfSome result (λ pair. IsOpen self.new.sets pair.0 pair.1
+            × IsPatternAt game.now.rules pair.1) }
+        ensures done { IfNone result ((v p : ℕ) → ¬ IsOpen self.new.sets v p) }
+    {
+        while let Some(position) = self.sets.waiting() {
+            match self.sets.first_open(position) {
+                None => self.sets.wait_no_more(position),
+                Some(vertex) => {
+                    if !self.try_one(game, leaps, state, position, vertex) {
+                        return Some((vertex, position));
+                    }
+                }
+            }
+        }
+        None
     }
 
     /// Leads on from a place in the rules and a vertex: meets where leaps lead from there.
@@ -71,6 +110,7 @@ impl Flat {
             (λ p. ¬ IsModifierAt game.now.rules p) }
         ensures ends { LearnsEnd self.old.ends self.new.ends
             (EndsAcross game.now (start_of origin) vertex) }
+        ensures on { AreOn game.now self.old.sets → AreOn game.now self.new.sets }
     {
         meet_targets(&mut self.sets, game, leaps, leaps.from(origin, vertex));
         let ends = leaps.ends(origin, vertex);
@@ -91,6 +131,9 @@ impl Flat {
             → Holds game.now s vertex position
             → IsBegun game.now s f (IsMarked self.old.sets) (IsOpen self.old.sets) self.old.ends
             → IsBegun game.now s f (IsMarked self.new.sets) (IsOpen self.new.sets) self.new.ends }
+        ensures on { AreOn game.now self.old.sets → AreOn game.now self.new.sets }
+        ensures less { IsOpen self.old.sets vertex position
+            → weight self.new.sets < weight self.old.sets }
     {
         // an action stands there
         let _action = game.action(position);
@@ -99,19 +142,70 @@ impl Flat {
             .close_word(position, vertex as usize / 64, unit_word(vertex % 64));
     }
 
-    /// Bits of a word that don't hold are no longer open.
+    /// A position that doesn't hold at a vertex is no longer open there.
     #[inline(always)]
-    fn drop_word(&mut self, position: Position, column: usize, word: u64)
-        requires position { position < self.old.sets.size }
-        requires column { column < self.old.sets.columns }
-        ensures size { self.new.sets.size ≡ self.old.sets.size }
-        ensures columns { self.new.sets.columns ≡ self.old.sets.columns }
-        ensures begun { (game : AbstractGame) (s : AbstractState) (f : Start)
-            → ((v : ℕ) → IsInWord position column word v position → ¬ Holds game s v position)
-            → IsBegun game s f (IsMarked self.old.sets) (IsOpen self.old.sets) self.old.ends
-            → IsBegun game s f (IsMarked self.new.sets) (IsOpen self.new.sets) self.new.ends }
+    fn drop_one(&mut self, game: &Game, position: Position, vertex: Vertex)
+        requires lawful { IsGame game.now }
+        requires sized { AreSizedFor game.now self.old.sets }
+        requires vertex { vertex < length game.now.board.first }
+        requires there { position ≤ length (positions_of game.now.rules) }
+        ensures sized { AreSizedFor game.now self.new.sets }
+        ensures begun { (s : AbstractState) (f : Start) → ¬ Holds game.now s vertex position
+            → IsBegun game.now s f (IsMarked self.old.sets) (IsOpen self.old.sets) self.old.ends
+            → IsBegun game.now s f (IsMarked self.new.sets) (IsOpen self.new.sets) self.new.ends }
+        ensures on { AreOn game.now self.old.sets → AreOn game.now self.new.sets }
+        ensures less { IsOpen self.old.sets vertex position
+            → weight self.new.sets < weight self.old.sets }
     {
-        self.sets.close_word(position, column, word);
+        self.sets
+            .close_word(position, vertex as usize / 64, unit_word(vertex % 64));
+    }
+
+    /// Tries a position that is open at a vertex, and tells whether it is done with: it isn't where a pattern stands.
+    #[inline(always)]
+    fn try_one(
+        &mut self,
+        game: &Game,
+        leaps: &Leaps,
+        state: &SemiState,
+        position: Position,
+        vertex: Vertex,
+    ) -> bool
+        requires lawful { IsGame game.now }
+        requires leaps { AreLeapsOf game.now leaps.now }
+        requires fits { IsStateOf game.now state.now.state }
+        requires sized { AreSizedFor game.now self.old.sets }
+        requires vertex { vertex < length game.now.board.first }
+        requires from_one { 0 < position }
+        requires there { position ≤ length (positions_of game.now.rules) }
+        requires marked { IsMarked self.old.sets vertex position }
+        requires open { IsOpen self.old.sets vertex position }
+        ensures sized { AreSizedFor game.now self.new.sets }
+        ensures begun { (f : Start)
+            → IsBegun game.now state.now.state f (IsMarked self.old.sets) (IsOpen self.old.sets)
+            self.old.ends
+            → IsBegun game.now state.now.state f (IsMarked self.new.sets) (IsOpen self.new.sets)
+            self.new.ends }
+        ensures on { AreOn game.now self.old.sets → AreOn game.now self.new.sets }
+        ensures less { IsTrue result → weight self.new.sets < weight self.old.sets }
+        ensures pattern { result ≡ false
+            → IsPatternAt game.now.rules position × IsOpen self.new.sets vertex position }
+    {
+        match state.try_at(game, vertex, position) {
+            Trial::Pattern => false,
+            Trial::LeadsTo(_) => {
+                self.lead_on(game, leaps, position, vertex);
+                true
+            }
+            Trial::Invalid => {
+                self.drop_one(game, position, vertex);
+                true
+            }
+            Trial::Modifies => {
+                self.drop_one(game, position, vertex);
+                true
+            }
+        }
     }
 }
 
@@ -119,7 +213,8 @@ impl Flat {
 #[inline(always)]
 fn unit_word(bit: u32) -> u64
     requires { bit < 64 }
-    ensures { (b : ℕ) → bit_at result b ≡ 1 → b ≡ bit }
+    ensures only { (b : ℕ) → bit_at result b ≡ 1 → b ≡ bit }
+    ensures set { bit_at result bit ≡ 1 }
 {
     let mut word = 0;
     word |= 1 << bit;

@@ -1,10 +1,10 @@
 //! Sets of vertices for each position: what was met, and what of it is still to be looked at.
 ghost use Rattle.std.specs.Prelude.{◌≡◌, ℕ, ◌<◌, ◌≤◌, ◌+◌, ◌-◌, ◌*◌, ◌^◌, ◌⊎◌, [], length, take, slice_index, slice_set, bit_or, bit_and, Contains, IfOk, IfSome, IfNone, true};
 ghost use Rattle.std.specs.Int.{bit_at, bit_not, w64};
-ghost use Rattle.rbg_flat.specs.internal.Sets.{MeetsWord, Meets, IsInRow, ClosesWord, IsMarked, IsOpen, IsLastOf};
+ghost use Rattle.rbg_flat.specs.internal.Sets.{MeetsWord, Meets, IsInRow, ClosesWord, IsMarked, IsOpen, IsLastOf, weight};
 
 use crate::positions::Positions;
-use rbg_base::{Memory, Position};
+use rbg_base::{Memory, Position, Vertex};
 use std::alloc::Global;
 use std::marker::Model;
 
@@ -153,14 +153,56 @@ impl Sets {
         take_word(&mut self.pending, place, word);
     }
 
+    /// The first vertex that is open at a position.
+    #[inline(always)]
+    pub(crate) fn first_open(&self, position: Position) -> Option<Vertex>
+        requires position { position < self.now.size }
+        requires narrow { self.now.columns < 2 ^ 16 }
+        ensures some { IfSome result (λ v. IsOpen self.now v position) }
+        ensures marked { IfSome result (λ v. IsMarked self.now v position) }
+        ensures none { IfNone result ((v : ℕ) → ¬ IsOpen self.now v position) }
+    {
+        for column in 0..self.columns {
+            let word = self.open_word(position, column);
+            if word != 0 {
+                return Some(column as Vertex * 64 + lowest(word));
+            }
+        }
+        None
+    }
+
+    /// Nothing is open any more at the latest waiting position.
+    pub(crate) fn wait_no_more(&mut self, position: Position)
+        requires last { IsLastOf self.old.waiting position }
+        requires none { (v : ℕ) → ¬ IsOpen self.old v position }
+        ensures size { self.new.size ≡ self.old.size }
+        ensures columns { self.new.columns ≡ self.old.columns }
+        ensures marks { self.new.marks ≡ self.old.marks }
+        ensures pending { self.new.pending ≡ self.old.pending }
+        ensures lighter { weight self.new < weight self.old }
+    {
+        self.waiting.take_last();
+    }
+
     /// The latest position at which something may be open.
     #[inline(always)]
     pub(crate) fn waiting(&self) -> Option<Position>
         ensures below { IfSome result (λ p. p < self.now.size) }
+        ensures last { IfSome result (λ p. IsLastOf self.now.waiting p) }
         ensures none { IfNone result ((v p : ℕ) → ¬ IsOpen self.now v p) }
     {
         self.waiting.last()
     }
+}
+
+/// The place of the lowest bit of a word.
+#[inline(always)]
+fn lowest(word: u64) -> u32
+    requires { 0 < word }
+    ensures set { bit_at word result ≡ 1 }
+    ensures small { result < 64 }
+{
+    word.trailing_zeros()
 }
 
 /// The bits of a word that aren't known yet.
@@ -169,6 +211,8 @@ fn new_of(word: u64, known: u64) -> u64
     ensures only { (b : ℕ) → bit_at result b ≡ 1 → bit_at word b ≡ 1 }
     ensures all { (b : ℕ) → b < 64 → bit_at word b ≡ 1
         → (bit_at known b ≡ 1) ⊎ (bit_at result b ≡ 1) }
+    ensures sum { bit_or known result ≡ known + result }
+    ensures fits { known + result < 2 ^ 64 }
 {
     word & !known
 }

@@ -7,12 +7,18 @@ use Rattle.rbg_leaps.specs.declared.asking.Leaps.{Leaps}
 use Rattle.rbg_leaps.specs.declared.table.Target.{Target}
 use Rattle.rbg_leaps.specs.Asked.{row_of, HasRow}
 use Rattle.rbg_leaps.specs.Limits.{row_words}
-use Rattle.rbg_flat.specs.internal.Sets.{SetsOfVertices, IsInRow}
+use Rattle.rbg_flat.specs.internal.Sets.{SetsOfVertices, IsInRow, IsMarked}
 
 -- The sets have a row for each position of the game, and a bit in it for each vertex.
 pub record AreSizedFor (game : AbstractGame) (sets : SetsOfVertices) : Type 0 where
   pub size : sets.size ≡ length (positions_of game.rules) + 1
   pub columns : sets.columns ≡ row_words game
+
+-- What is marked is on the board, at positions of the game.
+pub record AreOn (game : AbstractGame) (sets : SetsOfVertices) : Type 0 where
+  pub vertex : (v p : ℕ) → IsMarked sets v p → v < length game.board.first
+  pub from_one : (v p : ℕ) → IsMarked sets v p → 0 < p
+  pub there : (v p : ℕ) → IsMarked sets v p → p ≤ length (positions_of game.rules)
 
 -- The target is at a position of the game, and has a row of as many words as it takes.
 pub record IsTargetFor (game : AbstractGame) (leaps : Leaps) (t : Target) : Type 0 where

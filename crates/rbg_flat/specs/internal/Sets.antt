@@ -1,6 +1,7 @@
 -- Sets of vertices for each position, as rows of bits, and lists of positions in which each stands once.
-use Rattle.std.specs.Prelude.{◌≡◌, ◌≢◌, ◌↔◌, ◌⊎◌, ℕ, ◌+◌, ◌-◌, ◌*◌, ◌/◌, ◌%◌, ◌<◌, ◌≤◌, List, length, slice_index, slice_index_or, true, false, Bool, take, All, AllPairs, Contains, IsTrue}
+use Rattle.std.specs.Prelude.{◌≡◌, ◌≢◌, ◌↔◌, ◌⊎◌, ℕ, ◌+◌, ◌-◌, ◌*◌, ◌^◌, ◌/◌, ◌%◌, ◌<◌, ◌≤◌, List, length, slice_index, slice_index_or, true, false, Bool, take, All, AllPairs, Contains, IsTrue}
 use Rattle.std.specs.Int.{bit_at}
+use Rattle.std.specs.List.{sum_by}
 
 -- Positions below a size, each once.
 pub record Listed : Type 0 where
@@ -61,6 +62,11 @@ pub record AreSets (sets : SetsOfVertices) : Type 0 where
   pub waits : (v p : ℕ) → IsOpen sets v p → Contains sets.waiting p
   pub touches : (v p : ℕ) → IsMarked sets v p → Contains sets.touched p
 
+-- How much is left to be done: each bit that is met or closed takes something off, and so does each position that no
+-- longer waits.
+abbrev pub weight : SetsOfVertices → ℕ
+weight sets = 4 * sum_by (λ m. 2 ^ 64 - m) sets.marks + 2 * sum_by (λ m. m) sets.pending + length sets.waiting
+
 -- A word of a row was met: its bits are marked, and what is new of it is open where that is wanted.
 pub record MeetsWord (old new : SetsOfVertices) (position column word : ℕ) (opens : Bool) : Type 0 where
   pub size : new.size ≡ old.size
@@ -72,6 +78,7 @@ pub record MeetsWord (old new : SetsOfVertices) (position column word : ℕ) (op
       IsMarked old v p ⊎ (IsInWord position column word v p × (opens ≡ true → IsOpen new v p))
   pub still : (v p : ℕ) → IsOpen old v p → IsOpen new v p
   pub no_other : (v p : ℕ) → IsOpen new v p → IsOpen old v p ⊎ (IsInWord position column word v p × (opens ≡ true))
+  pub lighter : weight new ≤ weight old
 
 -- Bits of a word of a row are no longer open.
 pub record ClosesWord (old new : SetsOfVertices) (position column word : ℕ) : Type 0 where
@@ -80,6 +87,8 @@ pub record ClosesWord (old new : SetsOfVertices) (position column word : ℕ) : 
   pub marks : new.marks ≡ old.marks
   pub still : (v p : ℕ) → IsOpen old v p → IsOpen new v p ⊎ IsInWord position column word v p
   pub only : (v p : ℕ) → IsOpen new v p → IsOpen old v p
+  pub lighter : weight new ≤ weight old
+  pub less : (v : ℕ) → IsOpen old v position → IsInWord position column word v position → weight new < weight old
 
 -- These vertices with positions were met: they are marked, and those of them that are new and of such positions are
 -- open.
@@ -91,6 +100,7 @@ pub record Meets (old new : SetsOfVertices) (In : (v p : ℕ) → Type 0) (Opens
   pub only : (v p : ℕ) → IsMarked new v p → IsMarked old v p ⊎ (In v p × (Opens p → IsOpen new v p))
   pub still : (v p : ℕ) → IsOpen old v p → IsOpen new v p
   pub no_other : (v p : ℕ) → IsOpen new v p → IsOpen old v p ⊎ (In v p × Opens p)
+  pub lighter : weight new ≤ weight old
 
 -- The vertex is in a row of a position.
 pub record IsInRow (q : ℕ) (row : List ℕ) (v p : ℕ) : Type 0 where

@@ -1,7 +1,7 @@
 use Rattle.std.proofs.Common.{◌≡◌, ◌≢◌, ℕ, ◌*◌, ◌^◌, ◌%◌, ◌<◌, sym, ◌∙◌, arith}
 use Rattle.std.specs.Prelude.{bit_or}
 use Rattle.std.specs.Int.{bit_at, w64}
-use Rattle.std.proofs.lemmas.Nat.Bits.{bit_at-zero, bit_at_set_other}
+use Rattle.std.proofs.lemmas.Nat.Bits.{bit_at-zero, bit_at_set_other, bit_at_set_same}
 use native.Mathlib.Decide.{ℕ_discrete}
 use Rattle.rbg_flat.proofs.flat.unit_word.Goals as goal
 
@@ -13,5 +13,8 @@ only_bit bit within b set = elim (ℕ_discrete b bit) [
       absurd (omega (arith, set, none))
 ]
 
-pub returns : goal.returns
-returns c = only_bit c.args.bit c.requires
+pub returns-clause-only : goal.returns-clause-only
+returns-clause-only c = only_bit c.args.bit c.requires
+
+pub returns-clause-set : goal.returns-clause-set
+returns-clause-set c = bit_at_set_same w64 0 c.args.bit c.requires

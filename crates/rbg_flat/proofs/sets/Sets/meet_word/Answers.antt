@@ -1,5 +1,6 @@
 use Rattle.std.proofs.Common.{◌≡◌, ℕ, ◌+◌, ◌*◌, ◌<◌, ◌⊎◌, List, Bool, true, false, length, get_or, sym, ◌∙◌, subst}
 use Rattle.std.specs.Int.{bit_at}
+use Rattle.std.specs.Prelude.{bit_or, ◌^◌}
 use Rattle.std.proofs.lemmas.List.{get_or_read}
 use Rattle.rbg_flat.specs.internal.Sets.{MeetsWord, sets_of}
 use Rattle.rbg_flat.proofs.SetLemmas.{meets_open, meets_closed, sets_open, sets_closed}
@@ -71,7 +72,9 @@ returns-then-opens c =
     let read : c.index.result.now ≡ get_or marks place 0 = get_or_read marks place c.index.result.now in_marks c.index.ensures 0 in
     let n : ℕ = c.new_of-new.result in
     let all : (b : ℕ) → b < 64 → bit_at c.args.word b ≡ 1 → (bit_at (get_or marks place 0) b ≡ 1) ⊎ (bit_at n b ≡ 1) = subst (λ (k : ℕ). (b : ℕ) → b < 64 → bit_at c.args.word b ≡ 1 → (bit_at k b ≡ 1) ⊎ (bit_at n b ≡ 1)) read c.new_of-new.ensures.all in
-    rw (← c.self.view_is, c.add_word.ensures, c.add_word-then-opens.ensures, c.if-opens.true) (meets_open size columns marks pending waiting touched place q column c.args.word n is below in_marks in_pending c.new_of-new.ensures.only all c.add-then-opens.new.self.positions c.add.new.self.positions)
+    let sum : bit_or (get_or marks place 0) n ≡ get_or marks place 0 + n = subst (λ (k : ℕ). bit_or k n ≡ k + n) read c.new_of-new.ensures.sum in
+    let fits : get_or marks place 0 + n < 2 ^ 64 = subst (λ (k : ℕ). k + n < 2 ^ 64) read c.new_of-new.ensures.fits in
+    rw (← c.self.view_is, c.add_word.ensures, c.add_word-then-opens.ensures, c.if-opens.true) (meets_open size columns marks pending waiting touched place q column c.args.word n is below in_marks in_pending c.new_of-new.ensures.only all c.add-then-opens.new.self.positions c.add.new.self.positions c.if-new-eq0.false sum fits c.add-then-opens.ensures.added)
 
 pub returns-else-opens : goal.returns-else-opens
 returns-else-opens c =
@@ -91,4 +94,6 @@ returns-else-opens c =
     let read : c.index.result.now ≡ get_or marks place 0 = get_or_read marks place c.index.result.now in_marks c.index.ensures 0 in
     let n : ℕ = c.new_of-new.result in
     let all : (b : ℕ) → b < 64 → bit_at c.args.word b ≡ 1 → (bit_at (get_or marks place 0) b ≡ 1) ⊎ (bit_at n b ≡ 1) = subst (λ (k : ℕ). (b : ℕ) → b < 64 → bit_at c.args.word b ≡ 1 → (bit_at k b ≡ 1) ⊎ (bit_at n b ≡ 1)) read c.new_of-new.ensures.all in
-    rw (← c.self.view_is, c.add_word.ensures, c.if-opens.false) (meets_closed size columns marks pending waiting touched place q column c.args.word n is below in_marks in_pending c.new_of-new.ensures.only all c.add.new.self.positions)
+    let sum : bit_or (get_or marks place 0) n ≡ get_or marks place 0 + n = subst (λ (k : ℕ). bit_or k n ≡ k + n) read c.new_of-new.ensures.sum in
+    let fits : get_or marks place 0 + n < 2 ^ 64 = subst (λ (k : ℕ). k + n < 2 ^ 64) read c.new_of-new.ensures.fits in
+    rw (← c.self.view_is, c.add_word.ensures, c.if-opens.false) (meets_closed size columns marks pending waiting touched place q column c.args.word n is below in_marks in_pending c.new_of-new.ensures.only all c.add.new.self.positions sum fits)
