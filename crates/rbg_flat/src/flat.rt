@@ -1,14 +1,15 @@
 //! A flat part that is being found, by sets of vertices.
-ghost use Rattle.std.specs.Prelude.{◌≡◌, ℕ, ◌<◌, ◌≤◌, length, IfOk, IfSome, IfNone, IsTrue, false};
+ghost use Rattle.std.specs.Prelude.{◌≡◌, ℕ, ◌<◌, ◌≤◌, ◌↔◌, length, IfOk, IfSome, IfNone, IsTrue, false};
 ghost use Rattle.std.specs.Int.{bit_at};
 ghost use Rattle.rbg_rules.specs.Games.{IsGame};
 ghost use Rattle.rbg_rules.specs.Laws.{IsStart};
-ghost use Rattle.rbg_rules.specs.Positions.{IsModifierAt, IsPatternAt, positions_of};
-ghost use Rattle.rbg_rules.specs.State.{AbstractState, IsStateOf};
+ghost use Rattle.rbg_rules.specs.Positions.{IsModifierAt, IsNumbered, IsPatternAt, positions_of};
+ghost use Rattle.rbg_rules.specs.State.{AbstractGame, AbstractState, IsStateOf};
 ghost use Rattle.rbg_rules.specs.Words.{Start};
 ghost use Rattle.rbg_leaps.specs.Leaps.{IsLeap, EndsAcross};
 ghost use Rattle.rbg_leaps.specs.Made.{AreLeapsOf};
 ghost use Rattle.rbg_leaps.specs.Origin.{start_of};
+ghost use Rattle.rbg_flat.specs.Candidates.{MayEnd};
 ghost use Rattle.rbg_flat.specs.Chains.{Holds, IsMet};
 ghost use Rattle.rbg_flat.specs.internal.Begun.{IsBegun};
 ghost use Rattle.rbg_flat.specs.internal.Sets.{Meets, IsMarked, IsOpen, weight};
@@ -95,6 +96,47 @@ impl Flat {
             }
         }
         None
+    }
+
+    /// Takes a vertex that was asked about the pattern at a position, which is valid there or isn't.
+    pub fn take(
+        &mut self,
+        game: &Game,
+        leaps: &Leaps,
+        vertex: Vertex,
+        position: Position,
+        valid: bool,
+    )
+        requires lawful { IsGame game.now }
+        requires leaps { AreLeapsOf game.now leaps.now }
+        requires sized { AreSizedFor game.now self.old.sets }
+        requires vertex { vertex < length game.now.board.first }
+        requires from_one { 0 < position }
+        requires there { position ≤ length (positions_of game.now.rules) }
+        requires marked { IsMarked self.old.sets vertex position }
+        ensures sized { AreSizedFor game.now self.new.sets }
+        ensures on { AreOn game.now self.old.sets → AreOn game.now self.new.sets }
+        ensures begun { (s : AbstractState) (f : Start)
+            → IsTrue valid ↔ Holds game.now s vertex position
+            → IsBegun game.now s f (IsMarked self.old.sets) (IsOpen self.old.sets) self.old.ends
+            → IsBegun game.now s f (IsMarked self.new.sets) (IsOpen self.new.sets) self.new.ends }
+        ensures less { IsOpen self.old.sets vertex position
+            → weight self.new.sets < weight self.old.sets }
+    {
+        if valid {
+            self.lead_on(game, leaps, position, vertex);
+        } else {
+            self.drop_one(game, position, vertex);
+        }
+    }
+
+    /// Whether a word may end with no modifier more, once nothing is left to be looked at.
+    pub fn ends(&self) -> bool
+        ensures { (game : AbstractGame) (s : AbstractState) (f : Start) → IsNumbered game.rules
+            → IsBegun game s f (IsMarked self.now.sets) (IsOpen self.now.sets) self.now.ends
+            → ((v p : ℕ) → ¬ IsOpen self.now.sets v p) → IsTrue result ↔ MayEnd game s f }
+    {
+        self.ends
     }
 
     /// Leads on from a place in the rules and a vertex: meets where leaps lead from there.
