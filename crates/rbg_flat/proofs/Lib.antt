@@ -9,3 +9,4 @@ pub mod Modifiers
 pub mod Leadings
 pub mod Leaping
 pub mod Takings
+pub mod RowLemmas

@@ -1,5 +1,5 @@
 //! A flat part that is being found, by sets of vertices.
-ghost use Rattle.std.specs.Prelude.{◌≡◌, ℕ, ◌<◌, ◌≤◌, ◌↔◌, length, IfOk, IfSome, IfNone, IsTrue, false};
+ghost use Rattle.std.specs.Prelude.{◌≡◌, ℕ, ◌<◌, ◌≤◌, ◌↔◌, ◌/◌, ◌%◌, Contains, length, slice_index, IfOk, IfSome, IfNone, IsTrue, false};
 ghost use Rattle.std.specs.Int.{bit_at};
 ghost use Rattle.rbg_rules.specs.Games.{IsGame};
 ghost use Rattle.rbg_rules.specs.Laws.{IsStart};
@@ -9,7 +9,7 @@ ghost use Rattle.rbg_rules.specs.Words.{Start};
 ghost use Rattle.rbg_leaps.specs.Leaps.{IsLeap, EndsAcross};
 ghost use Rattle.rbg_leaps.specs.Made.{AreLeapsOf};
 ghost use Rattle.rbg_leaps.specs.Origin.{start_of};
-ghost use Rattle.rbg_flat.specs.Candidates.{MayEnd};
+ghost use Rattle.rbg_flat.specs.Candidates.{IsCandidate, MayEnd};
 ghost use Rattle.rbg_flat.specs.Chains.{Holds, IsMet};
 ghost use Rattle.rbg_flat.specs.internal.Begun.{IsBegun};
 ghost use Rattle.rbg_flat.specs.internal.Sets.{Meets, IsMarked, IsOpen, weight};
@@ -137,6 +137,25 @@ impl Flat {
             → ((v p : ℕ) → ¬ IsOpen self.now.sets v p) → IsTrue result ↔ MayEnd game s f }
     {
         self.ends
+    }
+
+    /// The positions that may come next, each once, and maybe others.
+    pub fn positions(&self) -> &[Position]
+        ensures { (v p : ℕ) → IsMarked self.now.sets v p → Contains result.now p }
+    {
+        self.sets.touched()
+    }
+
+    /// The row of a position: the vertices at which it may come next, once nothing is left to be looked at.
+    pub fn row(&self, position: Position) -> &[u64]
+        requires { position < self.now.sets.size }
+        ensures { (game : AbstractGame) (s : AbstractState) (f : Start) → IsNumbered game.rules
+            → IsBegun game s f (IsMarked self.now.sets) (IsOpen self.now.sets) self.now.ends
+            → ((v p : ℕ) → ¬ IsOpen self.now.sets v p) → (v : ℕ)
+            → (bit_at (slice_index result.now (v / 64)) (v % 64) ≡ 1)
+            ↔ IsCandidate game s f v position }
+    {
+        self.sets.row(position)
     }
 
     /// Leads on from a place in the rules and a vertex: meets where leaps lead from there.

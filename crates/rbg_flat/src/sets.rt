@@ -1,5 +1,5 @@
 //! Sets of vertices for each position: what was met, and what of it is still to be looked at.
-ghost use Rattle.std.specs.Prelude.{◌≡◌, ℕ, ◌<◌, ◌≤◌, ◌+◌, ◌-◌, ◌*◌, ◌^◌, ◌⊎◌, [], length, take, slice_index, slice_set, bit_or, bit_and, Contains, IfOk, IfSome, IfNone, true};
+ghost use Rattle.std.specs.Prelude.{◌≡◌, ℕ, ◌<◌, ◌≤◌, ◌+◌, ◌-◌, ◌/◌, ◌%◌, ◌↔◌, ◌*◌, ◌^◌, ◌⊎◌, [], length, take, slice_index, slice_set, bit_or, bit_and, Contains, IfOk, IfSome, IfNone, true};
 ghost use Rattle.std.specs.Int.{bit_at, bit_not, w64};
 ghost use Rattle.rbg_flat.specs.internal.Sets.{MeetsWord, Meets, IsInRow, ClosesWord, IsMarked, IsOpen, IsLastOf, weight};
 
@@ -86,6 +86,23 @@ impl Sets {
         clear_row(&mut self.marks, start, self.columns);
         clear_row(&mut self.pending, start, self.columns);
         self.touched.take_last();
+    }
+
+    /// The positions at which something was met, and maybe others.
+    pub(crate) fn touched(&self) -> &[Position]
+        ensures { (v p : ℕ) → IsMarked self.now v p → Contains result.now p }
+    {
+        self.touched.as_slice()
+    }
+
+    /// The row of a position: the vertices at which it was met.
+    pub(crate) fn row(&self, position: Position) -> &[u64]
+        requires { position < self.now.size }
+        ensures { (v : ℕ) → (bit_at (slice_index result.now (v / 64)) (v % 64) ≡ 1)
+            ↔ IsMarked self.now v position }
+    {
+        let start = position as usize * self.columns;
+        &self.marks[start..start + self.columns]
     }
 
     /// Where a word of the row of a position is.
