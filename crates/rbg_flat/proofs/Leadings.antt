@@ -1,5 +1,5 @@
 -- Targets of leaps, one after another.
-use Rattle.std.proofs.Common.{◌≡◌, ℕ, ◌+◌, ◌/◌, ◌%◌, ◌<◌, ◌≤◌, ◌⊎◌, inl, inr, List, [], ◌∷◌, ◌++◌, Bool, true, length, get_or, take, refl, sym, ap, subst, ◌∙◌, arith}
+use Rattle.std.proofs.Common.{◌≡◌, ℕ, ◌+◌, ◌<◌, ◌⊎◌, inl, inr, List, [], ◌∷◌, ◌++◌, length, get_or, take, sym, subst, arith}
 use Rattle.std.specs.Prelude.{Contains}
 use Rattle.std.proofs.lemmas.List.{take_more}
 use Rattle.std.proofs.lemmas.List.Elements.{Contains-push, Contains-push_cases, Contains-append_left}
@@ -8,7 +8,7 @@ use Rattle.rbg_leaps.specs.declared.table.Target.{Target}
 use Rattle.rbg_leaps.specs.Asked.{row_of}
 use Rattle.rbg_flat.specs.internal.Sets.{SetsOfVertices, IsInRow, Meets}
 use Rattle.rbg_flat.specs.internal.Leading.{IsAmong}
-use Rattle.rbg_flat.proofs.Meetings.{meets_none, meets_both}
+use Rattle.rbg_flat.proofs.Meetings.{meets_both}
 
 pub none_among : (leaps : Leaps) (v p : ℕ) → ¬ IsAmong leaps [] v p
 none_among leaps v p among = no_index among.listed.0 among.listed.1

@@ -1,6 +1,6 @@
 -- What targets tell of leaps.
-use Rattle.std.proofs.Common.{◌≡◌, ℕ, ◌+◌, ◌*◌, ◌/◌, ◌%◌, ◌<◌, ◌≤◌, ◌⊎◌, inl, inr, List, [], ◌∷◌, ◌++◌, Bool, true, length, get_or, map, refl, sym, ap, subst, ◌∙◌, arith}
-use Rattle.std.specs.Prelude.{Contains, All, ◌==◌, ◌↔◌}
+use Rattle.std.proofs.Common.{◌≡◌, ℕ, ◌+◌, ◌/◌, ◌%◌, ◌<◌, ◌≤◌, ◌⊎◌, inl, inr, List, [], ◌∷◌, ◌++◌, true, length, get_or, map, sym, subst, ◌∙◌}
+use Rattle.std.specs.Prelude.{Contains, All, ◌↔◌}
 use Rattle.std.specs.Int.{bit_at}
 use Rattle.std.proofs.lemmas.Bool.Decides.{Decides-eqb}
 use Rattle.std.proofs.lemmas.List.Elements.{All-contains, Contains-get_or}
@@ -11,7 +11,7 @@ use Rattle.rbg_rules.specs.Words.{Start, after, Follows}
 use Rattle.rbg_rules.proofs.LocalityLemmas.{locality_law}
 use Rattle.rbg_leaps.specs.declared.asking.Leaps.{Leaps}
 use Rattle.rbg_leaps.specs.declared.table.Target.{Target}
-use Rattle.rbg_leaps.specs.Asked.{row_of, HasRow, AreTargetsFrom}
+use Rattle.rbg_leaps.specs.Asked.{row_of, AreTargetsFrom}
 use Rattle.rbg_board.specs.Graph.{IsClosed}
 use Rattle.rbg_rules.specs.Games.{IsGame}
 use Rattle.rbg_leaps.specs.Leaps.{IsLeap, Leads, stay, go}

@@ -11,7 +11,7 @@ use Rattle.std.specs.List.{sum_by}
 use Rattle.std.proofs.Math.Nat.{mul_comm}
 use native.Mathlib.Decide.{ℕ_discrete}
 use Rattle.std.proofs.lemmas.List.Elements.{Contains-push, Contains-append_left}
-use Rattle.rbg_flat.specs.internal.Sets.{SetsOfVertices, sets_of, HasBitAt, IsInWord, IsMarked, IsOpen, AreSets, MeetsWord, ClosesWord, IsLastOf}
+use Rattle.rbg_flat.specs.internal.Sets.{SetsOfVertices, sets_of, HasBitAt, IsInWord, AreSets, MeetsWord, ClosesWord, IsLastOf}
 use Rattle.rbg_flat.proofs.WordLemmas.{added_to, added_old, added_new, taken_of, taken_left, known_or_new, new_in_word, or_at_most, less_left, of_word}
 
 -- What a list has after a position was added.

@@ -1,10 +1,10 @@
 -- How a flat part that is being found goes on, and what it is in the end.
-use Rattle.std.proofs.Common.{◌≡◌, ℕ, ◌⊎◌, inl, inr, Bool, true, false, refl}
-use Rattle.std.specs.Prelude.{◌↔◌, Decides}
+use Rattle.std.proofs.Common.{◌≡◌, ℕ, ◌⊎◌, inl, inr, Bool, true}
+use Rattle.std.specs.Prelude.{◌↔◌}
 use Rattle.rbg_rules.specs.Words.{Start, after}
 use Rattle.rbg_rules.specs.State.{AbstractGame, AbstractState}
 use Rattle.rbg_leaps.specs.Leaps.{IsLeap, EndsAcross}
-use Rattle.rbg_flat.specs.Chains.{Holds, IsMet, first, then, EndsBehind, EndsMet}
+use Rattle.rbg_flat.specs.Chains.{Holds, IsMet, first, then, EndsMet}
 use Rattle.rbg_flat.specs.internal.Begun.{Pairs, IsBegun, IsLedOn, Marks, Closes}
 
 module _ (game : AbstractGame) (s : AbstractState) (f : Start) where

@@ -1,8 +1,8 @@
 -- How a flat part that is being found goes on by the sets that hold it.
-use Rattle.std.proofs.Common.{◌≡◌, ℕ, ◌+◌, ◌*◌, ◌/◌, ◌%◌, ◌<◌, ◌≤◌, ◌⊎◌, inl, inr, List, Bool, true, false, get_or, refl, sym, ap, subst, ◌∙◌, arith}
+use Rattle.std.proofs.Common.{◌≡◌, ℕ, ◌+◌, ◌*◌, ◌/◌, ◌%◌, ◌<◌, ◌≤◌, ◌⊎◌, inl, inr, List, Bool, true, false, get_or, refl, sym, subst, arith}
 use Rattle.std.specs.Int.{bit_at}
 use native.Mathlib.Decide.{ℕ_discrete}
-use Rattle.rbg_rules.specs.Expression.{AbstractAction, shift, on, off, assignment, comparison, switch, positive, negative, Expression}
+use Rattle.rbg_rules.specs.Expression.{shift, on, off, assignment, comparison, switch, positive, negative, Expression}
 use Rattle.rbg_rules.specs.Laws.{IsStart}
 use Rattle.rbg_rules.specs.Table.{Stands}
 use Rattle.rbg_rules.specs.Translation.{arithmetic_of}
@@ -13,8 +13,8 @@ use Rattle.rbg_rules.specs.Positions.{IsModifierAt, IsNumbered}
 use Rattle.rbg_rules.specs.State.{AbstractGame, AbstractState}
 use Rattle.rbg_rules.specs.Words.{Start, after}
 use Rattle.rbg_leaps.specs.Leaps.{IsShiftAt, IsLeap, EndsAcross}
-use Rattle.rbg_flat.specs.Chains.{Holds, IsMet, first, then, EndsBehind, EndsMet}
-use Rattle.rbg_flat.specs.internal.Begun.{IsBegun, IsLedOn, Marks, Closes}
+use Rattle.rbg_flat.specs.Chains.{Holds, IsMet, first, then, EndsMet}
+use Rattle.rbg_flat.specs.internal.Begun.{IsBegun, IsLedOn, Marks}
 use Rattle.rbg_flat.specs.internal.Leading.{LearnsEnd}
 use Rattle.rbg_flat.specs.internal.Sets.{SetsOfVertices, IsMarked, IsOpen, IsInWord, Meets, ClosesWord, HasBitAt, weight}
 use Rattle.rbg_rules.specs.Actions.{Applies}

@@ -1,5 +1,5 @@
 -- Candidates by leaps: what holds where a leap ends leads on to the next leap.
-use Rattle.std.specs.Prelude.{◌≡◌, ◌⊎◌, ◌↔◌, ℕ}
+use Rattle.std.specs.Prelude.{◌⊎◌, ◌↔◌, ℕ}
 use Rattle.rbg_rules.specs.Positions.{IsNumbered, IsModifierAt}
 use Rattle.rbg_rules.specs.Words.{Start, after}
 use Rattle.rbg_rules.specs.State.{AbstractGame, AbstractState}

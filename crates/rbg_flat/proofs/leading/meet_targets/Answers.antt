@@ -1,10 +1,9 @@
-use Rattle.std.proofs.Common.{◌≡◌, ℕ, ◌+◌, ◌<◌, List, length, get_or, take, subst}
-use Rattle.std.specs.Prelude.{All}
+use Rattle.std.proofs.Common.{ℕ, List, subst}
 use Rattle.std.proofs.lemmas.List.{take_all}
 use Rattle.rbg_rules.specs.Positions.{IsModifierAt}
 use Rattle.rbg_leaps.specs.declared.table.Target.{Target}
 use Rattle.rbg_flat.specs.internal.Sets.{Meets}
-use Rattle.rbg_flat.specs.internal.Leading.{IsAmong, IsTargetFor}
+use Rattle.rbg_flat.specs.internal.Leading.{IsAmong}
 use Rattle.rbg_flat.proofs.Leadings.{meets_target_more}
 use Rattle.rbg_flat.proofs.leading.meet_targets.Goals as goal
 

@@ -1,6 +1,5 @@
-use Rattle.std.proofs.Common.{◌≡◌, ℕ, ◌⊎◌, inl, inr}
-use Rattle.std.specs.Prelude.{bit_and}
-use Rattle.std.specs.Int.{bit_at, bit_not, w64}
+use Rattle.std.proofs.Common.{◌⊎◌, inl, inr}
+use Rattle.std.specs.Int.{bit_not, w64}
 use Rattle.rbg_flat.proofs.WordLemmas.{bit_of_first, left_or_taken, new_sum, new_fits}
 use Rattle.rbg_flat.proofs.sets.new_of.Goals as goal
 

@@ -1,5 +1,4 @@
 -- What was found so far is right.
-use Rattle.std.proofs.Common.{◌≡◌}
 use Rattle.rbg_rules.specs.Words.{Start}
 use Rattle.rbg_flat.specs.internal.Begun.{IsBegun}
 use Rattle.rbg_flat.specs.internal.Leading.{AreSizedFor, AreOn}

@@ -1,4 +1,3 @@
-use Rattle.std.proofs.Common.{ℕ}
 use Rattle.rbg_flat.proofs.Takings.{dropped}
 use Rattle.rbg_flat.proofs.flat.Flat.drop_one.Goals as goal
 

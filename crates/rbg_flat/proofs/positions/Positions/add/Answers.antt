@@ -1,5 +1,4 @@
-use Rattle.std.proofs.Common.{◌≡◌, ℕ, ◌+◌, ◌<◌, List, [], ◌∷◌, ◌++◌, Bool, true, false, length, get_or, take, slice_set, inl, inr, refl, sym, ◌∙◌, subst}
-use Rattle.std.specs.Prelude.{Contains}
+use Rattle.std.proofs.Common.{ℕ, ◌<◌, List, Bool, false, length, inl, inr, refl, sym, ◌∙◌, subst}
 use Rattle.std.proofs.lemmas.List.{get_or_read}
 use Rattle.rbg_flat.proofs.Listings.{has_room, grown, listed_more, not_listed, is_listed}
 use Rattle.rbg_flat.proofs.positions.Positions.add.Goals as goal

@@ -1,5 +1,5 @@
-use Rattle.std.proofs.Common.{◌≡◌, ℕ, ◌-◌, ◌<◌, List, length, get_or, take, sym, ◌∙◌, subst, arith}
-use Rattle.std.specs.Prelude.{Contains, Bool}
+use Rattle.std.proofs.Common.{ℕ, ◌-◌, ◌<◌, List, take, sym, subst, arith}
+use Rattle.std.specs.Prelude.{Contains}
 use Rattle.std.proofs.lemmas.List.{get_or_read}
 use Rattle.rbg_flat.proofs.Listings.{last_listed, index_within}
 use Rattle.rbg_flat.proofs.positions.Positions.last.Goals as goal

@@ -1,4 +1,4 @@
-use Rattle.std.proofs.Common.{◌≡◌, ℕ, ◌-◌, ◌<◌, ◌≤◌, List, Bool, false, length, get_or, take, slice_set, sym, ◌∙◌, subst, arith}
+use Rattle.std.proofs.Common.{ℕ, ◌-◌, ◌<◌, List, Bool, false, length, take, slice_set, sym, subst, arith}
 use Rattle.std.proofs.lemmas.List.{get_or_read, length-take-le}
 use Rattle.rbg_flat.specs.internal.Sets.{AreListed}
 use Rattle.rbg_flat.proofs.Listings.{listed_less, index_within}

@@ -1,4 +1,4 @@
-use Rattle.std.proofs.Common.{◌≡◌, ℕ, ◌-◌, List, length, take, sym, ◌∙◌, subst}
+use Rattle.std.proofs.Common.{ℕ, List, sym, ◌∙◌, subst}
 use Rattle.rbg_flat.specs.internal.Sets.{AreSets, sets_of, IsLastOf}
 use Rattle.rbg_flat.proofs.SetLemmas.{sets_forgotten}
 use Rattle.rbg_flat.proofs.sets.Sets.forget.Goals as goal

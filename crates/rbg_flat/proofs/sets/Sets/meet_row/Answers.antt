@@ -1,4 +1,4 @@
-use Rattle.std.proofs.Common.{◌≡◌, ℕ, ◌+◌, ◌<◌, ◌≤◌, List, [], Bool, true, length, get_or, take, sym, subst, arith}
+use Rattle.std.proofs.Common.{◌≡◌, ℕ, ◌<◌, List, [], true, sym, subst, arith}
 use Rattle.std.proofs.lemmas.List.{take_all}
 use Rattle.rbg_flat.specs.internal.Sets.{IsInRow, Meets}
 use Rattle.rbg_flat.proofs.Meetings.{meets_none, empty_row, meets_more}

@@ -1,8 +1,7 @@
-use Rattle.std.proofs.Common.{◌≡◌, ℕ, ◌+◌, ◌*◌, ◌<◌, ◌⊎◌, List, Bool, true, false, length, get_or, sym, ◌∙◌, subst}
+use Rattle.std.proofs.Common.{◌≡◌, ℕ, ◌+◌, ◌*◌, ◌<◌, ◌⊎◌, List, length, get_or, ◌∙◌, subst}
 use Rattle.std.specs.Int.{bit_at}
 use Rattle.std.specs.Prelude.{bit_or, ◌^◌}
 use Rattle.std.proofs.lemmas.List.{get_or_read}
-use Rattle.rbg_flat.specs.internal.Sets.{MeetsWord, sets_of}
 use Rattle.rbg_flat.proofs.SetLemmas.{meets_open, meets_closed, sets_open, sets_closed}
 use Rattle.rbg_flat.proofs.sets.Sets.meet_word.Goals as goal
 
