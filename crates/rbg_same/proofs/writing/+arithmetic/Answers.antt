@@ -1,0 +1,33 @@
+-- The marks behind those of the parts.
+use Rattle.std.proofs.Common.{◌≡◌, ℕ, List, ◌++◌, map, take, sym, ap, ◌∙◌, append_assoc, arith}
+use Rattle.std.proofs.lemmas.Result.{on_ok_weaker}
+use Rattle.std.specs.Prelude.{Box}
+use Rattle.std.specs.Global.{Global}
+use Rattle.rbg_rules.specs.Translation.{arithmetic_of, changed, operation_of}
+use Rattle.rbg_rules.specs.declared.arithmetic.Arithmetic.{Arithmetic}
+use Rattle.rbg_rules.specs.declared.arithmetic.Arithmetic.TheVariants.{Negated as NegatedNode}
+use Rattle.rbg_rules.proofs.Bridge.{arithmetic_of-Negated}
+use Rattle.rbg_same.specs.declared.kind.Kind.TheVariants.{Negated}
+use Rattle.rbg_same.specs.internal.Marks.{arithmetic_key, mark}
+use Rattle.rbg_same.proofs.Parts.{operations_more}
+use Rattle.rbg_same.proofs.writing.+arithmetic.Goals as goal
+
+negated_key : (a : Arithmetic) (inner : Box Arithmetic Global) (old middle new : List ℕ) → a ≡ NegatedNode inner →
+    (b : Arithmetic) → b ≡ inner.value → middle ≡ old ++ arithmetic_key (arithmetic_of b) → new ≡ middle ++ mark Negated 0 → new ≡ old ++ arithmetic_key (arithmetic_of a)
+negated_key a inner old middle new is b same first second =
+    second
+    ∙ (ap (λ xs. xs ++ mark Negated 0) first
+    ∙ (append_assoc old (arithmetic_key (arithmetic_of b)) (mark Negated 0)
+    ∙ (ap (λ (x : Arithmetic). old ++ (arithmetic_key (arithmetic_of x) ++ mark Negated 0)) same
+    ∙ (ap (λ e. old ++ arithmetic_key e) (sym (arithmetic_of-Negated inner))
+    ∙ ap (λ (x : Arithmetic). old ++ arithmetic_key (arithmetic_of x)) (sym is)))))
+
+pub put_arithmetic-returns-in_ok-put_arithmetic-in-Negated : goal.put_arithmetic-returns-in_ok-put_arithmetic-in-Negated
+put_arithmetic-returns-in_ok-put_arithmetic-in-Negated t c =
+    on_ok_weaker _ (negated_key _ c.in-Negated.inner _ _ _ c.in-Negated.is _ c.deref.ensures c.in_ok-put_arithmetic-in-Negated.ensures) c.put-in-Negated.ensures
+
+pub put_operations-loop-operation-preserved : goal.put_operations-loop-operation-preserved
+put_operations-loop-operation-preserved t c = λ before first is.
+    c.in_ok-put_operator.ensures before (changed first (map operation_of (take c.loop-operation.operation-index c.args.operations.now))) (arithmetic_of c.operation-item.result.operand)
+    (c.in_ok-put_arithmetic.ensures ∙ ap (λ xs. xs ++ arithmetic_key (arithmetic_of c.operation-item.result.operand)) (c.loop-operation.invariant before first is))
+    ∙ ap (λ e. before ++ arithmetic_key e) (sym (operations_more first c.args.operations.now c.loop-operation.operation-index _ (omega arith) c.operation-item.is))

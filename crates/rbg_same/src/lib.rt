@@ -1,0 +1,11 @@
+//! Two games, compared.
+#![tactic(auto)]
+
+mod board;
+mod comparing;
+mod kind;
+mod names;
+mod rules;
+mod writing;
+
+pub use comparing::is_game_with;
