@@ -7,15 +7,13 @@ as the match goes as the record says. If a move is refused, it says so and stops
 """
 
 import argparse
-import itertools
 import random
 import socket
-import statistics
 import sys
 import tempfile
-import time
 
 from rbg_rules import Refused, Rules
+from rbg_thinker import Thinker
 
 
 class Stream:
@@ -111,27 +109,6 @@ class Follower:
             return None
         self.has_said = True
         return self.choose(self.rules)
-
-
-class Thinker:
-    """Chooses by playouts: each legal move in turn is played on by chance, until the time is over."""
-
-    def __init__(self, think_ms, chance):
-        self.seconds = think_ms / 1000
-        self.chance = chance
-
-    def __call__(self, rules):
-        end = time.monotonic() + self.seconds
-        player, moves = rules.player, rules.moves()
-        scores = {move: [] for move in moves}
-        for move in itertools.cycle(moves):
-            rules.make(move)
-            [(ending, _)] = rules.playouts(self.chance.getrandbits(63))
-            scores[move].append(ending[player - 1] if ending else 0)
-            rules.back()
-            if time.monotonic() >= end:
-                break
-        return max((move for move in moves if scores[move]), key=lambda move: statistics.mean(scores[move]))
 
 
 class Recorded:
