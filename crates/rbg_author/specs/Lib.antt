@@ -1,2 +1,3 @@
--- What the program for authors prints.
-pub mod Printing
+-- What words ask for, and what the program does then.
+pub mod Words
+pub mod Runs

@@ -2,15 +2,11 @@
 //! the board looks after each move of a match, the page of a match, and the description of a place.
 #![tactic(auto)]
 
-mod explained;
-mod listing;
-mod paged;
 mod perft;
-mod positioned;
 mod program;
-mod reading;
 mod report;
-mod shown;
+mod words;
 
 pub use program::run;
-pub use report::{Report, print};
+pub use rbg_reports::Report;
+pub use report::print;

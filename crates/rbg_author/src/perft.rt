@@ -1,9 +1,9 @@
 //! What `perft` prints of a game: how many sequences of moves it has.
 
-use crate::report::Report;
 use rbg_console::{Status, write_text};
 use rbg_game::Game;
 use rbg_perft::{CountError, Counts, PlayedGame, Workspace, count_from_start};
+use rbg_reports::Report;
 use std::alloc::{AllocError, Global};
 use std::io::Write;
 

@@ -1,14 +1,16 @@
 //! What the author's program does with its words and the file that they name.
+ghost use Rattle.std.specs.Prelude.{map, string_bytes};
+ghost use Rattle.rbg_reports.specs.Reports.{IsReport};
+ghost use Rattle.rbg_reports.specs.Wishes.{Wish as AbstractWish, wish_of};
+ghost use Rattle.rbg_author.specs.Runs.{IsRunFor};
+ghost use Rattle.rbg_author.specs.Words.{Asks};
 
-use crate::explained::{Lists, check_file, explain_file};
-use crate::paged::page_file;
 use crate::perft::perft;
-use crate::positioned::position_file;
-use crate::reading::{Read, read_game};
-use crate::report::{Report, print};
-use crate::shown::show_file;
+use crate::report::{print, print_memory, print_report};
+use crate::words::wished_by;
 use clap::{Arg, ArgAction, ArgMatches, Command};
 use rbg_console::{Files, Status, WordsError, file_argument, match_words};
+use rbg_reports::{Lists, Read, Report, Wish, fulfil, read_game};
 use std::alloc::{AllocError, Global};
 use std::io::{self, Write};
 
@@ -18,6 +20,43 @@ const USUAL_DEPTH: u8 = 3;
 /// Runs the program: reads the file that its words name, and its input where they ask for it, writes what is said, and
 /// returns the status.
 pub fn run<F: Files, R: io::Read, W: Write>(
+    alloc: Global,
+    words: &[String],
+    files: &mut F,
+    input: &mut R,
+    output: &mut W,
+) -> Status
+    ensures { (wish : AbstractWish) → Asks (map string_bytes words.now) wish →
+        IsRunFor wish (F.told files.old)
+        (R.remaining input.old) (R.remaining input.new)
+        (W.contents output.old) (W.contents output.new) result }
+{
+    match wished_by(words) {
+        Some(wish) => run_wish(alloc, wish, files, input, output),
+        None => run_command(alloc, words, files, input, output),
+    }
+}
+
+/// Prints what is wished for.
+fn run_wish<F: Files, R: io::Read, W: Write>(
+    alloc: Global,
+    wish: Wish<'_>,
+    files: &mut F,
+    input: &mut R,
+    output: &mut W,
+) -> Status
+    ensures { IsRunFor (wish_of wish) (F.told files.old)
+        (R.remaining input.old) (R.remaining input.new)
+        (W.contents output.old) (W.contents output.new) result }
+{
+    match fulfil(alloc, wish, files, input) {
+        Ok(report) => print_report(output, &report),
+        Err(_) => print_memory(output),
+    }
+}
+
+/// Runs what the command line asks for.
+fn run_command<F: Files, R: io::Read, W: Write>(
     alloc: Global,
     words: &[String],
     files: &mut F,
@@ -43,24 +82,32 @@ fn obey<F: Files, R: io::Read, W: Write>(
             let depth = words.get_one::<u8>("DEPTH").unwrap_or(USUAL_DEPTH);
             Ok(perft_file(alloc, files, file_of(words), depth, output)?)
         }
-        Some(("show", words)) => {
-            let only_last = words.get_flag("last");
-            Ok(show_file(alloc, files, file_of(words), input, only_last)?)
-        }
-        Some(("check", words)) => Ok(check_file(alloc, files, file_of(words))?),
-        Some(("page", words)) => Ok(page_file(alloc, files, file_of(words), input)?),
-        Some(("position", words)) => {
-            let record = words.get_str("RECORD").unwrap_or("");
-            Ok(position_file(alloc, files, file_of(words), record)?)
-        }
-        Some((_, words)) => {
-            let lists = Lists {
+        Some((command, words)) => Ok(fulfil(alloc, wish_in(command, words), files, input)?),
+        None => Ok(fulfil(alloc, Wish::Check { file: "" }, files, input)?),
+    }
+}
+
+/// What a command other than `perft` wishes for.
+fn wish_in<'a>(command: &str, words: &ArgMatches<'a>) -> Wish<'a> {
+    let file = file_of(words);
+    match command {
+        "show" => Wish::Show {
+            file,
+            only_last: words.get_flag("last"),
+        },
+        "check" => Wish::Check { file },
+        "page" => Wish::Page { file },
+        "position" => Wish::Position {
+            file,
+            other: words.get_str("RECORD").unwrap_or(""),
+        },
+        _ => Wish::Explain {
+            file,
+            lists: Lists {
                 vertices: words.get_flag("vertices"),
                 positions: words.get_flag("positions"),
-            };
-            Ok(explain_file(alloc, files, file_of(words), lists)?)
-        }
-        None => Ok(check_file(alloc, files, "")?),
+            },
+        },
     }
 }
 

@@ -1,2 +1,4 @@
 -- Lemmas, by topic.
-mod Values
+pub mod Faults
+pub mod Narrow
+pub mod Tokens

@@ -1,2 +1,5 @@
--- A place as a description.
+-- The description of a place: what the section of a board is, when a text is such a description, and why there is none.
+pub mod Boards
 pub mod Positions
+pub mod Refusals
+pub mod internal

@@ -1,18 +1,16 @@
--- The description of a place: that of a game with another board.
-use Rattle.std.specs.Prelude.{◌≡◌, ℕ, List, ◌++◌, codes, None}
+-- The description of a place to which a record leads: that of the same game, with the board as it stands there.
+use Rattle.std.specs.Prelude.{◌≡◌, ℕ, List, None}
 use Rattle.rbg_rules.specs.State.{AbstractGame, start_of}
 use Rattle.rbg_rules.specs.Moves.{AbstractPlace}
 use Rattle.rbg_moves.specs.Settling.{Settles}
 use Rattle.rbg_game.specs.Loading.{Loads}
 use Rattle.rbg_page.specs.Telling.{Told, IsTelling}
+use Rattle.rbg_same.specs.Same.{game_with}
+use Rattle.rbg_position.specs.Boards.{IsRewritten}
 
--- The new text is the old one with a section in place of a part.
-pub record IsRewritten (text section new : List ℕ) : Type 0 where
-  pub before : List ℕ
-  pub part : List ℕ
-  pub behind : List ℕ
-  pub old : text ≡ before ++ part ++ behind
-  pub is : new ≡ before ++ section ++ behind
+-- where play begins
+abbrev pub first_place : AbstractGame → AbstractPlace
+first_place game = record { state = start_of game; last = None }
 
 -- The same pieces stand at both places, the variables hold the same numbers, and the same player is to move.
 pub record StandAlike (here there : AbstractPlace) : Type 0 where
@@ -20,21 +18,26 @@ pub record StandAlike (here there : AbstractPlace) : Type 0 where
   pub values : here.state.values ≡ there.state.values
   pub player : here.state.player ≡ there.state.player
 
--- The game begins as play stands at the place: its first board has these pieces, and the keeper's first moves lead to
--- where all stands alike.
-pub record BeginsAt (game : AbstractGame) (place : AbstractPlace) : Type 0 where
-  pub first : game.board.first ≡ place.state.pieces
+-- The game begins as play stands at the place: the keeper's first moves lead to where all stands alike.
+pub record BeginsAs (game : AbstractGame) (place : AbstractPlace) : Type 0 where
   pub to : AbstractPlace
-  pub settles : Settles game (record { state = start_of game; last = None }) to
+  pub settles : Settles game (first_place game) to
   pub alike : StandAlike to place
 
--- The new text is the old one with another section in place of a part, and it describes a game that begins where the
--- record leads to, which is a right one of the old game.
+-- the game with the board as it stands at the place
+abbrev pub game_at : AbstractGame → AbstractPlace → AbstractGame
+game_at game place = game_with game place.state.pieces
+
+-- The new text is the old one with another section of its board. It describes the game with the board as it stands at
+-- the place, which begins as play stands there.
+pub record IsDescription (text : List ℕ) (game : AbstractGame) (place : AbstractPlace) (new : List ℕ) : Type 0 where
+  pub section : List ℕ
+  pub rewritten : IsRewritten text section new
+  pub loads : Loads new (game_at game place)
+  pub begins : BeginsAs (game_at game place) place
+
+-- The bytes are those of a right record of the game, and the new text is the description of the place to which it leads.
 pub record IsPosition (text : List ℕ) (game : AbstractGame) (bytes new : List ℕ) : Type 0 where
   pub told : Told
   pub tells : IsTelling game bytes told
-  pub section : List ℕ
-  pub rewritten : IsRewritten text section new
-  pub game' : AbstractGame
-  pub loads : Loads new game'
-  pub begins : BeginsAt game' told.place
+  pub describes : IsDescription text game told.place new

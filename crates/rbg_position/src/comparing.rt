@@ -1,71 +1,70 @@
-//! Places of two games, compared.
-ghost use Rattle.std.specs.Prelude.{◌≡◌, IfOk, length};
-ghost use Rattle.rbg_rules.specs.Places.{IsPlaceOf};
+//! Places, compared.
+ghost use Rattle.std.specs.Prelude.{◌≡◌, ◌<◌, ◌≤◌, IfErr, IfOk, Some, length, slice_get};
 ghost use Rattle.rbg_position.specs.Positions.{StandAlike};
+ghost use Rattle.rbg_position.specs.Refusals.{StandsOtherwise};
 
 use crate::error::PositionError;
-use rbg_base::Variable;
-use rbg_moves::{Place, PlayedGame};
+use rbg_base::{Piece, Player, Variable};
+use rbg_moves::Place;
 
-/// Whether at two places, each of its game, the same pieces stand, the variables hold the same, and the same player is
-/// to move.
-pub(crate) fn compare(
-    game: &PlayedGame,
-    here: &Place,
-    other: &PlayedGame,
-    there: &Place,
-) -> Result<(), PositionError>
-    requires here { IsPlaceOf game.now here.now }
-    requires there { IsPlaceOf other.now there.now }
-    ensures { IfOk result (λ _. StandAlike here.now there.now) }
+/// Whether at two places, of games with so many variables, the same pieces stand, the variables hold the same, and the
+/// same player is to move.
+pub(crate) fn compare(count: usize, at: &Place, place: &Place) -> Result<(), PositionError>
+    requires few { count ≤ 65536 }
+    requires here { length at.now.state.values ≡ count }
+    requires there { length place.now.state.values ≡ count }
+    ensures alike { IfOk result (λ _. StandAlike at.now place.now) }
+    ensures otherwise { IfErr result (StandsOtherwise at.now place.now) }
 {
-    if here.state.pieces() != there.state.pieces() {
+    if pieces_of(at) != pieces_of(place) {
         return Err(PositionError::Keeper);
     }
-    if here.state.player() != there.state.player() {
-        return Err(PositionError::Turn {
-            there: there.state.player(),
-            here: here.state.player(),
-        });
+    let here = player_of(at);
+    let there = player_of(place);
+    if here != there {
+        return Err(PositionError::Turn { there, here });
     }
-    compare_values(game, here, other, there)
+    compare_values(count, at, place)
 }
 
-fn compare_values(
-    game: &PlayedGame,
-    here: &Place,
-    other: &PlayedGame,
-    there: &Place,
-) -> Result<(), PositionError>
-    requires here { IsPlaceOf game.now here.now }
-    requires there { IsPlaceOf other.now there.now }
-    ensures { IfOk result (λ _. here.now.state.values ≡ there.now.state.values) }
+fn compare_values(count: usize, at: &Place, place: &Place) -> Result<(), PositionError>
+    requires few { count ≤ 65536 }
+    requires here { length at.now.state.values ≡ count }
+    requires there { length place.now.state.values ≡ count }
+    ensures alike { IfOk result (λ _. at.now.state.values ≡ place.now.state.values) }
+    ensures otherwise { IfErr result (StandsOtherwise at.now place.now) }
 {
-    let count = game.as_game().variables();
-    if count != other.as_game().variables() {
-        return Err(PositionError::Refused);
-    }
     for index in 0..count {
         let variable = index as Variable;
-        compare_value(
-            variable,
-            here.state.value(variable),
-            there.state.value(variable),
-        )?;
+        let here = value_of(at, variable);
+        let there = value_of(place, variable);
+        if here != there {
+            return Err(PositionError::Value {
+                variable,
+                there,
+                here,
+            });
+        }
     }
     Ok(())
 }
 
-fn compare_value(variable: Variable, here: u32, there: u32) -> Result<(), PositionError>
-    ensures { IfOk result (λ _. here ≡ there) }
+/// The pieces that stand on the vertices.
+pub(crate) fn pieces_of(place: &Place) -> &[Piece]
+    ensures { result.now ≡ place.now.state.pieces }
 {
-    if here == there {
-        Ok(())
-    } else {
-        Err(PositionError::Value {
-            variable,
-            there,
-            here,
-        })
-    }
+    place.state.pieces()
+}
+
+fn player_of(place: &Place) -> Player
+    ensures { result ≡ place.now.state.player }
+{
+    place.state.player()
+}
+
+fn value_of(place: &Place, variable: Variable) -> u32
+    requires { variable < length place.now.state.values }
+    ensures { slice_get place.now.state.values variable ≡ Some result }
+{
+    place.state.value(variable)
 }

@@ -3,7 +3,6 @@ ghost use Rattle.std.specs.Prelude.{◌≡◌};
 ghost use Rattle.rbg_position.specs.declared.error.PositionError.TheVariants.{Memory as OutOfMemory, Record};
 
 use rbg_base::{Memory, Player, Variable};
-use rbg_moves::Unsettled;
 use rbg_page::PageError;
 use thiserror::Error;
 
@@ -47,16 +46,6 @@ impl From<Memory> for PositionError {
 
     fn from(_memory: Memory) -> PositionError {
         PositionError::Memory
-    }
-}
-
-impl From<Unsettled> for PositionError {
-    fn from(unsettled: Unsettled) -> PositionError {
-        match unsettled {
-            Unsettled::Heavy => PositionError::Unsettled,
-            Unsettled::Endless => PositionError::Unsettled,
-            Unsettled::Memory => PositionError::Memory,
-        }
     }
 }
 

@@ -1,11 +1,12 @@
 //! A place as a description: the game with the board as it stands after the moves of a record.
 #![tactic(auto)]
 
+mod beginning;
 mod board;
 mod comparing;
 mod error;
 mod making;
-mod section;
+mod rewriting;
 
 pub use error::PositionError;
 pub use making::position;

@@ -1,46 +1,101 @@
-//! The part of a text that is the section of the board.
-ghost use Rattle.std.specs.Prelude.{◌≤◌, IfSome, length};
+//! The text with another section of its board.
+ghost use Rattle.std.specs.Prelude.{◌≡◌, ◌↔◌, ◌+◌, ◌<◌, ◌≤◌, ◌++◌, ℕ, IfNone, IfOk, IfSome, IsTrue, codes, drop, length, map, take, true};
+ghost use Rattle.rbg_tokens.specs.Kinds.{is_hash};
+ghost use Rattle.rbg_tokens.specs.Text.{HasTokens};
+ghost use Rattle.rbg_tokens.specs.Token.{lexeme_of};
+ghost use Rattle.rbg_position.specs.Boards.{BeginsBoard, HasNoBoard, IsBoardSection, IsRewritten};
 
-use rbg_tokens::{Symbol, Token};
+use rbg_base::Memory;
+use rbg_tokens::{Token, TokenKind, Tokens};
+use std::alloc::Global;
 
-/// A part of a text: from an offset up to another one.
-#[derive(Clone, Copy, Debug)]
-pub(crate) struct Span {
-    pub(crate) start: usize,
-    pub(crate) end: usize,
+/// The text with this section in place of that of its board, or None if it has no such section.
+pub(crate) fn rewritten(
+    alloc: Global,
+    text: &[u8],
+    tokens: &Tokens<'_>,
+    section: &[u8],
+) -> Result<Option<Vec<u8>>, Memory>
+    requires { HasTokens text.now tokens.now }
+    ensures found { IfOk result (λ new.
+        IfSome new (λ new. IsRewritten text.now section.now new.items)) }
+    ensures none { IfOk result (λ new. IfNone new (HasNoBoard text.now)) }
+{
+    let tokens = tokens.as_slice();
+    match find_board(tokens) {
+        Some(start) => {
+            let last = find_end(tokens, start) - 1;
+            let first = tokens[start].at;
+            let at = tokens[last].at;
+            let len = tokens[last].text.len();
+            let new = replaced(alloc, text, first, at, len, section)?;
+            Ok(Some(new))
+        }
+        None => Ok(None),
+    }
 }
 
-/// The part from the `#` of the board's section to the end of the last token before the next `#`.
-pub(crate) fn board_span(tokens: &[Token<'_>]) -> Option<Span> {
-    let start = board_start(tokens)?;
-    let definition = &tokens[start..];
-    let rest = definition.get(1..)?;
-    let count = match rest.iter().position(|token| token.is(Symbol::Hash)) {
-        Some(count) => count,
-        None => rest.len(),
-    };
-    let last = definition.get(count)?;
-    Some(Span {
-        start: definition.first()?.at,
-        end: last.at.checked_add(last.text.len())?,
-    })
+/// The text with this section in place of what stands from an offset to the end of the last token, which has its own
+/// offset and length.
+fn replaced(
+    alloc: Global,
+    text: &[u8],
+    first: usize,
+    last: usize,
+    len: usize,
+    section: &[u8],
+) -> Result<Vec<u8>, Memory>
+    ensures { IfOk result (λ new. new.items
+        ≡ take first text.now ++ section.now ++ drop (last + len) text.now) }
+{
+    let start = first.min(text.len());
+    let end = last.saturating_add(len).min(text.len());
+    let mut new = Vec::new(alloc);
+    new.extend_from_slice(&text[..start])?;
+    new.extend_from_slice(section)?;
+    new.extend_from_slice(&text[end..])?;
+    Ok(new)
 }
 
 /// The index of the `#` before the name of the board's section.
-fn board_start(tokens: &[Token<'_>]) -> Option<usize>
-    ensures { IfSome result (λ index. index ≤ length tokens.now) }
+fn find_board(tokens: &[Token<'_>]) -> Option<usize>
+    ensures found { IfSome result (BeginsBoard (map lexeme_of tokens.now)) }
+    ensures within { IfSome result (λ start. start + 2 ≤ length tokens.now) }
+    ensures none { IfNone result ((at : ℕ) → ¬ BeginsBoard (map lexeme_of tokens.now) at) }
 {
-    for index in 0..tokens.len() {
-        if is_board(&tokens[index..]) {
-            return Some(index);
+    for at in 0..tokens.len().saturating_sub(1) {
+        if begins_board(tokens, at) {
+            return Some(at);
         }
     }
     None
 }
 
-fn is_board(tokens: &[Token<'_>]) -> bool {
-    match tokens {
-        [hash, name, ..] => hash.is(Symbol::Hash) && name.text == b"board".as_slice(),
-        _ => false,
+/// Whether `#board` stands at an index.
+fn begins_board(tokens: &[Token<'_>], at: usize) -> bool
+    requires { at + 1 < length tokens.now }
+    ensures { IsTrue result ↔ BeginsBoard (map lexeme_of tokens.now) at }
+{
+    is_board(tokens[at].kind, tokens[at + 1].text)
+}
+
+/// Whether the kind is that of `#`, and the name is `board`.
+fn is_board(kind: TokenKind, name: &[u8]) -> bool
+    ensures { IsTrue result ↔ ((is_hash kind ≡ true) × (name.now ≡ codes "board")) }
+{
+    kind.is_hash() && name == b"board".as_slice()
+}
+
+/// The index of the next `#` behind `#board`, or the number of tokens if there is none.
+fn find_end(tokens: &[Token<'_>], start: usize) -> usize
+    requires begins { BeginsBoard (map lexeme_of tokens.now) start }
+    requires within { start + 2 ≤ length tokens.now }
+    ensures { IsBoardSection (map lexeme_of tokens.now) start result }
+{
+    for end in start + 2..tokens.len() {
+        if tokens[end].kind.is_hash() {
+            return end;
+        }
     }
+    tokens.len()
 }

@@ -1,8 +1,12 @@
 //! What `page` prints of a game and a record.
-ghost use Rattle.std.specs.Prelude.{IfOk, Some};
+ghost use Rattle.std.specs.Prelude.{List, ℕ, IfOk, Some};
 ghost use Rattle.std.specs.Option.{option_map};
+ghost use Rattle.rbg_console.specs.Files.{KnownFiles, MayBe};
 ghost use Rattle.rbg_page.specs.declared.error.PageError.TheVariants as errors;
-ghost use Rattle.rbg_author.specs.Printing.{PrintsPage, SaysRefused};
+ghost use Rattle.rbg_reports.specs.Printing.{PrintsPage, SaysRefused};
+ghost use Rattle.rbg_reports.specs.Reports.{IsReport};
+ghost use Rattle.rbg_reports.specs.Wishes.{page_of};
+ghost use Rattle.rbg_reports.specs.internal.Reading.{IsTextReport};
 
 use crate::reading::{Read, load_text, read_text, unreadable};
 use crate::report::Report;
@@ -13,33 +17,51 @@ use rbg_page::{PageError, page};
 use std::alloc::{AllocError, Global};
 use std::io;
 
-/// The page of the record that the input holds, of a match of the game that the file describes. Both are read before
-/// either is looked into.
+/// The page of the record that the input holds, of the game that the file describes. Both are read before either is
+/// looked into.
 pub(crate) fn page_file<F: Files, R: io::Read>(
     alloc: Global,
     files: &mut F,
     file: &str,
     input: &mut R,
-) -> Result<Report, AllocError> {
+) -> Result<Report, AllocError>
+    ensures { IfOk result (IsReport (F.told files.old)
+        (R.remaining input.old) (R.remaining input.new) (page_of file.now)) }
+{
     match read_text(alloc, files, file)? {
-        Read::Found(text) => match read_input(alloc, input, MAX_INPUT)? {
-            Input::Whole(record) => page_texts(alloc, file, &text, Some(record)),
-            Input::TooLong => page_texts(alloc, file, &text, None),
-            Input::Device => unreadable(alloc, "standard input"),
-        },
+        Read::Found(text) => page_input(alloc, file, &text, input),
         Read::Other(report) => Ok(report),
     }
 }
 
-/// The same of the texts. There is no record where it is too long.
+fn page_input<R: io::Read>(
+    alloc: Global,
+    file: &str,
+    text: &[u8],
+    input: &mut R,
+) -> Result<Report, AllocError>
+    ensures { (known : KnownFiles) → MayBe (known file.now) text.now → IfOk result (IsReport known
+        (R.remaining input.old) (R.remaining input.new) (page_of file.now)) }
+{
+    match read_input(alloc, input, MAX_INPUT)? {
+        Input::Whole(record) => page_texts(alloc, file, text, Some(record.as_slice())),
+        Input::TooLong => page_texts(alloc, file, text, None),
+        Input::Device => unreadable(alloc, "standard input"),
+    }
+}
+
+/// The page of a record, of the game of a text. There is no record where it is too long.
 fn page_texts(
     alloc: Global,
     file: &str,
     text: &[u8],
-    record: Option<Vec<u8>>,
-) -> Result<Report, AllocError> {
+    bytes: Option<&[u8]>,
+) -> Result<Report, AllocError>
+    ensures { IfOk result (IsTextReport
+        (λ game layout report. PrintsPage game layout (option_map (λ b. b.now) bytes) report) text.now) }
+{
     match load_text(alloc, file, text)? {
-        Read::Found(loaded) => page_record(alloc, loaded, record),
+        Read::Found(loaded) => page_record(alloc, loaded, bytes),
         Read::Other(report) => Ok(report),
     }
 }
@@ -47,18 +69,18 @@ fn page_texts(
 fn page_record(
     alloc: Global,
     loaded: LoadedGame,
-    bytes: Option<Vec<u8>>,
+    bytes: Option<&[u8]>,
 ) -> Result<Report, AllocError>
-    ensures { IfOk result (PrintsPage loaded.game loaded.layout (option_map (λ b. b.items) bytes)) }
+    ensures { IfOk result (PrintsPage loaded.game loaded.layout (option_map (λ b. b.now) bytes)) }
 {
     match bytes {
-        Some(bytes) => page_bytes(alloc, loaded, &bytes),
+        Some(bytes) => page_bytes(alloc, loaded, bytes),
         None => refused_whole(alloc),
     }
 }
 
 /// What is said of a record that is too long.
-fn refused_whole(alloc: Global) -> Result<Report, AllocError>
+pub(crate) fn refused_whole(alloc: Global) -> Result<Report, AllocError>
     ensures { IfOk result (SaysRefused (errors.Form 0)) }
 {
     refused(alloc, PageError::Form { line: 0 })

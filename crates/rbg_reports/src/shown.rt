@@ -1,6 +1,10 @@
 //! What `show` prints of a game and a list of moves.
-ghost use Rattle.std.specs.Prelude.{◌≡◌, IfOk};
-ghost use Rattle.rbg_author.specs.Printing.{PrintsShown, shown_status};
+ghost use Rattle.std.specs.Prelude.{◌≡◌, List, ℕ, IfOk};
+ghost use Rattle.rbg_console.specs.Files.{KnownFiles, MayBe};
+ghost use Rattle.rbg_reports.specs.Printing.{PrintsShown, shown_status};
+ghost use Rattle.rbg_reports.specs.Reports.{IsReport};
+ghost use Rattle.rbg_reports.specs.Wishes.{show_of};
+ghost use Rattle.rbg_reports.specs.internal.Reading.{IsTextReport};
 
 use crate::reading::{Read, load_text, read_text, unreadable};
 use crate::report::Report;
@@ -18,13 +22,30 @@ pub(crate) fn show_file<F: Files, R: io::Read>(
     file: &str,
     input: &mut R,
     only_last: bool,
-) -> Result<Report, AllocError> {
+) -> Result<Report, AllocError>
+    ensures { IfOk result (IsReport (F.told files.old)
+        (R.remaining input.old) (R.remaining input.new) (show_of file.now)) }
+{
     match read_text(alloc, files, file)? {
-        Read::Found(text) => match read_input(alloc, input, MAX_INPUT)? {
-            Input::Whole(moves) => show_moves(alloc, file, &text, &moves, only_last),
-            Input::TooLong | Input::Device => unreadable(alloc, "standard input"),
-        },
+        Read::Found(text) => show_input(alloc, file, &text, input, only_last),
         Read::Other(report) => Ok(report),
+    }
+}
+
+fn show_input<R: io::Read>(
+    alloc: Global,
+    file: &str,
+    text: &[u8],
+    input: &mut R,
+    only_last: bool,
+) -> Result<Report, AllocError>
+    ensures { (known : KnownFiles) → MayBe (known file.now) text.now → IfOk result (IsReport known
+        (R.remaining input.old) (R.remaining input.new) (show_of file.now)) }
+{
+    match read_input(alloc, input, MAX_INPUT)? {
+        Input::Whole(moves) => show_moves(alloc, file, text, &moves, only_last),
+        Input::TooLong => unreadable(alloc, "standard input"),
+        Input::Device => unreadable(alloc, "standard input"),
     }
 }
 
@@ -34,7 +55,10 @@ fn show_moves(
     text: &[u8],
     moves: &[u8],
     only_last: bool,
-) -> Result<Report, AllocError> {
+) -> Result<Report, AllocError>
+    ensures { IfOk result (IsTextReport
+        (λ game layout report. PrintsShown game moves.now report) text.now) }
+{
     match load_text(alloc, file, text)? {
         Read::Found(loaded) => show_loaded(alloc, &loaded, moves, only_last),
         Read::Other(report) => Ok(report),

@@ -1,0 +1,34 @@
+-- What a refusal says.
+use Rattle.std.proofs.Common.{◌≡◌, ◌≢◌, ℕ, List, Bool, true, false, not, sym, subst}
+use Rattle.std.specs.Prelude.{Result, Ok, Err, IfErr, bytes_eq}
+use Rattle.std.specs.Result.{IsErrAnd}
+use Rattle.std.proofs.lemmas.Slice.Eq.{bytes_eq-Decides}
+use Rattle.rbg_rules.specs.State.{AbstractGame}
+use Rattle.rbg_rules.specs.Moves.{AbstractPlace}
+use Rattle.rbg_moves.specs.Settling.{MeetsHeavy, IsEndless}
+use Rattle.rbg_moves.specs.declared.unsettled.Unsettled.{Unsettled}
+use Rattle.rbg_moves.specs.declared.unsettled.Unsettled.TheVariants.{Heavy, Endless, Memory}
+use Rattle.rbg_position.specs.Refusals.{IsUnsettled}
+use Rattle.rbg_position.specs.Refusals.IsUnsettled.{heavy, endless, no_memory}
+use Rattle.rbg_position.specs.declared.error.PositionError.{PositionError}
+use Rattle.rbg_position.specs.internal.Texts.{error_of}
+
+-- An error that is passed on.
+pub passed_on : {T : Type 0} (result : Result T PositionError) (error : PositionError) (P : PositionError → Type 0) → IsErrAnd result (λ e. e ≡ error) → P error → IfErr result P
+passed_on (Ok x) error P is p = absurd is
+passed_on (Err e) error P is p = subst P (sym is) p
+
+differ : (t : Bool) → true ≡ not t → t ≡ true → ⊥
+differ true test here = let apart : true ≡ false = test in cc
+differ false test here = cc
+
+-- texts that differ
+pub differ_text : (a b : List ℕ) → true ≡ not (bytes_eq a b) → a ≢ b
+differ_text a b test same = differ (bytes_eq a b) test ((bytes_eq-Decides a b).1 same)
+
+-- why the keeper's moves lead to no place
+pub unsettled_as : {T : Type 0} (game : AbstractGame) (place : AbstractPlace) (result : Result T Unsettled) (why : Unsettled) (error : PositionError) → result ≡ Err why → error ≡ error_of why
+    → (result ≡ Err Heavy → MeetsHeavy game place) → (result ≡ Err Endless → IsEndless game place) → IsUnsettled game place error
+unsettled_as game place result Heavy error is told was was_endless = subst (IsUnsettled game place) (sym told) (heavy (was is))
+unsettled_as game place result Endless error is told was was_endless = subst (IsUnsettled game place) (sym told) (endless (was_endless is))
+unsettled_as game place result Memory error is told was was_endless = subst (IsUnsettled game place) (sym told) no_memory

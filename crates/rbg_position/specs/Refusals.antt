@@ -1,0 +1,61 @@
+-- Why there is no description of a place.
+use Rattle.std.specs.Prelude.{◌≡◌, ◌≢◌, ℕ, List, slice_get, Some}
+use Rattle.rbg_rules.specs.State.{AbstractGame}
+use Rattle.rbg_rules.specs.Moves.{AbstractPlace}
+use Rattle.rbg_moves.specs.Settling.{Settles, MeetsHeavy, IsEndless}
+use Rattle.rbg_game.specs.Loading.{Loads}
+use Rattle.rbg_page.specs.Pages.{IsRefused}
+use Rattle.rbg_page.specs.Telling.{Told, IsTelling}
+use Rattle.rbg_page.specs.declared.error.PageError.{PageError}
+use Rattle.rbg_position.specs.Boards.{IsRewritten, HasNoBoard}
+use Rattle.rbg_position.specs.Positions.{first_place, game_at}
+use Rattle.rbg_position.specs.declared.error.PositionError.{PositionError}
+use Rattle.rbg_position.specs.declared.error.PositionError.TheVariants.{Record, Value, Turn, Keeper, Unsettled, Refused, Memory}
+
+-- The variable holds one number at one place, and another one at the other.
+pub record HoldsOther (variable here there : ℕ) (at place : AbstractPlace) : Type 0 where
+  pub at_here : slice_get at.state.values variable ≡ Some here
+  pub at_there : slice_get place.state.values variable ≡ Some there
+  pub other : here ≢ there
+
+-- How a place stands otherwise than another one: other pieces stand on the board, or another player is to move, or a
+-- variable holds another number.
+pub data StandsOtherwise (at place : AbstractPlace) : PositionError → Type 0 where
+  pieces : at.state.pieces ≢ place.state.pieces → StandsOtherwise at place Keeper
+  player : {here there : ℕ} →
+      at.state.player ≡ here → place.state.player ≡ there → here ≢ there → StandsOtherwise at place (Turn there here)
+  value : {variable here there : ℕ} →
+      HoldsOther variable here there at place → StandsOtherwise at place (Value variable there here)
+
+-- The keeper's moves from a place lead to none where play could go on: a question about them is above the limits, or they
+-- don't end.
+pub data IsUnsettled (game : AbstractGame) (place : AbstractPlace) : PositionError → Type 0 where
+  heavy : MeetsHeavy game place → IsUnsettled game place Unsettled
+  endless : IsEndless game place → IsUnsettled game place Unsettled
+  no_memory : IsUnsettled game place Memory
+
+-- Why a game doesn't begin as play stands at the place.
+--   otherwise: the keeper's first moves lead to where something stands otherwise.
+--   unsettled: they lead to no place where play could begin.
+pub data BeginsOtherwise (game : AbstractGame) (place : AbstractPlace) : PositionError → Type 0 where
+  otherwise : {at : AbstractPlace} {error : PositionError} →
+      Settles game (first_place game) at → StandsOtherwise at place error → BeginsOtherwise game place error
+  unsettled : {error : PositionError} → IsUnsettled game (first_place game) error → BeginsOtherwise game place error
+
+-- Why there is no description of the place.
+--   no_board: the text has no section of a board.
+--   refused: the text with another section of its board doesn't describe the game with the board as it stands.
+--   otherwise: that game doesn't begin as play stands at the place.
+pub data IsUndescribed (text : List ℕ) (game : AbstractGame) (place : AbstractPlace) : PositionError → Type 0 where
+  no_board : HasNoBoard text → IsUndescribed text game place Refused
+  refused : {section new : List ℕ} →
+      IsRewritten text section new → ¬ Loads new (game_at game place) → IsUndescribed text game place Refused
+  otherwise : {error : PositionError} →
+      BeginsOtherwise (game_at game place) place error → IsUndescribed text game place error
+
+-- Why there is no description of the place to which a record leads: the record isn't right, or the place has none.
+pub data IsNoPosition (text : List ℕ) (game : AbstractGame) (bytes : List ℕ) : PositionError → Type 0 where
+  wrong : {error : PageError} → IsRefused game bytes error → IsNoPosition text game bytes (Record error)
+  undescribed : {told : Told} {error : PositionError} →
+      IsTelling game bytes told →
+      IsUndescribed text game told.place error → IsNoPosition text game bytes error

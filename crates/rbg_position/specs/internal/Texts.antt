@@ -1,0 +1,26 @@
+-- Why a new text is no description.
+use Rattle.std.specs.Prelude.{ℕ, List}
+use Rattle.rbg_rules.specs.State.{AbstractGame}
+use Rattle.rbg_rules.specs.Moves.{AbstractPlace}
+use Rattle.rbg_moves.specs.declared.unsettled.Unsettled.{Unsettled as Why}
+use Rattle.rbg_moves.specs.declared.unsettled.Unsettled.TheVariants as whys
+use Rattle.rbg_game.specs.Loading.{Loads}
+use Rattle.rbg_position.specs.Refusals.{BeginsOtherwise}
+use Rattle.rbg_position.specs.declared.error.PositionError.{PositionError}
+use Rattle.rbg_position.specs.declared.error.PositionError.TheVariants.{Unsettled, Refused, Memory}
+
+-- The text is no description of the game, or memory ran out.
+pub data IsNoText (text : List ℕ) (game : AbstractGame) : PositionError → Type 0 where
+  refused : ¬ Loads text game → IsNoText text game Refused
+  no_memory : IsNoText text game Memory
+
+-- It is none, or the game begins otherwise than play stands at the place.
+pub data IsNoBeginning (text : List ℕ) (game : AbstractGame) (place : AbstractPlace) : PositionError → Type 0 where
+  no_text : {error : PositionError} → IsNoText text game error → IsNoBeginning text game place error
+  otherwise : {error : PositionError} → BeginsOtherwise game place error → IsNoBeginning text game place error
+
+-- the error where the keeper's moves lead to no place
+abbrev pub error_of : Why → PositionError
+error_of whys.Heavy = Unsettled
+error_of whys.Endless = Unsettled
+error_of whys.Memory = Memory
