@@ -55,7 +55,7 @@ pub record IsUnreadable (name : List ℕ) (report : Report) : Type 0 where
 --   explained: why the file describes no game.
 --   unreadable: that a file or standard input can't be read; of standard input too, that it is too long to be shown.
 pub data IsReport (known : KnownFiles) (unread left : Option (List ℕ)) (wish : Wish) (report : Report) : Type 0 where
-  printed : {text : List ℕ} {game : AbstractGame} {layout : Layout} {other : Option (List ℕ)} →
+  printed : {text : List ℕ} {game : AbstractGame} {layout : Layout} (other : Option (List ℕ)) →
       MayBe (known (file_of wish)) text →
       Loads text game →
       HasLayout text layout →

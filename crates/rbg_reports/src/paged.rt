@@ -1,6 +1,6 @@
 //! What `page` prints of a game and a record.
 ghost use Rattle.std.specs.Prelude.{List, ℕ, IfOk, Some};
-ghost use Rattle.std.specs.Option.{option_map};
+ghost use Rattle.std.specs.Prelude.{option_copied};
 ghost use Rattle.rbg_console.specs.Files.{KnownFiles, MayBe};
 ghost use Rattle.rbg_page.specs.declared.error.PageError.TheVariants as errors;
 ghost use Rattle.rbg_reports.specs.Printing.{PrintsPage, SaysRefused};
@@ -58,7 +58,7 @@ fn page_texts(
     bytes: Option<&[u8]>,
 ) -> Result<Report, AllocError>
     ensures { IfOk result (IsTextReport
-        (λ game layout report. PrintsPage game layout (option_map (λ b. b.now) bytes) report) text.now) }
+        (λ game layout report. PrintsPage game layout (option_copied bytes.entry) report) text.now) }
 {
     match load_text(alloc, file, text)? {
         Read::Found(loaded) => page_record(alloc, loaded, bytes),
@@ -71,7 +71,7 @@ fn page_record(
     loaded: LoadedGame,
     bytes: Option<&[u8]>,
 ) -> Result<Report, AllocError>
-    ensures { IfOk result (PrintsPage loaded.game loaded.layout (option_map (λ b. b.now) bytes)) }
+    ensures { IfOk result (PrintsPage loaded.game loaded.layout (option_copied bytes.entry)) }
 {
     match bytes {
         Some(bytes) => page_bytes(alloc, loaded, bytes),

@@ -1,6 +1,6 @@
 //! What `position` prints of a game and a record.
 ghost use Rattle.std.specs.Prelude.{◌≡◌, List, [], ℕ, IfOk, Option, Some, get_or, string_bytes};
-ghost use Rattle.std.specs.Option.{option_map};
+ghost use Rattle.std.specs.Prelude.{option_copied};
 ghost use Rattle.rbg_console.specs.Files.{KnownFiles, MayBe};
 ghost use Rattle.rbg_game.specs.Loading.{Loads};
 ghost use Rattle.rbg_tokens.specs.Text.{HasTokens};
@@ -64,7 +64,7 @@ fn position_texts(
     bytes: Option<&[u8]>,
 ) -> Result<Report, AllocError>
     ensures { IfOk result (IsTextReport
-        (λ game layout report. PrintsPosition text.now game (option_map (λ b. b.now) bytes) report) text.now) }
+        (λ game layout report. PrintsPosition text.now game (option_copied bytes.entry) report) text.now) }
 {
     match tokens(alloc, text) {
         Ok(tokens) => position_tokens(alloc, file, text, &tokens, bytes),
@@ -81,7 +81,7 @@ fn position_tokens(
 ) -> Result<Report, AllocError>
     requires { HasTokens text.now tokens.now }
     ensures { IfOk result (IsTextReport
-        (λ game layout report. PrintsPosition text.now game (option_map (λ b. b.now) bytes) report) text.now) }
+        (λ game layout report. PrintsPosition text.now game (option_copied bytes.entry) report) text.now) }
 {
     match load_with_layout(alloc, tokens) {
         Ok(loaded) => position_after(alloc, text, tokens, loaded, bytes),
@@ -98,7 +98,7 @@ fn position_after(
 ) -> Result<Report, AllocError>
     requires tokens { HasTokens text.now tokens.now }
     requires loads { Loads text.now loaded.game }
-    ensures { IfOk result (PrintsPosition text.now loaded.game (option_map (λ b. b.now) bytes)) }
+    ensures { IfOk result (PrintsPosition text.now loaded.game (option_copied bytes.entry)) }
 {
     match bytes {
         Some(bytes) => position_bytes(alloc, text, tokens, loaded.game, bytes),
