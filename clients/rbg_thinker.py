@@ -1,7 +1,6 @@
 """Chooses moves by playouts: matches that are played on by chance.
 
 >>> import random
->>> from rbg_rules import Rules
 >>> with Rules("crates/rbg_games/data/tictactoe.rbg") as rules:
 ...     for index in (0, 2, 0, 2):  # three in a row lack one stone
 ...         _ = rules.make(rules.moves()[index])
@@ -12,6 +11,8 @@
 
 import math
 import time
+
+from rbg_rules import Rules
 
 
 class Candidate:
@@ -39,7 +40,7 @@ class Thinker:
         self.seconds, self.chance = think_ms / 1000, chance
         self.cost = self.seconds / 100  # what a playout takes, as the last ones did
 
-    def __call__(self, rules):
+    def __call__(self, rules: Rules) -> str:
         start = time.monotonic()
         moves = rules.moves()
         self.chance.shuffle(moves)

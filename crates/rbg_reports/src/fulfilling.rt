@@ -21,7 +21,7 @@ pub fn fulfil<F: Files, R: Read>(
     input: &mut R,
 ) -> Result<Report, AllocError>
     ensures { IfOk result (IsReport (F.told files.old)
-        (R.remaining input.old) (R.remaining input.new) (wish_of wish)) }
+        (R.remaining input.old) (R.remaining input.new) (wish_of wish.entry)) }
 {
     match wish {
         Wish::Check { file } => check_file(alloc, files, file),

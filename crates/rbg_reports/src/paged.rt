@@ -11,7 +11,7 @@ ghost use Rattle.rbg_reports.specs.internal.Reading.{IsTextReport};
 use crate::reading::{Read, load_text, read_text, unreadable};
 use crate::report::Report;
 use rbg_console::{Files, Input, MAX_INPUT, Status, read_input};
-use rbg_game::LoadedGame;
+use rbg_game::{Layout, LoadedGame};
 use rbg_moves::PlayedGame;
 use rbg_page::{PageError, page};
 use std::alloc::{AllocError, Global};
@@ -91,7 +91,18 @@ fn page_bytes(alloc: Global, loaded: LoadedGame, bytes: &[u8]) -> Result<Report,
 {
     let LoadedGame { game, layout } = loaded;
     let game = PlayedGame::new(alloc, game)?;
-    match page(alloc, &game, &layout, bytes) {
+    page_played(alloc, &game, &layout, bytes)
+}
+
+fn page_played(
+    alloc: Global,
+    game: &PlayedGame,
+    layout: &Layout,
+    bytes: &[u8],
+) -> Result<Report, AllocError>
+    ensures { IfOk result (PrintsPage game.now layout.now (Some bytes.now)) }
+{
+    match page(alloc, game, layout, bytes) {
         Ok(text) => Ok(Report {
             text,
             status: Status::Success,

@@ -118,7 +118,21 @@ fn position_bytes(
     ensures { IfOk result (PrintsPosition text.now game (Some bytes.now)) }
 {
     let game = PlayedGame::new(alloc, game)?;
-    match position(alloc, text, tokens, &game, bytes) {
+    position_played(alloc, text, tokens, &game, bytes)
+}
+
+fn position_played(
+    alloc: Global,
+    text: &[u8],
+    tokens: &Tokens<'_>,
+    game: &PlayedGame,
+    bytes: &[u8],
+) -> Result<Report, AllocError>
+    requires tokens { HasTokens text.now tokens.now }
+    requires loads { Loads text.now game.now }
+    ensures { IfOk result (PrintsPosition text.now game.now (Some bytes.now)) }
+{
+    match position(alloc, text, tokens, game, bytes) {
         Ok(text) => Ok(Report {
             text,
             status: Status::Success,

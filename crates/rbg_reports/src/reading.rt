@@ -71,7 +71,8 @@ pub(crate) fn read_text<F: Files>(
     ensures read { IfOk result (IsTextRead (F.told files.old file.now) file.now) }
     ensures kept { KeepsFiles (F.told files.old) (F.told files.new) }
 {
-    match files.read_file(alloc, file, MAX_TEXT)? {
+    let input = files.read_file(alloc, file, MAX_TEXT)?;
+    match input {
         Input::Whole(text) => Ok(Read::Found(text)),
         Input::TooLong => Ok(Read::Other(refuse_long(alloc, file)?)),
         Input::Device => Ok(Read::Other(unreadable(alloc, file)?)),

@@ -1,0 +1,5 @@
+-- The line that is written.
+use Rattle.rbg_reports.proofs.positioned.value_line.Goals as goal
+
+pub returns : goal.returns
+returns c = let e = c.format.ensures.ok in ?
