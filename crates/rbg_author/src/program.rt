@@ -45,7 +45,7 @@ fn run_wish<F: Files, R: io::Read, W: Write>(
     input: &mut R,
     output: &mut W,
 ) -> Status
-    ensures { IsRunFor (wish_of wish) (F.told files.old)
+    ensures { IsRunFor (wish_of wish.entry) (F.told files.old)
         (R.remaining input.old) (R.remaining input.new)
         (W.contents output.old) (W.contents output.new) result }
 {
