@@ -2,7 +2,7 @@
 ghost use Rattle.std.specs.Prelude.{◌<◌};
 
 use rbg_player::{Chooser, FirstChooser, Heard, MAX_CHOICES, Player, PlayerError};
-use rbg_wire::read_outcome;
+use rbg_wire::{Outcome, read_outcome};
 use std::alloc::Global;
 use std::test::Fail;
 
@@ -63,42 +63,43 @@ fn stream_of(alloc: Global, parts: [&[u8]; 3]) -> Result<Vec<u8>, Fail> {
     Ok(stream)
 }
 
-/// What a new player tells last where it hears a stream in one piece. What it says is appended to `said`.
-fn hear_whole(alloc: Global, stream: &[u8], said: &mut Vec<u8>) -> Result<Heard, PlayerError> {
-    Player::new(alloc).hear(stream, &mut FirstChooser, said)
+/// Whether a new player ends so where it hears a stream in one piece. What it says is appended to `said`.
+fn ends_whole(alloc: Global, stream: &[u8], end: &Outcome, said: &mut Vec<u8>) -> bool {
+    let heard = Player::new(alloc).hear(stream, &mut FirstChooser, said);
+    is_end(&heard, end)
+}
+
+/// Whether what was heard is this end.
+fn is_end(heard: &Result<Heard, PlayerError>, end: &Outcome) -> bool {
+    matches!(heard, Ok(Heard::Ended(outcome)) if outcome == end)
 }
 
 /// The same where it hears the stream byte by byte.
-fn hear_bytes(alloc: Global, stream: &[u8], said: &mut Vec<u8>) -> Result<Heard, PlayerError> {
+fn ends_by_bytes(alloc: Global, stream: &[u8], end: &Outcome, said: &mut Vec<u8>) -> bool {
     let mut player = Player::new(alloc);
-    let mut heard = Ok(Heard::Going);
+    let mut ended = false;
     for byte in stream {
-        heard = player.hear(&[*byte], &mut FirstChooser, said);
+        let heard = player.hear(&[*byte], &mut FirstChooser, said);
+        ended = is_end(&heard, end);
     }
-    heard
+    ended
 }
 
-/// What a player answers to a stream, and then to a piece of no bytes.
-fn answers(
-    player: &mut Player,
-    stream: &[u8],
-    said: &mut Vec<u8>,
-) -> [Result<Heard, PlayerError>; 2] {
-    [
-        player.hear(stream, &mut FirstChooser, said),
-        player.hear(b"", &mut FirstChooser, said),
-    ]
+/// Whether a player answers the error to a stream, and then to a piece of no bytes.
+fn is_answered(player: &mut Player, stream: &[u8], error: PlayerError, said: &mut Vec<u8>) -> bool {
+    player.hear(stream, &mut FirstChooser, said) == Err(error)
+        && player.hear(b"", &mut FirstChooser, said) == Err(error)
 }
 
 /// Whether the player of the seat hears its match to the end, and says its move: in one piece and byte by byte.
 fn hears_its_match(alloc: Global, greeting: &[u8], says: &[u8]) -> Result<bool, Fail> {
-    let end = Ok(Heard::Ended(read_outcome(b"E0 0 0")?));
+    let end = read_outcome(b"E0 0 0")?;
     let stream = stream_of(alloc, [greeting, GAME, PLAY])?;
     let mut whole = Vec::new(alloc);
     let mut bytes = Vec::new(alloc);
     Ok(
-        hear_whole(alloc, &stream, &mut whole) == end
-            && hear_bytes(alloc, &stream, &mut bytes) == end
+        ends_whole(alloc, &stream, &end, &mut whole)
+            && ends_by_bytes(alloc, &stream, &end, &mut bytes)
             && whole.as_slice() == says
             && bytes.as_slice() == says,
     )
@@ -117,8 +118,8 @@ fn a_match_is_heard_in_one_piece_and_byte_by_byte(rt: HostRuntime) -> Result<(),
 fn answers_error(alloc: Global, parts: [&[u8]; 3], error: PlayerError) -> Result<bool, Fail> {
     let stream = stream_of(alloc, parts)?;
     let mut said = Vec::from_slice(alloc, b"kept")?;
-    let answers = answers(&mut Player::new(alloc), &stream, &mut said);
-    Ok(answers == [Err(error), Err(error)] && said.as_slice() == b"kept".as_slice())
+    let answered = is_answered(&mut Player::new(alloc), &stream, error, &mut said);
+    Ok(answered && said.as_slice() == b"kept".as_slice())
 }
 
 #[test]
@@ -159,6 +160,20 @@ fn game_of_choices(alloc: Global) -> Result<Vec<u8>, Fail> {
     Ok(text)
 }
 
+/// Whether a new player goes on behind a stream. What it says is appended to `said`.
+fn goes_on(alloc: Global, stream: &[u8], chooser: &mut Nth, said: &mut Vec<u8>) -> bool {
+    Player::new(alloc).hear(stream, chooser, said) == Ok(Heard::Going)
+}
+
+/// Whether white says this in the game where the move of a number is chosen, of as many as there may be.
+fn is_said(alloc: Global, game: &[u8], chosen: usize, says: &[u8]) -> Result<bool, Fail> {
+    let stream = stream_of(alloc, [b"W1 white\0G", game, b"\0L1000 3\0M0 1\0"])?;
+    let mut chooser = Nth { chosen, choices: 0 };
+    let mut said = Vec::new(alloc);
+    let going = goes_on(alloc, &stream, &mut chooser, &mut said);
+    Ok(going && said.as_slice() == says && chooser.choices == MAX_CHOICES)
+}
+
 /// The moves are those of the 64 that are found first, in order of their pairs.
 #[test]
 fn the_chosen_move_is_said(rt: HostRuntime) -> Result<(), Fail> {
@@ -169,13 +184,7 @@ fn the_chosen_move_is_said(rt: HostRuntime) -> Result<(), Fail> {
         (63, b"M0 67\0".as_slice()),
         (64, b"M0 67\0".as_slice()),
     ] {
-        let stream = stream_of(rt.alloc(), [b"W1 white\0G", &game, b"\0L1000 3\0M0 1\0"])?;
-        let mut chooser = Nth { chosen, choices: 0 };
-        let mut said = Vec::new(rt.alloc());
-        let heard = Player::new(rt.alloc()).hear(&stream, &mut chooser, &mut said);
-        assert_eq!(rt; heard, Ok(Heard::Going));
-        assert_eq!(rt; said.as_slice(), says);
-        assert_eq!(rt; chooser.choices, MAX_CHOICES);
+        assert!(rt; is_said(rt.alloc(), &game, chosen, says)?, "at {chosen}");
     }
     Ok(())
 }

@@ -237,14 +237,6 @@ struct Clocked {
     last: &'static [u8],
 }
 
-/// Served in so many rounds, and each line took all.
-const fn over(rounds: u64) -> Result<Served, ServeError> {
-    Ok(Served {
-        rounds,
-        whole: true,
-    })
-}
-
 const EARLY: Result<Served, ServeError> = Err(ServeError::Rounds);
 
 const CLOCKED: [Clocked; 5] = [
@@ -253,7 +245,10 @@ const CLOCKED: [Clocked; 5] = [
         room: SENT,
         moments: [0, 0, 0, 0],
         rounds: 0,
-        answer: over(0),
+        answer: Ok(Served {
+            rounds: 0,
+            whole: true,
+        }),
         last: b"M0 1\0E0 0 0\0",
     },
     Clocked {
@@ -269,7 +264,10 @@ const CLOCKED: [Clocked; 5] = [
         room: SENT,
         moments: [0, 0, 0, 1000],
         rounds: 100,
-        answer: over(1),
+        answer: Ok(Served {
+            rounds: 1,
+            whole: true,
+        }),
         last: b"M0 1\0E1 1\0",
     },
     Clocked {
@@ -408,13 +406,19 @@ const AGAIN: [Again; 3] = [
     Again {
         gives: MOVES,
         rounds: 9,
-        answer: over(1),
+        answer: Ok(Served {
+            rounds: 1,
+            whole: true,
+        }),
         said: PLAYED,
     },
     Again {
         gives: MOVES,
         rounds: 0,
-        answer: over(0),
+        answer: Ok(Served {
+            rounds: 0,
+            whole: true,
+        }),
         said: PLAYED,
     },
 ];
