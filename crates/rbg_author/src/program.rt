@@ -26,7 +26,7 @@ pub fn run<F: Files, R: io::Read, W: Write>(
     output: &mut W,
 ) -> Status {
     let outcome = obey(alloc, words, files, input, output);
-    print(output, &outcome)
+    print(files, output, &outcome)
 }
 
 /// Does what the words say. What is returned is still to be written.
