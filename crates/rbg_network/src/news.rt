@@ -63,6 +63,7 @@ impl fmt::Display for News<'_> {
 }
 
 /// So many of something with this name.
+#[derive(Clone, Copy, Debug)]
 struct Count(u64, &'static str);
 
 impl fmt::Display for Count {
