@@ -67,7 +67,7 @@ impl Flat {
     }
 
     /// Goes on up to the next vertex that is to be asked about a pattern, and returns it with the pattern's position;
-    /// none where nothing is left to be looked at. Each turn takes one bit, or one position off those that wait.
+    /// none where nothing is left to be looked at. Each turn takes one word, or one position off those that wait.
     pub fn advance(
         &mut self,
         game: &Game,
