@@ -1,6 +1,5 @@
 //! Runs of the program whose input or output fails, or has no end.
-use rbg_console::Note;
-use rbg_program::{Files, Input, SystemNetwork, run};
+use rbg_program::{Files, Input, Note, SystemNetwork, run};
 use std::alloc::{AllocError, Global};
 use std::io::{self, ErrorKind, Read, Write};
 use std::test::Fail;
