@@ -60,6 +60,7 @@ clients:
 	@test -x ./rbg || { echo 'make clients needs ./rbg: run make build first'; exit 1; }
 	@python3 -m doctest clients/rbg_rules.py
 	@python3 -m doctest clients/rbg_thinker.py
+	@python3 -m doctest clients/rbg_turns.py
 	@for game in $(GAMES); do $(MAKE) --no-print-directory clients-match GAME=crates/rbg_games/data/$$game.rbg || exit 1; done
 
 # One match: the first player thinks, the second one chooses by chance.

@@ -15,6 +15,7 @@ import tempfile
 
 from rbg_rules import Refused, Rules
 from rbg_thinker import Thinker
+from rbg_turns import Turns
 
 
 QUIET = 0.005  # seconds in which nothing comes before a move is said
@@ -81,13 +82,13 @@ class Match:
 class Follower:
     """Follows a match by the rules, and chooses a move where this player is to move.
 
-    The referee tells the keeper's moves too, which the rules have made already: they are no legal moves of the player
-    who is then to move, and are passed over.
+    The referee tells the keeper's moves too, which the rules have made already: they are passed over. Where the turns
+    don't tell which these are, they are taken to be the moves that aren't legal for the player who is then to move.
     """
 
     def __init__(self, choose, program):
         self.choose, self.program = choose, program
-        self.rules = None
+        self.rules = self.turns = None
         self.followed, self.has_said = 0, False
 
     def begin(self, text):
@@ -95,8 +96,11 @@ class Follower:
             file.write(text)
             file.flush()
             self.rules = Rules(file.name, self.program)
+        self.turns = Turns(text, self.program)
 
     def follow(self, pairs, player):
+        if self.turns.hear(pairs) == 0:
+            return
         own = self.rules.player == player
         try:
             self.rules.make(pairs)

@@ -33,7 +33,7 @@ def make_case(seed, index):
 
 def game_case(chance, case):
     text = texts.text_of_game(chance, games.Game(chance))
-    command = chance.choice([check, moves, moves, referee, referee, referee, referee, replay, replay, replay, migrate])
+    command = chance.choice([check, moves, moves, moves_behind, *[referee] * 4, *[replay] * 3, migrate])
     command(chance, case, text)
 
 
@@ -137,6 +137,10 @@ def mark_line(chance):
 
 def replay(chance, case, text):
     record_case(chance, case, text, "replay", make_record(chance, text, chance.choice([1, 2, 2])))
+
+
+def moves_behind(chance, case, text):
+    record_case(chance, case, text, "moves", make_record(chance, text, chance.choice([1, 2])))
 
 
 def migrate(chance, case, text):

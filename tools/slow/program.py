@@ -120,7 +120,9 @@ def check(words, standard_input, files):
 
 
 def moves(words, standard_input, files):
-    """The keeper's moves, and then those of the player who is to move."""
+    """The keeper's moves, and then those of the player who is to move; with a record those at the place behind it."""
+    if len(words) == 2:
+        return of_record(lambda game, record: listed(records.follow(game, record)))(words, standard_input, files)
     place = Place(load(take_file(files, words[0])))
     printed = []
     try:
@@ -132,13 +134,21 @@ def moves(words, standard_input, files):
                 break
             printed.append("made 0 " + wire.spell(move))
             place.make(move)
-        listed = place.list_moves(MOST_LISTED + 1)
     except Over:
         return printed + ["over"]
-    if not listed:
-        return printed + ["finished " + " ".join(map(str, place.scores()))]
-    printed += [f"move {place.mover()} {wire.spell(move)}" for move in sorted(listed[:MOST_LISTED])]
-    return printed + ["cut"] * (len(listed) > MOST_LISTED)
+    return printed + listed(place)
+
+
+def listed(place):
+    """The legal moves at a place, or the scores where there is none."""
+    try:
+        found = place.list_moves(MOST_LISTED + 1)
+    except Over:
+        return ["over"]
+    if not found:
+        return ["finished " + " ".join(map(str, place.scores()))]
+    printed = [f"move {place.mover()} {wire.spell(move)}" for move in sorted(found[:MOST_LISTED])]
+    return printed + ["cut"] * (len(found) > MOST_LISTED)
 
 
 def of_record(judge):
@@ -168,7 +178,7 @@ COMMANDS = {
 def main():
     words = sys.argv[1:]
     if tuple(words[:1]) not in COMMANDS:
-        print(__doc__)
+        print(__doc__, file=sys.stderr)
         return 64
     files = {}
     for name in words[1:]:

@@ -26,7 +26,12 @@ class Case:
         arguments = self.words[1:]
         if self.words[:1] == ["referee"] and arguments[-1:] != ["--record"] and "--cut" not in arguments:
             arguments = [name for name in program.named_files(arguments) if name is not None]
-        fits = {"referee": len(arguments) < 3, "replay": len(arguments) == 2, "migrate": len(arguments) == 2}
+        fits = {
+            "referee": len(arguments) < 3,
+            "replay": len(arguments) == 2,
+            "migrate": len(arguments) == 2,
+            "moves": len(arguments) in (1, 2),
+        }
         return not self.words or (
             self.words[0] in COVERED
             and fits.get(self.words[0], len(arguments) == 1)

@@ -3,18 +3,22 @@ use Rattle.std.proofs.Common.{◌≡◌, ℕ, List, refl, sym, subst}
 use Rattle.std.specs.Prelude.{◌↔◌, Result, Ok, Err, IfOk}
 use Rattle.rbg_console.specs.declared.status.Status.{Status}
 use Rattle.rbg_console.specs.declared.status.Status.TheVariants.{Success, BadInput}
-use Rattle.rbg_record.specs.Judged.{IsBadLine, IsFormFault, IsHeavyLine}
+use Rattle.rbg_record.specs.Judged.{IsBadLine, IsFormFault, IsHeavyLine, IsJudged}
 use Rattle.rbg_record.specs.Migration.{IsPlainFault}
 use Rattle.rbg_record.specs.Right.{IsRightRecord}
 use Rattle.rbg_record.specs.declared.checked.Checked.{Checked}
 use Rattle.rbg_record.specs.declared.checked.Checked.TheVariants.{Good, Bad}
 use Rattle.rbg_record.specs.declared.error.RecordError.{RecordError}
 use Rattle.rbg_record.specs.declared.error.RecordError.TheVariants.{Form, Over, Memory}
+use Rattle.rbg_record.specs.declared.fault.Fault.{Fault}
+use Rattle.rbg_record.specs.declared.fault.Fault.TheVariants as faults
+use Rattle.rbg_record.specs.internal.Faults.{told_at}
 use Rattle.rbg_rules.specs.State.{AbstractGame}
 use Rattle.rbg_answering.specs.declared.task.Command.{Command}
-use Rattle.rbg_answering.specs.declared.task.Command.TheVariants.{Replay, Migrate}
-use Rattle.rbg_answering.specs.Answers.{IsGamesAnswer, good_line, bad_line, form_line, over_line}
-use Rattle.rbg_answering.specs.Answers.IsGamesAnswer.{good, bad, not_of_form, over, not_plain}
+use Rattle.rbg_answering.specs.declared.task.Command.TheVariants.{Replay, Migrate, Moves}
+use Rattle.rbg_answering.specs.Answers.{IsGamesAnswer, NamesFault, good_line, bad_line, form_line, over_line}
+use Rattle.rbg_answering.specs.Answers.IsGamesAnswer.{good, wrong, not_plain, nowhere}
+use Rattle.rbg_answering.specs.Answers.NamesFault.{bad, not_of_form, over}
 use Rattle.rbg_answering.specs.internal.Parts.{SaysChecked, SaysFault}
 
 -- the answer with this text and this status
@@ -34,12 +38,22 @@ pub checked_answer : (game : AbstractGame) (told : List ℕ) (checked : Result C
 checked_answer game told (Ok Good) text status is says description =
     games_answer_is game description told Replay text good_line status Success says.0 says.1 (good (is.right.0 refl))
 checked_answer game told (Ok (Bad line)) text status is says description =
-    games_answer_is game description told Replay text (bad_line line) status BadInput says.0 says.1 (bad line (is.wrong line refl))
+    games_answer_is game description told Replay text (bad_line line) status BadInput says.0 says.1 (wrong (bad_line line) (bad line (is.wrong line refl)))
 checked_answer game told (Err (Form line)) text status is says description =
-    games_answer_is game description told Replay text (form_line line) status BadInput says.0 says.1 (not_of_form line (is.form line refl))
+    games_answer_is game description told Replay text (form_line line) status BadInput says.0 says.1 (wrong (form_line line) (not_of_form line (is.form line refl)))
 checked_answer game told (Err (Over line)) text status is says description =
-    games_answer_is game description told Replay text (over_line line) status BadInput says.0 says.1 (over line (is.heavy line refl))
+    games_answer_is game description told Replay text (over_line line) status BadInput says.0 says.1 (wrong (over_line line) (over line (is.heavy line refl)))
 checked_answer game told (Err Memory) text status is says description = absurd says
+
+-- the line of a fault is the answer where the moves of a record lead nowhere
+pub misfit_answer : (game : AbstractGame) (told : List ℕ) (fault : Fault) (line : ℕ) (text : List ℕ) (status : Status) → IsJudged game told (told_at fault line) → SaysChecked (told_at fault line) text status → (description : List ℕ) → IsGamesAnswer game description told Moves text status
+misfit_answer game told faults.Form line text status is says description =
+    games_answer_is game description told Moves text (form_line line) status BadInput says.0 says.1 (nowhere (form_line line) (not_of_form line is))
+misfit_answer game told faults.Bad line text status is says description =
+    games_answer_is game description told Moves text (bad_line line) status BadInput says.0 says.1 (nowhere (bad_line line) (bad line is))
+misfit_answer game told faults.Over line text status is says description =
+    games_answer_is game description told Moves text (over_line line) status BadInput says.0 says.1 (nowhere (over_line line) (over line is))
+misfit_answer game told faults.Memory line text status is says description = absurd says
 
 -- the line of a record's fault is the answer where the record can't be migrated
 pub plain_fault_answer : (game : AbstractGame) (told : List ℕ) (error : RecordError) (text : List ℕ) (status : Status) → ((line : ℕ) → error ≡ Form line → IsPlainFault told line) → ((line : ℕ) → ¬ (error ≡ Over line)) → SaysFault error text status → (description : List ℕ) → IsGamesAnswer game description told Migrate text status

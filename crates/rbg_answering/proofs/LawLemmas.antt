@@ -16,9 +16,10 @@ use Rattle.rbg_rules.specs.Positions.{IsNumbered}
 use Rattle.rbg_rules.specs.State.{AbstractGame}
 use Rattle.rbg_script.specs.Laws.{ScriptsAreApart}
 use Rattle.rbg_answering.specs.declared.task.Command.{Command}
-use Rattle.rbg_answering.specs.declared.task.Command.TheVariants.{Check, Referee, Replay, Migrate}
-use Rattle.rbg_answering.specs.Answers.{IsGamesAnswer, IsLong, good_line, bad_line, form_line, over_line}
-use Rattle.rbg_answering.specs.Answers.IsGamesAnswer.{counted, played, misfit, good, bad, not_of_form, over, migrated, not_plain}
+use Rattle.rbg_answering.specs.declared.task.Command.TheVariants.{Check, Referee, Replay, Migrate, Moves}
+use Rattle.rbg_answering.specs.Answers.{IsGamesAnswer, NamesFault, IsLong, good_line, bad_line, form_line, over_line}
+use Rattle.rbg_answering.specs.Answers.IsGamesAnswer.{counted, played, misfit, good, wrong, migrated, not_plain, goes_on, nowhere}
+use Rattle.rbg_answering.specs.Answers.NamesFault.{bad, not_of_form, over}
 use Rattle.rbg_answering.specs.Answers.IsTaskAnswer.{of_game, refused, long_script, long_record}
 use Rattle.rbg_answering.specs.Laws.{RightRecordsAreGood, TaskAnswersAreApart}
 use Rattle.rbg_answering.specs.Tasks.{AbstractTask}
@@ -48,14 +49,17 @@ record Tells (game : AbstractGame) (told text : List ℕ) (status : Status) : Ty
 abbrev SaysHeavy : (game : AbstractGame) → (told text : List ℕ) → Type 0
 SaysHeavy game told text = (line : ℕ) × IsHeavyLine game told line × (text ≡ over_line line)
 
+tells_fault : (game : AbstractGame) (told text : List ℕ) → NamesFault game told text → Tells game told text BadInput ⊎ SaysHeavy game told text
+tells_fault game told _ (bad line is) =
+    inl (record { result = Ok (Bad line); judged = is; decided = λ no. no; says = refl; ends = refl })
+tells_fault game told _ (not_of_form line is) =
+    inl (record { result = Err (Form line); judged = is; decided = λ no. no; says = refl; ends = refl })
+tells_fault game told _ (over line is) = inr (line, is, refl)
+
 tells : GoodByLines → (game : AbstractGame) (description told text : List ℕ) (status : Status) → IsGamesAnswer game description told Replay text status → Tells game told text status ⊎ SaysHeavy game told text
 tells lines game description told _ _ (good right) =
     inl (record { result = Ok Good; judged = (lines game told).1 right; decided = λ no. no; says = refl; ends = refl })
-tells lines game description told _ _ (bad line is) =
-    inl (record { result = Ok (Bad line); judged = is; decided = λ no. no; says = refl; ends = refl })
-tells lines game description told _ _ (not_of_form line is) =
-    inl (record { result = Err (Form line); judged = is; decided = λ no. no; says = refl; ends = refl })
-tells lines game description told _ _ (over line is) = inr (line, is, refl)
+tells lines game description told _ _ (wrong text fault) = tells_fault game told text fault
 
 -- answers of one status, and one line where a script or a record is at fault
 abbrev AreOne : (text other : List ℕ) → (status ended : Status) → Type 0
@@ -102,6 +106,25 @@ records_apart plain game description told _ _ _ _ (migrated new is) (not_plain l
 records_apart plain game description told _ _ _ _ (not_plain line has) (migrated new is) = absurd (plain.none told is.told line is.before has)
 records_apart plain game description told _ _ _ _ (not_plain m has) (not_plain n had) = (refl, λ _. ap form_line (plain.one told m n has had))
 
+-- a record that is right has no other fault than a question above the limits
+right_or_over : OneJudgement → (game : AbstractGame) → IsNumbered game.rules → (told text : List ℕ) → IsJudged game told (Ok Good) → NamesFault game told text → (line : ℕ) × (text ≡ over_line line)
+right_or_over judge game numbered told _ right (bad line is) =
+    absurd (let same : Ok Good ≡ Ok (Bad line) = judge game numbered told (Ok Good) (Ok (Bad line)) right is (λ no. no) (λ no. no) in cc)
+right_or_over judge game numbered told _ right (not_of_form line is) =
+    absurd (let same : Ok Good ≡ Err (Form line) = judge game numbered told (Ok Good) (Err (Form line)) right is (λ no. no) (λ no. no) in cc)
+right_or_over judge game numbered told _ right (over line is) = (line, refl)
+
+moves_apart : Known → (game : AbstractGame) → IsNumbered game.rules → (description told text other : List ℕ) (status ended : Status) → IsGamesAnswer game description told Moves text status → IsGamesAnswer game description told Moves other ended → AreOne text other status ended ⊎ NamesOver text other
+moves_apart known game numbered description told _ _ _ _ (goes_on text is) (goes_on other was) = inl (refl, λ bad. absurd (good_is_not_bad bad))
+moves_apart known game numbered description told _ _ _ _ (goes_on text is) (nowhere other fault) =
+    let names = right_or_over known.judge game numbered told other ((known.lines game told).1 is.behind.right) fault in
+    inr (names.0, inr names.1)
+moves_apart known game numbered description told _ _ _ _ (nowhere text fault) (goes_on other is) =
+    let names = right_or_over known.judge game numbered told text ((known.lines game told).1 is.behind.right) fault in
+    inr (names.0, inl names.1)
+moves_apart known game numbered description told _ _ _ _ (nowhere text fault) (nowhere other fault') =
+    replays_apart known.judge game numbered told text other BadInput BadInput (tells_fault game told text fault) (tells_fault game told other fault')
+
 games_apart : Known → (game : AbstractGame) → IsNumbered game.rules → (description told : List ℕ) (command : Command) (text other : List ℕ) (status ended : Status) → IsGamesAnswer game description told command text status → IsGamesAnswer game description told command other ended → AreOne text other status ended ⊎ NamesOver text other
 games_apart known game numbered description told Check text other status ended a b = inl (counts_apart game description told text other status ended a b)
 games_apart known game numbered description told Referee text other status ended a b = inl (matches_apart known.scripts game description told text other status ended a b)
@@ -109,6 +132,7 @@ games_apart known game numbered description told Replay text other status ended 
     replays_apart known.judge game numbered told text other status ended
     (tells known.lines game description told text status a) (tells known.lines game description told other ended b)
 games_apart known game numbered description told Migrate text other status ended a b = inl (records_apart known.plain game description told text other status ended a b)
+games_apart known game numbered description told Moves text other status ended a b = moves_apart known game numbered description told text other status ended a b
 
 fits_or_long : (task : AbstractTask) → length task.told ≤ most_input → IsLong task → ⊥
 fits_or_long task fits above = absurd (let no : ⊥ = omega (arith, fits, above) in no)

@@ -8,7 +8,7 @@ use Rattle.rbg_console.specs.Inputs.{most_input, IsReading}
 use Rattle.rbg_console.specs.declared.input.Input.{Input}
 use Rattle.rbg_console.specs.declared.input.Input.TheVariants.{Whole, TooLong, Device}
 use Rattle.rbg_tokens.specs.Limits.{longest_text}
-use Rattle.rbg_answering.specs.declared.task.Command.TheVariants.{Check, Referee, Replay, Migrate}
+use Rattle.rbg_answering.specs.declared.task.Command.TheVariants.{Check, Referee, Replay, Migrate, Moves}
 use Rattle.rbg_answering.specs.declared.task.Task.{Task}
 use Rattle.rbg_answering.specs.Tasks.{IsReadOf}
 use Rattle.rbg_answering.specs.Tasks.IsInputOf.{whole, too_long}
@@ -56,6 +56,13 @@ replay_read known unread file other read is d told = record {
 pub migrate_read : (known : KnownFiles) (unread : Option (List ℕ)) (file other : List ℕ) (read : Task) → read.command ≡ Migrate → IsReadIn longest_text (known file) read.description → IsReadIn most_input (known other) read.told → IsReadFor known unread unread (record { command = Migrate; file = file; record_file = other }) read
 migrate_read known unread file other read is d told = record {
   task = task_of Migrate d.bytes told.bytes;
+  asks = record { command = refl; description = d.may; told = (told.may, refl) };
+  reads = record { command = sym is; description = d.reads; told = told.reads };
+}
+
+pub moves_read : (known : KnownFiles) (unread : Option (List ℕ)) (file other : List ℕ) (read : Task) → read.command ≡ Moves → IsReadIn longest_text (known file) read.description → IsReadIn most_input (known other) read.told → IsReadFor known unread unread (record { command = Moves; file = file; record_file = other }) read
+moves_read known unread file other read is d told = record {
+  task = task_of Moves d.bytes told.bytes;
   asks = record { command = refl; description = d.may; told = (told.may, refl) };
   reads = record { command = sym is; description = d.reads; told = told.reads };
 }

@@ -6,6 +6,7 @@ use Rattle.rbg_console.specs.declared.status.Status.{Status}
 use Rattle.rbg_console.specs.declared.status.Status.TheVariants.{Success, Refused, BadInput}
 use Rattle.rbg_game.specs.Loading.{Loads, IsRefused, IsMemory}
 use Rattle.rbg_game.specs.declared.error.LoadError.{LoadError}
+use Rattle.rbg_listing.specs.Behind.{IsMovesBehind}
 use Rattle.rbg_record.specs.Judged.{IsBadLine, IsFormFault, IsHeavyLine}
 use Rattle.rbg_record.specs.Migration.{IsMigrated, IsPlainFault}
 use Rattle.rbg_record.specs.Right.{IsRightRecord}
@@ -14,7 +15,7 @@ use Rattle.rbg_refereeing.specs.Matches.{IsScriptsMatch}
 use Rattle.rbg_rules.specs.State.{AbstractGame}
 use Rattle.rbg_script.specs.Scripts.{HasMisfit}
 use Rattle.rbg_answering.specs.declared.task.Command.{Command}
-use Rattle.rbg_answering.specs.declared.task.Command.TheVariants.{Check, Referee, Replay, Migrate}
+use Rattle.rbg_answering.specs.declared.task.Command.TheVariants.{Check, Referee, Replay, Migrate, Moves}
 use Rattle.rbg_answering.specs.Tasks.{AbstractTask}
 
 -- the lines of a right record, and of one of which a line is not right, not of the form, or above the limits
@@ -30,12 +31,19 @@ form_line line = codes "form " ++ (decimal line ++ codes "\n")
 abbrev pub over_line : (line : ℕ) → List ℕ
 over_line line = codes "over " ++ (decimal line ++ codes "\n")
 
+-- The record isn't right: its first line is named that is not right, not of the form, or asks a question above the
+-- limits.
+pub data NamesFault (game : AbstractGame) (told : List ℕ) : (text : List ℕ) → Type 0 where
+  bad : (line : ℕ) → IsBadLine game told line → NamesFault game told (bad_line line)
+  not_of_form : (line : ℕ) → IsFormFault game told line → NamesFault game told (form_line line)
+  over : (line : ℕ) → IsHeavyLine game told line → NamesFault game told (over_line line)
+
 -- The answer where the description is that of a game, and what is told is not too long.
 --   counted: how many of each thing the game has.
 --   played, misfit: the lines of the script's match, or the script's first line that is not of its form.
---   good, bad, not_of_form, over: the record is right, or its first line is named that is not right, not of the form, or
---     asks a question above the limits.
+--   good, wrong: the record is right, or its fault is named.
 --   migrated, not_plain: version 2 of the record, or its first line is named that is not of the form of version 1.
+--   goes_on, nowhere: how play can go on behind the record, or its fault is named.
 pub data IsGamesAnswer (game : AbstractGame) (description told : List ℕ) : Command → (text : List ℕ) → Status → Type 0 where
   counted : IsGamesAnswer game description told Check (counts_of game ++ codes "\n") Success
   played : (lines : List ℕ)
@@ -45,15 +53,15 @@ pub data IsGamesAnswer (game : AbstractGame) (description told : List ℕ) : Com
       → HasMisfit told line
       → IsGamesAnswer game description told Referee (script_line line) BadInput
   good : IsRightRecord game told → IsGamesAnswer game description told Replay good_line Success
-  bad : (line : ℕ) → IsBadLine game told line → IsGamesAnswer game description told Replay (bad_line line) BadInput
-  not_of_form : (line : ℕ)
-      → IsFormFault game told line
-      → IsGamesAnswer game description told Replay (form_line line) BadInput
-  over : (line : ℕ) → IsHeavyLine game told line → IsGamesAnswer game description told Replay (over_line line) BadInput
+  wrong : (text : List ℕ) → NamesFault game told text → IsGamesAnswer game description told Replay text BadInput
   migrated : (new : List ℕ) → IsMigrated game told new → IsGamesAnswer game description told Migrate new Success
   not_plain : (line : ℕ)
       → IsPlainFault told line
       → IsGamesAnswer game description told Migrate (form_line line) BadInput
+  goes_on : (text : List ℕ)
+      → IsMovesBehind game told text
+      → IsGamesAnswer game description told Moves text Success
+  nowhere : (text : List ℕ) → NamesFault game told text → IsGamesAnswer game description told Moves text BadInput
 
 -- what is told is longer than it may be
 abbrev pub IsLong : AbstractTask → Type 0

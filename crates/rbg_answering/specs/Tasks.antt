@@ -5,7 +5,7 @@ use Rattle.rbg_console.specs.Files.{KnownFiles, MayBe}
 use Rattle.rbg_console.specs.Inputs.{most_input, IsAll, IsAbove}
 use Rattle.rbg_tokens.specs.Limits.{longest_text}
 use Rattle.rbg_answering.specs.declared.task.Command.{Command}
-use Rattle.rbg_answering.specs.declared.task.Command.TheVariants.{Check, Referee, Replay, Migrate}
+use Rattle.rbg_answering.specs.declared.task.Command.TheVariants.{Check, Referee, Replay, Migrate, Moves}
 use Rattle.rbg_answering.specs.declared.task.FileTask.{FileTask}
 use Rattle.rbg_answering.specs.declared.task.FileTask.TheVariants as files
 use Rattle.rbg_answering.specs.declared.task.Task.{Task}
@@ -21,6 +21,7 @@ file_task (files.Check file) = record { command = Check; file = file.now; record
 file_task (files.Referee file) = record { command = Referee; file = file.now; record_file = [] }
 file_task (files.Replay file other) = record { command = Replay; file = file.now; record_file = other.now }
 file_task (files.Migrate file other) = record { command = Migrate; file = file.now; record_file = other.now }
+file_task (files.Moves file other) = record { command = Moves; file = file.now; record_file = other.now }
 
 -- A command with its description and what is told of a match of it: a script or a record, and nothing for `check`.
 pub record AbstractTask : Type 0 where
@@ -39,6 +40,7 @@ IsToldIn known unread left record_file Check told = (told ≡ []) × (left ≡ u
 IsToldIn known unread left record_file Referee told = IsInputOf unread left told
 IsToldIn known unread left record_file Replay told = MayBe (known record_file) told × (left ≡ unread)
 IsToldIn known unread left record_file Migrate told = MayBe (known record_file) told × (left ≡ unread)
+IsToldIn known unread left record_file Moves told = MayBe (known record_file) told × (left ≡ unread)
 
 -- The command's files, and standard input where it is asked for, have the bytes of the task.
 pub record AsksFor (known : KnownFiles) (unread left : Option (List ℕ)) (named : NamedTask) (task : AbstractTask) : Type 0 where

@@ -9,7 +9,7 @@ ghost use Rattle.rbg_answering.specs.internal.Parts.{
   AnswersWhole,
 };
 
-use crate::judging::{count, replay, rewrite};
+use crate::judging::{count, go_on, replay, rewrite};
 use crate::lines::answer_form;
 use crate::loading::{answer_unloaded, load_read};
 use crate::{Command, Task};
@@ -45,6 +45,7 @@ fn answer_long(
         Command::Check => answer_long_record(alloc, description),
         Command::Replay => answer_long_record(alloc, description),
         Command::Migrate => answer_long_record(alloc, description),
+        Command::Moves => answer_long_record(alloc, description),
     }
 }
 
@@ -74,6 +75,7 @@ fn answer_whole(
         Command::Referee => answer_referee(alloc, description, told),
         Command::Replay => answer_replay(alloc, description, told),
         Command::Migrate => answer_migrate(alloc, description, told),
+        Command::Moves => answer_moves(alloc, description, told),
     }
 }
 
@@ -148,6 +150,21 @@ fn answer_migrate(
 {
     match load_read(alloc, description) {
         Ok(game) => rewrite(alloc, &game, told),
+        Err(error) => answer_unloaded(alloc, error),
+    }
+}
+
+/// The moves with which play can go on behind the record.
+fn answer_moves(
+    alloc: Global,
+    description: &Option<Vec<u8>>,
+    told: &[u8],
+) -> Result<Answer, AllocError>
+    ensures { IfOk result (λ answer.
+        AnswersWhole Command.Moves description.now told.now answer.text.items answer.status) }
+{
+    match load_read(alloc, description) {
+        Ok(game) => go_on(alloc, game, told),
         Err(error) => answer_unloaded(alloc, error),
     }
 }

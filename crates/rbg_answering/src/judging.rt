@@ -2,14 +2,16 @@
 ghost use Rattle.std.specs.Prelude.{◌≡◌, ◌++◌, ℕ, List, IfOk, codes};
 ghost use Rattle.rbg_console.specs.Counts.{counts_of};
 ghost use Rattle.rbg_answering.specs.Answers.{IsGamesAnswer};
+ghost use Rattle.rbg_record.specs.internal.Faults.{told_at};
 ghost use Rattle.rbg_answering.specs.internal.Parts.{SaysChecked};
 
 use crate::Command;
-use crate::lines::{answer_bad, answer_good, answer_record_fault};
+use crate::lines::{answer_bad, answer_form, answer_good, answer_over, answer_record_fault};
 use rbg_console::{Status, count_line};
 use rbg_game::Game;
+use rbg_listing::{Misfit, moves_behind};
 use rbg_moves::PlayedGame;
-use rbg_record::{Checked, RecordError, check_record, migrate};
+use rbg_record::{Checked, Fault, RecordError, check_record, migrate};
 use rbg_refereeing::Answer;
 use std::alloc::{AllocError, Global};
 
@@ -69,5 +71,42 @@ pub(crate) fn rewrite(alloc: Global, game: &Game, told: &[u8]) -> Result<Answer,
             status: Status::Success,
         }),
         Err(error) => answer_record_fault(alloc, error),
+    }
+}
+
+/// The moves with which play can go on behind a record.
+pub(crate) fn go_on(alloc: Global, game: Game, told: &[u8]) -> Result<Answer, AllocError>
+    ensures { IfOk result (λ answer. (description : List ℕ) →
+        IsGamesAnswer game description told.now Command.Moves answer.text.items answer.status) }
+{
+    match PlayedGame::new(alloc, game) {
+        Ok(played) => list_behind(alloc, &played, told),
+        Err(_) => Err(AllocError),
+    }
+}
+
+fn list_behind(alloc: Global, game: &PlayedGame, told: &[u8]) -> Result<Answer, AllocError>
+    ensures { IfOk result (λ answer. (description : List ℕ) →
+        IsGamesAnswer game.now description told.now Command.Moves answer.text.items answer.status) }
+{
+    match moves_behind(alloc, game, told) {
+        Ok(text) => Ok(Answer {
+            text,
+            status: Status::Success,
+        }),
+        Err(misfit) => answer_misfit(alloc, misfit),
+    }
+}
+
+/// The line of the first line of a record that doesn't lead on.
+fn answer_misfit(alloc: Global, misfit: Misfit) -> Result<Answer, AllocError>
+    ensures { IfOk result (λ answer.
+        SaysChecked (told_at misfit.fault misfit.line) answer.text.items answer.status) }
+{
+    match misfit.fault {
+        Fault::Form => answer_form(alloc, misfit.line),
+        Fault::Bad => answer_bad(alloc, misfit.line),
+        Fault::Over => answer_over(alloc, misfit.line),
+        Fault::Memory => Err(AllocError),
     }
 }

@@ -1,5 +1,5 @@
-//! The answers of the commands `check`, `referee` with a file, `replay` and `migrate`: from the bytes of files and of
-//! standard input to the bytes that are printed.
+//! The answers of the commands `check`, `referee` with a file, `replay`, `migrate`, and `moves` with a record: from the
+//! bytes of files and of standard input to the bytes that are printed.
 #![tactic(auto)]
 
 mod answer;

@@ -44,7 +44,7 @@ pub(crate) fn answer_form(alloc: Global, line: usize) -> Result<Answer, AllocErr
 }
 
 /// `over <line>`
-fn answer_over(alloc: Global, line: usize) -> Result<Answer, AllocError>
+pub(crate) fn answer_over(alloc: Global, line: usize) -> Result<Answer, AllocError>
     ensures text { IfOk result (λ answer. answer.text.items ≡ over_line line) }
     ensures status { IfOk result (λ answer. answer.status ≡ Status.BadInput) }
 {

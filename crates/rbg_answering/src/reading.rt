@@ -7,7 +7,7 @@ ghost use Rattle.rbg_answering.specs.Tasks.{IsReadOf, file_task};
 ghost use Rattle.rbg_answering.specs.internal.Parts.{Gives, IsReadFor, IsReadIn, IsReadInput};
 
 use crate::{Command, FileTask, Task};
-use rbg_console::{Files, Input, MAX_INPUT, read_input};
+use rbg_console::{Files, Input, MAX_INPUT, read_input, read_record};
 use rbg_tokens::MAX_TEXT;
 use std::alloc::{AllocError, Global};
 use std::io::Read;
@@ -41,11 +41,12 @@ pub(crate) fn read_task<F: Files, R: Read>(
         FileTask::Check { file } => read_check(alloc, files, file),
         FileTask::Referee { file } => read_match(alloc, files, file, input),
         FileTask::Replay { file, record } => {
-            read_record(alloc, Command::Replay, files, file, record)
+            read_both(alloc, Command::Replay, files, file, record)
         }
         FileTask::Migrate { file, record } => {
-            read_record(alloc, Command::Migrate, files, file, record)
+            read_both(alloc, Command::Migrate, files, file, record)
         }
+        FileTask::Moves { file, record } => read_both(alloc, Command::Moves, files, file, record),
     }
 }
 
@@ -87,7 +88,7 @@ fn read_match<F: Files, R: Read>(
 }
 
 /// Reads a description and a record.
-fn read_record<F: Files>(
+fn read_both<F: Files>(
     alloc: Global,
     command: Command,
     files: &mut F,
@@ -101,7 +102,7 @@ fn read_record<F: Files>(
         IsReadIn most_input (F.told files.old other.now) read.told) }
 {
     let description = read_within(alloc, files, file, MAX_TEXT)?;
-    let told = read_within(alloc, files, other, MAX_INPUT)?;
+    let told = read_told(alloc, files, other)?;
     Ok(Task {
         command,
         description,
@@ -120,6 +121,13 @@ fn read_within<F: Files>(
     ensures kept { KeepsFiles (F.told files.old) (F.told files.new) }
 {
     given(files.read_file(alloc, name, limit)?)
+}
+
+/// The bytes of the file of a record, or None where there are more than an input may have.
+fn read_told<F: Files>(alloc: Global, files: &mut F, name: &str) -> Result<Option<Vec<u8>>, Unread>
+    ensures { IfOk result (IsReadIn most_input (F.told files.old name.now)) }
+{
+    given(read_record(alloc, files, name)?)
 }
 
 /// The bytes of standard input, or None where there are more than an input may have.

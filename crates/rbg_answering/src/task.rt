@@ -11,6 +11,8 @@ pub enum Command {
     Replay,
     /// To print a record of version 1 as one of version 2.
     Migrate,
+    /// To print the moves with which play can go on behind a record.
+    Moves,
 }
 
 /// A command with the names of the files that it asks for. The script of `Referee` is on standard input.
@@ -20,6 +22,7 @@ pub enum FileTask<'a> {
     Referee { file: &'a str },
     Replay { file: &'a str, record: &'a str },
     Migrate { file: &'a str, record: &'a str },
+    Moves { file: &'a str, record: &'a str },
 }
 
 /// A command with what was read for it: of a description at most `MAX_TEXT` bytes, and of a script or a record at most

@@ -2,7 +2,7 @@
 
 use crate::reading::{Read, load_text, read_text, unreadable};
 use crate::report::Report;
-use rbg_console::{Files, Input, MAX_INPUT, Status, read_input};
+use rbg_console::{Files, Input, Status, read_record_input};
 use rbg_game::LoadedGame;
 use rbg_moves::PlayedGame;
 use rbg_page::{PageError, page};
@@ -18,7 +18,7 @@ pub(crate) fn page_file<F: Files, R: io::Read>(
     input: &mut R,
 ) -> Result<Report, AllocError> {
     match read_text(alloc, files, file)? {
-        Read::Found(text) => match read_input(alloc, input, MAX_INPUT)? {
+        Read::Found(text) => match read_record_input(alloc, files, input)? {
             Input::Whole(record) => page_texts(alloc, file, &text, Some(record)),
             Input::TooLong => page_texts(alloc, file, &text, None),
             Input::Device => unreadable(alloc, "standard input"),

@@ -3,12 +3,13 @@
 use crate::report::Report;
 use rbg_console::{Status, write_text};
 use rbg_game::Game;
-use rbg_perft::{CountError, Counts, PlayedGame, Workspace, count_from_start};
+use rbg_perft::{CountError, Counts, Extent, PlayedGame, Workspace, count_from_start};
 use std::alloc::{AllocError, Global};
 use std::io::Write;
 
 /// A line `DEPTH SEQUENCES ENDED` for each depth from 1 on: how many sequences of that many moves of the players there
-/// are from the beginning of play, and after how many of them play is finished. Each is written as soon as it is known.
+/// are from the beginning of play, and after how many of them play is finished. Where the ends aren't asked for, it is
+/// `DEPTH SEQUENCES`. Each line is written as soon as it is known.
 /// What is returned is still to be written, the last line: where a number isn't found, the word that says why, and else
 /// `searched OPENINGS PAIRS`: how many openings the searches took up, and how many pairs of a position and a vertex they
 /// took.
@@ -16,14 +17,15 @@ pub fn perft<W: Write>(
     alloc: Global,
     game: Game,
     depth: u8,
+    extent: Extent,
     output: &mut W,
 ) -> Result<Report, AllocError> {
     let game = PlayedGame::new(alloc, game)?;
     let mut workspace = Workspace::new(alloc);
     for moves in 1..=depth {
-        match count_from_start(&game, moves, &mut workspace) {
+        match count_from_start(&game, moves, extent, &mut workspace) {
             Ok(counts) => {
-                if !write_counts(alloc, output, moves, counts)? {
+                if !write_counts(alloc, output, moves, extent, counts)? {
                     return Ok(last_line(Vec::new(alloc), Status::Device));
                 }
             }
@@ -48,11 +50,15 @@ fn write_counts<W: Write>(
     alloc: Global,
     output: &mut W,
     moves: u8,
+    extent: Extent,
     counts: Counts,
 ) -> Result<bool, AllocError> {
     let sequences = counts.sequences;
     let ended = counts.ended;
-    let line = format!(in alloc; "{moves} {sequences} {ended}\n")?;
+    let line = match extent {
+        Extent::Ends => format!(in alloc; "{moves} {sequences} {ended}\n")?,
+        Extent::Moves => format!(in alloc; "{moves} {sequences}\n")?,
+    };
     let status = write_text(output, line.as_bytes(), Status::Success);
     Ok(status == Status::Success)
 }

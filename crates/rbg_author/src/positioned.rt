@@ -5,7 +5,7 @@ ghost use Rattle.rbg_tokens.specs.Text.{HasTokens};
 use crate::paged::refused;
 use crate::reading::{Read, read_text, refuse, unreadable};
 use crate::report::Report;
-use rbg_console::{Files, Input, MAX_INPUT, Status};
+use rbg_console::{Files, Input, Status, read_record};
 use rbg_game::{LoadError, LoadedGame, load_with_layout};
 use rbg_moves::PlayedGame;
 use rbg_page::PageError;
@@ -23,7 +23,7 @@ pub(crate) fn position_file<F: Files>(
     other: &str,
 ) -> Result<Report, AllocError> {
     match read_text(alloc, files, file)? {
-        Read::Found(text) => match files.read_file(alloc, other, MAX_INPUT)? {
+        Read::Found(text) => match read_record(alloc, files, other)? {
             Input::Whole(bytes) => position_texts(alloc, file, &text, Some(bytes.as_slice())),
             Input::TooLong => position_texts(alloc, file, &text, None),
             Input::Device => unreadable(alloc, other),

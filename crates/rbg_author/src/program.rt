@@ -9,6 +9,7 @@ use crate::report::{Report, print};
 use crate::shown::show_file;
 use clap::{Arg, ArgAction, ArgMatches, Command};
 use rbg_console::{Files, Status, WordsError, file_argument, match_words};
+use rbg_perft::Extent;
 use std::alloc::{AllocError, Global};
 use std::io::{self, Write};
 
@@ -25,7 +26,7 @@ pub fn run<F: Files, R: io::Read, W: Write>(
     output: &mut W,
 ) -> Status {
     let outcome = obey(alloc, words, files, input, output);
-    print(output, &outcome)
+    print(files, output, &outcome)
 }
 
 /// Does what the words say. What is returned is still to be written.
@@ -41,7 +42,12 @@ fn obey<F: Files, R: io::Read, W: Write>(
     match matches.subcommand() {
         Some(("perft", words)) => {
             let depth = words.get_one::<u8>("DEPTH").unwrap_or(USUAL_DEPTH);
-            Ok(perft_file(alloc, files, file_of(words), depth, output)?)
+            let extent = if words.get_flag("count") {
+                Extent::Moves
+            } else {
+                Extent::Ends
+            };
+            Ok(perft_file(alloc, files, file_of(words), depth, extent, output)?)
         }
         Some(("show", words)) => {
             let only_last = words.get_flag("last");
@@ -111,12 +117,17 @@ fn perft_command<'a>(alloc: Global) -> Result<Command<'a>, AllocError> {
     let depth = Arg::new(alloc, "DEPTH")
         .help("The most moves, 1 to 20 [default: 3]")
         .value_parser(clap::value_parser!(u8).range(1..=20));
+    let count = Arg::new(alloc, "count")
+        .long("count")
+        .help("Counts the last moves without making them, so the lines are DEPTH SEQUENCES")
+        .action(ArgAction::SetTrue);
     Command::new(alloc, "perft")
         .about(
             "Counts the sequences of moves of the players: a line DEPTH SEQUENCES ENDED for each depth from 1 on",
         )
         .arg(file.required(true))?
-        .arg(depth)
+        .arg(depth)?
+        .arg(count)
 }
 
 fn show_command<'a>(alloc: Global) -> Result<Command<'a>, AllocError> {
@@ -158,10 +169,11 @@ fn perft_file<F: Files, W: Write>(
     files: &mut F,
     file: &str,
     depth: u8,
+    extent: Extent,
     output: &mut W,
 ) -> Result<Report, AllocError> {
     match read_game(alloc, files, file)? {
-        Read::Found(loaded) => perft(alloc, loaded.game, depth, output),
+        Read::Found(loaded) => perft(alloc, loaded.game, depth, extent, output),
         Read::Other(report) => Ok(report),
     }
 }

@@ -1,6 +1,6 @@
 //! What the program prints, and its status.
 
-use rbg_console::{Status, WordsError, write_text};
+use rbg_console::{Files, Status, WordsError, write_text, write_words};
 use std::io::Write;
 
 /// What the program prints, and its status.
@@ -10,12 +10,14 @@ pub struct Report {
     pub status: Status,
 }
 
-/// Writes what a task gave, or that memory ran out, and returns the status.
-pub fn print<W: Write>(output: &mut W, outcome: &Result<Report, WordsError>) -> Status {
+/// Writes what a task gave, or that memory ran out, and returns the status. Of wrong words is told, and nothing is written.
+pub fn print<F: Files, W: Write>(
+    files: &mut F,
+    output: &mut W,
+    outcome: &Result<Report, WordsError>,
+) -> Status {
     match outcome {
         Ok(report) => write_text(output, report.text.as_slice(), report.status),
-        Err(WordsError::Shown(text)) => write_text(output, text.as_bytes(), Status::Success),
-        Err(WordsError::Wrong(text)) => write_text(output, text.as_bytes(), Status::CommandLine),
-        Err(WordsError::Memory(_)) => write_text(output, b"out of memory\n", Status::Memory),
+        Err(error) => write_words(files, output, error, b"out of memory\n"),
     }
 }

@@ -20,7 +20,11 @@ fn run_on_system(rt: &HostRuntime, words: &[String]) -> Status {
 fn main(rt: HostRuntime) -> ExitCode {
     let status = match words(&rt) {
         Ok(words) => run_on_system(&rt, words.as_slice()),
-        Err(error) => print(&mut io::writer(&rt), &Err(error)),
+        Err(error) => print(
+            &mut SystemFiles::new(&rt),
+            &mut io::writer(&rt),
+            &Err(error),
+        ),
     };
     ExitCode::from(status.code())
 }

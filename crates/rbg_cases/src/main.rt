@@ -7,7 +7,7 @@
 //! | `case NAME` | a case begins; what follows is its standard input |
 //! | `words WORD ..` | the words of the case's command line, with single spaces between them |
 //! | `author` | the case runs `rbg_author`, else it runs `rbg` |
-//! | `news` | what the case tells an organiser on standard error is shown too, each line behind `news: ` |
+//! | `news` | what the case tells on standard error is shown too, each line behind `news: ` |
 //! | `logs` | what the logs of the case hold is shown too, each line behind `log: `; a new log is full at 1,000 bytes |
 //! | `last COUNT` | of what the case prints only this many lines are shown, the last ones |
 //! | `made NAME` | the bytes of a file that the case has made are shown too, behind a line `made NAME` |
@@ -33,7 +33,7 @@ mod network;
 
 use crate::cases::{Case, CasesError, Program, Text, read_cases};
 use crate::network::MemoryNetwork;
-use rbg_console::{Files, Input, MAX_INPUT, MemoryFiles, Status, read_bytes, read_input};
+use rbg_console::{Files, Input, MAX_INPUT, MemoryFiles, Note, Status, read_bytes, read_input};
 use std::alloc::{AllocError, Global};
 use std::io::{self, ErrorKind, Write};
 use std::process::ExitCode;
@@ -41,8 +41,11 @@ use std::process::ExitCode;
 /// The files of a case, and those that it and the cases before it have made.
 #[derive(Drop)]
 struct CaseFiles<'a> {
+    alloc: Global,
     files: &'a [Text<'a>],
     made: &'a mut MemoryFiles,
+    /// What was told, each line behind `news: `.
+    told: Vec<u8>,
 }
 
 impl CaseFiles<'_> {
@@ -75,6 +78,15 @@ impl Files for CaseFiles<'_> {
     fn close_file(&mut self, alloc: Global, name: &str, file: Vec<u8>) -> io::Result<()> {
         self.made.close_file(alloc, name, file)
     }
+
+    fn tell(&mut self, note: &Note<'_>) {
+        let mut text = Vec::new(self.alloc);
+        let _written = writeln!(&mut text, "{note}");
+        for line in text.as_slice().split_inclusive(|byte| *byte == b'\n') {
+            let _head = self.told.extend_from_slice(b"news: ");
+            let _line = self.told.extend_from_slice(line);
+        }
+    }
 }
 
 /// The last lines of a text, at most `count` of them.
@@ -101,11 +113,13 @@ fn run_program(
 ) -> Result<Status, AllocError> {
     let words = case.words.as_slice();
     let mut files = CaseFiles {
+        alloc,
         files: case.files.as_slice(),
         made,
+        told: Vec::new(alloc),
     };
     let mut input = case.input.as_slice();
-    match case.program {
+    let status = match case.program {
         Program::Rbg => {
             let mut network = MemoryNetwork::new(alloc, case.streams.as_slice(), files.files);
             let status = rbg_program::run(
@@ -122,13 +136,14 @@ fn run_program(
             if case.logs {
                 network.add_logs(told)?;
             }
-            Ok(status)
+            status
         }
-        Program::RbgAuthor => {
-            let status = rbg_author::run(alloc, words, &mut files, &mut input, printed);
-            Ok(status)
-        }
+        Program::RbgAuthor => rbg_author::run(alloc, words, &mut files, &mut input, printed),
+    };
+    if case.news {
+        told.extend_from_slice(files.told.as_slice())?;
     }
+    Ok(status)
 }
 
 /// Adds the bytes of a file that was made, if there is one of this name.

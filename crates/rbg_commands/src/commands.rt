@@ -41,11 +41,13 @@ fn check_command<'a>(alloc: Global) -> Result<Command<'a>, AllocError> {
 }
 
 fn moves_command<'a>(alloc: Global) -> Result<Command<'a>, AllocError> {
+    let record = Arg::new(alloc, "RECORD").help("The record of a match: the legal moves behind it");
     Command::new(alloc, "moves")
         .about(
             "Prints the moves of the game's opening, and then the legal moves of the player to move",
         )
-        .arg(game_argument(alloc))
+        .arg(game_argument(alloc))?
+        .arg(record)
 }
 
 fn ask_command<'a>(alloc: Global) -> Result<Command<'a>, AllocError> {

@@ -1,7 +1,7 @@
 //! Why a task is not done: each fault's printed line and its status.
 
 use crate::player_refusal::PlayerRefusal;
-use rbg_console::{Refusal, Status, WordsError, write_text};
+use rbg_console::{Refusal, Status, write_text};
 use rbg_game::LoadError;
 use rbg_hosting::HallFault;
 use rbg_keeping::KeepingFault;
@@ -40,12 +40,6 @@ pub enum Fault {
     Player(PlayerRefusal),
     #[error("memory")]
     Memory(#[from(alloc)] AllocError),
-    /// The words ask for help or for the version, which is this text.
-    #[error("{0}")]
-    Help(String),
-    /// The words are not those of a command, as this text says.
-    #[error("{0}")]
-    CommandLine(String),
 }
 
 impl Fault {
@@ -60,8 +54,6 @@ impl Fault {
             Fault::Absent => Status::Device,
             Fault::Player(_) => Status::Device,
             Fault::Memory(_) => Status::Memory,
-            Fault::Help(_) => Status::Success,
-            Fault::CommandLine(_) => Status::CommandLine,
         }
     }
 }
@@ -155,16 +147,6 @@ impl From<io::Error> for Fault {
     }
 }
 
-impl From<WordsError> for Fault {
-    fn from(error: WordsError) -> Fault {
-        match error {
-            WordsError::Shown(text) => Fault::Help(text),
-            WordsError::Wrong(text) => Fault::CommandLine(text),
-            WordsError::Memory(error) => Fault::Memory(error),
-        }
-    }
-}
-
 /// Writes the lines or the fault's line and returns the status, or `Status::Device` if the output fails.
 pub fn report<W: Write>(output: &mut W, outcome: &Result<Vec<u8>, Fault>) -> Status {
     match outcome {
@@ -178,8 +160,6 @@ pub fn report<W: Write>(output: &mut W, outcome: &Result<Vec<u8>, Fault>) -> Sta
 
 fn write_fault<W: Write>(output: &mut W, fault: &Fault) -> io::Result<()> {
     match fault {
-        // these texts end with a line feed of their own
-        Fault::Help(text) | Fault::CommandLine(text) => output.write_all(text.as_bytes())?,
         Fault::Absent => {}
         _ => writeln!(output, "{fault}")?,
     }

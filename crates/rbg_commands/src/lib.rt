@@ -12,5 +12,4 @@ mod running;
 mod serving;
 mod task;
 
-pub use fault::{Fault, report};
 pub use running::run_command;

@@ -1,11 +1,11 @@
 //! What the words of the command line ask for is done.
 
 use crate::ask::ask_file;
-use crate::fault::{Fault, report};
+use crate::fault::report;
 use crate::serving::{demo_file, play, serve_file, serve_hall};
 use crate::task::Task;
 use rbg_answering::run_task;
-use rbg_console::{Files, Status};
+use rbg_console::{Files, Status, write_words};
 use rbg_hosting::run_hall_script;
 use rbg_keeping::{run_cut, run_script};
 use rbg_listing::run_moves;
@@ -15,8 +15,8 @@ use rbg_refereeing::run_referee;
 use std::alloc::Global;
 use std::io::{Read, Write};
 
-/// Runs what the command line asks for, and returns the status. Words that are no command's are told on the output, with
-/// the status for them.
+/// Runs what the command line asks for, and returns the status. Of words that are no command's is told apart from the
+/// answer, with the status for them.
 pub fn run_command<F: Files, N: Network, R: Read, W: Write>(
     alloc: Global,
     words: &[String],
@@ -27,7 +27,7 @@ pub fn run_command<F: Files, N: Network, R: Read, W: Write>(
 ) -> Status {
     match Task::read(alloc, words) {
         Ok(task) => obey(alloc, task, files, network, input, output),
-        Err(error) => report(output, &Err(Fault::from(error))),
+        Err(error) => write_words(files, output, &error, b"memory\n"),
     }
 }
 

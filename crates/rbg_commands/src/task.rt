@@ -28,7 +28,7 @@ pub struct Service {
 /// What the program is asked to do.
 #[derive(Debug, Drop)]
 pub enum Task<'a> {
-    /// A command on files: `check`, `referee` with a file, `replay` or `migrate`.
+    /// A command on files: `check`, `referee` with a file, `replay`, `migrate`, or `moves` with a record.
     Files(FileTask<'a>),
     /// To referee a match with its record.
     Recorded(RecordTask<'a>),
@@ -108,9 +108,7 @@ impl<'a> Task<'a> {
             "check" => Task::Files(FileTask::Check {
                 file: text_of(words, "FILE"),
             }),
-            "moves" => Task::Moves {
-                file: text_of(words, "FILE"),
-            },
+            "moves" => moves_of(words),
             "ask" => Task::Ask {
                 file: text_of(words, "FILE"),
             },
@@ -144,6 +142,15 @@ impl<'a> Task<'a> {
             },
             _ => referee_of(words),
         }
+    }
+}
+
+/// What the command `moves` asks for.
+fn moves_of<'a>(words: &ArgMatches<'a>) -> Task<'a> {
+    let file = text_of(words, "FILE");
+    match words.get_str("RECORD") {
+        Some(record) => Task::Files(FileTask::Moves { file, record }),
+        None => Task::Moves { file },
     }
 }
 

@@ -1,8 +1,15 @@
-//! How the words of a command line are read.
+//! How the words of a command line are read, and what is said of words that name no task.
+ghost use Rattle.std.specs.Prelude.{◌≡◌};
+ghost use Rattle.rbg_console.specs.WrongWords.{AnswersWords};
 
+use crate::files::Files;
+use crate::note::Note;
+use crate::output::write_text;
+use crate::status::Status;
 use clap::error::ErrorKind;
 use clap::{Arg, ArgMatches, Command};
 use std::alloc::{AllocError, Global};
+use std::io::Write;
 use thiserror::Error;
 
 /// Why words name no task.
@@ -45,4 +52,28 @@ fn refusal_of(alloc: Global, error: &clap::Error) -> Result<WordsError, AllocErr
         }
         _ => Ok(WordsError::Wrong(error.to_string(alloc)?)),
     }
+}
+
+/// Answers words that name no task. Help and the version are written, and so is the line that says that memory ran out.
+/// What is wrong with words is told, and nothing is written.
+pub fn write_words<F: Files, W: Write>(
+    files: &mut F,
+    output: &mut W,
+    error: &WordsError,
+    no_memory: &[u8],
+) -> Status
+    ensures { AnswersWords error.now no_memory.now (W.contents output.old) (W.contents output.new) result }
+{
+    match error {
+        WordsError::Shown(text) => write_text(output, text.as_bytes(), Status::Success),
+        WordsError::Wrong(text) => tell_words(files, text.as_str()),
+        WordsError::Memory(_) => write_text(output, no_memory, Status::Memory),
+    }
+}
+
+fn tell_words<F: Files>(files: &mut F, text: &str) -> Status
+    ensures { result ≡ Status.CommandLine }
+{
+    files.tell(&Note::Words { text });
+    Status::CommandLine
 }

@@ -4,11 +4,12 @@ ghost use Rattle.std.specs.declared.option.Option.{Option};
 ghost use Rattle.rbg_console.specs.Files.{IsFileReading, KeepsFiles, KeepsOthers};
 
 use crate::input::{Input, read_input};
+use crate::note::Note;
 use crate::output::write_and_flush;
 use std::alloc::{AllocError, Global};
 use std::io::{self, Write};
 
-/// Where a program reads named files, and creates new ones.
+/// Where a program reads named files, and creates new ones, and where it tells what is no part of its answer.
 pub trait Files {
     /// A file that was created. What is written to it is appended.
     type NewFile: Write + Drop;
@@ -34,6 +35,10 @@ pub trait Files {
     fn close_file(&mut self, alloc: Global, name: &str, file: Self::NewFile) -> io::Result<()>
         ensures closed { OnOk result (tells_new → told self.new name.now ≡ Self.NewFile.contents file) }
         ensures others { KeepsOthers name.now (told self.old) (told self.new) };
+
+    /// Tells whoever runs the program what is no part of its answer. Where that can't be told, nothing is.
+    fn tell(&mut self, note: &Note<'_>)
+        ensures kept { KeepsFiles (told self.old) (told self.new) };
 }
 
 /// Reads bytes in memory as those of a file.

@@ -5,6 +5,7 @@ ghost use Rattle.rbg_console.specs.MemoryFiles.{bytes_in};
 
 use crate::files::{Files, read_bytes};
 use crate::input::Input;
+use crate::note::Note;
 use std::alloc::{AllocError, Global};
 use std::collections::BTreeMap;
 use std::io::{self, ErrorKind};
@@ -70,4 +71,7 @@ impl Files for MemoryFiles {
         self.put(String::from_str(alloc, name)?, file)?;
         Ok(())
     }
+
+    /// Nobody hears it.
+    fn tell(&mut self, _note: &Note<'_>) {}
 }

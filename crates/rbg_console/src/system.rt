@@ -5,6 +5,7 @@ ghost use Rattle.rbg_console.specs.Files.{IsFileReading};
 use crate::command_line::WordsError;
 use crate::files::Files;
 use crate::input::{Input, read_input};
+use crate::note::Note;
 use std::alloc::{AllocError, Global};
 use std::env;
 use std::fs::File;
@@ -70,6 +71,10 @@ impl Files for SystemFiles<'_> {
 
     fn close_file(&mut self, _alloc: Global, _name: &str, _file: File) -> io::Result<()> {
         Ok(())
+    }
+
+    fn tell(&mut self, note: &Note<'_>) {
+        let _told = eprintln!(self.rt; "{note}");
     }
 }
 

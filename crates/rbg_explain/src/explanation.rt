@@ -3,6 +3,7 @@
 use crate::brackets::open_bracket;
 use crate::calls::{called_lines, push_calls};
 use crate::exact::find_place;
+use crate::joined::{joined_text, push_joins};
 use crate::message::{Found, Message};
 use crate::origin::faulty_call;
 use crate::spot::{Spot, head_name};
@@ -29,19 +30,24 @@ pub fn explain(
     let cut = slice_of(tokens);
     match find_place(alloc, &error, text, tokens)? {
         Some(at) => {
-            let spot = Spot::find(cut, at);
+            let joined = joined_text(alloc, &error, tokens, at)?;
             let message = Message {
                 error,
-                spot,
+                spot: Spot::find(cut, at),
+                joined: joined.as_deref(),
                 has_mark,
             };
             push_place(alloc, &mut output, file, text, at, message)?;
+            if let Some(joined) = message.joined {
+                push_joins(alloc, &mut output, text, cut, at, joined)?;
+            }
             push_notes(alloc, &mut output, text, cut, message)?;
         }
         None => {
             let message = Message {
                 error,
                 spot: None,
+                joined: None,
                 has_mark,
             };
             let line = format!(in alloc; "{file}: {message}\n")?;

@@ -7,6 +7,7 @@ mod brackets;
 mod calls;
 mod exact;
 mod explanation;
+mod joined;
 mod listed;
 mod message;
 mod origin;

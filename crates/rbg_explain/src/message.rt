@@ -20,19 +20,32 @@ pub struct Message<'a> {
     pub error: LoadError,
     /// What stands at the refusal's place.
     pub spot: Option<Spot<'a>>,
+    /// The whole text of what stands there, if `~` has joined it.
+    pub joined: Option<&'a [u8]>,
     /// Whether the text is refused since it begins with a byte order mark.
     pub has_mark: bool,
 }
 
 impl fmt::Display for Message<'_> {
     fn fmt<W: fmt::Write>(&self, f: &mut Formatter<W>) -> fmt::Result {
-        let found = Found(self.spot.map(|spot| spot.token));
+        let found = Found(self.found());
         match self.error {
             LoadError::Text(error) => write_text(f, &error, self.has_mark),
             LoadError::Macro(error) => write_macro(f, &error, self.spot, &found),
             LoadError::Syntax(error) => write_syntax(f, &error, self.spot, &found),
             LoadError::Game(error) => write_game(f, &error, self.spot, &found),
         }
+    }
+}
+
+impl<'a> Message<'a> {
+    /// The token at the refusal's place, with its whole text.
+    pub fn found(&self) -> Option<Token<'a>> {
+        let token = self.spot?.token;
+        Some(Token {
+            text: self.joined.unwrap_or(token.text),
+            ..token
+        })
     }
 }
 

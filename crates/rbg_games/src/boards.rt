@@ -3,7 +3,7 @@
 ghost use Rattle.std.specs.Prelude.{IfOk, None};
 ghost use Rattle.rbg_console.specs.Files.{IsFileReading};
 
-use rbg_console::{Files, Input, SystemFiles};
+use rbg_console::{Files, Input, Note, SystemFiles};
 use std::alloc::{AllocError, Global};
 use std::fs::File;
 use std::io;
@@ -64,6 +64,10 @@ impl Files for GameFiles<'_> {
 
     fn close_file(&mut self, alloc: Global, name: &str, file: File) -> io::Result<()> {
         self.files.close_file(alloc, name, file)
+    }
+
+    fn tell(&mut self, note: &Note<'_>) {
+        self.files.tell(note);
     }
 }
 

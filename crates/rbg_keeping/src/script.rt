@@ -3,7 +3,7 @@ ghost use Rattle.std.specs.Prelude.{◌≡◌, IfOk};
 ghost use Rattle.rbg_answering.specs.Answers.{form_line};
 ghost use Rattle.rbg_keeping.specs.Runs.{IsFilesScript, IsScriptAnswer, IsScriptRun};
 
-use rbg_console::{Files, Input, MAX_INPUT, Status, write_text};
+use rbg_console::{Files, Input, Status, read_record, write_text};
 use rbg_refereeing::{Answer, answer_device};
 use rbg_scripting::{ScriptingError, script_of_record};
 use std::alloc::{AllocError, Global};
@@ -28,7 +28,7 @@ pub fn run_script<F: Files, W: Write>(
 fn answer_file<F: Files>(alloc: Global, file: &str, files: &mut F) -> Result<Answer, AllocError>
     ensures { IfOk result (λ answer. IsFilesScript (F.told files.old file.now) answer.text.items answer.status) }
 {
-    match files.read_file(alloc, file, MAX_INPUT)? {
+    match read_record(alloc, files, file)? {
         Input::Whole(bytes) => answer_record(alloc, bytes.as_slice()),
         Input::TooLong => answer_form(alloc, 0),
         Input::Device => answer_device(alloc),

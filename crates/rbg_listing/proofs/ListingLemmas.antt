@@ -1,13 +1,17 @@
 -- Lemmas on what is listed.
-use Rattle.std.proofs.Common.{◌≡◌, ◌⊎◌, ℕ, List, inl, inr, ap, arith}
-use Rattle.std.specs.Prelude.{◌<◌, ◌≤◌, Result, Ok, Err, IfOk, OnOk, length}
+use Rattle.std.proofs.Common.{◌≡◌, ◌⊎◌, ℕ, Bool, true, false, List, [], inl, inr, ap, refl, subst, arith}
+use Rattle.std.specs.Prelude.{◌<◌, ◌≤◌, Contains, Result, Ok, Err, IfOk, OnOk, length}
 use Rattle.rbg_game.specs.Loading.{IsMemory, IsRefused}
 use Rattle.rbg_game.specs.declared.error.LoadError.TheVariants.{Text}
+use Rattle.rbg_moves.specs.Listing.{IsListed}
 use Rattle.rbg_moves.specs.declared.list.Listed.{Listed}
+use Rattle.rbg_rules.specs.Moves.{AbstractPlace, Finished}
+use Rattle.rbg_rules.specs.State.{AbstractGame}
 use Rattle.rbg_search.specs.declared.over.Over.{Over}
 use Rattle.rbg_search.specs.declared.over.Over.TheVariants.{Deep, Wide}
 use Rattle.rbg_tokens.specs.Limits.{longest_text}
 use Rattle.rbg_tokens.specs.declared.error.TextError.TheVariants.{TooLong}
+use Rattle.rbg_listing.specs.Openings.{most_listed}
 
 -- facts of what is returned give another one
 pub both : {X Y : Type 0} (r : Result X Y) (P Q R : X → Type 0) → ((x : X) → P x → Q x → R x) → IfOk r P → IfOk r Q → IfOk r R
@@ -36,4 +40,17 @@ pub long_refused : (text : List ℕ) → longest_text < length text → IsRefuse
 long_refused text above = record {
   fault = above;
   no_game = λ known game loads. let fits : length text ≤ longest_text = loads.describes.has.cut.fits in let no : ⊥ = omega (arith, fits, above) in no;
+}
+
+nothing_in : {X : Type 0} (x : X) → Contains [] x → ⊥
+nothing_in x there = omega (arith, there.1)
+
+-- where no move is listed, none is legal
+pub none_legal : (game : AbstractGame) (place : AbstractPlace) (moves : List (List (ℕ × ℕ))) (cut : Bool) → IsListed game place most_listed moves cut → moves ≡ [] → Finished game place
+none_legal game place moves true listed none =
+    let full : length moves ≡ 1000 = listed.full refl in
+    let empty : length moves ≡ 0 = ap length none in
+    absurd (let no : ⊥ = omega (arith, full, empty) in no)
+none_legal game place moves false listed none = record {
+  no_move = λ pairs to legal. nothing_in pairs (subst (λ list. Contains list pairs) none (listed.whole refl pairs (to, legal)));
 }

@@ -1,4 +1,6 @@
 pub mod Answers
+pub mod Behind
 pub mod Lines
 pub mod Openings
 pub mod Runs
+pub mod internal

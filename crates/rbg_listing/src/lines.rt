@@ -78,7 +78,7 @@ pub(crate) fn write_end(outcome: &Outcome, out: &mut Vec<u8>) -> Result<(), Memo
     }
 }
 
-fn write_scores(scores: &[u64], out: &mut Vec<u8>) -> Result<(), Memory>
+pub(crate) fn write_scores(scores: &[u64], out: &mut Vec<u8>) -> Result<(), Memory>
     ensures { OnOk result (out.new.items
         ≡ out.old.items ++ (codes "finished" ++ numbers_text scores.now ++ codes "\n")) }
 {

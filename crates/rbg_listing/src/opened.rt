@@ -12,7 +12,7 @@ use rbg_moves::{Listed, Over};
 use std::alloc::Global;
 
 /// The most legal moves that are printed.
-const MAX_LISTED: usize = 1_000;
+pub(crate) const MAX_LISTED: usize = 1_000;
 
 /// The lines of the moves of the opening, and of how play can go on.
 pub(crate) fn opened_lines(alloc: Global, opened: &Match) -> Result<Vec<u8>, Memory>
@@ -47,7 +47,7 @@ fn write_legal(opened: &Match, out: &mut Vec<u8>) -> Result<(), Memory>
 }
 
 /// That a question is above the limits, if that is why there is no answer.
-fn write_limit(over: Over, out: &mut Vec<u8>) -> Result<(), Memory>
+pub(crate) fn write_limit(over: Over, out: &mut Vec<u8>) -> Result<(), Memory>
     ensures written { OnOk result (out.new.items ≡ out.old.items ++ codes "over\n") }
     ensures limit { OnOk result ((over ≡ Over.Deep) ⊎ (over ≡ Over.Wide)) }
 {
@@ -66,7 +66,7 @@ fn mover(opened: &Match) -> Player
 }
 
 /// Moves of a player, and whether there are more.
-fn write_listed(player: Player, listed: &Listed, out: &mut Vec<u8>) -> Result<(), Memory>
+pub(crate) fn write_listed(player: Player, listed: &Listed, out: &mut Vec<u8>) -> Result<(), Memory>
     ensures { OnOk result (out.new.items ≡ out.old.items
         ++ (flat_map (move_line player) listed.now.moves.items ++ cut_text listed.now.cut)) }
 {

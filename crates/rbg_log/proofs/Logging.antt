@@ -7,7 +7,7 @@ use Rattle.std.proofs.lemmas.Grind.{flat_map-append}
 use Rattle.rbg_game.specs.Loading.{Loads}
 use Rattle.rbg_rules.specs.State.{AbstractGame}
 use Rattle.rbg_match.specs.declared.config.Config.{Config}
-use Rattle.rbg_match.specs.Inputs.{AbstractEvent, piece, end_of_stream, moment_alone}
+use Rattle.rbg_match.specs.Inputs.{AbstractEvent, piece, end_of_stream, moment_alone, moment_of}
 use Rattle.rbg_match.specs.Matches.{MatchState, Opens, Steps, StepsAll}
 use Rattle.rbg_match.specs.Refereed.{IsRefereed, OpensText}
 use Rattle.rbg_match.specs.Played.{IsMatchOf}
@@ -30,7 +30,7 @@ use Rattle.rbg_serving.specs.Serving.{ServesOver, EndsServing, LacksMemory}
 use Rattle.rbg_serving.specs.Told.{Told}
 use Rattle.rbg_log.specs.declared.logged.LoggedMatch.{LoggedMatch}
 use Rattle.rbg_log.specs.Logs.{Appends, IsLog, Logs, LogsPart, event_lines, first_line, scripted}
-use Rattle.rbg_log.specs.Serving.{IsPartOfLine, LeavesLog, LogLacks, LogSteps, of_log}
+use Rattle.rbg_log.specs.Serving.{IsOverAt, IsPartOfLine, LeavesLog, LogLacks, LogSteps, of_log}
 use Rattle.rbg_log.specs.Written.{Replays, written}
 use Rattle.rbg_log.proofs.Replaying.{Stands, stands_on, stands_at_start, first_moment_small}
 
@@ -92,7 +92,7 @@ module _ (text : List ℕ) (script : AbstractScript) (has : ScriptHasSpelling sc
   }
 
 -- a log of one event more
-log_on : (text held : List ℕ) (state new : MatchState) (queued after : List (List ℕ)) (event : AbstractEvent) → IsLog text held state queued → Steps state event new queued after → All EventHasSpelling (map scripted (written state event)) → IsLog text (held ++ event_lines (written state event)) new after
+pub log_on : (text held : List ℕ) (state new : MatchState) (queued after : List (List ℕ)) (event : AbstractEvent) → IsLog text held state queued → Steps state event new queued after → All EventHasSpelling (map scripted (written state event)) → IsLog text (held ++ event_lines (written state event)) new after
 log_on text held state new queued after event log step spelled =
     let lines = written state event in
     let before : Stands log.opened log.greeted (map event_for log.script.events) state queued = record { replayed = log.replayed; steps = log.steps; replays = log.replays; small = log.counted } in
@@ -193,9 +193,9 @@ no_part told log events = record { count = 0; part = λ held tells. subst (told 
 pub nothing_logged : {W : Type 0} (told : W → List ℕ → Type 0) (log : W) → Logs told log log []
 nothing_logged told log = record { lines = λ held tells. subst (told log) (sym (append-nil held)) tells; spelled = All-nil EventHasSpelling }
 
-pub handled_so : {W E : Type 0} (told : W → List ℕ → Type 0) (old new : LoggedMatch W) (played : MatchState) (event : AbstractEvent) (before after : List (List ℕ)) (result : Result (Unit {0}) E) → played ≡ old.played → Logs told old.log new.log (written old.played event) → OnOk result (Steps played event new.played before after) → OnOk result (LogSteps told old event new before after)
-handled_so told old new played event before after (Ok done) same logs steps = record { logs = logs; steps = subst (λ (one : MatchState). Steps one event new.played before after) same steps }
-handled_so told old new played event before after (Err error) same logs steps = tt
+pub handled_so : {W E : Type 0} (told : W → List ℕ → Type 0) (old new : LoggedMatch W) (played : MatchState) (event : AbstractEvent) (before after : List (List ℕ)) (result : Result (Unit {0}) E) → played ≡ old.played → ¬ IsOverAt old.until (moment_of event) → new.until ≡ old.until → Logs told old.log new.log (written old.played event) → OnOk result (Steps played event new.played before after) → OnOk result (LogSteps told old event new before after)
+handled_so told old new played event before after (Ok done) same timely until logs steps = record { timely = timely; same_until = until; logs = logs; steps = subst (λ (one : MatchState). Steps one event new.played before after) same steps }
+handled_so told old new played event before after (Err error) same timely until logs steps = tt
 
 pub lacks_so : {W : Type 0} (told : W → List ℕ → Type 0) (old new : LoggedMatch W) (event : AbstractEvent) → LogsPart told old.log new.log (written old.played event) → LogLacks told old new
 lacks_so told old new event part = record { event = event; part = part }

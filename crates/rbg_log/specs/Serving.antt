@@ -1,6 +1,6 @@
 -- A match with a log as a call of `serve` knows it.
-use Rattle.std.specs.Prelude.{◌≡◌, ℕ, List, [], ◌++◌, take, IsSome, IsErrOf, Result}
-use Rattle.rbg_match.specs.Inputs.{AbstractEvent}
+use Rattle.std.specs.Prelude.{◌≡◌, ◌≤◌, ℕ, List, [], ◌++◌, take, Option, Some, None, IsSome, IsErrOf, Result}
+use Rattle.rbg_match.specs.Inputs.{AbstractEvent, moment_of}
 use Rattle.rbg_match.specs.Matches.{MatchState, Steps}
 use Rattle.rbg_serving.specs.declared.served.Served.{Served}
 use Rattle.rbg_serving.specs.declared.served.ServeError.{ServeError}
@@ -10,9 +10,17 @@ use Rattle.rbg_log.specs.declared.logged.LoggedMatch.{LoggedMatch}
 use Rattle.rbg_log.specs.Logs.{IsLog, Logs, LogsPart, event_lines}
 use Rattle.rbg_log.specs.Written.{written}
 
--- An event comes to a match with a log: what is written of it is in the log, and the match has handled it.
+-- The time for a match is over at this moment, where it ends with the first one, if there is one.
+abbrev pub IsOverAt : (until : Option ℕ) → (moment : ℕ) → Type 0
+IsOverAt (Some until) moment = until ≤ moment
+IsOverAt None moment = ⊥
+
+-- An event comes to a match with a log, while there is time: what is written of it is in the log, and the match has
+-- handled it.
 pub record LogSteps {W : Type 0} (told : W → List ℕ → Type 0) (old : LoggedMatch W) (event : AbstractEvent)
     (new : LoggedMatch W) (before after : List (List ℕ)) : Type 0 where
+  pub timely : ¬ IsOverAt old.until (moment_of event)
+  pub same_until : new.until ≡ old.until
   pub logs : Logs told old.log new.log (written old.played event)
   pub steps : Steps old.played event new.played before after
 

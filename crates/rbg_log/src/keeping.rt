@@ -2,12 +2,36 @@
 ghost use Rattle.std.specs.Prelude.{ℕ, List, OnOk, OnErr};
 ghost use Rattle.rbg_log.specs.Logs.{Appends, AppendsFront};
 
+use rbg_base::Memory;
 use thiserror::Error;
 
 /// A log couldn't take what was written to it. Where there is a reason, the log has said it.
 #[derive(Clone, Copy, Debug, PartialEq, Eq, Error)]
 #[error("the log failed")]
 pub struct LogFailure;
+
+/// Why something isn't written to a log.
+#[derive(Clone, Copy, Debug, PartialEq, Eq, Error)]
+pub enum WriteError {
+    /// A request for memory failed.
+    #[error("out of memory")]
+    Memory,
+    /// The log failed.
+    #[error("the log failed")]
+    Log,
+}
+
+impl From<Memory> for WriteError {
+    fn from(_memory: Memory) -> WriteError {
+        WriteError::Memory
+    }
+}
+
+impl From<LogFailure> for WriteError {
+    fn from(_failure: LogFailure) -> WriteError {
+        WriteError::Log
+    }
+}
 
 /// Where the events of a match are written.
 pub trait Log: Drop {

@@ -16,10 +16,11 @@ mod stumps;
 mod writing;
 
 pub use cutting::whole_lines;
-pub use keeping::{Log, LogFailure};
+pub use keeping::{Log, LogFailure, WriteError};
 pub use later_clock::LaterClock;
 pub use logged::{LoggedMatch, Stop};
 pub use memory_log::MemoryLog;
-pub use opening::OpenError;
+pub use opening::{OpenError, write_first};
 pub use resuming::{ResumeError, play_script};
 pub use stumps::cut_stumps;
+pub use writing::write_event;

@@ -1,5 +1,6 @@
 //! A match with a log.
-ghost use Rattle.std.specs.Prelude.{◌≡◌};
+ghost use Rattle.std.specs.Prelude.{◌≡◌, ◌↔◌, Some, IsTrue};
+ghost use Rattle.rbg_log.specs.Serving.{IsOverAt};
 
 use crate::Log;
 use rbg_match::Match;
@@ -56,14 +57,18 @@ impl<W: Log> LoggedMatch<W> {
 
     /// Handles no event at this moment or later.
     pub fn stop_at(&mut self, moment: u64)
+        ensures until { self.new.until ≡ Some moment }
         ensures played { self.new.played ≡ self.old.played }
         ensures log { self.new.log ≡ self.old.log }
+        ensures stopped { self.new.stopped ≡ self.old.stopped }
     {
         self.until = Some(moment);
     }
 
     /// Whether the time for the match is over when an event comes at this moment.
-    pub(crate) fn is_over_at(&self, moment: u64) -> bool {
+    pub(crate) fn is_over_at(&self, moment: u64) -> bool
+        ensures { IsTrue result ↔ IsOverAt self.now.until moment }
+    {
         match self.until {
             Some(until) => until <= moment,
             None => false,

@@ -5,7 +5,7 @@ ghost use Rattle.rbg_match.specs.Matches.{HasHistory, Opens};
 ghost use Rattle.rbg_match.specs.PlayingOn.{seats_of};
 ghost use Rattle.rbg_log.specs.Logs.{Appends, IsLog, first_line};
 
-use crate::{Log, LogFailure, LoggedMatch};
+use crate::{Log, LoggedMatch, WriteError};
 use rbg_base::Memory;
 use rbg_match::{Config, Match, MatchError, Outbox};
 use rbg_rules::Game;
@@ -42,19 +42,22 @@ impl From<MatchError> for OpenError {
     }
 }
 
-impl From<LogFailure> for OpenError {
-    fn from(_failure: LogFailure) -> OpenError {
-        OpenError::Log
+impl From<WriteError> for OpenError {
+    fn from(error: WriteError) -> OpenError {
+        match error {
+            WriteError::Memory => OpenError::Memory,
+            WriteError::Log => OpenError::Log,
+        }
     }
 }
 
-/// Writes the first line of the log of a match.
-fn write_first<W: Log>(
+/// Writes the first line of the log of a match that begins at this moment. The line is room for it.
+pub fn write_first<W: Log>(
     config: Config,
     now: u64,
     log: &mut W,
     line: &mut Vec<u8>,
-) -> Result<(), OpenError>
+) -> Result<(), WriteError>
     ensures { OnOk result (Appends W.told log.old log.new (first_line config now)) }
 {
     let config = ScriptConfig {

@@ -1,11 +1,12 @@
 //! A match goes on from the script of its log.
-ghost use Rattle.std.specs.Prelude.{◌≡◌, ◌++◌, [], ℕ, List, All, length, map, IfOk, OnOk};
+ghost use Rattle.std.specs.Prelude.{◌≡◌, ◌++◌, [], ℕ, List, All, length, map, IfErr, IfOk, OnOk};
 ghost use Rattle.rbg_game.specs.Loading.{Loads};
 ghost use Rattle.rbg_match.specs.Matches.{HasHistory};
 ghost use Rattle.rbg_match.specs.PlayingOn.{seats_of};
+ghost use Rattle.rbg_refereeing.specs.Matches.{IsNoMatch};
 ghost use Rattle.rbg_script.specs.Config.{ConfigHasSpelling};
 ghost use Rattle.rbg_script.specs.Events.{EventHasSpelling, event_of, event_text};
-ghost use Rattle.rbg_script.specs.Scripts.{script_of, script_text};
+ghost use Rattle.rbg_script.specs.Scripts.{SpellsScript, script_of, script_text};
 ghost use Rattle.rbg_wire.specs.Lines.{line_of};
 ghost use Rattle.rbg_log.specs.Logs.{IsLog, IsScriptPlayed, texts_of};
 
@@ -57,6 +58,8 @@ pub fn play_script(
     ensures seats { IfOk result (λ made. length made.1 ≡ seats_of made.0.game) }
     ensures loads { IfOk result (λ made. Loads description.now made.0.game) }
     ensures history { IfOk result (λ made. HasHistory made.0) }
+    ensures refused { IfErr result (λ fault. (text : List ℕ) →
+        SpellsScript text (script_of script.now) → IsNoMatch description.now text fault) }
 {
     let events = match events_of(alloc, script.events.as_slice()) {
         Ok(events) => events,

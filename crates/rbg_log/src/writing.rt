@@ -6,9 +6,10 @@ ghost use Rattle.rbg_match.specs.Play.{due_of};
 ghost use Rattle.rbg_script.specs.Events.{EventHasSpelling};
 ghost use Rattle.rbg_wire.specs.Writing.{AppendsAll};
 ghost use Rattle.rbg_log.specs.Logs.{Logs, LogsPart, event_line, scripted};
+ghost use Rattle.rbg_log.specs.Serving.{IsOverAt};
 ghost use Rattle.rbg_log.specs.Written.{at_moment, is_quiet, written};
 
-use crate::{Log, LoggedMatch, Stop};
+use crate::{Log, LoggedMatch, Stop, WriteError};
 use rbg_base::Memory;
 use rbg_match::{Event, LATEST_MOMENT, Match};
 use rbg_script::{write_end, write_piece, write_tick};
@@ -66,10 +67,48 @@ fn written_at(played: &Match, event: Event<'_>) -> Option<u64>
     }
 }
 
+/// Writes what is written of an event that comes to a match. The line is room for it.
+pub fn write_event<W: Log>(
+    played: &Match,
+    event: Event<'_>,
+    log: &mut W,
+    line: &mut Vec<u8>,
+) -> Result<(), WriteError>
+    ensures ok { OnOk result (Logs W.told log.old log.new
+        (written played.now (event_of event.entry))) }
+    ensures err { OnErr result (LogsPart W.told log.old log.new
+        (written played.now (event_of event.entry))) }
+{
+    match written_at(played, event) {
+        None => Ok(()),
+        Some(at) => write_at(event, at, log, line),
+    }
+}
+
+/// Writes an event at this moment.
+fn write_at<W: Log>(
+    event: Event<'_>,
+    at: u64,
+    log: &mut W,
+    line: &mut Vec<u8>,
+) -> Result<(), WriteError>
+    ensures ok { OnOk result (Logs W.told log.old log.new
+        (at_moment at (event_of event.entry) ∷ [])) }
+    ensures err { OnErr result (LogsPart W.told log.old log.new
+        (at_moment at (event_of event.entry) ∷ [])) }
+{
+    line.clear();
+    write_line(event, at, line)?;
+    log.append(line.as_slice())?;
+    Ok(())
+}
+
 impl<W: Log> LoggedMatch<W> {
     /// Writes what is written of an event, unless no more events are handled.
     pub(crate) fn write(&mut self, event: Event<'_>) -> Result<(), Memory>
         ensures played { self.new.played ≡ self.old.played }
+        ensures until { self.new.until ≡ self.old.until }
+        ensures timely { OnOk result (¬ IsOverAt self.old.until (moment_of (event_of event.entry))) }
         ensures ok { OnOk result (Logs W.told self.old.log self.new.log
             (written self.old.played (event_of event.entry))) }
         ensures err { OnErr result (LogsPart W.told self.old.log self.new.log
@@ -82,25 +121,10 @@ impl<W: Log> LoggedMatch<W> {
             self.stopped = Some(Stop::Time);
             return Err(Memory);
         }
-        match written_at(&self.played, event) {
-            None => Ok(()),
-            Some(at) => self.write_at(event, at),
-        }
-    }
-
-    /// Writes an event at this moment.
-    fn write_at(&mut self, event: Event<'_>, at: u64) -> Result<(), Memory>
-        ensures played { self.new.played ≡ self.old.played }
-        ensures ok { OnOk result (Logs W.told self.old.log self.new.log
-            (at_moment at (event_of event.entry) ∷ [])) }
-        ensures err { OnErr result (LogsPart W.told self.old.log self.new.log
-            (at_moment at (event_of event.entry) ∷ [])) }
-    {
-        self.line.clear();
-        write_line(event, at, &mut self.line)?;
-        match self.log.append(self.line.as_slice()) {
+        match write_event(&self.played, event, &mut self.log, &mut self.line) {
             Ok(()) => Ok(()),
-            Err(_) => {
+            Err(WriteError::Memory) => Err(Memory),
+            Err(WriteError::Log) => {
                 self.stopped = Some(Stop::Log);
                 Err(Memory)
             }

@@ -1,8 +1,8 @@
 //! The program `rbg`: a referee for games of Regular Boardgames.
 #![tactic(auto)]
 
-use rbg_console::{Status, SystemFiles, words};
-use rbg_program::{Fault, SystemNetwork, report, run};
+use rbg_console::{Status, SystemFiles, words, write_words};
+use rbg_program::{SystemNetwork, run};
 use std::io;
 use std::process::ExitCode;
 
@@ -21,7 +21,12 @@ fn run_on_system(rt: &HostRuntime, words: &[String]) -> Status {
 fn main(rt: HostRuntime) -> ExitCode {
     let status = match words(&rt) {
         Ok(words) => run_on_system(&rt, words.as_slice()),
-        Err(error) => report(&mut io::writer(&rt), &Err(Fault::from(error))),
+        Err(error) => write_words(
+            &mut SystemFiles::new(&rt),
+            &mut io::writer(&rt),
+            &error,
+            b"memory\n",
+        ),
     };
     ExitCode::from(status.code())
 }

@@ -40,17 +40,37 @@ impl fmt::Display for News<'_> {
             News::Connected { seat } => write!(f, "seat {seat} connected"),
             News::Left { seat } => write!(f, "seat {seat} left"),
             News::Absent { seconds } => {
-                write!(f, "not all seats were taken within {seconds} seconds")
+                write!(
+                    f,
+                    "not all seats were taken within {}",
+                    Count(*seconds, "second")
+                )
             }
             News::Begins => f.write_str("match begins"),
             News::GoesOn => f.write_str("match goes on"),
             News::Ended { outcome } => write_end(f, outcome),
-            News::Unfinished { rounds } => write!(f, "match not ended within {rounds} rounds"),
-            News::OutOfTime { minutes } => write!(f, "match not ended within {minutes} minutes"),
+            News::Unfinished { rounds } => {
+                write!(f, "match not ended within {}", Count(*rounds, "round"))
+            }
+            News::OutOfTime { minutes } => {
+                write!(f, "match not ended within {}", Count(*minutes, "minute"))
+            }
             News::Sits { seat, name } => write!(f, "seat {seat} is {name}"),
             News::GaveUp { seat, error } => write!(f, "seat {seat} gave up: {error}"),
             News::Plays { player, name } => write!(f, "seat {player} plays {name}"),
         }
+    }
+}
+
+/// So many of something with this name.
+#[derive(Clone, Copy, Debug)]
+struct Count(u64, &'static str);
+
+impl fmt::Display for Count {
+    fn fmt<W: fmt::Write>(&self, f: &mut Formatter<W>) -> fmt::Result {
+        let Count(count, name) = self;
+        let ending = if *count == 1 { "" } else { "s" };
+        write!(f, "{count} {name}{ending}")
     }
 }
 

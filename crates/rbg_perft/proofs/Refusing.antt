@@ -1,5 +1,5 @@
 -- Why sequences are not counted: an error of a question, of the keeper's moves, of what is behind a move, of a sum.
-use Rattle.std.proofs.Common.{◌≡◌, ℕ, suc, ◌-◌, ◌<◌, ◌⊎◌, List, length, get_or, take, Option, Some, None, Result, Ok, Err, inl, inr, refl, subst, sym, arith}
+use Rattle.std.proofs.Common.{◌≡◌, ℕ, zero, suc, ◌-◌, ◌<◌, ◌⊎◌, List, length, get_or, take, Option, Some, None, Result, Ok, Err, inl, inr, refl, subst, sym, arith}
 use Rattle.std.specs.Prelude.{AllPairs, IfErr, IsErrAnd}
 use Rattle.std.specs.Option.{ok_or}
 use Rattle.std.proofs.lemmas.List.{length-take, get_or-take}
@@ -14,7 +14,9 @@ use Rattle.rbg_moves.specs.declared.unsettled.Unsettled.{Unsettled}
 use Rattle.rbg_moves.specs.declared.unsettled.Unsettled.TheVariants as unsettled
 use Rattle.rbg_perft.specs.declared.error.CountError.{CountError}
 use Rattle.rbg_perft.specs.declared.error.CountError.TheVariants.{Heavy, Keeper, TooMany, Memory}
-use Rattle.rbg_perft.specs.Refusals.{IsNotCounted, IsNotCountedFrom}
+use Rattle.rbg_perft.specs.declared.extent.Extent.{Extent}
+use Rattle.rbg_perft.specs.declared.extent.Extent.TheVariants.{Ends}
+use Rattle.rbg_perft.specs.Refusals.{IsAsked, IsNotCounted, IsNotCountedFrom}
 use Rattle.rbg_perft.specs.Refusals.Meets.{here, behind}
 use Rattle.rbg_perft.specs.Refusals.AsksTooMuch.{keeper, player}
 use Rattle.rbg_perft.specs.internal.Refusing.{error_of_over, error_of_unsettled}
@@ -24,33 +26,33 @@ pub passed_on : {T : Type 0} (result : Result T CountError) (error : CountError)
 passed_on (Ok x) error P is p = absurd is
 passed_on (Err e) error P is p = subst P (sym is) p
 
-pub over_to_find : (T : Type 0) (game : AbstractGame) (to : AbstractPlace) (over : Over) → (◌≡◌ {A = Result T Over} (Err over) (Err Deep) ⊎ ◌≡◌ {A = Result T Over} (Err over) (Err Wide) → IsHeavyToFind game to) → IsNotCountedFrom game 0 to (error_of_over over)
-over_to_find T game to Deep hard = λ place settles. here (player settles (hard (inl refl)))
-over_to_find T game to Wide hard = λ place settles. here (player settles (hard (inr refl)))
+pub over_to_find : (T : Type 0) (game : AbstractGame) (to : AbstractPlace) (over : Over) → (◌≡◌ {A = Result T Over} (Err over) (Err Deep) ⊎ ◌≡◌ {A = Result T Over} (Err over) (Err Wide) → IsHeavyToFind game to) → IsNotCountedFrom game 0 Ends to (error_of_over over)
+over_to_find T game to Deep hard = λ place settles. here tt (player settles (hard (inl refl)))
+over_to_find T game to Wide hard = λ place settles. here tt (player settles (hard (inr refl)))
 over_to_find T game to OverMemory hard = λ place settles. tt
 
-pub over_to_list : (T : Type 0) (game : AbstractGame) (to : AbstractPlace) (over : Over) → (◌≡◌ {A = Result T Over} (Err over) (Err Deep) ⊎ ◌≡◌ {A = Result T Over} (Err over) (Err Wide) → IsTooHard game list_moves to) → (further : ℕ) → IsNotCountedFrom game (suc further) to (error_of_over over)
-over_to_list T game to Deep hard further = λ place settles. here (player settles (hard (inl refl)))
-over_to_list T game to Wide hard further = λ place settles. here (player settles (hard (inr refl)))
-over_to_list T game to OverMemory hard further = λ place settles. tt
+pub over_to_list : (T : Type 0) (game : AbstractGame) (to : AbstractPlace) (over : Over) → (◌≡◌ {A = Result T Over} (Err over) (Err Deep) ⊎ ◌≡◌ {A = Result T Over} (Err over) (Err Wide) → IsTooHard game list_moves to) → (further : ℕ) (extent : Extent) → IsNotCountedFrom game (suc further) extent to (error_of_over over)
+over_to_list T game to Deep hard further extent = λ place settles. here tt (player settles (hard (inl refl)))
+over_to_list T game to Wide hard further extent = λ place settles. here tt (player settles (hard (inr refl)))
+over_to_list T game to OverMemory hard further extent = λ place settles. tt
 
-pub unsettled_refused : (T : Type 0) (game : AbstractGame) (moves : ℕ) (place : AbstractPlace) (why : Unsettled) → (◌≡◌ {A = Result T Unsettled} (Err why) (Err unsettled.Heavy) → MeetsHeavy game place) → (◌≡◌ {A = Result T Unsettled} (Err why) (Err unsettled.Endless) → IsEndless game place) → IsNotCounted game moves place (error_of_unsettled why)
-unsettled_refused T game moves place unsettled.Heavy hard stuck = here (keeper (hard refl))
-unsettled_refused T game moves place unsettled.Endless hard stuck = here (stuck refl)
-unsettled_refused T game moves place unsettled.Memory hard stuck = tt
+pub unsettled_refused : (T : Type 0) (game : AbstractGame) (moves : ℕ) (extent : Extent) (place : AbstractPlace) (why : Unsettled) → IsAsked moves extent → (◌≡◌ {A = Result T Unsettled} (Err why) (Err unsettled.Heavy) → MeetsHeavy game place) → (◌≡◌ {A = Result T Unsettled} (Err why) (Err unsettled.Endless) → IsEndless game place) → IsNotCounted game moves extent place (error_of_unsettled why)
+unsettled_refused T game moves extent place unsettled.Heavy asked hard stuck = here asked (keeper (hard refl))
+unsettled_refused T game moves extent place unsettled.Endless asked hard stuck = here asked (stuck refl)
+unsettled_refused T game moves extent place unsettled.Memory asked hard stuck = tt
 
 -- what is wrong behind a first move is wrong behind the keeper's moves and that one
-pub behind_first : (game : AbstractGame) (moves : ℕ) (place to next : AbstractPlace) (pairs : List (ℕ × ℕ)) (error : CountError) → Settles game place to → Legal game to pairs next → IsNotCounted game moves next error → IsNotCounted game (suc moves) place error
-behind_first game moves place to next pairs Heavy settles legal wrong = behind settles legal wrong
-behind_first game moves place to next pairs Keeper settles legal wrong = behind settles legal wrong
-behind_first game moves place to next pairs TooMany settles legal wrong = behind settles legal wrong
-behind_first game moves place to next pairs Memory settles legal wrong = tt
+pub behind_first : (game : AbstractGame) (moves : ℕ) (extent : Extent) (place to next : AbstractPlace) (pairs : List (ℕ × ℕ)) (error : CountError) → Settles game place to → Legal game to pairs next → IsNotCounted game moves extent next error → IsNotCounted game (suc moves) extent place error
+behind_first game moves extent place to next pairs Heavy settles legal wrong = behind settles legal wrong
+behind_first game moves extent place to next pairs Keeper settles legal wrong = behind settles legal wrong
+behind_first game moves extent place to next pairs TooMany settles legal wrong = behind settles legal wrong
+behind_first game moves extent place to next pairs Memory settles legal wrong = tt
 
 -- where there is a move to count
-pub refused_next : (game : AbstractGame) (moves : ℕ) (place : AbstractPlace) (error : CountError) → 0 < moves → IsNotCounted game (suc (moves - 1)) place error → IsNotCounted game moves place error
-refused_next game moves place error some refused =
+pub refused_next : (game : AbstractGame) (moves : ℕ) (extent : Extent) (place : AbstractPlace) (error : CountError) → 0 < moves → IsNotCounted game (suc (moves - 1)) extent place error → IsNotCounted game moves extent place error
+refused_next game moves extent place error some refused =
     let next : suc (moves - 1) ≡ moves = omega (arith, some) in
-    subst (λ k. IsNotCounted game k place error) next refused
+    subst (λ k. IsNotCounted game k extent place error) next refused
 
 -- no sum was found
 pub no_sum : (T : Type 0) (sum : Option T) (error : CountError) → ◌≡◌ {A = Result T CountError} (Err error) (ok_or sum TooMany) → (error ≡ TooMany) × (sum ≡ None)
@@ -65,3 +67,8 @@ different_take R n xs all = λ i j d less within.
     let first = get_or-take n xs i d (omega (arith, less, under)) in
     let second = get_or-take n xs j d under in
     subst (λ x. R x (get_or (take n xs) j d)) (sym first) (subst (λ y. R (get_or xs i d) y) (sym second) (all i j d less inside))
+
+-- where there is a move to count, something is asked
+pub asked_of_some : (moves : ℕ) (extent : Extent) → 0 < moves → IsAsked moves extent
+asked_of_some zero extent some = absurd (omega (arith, some))
+asked_of_some (suc moves) extent some = tt

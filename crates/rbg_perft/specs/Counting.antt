@@ -3,6 +3,8 @@ use Rattle.std.specs.Prelude.{◌≡◌, ◌≢◌, ℕ, ◌+◌, ◌⊎◌, zer
 use Rattle.rbg_rules.specs.State.{AbstractGame}
 use Rattle.rbg_rules.specs.Moves.{AbstractPlace, Legal, IsLegal, Finished}
 use Rattle.rbg_moves.specs.Settling.{Settles}
+use Rattle.rbg_perft.specs.declared.extent.Extent.{Extent}
+use Rattle.rbg_perft.specs.declared.extent.Extent.TheVariants.{Ends, Moves}
 
 -- These are the legal moves, each once.
 pub record AreLegalMoves (game : AbstractGame) (place : AbstractPlace) (moves : List (List (ℕ × ℕ))) : Type 0 where
@@ -24,21 +26,23 @@ abbrev pub TellsFinished : AbstractGame → AbstractPlace → ℕ → Type 0
 TellsFinished game place n = ((n ≡ 1) × Finished game place) ⊎ ((n ≡ 0) × ¬ Finished game place)
 
 -- From the place there are so many sequences of this number of moves of the players, and after so many of them play is
--- finished. Before each of these moves, and after the last, the keeper makes legal moves, any, until a player is to
--- move or play is finished.
-abbrev pub AreCounted : AbstractGame → (moves : ℕ) → AbstractPlace → (sequences ended : ℕ) → Type 0
-AreCounted game zero place sequences ended =
+-- finished. Before each of these moves the keeper makes legal moves, any, until a player is to move or play is finished.
+-- It does so after the last one too where the ends are asked for. Where they aren't, no sequence counts as ended.
+abbrev pub AreCounted :
+    AbstractGame → (moves : ℕ) → Extent → AbstractPlace → (sequences ended : ℕ) → Type 0
+AreCounted game zero Ends place sequences ended =
     (to : AbstractPlace) × Settles game place to × (sequences ≡ 1) × TellsFinished game to ended
-AreCounted game (suc moves) place sequences ended =
+AreCounted game zero Moves place sequences ended = (sequences ≡ 1) × (ended ≡ 0)
+AreCounted game (suc moves) extent place sequences ended =
     (to : AbstractPlace) × (all : List (List (ℕ × ℕ))) ×
     Settles game place to ×
     AreLegalMoves game to all ×
     Sums
-    (λ pairs m n. (next : AbstractPlace) × Legal game to pairs next × AreCounted game moves next m n)
+    (λ pairs m n. (next : AbstractPlace) × Legal game to pairs next × AreCounted game moves extent next m n)
     all sequences ended
 
 -- The same behind the move of these pairs.
 abbrev pub AreCountedBehind :
-    AbstractGame → (moves : ℕ) → AbstractPlace → List (ℕ × ℕ) → (sequences ended : ℕ) → Type 0
-AreCountedBehind game moves place pairs sequences ended =
-    (next : AbstractPlace) × Legal game place pairs next × AreCounted game moves next sequences ended
+    AbstractGame → (moves : ℕ) → Extent → AbstractPlace → List (ℕ × ℕ) → (sequences ended : ℕ) → Type 0
+AreCountedBehind game moves extent place pairs sequences ended =
+    (next : AbstractPlace) × Legal game place pairs next × AreCounted game moves extent next sequences ended

@@ -7,23 +7,36 @@ use Rattle.rbg_rules.specs.Questions.{Question, find_move, list_moves}
 use Rattle.rbg_moves.specs.Settling.{Settles, MeetsHeavy, IsEndless}
 use Rattle.rbg_perft.specs.Counting.{AreCountedBehind, Sums}
 use Rattle.rbg_perft.specs.declared.error.CountError.{CountError}
+use Rattle.rbg_perft.specs.declared.extent.Extent.{Extent}
+use Rattle.rbg_perft.specs.declared.extent.Extent.TheVariants.{Ends, Moves}
 use Rattle.rbg_perft.specs.declared.error.CountError.TheVariants.{Heavy, Keeper, TooMany, Memory}
 
 -- the greatest number that is counted, 2^64 - 1
 abbrev pub most_counted : ℕ
 most_counted = 18446744073709551615
 
+-- Something is asked of a place from which so many moves are counted: not where there are none, and their ends aren't
+-- asked for.
+abbrev pub IsAsked : (moves : ℕ) → Extent → Type 0
+IsAsked zero Ends = Unit {0}
+IsAsked zero Moves = ⊥
+IsAsked (suc _) extent = Unit {0}
+
 -- Something is wrong with so many moves to count from a place. It is wrong at once, or behind a move of a player, before
 -- which the keeper makes legal moves until that player is to move.
-pub data Meets (Wrong : (moves : ℕ) → AbstractPlace → Type 0) (game : AbstractGame) :
+pub data Meets (Wrong : (moves : ℕ) → AbstractPlace → Type 0) (game : AbstractGame) (extent : Extent) :
     (moves : ℕ) → AbstractPlace → Type 0 where
-  here : {moves : ℕ} {place : AbstractPlace} → Wrong moves place → Meets Wrong game moves place
+  here :
+      {moves : ℕ} {place : AbstractPlace} →
+      IsAsked moves extent →
+      Wrong moves place →
+      Meets Wrong game extent moves place
   behind :
       {moves : ℕ} {place to next : AbstractPlace} {pairs : List (ℕ × ℕ)} →
       Settles game place to →
       Legal game to pairs next →
-      Meets Wrong game moves next →
-      Meets Wrong game (suc moves) place
+      Meets Wrong game extent moves next →
+      Meets Wrong game extent (suc moves) place
 
 -- What is asked where the keeper's moves lead: for all legal moves, or for one where no more moves are counted.
 abbrev pub question_of : (moves : ℕ) → Question
@@ -40,28 +53,28 @@ pub data AsksTooMuch (game : AbstractGame) (moves : ℕ) (place : AbstractPlace)
 
 -- Behind some of the legal moves where the keeper's moves lead there are, taken together, more sequences than can be
 -- counted.
-pub data AreTooMany (game : AbstractGame) : (moves : ℕ) → AbstractPlace → Type 0 where
+pub data AreTooMany (game : AbstractGame) (extent : Extent) : (moves : ℕ) → AbstractPlace → Type 0 where
   sum :
       {moves sequences ended : ℕ} {place to : AbstractPlace} {firsts : List (List (ℕ × ℕ))} →
       Settles game place to →
       All (IsLegal game to) firsts →
       AllPairs (λ a b. a ≢ b) firsts →
-      Sums (AreCountedBehind game moves to) firsts sequences ended →
+      Sums (AreCountedBehind game moves extent to) firsts sequences ended →
       (most_counted < sequences) ⊎ (most_counted < ended) →
-      AreTooMany game (suc moves) place
+      AreTooMany game extent (suc moves) place
 
 -- Why so many moves are not counted from a place.
 --   Heavy: at a place that they lead to, a question is above the limits.
 --   Keeper: at one, the keeper is to move after 1,000 of its moves in a row.
 --   TooMany: at one, a number is too great.
 --   Memory: memory ran out.
-abbrev pub IsNotCounted : AbstractGame → (moves : ℕ) → AbstractPlace → CountError → Type 0
-IsNotCounted game moves place Heavy = Meets (AsksTooMuch game) game moves place
-IsNotCounted game moves place Keeper = Meets (λ _ at. IsEndless game at) game moves place
-IsNotCounted game moves place TooMany = Meets (AreTooMany game) game moves place
-IsNotCounted game moves place Memory = Unit {0}
+abbrev pub IsNotCounted : AbstractGame → (moves : ℕ) → Extent → AbstractPlace → CountError → Type 0
+IsNotCounted game moves extent place Heavy = Meets (AsksTooMuch game) game extent moves place
+IsNotCounted game moves extent place Keeper = Meets (λ _ at. IsEndless game at) game extent moves place
+IsNotCounted game moves extent place TooMany = Meets (AreTooMany game extent) game extent moves place
+IsNotCounted game moves extent place Memory = Unit {0}
 
 -- The same, of every place from which the keeper's moves lead here.
-abbrev pub IsNotCountedFrom : AbstractGame → (moves : ℕ) → AbstractPlace → CountError → Type 0
-IsNotCountedFrom game moves to error =
-    (place : AbstractPlace) → Settles game place to → IsNotCounted game moves place error
+abbrev pub IsNotCountedFrom : AbstractGame → (moves : ℕ) → Extent → AbstractPlace → CountError → Type 0
+IsNotCountedFrom game moves extent to error =
+    (place : AbstractPlace) → Settles game place to → IsNotCounted game moves extent place error

@@ -6,20 +6,22 @@ ghost use Rattle.rbg_perft.specs.Refusals.{IsNotCounted};
 
 use crate::counting::{Counts, count_sequences};
 use crate::error::CountError;
+use crate::extent::Extent;
 use rbg_moves::{PlayedGame, Workspace};
 
 /// Counts the sequences of so many moves of the players from the beginning of play, as `count_sequences` does.
 pub fn count_from_start(
     game: &PlayedGame,
     moves: u8,
+    extent: Extent,
     workspace: &mut Workspace,
 ) -> Result<Counts, CountError>
     ensures counted { IfOk result (λ counts.
-        AreCounted game.now moves (record { state = start_of game.now; last = None })
+        AreCounted game.now moves extent (record { state = start_of game.now; last = None })
         counts.sequences counts.ended) }
     ensures refused { IfErr result
-        (IsNotCounted game.now moves (record { state = start_of game.now; last = None })) }
+        (IsNotCounted game.now moves extent (record { state = start_of game.now; last = None })) }
 {
     let place = game.start()?;
-    count_sequences(game, place, moves, workspace)
+    count_sequences(game, place, moves, extent, workspace)
 }

@@ -4,8 +4,11 @@ ghost use Rattle.rbg_rules.specs.Moves.{IsLegal};
 ghost use Rattle.rbg_rules.specs.Places.{IsPlaceOf};
 ghost use Rattle.rbg_perft.specs.Counting.{AreCounted, AreCountedBehind, AreLegalMoves, Sums, TellsFinished};
 ghost use Rattle.rbg_perft.specs.Refusals.{IsNotCounted, IsNotCountedFrom, most_counted};
+ghost use Rattle.rbg_perft.specs.declared.extent.Extent.{Extent};
+ghost use Rattle.rbg_perft.specs.declared.extent.Extent.TheVariants.{Ends};
 
 use crate::error::CountError;
+use crate::extent::Extent;
 use rbg_moves::{MoveList, Place, PlayedGame, Workspace};
 
 /// How many sequences of moves there are.
@@ -57,15 +60,16 @@ pub fn count_sequences(
     game: &PlayedGame,
     place: Place,
     moves: u8,
+    extent: Extent,
     workspace: &mut Workspace,
 ) -> Result<Counts, CountError>
     requires place { IsPlaceOf game.now place }
     ensures counted { IfOk result (λ counts.
-        AreCounted game.now moves place counts.sequences counts.ended) }
-    ensures refused { IfErr result (IsNotCounted game.now moves place) }
+        AreCounted game.now moves extent place counts.sequences counts.ended) }
+    ensures refused { IfErr result (IsNotCounted game.now moves extent place) }
 {
     let mut place = place;
-    let counts = count_from(game, &mut place, moves, workspace)?;
+    let counts = count_from(game, &mut place, moves, extent, workspace)?;
     workspace.keep(place);
     Ok(counts)
 }
@@ -76,20 +80,21 @@ fn count_from(
     game: &PlayedGame,
     place: &mut Place,
     moves: u8,
+    extent: Extent,
     workspace: &mut Workspace,
 ) -> Result<Counts, CountError>
     requires place { IsPlaceOf game.now place.old }
     ensures counted { IfOk result (λ counts.
-        AreCounted game.now moves place.old counts.sequences counts.ended) }
-    ensures refused { IfErr result (IsNotCounted game.now moves place.old) }
+        AreCounted game.now moves extent place.old counts.sequences counts.ended) }
+    ensures refused { IfErr result (IsNotCounted game.now moves extent place.old) }
 {
-    game.settle(place, workspace)?;
     if moves == 0 {
-        let here = count_here(game, place, workspace)?;
-        return Ok(here);
+        let none = count_none(game, place, extent, workspace)?;
+        return Ok(none);
     }
+    game.settle(place, workspace)?;
     let listed = list_all(game, place, workspace)?;
-    let counts = count_behind(game, place, &listed, moves - 1, workspace)?;
+    let counts = count_behind(game, place, &listed, moves - 1, extent, workspace)?;
     workspace.keep_moves(listed);
     Ok(counts)
 }
@@ -101,29 +106,66 @@ fn count_behind(
     place: &Place,
     firsts: &MoveList,
     further: u8,
+    extent: Extent,
     workspace: &mut Workspace,
 ) -> Result<Counts, CountError>
     requires place { IsPlaceOf game.now place.now }
     requires legal { All (IsLegal game.now place.now) firsts.now }
     requires different { AllPairs (λ a b. a ≢ b) firsts.now }
     ensures counted { IfOk result (λ counts.
-        Sums (AreCountedBehind game.now further place.now) firsts.now counts.sequences
+        Sums (AreCountedBehind game.now further extent place.now) firsts.now counts.sequences
         counts.ended) }
-    ensures refused { IfErr result (IsNotCountedFrom game.now (suc further) place.now) }
+    ensures refused { IfErr result (IsNotCountedFrom game.now (suc further) extent place.now) }
 {
+    if further == 0 && !extent.asks_ends() {
+        return Ok(going(firsts));
+    }
     let mut counts = NONE;
     let mut to = workspace.spare();
     for index in 0..firsts.len() {
         let pairs = firsts.get(index);
         to = game.make_move_into(place, pairs, to)?;
-        let behind = count_from(game, &mut to, further, workspace)?;
+        let behind = count_from(game, &mut to, further, extent, workspace)?;
         counts = counts.join(behind).ok_or(CountError::TooMany)?;
     }
     workspace.keep(to);
     Ok(counts)
 }
 
-/// Counts the one sequence of no moves.
+/// One sequence for each of these moves, after which nothing is asked.
+fn going(firsts: &MoveList) -> Counts
+    ensures sequences { result.sequences ≡ length firsts.now }
+    ensures ended { result.ended ≡ 0 }
+{
+    Counts {
+        sequences: firsts.len() as u64,
+        ended: 0,
+    }
+}
+
+/// Counts the one sequence of no moves from a place.
+fn count_none(
+    game: &PlayedGame,
+    place: &mut Place,
+    extent: Extent,
+    workspace: &mut Workspace,
+) -> Result<Counts, CountError>
+    requires place { IsPlaceOf game.now place.old }
+    ensures counted { IfOk result (λ counts.
+        AreCounted game.now 0 extent place.old counts.sequences counts.ended) }
+    ensures refused { IfErr result (IsNotCounted game.now 0 extent place.old) }
+{
+    match extent {
+        Extent::Moves => Ok(GOING),
+        Extent::Ends => {
+            game.settle(place, workspace)?;
+            let here = count_here(game, place, workspace)?;
+            Ok(here)
+        }
+    }
+}
+
+/// Counts the one sequence of no moves from a place where play rests.
 fn count_here(
     game: &PlayedGame,
     place: &mut Place,
@@ -132,7 +174,7 @@ fn count_here(
     requires place { IsPlaceOf game.now place.old }
     ensures one { IfOk result (λ counts. counts.sequences ≡ 1) }
     ensures ended { IfOk result (λ counts. TellsFinished game.now place.old counts.ended) }
-    ensures refused { IfErr result (IsNotCountedFrom game.now 0 place.old) }
+    ensures refused { IfErr result (IsNotCountedFrom game.now 0 Ends place.old) }
 {
     match game.find_pairs_on(place, workspace)? {
         Some(pairs) => {
@@ -152,7 +194,7 @@ fn list_all(
     requires place { IsPlaceOf game.now place.now }
     ensures all { IfOk result (λ moves. AreLegalMoves game.now place.now moves) }
     ensures refused { IfErr result (λ error. (further : ℕ) →
-        IsNotCountedFrom game.now (suc further) place.now error) }
+        (extent : Extent) → IsNotCountedFrom game.now (suc further) extent place.now error) }
 {
     let gathered = game.gather_moves(place, usize::MAX, workspace)?;
     is_in_memory(&gathered.moves);

@@ -4,8 +4,10 @@
 mod beginning;
 mod counting;
 mod error;
+mod extent;
 
 pub use beginning::count_from_start;
 pub use counting::{Counts, count_sequences};
 pub use error::CountError;
+pub use extent::Extent;
 pub use rbg_moves::{PlayedGame, Workspace};

@@ -2,7 +2,7 @@
 use Rattle.std.specs.List.{starts_with}
 use Rattle.std.specs.Prelude.{◌≡◌, ℕ, false, nat_eq, List, [], ◌∷◌, Option, Some, None, codes}
 use Rattle.rbg_answering.specs.Tasks.{NamedTask}
-use Rattle.rbg_answering.specs.declared.task.Command.TheVariants.{Check, Referee, Replay, Migrate}
+use Rattle.rbg_answering.specs.declared.task.Command.TheVariants.{Check, Referee, Replay, Migrate, Moves}
 use Rattle.rbg_recording.specs.Tasks.{RecordedTask}
 
 -- What is asked for.
@@ -54,6 +54,11 @@ pub data Asks (words : List (List ℕ)) : Wish → Type 0 where
       → IsName file
       → IsName other
       → Asks words (on_files (record { command = Migrate; file = file; record_file = other }))
+  moves_behind : (file other : List ℕ)
+      → words ≡ codes "moves" ∷ file ∷ other ∷ []
+      → IsName file
+      → IsName other
+      → Asks words (on_files (record { command = Moves; file = file; record_file = other }))
   record_input : (other : List ℕ)
       → words ≡ codes "referee" ∷ codes "--record" ∷ other ∷ []
       → IsName other

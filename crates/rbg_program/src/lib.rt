@@ -6,8 +6,7 @@ mod program;
 mod words;
 
 pub use program::run;
-pub use rbg_commands::{Fault, report};
-pub use rbg_console::{Files, Input, Status};
+pub use rbg_console::{Files, Input, Note, Status};
 pub use rbg_log::{Log, LogFailure};
 pub use rbg_network::{Network, News, SystemClock, SystemNetwork};
 pub use rbg_serving::Clock;

@@ -119,6 +119,12 @@ fn asked_of_two<'a>(command: &str, first: &'a str, second: &'a str) -> Asked<'a>
             record: second,
         });
     }
+    if command == "moves" {
+        return Asked::Files(FileTask::Moves {
+            file: first,
+            record: second,
+        });
+    }
     Asked::Other
 }
 

@@ -2,7 +2,7 @@
 
 use crate::games::GAME;
 use crate::stop::Stop;
-use rbg_console::{Files, Input, read_bytes};
+use rbg_console::{Files, Input, Note, read_bytes};
 use rbg_game::{LoadError, load_with_layout};
 use rbg_program::{SystemNetwork, run};
 use rbg_show::{Shown, show};
@@ -60,6 +60,9 @@ impl Files for GameFiles {
     fn close_file(&mut self, _alloc: Global, _name: &str, _file: Vec<u8>) -> io::Result<()> {
         Ok(())
     }
+
+    /// Nobody hears it.
+    fn tell(&mut self, _note: &Note<'_>) {}
 }
 
 /// Makes the run of a name, if it is one of these, and tells whether it is.

@@ -10,7 +10,7 @@ use rbg_auto::{Compact, Expr, Steps, compact};
 use rbg_base::{Move, Pair, Position};
 use rbg_game::{Game, load};
 use rbg_moves::{Listed, Over, Place, PlayedGame, Workspace};
-use rbg_perft::{CountError, count_from_start};
+use rbg_perft::{CountError, Extent, count_from_start};
 use rbg_search::{Budget, Origin, Reached, Search};
 use rbg_state::SemiState;
 use std::alloc::Global;
@@ -260,7 +260,7 @@ fn count<W: Write>(alloc: Global, output: &mut W) -> Result<(), Stop> {
 }
 
 fn tell_count<W: Write>(alloc: Global, game: &PlayedGame, output: &mut W) -> io::Result<()> {
-    match count_from_start(game, COUNTED, &mut Workspace::new(alloc)) {
+    match count_from_start(game, COUNTED, Extent::Ends, &mut Workspace::new(alloc)) {
         Ok(counts) => writeln!(
             output,
             "sequences {}, ended {}",

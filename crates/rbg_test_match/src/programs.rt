@@ -1,5 +1,5 @@
 //! Runs of the program whose input or output fails, or has no end.
-use rbg_program::{Files, Input, SystemNetwork, run};
+use rbg_program::{Files, Input, Note, SystemNetwork, run};
 use std::alloc::{AllocError, Global};
 use std::io::{self, ErrorKind, Read, Write};
 use std::test::Fail;
@@ -26,6 +26,8 @@ impl Files for NoFiles {
     fn close_file(&mut self, _alloc: Global, _name: &str, _file: Vec<u8>) -> io::Result<()> {
         Ok(())
     }
+
+    fn tell(&mut self, _note: &Note<'_>) {}
 }
 
 /// A reader that gives zero bytes without end, or fails after as many reads.

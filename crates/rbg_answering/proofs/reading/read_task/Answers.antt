@@ -4,10 +4,10 @@ use Rattle.std.specs.Prelude.{IfOk}
 use Rattle.rbg_console.specs.Inputs.{most_input}
 use Rattle.rbg_tokens.specs.Limits.{longest_text}
 use Rattle.rbg_answering.specs.Tasks.{IsReadOf, file_task}
-use Rattle.rbg_answering.specs.declared.task.Command.TheVariants.{Check, Referee, Replay, Migrate}
+use Rattle.rbg_answering.specs.declared.task.Command.TheVariants.{Check, Referee, Replay, Migrate, Moves}
 use Rattle.rbg_answering.specs.internal.Parts.{IsReadFor, IsReadIn, IsReadInput}
 use Rattle.rbg_answering.proofs.AnswerLemmas.{all_three}
-use Rattle.rbg_answering.proofs.ReadingLemmas.{check_read, match_read, replay_read, migrate_read}
+use Rattle.rbg_answering.proofs.ReadingLemmas.{check_read, match_read, replay_read, migrate_read, moves_read}
 use Rattle.rbg_answering.proofs.reading.read_task.Goals as goal
 
 pub returns-in-Check : goal.returns-in-Check
@@ -39,11 +39,11 @@ returns-in-Replay g c =
     let unread = g.R.Read.remaining c.args.input.now in
     let file = c.in-Replay.file.now in
     let other = c.in-Replay.record.now in
-    subst (λ named. IfOk c.read_record.result (IsReadFor known unread unread (file_task named))) (sym c.in-Replay.is)
-    (all_three c.read_record.result (λ read. read.command ≡ Replay) (λ read. IsReadIn longest_text (known file) read.description)
+    subst (λ named. IfOk c.read_both.result (IsReadFor known unread unread (file_task named))) (sym c.in-Replay.is)
+    (all_three c.read_both.result (λ read. read.command ≡ Replay) (λ read. IsReadIn longest_text (known file) read.description)
     (λ read. IsReadIn most_input (known other) read.told) (IsReadFor known unread unread (record { command = Replay; file = file; record_file = other }))
     (λ read is d told. replay_read known unread file other read is d told)
-    c.read_record.ensures.command c.read_record.ensures.description c.read_record.ensures.told)
+    c.read_both.ensures.command c.read_both.ensures.description c.read_both.ensures.told)
 
 pub returns-in-Migrate : goal.returns-in-Migrate
 returns-in-Migrate g c =
@@ -51,8 +51,20 @@ returns-in-Migrate g c =
     let unread = g.R.Read.remaining c.args.input.now in
     let file = c.in-Migrate.file.now in
     let other = c.in-Migrate.record.now in
-    subst (λ named. IfOk c.read_record-in-Migrate.result (IsReadFor known unread unread (file_task named))) (sym c.in-Migrate.is)
-    (all_three c.read_record-in-Migrate.result (λ read. read.command ≡ Migrate) (λ read. IsReadIn longest_text (known file) read.description)
+    subst (λ named. IfOk c.read_both-in-Migrate.result (IsReadFor known unread unread (file_task named))) (sym c.in-Migrate.is)
+    (all_three c.read_both-in-Migrate.result (λ read. read.command ≡ Migrate) (λ read. IsReadIn longest_text (known file) read.description)
     (λ read. IsReadIn most_input (known other) read.told) (IsReadFor known unread unread (record { command = Migrate; file = file; record_file = other }))
     (λ read is d told. migrate_read known unread file other read is d told)
-    c.read_record-in-Migrate.ensures.command c.read_record-in-Migrate.ensures.description c.read_record-in-Migrate.ensures.told)
+    c.read_both-in-Migrate.ensures.command c.read_both-in-Migrate.ensures.description c.read_both-in-Migrate.ensures.told)
+
+pub returns-in-Moves : goal.returns-in-Moves
+returns-in-Moves g c =
+    let known = g.F.Files.told c.args.files.now in
+    let unread = g.R.Read.remaining c.args.input.now in
+    let file = c.in-Moves.file.now in
+    let other = c.in-Moves.record.now in
+    subst (λ named. IfOk c.read_both-in-Moves.result (IsReadFor known unread unread (file_task named))) (sym c.in-Moves.is)
+    (all_three c.read_both-in-Moves.result (λ read. read.command ≡ Moves) (λ read. IsReadIn longest_text (known file) read.description)
+    (λ read. IsReadIn most_input (known other) read.told) (IsReadFor known unread unread (record { command = Moves; file = file; record_file = other }))
+    (λ read is d told. moves_read known unread file other read is d told)
+    c.read_both-in-Moves.ensures.command c.read_both-in-Moves.ensures.description c.read_both-in-Moves.ensures.told)

@@ -3,8 +3,9 @@ use Rattle.std.proofs.Common.{rules, ◌≡◌, ◌≢◌, ℕ, List, ◌+◌, �
 use Rattle.std.specs.Prelude.{IfSome}
 use Rattle.std.proofs.lemmas.Option.{slice_get_within, get_or_from_slice_get}
 use Rattle.rbg_rules.specs.Moves.{IsLegal}
-use Rattle.rbg_perft.specs.Counting.{AreCounted, AreCountedBehind}
+use Rattle.rbg_perft.specs.Counting.{AreCountedBehind}
 use Rattle.rbg_perft.specs.Counting.Sums.{none}
+use Rattle.rbg_perft.specs.declared.extent.Extent.TheVariants.{Moves}
 use Rattle.rbg_perft.specs.internal.Refusing.{error_of_unsettled}
 use Rattle.std.specs.Prelude.{IfNone}
 use Rattle.std.proofs.lemmas.List.Elements.{All-take}
@@ -12,8 +13,8 @@ use Rattle.rbg_perft.specs.Counting.{Sums}
 use Rattle.rbg_perft.specs.Refusals.{IsNotCounted, most_counted}
 use Rattle.rbg_perft.specs.Refusals.Meets.{here}
 use Rattle.rbg_perft.specs.Refusals.AreTooMany.{sum}
-use Rattle.rbg_perft.proofs.Refusing.{no_sum, different_take, passed_on, behind_first, unsettled_refused, refused_next}
-use Rattle.rbg_perft.proofs.Sums.{sums_more, sums_end, counted_from, all_at}
+use Rattle.rbg_perft.proofs.Refusing.{no_sum, different_take, passed_on, behind_first, unsettled_refused, refused_next, asked_of_some}
+use Rattle.rbg_perft.proofs.Sums.{sums_more, sums_end, counted_from, all_at, all_going}
 use Rattle.rbg_perft.proofs.counting.+counting.Goals as goal
 
 pub count_behind-loop-index-init : goal.count_behind-loop-index-init
@@ -36,7 +37,7 @@ count_behind-loop-index-preserved t c =
     let sum : c.join.result ≡ Some c.in_ok-counts.counts = c.in_ok-counts.ensures.ok_part in
     let sequences : c.in_ok-counts.counts.sequences ≡ c.loop-index.counts.sequences + c.in_ok-behind.behind.sequences = subst (λ o. IfSome o (λ s. s.sequences ≡ c.loop-index.counts.sequences + c.in_ok-behind.behind.sequences)) sum c.join.ensures.sequences in
     let ended : c.in_ok-counts.counts.ended ≡ c.loop-index.counts.ended + c.in_ok-behind.behind.ended = subst (λ o. IfSome o (λ s. s.ended ≡ c.loop-index.counts.ended + c.in_ok-behind.behind.ended)) sum c.join.ensures.ended in
-    sums_more (AreCountedBehind c.args.game.now c.args.further c.args.place.now) firsts k pairs c.loop-index.counts.sequences c.loop-index.counts.ended c.in_ok-behind.behind.sequences c.in_ok-behind.behind.ended c.in_ok-counts.counts.sequences c.in_ok-counts.counts.ended
+    sums_more (AreCountedBehind c.args.game.now c.args.further c.args.extent c.args.place.now) firsts k pairs c.loop-index.counts.sequences c.loop-index.counts.ended c.in_ok-behind.behind.sequences c.in_ok-behind.behind.ended c.in_ok-counts.counts.sequences c.in_ok-counts.counts.ended
     (slice_get_within firsts k pairs c.get-pairs.ensures.pairs) (sym (get_or_from_slice_get firsts k pairs pairs c.get-pairs.ensures.pairs)) c.loop-index.invariant
     (c.in_ok-to.to, c.in_ok-to.ensures.to, c.in_ok-behind.ensures.counted)
     sequences ended
@@ -44,19 +45,19 @@ count_behind-loop-index-preserved t c =
 pub count_behind-returns-clause-counted : goal.count_behind-returns-clause-counted
 count_behind-returns-clause-counted t c =
     let all : length c.args.firsts.now ≤ c.loop-index.index = omega (arith, c.loop-index-test.false, c.len-index-end.ensures.count) in
-    sums_end (AreCountedBehind c.args.game.now c.args.further c.args.place.now) c.args.firsts.now c.loop-index.index c.loop-index.counts.sequences c.loop-index.counts.ended all c.loop-index.invariant
+    sums_end (AreCountedBehind c.args.game.now c.args.further c.args.extent c.args.place.now) c.args.firsts.now c.loop-index.index c.loop-index.counts.sequences c.loop-index.counts.ended all c.loop-index.invariant
 
 pub count_behind-returns-in_err-behind-clause-refused : goal.count_behind-returns-in_err-behind-clause-refused
 count_behind-returns-in_err-behind-clause-refused t c =
     passed_on c.from_residual-in_err-behind.result c.in_err-behind.field-0.0 _ c.from_residual-in_err-behind.ensures.1
-    (λ place settles. behind_first _ _ _ _ _ _ c.in_err-behind.field-0.0 settles c.in_ok-to.ensures.to c.in_err-behind.ensures.refused)
+    (λ place settles. behind_first _ _ _ _ _ _ _ c.in_err-behind.field-0.0 settles c.in_ok-to.ensures.to c.in_err-behind.ensures.refused)
 
 pub count_behind-returns-in_err-counts-clause-refused : goal.count_behind-returns-in_err-counts-clause-refused
 count_behind-returns-in_err-counts-clause-refused t c =
     let firsts = c.args.firsts.now in
     let k = c.loop-index.index in
     let pairs = c.get-pairs.result.now in
-    let Has = AreCountedBehind c.args.game.now c.args.further c.args.place.now in
+    let Has = AreCountedBehind c.args.game.now c.args.further c.args.extent c.args.place.now in
     let sequences = c.loop-index.counts.sequences + c.in_ok-behind.behind.sequences in
     let ended = c.loop-index.counts.ended + c.in_ok-behind.behind.ended in
     let told = no_sum _ c.join.result c.in_err-counts.field-0.0 c.in_err-counts.ensures.value in
@@ -66,8 +67,8 @@ count_behind-returns-in_err-counts-clause-refused t c =
     (slice_get_within firsts k pairs c.get-pairs.ensures.pairs) (sym (get_or_from_slice_get firsts k pairs pairs c.get-pairs.ensures.pairs)) c.loop-index.invariant
     (c.in_ok-to.to, c.in_ok-to.ensures.to, c.in_ok-behind.ensures.counted) refl refl in
     passed_on c.from_residual-in_err-counts.result c.in_err-counts.field-0.0 _ c.from_residual-in_err-counts.ensures.1
-    (λ place settles. subst (λ e. IsNotCounted c.args.game.now (suc c.args.further) place e) (sym told.0)
-    (here (sum settles (All-take (IsLegal c.args.game.now c.args.place.now) (k + 1) firsts c.requires.legal) (different_take (λ (a b : List (ℕ × ℕ)). a ≢ b) (k + 1) firsts c.requires.different) sums above)))
+    (λ place settles. subst (λ e. IsNotCounted c.args.game.now (suc c.args.further) c.args.extent place e) (sym told.0)
+    (here tt (sum settles (All-take (IsLegal c.args.game.now c.args.place.now) (k + 1) firsts c.requires.legal) (different_take (λ (a b : List (ℕ × ℕ)). a ≢ b) (k + 1) firsts c.requires.different) sums above)))
 
 pub count_from-count_behind-requires : goal.count_from-count_behind-requires
 count_from-count_behind-requires t c =
@@ -77,27 +78,35 @@ count_from-count_behind-requires t c =
 pub count_from-returns-clause-counted : goal.count_from-returns-clause-counted
 count_from-returns-clause-counted t c =
     let some : 0 < c.args.moves = omega (arith, c.if-moves-eq0.false) in
-    counted_from c.args.game.now c.args.moves c.args.place.now c.settle.new.place c.in_ok-listed.listed c.in_ok-counts.counts.sequences c.in_ok-counts.counts.ended some c.in_ok-settle.ensures.settles c.in_ok-listed.ensures.all c.in_ok-counts.ensures.counted
-
-pub count_from-returns-then-moves-eq0-clause-counted : goal.count_from-returns-then-moves-eq0-clause-counted
-count_from-returns-then-moves-eq0-clause-counted t c =
-    let counts = c.in_ok-here.here in
-    subst (λ (k : ℕ). AreCounted c.args.game.now k c.args.place.now counts.sequences counts.ended) (sym c.if-moves-eq0.true)
-    (c.settle.new.place, c.in_ok-settle.ensures.settles, c.in_ok-here.ensures.one, c.in_ok-here.ensures.ended)
+    counted_from c.args.game.now c.args.moves c.args.extent c.args.place.now c.settle.new.place c.in_ok-listed.listed c.in_ok-counts.counts.sequences c.in_ok-counts.counts.ended some c.in_ok-settle.ensures.settles c.in_ok-listed.ensures.all c.in_ok-counts.ensures.counted
 
 pub count_from-returns-in_err-settle-clause-refused : goal.count_from-returns-in_err-settle-clause-refused
 count_from-returns-in_err-settle-clause-refused t c =
-    passed_on c.from_residual.result (error_of_unsettled c.in_err-settle.field-0.0) _ c.from_residual.ensures.1
-    (unsettled_refused _ _ _ _ c.in_err-settle.field-0.0 c.in_err-settle.ensures.heavy c.in_err-settle.ensures.endless)
+    let some : 0 < c.args.moves = omega (arith, c.if-moves-eq0.false) in
+    passed_on c.from_residual-in_err-settle.result (error_of_unsettled c.in_err-settle.field-0.0) _ c.from_residual-in_err-settle.ensures.1
+    (unsettled_refused _ _ _ _ _ c.in_err-settle.field-0.0 (asked_of_some _ _ some) c.in_err-settle.ensures.heavy c.in_err-settle.ensures.endless)
 
 pub count_from-returns-in_err-listed-clause-refused : goal.count_from-returns-in_err-listed-clause-refused
 count_from-returns-in_err-listed-clause-refused t c =
     let some : 0 < c.args.moves = omega (arith, c.if-moves-eq0.false) in
     passed_on c.from_residual-in_err-listed.result c.in_err-listed.field-0.0 _ c.from_residual-in_err-listed.ensures.1
-    (refused_next _ _ _ c.in_err-listed.field-0.0 some (c.in_err-listed.ensures.refused (c.args.moves - 1) c.args.place.now c.in_ok-settle.ensures.settles))
+    (refused_next _ _ _ _ c.in_err-listed.field-0.0 some (c.in_err-listed.ensures.refused (c.args.moves - 1) c.args.extent c.args.place.now c.in_ok-settle.ensures.settles))
 
 pub count_from-returns-in_err-counts-clause-refused : goal.count_from-returns-in_err-counts-clause-refused
 count_from-returns-in_err-counts-clause-refused t c =
     let some : 0 < c.args.moves = omega (arith, c.if-moves-eq0.false) in
     passed_on c.from_residual-in_err-counts.result c.in_err-counts.field-0.0 _ c.from_residual-in_err-counts.ensures.1
-    (refused_next _ _ _ c.in_err-counts.field-0.0 some (c.in_err-counts.ensures.refused c.args.place.now c.in_ok-settle.ensures.settles))
+    (refused_next _ _ _ _ c.in_err-counts.field-0.0 some (c.in_err-counts.ensures.refused c.args.place.now c.in_ok-settle.ensures.settles))
+
+pub count_behind-returns-then-not-asks_ends-clause-counted :
+    goal.count_behind-returns-then-not-asks_ends-clause-counted
+count_behind-returns-then-not-asks_ends-clause-counted t c =
+    let game = c.args.game.now in
+    let to = c.args.place.now in
+    let firsts = c.args.firsts.now in
+    let extent : c.args.extent ≡ Moves = c.asks_ends.ensures (search rules) in
+    let going : Sums (AreCountedBehind game 0 Moves to) firsts (length firsts) 0 = all_going game to firsts c.requires.legal in
+    let asked : Sums (AreCountedBehind game 0 c.args.extent to) firsts (length firsts) 0 = subst (λ e. Sums (AreCountedBehind game 0 e to) firsts (length firsts) 0) (sym extent) going in
+    let all : Sums (AreCountedBehind game c.args.further c.args.extent to) firsts (length firsts) 0 = subst (λ k. Sums (AreCountedBehind game k c.args.extent to) firsts (length firsts) 0) (sym c.if-further-eq0.true) asked in
+    let Has = AreCountedBehind game c.args.further c.args.extent to in
+    subst (λ n. Sums Has firsts n c.going.result.ended) (sym c.going.ensures.sequences) (subst (λ n. Sums Has firsts (length firsts) n) (sym c.going.ensures.ended) all)

@@ -11,4 +11,4 @@ decreases-count_from l = 2 * l.moves
 
 abbrev pub invariant-count_behind-loop-index : goal.invariant-count_behind-loop-index
 invariant-count_behind-loop-index l =
-    Sums (AreCountedBehind l.fn.game l.fn.further l.fn.place) (take l.index l.firsts) l.counts.sequences l.counts.ended
+    Sums (AreCountedBehind l.fn.game l.fn.further l.fn.extent l.fn.place) (take l.index l.firsts) l.counts.sequences l.counts.ended

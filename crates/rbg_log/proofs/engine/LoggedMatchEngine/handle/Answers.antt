@@ -2,8 +2,12 @@
 use Rattle.std.proofs.lemmas.Result.{on_err_weaker, on_ok_weaker}
 use Rattle.rbg_match.specs.Inputs.{event_of}
 use Rattle.rbg_serving.proofs.LinesLemmas.{step_extends}
-use Rattle.rbg_log.proofs.Logging.{unhandled_so}
+use Rattle.rbg_log.proofs.Logging.{handled_so, unhandled_so}
 use Rattle.rbg_log.proofs.engine.LoggedMatchEngine.handle.Goals as goal
+
+pub returns-clause-ok : goal.returns-clause-ok
+returns-clause-ok g c =
+    handled_so g.W.Log.told c.args.self.now _ _ (event_of c.args.event) c.args.outbox.now c.step.new.outbox c.step.result c.in_ok-write.ensures.played c.in_ok-write.ensures.timely c.in_ok-write.ensures.until c.in_ok-write.ensures.ok c.step.ensures.ok
 
 pub returns-clause-err : goal.returns-clause-err
 returns-clause-err g c =

@@ -1,0 +1,24 @@
+//! What a program tells apart from its answer.
+
+use std::fmt::{self, Formatter};
+
+/// What whoever runs a program is told apart from its answer. Its text is one line or more, without the end of the last
+/// one.
+#[derive(Clone, Copy, Debug)]
+pub enum Note<'a> {
+    /// Lines of what was read by this name end in CR LF.
+    LineEnds { name: &'a str },
+    /// The words of the command line are wrong, as this text says.
+    Words { text: &'a str },
+}
+
+impl fmt::Display for Note<'_> {
+    fn fmt<W: fmt::Write>(&self, f: &mut Formatter<W>) -> fmt::Result {
+        match self {
+            Note::LineEnds { name } => {
+                write!(f, "lines of {name} end in CR LF, and not in LF alone")
+            }
+            Note::Words { text } => f.write_str(text.strip_suffix('\n').unwrap_or(text)),
+        }
+    }
+}

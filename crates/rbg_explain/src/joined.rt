@@ -1,0 +1,188 @@
+//! Names and numbers that `~` has joined: the whole text of a refused one, and the `~` that joined it.
+
+use crate::sections::{cut, expanded};
+use rbg_game::{GameError, LoadError};
+use rbg_macro::{Section, SectionKind, Source};
+use rbg_tokens::{Symbol, TextLine, Token, Tokens};
+use std::alloc::{AllocError, Global};
+
+/// The most `~` that are tried.
+const MOST_TRIED: usize = 100;
+
+/// The whole text of the token that a refusal at an offset is about, where `~` has joined it. None where the token is one
+/// of the text, and where calls of a macro join several texts there and it can't be told which of them it is.
+pub(crate) fn joined_text(
+    alloc: Global,
+    error: &LoadError,
+    tokens: Option<&Tokens<'_>>,
+    at: usize,
+) -> Result<Option<Vec<u8>>, AllocError> {
+    let (Some(tokens), LoadError::Syntax(_) | LoadError::Game(_)) = (tokens, error) else {
+        return Ok(None);
+    };
+    match expanded(alloc, tokens)? {
+        Some(source) => joined_in(alloc, error, &source, tokens.as_slice(), at),
+        None => Ok(None),
+    }
+}
+
+fn joined_in(
+    alloc: Global,
+    error: &LoadError,
+    source: &Source<'_>,
+    tokens: &[Token<'_>],
+    at: usize,
+) -> Result<Option<Vec<u8>>, AllocError> {
+    let found = texts_at(alloc, source, at)?;
+    match chosen(error, source, found.as_slice()) {
+        Some(text) if !stands_at(tokens, at, text) => Ok(Some(text.to_vec(alloc)?)),
+        _ => Ok(None),
+    }
+}
+
+/// The one of these texts that a refusal is about, if that can be told.
+fn chosen<'a>(error: &LoadError, source: &Source<'_>, texts: &[&'a [u8]]) -> Option<&'a [u8]> {
+    if let [text] = texts {
+        return Some(*text);
+    }
+    for text in texts {
+        if is_refused(error, source, text) {
+            return Some(*text);
+        }
+    }
+    None
+}
+
+/// Whether a token of the text is this one.
+fn stands_at(tokens: &[Token<'_>], at: usize, text: &[u8]) -> bool {
+    tokens
+        .iter()
+        .any(|token| token.at == at && token.text == text)
+}
+
+/// The texts of the tokens that come from an offset, each once.
+fn texts_at<'a>(
+    alloc: Global,
+    source: &'a Source<'_>,
+    at: usize,
+) -> Result<Vec<&'a [u8]>, AllocError> {
+    let mut texts = Vec::new(alloc);
+    for index in 0..source.len() {
+        push_texts(&source.section(index), at, &mut texts)?;
+    }
+    Ok(texts)
+}
+
+fn push_texts<'a>(
+    section: &Section<'a>,
+    at: usize,
+    texts: &mut Vec<&'a [u8]>,
+) -> Result<(), AllocError> {
+    for index in 0..section.len() {
+        let token = section.token(index);
+        if token.at == at && !texts.iter().any(|text| *text == token.text) {
+            texts.push(token.text)?;
+        }
+    }
+    Ok(())
+}
+
+/// Whether an unknown name is this one: no section gives it to a player, a piece, a variable or a direction.
+fn is_refused(error: &LoadError, source: &Source<'_>, name: &[u8]) -> bool {
+    if !matches!(error, LoadError::Game(GameError::UnknownName { .. })) {
+        return false;
+    }
+    for index in 0..source.len() {
+        let section = source.section(index);
+        if section.kind() != SectionKind::Rules && gives_name(&section, name) {
+            return false;
+        }
+    }
+    true
+}
+
+/// Whether a name stands in a section outside of `[` and `]`, between which a board names its pieces.
+fn gives_name(section: &Section<'_>, name: &[u8]) -> bool {
+    let mut is_piece = false;
+    for index in 0..section.len() {
+        let token = section.token(index);
+        is_piece = !token.is(Symbol::CloseBracket) && (is_piece || token.is(Symbol::OpenBracket));
+        if !is_piece && token.text == name {
+            return true;
+        }
+    }
+    false
+}
+
+/// Adds the line that says at which lines and columns the `~` stand that join this text at an offset: those without which
+/// it isn't there. The first 100 of the text are tried.
+pub(crate) fn push_joins(
+    alloc: Global,
+    output: &mut Vec<u8>,
+    text: &[u8],
+    tokens: &[Token<'_>],
+    at: usize,
+    joined: &[u8],
+) -> Result<(), AllocError> {
+    let mut count = 0usize;
+    for token in tokens
+        .iter()
+        .filter(|token| token.is(Symbol::Tilde))
+        .take(MOST_TRIED)
+    {
+        if joins(alloc, text, token.at, at, joined)? {
+            push_join(alloc, output, text, token.at, count)?;
+            count = count.saturating_add(1);
+        }
+    }
+    if count > 0 {
+        output.push(b'\n')?;
+    }
+    Ok(())
+}
+
+/// Adds the line and the column of one `~`, behind those of so many others.
+fn push_join(
+    alloc: Global,
+    output: &mut Vec<u8>,
+    text: &[u8],
+    at: usize,
+    count: usize,
+) -> Result<(), AllocError> {
+    let word = if count == 0 {
+        "joined by `~` at"
+    } else {
+        " and"
+    };
+    let at = at.min(text.len());
+    let line = TextLine::of(text, at);
+    let number = line.number;
+    let column = (at - line.start).saturating_add(1);
+    let place = format!(in alloc; "{word} {number}:{column}")?;
+    output.extend_from_slice(place.as_bytes())
+}
+
+/// Whether this text isn't at an offset where a space stands in place of a `~`.
+fn joins(
+    alloc: Global,
+    text: &[u8],
+    tilde: usize,
+    at: usize,
+    joined: &[u8],
+) -> Result<bool, AllocError> {
+    let mut variant = text.to_vec(alloc)?;
+    if let Some(byte) = variant.get_mut(tilde) {
+        *byte = b' ';
+    }
+    let Some(tokens) = cut(alloc, &variant)? else {
+        return Ok(false);
+    };
+    match expanded(alloc, &tokens)? {
+        Some(source) => Ok(
+            !texts_at(alloc, &source, at)?
+                .iter()
+                .any(|text| *text == joined),
+        ),
+        None => Ok(false),
+    }
+}

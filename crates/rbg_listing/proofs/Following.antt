@@ -1,0 +1,98 @@
+-- A record, followed line by line to a place.
+use Rattle.std.proofs.Common.{◌≡◌, ◌≢◌, ℕ, ◌+◌, Bool, true, false, List, [], ◌∷◌, ◌++◌, length, refl, sym, ap, ◌∙◌, subst, arith}
+use Rattle.std.specs.Prelude.{◌==◌}
+use Rattle.std.proofs.lemmas.Bool.{eqb-true, true≢false}
+use Rattle.std.proofs.lemmas.List.{length-append}
+use Rattle.rbg_wire.specs.Lines.{line_feed}
+use Rattle.rbg_lines.specs.Lines.{IsFirstLine}
+use Rattle.rbg_record.proofs.Deciding.{good_by_lines}
+use Rattle.rbg_record.proofs.SoFarLemmas.{read_none, begins_more, read_good}
+use Rattle.rbg_record.specs.ByLine.{IsReachedIn}
+use Rattle.rbg_record.specs.Judged.{BeginsWith}
+use Rattle.rbg_record.specs.Lines.{Reached, version_next, players_next, start_next, entry_next, nothing_next, Leads, LeadTo}
+use Rattle.rbg_record.specs.Lines as lines
+use Rattle.rbg_record.specs.internal.SoFar.{IsReadSoFar}
+use Rattle.rbg_rules.specs.Moves.{AbstractPlace}
+use Rattle.rbg_rules.specs.Places.{IsPlaceOf}
+use Rattle.rbg_rules.specs.State.{AbstractGame}
+use Rattle.rbg_listing.specs.Behind.{IsPlaceBehind}
+use Rattle.rbg_listing.specs.internal.Following.{place_in, EndsAt, IsAt}
+
+-- The lines before the rest are right in turn, and lead to this place.
+pub record IsFollowed (game : AbstractGame) (bytes : List ℕ) (reached : Reached) (rest : List ℕ) (line : ℕ) (place : AbstractPlace) : Type 0 where
+  pub so_far : IsReadSoFar game bytes reached rest line
+  pub in_game : IsPlaceOf game place
+  pub at : IsAt game so_far.texts reached place
+
+pub followed_none : (game : AbstractGame) (bytes : List ℕ) (place : AbstractPlace) → IsPlaceOf game place → IsFollowed game bytes version_next bytes 1 place
+followed_none game bytes place in_game = record { so_far = read_none game bytes; in_game = in_game; at = tt }
+
+-- the place to which a line leads is one of the game
+in_game_next : (game : AbstractGame) (to : Reached) (before : AbstractPlace) → IsReachedIn game to → IsPlaceOf game before → IsPlaceOf game (place_in to before)
+in_game_next game version_next before reached_in in_game = in_game
+in_game_next game players_next before reached_in in_game = in_game
+in_game_next game start_next before reached_in in_game = in_game
+in_game_next game (entry_next standing) before reached_in in_game = reached_in
+in_game_next game nothing_next before reached_in in_game = in_game
+
+-- one line more leads to its place
+at_next : (game : AbstractGame) (texts : List (List ℕ)) (text : List ℕ) (from to : Reached) (place : AbstractPlace) → LeadTo game texts from → Leads game from text to → IsAt game texts from place → IsAt game (texts ++ text ∷ []) to (place_in to place)
+at_next game texts text from to place led (lines.version_1 is) at = refl
+at_next game texts text from to place led (lines.version_2 is) at = tt
+at_next game texts text from to place led (lines.players spells) at = tt
+at_next game texts text from to place led (lines.start spells lawful counted) at = refl
+at_next game texts text from to place led (lines.entry spells (lines.move mover moment counted legal)) at = refl
+at_next game texts text from to place led (lines.entry {standing = standing} spells (lines.end fits counted)) at = record {
+  before = texts;
+  last = text;
+  parts = refl;
+  standing = standing;
+  leads = led;
+  here = at;
+}
+
+pub followed_next : (game : AbstractGame) (bytes : List ℕ) (reached to : Reached) (rest text later : List ℕ) (line : ℕ) (place new : AbstractPlace) → IsFollowed game bytes reached rest line place → IsFirstLine rest text later → Leads game reached text to → IsReachedIn game to → new ≡ place_in to place → IsFollowed game bytes to later (line + 1) new
+followed_next game bytes reached to rest text later line place new before first leads reached_in is =
+    let so_far = before.so_far in
+    let left = ap length first.parts ∙ length-append text (line_feed ∷ later) in
+    let old = so_far.shorter in
+    let number : line + 1 ≡ length (so_far.texts ++ text ∷ []) + 1 = omega (arith, so_far.number, length-append so_far.texts (text ∷ [])) in
+    subst (IsFollowed game bytes to later (line + 1)) (sym is) (record {
+      so_far = record {
+        texts = so_far.texts ++ text ∷ [];
+        begins = begins_more bytes so_far.texts text rest later so_far.begins first;
+        number = number;
+        leads = lines.more so_far.leads leads;
+        in_game = reached_in;
+        shorter = omega arith;
+      };
+      in_game = in_game_next game to place reached_in before.in_game;
+      at = at_next game before.so_far.texts text reached to place before.so_far.leads leads before.at;
+    })
+
+-- nothing is left, or something
+pub nothing_left : {X : Type 0} (rest : List X) (answer : Bool) → answer ≡ (length rest == 0) → answer ≡ true → rest ≡ []
+nothing_left [] answer is holds = refl
+nothing_left (x ∷ rest) answer is holds =
+    let none : length (x ∷ rest) ≡ 0 = eqb-true (length (x ∷ rest)) 0 (sym is ∙ holds) in
+    absurd (omega (arith, none))
+
+pub something_left : {X : Type 0} (rest : List X) (answer : Bool) → answer ≡ (length rest == 0) → answer ≡ false → rest ≢ []
+something_left rest answer is fails = λ none.
+    let holds : (length rest == 0) ≡ true = ap (λ left. length left == 0) none in
+    true≢false (sym holds ∙ (sym is ∙ fails))
+
+-- no line is left, and the record has ended
+pub followed_whole : (game : AbstractGame) (bytes : List ℕ) (reached : Reached) (rest : List ℕ) (line : ℕ) (place : AbstractPlace) → IsFollowed game bytes reached rest line place → reached ≡ nothing_next → rest ≡ [] → IsPlaceBehind game bytes place
+followed_whole game bytes reached rest line place followed over none =
+    let texts = followed.so_far.texts in
+    let ends : EndsAt game texts place = subst (λ to. IsAt game texts to place) over followed.at in
+    record {
+      right = (good_by_lines game bytes).0 (read_good game bytes reached rest line followed.so_far over none);
+      texts = ends.before;
+      last = ends.last;
+      begins = subst (λ all. BeginsWith bytes all []) ends.parts (subst (λ left. BeginsWith bytes texts left) none followed.so_far.begins);
+      standing = ends.standing;
+      leads = ends.leads;
+      here = ends.here;
+    }

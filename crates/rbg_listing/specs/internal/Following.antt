@@ -1,0 +1,30 @@
+-- The lines of a record, followed to the place to which they lead.
+use Rattle.std.specs.Prelude.{◌≡◌, ℕ, List, [], ◌∷◌, ◌++◌}
+use Rattle.rbg_record.specs.Lines.{Standing, Reached, version_next, players_next, start_next, entry_next, nothing_next, LeadTo}
+use Rattle.rbg_rules.specs.Moves.{AbstractPlace}
+use Rattle.rbg_rules.specs.State.{AbstractGame}
+
+-- the place to which a line leads, or else the one before it
+abbrev pub place_in : Reached → AbstractPlace → AbstractPlace
+place_in (entry_next standing) before = standing.place
+place_in version_next before = before
+place_in players_next before = before
+place_in start_next before = before
+place_in nothing_next before = before
+
+-- the last of these lines is the end, and the others lead to this place
+pub record EndsAt (game : AbstractGame) (texts : List (List ℕ)) (place : AbstractPlace) : Type 0 where
+  pub before : List (List ℕ)
+  pub last : List ℕ
+  pub parts : texts ≡ before ++ last ∷ []
+  pub standing : Standing
+  pub leads : LeadTo game before (entry_next standing)
+  pub here : standing.place ≡ place
+
+-- the moves of these lines, which lead there, lead to this place; before the first move nothing is said
+abbrev pub IsAt : AbstractGame → (texts : List (List ℕ)) → Reached → AbstractPlace → Type 0
+IsAt game texts (entry_next standing) place = standing.place ≡ place
+IsAt game texts nothing_next place = EndsAt game texts place
+IsAt game texts version_next place = Unit {0}
+IsAt game texts players_next place = Unit {0}
+IsAt game texts start_next place = Unit {0}

@@ -1,0 +1,24 @@
+//! How far sequences of moves are looked at.
+ghost use Rattle.std.specs.Prelude.{◌≡◌, false};
+ghost use Rattle.rbg_perft.specs.declared.extent.Extent.TheVariants.{Moves};
+
+/// What is asked behind the last move of a sequence.
+#[derive(Clone, Copy, Debug, PartialEq, Eq)]
+pub enum Extent {
+    /// Whether play is finished there: the move is made, and so are the keeper's behind it.
+    Ends,
+    /// Nothing: the last moves are listed, and none of them is made. No sequence counts as ended.
+    Moves,
+}
+
+impl Extent {
+    /// Whether something is asked behind the last move.
+    pub(crate) fn asks_ends(self) -> bool
+        ensures { result ≡ false → self ≡ Moves }
+    {
+        match self {
+            Extent::Ends => true,
+            Extent::Moves => false,
+        }
+    }
+}
