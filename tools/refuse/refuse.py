@@ -63,12 +63,9 @@ REFEREED = [["done 0"], ["done 0", "seat 1 186 bytes", "seat 2 186 bytes"], ["do
 
 def refusals_of(word):
     """All that a word of rbg_refusals may print where memory was refused."""
+    texts = [["memory", *AFTERWARDS.get(word, [])]]
     if word == "referee":
         texts = [["memory", *lines] for lines in REFEREED]
-    elif word.startswith("rbg-"):
-        texts = [["memory", "status 4"]]
-    else:
-        texts = [["memory", *AFTERWARDS.get(word, [])]]
     return {(0, "".join(f"{line}\n" for line in [word, *text])) for text in [["setup memory"], *texts]}
 
 
@@ -84,7 +81,7 @@ def whole_programs(program, folder):
     for name, text in texts.items():
         pathlib.Path(files[name]).write_text(text)
     memory = {(4, "memory\n")}
-    wanted = [("check", "game"), ("check", "bad"), ("moves", "game"), ("replay", "game", "record"), ("replay", "game", "plain"),
+    wanted = [("check", "game"), ("check", "bad"), ("moves", "game"), ("moves", "game", "record"), ("replay", "game", "record"), ("replay", "game", "plain"),
               ("migrate", "game", "plain")]
     runs = [Run(" ".join(["rbg", *words]), [program, words[0], *(files[name] for name in words[1:])], "", memory) for words in wanted]
     runs.append(Run("rbg referee", [program, "referee"], f"{GAME}%%\n{SCRIPT}", memory))

@@ -21,9 +21,10 @@ class Case:
         self.made = None  # the file that is shown too
         self.last = None
         self.author = False
+        self.fails = False  # its input fails or has no end, or its output fails
 
     def covered(self):
-        if self.author:
+        if self.author or self.fails:
             return False
         arguments = self.words[1:]
         if self.words[:1] == ["referee"] and arguments[-1:] != ["--record"] and "--cut" not in arguments:
@@ -97,6 +98,8 @@ def read_cases(lines):
             case.last = int(name)
         elif word == b"author":
             case.author = True
+        elif word in (b"input", b"output"):
+            case.fails = True
         else:
             target = bytearray()  # a stream of a connection
     yield case
