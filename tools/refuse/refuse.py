@@ -1,8 +1,8 @@
 #!/usr/bin/env python3
 """Refuses each request for memory of each named run in turn, and compares what is answered with the answer of ample memory.
 
-The runs are the words of crates/rbg_refusals/stdin, each given to that program alone, and the whole program rbg on the
-files of `whole_programs`. For N = 1, 2, .. the Nth request is refused: once, and then once more with each later one. A run
+The runs are the words of crates/rbg_refusals/stdin, each given to that program alone, the whole program rbg on the files
+of `whole_programs`, and a hall over connections in memory, as a case of rbg_cases. For N = 1, 2, .. the Nth request is refused: once, and then once more with each later one. A run
 ends with N above its requests, so that nothing was refused. Of a run with very many requests the first ones are refused,
 and then some that are spread over the rest.
 
@@ -45,6 +45,29 @@ SCRIPT = "config 1000 3 0\nm 1 10 M0 3 0 4 0 5\nm 2 20 M1 8 1 9\n"
 HALL_SCRIPT = "config 1000 3 0\nm 0 0 H1\nm 1 0 H1\nm 0 10 M0 3 0 4 0 5\nm 1 20 M1 8 1 9\n"
 RECORD = "rbg 2\nplayers white black\nstart 1000 0\n0 0 0 1\n10 1 0 3 0 4 0 5\n20 2 1 8 1 9\n20 E0 100 0\n"
 PLAIN_RECORD = "rbg 1\n0 0 1\n1 0 3 0 4 0 5\n2 1 8 1 9\nE0 100 0\n"
+
+WRITTEN_GAME = "".join(f"|{line}\n" for line in GAME.splitlines())
+# A hall of two matches. The connections of one match end behind the request for a seat, those of the other stay.
+HALL_CASE = f"""case a hall
+words hall first.rbg second.rbg --port 4000 --quiet
+text game
+{WRITTEN_GAME}file first.rbg
+=game
+file second.rbg
+=game
+stream
++H2
+%00
+stream
++H1
+%00
+stream that ends
++H2
+%00
+stream that ends
++H1
+%00
+"""
 
 # What rbg_refusals prints after the word `memory`, by the name of the run; `setup memory` alone may stand for all of it.
 AFTERWARDS = {
