@@ -21,7 +21,7 @@ impl Read for CaseInput<'_> {
                 buf.fill(0);
                 Ok(buf.len())
             }
-            Behind::Failure => Err(io::Error::from(ErrorKind::NotFound)),
+            Behind::Failure => Err(io::Error::from(ErrorKind::ConnectionReset)),
         }
     }
 }
