@@ -1,10 +1,11 @@
 //! Runs of messages, streams and matches.
-ghost use Rattle.std.specs.Prelude.{◌≡◌, length};
+ghost use Rattle.std.specs.Prelude.{◌≡◌, IfOk, length};
 ghost use Rattle.rbg_match.specs.PlayingOn.{seats_of};
 
 use crate::games::{CONFIG, GAME};
 use crate::stop::Stop;
 use crate::telling::{tell_again, tell_kept, tell_memory, tell_messages};
+use rbg_base::Memory;
 use rbg_game::load;
 use rbg_match::{Event, Match, MatchError, Outbox, RefereeError, referee};
 use rbg_serving::{Give, ListClock, MemoryLine, ServeError, Served, Take, serve};
@@ -118,13 +119,28 @@ fn tell_outbox<W: Write>(outbox: &Outbox, output: &mut W) -> io::Result<()> {
 /// Makes a match of the small game.
 fn open<W: Write>(alloc: Global, output: &mut W) -> Result<(), Stop> {
     let game = load(alloc, GAME)?;
-    let opened = Match::new(alloc, game, GAME, CONFIG, 0);
-    match &opened {
+    tell_opened(&Match::new(alloc, game, GAME, CONFIG, 0), output)
+}
+
+fn tell_opened<W: Write>(
+    opened: &Result<(Match, Outbox), MatchError>,
+    output: &mut W,
+) -> Result<(), Stop> {
+    match opened {
         Ok((_, outbox)) => tell_outbox(outbox, output)?,
         Err(MatchError::Memory) => tell_memory(output)?,
         Err(error) => writeln!(output, "refused {error}")?,
     }
     Ok(())
+}
+
+/// A match of the small game, and its outbox.
+fn new_match(alloc: Global) -> Result<(Match, Outbox), Stop>
+    ensures { IfOk result (λ made. length made.1 ≡ seats_of made.0.game) }
+{
+    let game = load(alloc, GAME)?;
+    let made = Match::new(alloc, game, GAME, CONFIG, 0)?;
+    Ok(made)
 }
 
 /// The bytes of two seats.
@@ -156,10 +172,20 @@ impl Sent {
 
 /// Lets white move in a match of the small game.
 fn step<W: Write>(alloc: Global, output: &mut W) -> Result<(), Stop> {
-    let game = load(alloc, GAME)?;
-    let (mut opened, mut outbox) = Match::new(alloc, game, GAME, CONFIG, 0)?;
-    let before = Sent::copy_of(alloc, &outbox)?;
-    Ok(tell_step(&mut opened, &mut outbox, &before, output)?)
+    let (mut opened, mut outbox) = new_match(alloc)?;
+    step_from(alloc, &mut opened, &mut outbox, output)
+}
+
+fn step_from<W: Write>(
+    alloc: Global,
+    opened: &mut Match,
+    outbox: &mut Outbox,
+    output: &mut W,
+) -> Result<(), Stop>
+    requires { length outbox.old ≡ seats_of opened.old.game }
+{
+    let before = Sent::copy_of(alloc, outbox)?;
+    Ok(tell_step(opened, outbox, &before, output)?)
 }
 
 /// Lets white move. Where memory is refused, it does so again.
@@ -182,11 +208,17 @@ fn tell_step<W: Write>(
 
 /// A match of the small game that was played to its end.
 pub fn played_match(alloc: Global) -> Result<Match, Stop> {
-    let game = load(alloc, GAME)?;
-    let (mut played, mut outbox) = Match::new(alloc, game, GAME, CONFIG, 0)?;
-    played.step(EVENTS[0], &mut outbox)?;
-    played.step(EVENTS[1], &mut outbox)?;
+    let (mut played, mut outbox) = new_match(alloc)?;
+    play_both(&mut played, &mut outbox)?;
     Ok(played)
+}
+
+/// Lets white move, and then black.
+fn play_both(played: &mut Match, outbox: &mut Outbox) -> Result<(), Memory>
+    requires { length outbox.old ≡ seats_of played.old.game }
+{
+    played.step(EVENTS[0], outbox)?;
+    played.step(EVENTS[1], outbox)
 }
 
 /// Referees the small game.
@@ -218,21 +250,25 @@ fn two_lines(alloc: Global) -> Result<[MemoryLine; 2], Stop> {
 /// Serves the small game over lines in memory.
 fn serve_lines<W: Write>(alloc: Global, output: &mut W) -> Result<(), Stop> {
     let mut lines = two_lines(alloc)?;
-    let game = load(alloc, GAME)?;
-    let (mut opened, mut outbox) = Match::new(alloc, game, GAME, CONFIG, 0)?;
+    let (mut opened, mut outbox) = new_match(alloc)?;
+    serve_over(alloc, &mut lines, &mut opened, &mut outbox, output)
+}
+
+fn serve_over<W: Write>(
+    alloc: Global,
+    lines: &mut [MemoryLine; 2],
+    opened: &mut Match,
+    outbox: &mut Outbox,
+    output: &mut W,
+) -> Result<(), Stop>
+    requires { length outbox.old ≡ seats_of opened.old.game }
+{
     if opened.players() != lines.len() {
         return Err(Stop::Wrong);
     }
     let mut clock = ListClock::new(Vec::new(alloc));
-    let served = serve(
-        alloc,
-        &mut lines,
-        &mut opened,
-        &mut outbox,
-        &mut clock,
-        ROUNDS,
-    );
-    Ok(tell_served(served, &lines, &outbox, output)?)
+    let served = serve(alloc, lines, opened, outbox, &mut clock, ROUNDS);
+    Ok(tell_served(served, lines, outbox, output)?)
 }
 
 fn tell_served<W: Write>(

@@ -28,8 +28,8 @@ pub fn run<W: Write>(alloc: Global, name: &str, output: &mut W) -> Result<bool, 
 
 /// Lets a player hear the start of its match, so that it says its move.
 fn hear<W: Write>(alloc: Global, output: &mut W) -> Result<(), Stop> {
-    let mut player = Player::new(alloc);
     let mut said = Vec::from_slice(alloc, KEPT)?;
+    let mut player = Player::new(alloc);
     hear_opening(&mut player, &mut said, output)
 }
 

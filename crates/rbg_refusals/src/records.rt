@@ -1,6 +1,6 @@
 //! Runs of records.
 
-use crate::games::GAME;
+use crate::games::{GAME, played};
 use crate::matches::played_match;
 use crate::stop::Stop;
 use crate::telling::tell_memory;
@@ -53,23 +53,27 @@ pub fn run<W: Write>(alloc: Global, name: &str, output: &mut W) -> Result<bool, 
 }
 
 /// Tells a record that was written.
-fn tell_written<W: Write>(written: &Result<Vec<u8>, AllocError>, output: &mut W) -> io::Result<()> {
+fn tell_written<W: Write>(
+    written: &Result<Vec<u8>, AllocError>,
+    output: &mut W,
+) -> Result<(), Stop> {
     match written {
-        Ok(record) => output.write_all(record.as_slice()),
-        Err(_) => tell_memory(output),
+        Ok(record) => output.write_all(record.as_slice())?,
+        Err(_) => tell_memory(output)?,
     }
+    Ok(())
 }
 
 /// Writes the record of a match of the small game.
 fn write<W: Write>(alloc: Global, output: &mut W) -> Result<(), Stop> {
     let played = played_match(alloc)?;
-    Ok(tell_written(&write_record(alloc, &played), output)?)
+    tell_written(&write_record(alloc, &played), output)
 }
 
 /// Writes the same in version 1.
 fn write_1<W: Write>(alloc: Global, output: &mut W) -> Result<(), Stop> {
     let played = played_match(alloc)?;
-    Ok(tell_written(&write_record_1(alloc, &played), output)?)
+    tell_written(&write_record_1(alloc, &played), output)
 }
 
 /// Says why there is no answer.
@@ -80,16 +84,14 @@ fn tell_error<W: Write>(error: RecordError, output: &mut W) -> io::Result<()> {
     }
 }
 
-/// The game of the records.
-fn recorded(alloc: Global) -> Result<Game, Stop> {
-    Ok(load(alloc, GAME)?)
-}
-
 /// Checks a record of the small game.
 fn check<W: Write>(alloc: Global, record: &[u8], output: &mut W) -> Result<(), Stop> {
-    let game = recorded(alloc)?;
-    let game = PlayedGame::new(alloc, game)?;
-    match check_record(&game, record) {
+    let game = played(alloc, GAME)?;
+    tell_checked(&game, record, output)
+}
+
+fn tell_checked<W: Write>(game: &PlayedGame, record: &[u8], output: &mut W) -> Result<(), Stop> {
+    match check_record(game, record) {
         Ok(Checked::Good) => output.write_all(b"good\n")?,
         Ok(Checked::Bad { line }) => writeln!(output, "bad {line}")?,
         Err(error) => tell_error(error, output)?,
@@ -99,8 +101,12 @@ fn check<W: Write>(alloc: Global, record: &[u8], output: &mut W) -> Result<(), S
 
 /// Makes version 2 of a record of the small game.
 fn migrate_plain<W: Write>(alloc: Global, output: &mut W) -> Result<(), Stop> {
-    let game = recorded(alloc)?;
-    match migrate(alloc, &game, PLAIN) {
+    let game = load(alloc, GAME)?;
+    tell_migrated(alloc, &game, output)
+}
+
+fn tell_migrated<W: Write>(alloc: Global, game: &Game, output: &mut W) -> Result<(), Stop> {
+    match migrate(alloc, game, PLAIN) {
         Ok(record) => output.write_all(record.as_slice())?,
         Err(error) => tell_error(error, output)?,
     }

@@ -89,8 +89,12 @@ fn white_to_move(game: &PlayedGame) -> Result<Place, Stop>
 /// Finds a move of white.
 fn find<W: Write>(alloc: Global, text: &[u8], output: &mut W) -> Result<(), Stop> {
     let game = played(alloc, text)?;
-    let place = white_to_move(&game)?;
-    Ok(tell_found(&game, &place, output)?)
+    find_in(&game, output)
+}
+
+fn find_in<W: Write>(game: &PlayedGame, output: &mut W) -> Result<(), Stop> {
+    let place = white_to_move(game)?;
+    Ok(tell_found(game, &place, output)?)
 }
 
 fn tell_found<W: Write>(game: &PlayedGame, place: &Place, output: &mut W) -> io::Result<()>
@@ -112,8 +116,12 @@ fn try_pairs<W: Write>(
 ) -> Result<(), Stop> {
     let pairs = move_of(pairs)?;
     let game = played(alloc, text)?;
-    let place = white_to_move(&game)?;
-    Ok(tell_tried(&game, &place, &pairs, output)?)
+    try_in(&game, &pairs, output)
+}
+
+fn try_in<W: Write>(game: &PlayedGame, pairs: &Move, output: &mut W) -> Result<(), Stop> {
+    let place = white_to_move(game)?;
+    Ok(tell_tried(game, &place, pairs, output)?)
 }
 
 fn tell_tried<W: Write>(
@@ -166,8 +174,12 @@ fn tell_place<W: Write>(place: &Place, output: &mut W) -> io::Result<()> {
 /// Lists the moves of white.
 fn list<W: Write>(alloc: Global, text: &[u8], output: &mut W) -> Result<(), Stop> {
     let game = played(alloc, text)?;
-    let place = white_to_move(&game)?;
-    Ok(tell_list(&game, &place, output)?)
+    list_in(&game, output)
+}
+
+fn list_in<W: Write>(game: &PlayedGame, output: &mut W) -> Result<(), Stop> {
+    let place = white_to_move(game)?;
+    Ok(tell_list(game, &place, output)?)
 }
 
 fn tell_list<W: Write>(game: &PlayedGame, place: &Place, output: &mut W) -> io::Result<()>
@@ -208,11 +220,19 @@ fn reach_from<W: Write>(
     let _positions = game.positions();
     let copy = state.try_clone()?;
     let answer = Search::new(alloc, game, steps, BUDGET).reach(state, Origin::Begin(Expr::Rules));
+    Ok(tell_answer(&answer, *state == copy, output)?)
+}
+
+fn tell_answer<W: Write>(
+    answer: &Result<Reached, Over>,
+    kept: bool,
+    output: &mut W,
+) -> io::Result<()> {
     match answer {
-        Ok(reached) => tell_reached(&reached, output)?,
-        Err(over) => tell_over(over, output)?,
+        Ok(reached) => tell_reached(reached, output)?,
+        Err(over) => tell_over(*over, output)?,
     }
-    Ok(tell_kept("semi-state is", *state == copy, output)?)
+    tell_kept("semi-state is", kept, output)
 }
 
 fn tell_reached<W: Write>(reached: &Reached, output: &mut W) -> io::Result<()> {
@@ -246,11 +266,15 @@ fn ask_pattern<W: Write>(
     }
     let copy = state.try_clone()?;
     let answer = Search::new(alloc, game, steps, BUDGET).pattern(state, ASKED);
+    Ok(tell_valid(answer, *state == copy, output)?)
+}
+
+fn tell_valid<W: Write>(answer: Result<bool, Over>, kept: bool, output: &mut W) -> io::Result<()> {
     match answer {
         Ok(valid) => writeln!(output, "valid {valid}")?,
         Err(over) => tell_over(over, output)?,
     }
-    Ok(tell_kept("semi-state is", *state == copy, output)?)
+    tell_kept("semi-state is", kept, output)
 }
 
 /// Counts the sequences of three moves from the beginning of play.
