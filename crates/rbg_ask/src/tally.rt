@@ -110,7 +110,7 @@ pub(crate) fn count_in(played: Played, tallies: &mut Vec<Tally>) -> Result<(), M
 fn push_first(played: Played, tallies: &mut Vec<Tally>) -> Result<(), Memory>
     ensures { OnOk result (tallies.new.items
         ≡ tallies.old.items
-            ++ (record { ending = played.ending; matches = 1; moves = played.moves }) ∷ []) }
+        ++ (record { ending = played.ending; matches = 1; moves = played.moves }) ∷ []) }
 {
     let Played { ending, moves } = played;
     tallies.push(Tally {
