@@ -3,6 +3,6 @@ mod Reading
 mod Answering
 mod Naming
 mod Places
-mod Faults
+pub mod Faults
 mod Matches
-mod Tallies
+pub mod Tallies

@@ -1,5 +1,5 @@
 -- Matches that are played by chance, one move and one match after the other.
-use Rattle.std.proofs.Common.{◌≡◌, ◌≢◌, ℕ, suc, ◌+◌, ◌-◌, ◌<◌, ◌≤◌, ◌⊎◌, List, [], ◌∷◌, ◌++◌, length, take, map, slice_get, get_or, set, Bool, true, false, Option, Some, None, Result, Ok, Err, inl, inr, refl, sym, ap, ◌∙◌, subst, arith}
+use Rattle.std.proofs.Common.{◌≡◌, ◌≢◌, ℕ, suc, ◌+◌, ◌*◌, ◌-◌, ◌<◌, ◌≤◌, ◌⊎◌, List, [], ◌∷◌, ◌++◌, length, take, map, slice_get, get_or, set, Bool, true, false, Option, Some, None, Result, Ok, Err, inl, inr, refl, sym, ap, ◌∙◌, subst, arith}
 use Rattle.std.specs.Prelude.{All, AllPairs, Contains}
 use Rattle.std.specs.List.{sum_by}
 use Rattle.std.proofs.lemmas.Option.{slice_get_within, get_or_from_slice_get}
@@ -20,7 +20,7 @@ use Rattle.rbg_moves.specs.declared.unsettled.Unsettled.{Unsettled}
 use Rattle.rbg_moves.specs.declared.unsettled.Unsettled.TheVariants as unsettled
 use Rattle.rbg_ask.specs.declared.refusal.Refusal.{Refusal}
 use Rattle.rbg_ask.specs.declared.tally.Tally.{Tally}
-use Rattle.rbg_ask.specs.Chance.{Plays, no_move, one_more, Ends, is_over, is_stopped, Counted, counted_by, scores_of, AreMatches, AreTallied, IsUnmoved, heavy_to_list, heavy_to_settle, endless, no_memory, IsUnplayed}
+use Rattle.rbg_ask.specs.Chance.{Plays, no_move, one_more, Ends, is_over, is_stopped, Counted, counted_by, scores_of, AreMatches, AreTallied, moves_in, IsUnmoved, heavy_to_list, heavy_to_settle, endless, no_memory, IsUnplayed}
 use Rattle.rbg_ask.specs.Sessions.{Leads}
 use Rattle.rbg_ask.specs.internal.Counting.{CountsIn, again, first, IsTallyAt}
 use Rattle.rbg_ask.specs.internal.Moving.{MovesOn, moved, rests, IsPlayedTo}
@@ -70,17 +70,40 @@ pub rests_here : (game : AbstractGame) (place to : AbstractPlace) → MovesOn ga
 rests_here game place _ (rests over) = (over, refl)
 
 -- how the match ends
-pub ends_over : (game : AbstractGame) (from middle to : AbstractPlace) (many : ℕ) (scores : List ℕ) → PlayedSo game from many middle → many < 10000 → MovesOn game middle false to → scores ≡ take (length game.players) to.state.values → IsPlayedTo game from (Some scores)
-ends_over game from middle to many scores so few on same =
+pub ends_over : (game : AbstractGame) (from middle to : AbstractPlace) (many made : ℕ) (scores : List ℕ) → made ≡ many → PlayedSo game from many middle → many < 10000 → MovesOn game middle false to → scores ≡ take (length game.players) to.state.values → IsPlayedTo game from (Some scores) made
+ends_over game from middle to many made scores said so few on same =
     let here = rests_here game middle to on in
     record {
       moves = so.moves;
       ends = subst (λ (s : List ℕ). Ends game from so.moves (Some s)) (sym (same ∙ ap (λ (p : AbstractPlace). take (length game.players) p.state.values) here.1))
           (is_over (omega (arith, so.many, few)) so.plays here.0);
+      many = said ∙ sym so.many;
     }
 
-pub ends_stopped : (game : AbstractGame) (from to : AbstractPlace) (many : ℕ) → PlayedSo game from many to → many ≡ 10000 → IsPlayedTo game from None
-ends_stopped game from to many so all = record { moves = so.moves; ends = is_stopped (so.many ∙ all) so.plays }
+pub ends_stopped : (game : AbstractGame) (from to : AbstractPlace) (many made : ℕ) → PlayedSo game from many to → many ≡ 10000 → made ≡ 10000 → IsPlayedTo game from None made
+ends_stopped game from to many made so all said = record { moves = so.moves; ends = is_stopped (so.many ∙ all) so.plays; many = said ∙ sym all ∙ sym so.many }
+
+-- no match has more moves
+few_moves : (game : AbstractGame) (from : AbstractPlace) (moves : List (List (ℕ × ℕ))) (scores : Option (List ℕ)) → Ends game from moves scores → length moves ≤ 10000
+few_moves game from moves _ (is_over few plays over) = omega (arith, few)
+few_moves game from moves _ (is_stopped all plays) = omega (arith, all)
+
+pub few_played : (game : AbstractGame) (from : AbstractPlace) (scores : Option (List ℕ)) (made : ℕ) → IsPlayedTo game from scores made → made ≤ 10000
+few_played game from scores made played = omega (arith, few_moves game from played.moves scores played.ends, played.many)
+
+-- the moves of one match
+pub moves_one : (moves : List (List (ℕ × ℕ))) → moves_in (moves ∷ []) ≡ length moves
+moves_one moves =
+    let is : moves_in (moves ∷ []) ≡ 0 + length moves = refl in
+    omega (arith, is)
+
+pub few_in : (game : AbstractGame) (from : AbstractPlace) (scores : Option (List ℕ)) (matches : List (List (List (ℕ × ℕ)))) → All (λ moves. Ends game from moves scores) matches → moves_in matches ≤ 10000 * length matches
+few_in game from scores [] ended = omega arith
+few_in game from scores (moves ∷ matches) ended =
+    let parts : moves_in (moves ∷ matches) ≡ (0 + length moves) + moves_in matches = sum_by-append (λ (m : List (List (ℕ × ℕ))). length m) (moves ∷ []) matches in
+    let here = few_moves game from moves scores (All-head (λ m. Ends game from m scores) moves matches ended) in
+    let rest = few_in game from scores matches (All-tail (λ m. Ends game from m scores) moves matches ended) in
+    omega (arith, parts, here, rest)
 
 pub unplayed_here : (game : AbstractGame) (from to : AbstractPlace) (many : ℕ) (refusal : Refusal) → PlayedSo game from many to → many < 10000 → IsUnmoved game to refusal → IsUnplayed game from refusal
 unplayed_here game from to many refusal so few unmoved =

@@ -37,10 +37,11 @@ pub data Ends (game : AbstractGame) (from : AbstractPlace) : (moves : List (List
       Plays game from moves to →
       Ends game from moves None
 
--- So many matches ended with these scores, or were stopped.
+-- So many matches ended with these scores, or were stopped, and so many moves of the players were made in them together.
 pub record Counted : Type 0 where
   pub scores : Option (List ℕ)
   pub matches : ℕ
+  pub moves : ℕ
 
 -- the scores of an ending, and what a tally counts
 abbrev pub scores_of : Ending → Option (List ℕ)
@@ -48,13 +49,18 @@ scores_of (endings.Finished scores) = Some scores.items
 scores_of endings.Stopped = None
 
 abbrev pub counted_by : Tally → Counted
-counted_by tally = record { scores = scores_of tally.ending; matches = tally.matches }
+counted_by tally = record { scores = scores_of tally.ending; matches = tally.matches; moves = tally.moves }
 
--- There are so many matches from the place that end so.
+-- how many moves of the players matches have, taken together
+abbrev pub moves_in : List (List (List (ℕ × ℕ))) → ℕ
+moves_in = sum_by (λ moves. length moves)
+
+-- There are so many matches from the place that end so, and they have so many moves.
 pub record AreMatches (game : AbstractGame) (from : AbstractPlace) (counted : Counted) : Type 0 where
   pub matches : List (List (List (ℕ × ℕ)))
   pub ended : All (λ moves. Ends game from moves counted.scores) matches
   pub many : counted.matches ≡ length matches
+  pub moved : counted.moves ≡ moves_in matches
 
 -- So many matches from the place are counted: those of one ending together.
 pub record AreTallied (game : AbstractGame) (from : AbstractPlace) (count : ℕ) (all : List Counted) : Type 0 where

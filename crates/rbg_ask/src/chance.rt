@@ -6,7 +6,7 @@ ghost use Rattle.rbg_ask.specs.Limits.{IsCount};
 ghost use Rattle.rbg_ask.specs.internal.Moving.{IsPlayedTo, MovesOn};
 
 use crate::refusal::Refusal;
-use crate::tally::{Ending, Tally, count_in};
+use crate::tally::{Ending, Played, Tally, count_in};
 use rand_core::{Rng, SeedableRng};
 use rand_pcg::Pcg32;
 use rbg_base::Memory;
@@ -16,8 +16,9 @@ use std::alloc::Global;
 /// The most moves of the players in a match that is played by chance.
 pub const MAX_PLAYED: u32 = 10_000;
 
-/// Plays so many matches by chance from a place, and counts how they end. A seed always gives the same matches.
-pub(crate) fn play_matches(
+/// Plays so many matches by chance from a place, and counts how they end and their moves. A seed always gives the same
+/// matches.
+pub fn play_matches(
     alloc: Global,
     game: &PlayedGame,
     from: &Place,
@@ -34,8 +35,8 @@ pub(crate) fn play_matches(
     let mut chance = Pcg32::seed_from_u64(seed);
     let mut tallies = Vec::new(alloc);
     for _ in 0..count {
-        let ending = play_match(game, from, &mut chance, workspace)?;
-        count_in(ending, &mut tallies)?;
+        let played = play_match(game, from, &mut chance, workspace)?;
+        count_in(played, &mut tallies)?;
     }
     Ok(tallies)
 }
@@ -46,21 +47,28 @@ fn play_match(
     from: &Place,
     chance: &mut Pcg32,
     workspace: &mut Workspace,
-) -> Result<Ending, Refusal>
+) -> Result<Played, Refusal>
     requires { IsPlaceOf game.now from.now }
-    ensures ends { IfOk result (λ ending. IsPlayedTo game.now from.now (scores_of ending)) }
+    ensures ends { IfOk result (λ played.
+        IsPlayedTo game.now from.now (scores_of played.ending) played.moves) }
     ensures unplayed { IfErr result (IsUnplayed game.now from.now) }
 {
     let mut place = copy_of(from)?;
-    for _ in 0..MAX_PLAYED {
+    for moves in 0..MAX_PLAYED {
         if !move_on(game, &mut place, chance, workspace)? {
             let scores = game.scores(&place);
             workspace.keep(place);
-            return Ok(Ending::Finished { scores });
+            return Ok(Played {
+                ending: Ending::Finished { scores },
+                moves: u64::from(moves),
+            });
         }
     }
     workspace.keep(place);
-    Ok(Ending::Stopped)
+    Ok(Played {
+        ending: Ending::Stopped,
+        moves: u64::from(MAX_PLAYED),
+    })
 }
 
 /// Makes a move by chance, and the keeper's moves behind it. False where there is no legal move.

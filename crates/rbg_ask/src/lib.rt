@@ -16,7 +16,7 @@ mod tally;
 pub use answer_writer::{
     write_board, write_matches, write_moves, write_refusal, write_standing, write_values,
 };
-pub use chance::MAX_PLAYED;
+pub use chance::{MAX_PLAYED, play_matches};
 pub use names_writer::write_names;
 pub use question::{MAX_COUNT, Question};
 pub use question_reader::read_question;

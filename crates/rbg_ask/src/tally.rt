@@ -1,7 +1,8 @@
 //! How matches that were played by chance ended, counted.
-ghost use Rattle.std.specs.Prelude.{◌≡◌, ◌≢◌, ◌↔◌, ◌<◌, ◌^◌, ◌∷◌, ◌++◌, [], All, IfNone, IfSome, IsTrue, List, None, OnOk, Option, Some, length, map, ℕ};
+ghost use Rattle.std.specs.Prelude.{◌≡◌, ◌≢◌, ◌↔◌, ◌<◌, ◌≤◌, ◌∷◌, ◌++◌, [], All, IfNone, IfSome, IsTrue, List, None, OnOk, Option, Some, length, map, ℕ};
 ghost use Rattle.rbg_ask.specs.Chance.{counted_by, scores_of};
-ghost use Rattle.rbg_ask.specs.internal.Counting.{CountsIn, IsTallyAt};
+ghost use Rattle.rbg_ask.specs.Limits.{most_played};
+ghost use Rattle.rbg_ask.specs.internal.Counting.{CountsIn, IsSmall, IsTallyAt};
 
 use arrayvec::ArrayVec;
 use rbg_base::Memory;
@@ -16,6 +17,15 @@ pub enum Ending {
     Stopped,
 }
 
+/// A match that was played by chance.
+#[derive(Clone, Debug, Drop, PartialEq, Eq)]
+pub(crate) struct Played {
+    /// How it ended.
+    pub(crate) ending: Ending,
+    /// How many moves the players made.
+    pub(crate) moves: u64,
+}
+
 /// How many matches ended in one way.
 #[derive(Clone, Debug, Drop, PartialEq, Eq)]
 pub struct Tally {
@@ -23,6 +33,8 @@ pub struct Tally {
     pub ending: Ending,
     /// How many they are.
     pub matches: u64,
+    /// How many moves the players made in all of them together.
+    pub moves: u64,
 }
 
 /// Whether two endings are the same.
@@ -64,37 +76,47 @@ fn index_of(ending: &Ending, tallies: &[Tally]) -> Option<usize>
         .position(|tally| is_same(&tally.ending, ending))
 }
 
-/// Counts one more match in the tally at an index.
-fn count_one(index: usize, tallies: &mut [Tally])
+/// Counts one more match of so many moves in the tally at an index.
+fn count_one(index: usize, moves: u64, tallies: &mut [Tally])
     requires there { index < length tallies.old }
-    requires small { All (λ tally. tally.matches < 2 ^ 63) tallies.old }
+    requires few { moves ≤ most_played }
+    requires small { All IsSmall tallies.old }
     ensures { (scores : Option (List ℕ))
         → IsTallyAt scores tallies.old index
-        → CountsIn scores (map counted_by tallies.old) (map counted_by tallies.new) }
+        → CountsIn scores moves (map counted_by tallies.old) (map counted_by tallies.new) }
 {
-    tallies[index].matches += 1;
+    let tally = &mut tallies[index];
+    tally.matches += 1;
+    tally.moves += moves;
 }
 
-/// Counts one more match that ended so.
-pub(crate) fn count_in(ending: Ending, tallies: &mut Vec<Tally>) -> Result<(), Memory>
-    requires { All (λ tally. tally.matches < 2 ^ 63) tallies.old.items }
-    ensures { OnOk result (CountsIn (scores_of ending) (map counted_by tallies.old.items)
-        (map counted_by tallies.new.items)) }
+/// Counts one more match.
+pub(crate) fn count_in(played: Played, tallies: &mut Vec<Tally>) -> Result<(), Memory>
+    requires few { played.moves ≤ most_played }
+    requires small { All IsSmall tallies.old.items }
+    ensures { OnOk result (CountsIn (scores_of played.ending) played.moves
+        (map counted_by tallies.old.items) (map counted_by tallies.new.items)) }
 {
-    match index_of(&ending, tallies.as_slice()) {
+    match index_of(&played.ending, tallies.as_slice()) {
         Some(index) => {
-            count_one(index, tallies.as_mut_slice());
+            count_one(index, played.moves, tallies.as_mut_slice());
             Ok(())
         }
-        None => push_first(ending, tallies),
+        None => push_first(played, tallies),
     }
 }
 
 /// Counts the first match that ended so.
-fn push_first(ending: Ending, tallies: &mut Vec<Tally>) -> Result<(), Memory>
+fn push_first(played: Played, tallies: &mut Vec<Tally>) -> Result<(), Memory>
     ensures { OnOk result (tallies.new.items
-        ≡ tallies.old.items ++ (record { ending = ending; matches = 1 }) ∷ []) }
+        ≡ tallies.old.items
+        ++ (record { ending = played.ending; matches = 1; moves = played.moves }) ∷ []) }
 {
-    tallies.push(Tally { ending, matches: 1 })?;
+    let Played { ending, moves } = played;
+    tallies.push(Tally {
+        ending,
+        matches: 1,
+        moves,
+    })?;
     Ok(())
 }

@@ -1,8 +1,10 @@
 //! What the author's program does with its words and the file that they name.
+ghost use Rattle.rbg_ask.specs.Limits.{IsCount};
 
 use crate::explained::{Lists, check_file, explain_file};
 use crate::paged::page_file;
 use crate::perft::perft;
+use crate::played::playouts_file;
 use crate::positioned::position_file;
 use crate::reading::{Read, read_game};
 use crate::report::{Report, print};
@@ -10,11 +12,15 @@ use crate::shown::show_file;
 use clap::{Arg, ArgAction, ArgMatches, Command};
 use rbg_console::{Files, Status, WordsError, file_argument, match_words};
 use rbg_perft::Extent;
+use rbg_playouts::MAX_COUNT;
 use std::alloc::{AllocError, Global};
 use std::io::{self, Write};
 
 /// The depth of `perft` where its words name none.
 const USUAL_DEPTH: u8 = 3;
+
+/// The seed of `playouts` where its words name none.
+const USUAL_SEED: u64 = 1;
 
 /// Runs the program: reads the file that its words name, and its input where they ask for it, writes what is said, and
 /// returns the status.
@@ -49,6 +55,10 @@ fn obey<F: Files, R: io::Read, W: Write>(
             };
             Ok(perft_file(alloc, files, file_of(words), depth, extent, output)?)
         }
+        Some(("playouts", words)) => {
+            let seed = words.get_one::<u64>("seed").unwrap_or(USUAL_SEED);
+            Ok(playouts_file(alloc, files, file_of(words), seed, count_of(words))?)
+        }
         Some(("show", words)) => {
             let only_last = words.get_flag("last");
             Ok(show_file(alloc, files, file_of(words), input, only_last)?)
@@ -75,6 +85,17 @@ fn file_of<'a>(words: &ArgMatches<'a>) -> &'a str {
     words.get_str("FILE").unwrap_or("")
 }
 
+/// How many matches words ask for.
+fn count_of(words: &ArgMatches<'_>) -> u64
+    ensures { IsCount result }
+{
+    match words.get_one::<u64>("MATCHES") {
+        Some(count) if 0 < count && count <= MAX_COUNT => count,
+        // the parse refuses other words
+        _ => 1,
+    }
+}
+
 fn author_command<'a>(alloc: Global) -> Result<Command<'a>, AllocError> {
     Command::new(alloc, "rbg_author")
         .version("0.1.0")
@@ -83,6 +104,7 @@ fn author_command<'a>(alloc: Global) -> Result<Command<'a>, AllocError> {
         .subcommand(explain_command(alloc)?)?
         .subcommand(check_command(alloc)?)?
         .subcommand(perft_command(alloc)?)?
+        .subcommand(playouts_command(alloc)?)?
         .subcommand(show_command(alloc)?)?
         .subcommand(page_command(alloc)?)?
         .subcommand(position_command(alloc)?)
@@ -128,6 +150,27 @@ fn perft_command<'a>(alloc: Global) -> Result<Command<'a>, AllocError> {
         .arg(file.required(true))?
         .arg(depth)?
         .arg(count)
+}
+
+fn playouts_command<'a>(alloc: Global) -> Result<Command<'a>, AllocError> {
+    let file = file_argument(alloc, "The description of a game");
+    let matches = Arg::new(alloc, "MATCHES")
+        .help("How many matches, 1 to 1000000")
+        .value_parser(clap::value_parser!(u64).range(1..=1_000_000));
+    let seed = Arg::new(alloc, "seed")
+        .long("seed")
+        .value_name("SEED")
+        .help(
+            "The number that the moves by chance depend on, 0 to 18446744073709551615 [default: 1]",
+        )
+        .value_parser(clap::value_parser!(u64));
+    Command::new(alloc, "playouts")
+        .about(
+            "Plays matches by chance: how many moves they have, the mean score of each player, and how they end",
+        )
+        .arg(file.required(true))?
+        .arg(matches.required(true))?
+        .arg(seed)
 }
 
 fn show_command<'a>(alloc: Global) -> Result<Command<'a>, AllocError> {

@@ -1,5 +1,5 @@
 -- One move of a match that is played by chance.
-use Rattle.std.specs.Prelude.{ℕ, List, Bool, true, false, Option}
+use Rattle.std.specs.Prelude.{◌≡◌, ℕ, List, length, Bool, true, false, Option}
 use Rattle.rbg_rules.specs.State.{AbstractGame}
 use Rattle.rbg_rules.specs.Moves.{AbstractPlace, Finished}
 use Rattle.rbg_ask.specs.Sessions.{Leads}
@@ -12,7 +12,8 @@ pub data MovesOn (game : AbstractGame) (from : AbstractPlace) : Bool → (to : A
       MovesOn game from true to
   rests : Finished game from → MovesOn game from false from
 
--- A match from the place ends so.
-pub record IsPlayedTo (game : AbstractGame) (from : AbstractPlace) (scores : Option (List ℕ)) : Type 0 where
+-- A match from the place ends so, after so many moves.
+pub record IsPlayedTo (game : AbstractGame) (from : AbstractPlace) (scores : Option (List ℕ)) (made : ℕ) : Type 0 where
   pub moves : List (List (ℕ × ℕ))
   pub ends : Ends game from moves scores
+  pub many : made ≡ length moves

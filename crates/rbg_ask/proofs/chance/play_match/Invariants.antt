@@ -3,5 +3,5 @@ use Rattle.rbg_rules.specs.Places.{IsPlaceOf}
 use Rattle.rbg_ask.proofs.Matches.{PlayedSo}
 use Rattle.rbg_ask.proofs.chance.play_match.Given as goal
 
-abbrev pub invariant-loop : goal.invariant-loop
-invariant-loop l = IsPlaceOf l.fn.game l.place × PlayedSo l.fn.game l.fn.from l.counter l.place
+abbrev pub invariant-loop-moves : goal.invariant-loop-moves
+invariant-loop-moves l = IsPlaceOf l.fn.game l.place × PlayedSo l.fn.game l.fn.from l.moves l.place

@@ -2,12 +2,15 @@
 use Rattle.std.proofs.Common.{arith}
 use Rattle.rbg_ask.specs.declared.refusal.Refusal.TheVariants.{Memory}
 use Rattle.rbg_ask.proofs.Faults.{passed_on}
-use Rattle.rbg_ask.proofs.Matches.{unplayed_memory}
+use Rattle.rbg_ask.proofs.Matches.{few_played, unplayed_memory}
 use Rattle.rbg_ask.proofs.Tallies.{small_tallies, tallied_more}
 use Rattle.rbg_ask.proofs.chance.play_matches.Goals as goal
 
-pub count_in-requires : goal.count_in-requires
-count_in-requires c =
+pub count_in-requires-clause-few : goal.count_in-requires-clause-few
+count_in-requires-clause-few c = few_played _ _ _ _ c.in_ok-played.ensures.ends
+
+pub count_in-requires-clause-small : goal.count_in-requires-clause-small
+count_in-requires-clause-small c =
     small_tallies c.args.game.now c.args.from.now c.loop.counter c.loop.tallies.items c.loop.invariant (omega (arith, c.loop-test.true, c.requires.count.1))
 
 pub returns-in_err-count_in-clause-unplayed : goal.returns-in_err-count_in-clause-unplayed
@@ -16,4 +19,4 @@ returns-in_err-count_in-clause-unplayed c =
 
 pub loop-preserved : goal.loop-preserved
 loop-preserved c =
-    tallied_more c.args.game.now c.args.from.now c.loop.counter _ _ _ c.in_ok-ending.ensures.ends.moves c.loop.invariant c.in_ok-ending.ensures.ends.ends c.in_ok-count_in.ensures
+    tallied_more c.args.game.now c.args.from.now c.loop.counter _ _ _ _ c.loop.invariant c.in_ok-played.ensures.ends c.in_ok-count_in.ensures

@@ -1,0 +1,4 @@
+-- Lemmas, by topic.
+mod Totals
+mod Lines
+mod Beginning
