@@ -8,7 +8,7 @@ use crate::rule::Rule;
 /// What the sections of a source spell, which it borrows.
 ///
 /// It has a player and a piece, and no sequence, sum or product of fewer than two parts.
-#[derive(Debug, PartialEq, Eq, Drop)]
+#[derive(Debug, Drop)]
 pub struct Description<'a> {
     pub(crate) players: Vec<Bounded<'a>>,
     pub(crate) variables: Vec<Bounded<'a>>,
@@ -19,7 +19,7 @@ pub struct Description<'a> {
 }
 
 /// The parts of a description, to be taken one by one.
-#[derive(Debug, PartialEq, Eq, Drop)]
+#[derive(Debug, Drop)]
 pub struct DescriptionParts<'a> {
     pub players: Vec<Bounded<'a>>,
     pub variables: Vec<Bounded<'a>>,
@@ -112,14 +112,14 @@ impl<'a> Description<'a> {
 }
 
 /// A player or a variable with the greatest value that it may have, as in `white(100)`.
-#[derive(Debug, PartialEq, Eq, Drop)]
+#[derive(Debug, Drop)]
 pub struct Bounded<'a> {
     pub name: Name<'a>,
     pub bound: Number,
 }
 
 /// The board by its generator.
-#[derive(Debug, PartialEq, Eq, Drop)]
+#[derive(Debug, Drop)]
 pub enum Board<'a> {
     /// Rows of pieces from top to bottom.
     Rectangle {
@@ -137,19 +137,19 @@ pub enum Board<'a> {
 }
 
 /// The names of the directions up, down, left and right.
-#[derive(Debug, PartialEq, Eq, Drop)]
+#[derive(Debug, Drop)]
 pub struct RectangleDirections<'a> {
     pub names: [Name<'a>; 4],
 }
 
 /// The names of the directions north-west, north-east, east, south-east, south-west and west.
-#[derive(Debug, PartialEq, Eq, Drop)]
+#[derive(Debug, Drop)]
 pub struct HexagonDirections<'a> {
     pub names: [Name<'a>; 6],
 }
 
 /// A vertex of a graph with its first piece, as in `a[e]{right: b}`.
-#[derive(Debug, PartialEq, Eq, Drop)]
+#[derive(Debug, Drop)]
 pub struct Vertex<'a> {
     pub name: Name<'a>,
     pub piece: Name<'a>,
@@ -157,7 +157,7 @@ pub struct Vertex<'a> {
 }
 
 /// An edge to the vertex of that name, as `right: b`.
-#[derive(Debug, PartialEq, Eq, Drop)]
+#[derive(Debug, Drop)]
 pub struct Edge<'a> {
     pub direction: Name<'a>,
     pub target: Name<'a>,

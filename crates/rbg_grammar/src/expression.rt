@@ -4,7 +4,7 @@ use crate::names::{Name, Number};
 
 /// An arithmetic expression.
 #[cycle(expression)]
-#[derive(Debug, PartialEq, Eq, Drop)]
+#[derive(Debug, Drop)]
 pub enum Expression<'a> {
     Number(Number),
     Name(Name<'a>),
@@ -18,7 +18,7 @@ pub enum Expression<'a> {
 
 /// A part of a sum.
 #[cycle(expression)]
-#[derive(Debug, PartialEq, Eq, Drop)]
+#[derive(Debug, Drop)]
 pub struct Term<'a> {
     pub operator: Additive,
     pub value: Expression<'a>,
@@ -26,7 +26,7 @@ pub struct Term<'a> {
 
 /// A part of a product.
 #[cycle(expression)]
-#[derive(Debug, PartialEq, Eq, Drop)]
+#[derive(Debug, Drop)]
 pub struct Factor<'a> {
     pub operator: Multiplicative,
     pub value: Expression<'a>,

@@ -6,7 +6,7 @@ use rbg_base::Relation;
 
 /// A regular expression over actions.
 #[cycle(rule)]
-#[derive(Debug, PartialEq, Eq, Drop)]
+#[derive(Debug, Drop)]
 pub enum Rule<'a> {
     Act(Action<'a>),
     /// A sequence of at least two parts, or an assignment list of at least two assignments.
@@ -18,7 +18,7 @@ pub enum Rule<'a> {
 
 /// An action of the rules.
 #[cycle(rule)]
-#[derive(Debug, PartialEq, Eq, Drop)]
+#[derive(Debug, Drop)]
 pub enum Action<'a> {
     /// `up`
     Shift(Name<'a>),
