@@ -98,9 +98,17 @@ fn run_hall<S: Read + Write + Drop, C: Clock, W: Log>(
         HasEnded starts hall.new.state) }
 {
     match hall.run(lines, out, clock, rounds) {
-        Ok(_) => Ok(()),
-        Err(ServeError::Memory) if hall.has_log_failed() => Err(HallFault::Device),
-        Err(error) => Err(HallFault::from(error)),
+        Ok(_served) => Ok(()),
+        Err(error) => Err(fault_of(hall, error)),
+    }
+}
+
+/// Why a hall is served no more. Where a log failed, that is the reason.
+fn fault_of<W: Log>(hall: &Hall<W>, error: ServeError) -> HallFault {
+    if hall.has_log_failed() {
+        HallFault::Device
+    } else {
+        HallFault::from(error)
     }
 }
 

@@ -185,6 +185,11 @@ keeps_so told first middle last old new event before after waited at waits_so at
     (subst (λ (moment : ℕ). Appends told middle last (first_for (is_none old.begun) new.begun new.config moment)) at_so
     (subst (λ (test : Bool). Appends told middle last (first_for test new.begun new.config at)) waits_so appends)) has
 
+-- the same, where the first line may not be written
+pub keeps_on : {W E : Type 0} (told : W → List ℕ → Type 0) (first middle last : W) (old new : TableState) (event : OwnEvent) (before after : List (List ℕ)) (waited : Bool) (at : ℕ) (result : Result (Unit {0}) E) → waited ≡ is_none old.begun → at ≡ heard_at event → at < 2 ^ 64 → IsNotedIn told first middle old event → HearsFor old event new before after → OnOk result (Appends told middle last (first_for waited new.begun new.config at)) → OnOk result (HasLog told old first → HasLog told new last)
+keeps_on told first middle last old new event before after waited at (Ok done) waits_so at_so small noted hears appends = keeps_so told first middle last old new event before after waited at waits_so at_so small noted hears appends
+keeps_on told first middle last old new event before after waited at (Err error) waits_so at_so small noted hears appends = tt
+
 -- a log that is there
 pub own_log : {W : Type 0} (told : W → List ℕ → Type 0) (table : TableState) (log : W) → HasLog (if_kept told) table (Some log) → HasLog told table log
 own_log told table log has = record { differ = has.differ; logged = by_begun table.begun has.logged }

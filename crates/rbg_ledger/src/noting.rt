@@ -125,6 +125,7 @@ fn begin<W: Log>(
 }
 
 /// A table hears something, whose match has this log: each event is written before the match handles it.
+#[tactic(auto, using(crate::proofs::Keeping::keeps_on))]
 pub(crate) fn hear_noted<W: Log>(
     table: &mut HallTable,
     input: TableInput<'_>,
