@@ -1,8 +1,8 @@
 #!/usr/bin/env python3
 """Refuses each request for memory of each named run in turn, and compares what is answered with the answer of ample memory.
 
-The runs are the words of crates/rbg_refusals/stdin, each given to that program alone, and the whole program rbg on the
-files of `whole_programs`. For N = 1, 2, .. the Nth request is refused: once, and then once more with each later one. A run
+The runs are the words of crates/rbg_refusals/stdin, each given to that program alone, the whole program rbg on the files
+of `whole_programs`, and a hall over connections in memory, as a case of rbg_cases. For N = 1, 2, .. the Nth request is refused: once, and then once more with each later one. A run
 ends with N above its requests, so that nothing was refused. Of a run with very many requests the first ones are refused,
 and then some that are spread over the rest.
 
@@ -46,6 +46,29 @@ HALL_SCRIPT = "config 1000 3 0\nm 0 0 H1\nm 1 0 H1\nm 0 10 M0 3 0 4 0 5\nm 1 20 
 RECORD = "rbg 2\nplayers white black\nstart 1000 0\n0 0 0 1\n10 1 0 3 0 4 0 5\n20 2 1 8 1 9\n20 E0 100 0\n"
 PLAIN_RECORD = "rbg 1\n0 0 1\n1 0 3 0 4 0 5\n2 1 8 1 9\nE0 100 0\n"
 
+WRITTEN_GAME = "".join(f"|{line}\n" for line in GAME.splitlines())
+# A hall of two matches. The connections of one match end behind the request for a seat, those of the other stay.
+HALL_CASE = f"""case a hall
+words hall first.rbg second.rbg --port 4000 --quiet
+text game
+{WRITTEN_GAME}file first.rbg
+=game
+file second.rbg
+=game
+stream
++H2
+%00
+stream
++H1
+%00
+stream that ends
++H2
+%00
+stream that ends
++H1
+%00
+"""
+
 # What rbg_refusals prints after the word `memory`, by the name of the run; `setup memory` alone may stand for all of it.
 AFTERWARDS = {
     "feed": ["the inbox is as before"],
@@ -63,12 +86,9 @@ REFEREED = [["done 0"], ["done 0", "seat 1 186 bytes", "seat 2 186 bytes"], ["do
 
 def refusals_of(word):
     """All that a word of rbg_refusals may print where memory was refused."""
+    texts = [["memory", *AFTERWARDS.get(word, [])]]
     if word == "referee":
         texts = [["memory", *lines] for lines in REFEREED]
-    elif word.startswith("rbg-"):
-        texts = [["memory", "status 4"]]
-    else:
-        texts = [["memory", *AFTERWARDS.get(word, [])]]
     return {(0, "".join(f"{line}\n" for line in [word, *text])) for text in [["setup memory"], *texts]}
 
 
@@ -84,7 +104,7 @@ def whole_programs(program, folder):
     for name, text in texts.items():
         pathlib.Path(files[name]).write_text(text)
     memory = {(4, "memory\n")}
-    wanted = [("check", "game"), ("check", "bad"), ("moves", "game"), ("replay", "game", "record"), ("replay", "game", "plain"),
+    wanted = [("check", "game"), ("check", "bad"), ("moves", "game"), ("moves", "game", "record"), ("replay", "game", "record"), ("replay", "game", "plain"),
               ("migrate", "game", "plain")]
     runs = [Run(" ".join(["rbg", *words]), [program, words[0], *(files[name] for name in words[1:])], "", memory) for words in wanted]
     runs.append(Run("rbg referee", [program, "referee"], f"{GAME}%%\n{SCRIPT}", memory))

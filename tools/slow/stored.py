@@ -1,11 +1,13 @@
 """The stored runs of the repository: the cases of rbg_cases, the matches of rbg_games, the match of rbg_manager."""
 
 import pathlib
+import re
 
 import program
 
 CRATES = pathlib.Path(__file__).resolve().parents[2] / "crates"
 COVERED = ("referee", "check", "moves", "replay", "migrate")
+NEWS = re.compile(rb"(?m)^news: .*\n")  # what standard error says beside the answer
 
 
 class Case:
@@ -19,9 +21,10 @@ class Case:
         self.made = None  # the file that is shown too
         self.last = None
         self.author = False
+        self.fails = False  # its input fails or has no end, or its output fails
 
     def covered(self):
-        if self.author:
+        if self.author or self.fails:
             return False
         arguments = self.words[1:]
         if self.words[:1] == ["referee"] and arguments[-1:] != ["--record"] and "--cut" not in arguments:
@@ -63,7 +66,7 @@ def cases():
         expected = stored[len(head) : end]
         case.files = {**{name: made[name] for name in case.words if name in made}, **case.files}
         if case.covered():
-            yield case, expected
+            yield case, NEWS.sub(b"", expected)
         if case.made is not None:
             made[case.made] = expected.partition(f"made {case.made}\n".encode())[2].rpartition(b"status ")[0]
         stored = stored[end:]
@@ -95,6 +98,8 @@ def read_cases(lines):
             case.last = int(name)
         elif word == b"author":
             case.author = True
+        elif word in (b"input", b"output"):
+            case.fails = True
         else:
             target = bytearray()  # a stream of a connection
     yield case

@@ -17,7 +17,7 @@ use Rattle.rbg_rules.specs.State.{AbstractGame}
 use Rattle.rbg_answering.specs.declared.task.Command.{Command}
 use Rattle.rbg_answering.specs.declared.task.Command.TheVariants.{Replay, Migrate, Moves}
 use Rattle.rbg_answering.specs.Answers.{IsGamesAnswer, NamesFault, good_line, bad_line, form_line, over_line}
-use Rattle.rbg_answering.specs.Answers.IsGamesAnswer.{good, wrong, not_plain, nowhere}
+use Rattle.rbg_answering.specs.Answers.IsGamesAnswer.{good, wrong, not_plain, no_moves}
 use Rattle.rbg_answering.specs.Answers.NamesFault.{bad, not_of_form, over}
 use Rattle.rbg_answering.specs.internal.Parts.{SaysChecked, SaysFault}
 
@@ -48,11 +48,11 @@ checked_answer game told (Err Memory) text status is says description = absurd s
 -- the line of a fault is the answer where the moves of a record lead nowhere
 pub misfit_answer : (game : AbstractGame) (told : List ℕ) (fault : Fault) (line : ℕ) (text : List ℕ) (status : Status) → IsJudged game told (told_at fault line) → SaysChecked (told_at fault line) text status → (description : List ℕ) → IsGamesAnswer game description told Moves text status
 misfit_answer game told faults.Form line text status is says description =
-    games_answer_is game description told Moves text (form_line line) status BadInput says.0 says.1 (nowhere (form_line line) (not_of_form line is))
+    games_answer_is game description told Moves text (form_line line) status BadInput says.0 says.1 (no_moves (form_line line) (not_of_form line is))
 misfit_answer game told faults.Bad line text status is says description =
-    games_answer_is game description told Moves text (bad_line line) status BadInput says.0 says.1 (nowhere (bad_line line) (bad line is))
+    games_answer_is game description told Moves text (bad_line line) status BadInput says.0 says.1 (no_moves (bad_line line) (bad line is))
 misfit_answer game told faults.Over line text status is says description =
-    games_answer_is game description told Moves text (over_line line) status BadInput says.0 says.1 (nowhere (over_line line) (over line is))
+    games_answer_is game description told Moves text (over_line line) status BadInput says.0 says.1 (no_moves (over_line line) (over line is))
 misfit_answer game told faults.Memory line text status is says description = absurd says
 
 -- the line of a record's fault is the answer where the record can't be migrated

@@ -31,8 +31,7 @@ form_line line = codes "form " ++ (decimal line ++ codes "\n")
 abbrev pub over_line : (line : ℕ) → List ℕ
 over_line line = codes "over " ++ (decimal line ++ codes "\n")
 
--- The record isn't right: its first line is named that is not right, not of the form, or asks a question above the
--- limits.
+-- The first line of the record is named that is not right, not of the form, or asks a question above the limits.
 pub data NamesFault (game : AbstractGame) (told : List ℕ) : (text : List ℕ) → Type 0 where
   bad : (line : ℕ) → IsBadLine game told line → NamesFault game told (bad_line line)
   not_of_form : (line : ℕ) → IsFormFault game told line → NamesFault game told (form_line line)
@@ -43,7 +42,7 @@ pub data NamesFault (game : AbstractGame) (told : List ℕ) : (text : List ℕ) 
 --   played, misfit: the lines of the script's match, or the script's first line that is not of its form.
 --   good, wrong: the record is right, or its fault is named.
 --   migrated, not_plain: version 2 of the record, or its first line is named that is not of the form of version 1.
---   goes_on, nowhere: how play can go on behind the record, or its fault is named.
+--   goes_on, no_moves: how play can go on behind the record, or its fault is named.
 pub data IsGamesAnswer (game : AbstractGame) (description told : List ℕ) : Command → (text : List ℕ) → Status → Type 0 where
   counted : IsGamesAnswer game description told Check (counts_of game ++ codes "\n") Success
   played : (lines : List ℕ)
@@ -61,7 +60,7 @@ pub data IsGamesAnswer (game : AbstractGame) (description told : List ℕ) : Com
   goes_on : (text : List ℕ)
       → IsMovesBehind game told text
       → IsGamesAnswer game description told Moves text Success
-  nowhere : (text : List ℕ) → NamesFault game told text → IsGamesAnswer game description told Moves text BadInput
+  no_moves : (text : List ℕ) → NamesFault game told text → IsGamesAnswer game description told Moves text BadInput
 
 -- what is told is longer than it may be
 abbrev pub IsLong : AbstractTask → Type 0

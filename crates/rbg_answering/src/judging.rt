@@ -98,7 +98,7 @@ fn list_behind(alloc: Global, game: &PlayedGame, told: &[u8]) -> Result<Answer, 
     }
 }
 
-/// The line of the first line of a record that doesn't lead on.
+/// The answer that names the line at fault.
 fn answer_misfit(alloc: Global, misfit: Misfit) -> Result<Answer, AllocError>
     ensures { IfOk result (λ answer.
         SaysChecked (told_at misfit.fault misfit.line) answer.text.items answer.status) }

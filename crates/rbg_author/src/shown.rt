@@ -2,7 +2,7 @@
 
 use crate::reading::{Read, load_text, read_text, unreadable};
 use crate::report::Report;
-use rbg_console::{Files, Input, Status, read_record_input};
+use rbg_console::{Files, Input, MAX_INPUT, Status, read_input};
 use rbg_show::show;
 use std::alloc::{AllocError, Global};
 use std::io;
@@ -17,7 +17,7 @@ pub(crate) fn show_file<F: Files, R: io::Read>(
     only_last: bool,
 ) -> Result<Report, AllocError> {
     match read_text(alloc, files, file)? {
-        Read::Found(text) => match read_record_input(alloc, files, input)? {
+        Read::Found(text) => match read_input(alloc, input, MAX_INPUT)? {
             Input::Whole(moves) => show_moves(alloc, file, &text, &moves, only_last),
             Input::TooLong | Input::Device => unreadable(alloc, "standard input"),
         },

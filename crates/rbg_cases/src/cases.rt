@@ -29,6 +29,16 @@ pub struct Stream {
     pub ends: bool,
 }
 
+/// What standard input gives behind its bytes.
+#[derive(Clone, Copy, Debug, PartialEq, Eq)]
+pub enum Behind {
+    End,
+    /// Zero bytes without end.
+    Zeros,
+    /// Reading fails.
+    Failure,
+}
+
 /// A program that a case runs.
 #[derive(Clone, Copy, Debug, PartialEq, Eq)]
 pub enum Program {
@@ -53,6 +63,9 @@ pub struct Case<'a> {
     pub files: Vec<Text<'a>>,
     pub streams: Vec<Stream>,
     pub input: Vec<u8>,
+    pub behind: Behind,
+    /// Whether what is printed can't be written.
+    pub output_fails: bool,
 }
 
 /// What the bytes are of that lines add.
@@ -123,6 +136,12 @@ impl<'a> Reader<'a> {
         if line == b"logs".as_slice() {
             return Ok(self.show_logs());
         }
+        if let Some(word) = line.strip_prefix(b"input ") {
+            return Ok(self.change_input(word));
+        }
+        if line == b"output fails".as_slice() {
+            return Ok(self.close_output());
+        }
         if let Some(count) = line.strip_prefix(b"last ") {
             return Ok(self.show_last(count));
         }
@@ -142,6 +161,8 @@ impl<'a> Reader<'a> {
                 files: Vec::new(alloc),
                 streams: Vec::new(alloc),
                 input: Vec::new(alloc),
+                behind: Behind::End,
+                output_fails: false,
             })?;
             self.target = Target::Input;
         } else if let Some(name) = line.strip_prefix(b"text ") {
@@ -209,6 +230,33 @@ impl<'a> Reader<'a> {
         match self.cases.last_mut() {
             Some(case) => {
                 case.logs = true;
+                true
+            }
+            None => false,
+        }
+    }
+
+    /// What the case's standard input gives behind its bytes.
+    fn change_input(&mut self, word: &[u8]) -> bool {
+        let behind = match word {
+            b"endless" => Behind::Zeros,
+            b"fails" => Behind::Failure,
+            _ => return false,
+        };
+        match self.cases.last_mut() {
+            Some(case) => {
+                case.behind = behind;
+                true
+            }
+            None => false,
+        }
+    }
+
+    /// What the case prints can't be written.
+    fn close_output(&mut self) -> bool {
+        match self.cases.last_mut() {
+            Some(case) => {
+                case.output_fails = true;
                 true
             }
             None => false,

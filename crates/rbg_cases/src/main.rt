@@ -10,6 +10,9 @@
 //! | `news` | what the case tells on standard error is shown too, each line behind `news: ` |
 //! | `logs` | what the logs of the case hold is shown too, each line behind `log: `; a new log is full at 1,000 bytes |
 //! | `last COUNT` | of what the case prints only this many lines are shown, the last ones |
+//! | `input endless` | behind its bytes the case's standard input gives zero bytes without end |
+//! | `input fails` | behind its bytes the case's standard input fails |
+//! | `output fails` | what the case prints can't be written |
 //! | `made NAME` | the bytes of a file that the case has made are shown too, behind a line `made NAME` |
 //! | `file NAME` | a file of the case begins; what follows is its bytes |
 //! | `stream` | what comes over a connection of the case begins; what follows is its bytes, and then nothing comes |
@@ -30,9 +33,11 @@
 
 mod cases;
 mod network;
+mod streams;
 
 use crate::cases::{Case, CasesError, Program, Text, read_cases};
 use crate::network::MemoryNetwork;
+use crate::streams::{CaseInput, CaseOutput};
 use rbg_console::{Files, Input, MAX_INPUT, MemoryFiles, Note, Status, read_bytes, read_input};
 use std::alloc::{AllocError, Global};
 use std::io::{self, ErrorKind, Write};
@@ -108,7 +113,7 @@ fn run_program(
     alloc: Global,
     case: &Case<'_>,
     made: &mut MemoryFiles,
-    printed: &mut Vec<u8>,
+    output: &mut CaseOutput,
     told: &mut Vec<u8>,
 ) -> Result<Status, AllocError> {
     let words = case.words.as_slice();
@@ -118,7 +123,10 @@ fn run_program(
         made,
         told: Vec::new(alloc),
     };
-    let mut input = case.input.as_slice();
+    let mut input = CaseInput {
+        bytes: case.input.as_slice(),
+        behind: case.behind,
+    };
     let status = match case.program {
         Program::Rbg => {
             let mut network = MemoryNetwork::new(alloc, case.streams.as_slice(), files.files);
@@ -128,7 +136,7 @@ fn run_program(
                 &mut files,
                 &mut network,
                 &mut input,
-                printed,
+                output,
             );
             if case.news {
                 told.extend_from_slice(network.told())?;
@@ -138,7 +146,7 @@ fn run_program(
             }
             status
         }
-        Program::RbgAuthor => rbg_author::run(alloc, words, &mut files, &mut input, printed),
+        Program::RbgAuthor => rbg_author::run(alloc, words, &mut files, &mut input, output),
     };
     if case.news {
         told.extend_from_slice(files.told.as_slice())?;
@@ -167,10 +175,13 @@ fn run_case(
     output.extend_from_slice(b"case ")?;
     output.extend_from_slice(case.name)?;
     output.push(b'\n')?;
-    let mut printed = Vec::new(alloc);
+    let mut written = CaseOutput {
+        printed: Vec::new(alloc),
+        fails: case.output_fails,
+    };
     let mut told = Vec::new(alloc);
-    let status = run_program(alloc, case, made, &mut printed, &mut told)?;
-    output.extend_from_slice(last_lines(printed.as_slice(), case.shown))?;
+    let status = run_program(alloc, case, made, &mut written, &mut told)?;
+    output.extend_from_slice(last_lines(written.printed.as_slice(), case.shown))?;
     output.extend_from_slice(told.as_slice())?;
     if let Some(name) = &case.made {
         push_made(name.as_str(), made, output)?;

@@ -15,8 +15,8 @@ use rbg_refereeing::run_referee;
 use std::alloc::Global;
 use std::io::{Read, Write};
 
-/// Runs what the command line asks for, and returns the status. Of words that are no command's is told apart from the
-/// answer, with the status for them.
+/// Runs what the command line asks for, and returns the status. What is wrong with words that are no command is told, and
+/// nothing is written.
 pub fn run_command<F: Files, N: Network, R: Read, W: Write>(
     alloc: Global,
     words: &[String],

@@ -1,5 +1,6 @@
 //! How the words of a command line are read, and what is said of words that name no task.
 ghost use Rattle.std.specs.Prelude.{◌≡◌};
+ghost use Rattle.rbg_console.specs.Files.{KeepsFiles};
 ghost use Rattle.rbg_console.specs.WrongWords.{AnswersWords};
 
 use crate::files::Files;
@@ -62,7 +63,8 @@ pub fn write_words<F: Files, W: Write>(
     error: &WordsError,
     no_memory: &[u8],
 ) -> Status
-    ensures { AnswersWords error.now no_memory.now (W.contents output.old) (W.contents output.new) result }
+    ensures answers { AnswersWords error.now no_memory.now (W.contents output.old) (W.contents output.new) result }
+    ensures kept { KeepsFiles (F.told files.old) (F.told files.new) }
 {
     match error {
         WordsError::Shown(text) => write_text(output, text.as_bytes(), Status::Success),
@@ -72,7 +74,8 @@ pub fn write_words<F: Files, W: Write>(
 }
 
 fn tell_words<F: Files>(files: &mut F, text: &str) -> Status
-    ensures { result ≡ Status.CommandLine }
+    ensures status { result ≡ Status.CommandLine }
+    ensures kept { KeepsFiles (F.told files.old) (F.told files.new) }
 {
     files.tell(&Note::Words { text });
     Status::CommandLine

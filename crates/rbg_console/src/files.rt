@@ -36,7 +36,7 @@ pub trait Files {
         ensures closed { OnOk result (tells_new → told self.new name.now ≡ Self.NewFile.contents file) }
         ensures others { KeepsOthers name.now (told self.old) (told self.new) };
 
-    /// Tells whoever runs the program what is no part of its answer. Where that can't be told, nothing is.
+    /// Tells whoever runs the program what is no part of its answer. A failure to tell is passed over.
     fn tell(&mut self, note: &Note<'_>)
         ensures kept { KeepsFiles (told self.old) (told self.new) };
 }

@@ -2,8 +2,7 @@
 
 use std::fmt::{self, Formatter};
 
-/// What whoever runs a program is told apart from its answer. Its text is one line or more, without the end of the last
-/// one.
+/// What is told to whoever runs a program, beside the answer: one or more lines, without the last line feed.
 #[derive(Clone, Copy, Debug)]
 pub enum Note<'a> {
     /// Lines of what was read by this name end in CR LF.

@@ -37,18 +37,18 @@ pub fn read_record_input<F: Files, R: Read>(
 fn tell_line_ends<F: Files>(files: &mut F, name: &str, read: &Input)
     ensures { KeepsFiles (F.told files.old) (F.told files.new) }
 {
-    if has_carriage_returns(read) {
+    if has_cr_lf(read) {
         files.tell(&Note::LineEnds { name });
     }
 }
 
 /// Whether a carriage return stands before a line feed.
-fn has_carriage_returns(read: &Input) -> bool {
+fn has_cr_lf(read: &Input) -> bool {
     match read {
         Input::Whole(bytes) => bytes
             .as_slice()
-            .split(|byte| *byte == b'\n')
-            .any(|line| line.ends_with(b"\r")),
+            .windows(2)
+            .any(|pair| pair == b"\r\n".as_slice()),
         Input::TooLong | Input::Device => false,
     }
 }

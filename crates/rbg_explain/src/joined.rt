@@ -125,12 +125,13 @@ pub(crate) fn push_joins(
     joined: &[u8],
 ) -> Result<(), AllocError> {
     let mut count = 0usize;
+    let mut variant = text.to_vec(alloc)?;
     for token in tokens
         .iter()
         .filter(|token| token.is(Symbol::Tilde))
         .take(MOST_TRIED)
     {
-        if joins(alloc, text, token.at, at, joined)? {
+        if joins(alloc, &mut variant, token.at, at, joined)? {
             push_join(alloc, output, text, token.at, count)?;
             count = count.saturating_add(1);
         }
@@ -162,19 +163,29 @@ fn push_join(
     output.extend_from_slice(place.as_bytes())
 }
 
-/// Whether this text isn't at an offset where a space stands in place of a `~`.
+/// Whether this text isn't at an offset where a space stands in place of a `~`, which stands again afterwards.
 fn joins(
     alloc: Global,
-    text: &[u8],
+    text: &mut Vec<u8>,
     tilde: usize,
     at: usize,
     joined: &[u8],
 ) -> Result<bool, AllocError> {
-    let mut variant = text.to_vec(alloc)?;
-    if let Some(byte) = variant.get_mut(tilde) {
-        *byte = b' ';
+    put_byte(text, tilde, b' ');
+    let differs = is_other_at(alloc, text.as_slice(), at, joined)?;
+    put_byte(text, tilde, b'~');
+    Ok(differs)
+}
+
+fn put_byte(text: &mut Vec<u8>, at: usize, new: u8) {
+    if let Some(byte) = text.get_mut(at) {
+        *byte = new;
     }
-    let Some(tokens) = cut(alloc, &variant)? else {
+}
+
+/// Whether a text can be expanded, and this one isn't at an offset of it.
+fn is_other_at(alloc: Global, text: &[u8], at: usize, joined: &[u8]) -> Result<bool, AllocError> {
+    let Some(tokens) = cut(alloc, text)? else {
         return Ok(false);
     };
     match expanded(alloc, &tokens)? {

@@ -30,7 +30,7 @@ use Rattle.rbg_serving.specs.Serving.{ServesOver, EndsServing, LacksMemory}
 use Rattle.rbg_serving.specs.Told.{Told}
 use Rattle.rbg_log.specs.declared.logged.LoggedMatch.{LoggedMatch}
 use Rattle.rbg_log.specs.Logs.{Appends, IsLog, Logs, LogsPart, event_lines, first_line, scripted}
-use Rattle.rbg_log.specs.Serving.{IsOverAt, IsPartOfLine, LeavesLog, LogLacks, LogSteps, of_log}
+use Rattle.rbg_log.specs.Serving.{IsOverAt, IsPartOfLine, IsTimed, LeavesLog, LogLacks, LogSteps, of_log}
 use Rattle.rbg_log.specs.Written.{Replays, written}
 use Rattle.rbg_log.proofs.Replaying.{Stands, stands_on, stands_at_start, first_moment_small}
 
@@ -197,12 +197,17 @@ pub handled_so : {W E : Type 0} (told : W → List ℕ → Type 0) (old new : Lo
 handled_so told old new played event before after (Ok done) same timely until logs steps = record { timely = timely; same_until = until; logs = logs; steps = subst (λ (one : MatchState). Steps one event new.played before after) same steps }
 handled_so told old new played event before after (Err error) same timely until logs steps = tt
 
-pub lacks_so : {W : Type 0} (told : W → List ℕ → Type 0) (old new : LoggedMatch W) (event : AbstractEvent) → LogsPart told old.log new.log (written old.played event) → LogLacks told old new
-lacks_so told old new event part = record { event = event; part = part }
+-- why a match is stopped stays as it was
+pub timed_before : {W : Type 0} (old new : LoggedMatch W) (event : AbstractEvent) → new.stopped ≡ old.stopped → IsTimed old new event
+timed_before old new event same = record { timed = λ stopped. inl (sym same ∙ stopped) }
 
-pub unhandled_so : {W E : Type 0} (told : W → List ℕ → Type 0) (old new : LoggedMatch W) (event : AbstractEvent) (before after : List (List ℕ)) (result : Result (Unit {0}) E) → Logs told old.log new.log (written old.played event) → OnErr result (after ≡ before) → OnErr result ((after ≡ before) × LogLacks told old new)
-unhandled_so told old new event before after (Ok done) logs kept = tt
-unhandled_so told old new event before after (Err error) logs kept = (kept, lacks_so told old new event (whole_part told old.log new.log (written old.played event) logs))
+pub lacks_so : {W : Type 0} (told : W → List ℕ → Type 0) (old new : LoggedMatch W) (event : AbstractEvent) → LogsPart told old.log new.log (written old.played event) → new.until ≡ old.until → IsTimed old new event → LogLacks told old new
+lacks_so told old new event part until timed = record { event = event; part = part; same_until = until; timed = timed }
+
+pub unhandled_so : {W E : Type 0} (told : W → List ℕ → Type 0) (old new : LoggedMatch W) (event : AbstractEvent) (before after : List (List ℕ)) (result : Result (Unit {0}) E) → Logs told old.log new.log (written old.played event) → new.until ≡ old.until → new.stopped ≡ old.stopped → OnErr result (after ≡ before) → OnErr result ((after ≡ before) × LogLacks told old new)
+unhandled_so told old new event before after (Ok done) logs until stopped kept = tt
+unhandled_so told old new event before after (Err error) logs until stopped kept =
+    (kept, lacks_so told old new event (whole_part told old.log new.log (written old.played event) logs) until (timed_before old new event stopped))
 
 -- a match that opens, and whose log begins with its first line
 pub opened_so : {W : Type 0} (told : W → List ℕ → Type 0) (game : AbstractGame) (text : List ℕ) (config : Config) (now : ℕ) (state : MatchState) (outbox : List (List ℕ)) (old new : W) → Loads text game → now < 2 ^ 64 → Opens game text config now state outbox → Appends told old new (first_line config now) → told old [] → (held : List ℕ) × told new held × IsLog text held state outbox

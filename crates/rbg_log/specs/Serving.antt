@@ -1,5 +1,5 @@
 -- A match with a log as a call of `serve` knows it.
-use Rattle.std.specs.Prelude.{◌≡◌, ◌≤◌, ℕ, List, [], ◌++◌, take, Option, Some, None, IsSome, IsErrOf, Result}
+use Rattle.std.specs.Prelude.{◌≡◌, ◌⊎◌, ◌≤◌, ℕ, List, [], ◌++◌, take, Option, Some, None, IsSome, IsErrOf, Result}
 use Rattle.rbg_match.specs.Inputs.{AbstractEvent, moment_of}
 use Rattle.rbg_match.specs.Matches.{MatchState, Steps}
 use Rattle.rbg_serving.specs.declared.served.Served.{Served}
@@ -7,10 +7,11 @@ use Rattle.rbg_serving.specs.declared.served.ServeError.{ServeError}
 use Rattle.rbg_serving.specs.declared.served.ServeError.TheVariants.{Memory}
 use Rattle.rbg_serving.specs.Passing.{Behaviour}
 use Rattle.rbg_log.specs.declared.logged.LoggedMatch.{LoggedMatch}
+use Rattle.rbg_log.specs.declared.logged.Stop.TheVariants.{Time}
 use Rattle.rbg_log.specs.Logs.{IsLog, Logs, LogsPart, event_lines}
 use Rattle.rbg_log.specs.Written.{written}
 
--- The time for a match is over at this moment, where it ends with the first one, if there is one.
+-- The time for a match ends at `until`, if that is given, and is over at this moment.
 abbrev pub IsOverAt : (until : Option ℕ) → (moment : ℕ) → Type 0
 IsOverAt (Some until) moment = until ≤ moment
 IsOverAt None moment = ⊥
@@ -24,11 +25,17 @@ pub record LogSteps {W : Type 0} (told : W → List ℕ → Type 0) (old : Logge
   pub logs : Logs told old.log new.log (written old.played event)
   pub steps : Steps old.played event new.played before after
 
+-- The time is said to have stopped the match only where it was said before, or is over when this event comes.
+pub record IsTimed {W : Type 0} (old new : LoggedMatch W) (event : AbstractEvent) : Type 0 where
+  pub timed : new.stopped ≡ Some Time → (old.stopped ≡ Some Time) ⊎ IsOverAt old.until (moment_of event)
+
 -- An event isn't handled: there was no memory for it, the log failed, or the time for the match was over. No more than its
 -- line may be in the log.
 pub record LogLacks {W : Type 0} (told : W → List ℕ → Type 0) (old new : LoggedMatch W) : Type 0 where
   pub event : AbstractEvent
   pub part : LogsPart told old.log new.log (written old.played event)
+  pub same_until : new.until ≡ old.until
+  pub timed : IsTimed old new event
 
 -- Like a match, it is over once it has ended, and hears each line until then.
 abbrev pub of_log : {W : Type 0} → (told : W → List ℕ → Type 0) → Behaviour (LoggedMatch W)

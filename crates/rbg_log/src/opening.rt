@@ -1,9 +1,9 @@
 //! A match begins, and its log with it.
-ghost use Rattle.std.specs.Prelude.{◌≡◌, ◌++◌, [], ℕ, List, length, IfOk, OnOk};
+ghost use Rattle.std.specs.Prelude.{◌≡◌, ◌++◌, [], ℕ, List, length, IfOk, None, OnErr, OnOk};
 ghost use Rattle.rbg_game.specs.Loading.{Loads};
 ghost use Rattle.rbg_match.specs.Matches.{HasHistory, Opens};
 ghost use Rattle.rbg_match.specs.PlayingOn.{seats_of};
-ghost use Rattle.rbg_log.specs.Logs.{Appends, IsLog, first_line};
+ghost use Rattle.rbg_log.specs.Logs.{Appends, AppendsFront, IsLog, first_line};
 
 use crate::{Log, LoggedMatch, WriteError};
 use rbg_base::Memory;
@@ -51,14 +51,15 @@ impl From<WriteError> for OpenError {
     }
 }
 
-/// Writes the first line of the log of a match that begins at this moment. The line is room for it.
+/// Writes the first line of the log of a match that begins at this moment. `line` is a buffer: what it held is lost.
 pub fn write_first<W: Log>(
     config: Config,
     now: u64,
     log: &mut W,
     line: &mut Vec<u8>,
 ) -> Result<(), WriteError>
-    ensures { OnOk result (Appends W.told log.old log.new (first_line config now)) }
+    ensures ok { OnOk result (Appends W.told log.old log.new (first_line config now)) }
+    ensures err { OnErr result (AppendsFront W.told log.old log.new (first_line config now)) }
 {
     let config = ScriptConfig {
         turn_ms: config.turn_ms,
@@ -86,6 +87,8 @@ impl<W: Log> LoggedMatch<W> {
         ensures begins { IfOk result (λ made. W.told log [] →
             (held : List ℕ) × W.told made.0.log held × IsLog text.now held made.0.played made.1) }
         ensures game { IfOk result (λ made. made.0.played.game ≡ game) }
+        ensures until { IfOk result (λ made. made.0.until ≡ None) }
+        ensures stopped { IfOk result (λ made. made.0.stopped ≡ None) }
         ensures seats { IfOk result (λ made. length made.1 ≡ seats_of made.0.played.game) }
         ensures history { IfOk result (λ made. HasHistory made.0.played) }
     {

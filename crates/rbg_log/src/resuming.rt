@@ -1,5 +1,5 @@
 //! A match goes on from the script of its log.
-ghost use Rattle.std.specs.Prelude.{◌≡◌, ◌++◌, [], ℕ, List, All, length, map, IfErr, IfOk, OnOk};
+ghost use Rattle.std.specs.Prelude.{◌≡◌, ◌++◌, [], ℕ, List, All, length, map, IfErr, IfOk, None, OnOk};
 ghost use Rattle.rbg_game.specs.Loading.{Loads};
 ghost use Rattle.rbg_match.specs.Matches.{HasHistory};
 ghost use Rattle.rbg_match.specs.PlayingOn.{seats_of};
@@ -115,6 +115,8 @@ impl<W: Log> LoggedMatch<W> {
             × IsLog description.now held made.0.played made.1) }
         ensures seats { IfOk result (λ made. length made.1 ≡ seats_of made.0.played.game) }
         ensures loads { IfOk result (λ made. Loads description.now made.0.played.game) }
+        ensures until { IfOk result (λ made. made.0.until ≡ None) }
+        ensures stopped { IfOk result (λ made. made.0.stopped ≡ None) }
         ensures history { IfOk result (λ made. HasHistory made.0.played) }
     {
         let (played, outbox) = play_script(alloc, description, script)?;

@@ -6,7 +6,7 @@ ghost use Rattle.rbg_match.specs.Play.{due_of};
 ghost use Rattle.rbg_script.specs.Events.{EventHasSpelling};
 ghost use Rattle.rbg_wire.specs.Writing.{AppendsAll};
 ghost use Rattle.rbg_log.specs.Logs.{Logs, LogsPart, event_line, scripted};
-ghost use Rattle.rbg_log.specs.Serving.{IsOverAt};
+ghost use Rattle.rbg_log.specs.Serving.{IsOverAt, IsTimed};
 ghost use Rattle.rbg_log.specs.Written.{at_moment, is_quiet, written};
 
 use crate::{Log, LoggedMatch, Stop, WriteError};
@@ -67,7 +67,7 @@ fn written_at(played: &Match, event: Event<'_>) -> Option<u64>
     }
 }
 
-/// Writes what is written of an event that comes to a match. The line is room for it.
+/// Writes the line of an event that comes to a match, if it has one. `line` is a buffer: what it held is lost.
 pub fn write_event<W: Log>(
     played: &Match,
     event: Event<'_>,
@@ -108,6 +108,8 @@ impl<W: Log> LoggedMatch<W> {
     pub(crate) fn write(&mut self, event: Event<'_>) -> Result<(), Memory>
         ensures played { self.new.played ≡ self.old.played }
         ensures until { self.new.until ≡ self.old.until }
+        ensures going { OnOk result (self.new.stopped ≡ self.old.stopped) }
+        ensures timed { OnErr result (IsTimed self.old self.new (event_of event.entry)) }
         ensures timely { OnOk result (¬ IsOverAt self.old.until (moment_of (event_of event.entry))) }
         ensures ok { OnOk result (Logs W.told self.old.log self.new.log
             (written self.old.played (event_of event.entry))) }

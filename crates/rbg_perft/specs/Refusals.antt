@@ -15,15 +15,14 @@ use Rattle.rbg_perft.specs.declared.error.CountError.TheVariants.{Heavy, Keeper,
 abbrev pub most_counted : ℕ
 most_counted = 18446744073709551615
 
--- Something is asked of a place from which so many moves are counted: not where there are none, and their ends aren't
--- asked for.
+-- Something is asked at a place: moves are to be counted from there, or the ends are asked for.
 abbrev pub IsAsked : (moves : ℕ) → Extent → Type 0
 IsAsked zero Ends = Unit {0}
 IsAsked zero Moves = ⊥
 IsAsked (suc _) extent = Unit {0}
 
--- Something is wrong with so many moves to count from a place. It is wrong at once, or behind a move of a player, before
--- which the keeper makes legal moves until that player is to move.
+-- Something is wrong with so many moves to count from a place. It is wrong at once, where something is asked, or behind a
+-- move of a player, before which the keeper makes legal moves until that player is to move.
 pub data Meets (Wrong : (moves : ℕ) → AbstractPlace → Type 0) (game : AbstractGame) (extent : Extent) :
     (moves : ℕ) → AbstractPlace → Type 0 where
   here :

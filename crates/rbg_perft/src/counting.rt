@@ -165,7 +165,7 @@ fn count_none(
     }
 }
 
-/// Counts the one sequence of no moves from a place where play rests.
+/// Counts the one sequence of no moves from a place to which the keeper's moves have led.
 fn count_here(
     game: &PlayedGame,
     place: &mut Place,

@@ -7,11 +7,11 @@
 //! To read a name and to print a fact takes no memory.
 #![tactic(auto)]
 
+mod drawings;
 mod games;
 mod limits;
 mod matches;
 mod players;
-mod programs;
 mod records;
 mod searches;
 mod stop;
@@ -20,6 +20,7 @@ mod texts;
 
 use crate::stop::Stop;
 use arrayvec::ArrayVec;
+use std::alloc::Global;
 use std::io::{self, Read, Write};
 use std::process::ExitCode;
 use std::str;
@@ -31,23 +32,22 @@ const MAX_NAME: usize = 40;
 const MAX_LIST: u32 = 10_000;
 
 /// Makes the run of a name, if there is one, and tells whether there is.
-fn run_named<W: Write>(rt: &HostRuntime, name: &str, output: &mut W) -> Result<bool, Stop> {
-    let alloc = rt.alloc();
+fn run_named<W: Write>(alloc: Global, name: &str, output: &mut W) -> Result<bool, Stop> {
     Ok(
         texts::run(alloc, name, output)?
             || searches::run(alloc, name, output)?
             || matches::run(alloc, name, output)?
             || records::run(alloc, name, output)?
             || players::run(alloc, name, output)?
-            || programs::run_program(rt, name, output)?,
+            || drawings::run(alloc, name, output)?,
     )
 }
 
 /// Prints a name and what its run tells.
-fn tell_run<W: Write>(rt: &HostRuntime, name: &[u8], output: &mut W) -> io::Result<()> {
+fn tell_run<W: Write>(alloc: Global, name: &[u8], output: &mut W) -> io::Result<()> {
     output.write_all(name)?;
     output.write_all(b"\n")?;
-    match run_named(rt, str::from_utf8(name).unwrap_or(""), output) {
+    match run_named(alloc, str::from_utf8(name).unwrap_or(""), output) {
         Ok(true) => Ok(()),
         Ok(false) => output.write_all(b"no such run\n"),
         Err(Stop::Setup) => output.write_all(b"setup memory\n"),
@@ -57,7 +57,7 @@ fn tell_run<W: Write>(rt: &HostRuntime, name: &[u8], output: &mut W) -> io::Resu
 }
 
 /// Makes the runs of the names that the input lists, and prints what they tell.
-fn tell_runs<R: Read, W: Write>(rt: &HostRuntime, input: &mut R, output: &mut W) -> io::Result<()> {
+fn tell_runs<R: Read, W: Write>(alloc: Global, input: &mut R, output: &mut W) -> io::Result<()> {
     let mut name: ArrayVec<u8, MAX_NAME> = ArrayVec::new();
     let mut byte = [0];
     for _ in 0..MAX_LIST {
@@ -65,7 +65,7 @@ fn tell_runs<R: Read, W: Write>(rt: &HostRuntime, input: &mut R, output: &mut W)
             break;
         }
         if byte[0] == b'\n' {
-            tell_run(rt, name.as_slice(), output)?;
+            tell_run(alloc, name.as_slice(), output)?;
             name.clear();
         } else if !name.is_full() {
             name.push(byte[0]);
@@ -75,7 +75,7 @@ fn tell_runs<R: Read, W: Write>(rt: &HostRuntime, input: &mut R, output: &mut W)
 }
 
 fn main(rt: HostRuntime) -> ExitCode {
-    match tell_runs(&rt, &mut rt.stdin(), &mut io::writer(&rt)) {
+    match tell_runs(rt.alloc(), &mut rt.stdin(), &mut io::writer(&rt)) {
         Ok(()) => ExitCode::SUCCESS,
         Err(_) => ExitCode::FAILURE,
     }

@@ -6,8 +6,6 @@ mod matches;
 #[cfg(test)]
 mod messages;
 #[cfg(test)]
-mod programs;
-#[cfg(test)]
 mod scripts;
 #[cfg(test)]
 mod streams;

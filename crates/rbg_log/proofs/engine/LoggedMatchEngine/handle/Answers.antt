@@ -11,7 +11,7 @@ returns-clause-ok g c =
 
 pub returns-clause-err : goal.returns-clause-err
 returns-clause-err g c =
-    unhandled_so g.W.Log.told c.args.self.now _ (event_of c.args.event) c.args.outbox.now c.step.new.outbox c.step.result c.in_ok-write.ensures.ok (on_err_weaker c.step.result (λ kept. kept.0) c.step.ensures.err)
+    unhandled_so g.W.Log.told c.args.self.now _ (event_of c.args.event) c.args.outbox.now c.step.new.outbox c.step.result c.in_ok-write.ensures.ok c.in_ok-write.ensures.until c.in_ok-write.ensures.going (on_err_weaker c.step.result (λ kept. kept.0) c.step.ensures.err)
 
 pub returns-clause-extends : goal.returns-clause-extends
 returns-clause-extends g c = on_ok_weaker c.step.result step_extends c.step.ensures.ok

@@ -6,4 +6,4 @@ use Rattle.rbg_log.proofs.logged.LoggedMatch.open.Goals as goal
 pub returns-clause-begins : goal.returns-clause-begins
 returns-clause-begins g c =
     let fits : c.args.now < 2 ^ 64 = search rules in
-    opened_so g.W.Log.told c.args.game c.args.text.now c.args.config c.args.now c.in_ok-played.played c.in_ok-played.outbox c.args.log c.write_first.new.log c.requires fits c.in_ok-played.ensures.opens c.in_ok-write_first.ensures
+    opened_so g.W.Log.told c.args.game c.args.text.now c.args.config c.args.now c.in_ok-played.played c.in_ok-played.outbox c.args.log c.write_first.new.log c.requires fits c.in_ok-played.ensures.opens c.in_ok-write_first.ensures.ok
