@@ -43,15 +43,13 @@ pub fn serve_hall<N: Network>(
     service: HallService<'_>,
 ) -> Result<Vec<u8>, HallFault>
     ensures { IfOk result (λ records.
-        AreHallsRecords service.config (texts_of descriptions.now) records.items) }
+        AreHallsRecords service.entry.config (texts_of descriptions.now) records.items) }
 {
     let tables = tables_of(alloc, descriptions, service.config)?;
     let count = tables.len();
     let players = players_of(tables.as_slice());
     let (mut hall, mut out) = Hall::<N::Log>::new(alloc, tables)?;
-    if let Some(name) = service.log {
-        keep_logs(alloc, network, &mut hall, count, name, service.sync)?;
-    }
+    keep_logs(alloc, network, &mut hall, count, service)?;
     let mut lines = accept_lines(alloc, network, port, players, service.hosting)?;
     let mut clock = network.start_clock()?;
     run_hall(
@@ -64,21 +62,24 @@ pub fn serve_hall<N: Network>(
     Ok(records_of(alloc, &hall, count)?)
 }
 
-/// Begins the logs of that many matches: each is a new file with this name, a point and the match's number.
+/// Begins the logs of that many matches, if they are wanted: each is a new file with the name given, a point and the
+/// match's number.
 fn keep_logs<N: Network>(
     alloc: Global,
     network: &mut N,
     hall: &mut Hall<N::Log>,
     tables: usize,
-    name: &str,
-    sync: bool,
+    service: HallService<'_>,
 ) -> Result<(), HallFault>
     ensures { hall.new ≡ hall.old }
 {
+    let Some(name) = service.log else {
+        return Ok(());
+    };
     for index in 0..tables {
         let table = index as u64 + 1;
         let file = format!(in alloc; "{name}.{table}")?;
-        hall.keep(table, network.create_log(file.as_str(), sync)?);
+        hall.keep(table, network.create_log(file.as_str(), service.sync)?);
     }
     Ok(())
 }
