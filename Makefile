@@ -33,7 +33,7 @@ help:
 	@echo 'make demo     referees a match between two players over connections, and prints its record, with no proof'
 	@echo 'make games    checks each of the games that come with it, counts its first moves, compares both forms of its automaton and referees a match, with no proof'
 	@echo 'make clients  lets two example clients play matches of five games over ./rbg serve, and checks their records (after make build)'
-	@echo 'make hall     lets example clients play three matches at once over ./rbg hall, and checks the records (after make build)'
+	@echo 'make hall     lets example clients play three matches at once over ./rbg hall, and checks the records and logs (after make build)'
 	@echo 'make tournament lets three example players meet in three games, 36 matches, and prints the table (after make build)'
 	@echo 'make crash    kills ./rbg in the middle of 50 matches, lets each go on, and compares its record (after make build)'
 	@echo 'make page     plays a match of chess, hex, abalone and reversi, makes a page of each, and takes pictures by a browser if there is one (after make build)'

@@ -1,7 +1,8 @@
 #!/usr/bin/env python3
-"""Plays a match of each of some games at once in one hall, with the example client, and checks each record.
+"""Plays a match of each of some games at once in one hall, with the example client, and checks each record and log.
 
-The players connect in an order of chance, so none of them knows its seat before it is told.
+The players connect in an order of chance, so none of them knows its seat before it is told. The record of a log's match has
+to be the one that the hall prints.
 """
 
 import argparse
@@ -14,9 +15,9 @@ from pathlib import Path
 CLIENT = Path(__file__).with_name("rbg_player.py")
 
 
-def start_hall(rbg, games, port):
-    """A hall that listens."""
-    words = [rbg, "hall", *games, "--port", str(port), "--rounds", "4294967295", "--wait", "60"]
+def start_hall(rbg, games, port, log):
+    """A hall that listens, with logs whose names begin like this."""
+    words = [rbg, "hall", *games, "--port", str(port), "--rounds", "4294967295", "--wait", "60", "--log", str(log)]
     hall = subprocess.Popen(words, stdout=subprocess.PIPE, stderr=subprocess.PIPE, text=True)
     told = hall.stderr.readline()
     if told != f"listening on port {port}\n":
@@ -55,6 +56,20 @@ def is_good(rbg, game, record):
         return done.stdout == "good\n"
 
 
+def record_of_log(rbg, game, log, record):
+    """The record of the match of a log, which is written to a new file."""
+    with open(log, "rb") as script:
+        subprocess.run([rbg, "referee", game, "--record", str(record)], stdin=script, stdout=subprocess.DEVNULL, check=True)
+    return record.read_text()
+
+
+def is_told(rbg, game, folder, number, record):
+    """Whether the log of the match of this number tells the match of the record."""
+    if not record:
+        return False
+    return record_of_log(rbg, game, folder / f"log.{number}", folder / f"record.{number}") == record
+
+
 def main():
     parser = argparse.ArgumentParser(description=__doc__.splitlines()[0])
     parser.add_argument("games", nargs="+", help="the descriptions, each of a game of two players")
@@ -62,7 +77,13 @@ def main():
     parser.add_argument("--rbg", default="./rbg", metavar="PROGRAM", help="the program rbg")
     parser.add_argument("--seed", type=int, default=1, help="the seed of the order and of the moves")
     words = parser.parse_args()
-    hall = start_hall(words.rbg, words.games, words.port)
+    with tempfile.TemporaryDirectory() as folder:
+        return play(words, Path(folder))
+
+
+def play(words, folder):
+    """Plays the matches, with the logs in the folder, and prints what comes of each."""
+    hall = start_hall(words.rbg, words.games, words.port, folder / "log")
     order = [match for match in range(1, len(words.games) + 1) for _ in range(2)]
     random.Random(words.seed).shuffle(order)
     players = [player(words.rbg, words.port, match, seed) for seed, match in enumerate(order, words.seed)]
@@ -76,8 +97,10 @@ def main():
     for number, game in enumerate(words.games, 1):
         record = found.get(number, "")
         good = is_good(words.rbg, game, record)
-        bad += not good
-        print(f"match {number}, {Path(game).name}: {record.splitlines()[-1] if record else 'no record'}, {'good' if good else 'not good'}")
+        told = is_told(words.rbg, game, folder, number, record)
+        bad += not (good and told)
+        end = record.splitlines()[-1] if record else "no record"
+        print(f"match {number}, {Path(game).name}: {end}, {'good' if good else 'not good'}, {'as' if told else 'not as'} in its log")
     return 1 if bad else 0
 
 

@@ -95,7 +95,7 @@ fn serve_command<'a>(alloc: Global) -> Result<Command<'a>, AllocError> {
     let command = Command::new(alloc, "serve")
         .about("Referees a match between the players that connect to a port, and prints its record")
         .arg(game_argument(alloc))?
-        .arg(log_option(alloc)?)?
+        .arg(log_option(alloc).conflicts_with("resume")?)?
         .arg(resume_option(alloc))?
         .arg(sync_option(alloc))?
         .arg(minutes_option(alloc))?
@@ -114,7 +114,9 @@ fn hall_command<'a>(alloc: Global) -> Result<Command<'a>, AllocError> {
         .about(
             "Referees a match of each game at once between the players that connect to a port, and prints the records",
         )
-        .arg(games_argument(alloc))?;
+        .arg(games_argument(alloc))?
+        .arg(logs_option(alloc))?
+        .arg(sync_option(alloc))?;
     add_hosting(alloc, command)
 }
 
@@ -208,14 +210,16 @@ fn cut_option<'a>(alloc: Global) -> Result<Arg<'a>, AllocError> {
         .conflicts_with("record")
 }
 
-fn log_option<'a>(alloc: Global) -> Result<Arg<'a>, AllocError> {
-    Arg::new(alloc, "log")
-        .long("log")
-        .value_name("LOG")
-        .help(
-            "A new file in which each event of the match is written before it is handled, as a script",
-        )
-        .conflicts_with("resume")
+fn log_option<'a>(alloc: Global) -> Arg<'a> {
+    Arg::new(alloc, "log").long("log").value_name("LOG").help(
+        "A new file in which each event of the match is written before it is handled, as a script",
+    )
+}
+
+fn logs_option<'a>(alloc: Global) -> Arg<'a> {
+    log_option(alloc).help(
+        "A new file for each match, LOG.1 and so on, in which its events are written before they are handled, as a script",
+    )
 }
 
 fn resume_option<'a>(alloc: Global) -> Arg<'a> {

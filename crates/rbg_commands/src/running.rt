@@ -53,16 +53,7 @@ fn obey<F: Files, N: Network, R: Read, W: Write>(
             names,
             port,
             service,
-            hosting,
-        } => serve_hall(
-            alloc,
-            names.as_slice(),
-            files,
-            network,
-            port,
-            service,
-            hosting,
-        ),
+        } => serve_hall(alloc, names.as_slice(), files, network, port, service),
         Task::Ask { file } => ask_file(alloc, files, file, input, output),
         Task::Demo { file, service } => demo_file(alloc, files, file, network, service),
         Task::Serve {

@@ -15,7 +15,7 @@ use rbg_game::{Game, load};
 use rbg_hosting::{HallService, serve_files};
 use rbg_keeping::{Serving, serve_match};
 use rbg_match::Match;
-use rbg_network::{Client, Hosting, Network, connect_players, tell_who_gave_up};
+use rbg_network::{Client, Network, connect_players, tell_who_gave_up};
 use rbg_player::Heard;
 use rbg_record::{write_record, write_record_1};
 use rbg_serving::{Clock, Line, serve};
@@ -55,14 +55,8 @@ pub fn serve_hall<F: Files, N: Network>(
     files: &mut F,
     network: &mut N,
     port: u16,
-    service: Service,
-    hosting: Hosting,
+    service: HallService<'_>,
 ) -> Result<Vec<u8>, Fault> {
-    let service = HallService {
-        config: service.config,
-        rounds: service.rounds,
-        hosting,
-    };
     Ok(serve_files(alloc, names, files, network, port, service)?)
 }
 

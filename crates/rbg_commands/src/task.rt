@@ -4,6 +4,7 @@ use crate::commands::rbg_command;
 use clap::ArgMatches;
 use rbg_answering::FileTask;
 use rbg_console::{WordsError, match_words};
+use rbg_hosting::HallService;
 use rbg_keeping::{Keeping, Serving};
 use rbg_match::Config;
 use rbg_network::Hosting;
@@ -70,8 +71,7 @@ pub enum Task<'a> {
     Hall {
         names: Vec<&'a str>,
         port: u16,
-        service: Service,
-        hosting: Hosting,
+        service: HallService<'a>,
     },
     /// To play a seat of the match that is served at the port, or of this one of the matches there.
     Play {
@@ -92,8 +92,7 @@ impl<'a> Task<'a> {
             "hall" => Ok(Task::Hall {
                 names: names_of(alloc, words)?,
                 port: port_of(words),
-                service: service_of(words),
-                hosting: hosting_of(words),
+                service: hall_service_of(words),
             }),
             "hallscript" => Ok(Task::HallScript {
                 names: names_of(alloc, words)?,
@@ -190,6 +189,17 @@ fn hosting_of(words: &ArgMatches<'_>) -> Hosting {
     Hosting {
         wait: words.get_one("wait"),
         quiet: words.get_flag("quiet"),
+    }
+}
+
+fn hall_service_of<'a>(words: &ArgMatches<'a>) -> HallService<'a> {
+    let service = service_of(words);
+    HallService {
+        config: service.config,
+        rounds: service.rounds,
+        log: words.get_str("log"),
+        sync: words.get_flag("sync"),
+        hosting: hosting_of(words),
     }
 }
 

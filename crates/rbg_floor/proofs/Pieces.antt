@@ -89,6 +89,22 @@ asks_nothing (first.nothing empty same) is = record { empty = empty; same = same
 asks_nothing (first.table item taken asked within) is = cc
 asks_nothing (first.no_table item taken asked) is = cc
 
+-- what stands of such a line is ready
+pub ready_nothing : {rest : Rest} {bytes : List ℕ} {fed new : Stream} → IsFed rest bytes fed → AsksNothing fed new → IsEmptied new
+ready_nothing fills request = record {
+  limit = ap (λ (s : Stream). s.limit) request.same ∙ fills.limit;
+  empty = ap (λ (s : Stream). s.items) request.same ∙ request.empty;
+}
+
+pub ready_table : {rest : Rest} {bytes : List ℕ} {fed taken joined : Stream} {tables index : ℕ} → IsFed rest bytes fed → AsksTable tables fed taken index → joined ≡ record taken { items = [] } → IsEmptied joined × (index < tables)
+ready_table fills request left = (
+  record {
+    limit = ap (λ (s : Stream). s.limit) left ∙ ap (λ (s : Stream). s.limit) request.taken.left ∙ fills.limit;
+    empty = ap (λ (s : Stream). s.items) left;
+  },
+  request.within,
+)
+
 -- A line that has completed nothing, or asks for no table: no table hears it.
 module _ (olds : List TableState) (line at : ℕ) (rest : Rest) (bytes : List ℕ) where
   pub heard_nothing : (new fed : Stream) (queues : List (List ℕ)) → IsFed rest bytes fed → AsksNothing fed new → PieceHeard olds (silent rest) line at bytes olds (silent new.rest) queues queues

@@ -7,6 +7,7 @@ pub mod Halls
 pub mod Hearing
 pub mod internal
 pub mod Laws
+pub mod Ledgers
 pub mod Limits
 pub mod Lines
 pub mod Openings

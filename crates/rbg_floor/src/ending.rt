@@ -2,10 +2,11 @@
 ghost use Rattle.std.specs.Prelude.{◌≡◌, ◌↔◌, IsTrue};
 ghost use Rattle.rbg_floor.specs.Serving.{HaveAllEnded, has_ended};
 
-use rbg_hall::HallTable;
+use rbg_ledger::KeptTable;
+use rbg_log::Log;
 
 /// Whether the match of a table has begun and ended.
-fn has_ended(table: &HallTable) -> bool
+fn has_ended<W: Log>(table: &KeptTable<W>) -> bool
     ensures { result ≡ has_ended table.now.begun }
 {
     match table.begun() {
@@ -15,7 +16,7 @@ fn has_ended(table: &HallTable) -> bool
 }
 
 /// Whether the match of each table has begun and ended.
-pub(crate) fn have_all_ended(tables: &[HallTable]) -> bool
+pub(crate) fn have_all_ended<W: Log>(tables: &[KeptTable<W>]) -> bool
     ensures { IsTrue result ↔ HaveAllEnded tables.now }
 {
     for table in tables {

@@ -7,6 +7,7 @@ ghost use Rattle.rbg_floor.specs.Serving.{hall_event};
 use crate::{Hall, HallEvent};
 use rbg_base::Memory;
 use rbg_hall::HallOut;
+use rbg_log::Log;
 use rbg_match::Event;
 use rbg_serving::Engine;
 
@@ -28,7 +29,7 @@ fn hall_event(event: Event<'_>) -> HallEvent<'_>
     }
 }
 
-impl Engine for Hall {
+impl<W: Log> Engine for Hall<W> {
     ghost use Rattle.std.specs.Prelude.{◌≡◌, false};
     ghost use Rattle.rbg_hall.specs.Limits.{lines_in_all};
     ghost use Rattle.rbg_floor.specs.Serving.{of_hall};

@@ -9,12 +9,14 @@ use crate::HallEvent;
 use crate::hearing::{hear_end, hear_piece, tick};
 use crate::line::Line;
 use rbg_base::Memory;
-use rbg_hall::{HallOut, HallTable, Mark};
+use rbg_hall::{HallOut, Mark};
+use rbg_ledger::KeptTable;
+use rbg_log::Log;
 use std::mem::replace;
 
 /// Hears an event. The marks tell how long the queues were.
-pub(crate) fn hear_event(
-    tables: &mut [HallTable],
+pub(crate) fn hear_event<W: Log>(
+    tables: &mut [KeptTable<W>],
     lines: &mut [Line],
     event: HallEvent<'_>,
     out: &mut HallOut,
@@ -37,8 +39,8 @@ pub(crate) fn hear_event(
 }
 
 /// Hears a line that sends bytes.
-fn hear_line(
-    tables: &mut [HallTable],
+fn hear_line<W: Log>(
+    tables: &mut [KeptTable<W>],
     lines: &mut [Line],
     line: u64,
     at: u64,
@@ -64,8 +66,8 @@ fn hear_line(
 }
 
 /// Hears the end of a line.
-fn end_line(
-    tables: &mut [HallTable],
+fn end_line<W: Log>(
+    tables: &mut [KeptTable<W>],
     lines: &mut [Line],
     line: u64,
     at: u64,

@@ -6,6 +6,7 @@ ghost use Rattle.rbg_hall.specs.Limits.{lines_in_all};
 ghost use Rattle.rbg_floor.specs.Events.{event_of};
 ghost use Rattle.rbg_floor.specs.Halls.{begun_at};
 ghost use Rattle.rbg_floor.specs.Hearing.{HallHears};
+ghost use Rattle.rbg_floor.specs.Ledgers.{IsLogAt};
 ghost use Rattle.rbg_floor.specs.Lines.{silent};
 ghost use Rattle.rbg_floor.specs.Openings.{AreLoaded, IsNewHall, IsRefusedHall, starts_of};
 ghost use Rattle.rbg_floor.specs.Serving.{HaveAllEnded, MaySpeak};
@@ -17,7 +18,9 @@ use crate::opening::{faulty, new_lines, open_tables};
 use crate::speaking::may_speak;
 use crate::{HallError, HallEvent, Table};
 use rbg_base::Memory;
-use rbg_hall::{HallOut, HallTable};
+use rbg_hall::HallOut;
+use rbg_ledger::KeptTable;
+use rbg_log::Log;
 use rbg_match::Match;
 use std::alloc::Global;
 use std::marker::Model;
@@ -25,18 +28,18 @@ use std::marker::Model;
 /// The most tables of a hall.
 pub const TABLES: usize = 16;
 
-/// A hall of tables. Contracts see its state, and whether it has failed.
-#[derive(Debug, Drop)]
-pub struct Hall {
+/// A hall of tables, each with the log of its match, or none. Contracts see its state, and whether it has failed.
+#[derive(Drop)]
+pub struct Hall<W: Log> {
     /// The tables, table 1 first.
-    tables: Vec<HallTable>,
+    tables: Vec<KeptTable<W>>,
     /// The lines, line 0 first.
     lines: Vec<Line>,
     /// Whether memory ran out in something that the hall heard.
     failed: bool,
 }
 
-impl Model for Hall {
+impl<W: Log> Model for Hall<W> {
     ghost use Rattle.rbg_floor.specs.Failing.{HeldHall};
     ghost use Rattle.rbg_floor.specs.internal.Codes.{coded_held};
 
@@ -55,10 +58,10 @@ impl Model for Hall {
     ghost invariant = { λ h. AreReady (length h.tables.items) h.lines.items };
 }
 
-impl Hall {
-    /// Makes a hall of 1 to 16 tables. The text of each must be that of its game. Nobody sits at a table, and nothing is
-    /// queued.
-    pub fn new(alloc: Global, tables: Vec<Table>) -> Result<(Hall, HallOut), HallError>
+impl<W: Log> Hall<W> {
+    /// Makes a hall of 1 to 16 tables. The text of each must be that of its game. Nobody sits at a table, nothing is queued,
+    /// and there is no log.
+    pub fn new(alloc: Global, tables: Vec<Table>) -> Result<(Hall<W>, HallOut), HallError>
         requires { AreLoaded tables.items }
         ensures made { IfOk result (λ made. IsNewHall (starts_of tables.items) made.0 made.1) }
         ensures refused { IfErr result (IsRefusedHall (starts_of tables.items)) }
@@ -79,7 +82,7 @@ impl Hall {
     }
 
     /// A hall of these tables, of which no line was heard.
-    fn of_tables(alloc: Global, tables: Vec<HallTable>) -> Result<(Hall, HallOut), Memory>
+    fn of_tables(alloc: Global, tables: Vec<KeptTable<W>>) -> Result<(Hall<W>, HallOut), Memory>
         ensures tables { IfOk result (λ made. made.0.state.tables ≡ tables.items) }
         ensures lines { IfOk result (λ made. made.0.state.lines ≡ replicate lines_in_all (silent (incomplete []))) }
         ensures works { IfOk result (λ made. made.0.failed ≡ false) }
@@ -124,6 +127,38 @@ impl Hall {
             return None;
         }
         self.tables[table as usize - 1].begun()
+    }
+
+    /// Gives the match of a table an empty log, unless it has begun. Tables are numbered from 1; a log for a table that isn't
+    /// there is let go.
+    pub fn keep(&mut self, table: u64, log: W)
+        requires { W.told log [] }
+        ensures { self.new ≡ self.old }
+    {
+        if table < 1 || table > self.tables.len() as u64 {
+            return;
+        }
+        self.tables[table as usize - 1].keep(log);
+    }
+
+    /// The log of a table's match, if there is one and the table has not failed.
+    pub fn log_of(&self, table: u64) -> Option<&W>
+        ensures { IfSome result (λ log. IsLogAt W.told log.now self.now.state.tables table) }
+    {
+        if table < 1 || table > self.tables.len() as u64 {
+            return None;
+        }
+        self.tables[table as usize - 1].log()
+    }
+
+    /// Whether a log failed.
+    pub fn has_log_failed(&self) -> bool {
+        for table in &self.tables {
+            if table.has_log_failed() {
+                return true;
+            }
+        }
+        false
     }
 
     /// Whether every match has begun and ended.

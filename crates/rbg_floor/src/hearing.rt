@@ -11,7 +11,9 @@ ghost use Rattle.rbg_floor.specs.internal.Parts.{IsEmptied, IsReady, line_of};
 use crate::line::Line;
 use crate::request::table_of;
 use rbg_base::Memory;
-use rbg_hall::{HallOut, HallTable, Mark, TableInput};
+use rbg_hall::{HallOut, Mark, TableInput};
+use rbg_ledger::KeptTable;
+use rbg_log::Log;
 use rbg_wire::{Inbox, Reason};
 
 /// What the first message of a line asks for.
@@ -39,8 +41,8 @@ fn take_first(inbox: &mut Inbox, tables: usize) -> First
 }
 
 /// A table hears the items that a line has completed.
-fn say_each(
-    table: &mut HallTable,
+fn say_each<W: Log>(
+    table: &mut KeptTable<W>,
     inbox: &mut Inbox,
     line: u64,
     at: u64,
@@ -59,8 +61,8 @@ fn say_each(
 }
 
 /// A line joins a table, which hears the items behind the first one.
-fn join(
-    table: &mut HallTable,
+fn join<W: Log>(
+    table: &mut KeptTable<W>,
     inbox: &mut Inbox,
     line: u64,
     at: u64,
@@ -77,8 +79,8 @@ fn join(
 }
 
 /// A table hears a piece of a line that asked for it.
-fn arrive(
-    table: &mut HallTable,
+fn arrive<W: Log>(
+    table: &mut KeptTable<W>,
     inbox: &mut Inbox,
     line: u64,
     at: u64,
@@ -95,8 +97,8 @@ fn arrive(
 }
 
 /// A piece of a line none of whose messages has come.
-fn hear_first(
-    tables: &mut [HallTable],
+fn hear_first<W: Log>(
+    tables: &mut [KeptTable<W>],
     mut inbox: Inbox,
     line: u64,
     at: u64,
@@ -126,8 +128,8 @@ fn hear_first(
 }
 
 /// A piece of a line that asked for the table at this index.
-fn hear_next(
-    tables: &mut [HallTable],
+fn hear_next<W: Log>(
+    tables: &mut [KeptTable<W>],
     index: usize,
     mut inbox: Inbox,
     line: u64,
@@ -150,8 +152,8 @@ fn hear_next(
 }
 
 /// The tables hear a line that sends bytes. Returns what stands of the line then.
-pub(crate) fn hear_piece(
-    tables: &mut [HallTable],
+pub(crate) fn hear_piece<W: Log>(
+    tables: &mut [KeptTable<W>],
     one: Line,
     line: u64,
     at: u64,
@@ -176,8 +178,8 @@ pub(crate) fn hear_piece(
 }
 
 /// The tables hear the end of a line.
-pub(crate) fn hear_end(
-    tables: &mut [HallTable],
+pub(crate) fn hear_end<W: Log>(
+    tables: &mut [KeptTable<W>],
     one: Line,
     line: u64,
     at: u64,
@@ -200,8 +202,8 @@ pub(crate) fn hear_end(
 }
 
 /// Each table hears the clock.
-pub(crate) fn tick(
-    tables: &mut [HallTable],
+pub(crate) fn tick<W: Log>(
+    tables: &mut [KeptTable<W>],
     at: u64,
     out: &mut HallOut,
     marks: &mut Vec<Mark>,

@@ -10,6 +10,8 @@ use crate::Table;
 use crate::line::Line;
 use rbg_base::Memory;
 use rbg_hall::{HallTable, LINES, MESSAGE_LIMIT};
+use rbg_ledger::KeptTable;
+use rbg_log::Log;
 use rbg_wire::Inbox;
 use std::alloc::Global;
 
@@ -26,8 +28,11 @@ pub(crate) fn faulty(tables: &[Table]) -> Option<usize>
     None
 }
 
-/// The tables, where nobody sits.
-pub(crate) fn open_tables(alloc: Global, mut tables: Vec<Table>) -> Result<Vec<HallTable>, Memory>
+/// The tables, where nobody sits, with no logs.
+pub(crate) fn open_tables<W: Log>(
+    alloc: Global,
+    mut tables: Vec<Table>,
+) -> Result<Vec<KeptTable<W>>, Memory>
     requires loaded { AreLoaded tables.items }
     requires limits { HaveLimits tables.items }
     ensures { IfOk result (λ opened. opened.items ≡ new_tables tables.items) }
@@ -41,13 +46,14 @@ pub(crate) fn open_tables(alloc: Global, mut tables: Vec<Table>) -> Result<Vec<H
     Ok(opened)
 }
 
-/// A table, where nobody sits.
-fn open_table(alloc: Global, table: Table) -> Result<HallTable, Memory>
+/// A table, where nobody sits, with no log.
+fn open_table<W: Log>(alloc: Global, table: Table) -> Result<KeptTable<W>, Memory>
     requires loaded { Loads table.text.items table.game }
     requires limits { IsWithinLimits table.config }
     ensures { IfOk result (λ opened. opened ≡ new_table table.game table.text.items table.config) }
 {
-    HallTable::new(alloc, table.game, table.text, table.config)
+    let opened = HallTable::new(alloc, table.game, table.text, table.config)?;
+    Ok(KeptTable::new(alloc, opened))
 }
 
 /// The lines, of which nothing was heard.

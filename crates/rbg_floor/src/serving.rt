@@ -7,13 +7,16 @@ ghost use Rattle.rbg_floor.specs.Serving.{of_hall};
 
 use crate::Hall;
 use rbg_hall::HallOut;
+use rbg_log::Log;
 use rbg_serving::{Clock, Line, ServeError, Served, serve_engine};
 
-impl Hall {
+impl<W: Log> Hall<W> {
     /// Serves the matches of a hall over lines, line 0 first, in that many rounds at most. In a round each line that has
     /// neither ended nor failed in this call is polled in turn, and then the clock ticks. A line that asked for a seat and
     /// got none is polled no more, and once every match has ended none is. What is queued for a line, from its first byte
-    /// on, is put to it before the first round and after each event. A line that fails to take it has ended.
+    /// on, is put to it before the first round and after each event. A line that fails to take it has ended. What is written of an
+    /// event to the log of a match is there before the match handles it. Where a log fails, serving ends with `Memory`, and
+    /// `has_log_failed` tells why.
     ///
     /// Serving ends when every match has begun and ended and each line that neither ended nor failed took all that is queued
     /// for it.

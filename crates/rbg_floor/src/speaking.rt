@@ -4,10 +4,11 @@ ghost use Rattle.rbg_floor.specs.Serving.{MaySpeak, SpeaksAs};
 ghost use Rattle.rbg_floor.specs.internal.Parts.{AreReady, IsReady, hall_of, line_of};
 
 use crate::line::Line;
-use rbg_hall::HallTable;
+use rbg_ledger::KeptTable;
+use rbg_log::Log;
 
 /// Whether something may still be heard of a line.
-pub(crate) fn may_speak(tables: &[HallTable], lines: &[Line], line: usize) -> bool
+pub(crate) fn may_speak<W: Log>(tables: &[KeptTable<W>], lines: &[Line], line: usize) -> bool
     requires { AreReady (length tables.now) lines.now }
     ensures { IsTrue result ↔ MaySpeak (hall_of tables.now lines.now) line }
 {
@@ -18,7 +19,7 @@ pub(crate) fn may_speak(tables: &[HallTable], lines: &[Line], line: usize) -> bo
 }
 
 /// Whether something may still be heard of a line that stands so.
-fn speaks(tables: &[HallTable], one: &Line, line: u64) -> bool
+fn speaks<W: Log>(tables: &[KeptTable<W>], one: &Line, line: u64) -> bool
     requires { IsReady (length tables.now) one.now }
     ensures { IsTrue result ↔ SpeaksAs tables.now line (line_of one.now) }
 {

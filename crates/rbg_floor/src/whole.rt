@@ -8,6 +8,7 @@ ghost use Rattle.rbg_floor.specs.Wholes.{HasRun, IsOfHall};
 use crate::{Hall, HallError, HallEvent, Table};
 use rbg_base::Memory;
 use rbg_hall::HallOut;
+use rbg_log::{Log, MemoryLog};
 use std::alloc::Global;
 
 /// Makes a hall, and hears the events in turn. Returns the queues of its lines.
@@ -20,13 +21,17 @@ pub fn whole_hall(
     ensures allowed { IfOk result (IsOfHall (starts_of tables.items) (map event_of events.now)) }
     ensures refused { IfErr result (IsRefusedHall (starts_of tables.items)) }
 {
-    let (mut made, mut out) = Hall::new(alloc, tables)?;
+    let (mut made, mut out) = Hall::<MemoryLog>::new(alloc, tables)?;
     hear_all(&mut made, events, &mut out)?;
     Ok(out)
 }
 
 /// Hears the events in turn.
-fn hear_all(hall: &mut Hall, events: &[HallEvent<'_>], out: &mut HallOut) -> Result<(), Memory>
+fn hear_all<W: Log>(
+    hall: &mut Hall<W>,
+    events: &[HallEvent<'_>],
+    out: &mut HallOut,
+) -> Result<(), Memory>
     ensures { (starts : List AbstractTable) (earlier : List AbstractHallEvent) →
         HasRun starts earlier hall.old.state out.old →
         OnOk result (HasRun starts (earlier ++ map event_of events.now) hall.new.state out.new) }

@@ -84,7 +84,7 @@ from_nothing n index said within =
     ∙ ap (λ had. had ++ bytes_for (1 + index) said) (nothing_at n index)
 
 -- a step says the same, whatever the seats had
-step_on : {old new : MatchState} {event : AbstractEvent} {before after : List (List ℕ)} (others : List (List ℕ)) → (step : Steps old event new before after) → Steps old event new others (delivered others step.said)
+pub step_on : {old new : MatchState} {event : AbstractEvent} {before after : List (List ℕ)} (others : List (List ℕ)) → (step : Steps old event new before after) → Steps old event new others (delivered others step.said)
 step_on {old = old} {new = new} {event = event} others step = record {
   worked = step.worked;
   works = step.works;

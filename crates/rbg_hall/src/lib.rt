@@ -11,4 +11,4 @@ mod table;
 
 pub use input::TableInput;
 pub use queues::{HallOut, LINES, Mark};
-pub use table::{HallTable, MESSAGE_LIMIT};
+pub use table::{HallTable, MESSAGE_LIMIT, whole_piece};

@@ -102,6 +102,13 @@ impl HallTable {
         }
     }
 
+    /// The config of the match.
+    pub fn config(&self) -> Config
+        ensures { result ≡ self.now.config }
+    {
+        self.config
+    }
+
     /// Whether a line has a seat.
     pub fn has_seat(&self, line: u64) -> bool
         ensures { IsTrue result ↔ HasSeat self.now line }
@@ -191,7 +198,7 @@ impl HallTable {
     }
 
     /// Whether the match has not begun.
-    fn is_waiting(&self) -> bool
+    pub fn is_waiting(&self) -> bool
         ensures { result ≡ is_none self.now.begun }
     {
         match &self.phase {
@@ -201,8 +208,8 @@ impl HallTable {
         }
     }
 
-    /// The index of the seat on which a line sits.
-    fn seat_of(&self, line: u64) -> Option<usize>
+    /// The index of the seat on which a line sits. It is that of the next number.
+    pub fn seat_of(&self, line: u64) -> Option<usize>
         ensures sits { IfSome result (SitsAt self.now line) }
         ensures small { IfSome result (λ index. index + 1 < 2 ^ 64) }
         ensures none { IfNone result (HasNoSeat self.now line) }
@@ -394,7 +401,7 @@ fn first_index(seats: &[Option<u64>], wanted: Option<u64>) -> Option<usize>
 }
 
 /// The bytes that complete this item alone.
-fn whole_piece(alloc: Global, took: Took<'_>) -> Result<Vec<u8>, Memory>
+pub fn whole_piece(alloc: Global, took: Took<'_>) -> Result<Vec<u8>, Memory>
     ensures { IfOk result (λ whole. whole.items ≡ whole_item message_limit (item_of took.entry)) }
 {
     match took {

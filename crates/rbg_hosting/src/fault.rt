@@ -19,7 +19,7 @@ pub enum HallFault {
     /// The first description that is refused.
     #[error("{0}")]
     Refused(LoadError),
-    /// A file can't be read, or a connection can't be made, or the clock can't be read.
+    /// A file can't be read, a log can't be made or written, a connection can't be made, or the clock can't be read.
     #[error("device")]
     Device,
     /// Not all players have come in time.

@@ -71,7 +71,7 @@ pub fn serve_files<F: Files, N: Network>(
     files: &mut F,
     network: &mut N,
     port: u16,
-    service: HallService,
+    service: HallService<'_>,
 ) -> Result<Vec<u8>, HallFault> {
     let Some(descriptions) = read_all(alloc, names, files)? else {
         return Err(HallFault::Device);

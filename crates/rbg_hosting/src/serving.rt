@@ -12,6 +12,7 @@ use crate::HallFault;
 use crate::tables::tables_of;
 use rbg_floor::{Hall, Table};
 use rbg_hall::{HallOut, LINES};
+use rbg_log::Log;
 use rbg_match::{Config, Match};
 use rbg_network::{Hosting, Network, News, StreamLine, gather};
 use rbg_record::write_record;
@@ -21,29 +22,34 @@ use std::io::{Read, Write};
 
 /// How the matches are served.
 #[derive(Clone, Copy, Debug)]
-pub struct HallService {
+pub struct HallService<'a> {
     pub config: Config,
     /// The most rounds.
     pub rounds: u64,
+    /// The beginning of the names of the new files for the logs, one for each match.
+    pub log: Option<&'a str>,
+    /// Whether each write to a log waits for the disk.
+    pub sync: bool,
     pub hosting: Hosting,
 }
 
 /// Plays a match of each description's game between the players that connect to the port and join it. Returns the line
-/// `match <k>` and the record of each match.
+/// `match <k>` and the record of each match. The logs are made before players are waited for.
 pub fn serve_hall<N: Network>(
     alloc: Global,
     descriptions: &[Vec<u8>],
     network: &mut N,
     port: u16,
-    service: HallService,
+    service: HallService<'_>,
 ) -> Result<Vec<u8>, HallFault>
     ensures { IfOk result (λ records.
-        AreHallsRecords service.config (texts_of descriptions.now) records.items) }
+        AreHallsRecords service.entry.config (texts_of descriptions.now) records.items) }
 {
     let tables = tables_of(alloc, descriptions, service.config)?;
     let count = tables.len();
     let players = players_of(tables.as_slice());
-    let (mut hall, mut out) = Hall::new(alloc, tables)?;
+    let (mut hall, mut out) = Hall::<N::Log>::new(alloc, tables)?;
+    keep_logs(alloc, network, &mut hall, count, service)?;
     let mut lines = accept_lines(alloc, network, port, players, service.hosting)?;
     let mut clock = network.start_clock()?;
     run_hall(
@@ -56,22 +62,55 @@ pub fn serve_hall<N: Network>(
     Ok(records_of(alloc, &hall, count)?)
 }
 
+/// Begins the logs of that many matches, if they are wanted: each is a new file with the name given, a point and the
+/// match's number.
+fn keep_logs<N: Network>(
+    alloc: Global,
+    network: &mut N,
+    hall: &mut Hall<N::Log>,
+    tables: usize,
+    service: HallService<'_>,
+) -> Result<(), HallFault>
+    ensures { hall.new ≡ hall.old }
+{
+    let Some(name) = service.log else {
+        return Ok(());
+    };
+    for index in 0..tables {
+        let table = index as u64 + 1;
+        let file = format!(in alloc; "{name}.{table}")?;
+        hall.keep(table, network.create_log(file.as_str(), service.sync)?);
+    }
+    Ok(())
+}
+
 /// Serves the matches over the lines until all have ended.
-fn run_hall<S: Read + Write + Drop, C: Clock>(
-    hall: &mut Hall,
+fn run_hall<S: Read + Write + Drop, C: Clock, W: Log>(
+    hall: &mut Hall<W>,
     lines: &mut [StreamLine<S>],
     out: &mut HallOut,
     clock: &mut C,
     rounds: u64,
-) -> Result<(), ServeError>
+) -> Result<(), HallFault>
     requires lines { length lines.old ≤ lines_in_all }
     requires clock { C.told clock.old [] }
     ensures { OnOk result ((starts : List AbstractTable) →
         IsNewHall starts hall.old out.old →
         HasEnded starts hall.new.state) }
 {
-    hall.run(lines, out, clock, rounds)?;
-    Ok(())
+    match hall.run(lines, out, clock, rounds) {
+        Ok(_served) => Ok(()),
+        Err(error) => Err(fault_of(hall, error)),
+    }
+}
+
+/// Why a hall is served no more. Where a log failed, that is the reason.
+fn fault_of<W: Log>(hall: &Hall<W>, error: ServeError) -> HallFault {
+    if hall.has_log_failed() {
+        HallFault::Device
+    } else {
+        HallFault::from(error)
+    }
 }
 
 /// How many players the tables have together.
@@ -107,7 +146,7 @@ fn accept_lines<N: Network>(
 }
 
 /// `match <k>` and the record of each match that has begun.
-fn records_of(alloc: Global, hall: &Hall, tables: usize) -> Result<Vec<u8>, AllocError>
+fn records_of<W: Log>(alloc: Global, hall: &Hall<W>, tables: usize) -> Result<Vec<u8>, AllocError>
     ensures { IfOk result (λ records. (starts : List AbstractTable) →
         length starts ≡ tables →
         HasEnded starts hall.now.state →
@@ -121,9 +160,9 @@ fn records_of(alloc: Global, hall: &Hall, tables: usize) -> Result<Vec<u8>, Allo
 }
 
 /// Appends `match <k>` and the record of the match of a table, if it has begun.
-fn push_match(
+fn push_match<W: Log>(
     alloc: Global,
-    hall: &Hall,
+    hall: &Hall<W>,
     table: u64,
     records: &mut Vec<u8>,
 ) -> Result<(), AllocError>

@@ -39,7 +39,8 @@ pub trait Network {
 
     /// A new file for the log of a match. A file of that name that is there already is an error. With `sync` what is written
     /// to the log is on the disk before the match goes on.
-    fn create_log(&mut self, name: &str, sync: bool) -> io::Result<Self::Log>;
+    fn create_log(&mut self, name: &str, sync: bool) -> io::Result<Self::Log>
+        ensures empty { IfOk result (λ log. Self.Log.told log []) };
 
     /// A file for a log that is to replace the one of this name. It lies beside it; one that is left there is written over.
     fn rewrite_log(&mut self, name: &str, sync: bool) -> io::Result<Self::Log>;

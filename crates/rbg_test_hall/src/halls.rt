@@ -1,6 +1,7 @@
 //! Which halls are made, and what a hall tells of its matches.
 use crate::tables::{CONFIG, TWO, tables};
 use rbg_floor::{Hall, HallError, HallEvent, whole_hall};
+use rbg_log::MemoryLog;
 use rbg_match::Config;
 use rbg_player::Player;
 use rbg_wire::Outcome;
@@ -29,7 +30,7 @@ const HALLS: [(&[Config], Option<HallError>); 7] = [
 #[test]
 fn halls_have_one_to_sixteen_tables(rt: HostRuntime) -> Result<(), Fail> {
     for (configs, refused) in HALLS {
-        let made = Hall::new(rt.alloc(), tables(rt.alloc(), TWO, configs)?);
+        let made = Hall::<MemoryLog>::new(rt.alloc(), tables(rt.alloc(), TWO, configs)?);
         assert_eq!(rt; made.err(), refused);
         let whole = whole_hall(rt.alloc(), tables(rt.alloc(), TWO, configs)?, &[]);
         assert_eq!(rt; whole.err(), refused);
@@ -37,10 +38,17 @@ fn halls_have_one_to_sixteen_tables(rt: HostRuntime) -> Result<(), Fail> {
     Ok(())
 }
 
-/// A match is told of once it has begun, also when it is over.
+/// What is written of a match that begins at 4, and in which white is silent.
+const SILENT: &[u8] = b"config 1000 3 4\nt 1004\n";
+
+/// A match is told of once it has begun, also when it is over, and its log holds its events.
 #[test]
 fn begun_matches_are_told_of(rt: HostRuntime) -> Result<(), Fail> {
-    let (mut hall, mut out) = Hall::new(rt.alloc(), tables(rt.alloc(), TWO, &[CONFIG; 2])?)?;
+    let (mut hall, mut out) = Hall::<MemoryLog>::new(
+        rt.alloc(),
+        tables(rt.alloc(), TWO, &[CONFIG; 2])?,
+    )?;
+    hall.keep(2, MemoryLog::new(rt.alloc(), 1000));
     for (line, at) in [(0, 3), (1, 4)] {
         for table in [0, 1, 2, 3, u64::MAX] {
             assert!(rt; hall.begun(table).is_none());
@@ -62,6 +70,8 @@ fn begun_matches_are_told_of(rt: HostRuntime) -> Result<(), Fail> {
         .begun(2)
         .map(|playing| (playing.began(), playing.outcome()));
     assert_eq!(rt; told, Some((4, Some(Outcome::Time { player: 1 }))));
+    assert_eq!(rt; hall.log_of(2).map(|log| log.bytes()), Some(SILENT));
+    assert!(rt; hall.log_of(1).is_none());
     Ok(())
 }
 

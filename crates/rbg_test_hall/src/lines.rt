@@ -3,6 +3,7 @@ use crate::cases::{CASES, Told};
 use crate::tables::{CONFIG, EIGHT, TWO, sent, tables};
 use rbg_floor::{Hall, HallEvent, whole_hall};
 use rbg_hall::{HallOut, LINES};
+use rbg_log::MemoryLog;
 use std::alloc::Global;
 use std::test::Fail;
 
@@ -15,7 +16,7 @@ fn at_once(alloc: Global, count: usize, events: &[HallEvent<'_>]) -> Result<Hall
 /// The queues of a hall of that many tables for two, which hears the events in turn.
 fn in_turn(alloc: Global, count: usize, events: &[HallEvent<'_>]) -> Result<HallOut, Fail> {
     let configs = vec![in alloc; CONFIG; count]?;
-    let (mut hall, mut out) = Hall::new(alloc, tables(alloc, TWO, &configs)?)?;
+    let (mut hall, mut out) = Hall::<MemoryLog>::new(alloc, tables(alloc, TWO, &configs)?)?;
     for event in events {
         hall.step(*event, &mut out)?;
     }
@@ -81,7 +82,7 @@ const REQUESTS: [&[u8]; 16] = [
 #[test]
 fn a_hall_is_full(rt: HostRuntime) -> Result<(), Fail> {
     let alloc = rt.alloc();
-    let (mut hall, mut out) = Hall::new(alloc, tables(alloc, EIGHT, &[CONFIG; 16])?)?;
+    let (mut hall, mut out) = Hall::<MemoryLog>::new(alloc, tables(alloc, EIGHT, &[CONFIG; 16])?)?;
     for (seat, name) in NAMES.iter().enumerate() {
         for (index, bytes) in REQUESTS.iter().enumerate() {
             let line = seat as u64 * 16 + index as u64;

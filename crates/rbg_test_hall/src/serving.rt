@@ -4,6 +4,7 @@ use crate::lines::wanted;
 use crate::tables::{CONFIG, TWO, tables};
 use rbg_floor::Hall;
 use rbg_hall::LINES;
+use rbg_log::MemoryLog;
 use rbg_serving::{Give, Line, ListClock, MemoryLine, ServeError, Served};
 use std::alloc::Global;
 use std::test::Fail;
@@ -104,7 +105,7 @@ fn serve(alloc: Global, run: &Run) -> Result<(Result<Served, ServeError>, Vec<Me
         Err("too many lines")?;
     }
     let configs = vec![in alloc; CONFIG; run.tables]?;
-    let (mut hall, mut out) = Hall::new(alloc, tables(alloc, TWO, &configs)?)?;
+    let (mut hall, mut out) = Hall::<MemoryLog>::new(alloc, tables(alloc, TWO, &configs)?)?;
     let mut clock = ListClock::new(Vec::new(alloc));
     let answer = hall.run(&mut lines, &mut out, &mut clock, run.rounds);
     Ok((answer, lines))

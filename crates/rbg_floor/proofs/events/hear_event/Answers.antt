@@ -8,6 +8,6 @@ use Rattle.rbg_floor.proofs.Halls.{clock_ticks}
 use Rattle.rbg_floor.proofs.events.hear_event.Goals as goal
 
 pub returns-in-Tick-clause-hears : goal.returns-in-Tick-clause-hears
-returns-in-Tick-clause-hears c =
+returns-in-Tick-clause-hears g c =
     subst (λ event. OnOk c.tick.result (HallHears (hall_of c.args.tables.now c.args.lines.now) (event_of event) (hall_of c.tick.new.tables c.args.lines.now) c.args.out.now c.tick.new.out)) (sym c.in-Tick.is)
     (on_ok_weaker c.tick.result (clock_ticks c.args.tables.now c.tick.new.tables c.args.lines.now c.in-Tick.at c.args.out.now c.tick.new.out) c.tick.ensures.hears)

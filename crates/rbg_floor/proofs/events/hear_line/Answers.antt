@@ -2,9 +2,9 @@ use Rattle.rbg_floor.proofs.Halls.{past_sends, line_sends, found_by}
 use Rattle.rbg_floor.proofs.events.hear_line.Goals as goal
 
 pub returns-then-index-lines-clause-hears : goal.returns-then-index-lines-clause-hears
-returns-then-index-lines-clause-hears c = past_sends c.args.tables.now c.args.lines.now c.args.line c.args.at c.if-index-lines.true c.args.out.now c.args.bytes.now
+returns-then-index-lines-clause-hears g c = past_sends c.args.tables.now c.args.lines.now c.args.line c.args.at c.if-index-lines.true c.args.out.now c.args.bytes.now
 
 pub returns-clause-hears : goal.returns-clause-hears
-returns-clause-hears c =
+returns-clause-hears g c =
     let found = found_by c.args.lines.now c.args.line c.index-lines-index.result c.replace-one.result c.index-lines-index.is c.replace-one.ensures.value in
     line_sends c.args.tables.now c.hear_piece.new.tables c.args.lines.now c.args.line c.args.at c.replace-one.result c.if-index-lines.false found c.args.out.now c.hear_piece.new.out c.args.bytes.now c.replace-one.new.dest c.in_ok-next.next c.in_ok-next.ensures.hears

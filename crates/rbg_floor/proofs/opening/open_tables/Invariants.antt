@@ -4,11 +4,11 @@ use Rattle.rbg_floor.specs.internal.Parts.{HaveLimits, new_tables}
 use Rattle.rbg_floor.proofs.opening.open_tables.Given as goal
 
 abbrev pub invariant-loop-table : goal.invariant-loop-table
-invariant-loop-table l = record {
+invariant-loop-table g l = record {
   loaded : AreLoaded l.tables.items;
   limits : HaveLimits l.tables.items;
   opened : new_tables l.initial.tables.items ≡ new_tables l.tables.items ++ reverse l.opened.items;
 }
 
 abbrev pub decreases-loop-table : goal.decreases-loop-table
-decreases-loop-table l = length l.tables.items
+decreases-loop-table g l = length l.tables.items

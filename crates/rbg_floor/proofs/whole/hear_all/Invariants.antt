@@ -5,5 +5,5 @@ use Rattle.rbg_floor.specs.Wholes.{HasRun}
 use Rattle.rbg_floor.proofs.whole.hear_all.Given as goal
 
 abbrev pub invariant-loop-event : goal.invariant-loop-event
-invariant-loop-event l = (starts : List AbstractTable) (earlier : List AbstractHallEvent) →
+invariant-loop-event g l = (starts : List AbstractTable) (earlier : List AbstractHallEvent) →
     HasRun starts earlier l.initial.hall.state l.initial.out → HasRun starts (earlier ++ map event_of (take l.event-index l.events)) l.hall.state l.out

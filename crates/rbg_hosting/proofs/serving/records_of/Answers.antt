@@ -6,15 +6,15 @@ use Rattle.rbg_hosting.proofs.RecordLemmas.{all_matches, match_more}
 use Rattle.rbg_hosting.proofs.serving.records_of.Goals as goal
 
 pub loop-index-init : goal.loop-index-init
-loop-index-init c starts same ended = subst (λ text. ArePrintedMatches [] [] text) (sym c.new-records.ensures.items) no_table
+loop-index-init g c starts same ended = subst (λ text. ArePrintedMatches [] [] text) (sym c.new-records.ensures.items) no_table
 
 pub loop-index-preserved : goal.loop-index-preserved
-loop-index-preserved c starts same ended =
+loop-index-preserved g c starts same ended =
     match_more starts c.args.hall.now.state c.loop-index.index c.loop-index.records.items c.push_match.new.records.items ended
     (omega (arith, same, c.loop-index-test.true))
     c.in_ok-push_match.ensures
     (c.loop-index.invariant starts same ended)
 
 pub returns : goal.returns
-returns c starts same ended =
+returns g c starts same ended =
     all_matches starts c.args.hall.now.state c.loop-index.index c.loop-index.records.items (omega (arith, same, c.loop-index-test.false)) ended (c.loop-index.invariant starts same ended)

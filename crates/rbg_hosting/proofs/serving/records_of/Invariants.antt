@@ -5,7 +5,7 @@ use Rattle.rbg_hosting.specs.Records.{ArePrintedMatches, HasEnded}
 use Rattle.rbg_hosting.proofs.serving.records_of.Given as goal
 
 abbrev pub invariant-loop-index : goal.invariant-loop-index
-invariant-loop-index l =
+invariant-loop-index g l =
     (starts : List AbstractTable) →
     length starts ≡ l.tables →
     HasEnded starts l.hall.state →

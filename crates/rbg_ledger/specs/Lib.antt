@@ -1,0 +1,2 @@
+-- Tables with a log.
+pub mod Ledgers

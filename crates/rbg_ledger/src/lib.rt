@@ -1,0 +1,8 @@
+//! A table of a hall with a log of its match: each event is written before the match handles it, so that what the log
+//! holds is a script of the match.
+#![tactic(auto)]
+
+mod kept_table;
+mod noting;
+
+pub use kept_table::KeptTable;

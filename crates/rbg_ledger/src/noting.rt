@@ -1,0 +1,145 @@
+//! What is written when a table hears an event, and when its match begins.
+ghost use Rattle.std.specs.Prelude.{◌≡◌, ◌+◌, ◌<◌, ◌^◌, OnOk};
+ghost use Rattle.rbg_hall.specs.Hearing.{HearsFor, input_of};
+ghost use Rattle.rbg_hall.specs.Undoing.{undone};
+ghost use Rattle.rbg_log.specs.Logs.{Appends};
+ghost use Rattle.rbg_match.specs.Inputs.{event_of, piece};
+ghost use Rattle.rbg_match.specs.Limits.{message_limit};
+ghost use Rattle.rbg_wire.specs.Inboxes.{item_of};
+ghost use Rattle.rbg_wire.specs.Whole.{whole_item};
+ghost use Rattle.rbg_ledger.specs.Ledgers.{HasLog, IsNotedIn, WritesFor, first_for, heard_at};
+
+use rbg_hall::{HallOut, HallTable, Mark, TableInput, whole_piece};
+use rbg_log::{Log, WriteError, write_event, write_first};
+use rbg_match::Event;
+use rbg_wire::Took;
+use std::alloc::Global;
+
+/// The moment at which a table hears something.
+fn moment_of(input: TableInput<'_>) -> u64
+    ensures { result ≡ heard_at (input_of input.entry) }
+{
+    match input {
+        TableInput::Clock { at } => at,
+        TableInput::Joins { at, .. } => at,
+        TableInput::Arrives { at, .. } => at,
+        TableInput::Says { at, .. } => at,
+        TableInput::Leaves { at, .. } => at,
+    }
+}
+
+/// Writes what is written of an event for the match of a table, if that has begun.
+fn write_for<W: Log>(
+    table: &HallTable,
+    event: Event<'_>,
+    log: &mut W,
+    line: &mut Vec<u8>,
+) -> Result<(), WriteError>
+    ensures { OnOk result (WritesFor W.told log.old log.new table.now.begun (event_of event.entry)) }
+{
+    match table.begun() {
+        Some(playing) => write_event(playing, event, log, line),
+        None => Ok(()),
+    }
+}
+
+/// Writes an item of the line on this seat.
+fn write_item<W: Log>(
+    alloc: Global,
+    table: &HallTable,
+    index: usize,
+    at: u64,
+    took: Took<'_>,
+    log: &mut W,
+    line: &mut Vec<u8>,
+) -> Result<(), WriteError>
+    requires { index + 1 < 2 ^ 64 }
+    ensures { OnOk result (WritesFor W.told log.old log.new table.now.begun
+        (piece (index + 1) at (whole_item message_limit (item_of took.entry)))) }
+{
+    let whole = whole_piece(alloc, took)?;
+    let piece = Event::Piece {
+        seat: index as u64 + 1,
+        at,
+        bytes: &whole,
+    };
+    write_for(table, piece, log, line)
+}
+
+/// Writes what the match of a table is handed when the table hears this.
+fn note<W: Log>(
+    alloc: Global,
+    table: &HallTable,
+    input: TableInput<'_>,
+    log: &mut W,
+    line: &mut Vec<u8>,
+) -> Result<(), WriteError>
+    ensures { OnOk result (IsNotedIn W.told log.old log.new table.now (input_of input.entry)) }
+{
+    match input {
+        TableInput::Clock { at } => write_for(table, Event::Tick { at }, log, line),
+        TableInput::Joins { .. } => Ok(()),
+        TableInput::Arrives { line: from, at } => match table.seat_of(from) {
+            Some(_) => write_for(table, Event::Tick { at }, log, line),
+            None => Ok(()),
+        },
+        TableInput::Says {
+            line: from,
+            at,
+            took,
+        } => match table.seat_of(from) {
+            Some(index) => write_item(alloc, table, index, at, took, log, line),
+            None => Ok(()),
+        },
+        TableInput::Leaves { line: from, at } => match table.seat_of(from) {
+            Some(index) => {
+                let end = Event::Ended {
+                    seat: index as u64 + 1,
+                    at,
+                };
+                write_for(table, end, log, line)
+            }
+            None => Ok(()),
+        },
+    }
+}
+
+/// Writes the first line where the match of a table has begun that waited before.
+fn begin<W: Log>(
+    table: &HallTable,
+    waited: bool,
+    at: u64,
+    log: &mut W,
+    line: &mut Vec<u8>,
+) -> Result<(), WriteError>
+    ensures { OnOk result (Appends W.told log.old log.new
+        (first_for waited table.now.begun table.now.config at)) }
+{
+    if !waited {
+        return Ok(());
+    }
+    match table.begun() {
+        Some(_) => write_first(table.config(), at, log, line),
+        None => Ok(()),
+    }
+}
+
+/// A table hears something, whose match has this log: each event is written before the match handles it.
+#[tactic(auto, using(crate::proofs::Keeping::keeps_on))]
+pub(crate) fn hear_noted<W: Log>(
+    table: &mut HallTable,
+    input: TableInput<'_>,
+    log: &mut W,
+    line: &mut Vec<u8>,
+    out: &mut HallOut,
+    marks: &mut Vec<Mark>,
+) -> Result<(), WriteError>
+    ensures hears { OnOk result (HearsFor table.old (input_of input.entry) table.new out.old out.new) }
+    ensures keeps { OnOk result (HasLog W.told table.old log.old → HasLog W.told table.new log.new) }
+    ensures undone { undone out.new marks.new.items ≡ undone out.old marks.old.items }
+{
+    let waited = table.is_waiting();
+    note(*marks.allocator(), table, input, log, line)?;
+    table.hear(input, out, marks)?;
+    begin(table, waited, moment_of(input), log, line)
+}
