@@ -1,0 +1,19 @@
+-- The hall that is served is the new one, since a log changes nothing of it.
+use Rattle.std.proofs.Common.{sym, subst, ◌∙◌, rules}
+use Rattle.std.proofs.lemmas.List.{length-map}
+use Rattle.rbg_floor.specs.Openings.{IsNewHall, starts_of, start_of}
+use Rattle.rbg_hosting.proofs.serving.serve_hall.Goals as goal
+
+pub returns : goal.returns
+returns g c =
+    let starts = starts_of c.in_ok-tables.tables.items in
+    let made = subst (λ one. IsNewHall starts one c.in_ok-hall.out) (sym c.keep_logs.ensures) c.in_ok-hall.ensures.made in
+    let ended = c.in_ok-run_hall.ensures starts made in
+    let same = length-map c.in_ok-tables.tables.items start_of ∙ search rules in
+    record {
+      tables = starts;
+      are = c.in_ok-tables.ensures.tables;
+      state = c.run_hall.new.hall.state;
+      ended = ended;
+      printed_so = c.in_ok-records_of.ensures starts same ended;
+    }
