@@ -3,6 +3,7 @@ RT ?= rt
 PROGRAM := crates/rbg_manager
 AUTHOR := crates/rbg_author_main
 REFUSALS := crates/rbg_refusals
+CASES := crates/rbg_cases
 CRATES := $(wildcard crates/*)
 # The programs with a stored run, and the crates with tests. Stored runs with words of their own are the gate's, and so
 # is rbg_test_search, whose 2,000 games take too long where each step is checked.
@@ -104,10 +105,11 @@ compare:
 
 refusals:
 	@test -x $(RBG) || { echo 'make refusals needs $(RBG): run make build first, or give RBG=path'; exit 1; }
-	@cd $(REFUSALS) && printed=$$(mktemp) && $(RT) run < stdin > $$printed && diff stdout $$printed && rm $$printed
+	@for crate in $(REFUSALS) $(CASES); do \
+	  (cd $$crate && printed=$$(mktemp) && $(RT) run < stdin > $$printed && diff stdout $$printed && rm $$printed) || exit 1; done
 	@folder=$$(mktemp -d) && \
 	gcc -O2 -Wall -Wextra -shared -fPIC -o $$folder/refuse.so tools/refuse/refuse.c && \
-	python3 tools/refuse/refuse.py $$folder/refuse.so --rbg $(RBG) --refusals $(REFUSALS)/out/rbg_refusals --first $(FIRST) --spread $(SPREAD); \
+	python3 tools/refuse/refuse.py $$folder/refuse.so --rbg $(RBG) --refusals $(REFUSALS)/out/rbg_refusals --cases $(CASES)/out/rbg_cases --first $(FIRST) --spread $(SPREAD); \
 	status=$$?; rm -rf $$folder; exit $$status
 
 try: $(STORED:%=try-run-%) $(REFUSED:%=try-memory-%) $(TESTED:%=try-test-%)

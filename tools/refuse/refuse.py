@@ -69,6 +69,24 @@ stream that ends
 %00
 """
 
+# What is printed of it, with the seats whose streams end. Its connections and its output are in memory too, so where memory
+# was refused the port can't be listened on, another seat's stream ends, or nothing can be written.
+HALL_MATCHES = """match 1
+rbg 2
+players white black
+start 60000 0
+0 0 0 1
+0 E3 {}
+match 2
+rbg 2
+players white black
+start 60000 0
+0 0 0 1
+0 E3 {}
+status 0
+"""
+HALL_REFUSALS = ["memory\nstatus 4\n", "device\nstatus 3\n", "status 3\n", HALL_MATCHES.format(1, 2), HALL_MATCHES.format(2, 1)]
+
 # What rbg_refusals prints after the word `memory`, by the name of the run; `setup memory` alone may stand for all of it.
 AFTERWARDS = {
     "feed": ["the inbox is as before"],
@@ -113,6 +131,12 @@ def whole_programs(program, folder):
     for path in sorted((TOP / "crates" / "rbg_games" / "data").glob("*.rbg")):
         runs.append(Run(f"rbg check {path.name}", [program, "check", str(path)], "", memory))
     return runs
+
+
+def hall_run(program):
+    """The run of a hall as a case of rbg_cases."""
+    refusals = {(1, "memory\n")} | {(0, f"case a hall\n{text}") for text in HALL_REFUSALS}
+    return Run("rbg_cases hall", [program], HALL_CASE, refusals)
 
 
 class Refuser:
@@ -203,6 +227,7 @@ def main():
     parser.add_argument("allocator", help="the shared library of refuse.c")
     parser.add_argument("--rbg", help="the program rbg")
     parser.add_argument("--refusals", help="the program rbg_refusals")
+    parser.add_argument("--cases", help="the program rbg_cases")
     parser.add_argument("--first", type=int, default=5000, help="how many requests of a run are refused, from the first one on (5000)")
     parser.add_argument("--spread", type=int, default=100, help="how many of the later ones (100)")
     parser.add_argument("--only", default="", help="a part of the names of the runs that are tried")
@@ -211,6 +236,7 @@ def main():
         refuser = Refuser(os.path.abspath(given.allocator), folder)
         runs = words_runs(os.path.abspath(given.refusals)) if given.refusals else []
         runs += whole_programs(os.path.abspath(given.rbg), folder) if given.rbg else []
+        runs += [hall_run(os.path.abspath(given.cases))] if given.cases else []
         runs = [run for run in runs if given.only in run.name]
         faults = sum(try_run(refuser, run, pool, given.first, given.spread) for run in runs)
     for path in stored_outputs_with_memory():
