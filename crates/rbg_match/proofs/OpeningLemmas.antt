@@ -1,5 +1,5 @@
 -- What the parts of an opened match make.
-use Rattle.std.proofs.Common.{◌≡◌, ℕ, zero, suc, false, List, [], ◌∷◌, ◌++◌, replicate, refl, ap, ◌∙◌, subst}
+use Rattle.std.proofs.Common.{◌≡◌, ℕ, zero, suc, false, List, [], ◌∷◌, ◌++◌, length, replicate, refl, ap, sym, ◌∙◌, subst}
 use Rattle.rbg_wire.specs.Streams.{Stream, incomplete}
 use Rattle.rbg_rules.specs.State.{AbstractGame}
 use Rattle.rbg_match.specs.declared.config.Config.{Config}
@@ -11,7 +11,9 @@ use Rattle.rbg_match.specs.PlayingOn.{PlaysOn, seats_of}
 use Rattle.rbg_match.specs.Inputs.{Streams, counted_first, streams_at_start}
 use Rattle.rbg_match.specs.internal.Inboxes.{AreNew, rests_of}
 use Rattle.rbg_match.specs.Transcript.{greetings}
-use Rattle.rbg_match.specs.Matches.{Opens}
+use Rattle.rbg_match.specs.Matches.{MatchState, Opens}
+use Rattle.rbg_match.specs.internal.Opening.{match_begun, referee_at_start}
+use Rattle.rbg_match.specs.internal.Replies.{RefereeState, gone_on}
 use Rattle.rbg_match.proofs.Delivering.{delivered-append, delivered-queued}
 
 -- the rests of new inboxes
@@ -22,24 +24,32 @@ rests_of_replicate (suc seats) inbox = ap (λ rests. inbox.rest ∷ rests) (rest
 pub rests_of_new : (seats : ℕ) (inboxes : List Stream) → AreNew seats inboxes → rests_of inboxes ≡ replicate seats (incomplete [])
 rests_of_new seats inboxes new = ap rests_of new ∙ rests_of_replicate seats (record { limit = message_limit; items = []; rest = incomplete [] })
 
-pub opens_so : (game : AbstractGame) (text : List ℕ) (config : Config) (now at : ℕ) (seats : ℕ) (first opened : AbstractPlay) (inboxes : List Stream) (empty greeted outbox : List (List ℕ)) (greets opening : List Delivery) → IsWithinLimits config → at ≡ counted_first now → seats ≡ seats_of game → first ≡ play_at_start game at → PlaysOn game at 0 first opened opening → AreNew seats inboxes → empty ≡ replicate seats [] → greeted ≡ delivered empty greets → greets ≡ greetings text config game.players → outbox ≡ delivered greeted opening → Opens game text config now (record { game = game; config = config; began = at; play = opened; streams = record { moment = at; rests = rests_of inboxes }; failed = false }) outbox
-opens_so game text config now at seats first opened inboxes empty greeted outbox greets opening lawful moment same starts goes new nothing greeting told tells =
-    let streams : ◌≡◌ {A = Streams} (record { moment = at; rests = rests_of inboxes }) (streams_at_start (seats_of game) now) =
-    ap (λ rests. let s : Streams = record { moment = at; rests = rests } in s) (rests_of_new seats inboxes new)
-    ∙ ap (λ n. let s : Streams = record { moment = at; rests = replicate n (incomplete []) } in s) same
-    ∙ ap (λ moment. let s : Streams = record { moment = moment; rests = replicate (seats_of game) (incomplete []) } in s) moment in
-    let from_start : PlaysOn game at 0 (play_at_start game at) opened opening = subst (λ play. PlaysOn game at 0 play opened opening) starts goes in
+-- the referee of greeted seats plays on from the start, and begins a match
+pub opens_so : (game : AbstractGame) (text : List ℕ) (config : Config) (now at : ℕ) (first on : RefereeState) (play : AbstractPlay) (opening : List Delivery) (state : MatchState) (outbox : List (List ℕ)) → IsWithinLimits config → at ≡ counted_first now → first ≡ referee_at_start game text config at → on ≡ gone_on first play opening → PlaysOn first.game first.moment 0 first.play play opening → state ≡ match_begun on → outbox ≡ on.outbox → Opens game text config now state outbox
+opens_so game text config now at first on play opening state outbox lawful moment starts goes plays begun queue =
+    let seats = seats_of game in
+    let greets = greetings text config game.players in
+    let on_is : on ≡ gone_on (referee_at_start game text config at) play opening = goes ∙ ap (λ (one : RefereeState). gone_on one play opening) starts in
+    let state_is : state ≡ match_begun (gone_on (referee_at_start game text config at) play opening) = begun ∙ ap match_begun on_is in
+    let from_start : PlaysOn game at 0 (play_at_start game at) play opening = subst (λ (one : RefereeState). PlaysOn one.game one.moment 0 one.play play opening) starts plays in
+    let streams : ◌≡◌ {A = Streams} (record { moment = at; rests = replicate seats (incomplete []) }) (streams_at_start seats now) =
+    ap (λ (moment : ℕ). let s : Streams = record { moment = moment; rests = replicate seats (incomplete []) } in s) moment in
     record {
       lawful = lawful;
-      of_game = refl;
-      of_config = refl;
-      begins = moment;
-      works = refl;
-      streams = streams;
+      of_game = ap (λ (one : MatchState). one.game) state_is;
+      of_config = ap (λ (one : MatchState). one.config) state_is;
+      begins = ap (λ (one : MatchState). one.began) state_is ∙ moment;
+      works = ap (λ (one : MatchState). one.failed) state_is;
+      streams = ap (λ (one : MatchState). one.streams) state_is ∙ streams;
       opening = opening;
-      opens = subst (λ m. PlaysOn game m 0 (play_at_start game m) opened opening) moment from_start;
+      opens = subst (λ (one : AbstractPlay). PlaysOn game (counted_first now) 0 (play_at_start game (counted_first now)) one opening) (sym (ap (λ (one : MatchState). one.play) state_is)) (subst (λ (m : ℕ). PlaysOn game m 0 (play_at_start game m) play opening) moment from_start);
       told =
-          tells ∙ ap (λ box. delivered box opening) greeting ∙ delivered-append empty greets opening
-          ∙ ap (λ box. delivered box (greets ++ opening)) nothing ∙ delivered-queued seats (greets ++ opening)
-          ∙ ap (λ n. queued n (greets ++ opening)) same ∙ ap (λ one. queued (seats_of game) (one ++ opening)) told;
+          queue ∙ ap (λ (one : RefereeState). one.outbox) on_is ∙ delivered-append (replicate seats []) greets opening ∙ delivered-queued seats (greets ++ opening);
     }
+
+-- the match around a referee whose outbox was exchanged
+pub begun_so : (referee on : RefereeState) (seats began : ℕ) (inboxes : List Stream) (queues : List (List ℕ)) → on ≡ record referee { outbox = queues } → began ≡ on.moment → seats ≡ length referee.outbox → length referee.outbox ≡ seats_of referee.game → AreNew seats inboxes → ◌≡◌ {A = MatchState} (record { game = on.game; config = on.config; began = began; play = on.play; streams = record { moment = on.moment; rests = rests_of inboxes }; failed = false }) (match_begun referee)
+begun_so referee on seats began inboxes queues own same all many new =
+    rw (same, own)
+    (ap (λ rests. let state : MatchState = record { game = referee.game; config = referee.config; began = referee.moment; play = referee.play; streams = record { moment = referee.moment; rests = rests }; failed = false } in state)
+    (rests_of_new seats inboxes new ∙ ap (λ (n : ℕ). replicate n (incomplete [])) (all ∙ many)))

@@ -6,12 +6,13 @@ ghost use Rattle.rbg_match.specs.Inputs.{event_of, counted_first};
 ghost use Rattle.rbg_match.specs.Limits.{latest_moment};
 ghost use Rattle.rbg_match.specs.Matches.{Opens};
 ghost use Rattle.rbg_match.specs.PlayingOn.{seats_of};
+ghost use Rattle.rbg_match.specs.internal.Opening.{match_begun};
 
-use crate::opening::{greet, new_inboxes, start};
+use crate::opening::{new_inboxes, referee_at_start};
 use crate::state::Referee;
 use crate::{Config, Event, LATEST_MOMENT, Made, MatchError, Outbox};
 use rbg_base::Memory;
-use rbg_moves::{Listed, Over, Place, PlayedGame};
+use rbg_moves::{Listed, Over, Place};
 use rbg_rules::Game;
 use rbg_wire::{Inbox, Outcome};
 use std::alloc::Global;
@@ -258,25 +259,25 @@ fn open(
     ensures { IfOk result (λ made.
         (now : ℕ) → moment ≡ counted_first now → Opens game text.now config now made.0 made.1) }
 {
-    let seats = game.players();
-    let mut outbox = Outbox::new(alloc, seats)?;
-    greet(&game, text, config, &mut outbox)?;
-    let play = start(alloc, &game, moment)?;
-    let game = PlayedGame::new(alloc, game)?;
-    let mut referee = Referee {
-        game,
-        config,
-        moment,
-        play,
-        outbox,
-    };
+    let mut referee = referee_at_start(alloc, game, text, config, moment)?;
     referee.play_on()?;
+    let opened = begin(alloc, referee)?;
+    Ok(opened)
+}
+
+/// The match that a referee begins, and the referee's outbox.
+fn begin(alloc: Global, referee: Referee) -> Result<(Match, Outbox), Memory>
+    ensures state { IfOk result (λ made. made.0 ≡ match_begun referee) }
+    ensures outbox { IfOk result (λ made. made.1 ≡ referee.outbox) }
+{
+    let mut referee = referee;
+    let seats = referee.outbox.seats();
+    let inboxes = new_inboxes(alloc, seats)?;
     let mut outbox = Outbox::new(alloc, seats)?;
     referee.exchange(&mut outbox);
-    let inboxes = new_inboxes(alloc, seats)?;
     let opened = Match {
+        began: referee.moment,
         referee,
-        began: moment,
         inboxes,
         failed: false,
     };

@@ -1,6 +1,9 @@
 //! How a match opens: each seat is greeted, and play is set to its start.
 ghost use Rattle.std.specs.Prelude.{◌≡◌, ◌≢◌, ◌≤◌, length, All, IsTrue, IfOk};
 ghost use Rattle.rbg_base.specs.Names.{is_name};
+ghost use Rattle.rbg_game.specs.Loading.{Loads};
+ghost use Rattle.rbg_match.specs.Config.{IsWithinLimits};
+ghost use Rattle.rbg_match.specs.internal.Opening.{first_outbox, referee_at_start};
 ghost use Rattle.rbg_match.specs.Limits.{latest_moment};
 ghost use Rattle.rbg_match.specs.internal.Saying.{Says};
 ghost use Rattle.rbg_match.specs.Play.{play_at_start};
@@ -11,9 +14,10 @@ ghost use Rattle.rbg_match.specs.internal.Inboxes.{AreNew};
 ghost use Rattle.rbg_match.specs.Transcript.{greeting, greetings};
 
 use crate::play::Play;
+use crate::state::Referee;
 use crate::{Config, Outbox};
 use rbg_base::Memory;
-use rbg_moves::{Place, Workspace};
+use rbg_moves::{Place, PlayedGame, Workspace};
 use rbg_rules::Game;
 use rbg_wire::{Inbox, Message};
 use std::alloc::Global;
@@ -51,7 +55,7 @@ fn greet_seat(
 }
 
 /// Greets each seat.
-pub(crate) fn greet(
+fn greet(
     game: &Game,
     text: &[u8],
     config: Config,
@@ -70,8 +74,49 @@ pub(crate) fn greet(
     Ok(())
 }
 
+/// An outbox in which each seat is greeted.
+fn first_outbox(
+    alloc: Global,
+    game: &Game,
+    text: &[u8],
+    config: Config,
+) -> Result<Outbox, Memory>
+    requires names { All (λ name. IsTrue (is_name name)) game.now.players }
+    requires no_zero { All (λ byte. byte ≢ 0) text.now }
+    ensures { IfOk result (λ outbox. outbox ≡ first_outbox game.now text.now config) }
+{
+    let mut outbox = Outbox::new(alloc, game.players())?;
+    greet(game, text, config, &mut outbox)?;
+    Ok(outbox)
+}
+
+/// The referee of a match at the start of play, at a counted moment. Each seat is greeted.
+pub(crate) fn referee_at_start(
+    alloc: Global,
+    game: Game,
+    text: &[u8],
+    config: Config,
+    moment: u64,
+) -> Result<Referee, Memory>
+    requires loaded { Loads text.now game }
+    requires lawful { IsWithinLimits config }
+    requires counted { moment ≤ latest_moment }
+    ensures { IfOk result (λ referee. referee ≡ referee_at_start game text.now config moment) }
+{
+    let outbox = first_outbox(alloc, &game, text, config)?;
+    let play = start(alloc, &game, moment)?;
+    let game = PlayedGame::new(alloc, game)?;
+    Ok(Referee {
+        game,
+        config,
+        moment,
+        play,
+        outbox,
+    })
+}
+
 /// The state of play at the start of a match.
-pub(crate) fn start(alloc: Global, game: &Game, moment: u64) -> Result<Play, Memory>
+fn start(alloc: Global, game: &Game, moment: u64) -> Result<Play, Memory>
     requires { moment ≤ latest_moment }
     ensures play { IfOk result (λ play. play_of play ≡ play_at_start game.now moment) }
     ensures in_game { IfOk result (λ play. IsPlayOf game.now (play_of play)) }
