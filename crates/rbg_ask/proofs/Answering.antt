@@ -1,5 +1,5 @@
 -- What a session answers.
-use Rattle.std.proofs.Common.{◌≡◌, ℕ, ◌+◌, ◌-◌, ◌<◌, List, [], ◌∷◌, ◌++◌, length, drop, take, slice_get, Bool, true, false, Option, Some, None, Result, Ok, Err, refl, sym, ap, ◌∙◌, subst, append-nil, arith}
+use Rattle.std.proofs.Common.{◌≡◌, ℕ, ◌-◌, ◌<◌, List, [], ◌∷◌, ◌++◌, length, slice_get, Bool, true, false, Option, Some, None, Result, Ok, Err, refl, sym, ap, ◌∙◌, subst, append-nil, arith}
 use Rattle.std.specs.Prelude.{OnOk, IfErr}
 use Rattle.rbg_rules.specs.State.{AbstractGame}
 use Rattle.rbg_rules.specs.Moves.{AbstractPlace}
@@ -11,7 +11,7 @@ use Rattle.rbg_ask.specs.Questions.{SpellsQuestion}
 use Rattle.rbg_ask.specs.Answers.{Answer, moves, to_move, values, board, names, by_chance, farewell, answer_text, refusal_text}
 use Rattle.rbg_ask.specs.Chance.{AreTallied, Counted}
 use Rattle.rbg_ask.specs.Sessions.{AbstractSession, Leads}
-use Rattle.rbg_ask.specs.Answering.{AnswersIn, Answers, GoesBack, StandsAt, goes_on, lists, lists_all, makes, undoes, tells, tells_values, tells_board, tells_names, plays, ends, moved_to, undone, Hears, answered, refused_line, IsLineRefused, refused, IsRefused}
+use Rattle.rbg_ask.specs.Answering.{AnswersIn, GoesBack, StandsAt, goes_on, lists, lists_all, makes, undoes, tells, tells_values, tells_board, tells_names, plays, ends, moved_to, undone, Hears, answered, refused_line, IsLineRefused, refused, IsRefused}
 use Rattle.rbg_ask.specs.internal.Places.{AreReached}
 use Rattle.rbg_ask.proofs.Places.{led_before, not_finished, place_at}
 

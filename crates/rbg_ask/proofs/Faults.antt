@@ -1,6 +1,6 @@
 -- Why a move isn't made, and why it isn't told how play stands.
-use Rattle.std.proofs.Common.{◌≡◌, ℕ, ◌⊎◌, List, Result, Ok, Err, Option, Some, inl, inr, sym, subst, refl, length, take}
-use Rattle.std.specs.Prelude.{IfErr, IfSome, IsErrAnd}
+use Rattle.std.proofs.Common.{◌≡◌, ℕ, ◌⊎◌, List, Result, Ok, Err, Option, inl, inr, sym, subst, refl, length, take}
+use Rattle.std.specs.Prelude.{IfErr, IsErrAnd}
 use Rattle.rbg_rules.specs.State.{AbstractGame}
 use Rattle.rbg_rules.specs.Moves.{AbstractPlace, Legal, IsLegal, Finished}
 use Rattle.rbg_rules.specs.Questions.{list_moves}

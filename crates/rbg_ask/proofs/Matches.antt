@@ -1,11 +1,9 @@
 -- Matches that are played by chance, one move and one match after the other.
-use Rattle.std.proofs.Common.{◌≡◌, ◌≢◌, ℕ, suc, ◌+◌, ◌*◌, ◌-◌, ◌<◌, ◌≤◌, ◌⊎◌, List, [], ◌∷◌, ◌++◌, length, take, map, slice_get, get_or, set, Bool, true, false, Option, Some, None, Result, Ok, Err, inl, inr, refl, sym, ap, ◌∙◌, subst, arith}
-use Rattle.std.specs.Prelude.{All, AllPairs, Contains}
-use Rattle.std.specs.List.{sum_by}
+use Rattle.std.proofs.Common.{◌≡◌, ℕ, ◌+◌, ◌*◌, ◌<◌, ◌≤◌, ◌⊎◌, List, [], ◌∷◌, ◌++◌, length, take, slice_get, Bool, true, false, Option, Some, None, Result, Err, inl, inr, refl, sym, ap, ◌∙◌, subst, arith}
+use Rattle.std.specs.Prelude.{All, Contains}
 use Rattle.std.proofs.lemmas.Option.{slice_get_within, get_or_from_slice_get}
 use Rattle.std.proofs.lemmas.List.{length-append}
-use Rattle.std.proofs.lemmas.List.Elements.{All-append, All-cons, All-head, All-map, All-nil, All-tail}
-use Rattle.std.proofs.lemmas.List.Kept.{AllPairs-cons}
+use Rattle.std.proofs.lemmas.List.Elements.{All-head, All-tail}
 use Rattle.std.proofs.lemmas.List.Sums.{sum_by-append}
 use Rattle.rbg_rules.specs.State.{AbstractGame}
 use Rattle.rbg_rules.specs.Moves.{AbstractPlace, Legal, IsLegal, Finished}
@@ -13,16 +11,12 @@ use Rattle.rbg_rules.specs.Questions.{list_moves}
 use Rattle.rbg_rules.specs.Heavy.{IsTooHard}
 use Rattle.rbg_search.specs.declared.over.Over.{Over as AnyOver}
 use Rattle.rbg_search.specs.declared.over.Over.TheVariants.{Deep, Wide, Memory as OverMemory}
-use Rattle.rbg_search.proofs.Counts.{all_pairs_append}
 use Rattle.rbg_moves.specs.Listing.{IsGathered}
 use Rattle.rbg_moves.specs.Settling.{IsEndless, MeetsHeavy, Settles}
 use Rattle.rbg_moves.specs.declared.unsettled.Unsettled.{Unsettled}
 use Rattle.rbg_moves.specs.declared.unsettled.Unsettled.TheVariants as unsettled
 use Rattle.rbg_ask.specs.declared.refusal.Refusal.{Refusal}
-use Rattle.rbg_ask.specs.declared.tally.Tally.{Tally}
-use Rattle.rbg_ask.specs.Chance.{Plays, no_move, one_more, Ends, is_over, is_stopped, Counted, counted_by, scores_of, AreMatches, AreTallied, moves_in, IsUnmoved, heavy_to_list, heavy_to_settle, endless, no_memory, IsUnplayed}
-use Rattle.rbg_ask.specs.Sessions.{Leads}
-use Rattle.rbg_ask.specs.internal.Counting.{CountsIn, again, first, IsTallyAt}
+use Rattle.rbg_ask.specs.Chance.{Plays, no_move, one_more, Ends, is_over, is_stopped, moves_in, IsUnmoved, heavy_to_list, heavy_to_settle, endless, no_memory, IsUnplayed}
 use Rattle.rbg_ask.specs.internal.Moving.{MovesOn, moved, rests, IsPlayedTo}
 use Rattle.rbg_ask.specs.internal.Refusing.{refusal_of_over, refusal_of_unsettled}
 

@@ -1,5 +1,5 @@
 -- What the calls find that read a question, and what they leave out.
-use Rattle.std.proofs.Common.{◌≡◌, ℕ, ◌≤◌, Some, None, IfNone, Result, Ok, Err, IfOk, List, ◌++◌, length, decimal, codes, ap, sym, ◌∙◌, subst, Option, append_assoc, ◌∷◌}
+use Rattle.std.proofs.Common.{◌≡◌, ℕ, ◌≤◌, Some, None, IfNone, Result, Ok, List, ◌++◌, length, decimal, codes, ap, sym, ◌∙◌, Option, append_assoc, ◌∷◌}
 use Rattle.std.specs.Result.{result_ok}
 use Rattle.rbg_wire.specs.declared.error.WireError.{WireError}
 use Rattle.rbg_wire.specs.Messages.{ArePairs, pairs_text}

@@ -1,5 +1,5 @@
 -- Questions. Each has one spelling.
-use Rattle.std.specs.Prelude.{◌≡◌, ℕ, ◌<◌, ◌≤◌, ◌^◌, List, [], ◌++◌, length, Option, Some, None, codes, decimal}
+use Rattle.std.specs.Prelude.{◌≡◌, ℕ, ◌≤◌, List, ◌++◌, length, Some, None, codes, decimal}
 use Rattle.rbg_base.specs.Move.{most_pairs}
 use Rattle.rbg_wire.specs.Messages.{ArePairs, pairs_text}
 use Rattle.rbg_ask.specs.declared.question.Question.{Question}

@@ -1,5 +1,5 @@
 -- A session: the places that play has reached.
-use Rattle.std.specs.Prelude.{◌≡◌, ℕ, List, [], ◌∷◌, ◌++◌, None}
+use Rattle.std.specs.Prelude.{ℕ, List, [], ◌∷◌, ◌++◌, None}
 use Rattle.rbg_rules.specs.State.{AbstractGame, start_of}
 use Rattle.rbg_rules.specs.Moves.{AbstractPlace, Legal}
 use Rattle.rbg_moves.specs.Settling.{Settles}

@@ -5,7 +5,7 @@ use Rattle.rbg_rules.specs.State.{AbstractGame}
 use Rattle.rbg_match.specs.declared.config.Config.{Config}
 use Rattle.rbg_match.specs.Config.{IsWithinLimits}
 use Rattle.rbg_match.specs.Limits.{message_limit}
-use Rattle.rbg_match.specs.Deliveries.{Delivery, delivered, queued}
+use Rattle.rbg_match.specs.Deliveries.{Delivery}
 use Rattle.rbg_match.specs.Play.{AbstractPlay, play_at_start}
 use Rattle.rbg_match.specs.PlayingOn.{PlaysOn, seats_of}
 use Rattle.rbg_match.specs.Inputs.{Streams, counted_first, streams_at_start}

@@ -55,12 +55,7 @@ fn greet_seat(
 }
 
 /// Greets each seat.
-fn greet(
-    game: &Game,
-    text: &[u8],
-    config: Config,
-    outbox: &mut Outbox,
-) -> Result<(), Memory>
+fn greet(game: &Game, text: &[u8], config: Config, outbox: &mut Outbox) -> Result<(), Memory>
     requires seats { length outbox.old ≡ seats_of game.now }
     requires names { All (λ name. IsTrue (is_name name)) game.now.players }
     requires no_zero { All (λ byte. byte ≢ 0) text.now }
@@ -75,12 +70,7 @@ fn greet(
 }
 
 /// An outbox in which each seat is greeted.
-fn first_outbox(
-    alloc: Global,
-    game: &Game,
-    text: &[u8],
-    config: Config,
-) -> Result<Outbox, Memory>
+fn first_outbox(alloc: Global, game: &Game, text: &[u8], config: Config) -> Result<Outbox, Memory>
     requires names { All (λ name. IsTrue (is_name name)) game.now.players }
     requires no_zero { All (λ byte. byte ≢ 0) text.now }
     ensures { IfOk result (λ outbox. outbox ≡ first_outbox game.now text.now config) }

@@ -1,5 +1,5 @@
 -- What holds of the places of each session.
-use Rattle.std.specs.Prelude.{◌≡◌, ℕ, List, All, ◌⊎◌, ◌∷◌, ◌++◌}
+use Rattle.std.specs.Prelude.{ℕ, List, All}
 use Rattle.rbg_rules.specs.State.{AbstractGame}
 use Rattle.rbg_rules.specs.Moves.{AbstractPlace, Legal}
 use Rattle.rbg_rules.specs.Places.{IsPlaceOf}
@@ -7,7 +7,7 @@ use Rattle.rbg_rules.specs.Heavy.{IsHeavyToFind, IsHeavyToTry}
 use Rattle.rbg_moves.specs.Settling.{IsEndless, MeetsHeavy}
 use Rattle.rbg_ask.specs.declared.refusal.Refusal.{Refusal}
 use Rattle.rbg_ask.specs.declared.refusal.Refusal.TheVariants.{Illegal, Over, Keeper, Memory}
-use Rattle.rbg_ask.specs.Sessions.{Leads, HasLedTo}
+use Rattle.rbg_ask.specs.Sessions.{HasLedTo}
 
 -- The places are of the game, and play has led through them.
 pub record AreReached (game : AbstractGame) (before : List AbstractPlace) (place : AbstractPlace) : Type 0 where

@@ -1,5 +1,5 @@
 -- What a match keeps of the state of play and of its streams.
-use Rattle.std.specs.Prelude.{◌≡◌, ℕ, ◌≤◌, List, length, None, Bool, false, All}
+use Rattle.std.specs.Prelude.{◌≡◌, ◌≤◌, List, length, None, Bool, false, All}
 use Rattle.rbg_rules.specs.State.{AbstractGame}
 use Rattle.rbg_wire.specs.Streams.{Stream}
 use Rattle.rbg_match.specs.Limits.{latest_moment, most_refusals}

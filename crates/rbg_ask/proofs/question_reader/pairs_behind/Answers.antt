@@ -1,5 +1,5 @@
 -- The pairs are what stands behind the word.
-use Rattle.rbg_ask.proofs.Reading.{behind_word, none_read}
+use Rattle.rbg_ask.proofs.Reading.{none_read}
 use Rattle.rbg_ask.proofs.question_reader.pairs_behind.Goals as goal
 
 pub returns-clause-none : goal.returns-clause-none

@@ -1,4 +1,3 @@
-use Rattle.std.proofs.Common.{refl}
 use Rattle.rbg_match.proofs.Replying.{replies_saying, refuses_saying, still_referee, moved_in_game}
 use Rattle.rbg_match.proofs.state.Referee.make.Goals as goal
 
