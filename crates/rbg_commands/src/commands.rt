@@ -41,7 +41,9 @@ fn check_command<'a>(alloc: Global) -> Result<Command<'a>, AllocError> {
 }
 
 fn moves_command<'a>(alloc: Global) -> Result<Command<'a>, AllocError> {
-    let record = Arg::new(alloc, "RECORD").help("A record: the legal moves after its moves are printed");
+    let record = Arg::new(alloc, "RECORD").help(
+        "A record: the legal moves after its moves are printed",
+    );
     Command::new(alloc, "moves")
         .about(
             "Prints the moves of the game's opening, and then the legal moves of the player to move",
