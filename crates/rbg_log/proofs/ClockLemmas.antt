@@ -1,9 +1,8 @@
 -- A clock that goes on from a moment, and what logs take.
-use Rattle.std.proofs.Common.{◌≡◌, ℕ, List, [], ◌∷◌, ◌++◌, map, Option, Some, None, sym, ap, ◌∙◌, subst, append-nil}
-use Rattle.std.specs.Prelude.{IfSome}
+use Rattle.std.proofs.Common.{◌≡◌, ℕ, List, [], ◌∷◌, ◌++◌, sym, ◌∙◌, subst, append-nil}
 use Rattle.std.proofs.lemmas.List.{map-append}
 use Rattle.rbg_log.specs.Clocks.{TellsLater, later_by}
-use Rattle.rbg_log.specs.Logs.{Appends, AppendsFront}
+use Rattle.rbg_log.specs.Logs.{AppendsFront}
 
 pub tells_more : {C : Type 0} (told : C → List ℕ → Type 0) (old new : C) (since at result : ℕ) (so_far : List ℕ) → ((inner : List ℕ) → told old inner → told new (inner ++ at ∷ [])) → result ≡ later_by since at → TellsLater told old since so_far → TellsLater told new since (so_far ++ result ∷ [])
 tells_more told old new since at result so_far more is tells = record {

@@ -1,5 +1,5 @@
 -- The log of a match through a call.
-use Rattle.std.proofs.Common.{◌≡◌, ◌⊎◌, inl, inr, ℕ, ◌<◌, ◌≤◌, ◌^◌, List, [], ◌∷◌, ◌++◌, length, map, take, replicate, All, Result, Ok, Err, refl, sym, ap, ◌∙◌, subst, arith, append-nil, append_assoc}
+use Rattle.std.proofs.Common.{◌≡◌, ◌⊎◌, inl, inr, ℕ, ◌<◌, ◌^◌, List, [], ◌∷◌, ◌++◌, length, map, take, replicate, All, Result, Ok, Err, refl, sym, ap, ◌∙◌, subst, arith, append-nil}
 use Rattle.std.specs.Prelude.{OnOk, OnErr}
 use Rattle.std.proofs.lemmas.List.{map-append, take_all, length-replicate}
 use Rattle.std.proofs.lemmas.List.Elements.{All-nil, All-append}
@@ -16,8 +16,8 @@ use Rattle.rbg_match.proofs.Delivering.{delivered-queued, length-delivered}
 use Rattle.rbg_match.proofs.WholeMatch.{stepped_is_transcript}
 use Rattle.rbg_refereeing.specs.Scripts.{config_for, event_for}
 use Rattle.rbg_script.specs.Config.{ConfigHasSpelling, config_text}
-use Rattle.rbg_script.specs.Events.{AbstractEvent as ScriptedEvent, EventHasSpelling, event_text}
-use Rattle.rbg_script.specs.Scripts.{AbstractScript, ScriptHasSpelling, SpellsScript, script_text}
+use Rattle.rbg_script.specs.Events.{EventHasSpelling, event_text}
+use Rattle.rbg_script.specs.Scripts.{AbstractScript, ScriptHasSpelling, script_text}
 use Rattle.rbg_script.proofs.Lacking.{written_read}
 use Rattle.rbg_wire.specs.Lines.{line_of, lines_of}
 use Rattle.rbg_serving.specs.declared.served.Served.{Served}
@@ -30,8 +30,8 @@ use Rattle.rbg_serving.specs.Serving.{ServesOver, EndsServing, LacksMemory}
 use Rattle.rbg_serving.specs.Told.{Told}
 use Rattle.rbg_log.specs.declared.logged.LoggedMatch.{LoggedMatch}
 use Rattle.rbg_log.specs.Logs.{Appends, IsLog, Logs, LogsPart, event_lines, first_line, scripted}
-use Rattle.rbg_log.specs.Serving.{IsOverAt, IsPartOfLine, IsTimed, LeavesLog, LogLacks, LogSteps, of_log}
-use Rattle.rbg_log.specs.Written.{Replays, written}
+use Rattle.rbg_log.specs.Serving.{IsOverAt, IsTimed, LeavesLog, LogLacks, LogSteps, of_log}
+use Rattle.rbg_log.specs.Written.{written}
 use Rattle.rbg_log.proofs.Replaying.{Stands, stands_on, stands_at_start, first_moment_small}
 
 -- an event is that of its script's event

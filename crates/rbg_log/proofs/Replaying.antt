@@ -1,5 +1,5 @@
 -- The events that are written lead a match to where all events do.
-use Rattle.std.proofs.Common.{◌≡◌, ℕ, ◌+◌, ◌<◌, ◌≤◌, true, false, Bool, List, [], ◌∷◌, ◌++◌, map, is_some, Option, Some, None, refl, sym, ap, ◌∙◌, subst, arith, append-nil}
+use Rattle.std.proofs.Common.{◌≡◌, ℕ, ◌<◌, ◌≤◌, true, false, Bool, List, [], ◌∷◌, ◌++◌, is_some, Option, Some, None, refl, sym, ap, ◌∙◌, subst, arith, append-nil}
 use Rattle.std.specs.Prelude.{max, min, if◌then◌else◌}
 use Rattle.std.proofs.lemmas.Bool.{ltb-true, false≢true}
 use Rattle.std.proofs.lemmas.Option.{none-some}
@@ -10,7 +10,7 @@ use Rattle.rbg_match.specs.declared.config.Config.{Config}
 use Rattle.rbg_match.specs.Deliveries.{Delivery, delivered}
 use Rattle.rbg_match.specs.Handling.{AbstractInput, tick, HandlesInTime, Handles}
 use Rattle.rbg_match.specs.Handling as handling
-use Rattle.rbg_match.specs.Inputs.{AbstractEvent, piece, end_of_stream, moment_alone, TimedInput, Streams, counted, moment_of, inputs_in, inputs_at, rests_after, streams_after, timed_inputs_in}
+use Rattle.rbg_match.specs.Inputs.{AbstractEvent, piece, end_of_stream, moment_alone, Streams, counted, moment_of, inputs_in, inputs_at, rests_after, streams_after, timed_inputs_in}
 use Rattle.rbg_match.specs.Limits.{latest_moment}
 use Rattle.rbg_match.specs.Matches.{MatchState, Opens, Steps, StepsAll}
 use Rattle.rbg_match.specs.Matches as matches

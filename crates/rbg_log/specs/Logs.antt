@@ -1,5 +1,5 @@
 -- What the log of a match holds.
-use Rattle.std.specs.Prelude.{◌≡◌, ◌≤◌, ℕ, List, [], ◌∷◌, ◌++◌, All, map, take, Result}
+use Rattle.std.specs.Prelude.{◌≡◌, ◌≤◌, ℕ, List, ◌++◌, All, map, take}
 use Rattle.rbg_match.specs.declared.config.Config.{Config}
 use Rattle.rbg_match.specs.Inputs.{AbstractEvent, piece, end_of_stream, moment_alone}
 use Rattle.rbg_match.specs.Limits.{latest_moment}
@@ -13,7 +13,7 @@ use Rattle.rbg_script.specs.declared.event.ScriptEvent.{ScriptEvent}
 use Rattle.rbg_script.specs.Events.{AbstractEvent as ScriptedEvent, event_of, piece_event, end_event, tick_event, EventHasSpelling, event_text}
 use Rattle.rbg_script.specs.Scripts.{AbstractScript, ScriptHasSpelling, SpellsScript, script_text}
 use Rattle.rbg_wire.specs.Lines.{line_of, lines_of}
-use Rattle.rbg_log.specs.Written.{Replays, written}
+use Rattle.rbg_log.specs.Written.{Replays}
 
 -- the event of a script: the same seat, moment and bytes
 abbrev pub scripted : AbstractEvent → ScriptedEvent

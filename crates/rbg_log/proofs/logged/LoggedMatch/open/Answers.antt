@@ -1,5 +1,5 @@
 -- The log begins with its first line.
-use Rattle.std.proofs.Common.{◌<◌, ◌^◌, ℕ, rules}
+use Rattle.std.proofs.Common.{◌<◌, ◌^◌, rules}
 use Rattle.rbg_log.proofs.Logging.{opened_so}
 use Rattle.rbg_log.proofs.logged.LoggedMatch.open.Goals as goal
 
