@@ -22,7 +22,7 @@ use Rattle.rbg_serving.specs.Told.{Told, TellEach, nothing_told}
 use Rattle.rbg_serving.specs.declared.served.Served.{Served}
 use Rattle.rbg_hosting.specs.Records.{match_line, IsPrintedMatch, ArePrintedMatches, HasEnded}
 use Rattle.rbg_hosting.specs.Records.IsPrintedMatch.{not_begun, begun}
-use Rattle.rbg_hosting.specs.Records.ArePrintedMatches.{no_table, one_more}
+use Rattle.rbg_hosting.specs.Records.ArePrintedMatches.{one_more}
 use Rattle.rbg_hosting.specs.internal.Writing.{AppendsMatch}
 
 -- what a line may have told that keeps no record, where its failures are counted

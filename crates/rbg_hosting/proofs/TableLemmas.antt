@@ -1,5 +1,5 @@
 -- Lemmas on the tables of descriptions.
-use Rattle.std.proofs.Common.{◌≡◌, ℕ, ◌+◌, ◌<◌, List, [], ◌∷◌, ◌++◌, All, length, map, take, drop, get_or, ap, sym, ◌∙◌, refl, subst, arith}
+use Rattle.std.proofs.Common.{◌≡◌, ℕ, ◌+◌, ◌<◌, List, [], ◌∷◌, ◌++◌, All, length, take, drop, get_or, ap, sym, ◌∙◌, refl, subst}
 use Rattle.std.specs.Global.{Vec}
 use Rattle.std.proofs.lemmas.List.{length-append, map-append, take-append-drop, take_more, drop_more}
 use Rattle.std.proofs.lemmas.List.Elements.{All-nil, All-push}
@@ -10,7 +10,7 @@ use Rattle.rbg_game.specs.Loading.{Loads}
 use Rattle.rbg_match.specs.declared.config.Config.{Config}
 use Rattle.rbg_hosting.specs.declared.error.HostingError.{HostingError}
 use Rattle.rbg_hosting.specs.declared.error.HostingError.TheVariants.{Tables, Load, Script, Memory}
-use Rattle.rbg_hosting.specs.Tables.{texts_of, IsGames, IsTableOf, AreTablesOf, HasRefused}
+use Rattle.rbg_hosting.specs.Tables.{texts_of, IsGames, IsTableOf, AreTablesOf}
 use Rattle.rbg_hosting.specs.Tables.AreTablesOf.{no_table, one_more}
 use Rattle.rbg_hosting.specs.internal.Loading.{IsNotTable, IsNotLoaded}
 

@@ -1,9 +1,8 @@
 -- A table keeps the log of its match.
-use Rattle.std.proofs.Common.{◌≡◌, ℕ, Bor, ◌+◌, ◌<◌, ◌^◌, Bool, true, false, List, [], ◌∷◌, ◌++◌, All, map, Option, Some, None, is_none, refl, sym, ap, ◌∙◌, subst, append-nil, replicate}
-use Rattle.std.specs.Prelude.{slice_get, slice_set, option_copied, IfSome, OnOk, Result, Ok, Err}
+use Rattle.std.proofs.Common.{◌≡◌, ℕ, Bor, ◌+◌, ◌<◌, ◌^◌, Bool, List, [], ◌∷◌, ◌++◌, All, map, Option, Some, None, is_none, refl, sym, ap, subst, append-nil}
+use Rattle.std.specs.Prelude.{slice_set, option_copied, IfSome, OnOk, Result, Ok, Err}
 use Rattle.std.proofs.lemmas.List.Elements.{All-nil}
 use Rattle.std.proofs.lemmas.Option.{none-some}
-use Rattle.rbg_game.specs.Loading.{Loads}
 use Rattle.rbg_rules.specs.State.{AbstractGame}
 use Rattle.rbg_match.specs.declared.config.Config.{Config}
 use Rattle.rbg_match.specs.Deliveries.{delivered}
@@ -19,7 +18,7 @@ use Rattle.rbg_hall.specs.Tables.{TableState, OwnEvent, Plays, Hears, waits, tic
 use Rattle.rbg_hall.specs.Tellings.{Telling}
 use Rattle.rbg_hall.proofs.Holding.{step_on}
 use Rattle.rbg_hall.proofs.Seats.{SeatsDiffer, no_seats, one_differ}
-use Rattle.rbg_log.specs.Logs.{Appends, IsLog, Logs, event_lines, first_line, scripted}
+use Rattle.rbg_log.specs.Logs.{Appends, Logs, event_lines, first_line, scripted}
 use Rattle.rbg_log.specs.Written.{written}
 use Rattle.rbg_log.proofs.Logging.{log_begins, log_on}
 use Rattle.rbg_ledger.specs.Ledgers.{HasLog, IsLogged, IsLoggedSo, IsNewTable, IsNoted, IsNotedIn, handed, nothing, first_for, heard_at, if_kept, written_for, WritesFor}
