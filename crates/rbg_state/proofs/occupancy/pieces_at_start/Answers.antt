@@ -1,8 +1,7 @@
-use Rattle.std.proofs.Common.{◌≡◌, ◌<◌, length, replicate, arith, rules}
+use Rattle.std.proofs.Common.{◌<◌, length, arith}
 use Rattle.std.proofs.lemmas.List.{take_more}
 use Rattle.std.proofs.lemmas.Option.{get_or_from_slice_get}
-use Rattle.rbg_state.proofs.Tallies.{no_vertex}
-use Rattle.rbg_state.proofs.occupancy.Occupancy.start.Goals as goal
+use Rattle.rbg_state.proofs.occupancy.pieces_at_start.Goals as goal
 
 pub loop-vertex-preserved : goal.loop-vertex-preserved
 loop-vertex-preserved c =
@@ -14,9 +13,3 @@ loop-vertex-preserved c =
     let pushed = c.in_ok-push.ensures in
     let before = c.loop-vertex.invariant in
     cc
-
-pub invariant_of-occupancy : goal.invariant_of-occupancy
-invariant_of-occupancy c =
-    let counts = c.in_ok-vec.field-0.items in
-    let zeros : counts ≡ replicate c.args.kinds 0 = c.in_ok-vec.ensures.items_if_clones_equal (λ y same. search rules) in
-    no_vertex c.in_ok-with_capacity.field-0.items counts c.args.kinds c.in_ok-with_capacity.ensures.items zeros

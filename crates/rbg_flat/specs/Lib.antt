@@ -1,0 +1,4 @@
+-- What is found from one place with no modifier before it.
+pub mod Candidates
+pub mod Chains
+pub mod internal

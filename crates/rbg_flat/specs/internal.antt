@@ -1,0 +1,5 @@
+-- Definitions that the crate's own proofs use.
+pub mod Sets
+pub mod Begun
+pub mod Shown
+pub mod Leading

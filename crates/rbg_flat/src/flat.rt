@@ -1,0 +1,283 @@
+//! A flat part that is being found, by sets of vertices.
+ghost use Rattle.std.specs.Prelude.{◌≡◌, ℕ, ◌<◌, ◌≤◌, ◌↔◌, ◌/◌, ◌%◌, Contains, length, slice_index, IfOk, IfSome, IfNone, IsTrue, false};
+ghost use Rattle.std.specs.Int.{bit_at};
+ghost use Rattle.rbg_rules.specs.Games.{IsGame};
+ghost use Rattle.rbg_rules.specs.Laws.{IsStart};
+ghost use Rattle.rbg_rules.specs.Positions.{IsModifierAt, IsNumbered, IsPatternAt, positions_of};
+ghost use Rattle.rbg_rules.specs.State.{AbstractGame, AbstractState, IsStateOf};
+ghost use Rattle.rbg_rules.specs.Words.{Start};
+ghost use Rattle.rbg_leaps.specs.Leaps.{IsLeap, EndsAcross};
+ghost use Rattle.rbg_leaps.specs.Made.{AreLeapsOf};
+ghost use Rattle.rbg_leaps.specs.Origin.{start_of};
+ghost use Rattle.rbg_flat.specs.Candidates.{IsCandidate, MayEnd};
+ghost use Rattle.rbg_flat.specs.Chains.{Holds, IsMet};
+ghost use Rattle.rbg_flat.specs.internal.Begun.{IsBegun};
+ghost use Rattle.rbg_flat.specs.internal.Sets.{Meets, IsMarked, IsOpen, weight};
+ghost use Rattle.rbg_flat.specs.internal.Leading.{AreSizedFor, AreOn, LearnsEnd};
+
+use crate::leading::meet_targets;
+use crate::sets::Sets;
+use rbg_base::{Memory, Position, Vertex};
+use rbg_leaps::{Leaps, Origin};
+use rbg_rules::Game;
+use rbg_state::{SemiState, Trial};
+use std::alloc::Global;
+
+/// A flat part that is being found: what may come next from one place with no modifier before it.
+#[derive(Debug, Drop)]
+pub struct Flat {
+    sets: Sets,
+    /// Whether a word may end with no modifier more.
+    ends: bool,
+}
+
+impl Flat {
+    /// A flat part of a game, not begun.
+    pub fn new(alloc: Global, game: &Game) -> Result<Flat, Memory>
+        ensures { IfOk result (λ flat. AreSizedFor game.now flat.sets) }
+    {
+        let columns = (game.board().len() + 63) / 64;
+        Ok(Flat {
+            sets: Sets::new(alloc, game.positions() + 1, columns)?,
+            ends: false,
+        })
+    }
+
+    /// Begins anew, at a place in the rules and a vertex.
+    pub fn begin(&mut self, game: &Game, leaps: &Leaps, origin: Origin, vertex: Vertex)
+        requires lawful { IsGame game.now }
+        requires leaps { AreLeapsOf game.now leaps.now }
+        requires sized { AreSizedFor game.now self.old.sets }
+        requires vertex { vertex < length game.now.board.first }
+        requires stands { IsStart game.now.rules (start_of origin) }
+        ensures sized { AreSizedFor game.now self.new.sets }
+        ensures begun { (s : AbstractState) → s.vertex ≡ vertex
+            → IsBegun game.now s (start_of origin) (IsMarked self.new.sets) (IsOpen self.new.sets)
+            self.new.ends }
+        ensures on { AreOn game.now self.new.sets }
+    {
+        self.sets.clear();
+        self.ends = false;
+        self.lead(game, leaps, origin, vertex);
+    }
+
+    /// Goes on up to the next vertex that is to be asked about a pattern, and returns it with the pattern's position;
+    /// none where nothing is left to be looked at. Each turn takes one bit, or one position off those that wait.
+    pub fn advance(
+        &mut self,
+        game: &Game,
+        leaps: &Leaps,
+        state: &SemiState,
+    ) -> Option<(Vertex, Position)>
+        requires lawful { IsGame game.now }
+        requires leaps { AreLeapsOf game.now leaps.now }
+        requires fits { IsStateOf game.now state.now.state }
+        requires sized { AreSizedFor game.now self.old.sets }
+        requires on { AreOn game.now self.old.sets }
+        ensures sized { AreSizedFor game.now self.new.sets }
+        ensures on { AreOn game.now self.new.sets }
+        ensures begun { (f : Start)
+            → IsBegun game.now state.now.state f (IsMarked self.old.sets) (IsOpen self.old.sets)
+            self.old.ends
+            → IsBegun game.now state.now.state f (IsMarked self.new.sets) (IsOpen self.new.sets)
+            self.new.ends }
+        ensures asked { IfSome result (λ pair. IsOpen self.new.sets pair.0 pair.1
+            × IsPatternAt game.now.rules pair.1) }
+        ensures done { IfNone result ((v p : ℕ) → ¬ IsOpen self.new.sets v p) }
+    {
+        while let Some(position) = self.sets.waiting() {
+            match self.sets.first_open(position) {
+                None => self.sets.wait_no_more(position),
+                Some(vertex) => {
+                    if !self.try_one(game, leaps, state, position, vertex) {
+                        return Some((vertex, position));
+                    }
+                }
+            }
+        }
+        None
+    }
+
+    /// Takes a vertex that was asked about the pattern at a position, which is valid there or isn't.
+    pub fn take(
+        &mut self,
+        game: &Game,
+        leaps: &Leaps,
+        vertex: Vertex,
+        position: Position,
+        valid: bool,
+    )
+        requires lawful { IsGame game.now }
+        requires leaps { AreLeapsOf game.now leaps.now }
+        requires sized { AreSizedFor game.now self.old.sets }
+        requires vertex { vertex < length game.now.board.first }
+        requires from_one { 0 < position }
+        requires there { position ≤ length (positions_of game.now.rules) }
+        requires marked { IsMarked self.old.sets vertex position }
+        ensures sized { AreSizedFor game.now self.new.sets }
+        ensures on { AreOn game.now self.old.sets → AreOn game.now self.new.sets }
+        ensures begun { (s : AbstractState) (f : Start)
+            → IsTrue valid ↔ Holds game.now s vertex position
+            → IsBegun game.now s f (IsMarked self.old.sets) (IsOpen self.old.sets) self.old.ends
+            → IsBegun game.now s f (IsMarked self.new.sets) (IsOpen self.new.sets) self.new.ends }
+        ensures less { IsOpen self.old.sets vertex position
+            → weight self.new.sets < weight self.old.sets }
+    {
+        if valid {
+            self.lead_on(game, leaps, position, vertex);
+        } else {
+            self.drop_one(game, position, vertex);
+        }
+    }
+
+    /// Whether a word may end with no modifier more, once nothing is left to be looked at.
+    pub fn ends(&self) -> bool
+        ensures { (game : AbstractGame) (s : AbstractState) (f : Start) → IsNumbered game.rules
+            → IsBegun game s f (IsMarked self.now.sets) (IsOpen self.now.sets) self.now.ends
+            → ((v p : ℕ) → ¬ IsOpen self.now.sets v p) → IsTrue result ↔ MayEnd game s f }
+    {
+        self.ends
+    }
+
+    /// The positions that may come next, each once, and maybe others.
+    pub fn positions(&self) -> &[Position]
+        ensures { (v p : ℕ) → IsMarked self.now.sets v p → Contains result.now p }
+    {
+        self.sets.touched()
+    }
+
+    /// The row of a position: the vertices at which it may come next, once nothing is left to be looked at.
+    pub fn row(&self, position: Position) -> &[u64]
+        requires { position < self.now.sets.size }
+        ensures { (game : AbstractGame) (s : AbstractState) (f : Start) → IsNumbered game.rules
+            → IsBegun game s f (IsMarked self.now.sets) (IsOpen self.now.sets) self.now.ends
+            → ((v p : ℕ) → ¬ IsOpen self.now.sets v p) → (v : ℕ)
+            → (bit_at (slice_index result.now (v / 64)) (v % 64) ≡ 1)
+            ↔ IsCandidate game s f v position }
+    {
+        self.sets.row(position)
+    }
+
+    /// Leads on from a place in the rules and a vertex: meets where leaps lead from there.
+    #[inline(always)]
+    fn lead(&mut self, game: &Game, leaps: &Leaps, origin: Origin, vertex: Vertex)
+        requires lawful { IsGame game.now }
+        requires leaps { AreLeapsOf game.now leaps.now }
+        requires sized { AreSizedFor game.now self.old.sets }
+        requires vertex { vertex < length game.now.board.first }
+        requires stands { IsStart game.now.rules (start_of origin) }
+        ensures met { Meets self.old.sets self.new.sets
+            (λ v p. IsLeap game.now (start_of origin) vertex p v)
+            (λ p. ¬ IsModifierAt game.now.rules p) }
+        ensures ends { LearnsEnd self.old.ends self.new.ends
+            (EndsAcross game.now (start_of origin) vertex) }
+        ensures on { AreOn game.now self.old.sets → AreOn game.now self.new.sets }
+    {
+        meet_targets(&mut self.sets, game, leaps, leaps.from(origin, vertex));
+        let ends = leaps.ends(origin, vertex);
+        self.ends |= ends;
+    }
+
+    /// Leads on from a position that holds at a vertex, which is no longer open then.
+    #[inline(always)]
+    fn lead_on(&mut self, game: &Game, leaps: &Leaps, position: Position, vertex: Vertex)
+        requires lawful { IsGame game.now }
+        requires leaps { AreLeapsOf game.now leaps.now }
+        requires sized { AreSizedFor game.now self.old.sets }
+        requires vertex { vertex < length game.now.board.first }
+        requires from_one { 0 < position }
+        requires there { position ≤ length (positions_of game.now.rules) }
+        ensures sized { AreSizedFor game.now self.new.sets }
+        ensures begun { (s : AbstractState) (f : Start) → IsMet game.now s f vertex position
+            → Holds game.now s vertex position
+            → IsBegun game.now s f (IsMarked self.old.sets) (IsOpen self.old.sets) self.old.ends
+            → IsBegun game.now s f (IsMarked self.new.sets) (IsOpen self.new.sets) self.new.ends }
+        ensures on { AreOn game.now self.old.sets → AreOn game.now self.new.sets }
+        ensures less { IsOpen self.old.sets vertex position
+            → weight self.new.sets < weight self.old.sets }
+    {
+        // an action stands there
+        let _action = game.action(position);
+        self.lead(game, leaps, Origin::After(position), vertex);
+        self.sets
+            .close_word(position, vertex as usize / 64, unit_word(vertex % 64));
+    }
+
+    /// A position that doesn't hold at a vertex is no longer open there.
+    #[inline(always)]
+    fn drop_one(&mut self, game: &Game, position: Position, vertex: Vertex)
+        requires lawful { IsGame game.now }
+        requires sized { AreSizedFor game.now self.old.sets }
+        requires vertex { vertex < length game.now.board.first }
+        requires there { position ≤ length (positions_of game.now.rules) }
+        ensures sized { AreSizedFor game.now self.new.sets }
+        ensures begun { (s : AbstractState) (f : Start) → ¬ Holds game.now s vertex position
+            → IsBegun game.now s f (IsMarked self.old.sets) (IsOpen self.old.sets) self.old.ends
+            → IsBegun game.now s f (IsMarked self.new.sets) (IsOpen self.new.sets) self.new.ends }
+        ensures on { AreOn game.now self.old.sets → AreOn game.now self.new.sets }
+        ensures less { IsOpen self.old.sets vertex position
+            → weight self.new.sets < weight self.old.sets }
+    {
+        self.sets
+            .close_word(position, vertex as usize / 64, unit_word(vertex % 64));
+    }
+
+    /// Tries a position that is open at a vertex, and tells whether it is done with: it isn't where a pattern stands.
+    #[inline(always)]
+    fn try_one(
+        &mut self,
+        game: &Game,
+        leaps: &Leaps,
+        state: &SemiState,
+        position: Position,
+        vertex: Vertex,
+    ) -> bool
+        requires lawful { IsGame game.now }
+        requires leaps { AreLeapsOf game.now leaps.now }
+        requires fits { IsStateOf game.now state.now.state }
+        requires sized { AreSizedFor game.now self.old.sets }
+        requires vertex { vertex < length game.now.board.first }
+        requires from_one { 0 < position }
+        requires there { position ≤ length (positions_of game.now.rules) }
+        requires marked { IsMarked self.old.sets vertex position }
+        requires open { IsOpen self.old.sets vertex position }
+        ensures sized { AreSizedFor game.now self.new.sets }
+        ensures begun { (f : Start)
+            → IsBegun game.now state.now.state f (IsMarked self.old.sets) (IsOpen self.old.sets)
+            self.old.ends
+            → IsBegun game.now state.now.state f (IsMarked self.new.sets) (IsOpen self.new.sets)
+            self.new.ends }
+        ensures on { AreOn game.now self.old.sets → AreOn game.now self.new.sets }
+        ensures less { IsTrue result → weight self.new.sets < weight self.old.sets }
+        ensures pattern { result ≡ false
+            → IsPatternAt game.now.rules position × IsOpen self.new.sets vertex position }
+    {
+        match state.try_at(game, vertex, position) {
+            Trial::Pattern => false,
+            Trial::LeadsTo(_) => {
+                self.lead_on(game, leaps, position, vertex);
+                true
+            }
+            Trial::Invalid => {
+                self.drop_one(game, position, vertex);
+                true
+            }
+            Trial::Modifies => {
+                self.drop_one(game, position, vertex);
+                true
+            }
+        }
+    }
+}
+
+/// The word with one bit.
+#[inline(always)]
+fn unit_word(bit: u32) -> u64
+    requires { bit < 64 }
+    ensures only { (b : ℕ) → bit_at result b ≡ 1 → b ≡ bit }
+    ensures set { bit_at result bit ≡ 1 }
+{
+    let mut word = 0;
+    word |= 1 << bit;
+    word
+}

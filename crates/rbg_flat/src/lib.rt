@@ -1,0 +1,10 @@
+//! What is found from one place in the rules and one semi-state with no modifier before it, by sets of vertices.
+#![tactic(auto)]
+
+mod flat;
+pub mod laws;
+mod leading;
+mod positions;
+mod sets;
+
+pub use flat::Flat;
