@@ -10,3 +10,7 @@ pub mod Leadings
 pub mod Leaping
 pub mod Takings
 pub mod RowLemmas
+pub mod Passings
+pub mod Wordwise
+pub mod Trying
+pub mod Doing

@@ -60,13 +60,13 @@ meets_both old middle new In In' Both Opens one other apart first second = recor
     by_only v p (inl was) = by_one v p (one.only v p was)
     by_only v p (inr (there, opens)) = inr (second v p there, opens)
 
-    by_first : (v p : ℕ) → IsOpen old v p ⊎ (In v p × Opens p) → IsOpen old v p ⊎ (Both v p × Opens p)
+    by_first : (v p : ℕ) → IsOpen old v p ⊎ (In v p × Opens p × (¬ IsMarked old v p)) → IsOpen old v p ⊎ (Both v p × Opens p × (¬ IsMarked old v p))
     by_first v p (inl was) = inl was
-    by_first v p (inr (there, opens)) = inr (first v p there, opens)
+    by_first v p (inr (there, opens, fresh)) = inr (first v p there, opens, fresh)
 
-    by_other : (v p : ℕ) → IsOpen middle v p ⊎ (In' v p × Opens p) → IsOpen old v p ⊎ (Both v p × Opens p)
+    by_other : (v p : ℕ) → IsOpen middle v p ⊎ (In' v p × Opens p × (¬ IsMarked middle v p)) → IsOpen old v p ⊎ (Both v p × Opens p × (¬ IsMarked old v p))
     by_other v p (inl was) = by_first v p (one.no_other v p was)
-    by_other v p (inr (there, opens)) = inr (second v p there, opens)
+    by_other v p (inr (there, opens, fresh)) = inr (second v p there, opens, λ was. fresh (one.kept v p was))
 
 -- The same pairs, said in another way.
 pub meets_same : (old new : SetsOfVertices) (In In' : (v p : ℕ) → Type 0) (Opens Opens' : ℕ → Type 0) → Meets old new In Opens → ((v p : ℕ) → In v p → In' v p) → ((v p : ℕ) → In' v p → In v p) → ((v p : ℕ) → In v p → Opens p → Opens' p) → ((v p : ℕ) → In v p → Opens' p → Opens p) → Meets old new In' Opens'
@@ -85,9 +85,9 @@ meets_same old new In In' Opens Opens' meets to of opens_to opens_of = record {
     by_only v p (inl was) = inl was
     by_only v p (inr (there, opens)) = inr (to v p there, λ is. opens (opens_of v p there is))
 
-    by_other : (v p : ℕ) → IsOpen old v p ⊎ (In v p × Opens p) → IsOpen old v p ⊎ (In' v p × Opens' p)
+    by_other : (v p : ℕ) → IsOpen old v p ⊎ (In v p × Opens p × (¬ IsMarked old v p)) → IsOpen old v p ⊎ (In' v p × Opens' p × (¬ IsMarked old v p))
     by_other v p (inl was) = inl was
-    by_other v p (inr (there, opens)) = inr (to v p there, opens_to v p there opens)
+    by_other v p (inr (there, opens, fresh)) = inr (to v p there, opens_to v p there opens, fresh)
 
 -- A row up to a column, and one column more.
 no_bit : {n : ℕ} → n ≡ 0 → n ≡ 1 → ⊥

@@ -1,9 +1,9 @@
 -- Where modifiers stand.
-use Rattle.std.proofs.Common.{◌≡◌, ℕ, Bool, true, false, refl, sym, ap, ◌∙◌}
+use Rattle.std.proofs.Common.{◌≡◌, ℕ, Bool, true, false, inl, inr, refl, sym, ap, ◌∙◌}
 use Rattle.std.specs.Prelude.{IsTrue, ◌↔◌}
 use mathlib.Core.Bool.{not}
 use Rattle.rbg_rules.specs.Expression.{AbstractAction, shift, off, switch, positive, negative, Expression}
-use Rattle.rbg_rules.specs.Positions.{HasAction, IsNumbered, IsModifierAt, is_modifier}
+use Rattle.rbg_rules.specs.Positions.{HasAction, IsNumbered, IsModifierAt, IsPatternAt, is_modifier}
 use Rattle.rbg_rules.specs.Table.{Stands}
 use Rattle.rbg_rules.specs.declared.rule.Action.{Action}
 use Rattle.rbg_rules.specs.declared.rule.Action.TheVariants.{Shift, On, Off, Assign, Compare, Switch, Positive, Negative}
@@ -41,3 +41,10 @@ opens_quiet false A is opens there = true_not_false (sym (is.1 there))
 pub quiet_opens : (b : Bool) (A : Type 0) → IsTrue b ↔ A → ¬ A → not b ≡ true
 quiet_opens true A is quiet = absurd (quiet (is.0 refl))
 quiet_opens false A is quiet = refl
+
+-- A pattern is no modifier.
+pub pattern_opens : (rules : Expression) → IsNumbered rules → (p : ℕ) → IsPatternAt rules p → ¬ IsModifierAt rules p
+pattern_opens rules numbered p pattern m = elim pattern.stands [
+  | inl stands ↦ true_not_false (sym m.modifies ∙ ap is_modifier (one_stands rules numbered p m.action (positive pattern.inside_it) m.stands stands))
+  | inr stands ↦ true_not_false (sym m.modifies ∙ ap is_modifier (one_stands rules numbered p m.action (negative pattern.inside_it) m.stands stands))
+]

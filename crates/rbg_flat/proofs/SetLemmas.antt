@@ -99,8 +99,8 @@ module _
         omega (arith, put, most)
 
     -- What is new is opened.
-    pub meets_open : (waiting' touched' : List ℕ) → ¬ (n ≡ 0) → bit_or (get_or marks place 0) n ≡ get_or marks place 0 + n → get_or marks place 0 + n < 2 ^ 64 → Added waiting waiting' q → MeetsWord old (sets_of size columns marks_then pending_then waiting' touched') q c x true
-    meets_open waiting' touched' some sum fits adds = record {
+    pub meets_open : (waiting' touched' : List ℕ) → ((b : ℕ) → bit_at n b ≡ 1 → bit_at (get_or marks place 0) b ≡ 0) → ¬ (n ≡ 0) → bit_or (get_or marks place 0) n ≡ get_or marks place 0 + n → get_or marks place 0 + n < 2 ^ 64 → Added waiting waiting' q → MeetsWord old (sets_of size columns marks_then pending_then waiting' touched') q c x true
+    meets_open waiting' touched' fresh some sum fits adds = record {
       size = refl;
       columns = refl;
       kept = added_old columns marks place q c is below in_marks n;
@@ -120,9 +120,15 @@ module _
         by_marks v p (inl was) = inl was
         by_marks v p (inr new) = inr (new_in_word q c x n v p only new, λ _. added_new columns pending place q c is below in_pending n v p new)
 
-        by_pending : (v p : ℕ) → HasBitAt columns pending v p ⊎ IsInWord q c n v p → HasBitAt columns pending v p ⊎ (IsInWord q c x v p × (true ≡ true))
+        not_both : {k : ℕ} → k ≡ 0 → k ≡ 1 → ⊥
+        not_both none one = omega (arith, none, one)
+
+        unknown : (v p : ℕ) → IsInWord q c n v p → ¬ HasBitAt columns marks v p
+        unknown v p new has = not_both (fresh (v % 64) new.set) (sym (ap (λ (k : ℕ). bit_at (get_or marks k 0) (v % 64)) (of_word columns marks place q c is below in_marks n v p new)) ∙ has.set)
+
+        by_pending : (v p : ℕ) → HasBitAt columns pending v p ⊎ IsInWord q c n v p → HasBitAt columns pending v p ⊎ (IsInWord q c x v p × (true ≡ true) × (¬ HasBitAt columns marks v p))
         by_pending v p (inl was) = inl was
-        by_pending v p (inr new) = inr (new_in_word q c x n v p only new, refl)
+        by_pending v p (inr new) = inr (new_in_word q c x n v p only new, refl, unknown v p new)
 
     -- What is new isn't opened.
     pub meets_closed : (touched' : List ℕ) → bit_or (get_or marks place 0) n ≡ get_or marks place 0 + n → get_or marks place 0 + n < 2 ^ 64 → MeetsWord old (sets_of size columns marks_then pending waiting touched') q c x false

@@ -197,3 +197,13 @@ less_left a b k fits within here taken = elim (ℕ_discrete (bit_and a (bit_not 
     no_bit_left kept both other =
         let second : bit_at (bit_not w64 b) k ≡ 0 = other ∙ ap (λ (n : ℕ). 1 - n) taken in
         grind (arith, kept, both, second)
+
+-- A bit of a word in a column is that of a vertex.
+pub bit_there : (columns : ℕ) (pending : List ℕ) (p column word bit : ℕ) → column < columns → word ≡ get_or pending (p * columns + column) 0 → bit < 64 → bit_at word bit ≡ 1 → HasBitAt columns pending (column * 64 + bit) p
+bit_there columns pending p column word bit below is small set =
+    let first : (column * 64 + bit) / 64 ≡ column = omega (arith, small) in
+    let second : (column * 64 + bit) % 64 ≡ bit = omega (arith, small) in
+    record {
+      column = rw first below;
+      set = rw (first, second) (sym (ap (λ (n : ℕ). bit_at n bit) is) ∙ set);
+    }

@@ -3,3 +3,4 @@ pub mod Sets
 pub mod Begun
 pub mod Shown
 pub mod Leading
+pub mod Passing

@@ -12,15 +12,17 @@ ghost use Rattle.rbg_leaps.specs.Origin.{start_of};
 ghost use Rattle.rbg_flat.specs.Candidates.{IsCandidate, MayEnd};
 ghost use Rattle.rbg_flat.specs.Chains.{Holds, IsMet};
 ghost use Rattle.rbg_flat.specs.internal.Begun.{IsBegun};
-ghost use Rattle.rbg_flat.specs.internal.Sets.{Meets, IsMarked, IsOpen, weight};
-ghost use Rattle.rbg_flat.specs.internal.Leading.{AreSizedFor, AreOn, LearnsEnd};
+ghost use Rattle.rbg_flat.specs.internal.Sets.{Meets, IsMarked, IsOpen, IsDone, KeepsDone, weight};
+ghost use Rattle.rbg_flat.specs.internal.Leading.{AreSizedFor, AreOn, IsOnBoard, LeadsFrom, EndsFrom, LearnsEnd};
 
 use crate::leading::meet_targets;
+use crate::passing::held;
 use crate::sets::Sets;
+use crate::words::{lowest, unit_word, without};
 use rbg_base::{Memory, Position, Vertex};
 use rbg_leaps::{Leaps, Origin};
 use rbg_rules::Game;
-use rbg_state::{SemiState, Trial};
+use rbg_state::SemiState;
 use std::alloc::Global;
 
 /// A flat part that is being found: what may come next from one place with no modifier before it.
@@ -82,16 +84,20 @@ impl Flat {
             → IsBegun game.now state.now.state f (IsMarked self.new.sets) (IsOpen self.new.sets)
             self.new.ends }
         ensures asked { IfSome result (λ pair. IsOpen self.new.sets pair.0 pair.1
-            × IsPatternAt game.now.rules pair.1) }
+            × IsMarked self.new.sets pair.0 pair.1 × IsPatternAt game.now.rules pair.1) }
+        ensures still_done { KeepsDone self.old.sets self.new.sets }
+        ensures quiet { (v p : ℕ) → IsPatternAt game.now.rules p → IsDone self.new.sets v p
+            → IsDone self.old.sets v p }
         ensures done { IfNone result ((v p : ℕ) → ¬ IsOpen self.new.sets v p) }
     {
         while let Some(position) = self.sets.waiting() {
             match self.sets.first_open(position) {
                 None => self.sets.wait_no_more(position),
                 Some(vertex) => {
-                    if !self.try_one(game, leaps, state, position, vertex) {
+                    if is_pattern(game, &self.sets, vertex, position) {
                         return Some((vertex, position));
                     }
+                    self.try_word(game, leaps, state, position, vertex);
                 }
             }
         }
@@ -222,62 +228,84 @@ impl Flat {
             .close_word(position, vertex as usize / 64, unit_word(vertex % 64));
     }
 
-    /// Tries a position that is open at a vertex, and tells whether it is done with: it isn't where a pattern stands.
+    /// Tries a position at all vertices of a word that are open there, of which one is given, and leads on from those
+    /// at which it holds. No pattern stands at the position.
     #[inline(always)]
-    fn try_one(
+    fn try_word(
         &mut self,
         game: &Game,
         leaps: &Leaps,
         state: &SemiState,
         position: Position,
         vertex: Vertex,
-    ) -> bool
+    )
         requires lawful { IsGame game.now }
         requires leaps { AreLeapsOf game.now leaps.now }
         requires fits { IsStateOf game.now state.now.state }
         requires sized { AreSizedFor game.now self.old.sets }
-        requires vertex { vertex < length game.now.board.first }
-        requires from_one { 0 < position }
-        requires there { position ≤ length (positions_of game.now.rules) }
-        requires marked { IsMarked self.old.sets vertex position }
+        requires on { AreOn game.now self.old.sets }
         requires open { IsOpen self.old.sets vertex position }
+        requires marked { IsMarked self.old.sets vertex position }
+        requires plain { ¬ IsPatternAt game.now.rules position }
         ensures sized { AreSizedFor game.now self.new.sets }
         ensures begun { (f : Start)
             → IsBegun game.now state.now.state f (IsMarked self.old.sets) (IsOpen self.old.sets)
             self.old.ends
             → IsBegun game.now state.now.state f (IsMarked self.new.sets) (IsOpen self.new.sets)
             self.new.ends }
-        ensures on { AreOn game.now self.old.sets → AreOn game.now self.new.sets }
-        ensures less { IsTrue result → weight self.new.sets < weight self.old.sets }
-        ensures pattern { result ≡ false
-            → IsPatternAt game.now.rules position × IsOpen self.new.sets vertex position }
+        ensures on { AreOn game.now self.new.sets }
+        ensures done { KeepsDone self.old.sets self.new.sets }
+        ensures quiet { (v p : ℕ) → IsPatternAt game.now.rules p → IsDone self.new.sets v p
+            → IsDone self.old.sets v p }
+        ensures less { weight self.new.sets < weight self.old.sets }
     {
-        match state.try_at(game, vertex, position) {
-            Trial::Pattern => false,
-            Trial::LeadsTo(_) => {
-                self.lead_on(game, leaps, position, vertex);
-                true
-            }
-            Trial::Invalid => {
-                self.drop_one(game, position, vertex);
-                true
-            }
-            Trial::Modifies => {
-                self.drop_one(game, position, vertex);
-                true
-            }
+        let column = vertex as usize / 64;
+        let word = self.sets.take_word(position, column);
+        let held = held(game, state, position, column, word);
+        self.lead_word(game, leaps, position, column, held);
+    }
+
+    /// Leads on from a position at each vertex of a word.
+    #[inline(always)]
+    fn lead_word(
+        &mut self,
+        game: &Game,
+        leaps: &Leaps,
+        position: Position,
+        column: usize,
+        word: u64,
+    )
+        requires lawful { IsGame game.now }
+        requires leaps { AreLeapsOf game.now leaps.now }
+        requires sized { AreSizedFor game.now self.old.sets }
+        requires board { IsOnBoard game.now column word }
+        requires from_one { 0 < position }
+        requires there { position ≤ length (positions_of game.now.rules) }
+        ensures sized { AreSizedFor game.now self.new.sets }
+        ensures met { Meets self.old.sets self.new.sets (LeadsFrom game.now position column word)
+            (λ p. ¬ IsModifierAt game.now.rules p) }
+        ensures ends { LearnsEnd self.old.ends self.new.ends
+            (EndsFrom game.now position column word) }
+        ensures on { AreOn game.now self.old.sets → AreOn game.now self.new.sets }
+    {
+        // an action stands there
+        let _action = game.action(position);
+        let mut rest = word;
+        while rest != 0 {
+            let bit = lowest(rest);
+            let vertex = column as Vertex * 64 + bit;
+            self.lead(game, leaps, Origin::After(position), vertex);
+            rest = without(rest, bit);
         }
     }
 }
 
-/// The word with one bit.
+/// Whether a pattern stands at a position that is open at a vertex.
 #[inline(always)]
-fn unit_word(bit: u32) -> u64
-    requires { bit < 64 }
-    ensures only { (b : ℕ) → bit_at result b ≡ 1 → b ≡ bit }
-    ensures set { bit_at result bit ≡ 1 }
+fn is_pattern(game: &Game, sets: &Sets, vertex: Vertex, position: Position) -> bool
+    requires on { AreOn game.now sets.now }
+    requires marked { IsMarked sets.now vertex position }
+    ensures { IsTrue result ↔ IsPatternAt game.now.rules position }
 {
-    let mut word = 0;
-    word |= 1 << bit;
-    word
+    game.is_pattern(position)
 }

@@ -4,7 +4,9 @@
 mod flat;
 pub mod laws;
 mod leading;
+mod passing;
 mod positions;
 mod sets;
+mod words;
 
 pub use flat::Flat;

@@ -4,6 +4,7 @@ ghost use Rattle.std.specs.Int.{bit_at, bit_not, w64};
 ghost use Rattle.rbg_flat.specs.internal.Sets.{MeetsWord, Meets, IsInRow, ClosesWord, IsMarked, IsOpen, IsLastOf, weight};
 
 use crate::positions::Positions;
+use crate::words::lowest;
 use rbg_base::{Memory, Position, Vertex};
 use std::alloc::Global;
 use std::marker::Model;
@@ -154,7 +155,9 @@ impl Sets {
     pub(crate) fn open_word(&self, position: Position, column: usize) -> u64
         requires position { position < self.now.size }
         requires column { column < self.now.columns }
-        ensures { result ≡ slice_index self.now.pending (position * self.now.columns + column) }
+        ensures is { result ≡ slice_index self.now.pending (position * self.now.columns + column) }
+        ensures there { (b : ℕ) → b < 64 → bit_at result b ≡ 1
+            → IsMarked self.now (column * 64 + b) position }
     {
         self.pending[self.place(position, column)]
     }
@@ -168,6 +171,21 @@ impl Sets {
     {
         let place = self.place(position, column);
         take_word(&mut self.pending, place, word);
+    }
+
+    /// Takes the bits that are open in a word of the row of a position: they are no longer open.
+    #[inline(always)]
+    pub(crate) fn take_word(&mut self, position: Position, column: usize) -> u64
+        requires position { position < self.old.size }
+        requires column { column < self.old.columns }
+        ensures closes { ClosesWord self.old self.new position column result }
+        ensures was { result ≡ slice_index self.old.pending (position * self.old.columns + column) }
+        ensures there { (b : ℕ) → bit_at result b ≡ 1
+            → (b < 64) × IsMarked self.old (column * 64 + b) position }
+    {
+        let word = self.open_word(position, column);
+        self.close_word(position, column, word);
+        word
     }
 
     /// The first vertex that is open at a position.
@@ -212,20 +230,11 @@ impl Sets {
     }
 }
 
-/// The place of the lowest bit of a word.
-#[inline(always)]
-fn lowest(word: u64) -> u32
-    requires { 0 < word }
-    ensures set { bit_at word result ≡ 1 }
-    ensures small { result < 64 }
-{
-    word.trailing_zeros()
-}
-
 /// The bits of a word that aren't known yet.
 #[inline(always)]
 fn new_of(word: u64, known: u64) -> u64
     ensures only { (b : ℕ) → bit_at result b ≡ 1 → bit_at word b ≡ 1 }
+    ensures fresh { (b : ℕ) → bit_at result b ≡ 1 → bit_at known b ≡ 0 }
     ensures all { (b : ℕ) → b < 64 → bit_at word b ≡ 1
         → (bit_at known b ≡ 1) ⊎ (bit_at result b ≡ 1) }
     ensures sum { bit_or known result ≡ known + result }

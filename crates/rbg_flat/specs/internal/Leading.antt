@@ -1,12 +1,15 @@
 -- Sets that are led on by leaps.
-use Rattle.std.specs.Prelude.{◌≡◌, ◌⊎◌, ◌+◌, ◌<◌, ◌≤◌, ℕ, List, length, Bool, true, Contains}
+use Rattle.std.specs.Prelude.{◌≡◌, ◌⊎◌, ◌+◌, ◌*◌, ◌%◌, ◌<◌, ◌≤◌, ℕ, List, length, Bool, true, Contains}
+use Rattle.std.specs.Int.{bit_at}
 use Rattle.rbg_rules.specs.Positions.{positions_of}
 use Rattle.rbg_rules.specs.State.{AbstractGame}
+use Rattle.rbg_rules.specs.Words.{after}
 use Rattle.rbg_leaps.specs.declared.asking.Leaps.{Leaps}
 use Rattle.rbg_leaps.specs.declared.table.Target.{Target}
 use Rattle.rbg_leaps.specs.Asked.{row_of, HasRow}
+use Rattle.rbg_leaps.specs.Leaps.{IsLeap, EndsAcross}
 use Rattle.rbg_leaps.specs.Limits.{row_words}
-use Rattle.rbg_flat.specs.internal.Sets.{SetsOfVertices, IsInRow, IsMarked}
+use Rattle.rbg_flat.specs.internal.Sets.{SetsOfVertices, IsInRow, IsInWord, IsMarked}
 
 -- The sets have a row for each position of the game, and a bit in it for each vertex.
 pub record AreSizedFor (game : AbstractGame) (sets : SetsOfVertices) : Type 0 where
@@ -37,3 +40,32 @@ pub record LearnsEnd (old new : Bool) (Ends : Type 0) : Type 0 where
   pub kept : old ≡ true → new ≡ true
   pub all : Ends → new ≡ true
   pub only : new ≡ true → (old ≡ true) ⊎ Ends
+
+-- The bits of a word, in the column c of a row, are vertices of the board.
+abbrev pub IsOnBoard : AbstractGame → (c word : ℕ) → Type 0
+IsOnBoard game c word = (b : ℕ) → bit_at word b ≡ 1 → c * 64 + b < length game.board.first
+
+-- A leap leads to position p at vertex u, from behind position q at one of the vertices of a word.
+pub record LeadsFrom (game : AbstractGame) (q c word u p : ℕ) : Type 0 where
+  pub vertex : ℕ
+  pub there : IsInWord q c word vertex q
+  pub leap : IsLeap game (after q) vertex p u
+
+-- A word may end with shifts alone behind position q at one of the vertices of a word of bits.
+pub record EndsFrom (game : AbstractGame) (q c word : ℕ) : Type 0 where
+  pub vertex : ℕ
+  pub there : IsInWord q c word vertex q
+  pub ends : EndsAcross game (after q) vertex
+
+-- The same, but for the vertices that are still in the rest.
+pub record LeadsPast (game : AbstractGame) (q c word rest u p : ℕ) : Type 0 where
+  pub vertex : ℕ
+  pub there : IsInWord q c word vertex q
+  pub past : bit_at rest (vertex % 64) ≡ 0
+  pub leap : IsLeap game (after q) vertex p u
+
+pub record EndsPast (game : AbstractGame) (q c word rest : ℕ) : Type 0 where
+  pub vertex : ℕ
+  pub there : IsInWord q c word vertex q
+  pub past : bit_at rest (vertex % 64) ≡ 0
+  pub ends : EndsAcross game (after q) vertex

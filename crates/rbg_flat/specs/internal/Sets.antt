@@ -77,7 +77,9 @@ pub record MeetsWord (old new : SetsOfVertices) (position column word : ℕ) (op
       (v p : ℕ) → IsMarked new v p →
       IsMarked old v p ⊎ (IsInWord position column word v p × (opens ≡ true → IsOpen new v p))
   pub still : (v p : ℕ) → IsOpen old v p → IsOpen new v p
-  pub no_other : (v p : ℕ) → IsOpen new v p → IsOpen old v p ⊎ (IsInWord position column word v p × (opens ≡ true))
+  pub no_other :
+      (v p : ℕ) → IsOpen new v p →
+      IsOpen old v p ⊎ (IsInWord position column word v p × (opens ≡ true) × (¬ IsMarked old v p))
   pub lighter : weight new ≤ weight old
 
 -- Bits of a word of a row are no longer open.
@@ -99,10 +101,21 @@ pub record Meets (old new : SetsOfVertices) (In : (v p : ℕ) → Type 0) (Opens
   pub met : (v p : ℕ) → In v p → IsMarked new v p
   pub only : (v p : ℕ) → IsMarked new v p → IsMarked old v p ⊎ (In v p × (Opens p → IsOpen new v p))
   pub still : (v p : ℕ) → IsOpen old v p → IsOpen new v p
-  pub no_other : (v p : ℕ) → IsOpen new v p → IsOpen old v p ⊎ (In v p × Opens p)
+  pub no_other :
+      (v p : ℕ) → IsOpen new v p →
+      IsOpen old v p ⊎ (In v p × Opens p × (¬ IsMarked old v p))
   pub lighter : weight new ≤ weight old
 
 -- The vertex is in a row of a position.
 pub record IsInRow (q : ℕ) (row : List ℕ) (v p : ℕ) : Type 0 where
   pub position : p ≡ q
   pub set : bit_at (slice_index row (v / 64)) (v % 64) ≡ 1
+
+-- It is marked and no longer open: it was looked at.
+pub record IsDone (sets : SetsOfVertices) (v p : ℕ) : Type 0 where
+  pub marked : IsMarked sets v p
+  pub closed : ¬ IsOpen sets v p
+
+-- What was looked at stays so.
+abbrev pub KeepsDone : (old new : SetsOfVertices) → Type 0
+KeepsDone old new = (v p : ℕ) → IsDone old v p → IsDone new v p

@@ -73,7 +73,8 @@ returns-then-opens c =
     let all : (b : ℕ) → b < 64 → bit_at c.args.word b ≡ 1 → (bit_at (get_or marks place 0) b ≡ 1) ⊎ (bit_at n b ≡ 1) = subst (λ (k : ℕ). (b : ℕ) → b < 64 → bit_at c.args.word b ≡ 1 → (bit_at k b ≡ 1) ⊎ (bit_at n b ≡ 1)) read c.new_of-new.ensures.all in
     let sum : bit_or (get_or marks place 0) n ≡ get_or marks place 0 + n = subst (λ (k : ℕ). bit_or k n ≡ k + n) read c.new_of-new.ensures.sum in
     let fits : get_or marks place 0 + n < 2 ^ 64 = subst (λ (k : ℕ). k + n < 2 ^ 64) read c.new_of-new.ensures.fits in
-    rw (← c.self.view_is, c.add_word.ensures, c.add_word-then-opens.ensures, c.if-opens.true) (meets_open size columns marks pending waiting touched place q column c.args.word n is below in_marks in_pending c.new_of-new.ensures.only all c.add-then-opens.new.self.positions c.add.new.self.positions c.if-new-eq0.false sum fits c.add-then-opens.ensures.added)
+    let fresh : (b : ℕ) → bit_at n b ≡ 1 → bit_at (get_or marks place 0) b ≡ 0 = subst (λ (k : ℕ). (b : ℕ) → bit_at n b ≡ 1 → bit_at k b ≡ 0) read c.new_of-new.ensures.fresh in
+    rw (← c.self.view_is, c.add_word.ensures, c.add_word-then-opens.ensures, c.if-opens.true) (meets_open size columns marks pending waiting touched place q column c.args.word n is below in_marks in_pending c.new_of-new.ensures.only all c.add-then-opens.new.self.positions c.add.new.self.positions fresh c.if-new-eq0.false sum fits c.add-then-opens.ensures.added)
 
 pub returns-else-opens : goal.returns-else-opens
 returns-else-opens c =

@@ -1,6 +1,6 @@
 use Rattle.std.specs.Int.{w64}
 use Rattle.std.proofs.lemmas.Nat.Bits.{bit_at-trailing_zeros}
-use Rattle.rbg_flat.proofs.sets.lowest.Goals as goal
+use Rattle.rbg_flat.proofs.words.lowest.Goals as goal
 
 pub returns-clause-set : goal.returns-clause-set
 returns-clause-set c = (bit_at-trailing_zeros w64 c.args.word c.requires c.ranges.word.fits).1
