@@ -9,8 +9,11 @@ pub mod Modifiers
 pub mod Leadings
 pub mod Leaping
 pub mod Takings
-pub mod RowLemmas
 pub mod Passings
 pub mod Wordwise
 pub mod Trying
 pub mod Doing
+pub mod Lists
+pub mod Ones
+pub mod Gatherings
+pub mod Finishings

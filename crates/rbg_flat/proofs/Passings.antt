@@ -1,6 +1,6 @@
 -- At which vertices of a word an action passes.
 use Rattle.std.proofs.Common.{◌≡◌, ◌≢◌, ℕ, ◌+◌, ◌*◌, ◌/◌, ◌%◌, ◌<◌, ◌⊎◌, inl, inr, List, [], ◌∷◌, ◌++◌, length, get_or, take, sym, ap, subst, ◌∙◌, arith}
-use Rattle.std.specs.Prelude.{◌↔◌, bit_or, bit_and, Contains, slice_get, Some, Option}
+use Rattle.std.specs.Prelude.{◌↔◌, bit_or, bit_and, Contains, slice_get, Some}
 use Rattle.std.specs.Int.{bit_at}
 use native.Mathlib.Decide.{ℕ_discrete}
 use Rattle.std.proofs.lemmas.List.{take_more}
@@ -8,10 +8,9 @@ use Rattle.std.proofs.lemmas.List.Elements.{Contains-push, Contains-push_cases, 
 use Rattle.std.proofs.lemmas.Nat.Bits.{bit_at_and}
 use Rattle.std.proofs.lemmas.Option.{get_or_from_slice_get}
 use Rattle.std.proofs.lemmas.Option.{slice_get-get_or}
-use Rattle.rbg_rules.specs.Expression.{on, Expression}
+use Rattle.rbg_rules.specs.Expression.{on}
 use Rattle.rbg_rules.specs.Positions.{IsModifierAt, IsNumbered, HasAction, is_modifier}
 use Rattle.rbg_rules.specs.State.{AbstractGame, AbstractState}
-use Rattle.rbg_rules.specs.Actions.{Applies}
 use Rattle.rbg_rules.proofs.MoveLemmas.{applied_acts}
 use Rattle.rbg_rules.proofs.PositionLemmas.{one_stands}
 use Rattle.std.specs.Prelude.{true, false}

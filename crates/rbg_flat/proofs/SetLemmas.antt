@@ -11,8 +11,8 @@ use Rattle.std.specs.List.{sum_by}
 use Rattle.std.proofs.Math.Nat.{mul_comm}
 use native.Mathlib.Decide.{ℕ_discrete}
 use Rattle.std.proofs.lemmas.List.Elements.{Contains-push, Contains-append_left}
-use Rattle.rbg_flat.specs.internal.Sets.{SetsOfVertices, sets_of, HasBitAt, IsInWord, AreSets, MeetsWord, ClosesWord, IsLastOf}
-use Rattle.rbg_flat.proofs.WordLemmas.{added_to, added_old, added_new, taken_of, taken_left, known_or_new, new_in_word, or_at_most, less_left, of_word}
+use Rattle.rbg_flat.specs.internal.Sets.{SetsOfVertices, sets_of, HasBitAt, IsInWord, AreSets, MeetsWord, ClosesWord, Forgets, IsLastOf}
+use Rattle.rbg_flat.proofs.WordLemmas.{added_to, added_old, added_new, taken_of, taken_gone, taken_left, known_or_new, new_in_word, or_at_most, less_left, of_word}
 
 -- What a list has after a position was added.
 abbrev pub Added : (old new : List ℕ) → ℕ → Type 0
@@ -201,6 +201,7 @@ module _
       marks = refl;
       still = λ v p has. taken_left columns pending place q c is below in_pending x v p fits has;
       only = taken_of columns pending place q c is below in_pending x;
+      gone = λ v p there. taken_gone columns pending place q c is below in_pending x v p fits there;
       lighter = let put = sum_put in let most = and_le_l (get_or pending place 0) (bit_not w64 x) in omega (arith, put, most);
       less = λ v was there.
           let put = sum_put in
@@ -280,4 +281,12 @@ module _
       under = λ v p has. let other = not_here pending' clear_pending v p has in is_there marks marks' other_marks v p other (are.under v p (was_there pending pending' other_pending v p other has));
       waits = λ v p has. let other = not_here pending' clear_pending v p has in are.waits v p (was_there pending pending' other_pending v p other has);
       touches = λ v p has. let other = not_here marks' clear_marks v p has in among_rest p other (are.touches v p (was_there marks marks' other_marks v p other has));
+    }
+
+    -- What was met there is gone, and nothing else.
+    pub forgets : (touched' : List ℕ) → Forgets (sets_of size columns marks pending waiting touched) (sets_of size columns marks' pending' waiting touched') q
+    forgets touched' = record {
+      gone = no_bit_in marks' clear_marks;
+      only = λ v p has. was_there marks marks' other_marks v p (not_here marks' clear_marks v p has) has;
+      still = λ v p other has. is_there marks marks' other_marks v p other has;
     }

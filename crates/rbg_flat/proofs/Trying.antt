@@ -1,17 +1,17 @@
 -- A word of vertices is taken from what is open, and led on from where the action holds.
-use Rattle.std.proofs.Common.{◌≡◌, ℕ, ◌+◌, ◌*◌, ◌/◌, ◌%◌, ◌<◌, ◌⊎◌, inl, inr, List, Bool, true, refl, sym, subst, ◌∙◌, arith}
+use Rattle.std.proofs.Common.{◌≡◌, ℕ, ◌+◌, ◌*◌, ◌%◌, ◌<◌, ◌⊎◌, inl, inr, List, Bool, true, refl, sym, subst, arith}
 use Rattle.std.specs.Prelude.{◌↔◌}
 use Rattle.std.specs.Int.{bit_at}
-use Rattle.rbg_rules.specs.Positions.{IsModifierAt, IsNumbered, IsPatternAt}
+use Rattle.rbg_rules.specs.Positions.{IsModifierAt, IsNumbered}
 use Rattle.rbg_rules.specs.State.{AbstractGame, AbstractState}
 use Rattle.rbg_rules.specs.Actions.{Applies}
 use Rattle.rbg_rules.specs.Words.{Start, after}
 use Rattle.rbg_leaps.specs.Leaps.{IsLeap, EndsAcross}
-use Rattle.rbg_flat.specs.Chains.{Holds, IsMet, first, then, EndsMet}
+use Rattle.rbg_flat.specs.Chains.{Holds, IsMet, then, EndsMet}
 use Rattle.rbg_flat.specs.internal.Begun.{IsBegun}
 use Rattle.rbg_flat.specs.internal.Leading.{LearnsEnd, LeadsFrom, EndsFrom, AreOn, IsOnBoard}
 use Rattle.rbg_flat.specs.internal.Passing.{Passes}
-use Rattle.rbg_flat.specs.internal.Sets.{SetsOfVertices, IsMarked, IsOpen, IsInWord, Meets, ClosesWord, HasBitAt, IsDone, KeepsDone}
+use Rattle.rbg_flat.specs.internal.Sets.{SetsOfVertices, IsMarked, IsOpen, IsInWord, Meets, ClosesWord, HasBitAt}
 use Rattle.rbg_flat.proofs.Takings.{bit_decided, tried_holds}
 
 -- What is marked stays so where bits are closed.

@@ -129,6 +129,17 @@ module _ (columns : ℕ) (words : List ℕ) (place q c : ℕ) (is : place ≡ q 
       by_bit same (inl set) = inl (in_new (bit_and word (bit_not w64 x)) v p has.column same set)
       by_bit same (inr set) = inr (in_word x v p has.column same set)
 
+  pub taken_gone : (x v p : ℕ) → x < 2 ^ 64 → IsInWord q c x v p → ¬ HasBitAt columns (slice_set words place (bit_and word (bit_not w64 x))) v p
+  taken_gone x v p fits there has =
+      let same = of_word x v p there in
+      let set : bit_at (bit_and word (bit_not w64 x)) (v % 64) ≡ 1 = sym (ap (λ (k : ℕ). bit_at k (v % 64)) (at_new (bit_and word (bit_not w64 x)) v p same)) ∙ has.set in
+      let both = bit_at_and word (bit_not w64 x) (v % 64) in
+      let other : bit_at (bit_not w64 x) (v % 64) ≡ 1 - bit_at x (v % 64) = bit_at_not w64 x (v % 64) fits (omega arith) in
+      none_left (bit_at word (v % 64)) (bit_at (bit_not w64 x) (v % 64)) (sym both ∙ set) (other ∙ ap (λ (n : ℕ). 1 - n) there.set)
+    where
+      none_left : (a b : ℕ) → min a b ≡ 1 → b ≡ 0 → ⊥
+      none_left a b least none = grind (arith, least, none)
+
   -- A word's bits are in the row, or new to it.
   pub known_or_new : (x n v p : ℕ) → ((b : ℕ) → b < 64 → bit_at x b ≡ 1 → (bit_at word b ≡ 1) ⊎ (bit_at n b ≡ 1)) → IsInWord q c x v p → HasBitAt columns words v p ⊎ IsInWord q c n v p
   known_or_new x n v p all there = by_bit (all (v % 64) (omega arith) there.set)

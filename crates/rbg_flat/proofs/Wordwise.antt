@@ -1,5 +1,5 @@
 -- A word of vertices is led on from, one after another.
-use Rattle.std.proofs.Common.{◌≡◌, ◌≢◌, ℕ, ◌+◌, ◌*◌, ◌/◌, ◌%◌, ◌<◌, ◌≤◌, ◌⊎◌, inl, inr, Bool, true, length, refl, sym, ap, subst, ◌∙◌, arith}
+use Rattle.std.proofs.Common.{◌≡◌, ◌≢◌, ℕ, ◌+◌, ◌*◌, ◌/◌, ◌%◌, ◌<◌, ◌⊎◌, inl, inr, Bool, true, refl, sym, ap, subst, ◌∙◌, arith}
 use Rattle.std.specs.Int.{bit_at}
 use Rattle.std.proofs.lemmas.Nat.Bits.{bit_at-zero, bit_at-lt}
 use native.Mathlib.Decide.{ℕ_discrete}
@@ -8,8 +8,8 @@ use Rattle.rbg_rules.specs.State.{AbstractGame}
 use Rattle.rbg_rules.specs.Words.{after}
 use Rattle.rbg_leaps.specs.Leaps.{IsLeap, EndsAcross}
 use Rattle.rbg_flat.specs.internal.Leading.{LeadsFrom, EndsFrom, LeadsPast, EndsPast, LearnsEnd}
-use Rattle.rbg_flat.specs.internal.Sets.{SetsOfVertices, IsInWord, IsMarked, Meets}
-use Rattle.rbg_flat.proofs.Meetings.{meets_none, meets_both, meets_same}
+use Rattle.rbg_flat.specs.internal.Sets.{SetsOfVertices, IsInWord, Meets}
+use Rattle.rbg_flat.proofs.Meetings.{meets_both, meets_same}
 
 not_both : {n : ℕ} → n ≡ 0 → n ≡ 1 → ⊥
 not_both none one = omega (arith, none, one)

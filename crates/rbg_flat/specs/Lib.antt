@@ -1,4 +1,5 @@
 -- What is found from one place with no modifier before it.
 pub mod Candidates
 pub mod Chains
+pub mod Found
 pub mod internal

@@ -4,3 +4,4 @@ pub mod Begun
 pub mod Shown
 pub mod Leading
 pub mod Passing
+pub mod Gathering

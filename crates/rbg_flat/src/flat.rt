@@ -1,6 +1,5 @@
 //! A flat part that is being found, by sets of vertices.
-ghost use Rattle.std.specs.Prelude.{◌≡◌, ℕ, ◌<◌, ◌≤◌, ◌↔◌, ◌/◌, ◌%◌, Contains, length, slice_index, IfOk, IfSome, IfNone, IsTrue, false};
-ghost use Rattle.std.specs.Int.{bit_at};
+ghost use Rattle.std.specs.Prelude.{◌≡◌, ℕ, ◌<◌, ◌≤◌, ◌↔◌, ◌⊎◌, length, IfOk, IfSome, IfNone, OnOk, IsTrue, false};
 ghost use Rattle.rbg_rules.specs.Games.{IsGame};
 ghost use Rattle.rbg_rules.specs.Laws.{IsStart};
 ghost use Rattle.rbg_rules.specs.Positions.{IsModifierAt, IsNumbered, IsPatternAt, positions_of};
@@ -9,12 +8,14 @@ ghost use Rattle.rbg_rules.specs.Words.{Start};
 ghost use Rattle.rbg_leaps.specs.Leaps.{IsLeap, EndsAcross};
 ghost use Rattle.rbg_leaps.specs.Made.{AreLeapsOf};
 ghost use Rattle.rbg_leaps.specs.Origin.{start_of};
-ghost use Rattle.rbg_flat.specs.Candidates.{IsCandidate, MayEnd};
+ghost use Rattle.rbg_flat.specs.Candidates.{MayEnd};
 ghost use Rattle.rbg_flat.specs.Chains.{Holds, IsMet};
+ghost use Rattle.rbg_flat.specs.Found.{AreFound, HasCandidates, most_candidates};
 ghost use Rattle.rbg_flat.specs.internal.Begun.{IsBegun};
 ghost use Rattle.rbg_flat.specs.internal.Sets.{Meets, IsMarked, IsOpen, IsDone, KeepsDone, weight};
 ghost use Rattle.rbg_flat.specs.internal.Leading.{AreSizedFor, AreOn, IsOnBoard, LeadsFrom, EndsFrom, LearnsEnd};
 
+use crate::gathering::{gather_row, keeps};
 use crate::leading::meet_targets;
 use crate::passing::held;
 use crate::sets::Sets;
@@ -126,6 +127,10 @@ impl Flat {
             → IsTrue valid ↔ Holds game.now s vertex position
             → IsBegun game.now s f (IsMarked self.old.sets) (IsOpen self.old.sets) self.old.ends
             → IsBegun game.now s f (IsMarked self.new.sets) (IsOpen self.new.sets) self.new.ends }
+        ensures still_done { KeepsDone self.old.sets self.new.sets }
+        ensures done { IsDone self.new.sets vertex position }
+        ensures quiet { (v p : ℕ) → IsPatternAt game.now.rules p → IsDone self.new.sets v p
+            → ((v ≡ vertex) × (p ≡ position)) ⊎ IsDone self.old.sets v p }
         ensures less { IsOpen self.old.sets vertex position
             → weight self.new.sets < weight self.old.sets }
     {
@@ -145,23 +150,39 @@ impl Flat {
         self.ends
     }
 
-    /// The positions that may come next, each once, and maybe others.
-    pub fn positions(&self) -> &[Position]
-        ensures { (v p : ℕ) → IsMarked self.now.sets v p → Contains result.now p }
+    /// Gathers what was found, once nothing is left to be looked at, in place of what the list held: the modifiers that
+    /// come next and are valid, each with its vertex. All is forgotten then. Returns how many candidates there were.
+    pub fn finish(
+        &mut self,
+        game: &Game,
+        state: &SemiState,
+        found: &mut Vec<(Vertex, Position)>,
+    ) -> Result<usize, Memory>
+        requires lawful { IsGame game.now }
+        requires fits { IsStateOf game.now state.now.state }
+        requires sized { AreSizedFor game.now self.old.sets }
+        requires on { AreOn game.now self.old.sets }
+        requires done { (v p : ℕ) → ¬ IsOpen self.old.sets v p }
+        ensures sized { AreSizedFor game.now self.new.sets }
+        ensures ends { self.new.ends ≡ self.old.ends }
+        ensures found { OnOk result ((f : Start)
+            → IsBegun game.now state.now.state f (IsMarked self.old.sets) (IsOpen self.old.sets)
+            self.old.ends
+            → AreFound game.now state.now.state f found.new.items) }
+        ensures count { IfOk result (λ many. (f : Start)
+            → IsBegun game.now state.now.state f (IsMarked self.old.sets) (IsOpen self.old.sets)
+            self.old.ends
+            → HasCandidates game.now state.now.state f many) }
+        ensures few { IfOk result (λ many. many ≤ most_candidates game.now) }
     {
-        self.sets.touched()
-    }
-
-    /// The row of a position: the vertices at which it may come next, once nothing is left to be looked at.
-    pub fn row(&self, position: Position) -> &[u64]
-        requires { position < self.now.sets.size }
-        ensures { (game : AbstractGame) (s : AbstractState) (f : Start) → IsNumbered game.rules
-            → IsBegun game s f (IsMarked self.now.sets) (IsOpen self.now.sets) self.now.ends
-            → ((v p : ℕ) → ¬ IsOpen self.now.sets v p) → (v : ℕ)
-            → (bit_at (slice_index result.now (v / 64)) (v % 64) ≡ 1)
-            ↔ IsCandidate game s f v position }
-    {
-        self.sets.row(position)
+        found.clear();
+        let mut many = 0;
+        while let Some(position) = self.sets.last_touched() {
+            let keeps = keeps(game, state, position);
+            many += gather_row(found, &self.sets, position, keeps)?;
+            self.sets.forget(position);
+        }
+        Ok(many)
     }
 
     /// Leads on from a place in the rules and a vertex: meets where leaps lead from there.
@@ -199,6 +220,10 @@ impl Flat {
             → IsBegun game.now s f (IsMarked self.old.sets) (IsOpen self.old.sets) self.old.ends
             → IsBegun game.now s f (IsMarked self.new.sets) (IsOpen self.new.sets) self.new.ends }
         ensures on { AreOn game.now self.old.sets → AreOn game.now self.new.sets }
+        ensures still_done { KeepsDone self.old.sets self.new.sets }
+        ensures done { IsMarked self.old.sets vertex position → IsDone self.new.sets vertex position }
+        ensures quiet { (v p : ℕ) → ¬ IsModifierAt game.now.rules p → IsDone self.new.sets v p
+            → ((v ≡ vertex) × (p ≡ position)) ⊎ IsDone self.old.sets v p }
         ensures less { IsOpen self.old.sets vertex position
             → weight self.new.sets < weight self.old.sets }
     {
@@ -221,6 +246,10 @@ impl Flat {
             → IsBegun game.now s f (IsMarked self.old.sets) (IsOpen self.old.sets) self.old.ends
             → IsBegun game.now s f (IsMarked self.new.sets) (IsOpen self.new.sets) self.new.ends }
         ensures on { AreOn game.now self.old.sets → AreOn game.now self.new.sets }
+        ensures still_done { KeepsDone self.old.sets self.new.sets }
+        ensures done { IsMarked self.old.sets vertex position → IsDone self.new.sets vertex position }
+        ensures quiet { (v p : ℕ) → ¬ IsModifierAt game.now.rules p → IsDone self.new.sets v p
+            → ((v ≡ vertex) × (p ≡ position)) ⊎ IsDone self.old.sets v p }
         ensures less { IsOpen self.old.sets vertex position
             → weight self.new.sets < weight self.old.sets }
     {

@@ -2,6 +2,7 @@
 #![tactic(auto)]
 
 mod flat;
+mod gathering;
 pub mod laws;
 mod leading;
 mod passing;

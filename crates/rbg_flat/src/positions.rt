@@ -83,11 +83,4 @@ impl Positions {
         let position = self.room[self.len];
         self.inside[position as usize] = false;
     }
-
-    /// The positions.
-    pub(crate) fn as_slice(&self) -> &[Position]
-        ensures { result.now ≡ self.now.positions }
-    {
-        &self.room[..self.len]
-    }
 }

@@ -1,7 +1,7 @@
 //! Sets of vertices for each position: what was met, and what of it is still to be looked at.
 ghost use Rattle.std.specs.Prelude.{◌≡◌, ℕ, ◌<◌, ◌≤◌, ◌+◌, ◌-◌, ◌/◌, ◌%◌, ◌↔◌, ◌*◌, ◌^◌, ◌⊎◌, [], length, take, slice_index, slice_set, bit_or, bit_and, Contains, IfOk, IfSome, IfNone, true};
 ghost use Rattle.std.specs.Int.{bit_at, bit_not, w64};
-ghost use Rattle.rbg_flat.specs.internal.Sets.{MeetsWord, Meets, IsInRow, ClosesWord, IsMarked, IsOpen, IsLastOf, weight};
+ghost use Rattle.rbg_flat.specs.internal.Sets.{MeetsWord, Meets, IsInRow, ClosesWord, Forgets, IsMarked, IsOpen, IsLastOf, weight};
 
 use crate::positions::Positions;
 use crate::words::lowest;
@@ -76,11 +76,12 @@ impl Sets {
     }
 
     /// Forgets what was met at the position that was touched last.
-    fn forget(&mut self, position: Position)
+    pub(crate) fn forget(&mut self, position: Position)
         requires position { position < self.old.size }
         requires last { IsLastOf self.old.touched position }
         ensures size { self.new.size ≡ self.old.size }
         ensures columns { self.new.columns ≡ self.old.columns }
+        ensures forgets { Forgets self.old self.new position }
         ensures touched { self.new.touched ≡ take (length self.old.touched - 1) self.old.touched }
     {
         let start = position as usize * self.columns;
@@ -89,21 +90,31 @@ impl Sets {
         self.touched.take_last();
     }
 
-    /// The positions at which something was met, and maybe others.
-    pub(crate) fn touched(&self) -> &[Position]
-        ensures { (v p : ℕ) → IsMarked self.now v p → Contains result.now p }
+    /// How many words a row has.
+    pub(crate) fn columns(&self) -> usize
+        ensures { result ≡ self.now.columns }
     {
-        self.touched.as_slice()
+        self.columns
     }
 
-    /// The row of a position: the vertices at which it was met.
-    pub(crate) fn row(&self, position: Position) -> &[u64]
-        requires { position < self.now.size }
-        ensures { (v : ℕ) → (bit_at (slice_index result.now (v / 64)) (v % 64) ≡ 1)
-            ↔ IsMarked self.now v position }
+    /// What was met in a word of the row of a position.
+    #[inline(always)]
+    pub(crate) fn met_word(&self, position: Position, column: usize) -> u64
+        requires position { position < self.now.size }
+        requires column { column < self.now.columns }
+        ensures { result ≡ slice_index self.now.marks (position * self.now.columns + column) }
     {
-        let start = position as usize * self.columns;
-        &self.marks[start..start + self.columns]
+        self.marks[self.place(position, column)]
+    }
+
+    /// The position that was touched last; none where nothing is met.
+    #[inline(always)]
+    pub(crate) fn last_touched(&self) -> Option<Position>
+        ensures below { IfSome result (λ p. p < self.now.size) }
+        ensures last { IfSome result (λ p. IsLastOf self.now.touched p) }
+        ensures none { IfNone result ((v p : ℕ) → ¬ IsMarked self.now v p) }
+    {
+        self.touched.last()
     }
 
     /// Where a word of the row of a position is.

@@ -89,6 +89,7 @@ pub record ClosesWord (old new : SetsOfVertices) (position column word : ℕ) : 
   pub marks : new.marks ≡ old.marks
   pub still : (v p : ℕ) → IsOpen old v p → IsOpen new v p ⊎ IsInWord position column word v p
   pub only : (v p : ℕ) → IsOpen new v p → IsOpen old v p
+  pub gone : (v p : ℕ) → IsInWord position column word v p → ¬ IsOpen new v p
   pub lighter : weight new ≤ weight old
   pub less : (v : ℕ) → IsOpen old v position → IsInWord position column word v position → weight new < weight old
 
@@ -119,3 +120,9 @@ pub record IsDone (sets : SetsOfVertices) (v p : ℕ) : Type 0 where
 -- What was looked at stays so.
 abbrev pub KeepsDone : (old new : SetsOfVertices) → Type 0
 KeepsDone old new = (v p : ℕ) → IsDone old v p → IsDone new v p
+
+-- What was met at the position is forgotten, and nothing else.
+pub record Forgets (old new : SetsOfVertices) (q : ℕ) : Type 0 where
+  pub gone : (v : ℕ) → ¬ IsMarked new v q
+  pub only : (v p : ℕ) → IsMarked new v p → IsMarked old v p
+  pub still : (v p : ℕ) → p ≢ q → IsMarked old v p → IsMarked new v p

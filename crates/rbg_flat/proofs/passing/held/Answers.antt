@@ -1,4 +1,4 @@
-use Rattle.std.proofs.Common.{◌≡◌, ℕ, ◌+◌, ◌*◌, ◌<◌, length, sym, subst, arith}
+use Rattle.std.proofs.Common.{◌≡◌, ◌+◌, ◌*◌, ◌<◌, length, subst, arith}
 use Rattle.std.specs.Prelude.{◌↔◌}
 use Rattle.std.specs.Int.{bit_at}
 use Rattle.rbg_rules.specs.Positions.{HasAction}
@@ -21,8 +21,7 @@ returns-in-Some-clause-told c = λ b small in_word.
     subst (λ xs. (bit_at c.in-Some.standing b ≡ 1) ↔ IsOneOf xs s.pieces (c.args.column * 64 + b)) c.deref.ensures.value (c.in-Some.ensures b small) in
     let size = c.requires.fits.vertices in
     let board = c.requires.board b in_word in
-    let below : c.args.column * 64 + b < length s.pieces = omega (arith, size, board) in
-    (
+    let below : c.args.column * 64 + b < length s.pieces = omega (arith, size, board) in (
       λ set. on_passes c.args.game.now c.requires.lawful.numbered s c.args.position c.in-On.pieces.items stands (c.args.column * 64 + b) (here.0 (bit_of_second c.args.word c.in-Some.standing b set)),
       λ passes. bit_of_both c.args.word c.in-Some.standing b in_word (here.1 (passes_on c.args.game.now c.requires.lawful.numbered s c.args.position c.in-On.pieces.items stands (c.args.column * 64 + b) below passes)),
     )

@@ -1,6 +1,4 @@
-use Rattle.std.proofs.Common.{ℕ, ◌+◌, ◌*◌, ◌<◌, get_or, length, sym, subst, arith, ◌≡◌}
-use Rattle.std.specs.Prelude.{◌↔◌, slice_get, Some}
-use Rattle.std.specs.Int.{bit_at}
+use Rattle.std.proofs.Common.{◌+◌, ◌*◌, ◌<◌, length}
 use Rattle.rbg_flat.proofs.Passings.{one_of_more}
 use Rattle.rbg_flat.proofs.passing.standing.Goals as goal
 

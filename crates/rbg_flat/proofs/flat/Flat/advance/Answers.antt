@@ -1,4 +1,3 @@
-use Rattle.std.proofs.Common.{◌≡◌, ℕ}
 use Rattle.rbg_flat.proofs.flat.Flat.advance.Goals as goal
 
 pub loop-position-preserved : goal.loop-position-preserved

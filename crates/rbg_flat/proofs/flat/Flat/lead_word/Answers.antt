@@ -1,4 +1,4 @@
-use Rattle.std.proofs.Common.{◌≡◌, ℕ, ◌∙◌}
+use Rattle.std.proofs.Common.{◌∙◌}
 use Rattle.rbg_flat.proofs.Wordwise.{meets_bit, ends_bit, meets_all, ends_all}
 use Rattle.rbg_flat.proofs.flat.Flat.lead_word.Goals as goal
 

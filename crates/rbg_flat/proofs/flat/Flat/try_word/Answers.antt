@@ -1,12 +1,11 @@
-use Rattle.std.proofs.Common.{◌≡◌, ℕ, ◌+◌, ◌*◌, ◌/◌, ◌%◌, ◌<◌, ◌≤◌, get_or, length, refl, sym, ap, ◌∙◌, subst, arith}
-use Rattle.std.specs.Int.{bit_at}
-use Rattle.rbg_rules.specs.Positions.{IsModifierAt, IsPatternAt, positions_of}
+use Rattle.std.proofs.Common.{ℕ, ◌/◌, subst, arith}
+use Rattle.rbg_rules.specs.Positions.{IsModifierAt, IsPatternAt}
 use Rattle.rbg_flat.proofs.Modifiers.{pattern_opens}
-use Rattle.rbg_flat.specs.internal.Leading.{AreOn, LeadsFrom}
-use Rattle.rbg_flat.specs.internal.Sets.{IsInWord, IsDone}
+use Rattle.rbg_flat.specs.internal.Leading.{LeadsFrom}
+use Rattle.rbg_flat.specs.internal.Sets.{IsInWord}
 use Rattle.rbg_flat.proofs.Leaping.{same_on}
 use Rattle.rbg_flat.proofs.Trying.{word_done, board_bits}
-use Rattle.rbg_flat.proofs.Doing.{meets_done, closes_done, meets_quiet, closes_quiet}
+use Rattle.rbg_flat.proofs.Doing.{meets_quiet, closes_quiet}
 use Rattle.rbg_flat.proofs.flat.Flat.try_word.Goals as goal
 
 pub take_word-word-requires-clause-position : goal.take_word-word-requires-clause-position

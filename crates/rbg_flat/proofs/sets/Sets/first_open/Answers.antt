@@ -1,5 +1,4 @@
-use Rattle.std.proofs.Common.{◌≡◌, ℕ, ◌+◌, ◌*◌, ◌/◌, ◌%◌, ◌<◌, List, get_or, sym, ap, ◌∙◌, arith}
-use Rattle.std.specs.Int.{bit_at}
+use Rattle.std.proofs.Common.{◌<◌}
 use Rattle.rbg_flat.proofs.WordLemmas.{bit_there}
 use Rattle.rbg_flat.proofs.sets.Sets.first_open.Goals as goal
 
