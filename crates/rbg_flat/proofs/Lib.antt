@@ -17,3 +17,4 @@ pub mod Lists
 pub mod Ones
 pub mod Gatherings
 pub mod Finishings
+pub mod Stills

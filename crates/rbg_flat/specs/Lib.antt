@@ -2,4 +2,5 @@
 pub mod Candidates
 pub mod Chains
 pub mod Found
+pub mod Paths
 pub mod internal

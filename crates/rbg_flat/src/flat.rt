@@ -1,23 +1,25 @@
 //! A flat part that is being found, by sets of vertices.
-ghost use Rattle.std.specs.Prelude.{◌≡◌, ℕ, ◌<◌, ◌≤◌, ◌↔◌, ◌⊎◌, length, IfOk, IfSome, IfNone, OnOk, IsTrue, false};
+ghost use Rattle.std.specs.Prelude.{◌≡◌, ℕ, ◌<◌, ◌≤◌, ◌↔◌, ◌⊎◌, ◌^◌, length, IfOk, IfSome, IfNone, OnOk, IsTrue, false};
 ghost use Rattle.rbg_rules.specs.Games.{IsGame};
 ghost use Rattle.rbg_rules.specs.Laws.{IsStart};
 ghost use Rattle.rbg_rules.specs.Positions.{IsModifierAt, IsNumbered, IsPatternAt, positions_of};
 ghost use Rattle.rbg_rules.specs.State.{AbstractGame, AbstractState, IsStateOf};
-ghost use Rattle.rbg_rules.specs.Words.{Start};
+ghost use Rattle.rbg_rules.specs.Words.{Start, after};
 ghost use Rattle.rbg_leaps.specs.Leaps.{IsLeap, EndsAcross};
 ghost use Rattle.rbg_leaps.specs.Made.{AreLeapsOf};
 ghost use Rattle.rbg_leaps.specs.Origin.{start_of};
 ghost use Rattle.rbg_flat.specs.Candidates.{MayEnd};
 ghost use Rattle.rbg_flat.specs.Chains.{Holds, IsMet};
+ghost use Rattle.rbg_flat.specs.Paths.{ArePathsOf, IsStill};
 ghost use Rattle.rbg_flat.specs.Found.{AreFound, HasCandidates, most_candidates};
 ghost use Rattle.rbg_flat.specs.internal.Begun.{IsBegun};
-ghost use Rattle.rbg_flat.specs.internal.Sets.{Meets, IsMarked, IsOpen, IsDone, KeepsDone, weight};
+ghost use Rattle.rbg_flat.specs.internal.Sets.{Meets, IsInWord, IsMarked, IsOpen, IsDone, KeepsDone, weight};
 ghost use Rattle.rbg_flat.specs.internal.Leading.{AreSizedFor, AreOn, IsOnBoard, LeadsFrom, EndsFrom, LearnsEnd};
 
 use crate::gathering::{gather_row, keeps};
-use crate::leading::meet_targets;
+use crate::leading::{meet_bits, meet_targets};
 use crate::passing::held;
+use crate::paths::Paths;
 use crate::sets::Sets;
 use crate::words::{lowest, unit_word, without};
 use rbg_base::{Memory, Position, Vertex};
@@ -47,9 +49,9 @@ impl Flat {
     }
 
     /// Begins anew, at a place in the rules and a vertex.
-    pub fn begin(&mut self, game: &Game, leaps: &Leaps, origin: Origin, vertex: Vertex)
+    pub fn begin(&mut self, game: &Game, paths: &Paths, origin: Origin, vertex: Vertex)
         requires lawful { IsGame game.now }
-        requires leaps { AreLeapsOf game.now leaps.now }
+        requires paths { ArePathsOf game.now paths.now }
         requires sized { AreSizedFor game.now self.old.sets }
         requires vertex { vertex < length game.now.board.first }
         requires stands { IsStart game.now.rules (start_of origin) }
@@ -61,7 +63,7 @@ impl Flat {
     {
         self.sets.clear();
         self.ends = false;
-        self.lead(game, leaps, origin, vertex);
+        self.lead(game, &paths.leaps, origin, vertex);
     }
 
     /// Goes on up to the next vertex that is to be asked about a pattern, and returns it with the pattern's position;
@@ -69,11 +71,11 @@ impl Flat {
     pub fn advance(
         &mut self,
         game: &Game,
-        leaps: &Leaps,
+        paths: &Paths,
         state: &SemiState,
     ) -> Option<(Vertex, Position)>
         requires lawful { IsGame game.now }
-        requires leaps { AreLeapsOf game.now leaps.now }
+        requires paths { ArePathsOf game.now paths.now }
         requires fits { IsStateOf game.now state.now.state }
         requires sized { AreSizedFor game.now self.old.sets }
         requires on { AreOn game.now self.old.sets }
@@ -98,7 +100,7 @@ impl Flat {
                     if is_pattern(game, &self.sets, vertex, position) {
                         return Some((vertex, position));
                     }
-                    self.try_word(game, leaps, state, position, vertex);
+                    self.try_word(game, paths, state, position, vertex);
                 }
             }
         }
@@ -109,13 +111,13 @@ impl Flat {
     pub fn take(
         &mut self,
         game: &Game,
-        leaps: &Leaps,
+        paths: &Paths,
         vertex: Vertex,
         position: Position,
         valid: bool,
     )
         requires lawful { IsGame game.now }
-        requires leaps { AreLeapsOf game.now leaps.now }
+        requires paths { ArePathsOf game.now paths.now }
         requires sized { AreSizedFor game.now self.old.sets }
         requires vertex { vertex < length game.now.board.first }
         requires from_one { 0 < position }
@@ -135,7 +137,7 @@ impl Flat {
             → weight self.new.sets < weight self.old.sets }
     {
         if valid {
-            self.lead_on(game, leaps, position, vertex);
+            self.lead_on(game, &paths.leaps, position, vertex);
         } else {
             self.drop_one(game, position, vertex);
         }
@@ -263,13 +265,13 @@ impl Flat {
     fn try_word(
         &mut self,
         game: &Game,
-        leaps: &Leaps,
+        paths: &Paths,
         state: &SemiState,
         position: Position,
         vertex: Vertex,
     )
         requires lawful { IsGame game.now }
-        requires leaps { AreLeapsOf game.now leaps.now }
+        requires paths { ArePathsOf game.now paths.now }
         requires fits { IsStateOf game.now state.now.state }
         requires sized { AreSizedFor game.now self.old.sets }
         requires on { AreOn game.now self.old.sets }
@@ -291,12 +293,78 @@ impl Flat {
         let column = vertex as usize / 64;
         let word = self.sets.take_word(position, column);
         let held = held(game, state, position, column, word);
-        self.lead_word(game, leaps, position, column, held);
+        self.lead_word(game, paths, position, column, held);
     }
 
-    /// Leads on from a position at each vertex of a word.
+    /// Leads on from a position at each vertex of a word: at all of them at once where no shift comes next.
     #[inline(always)]
     fn lead_word(
+        &mut self,
+        game: &Game,
+        paths: &Paths,
+        position: Position,
+        column: usize,
+        word: u64,
+    )
+        requires lawful { IsGame game.now }
+        requires paths { ArePathsOf game.now paths.now }
+        requires sized { AreSizedFor game.now self.old.sets }
+        requires board { IsOnBoard game.now column word }
+        requires column { column < self.old.sets.columns }
+        requires from_one { 0 < position }
+        requires there { position ≤ length (positions_of game.now.rules) }
+        ensures sized { AreSizedFor game.now self.new.sets }
+        ensures met { Meets self.old.sets self.new.sets (LeadsFrom game.now position column word)
+            (λ p. ¬ IsModifierAt game.now.rules p) }
+        ensures ends { LearnsEnd self.old.ends self.new.ends
+            (EndsFrom game.now position column word) }
+        ensures on { AreOn game.now self.old.sets → AreOn game.now self.new.sets }
+    {
+        match first_still(paths, position, column, word) {
+            Some(vertex) => self.lead_still(game, paths, position, vertex, column, word),
+            None => self.lead_each(game, &paths.leaps, position, column, word),
+        }
+    }
+
+    /// Leads on from a position at all vertices of a word at once, of which one is given. No shift comes next.
+    #[inline(always)]
+    fn lead_still(
+        &mut self,
+        game: &Game,
+        paths: &Paths,
+        position: Position,
+        vertex: Vertex,
+        column: usize,
+        word: u64,
+    )
+        requires lawful { IsGame game.now }
+        requires paths { ArePathsOf game.now paths.now }
+        requires sized { AreSizedFor game.now self.old.sets }
+        requires board { IsOnBoard game.now column word }
+        requires column { column < self.old.sets.columns }
+        requires from_one { 0 < position }
+        requires there { position ≤ length (positions_of game.now.rules) }
+        requires still { IsStill game.now.rules position }
+        requires in_word { IsInWord position column word vertex position }
+        ensures sized { AreSizedFor game.now self.new.sets }
+        ensures met { Meets self.old.sets self.new.sets (LeadsFrom game.now position column word)
+            (λ p. ¬ IsModifierAt game.now.rules p) }
+        ensures ends { LearnsEnd self.old.ends self.new.ends
+            (EndsAcross game.now (after position) vertex) }
+        ensures on { AreOn game.now self.old.sets → AreOn game.now self.new.sets }
+    {
+        // an action stands there
+        let _action = game.action(position);
+        let origin = Origin::After(position);
+        let targets = paths.leaps.from(origin, vertex);
+        meet_bits(&mut self.sets, game, targets, column, word);
+        let ends = paths.leaps.ends(origin, vertex);
+        self.ends |= ends;
+    }
+
+    /// Leads on from a position at each vertex of a word, one after another.
+    #[inline(always)]
+    fn lead_each(
         &mut self,
         game: &Game,
         leaps: &Leaps,
@@ -337,4 +405,19 @@ fn is_pattern(game: &Game, sets: &Sets, vertex: Vertex, position: Position) -> b
     ensures { IsTrue result ↔ IsPatternAt game.now.rules position }
 {
     game.is_pattern(position)
+}
+
+/// The first vertex of a word, where no shift comes next behind a position.
+#[inline(always)]
+fn first_still(paths: &Paths, position: Position, column: usize, word: u64) -> Option<Vertex>
+    requires { column < 2 ^ 25 }
+    ensures still { IfSome result (λ _. (game : AbstractGame) → ArePathsOf game paths.now
+        → IsStill game.rules position) }
+    ensures there { IfSome result (λ v. IsInWord position column word v position) }
+{
+    if word != 0 && paths.is_still(position) {
+        Some(column as Vertex * 64 + lowest(word))
+    } else {
+        None
+    }
 }

@@ -4,8 +4,8 @@ ghost use Rattle.rbg_rules.specs.Games.{IsGame};
 ghost use Rattle.rbg_rules.specs.Positions.{IsModifierAt, positions_of};
 ghost use Rattle.rbg_leaps.specs.Asked.{row_of};
 ghost use Rattle.rbg_flat.specs.internal.Shown.{shows_modifier};
-ghost use Rattle.rbg_flat.specs.internal.Sets.{Meets, IsInRow};
-ghost use Rattle.rbg_flat.specs.internal.Leading.{AreSizedFor, IsTargetFor, IsAmong};
+ghost use Rattle.rbg_flat.specs.internal.Sets.{Meets, IsInRow, IsInWord};
+ghost use Rattle.rbg_flat.specs.internal.Leading.{AreSizedFor, IsTargetFor, IsAmong, IsAmongBits, IsPositionIn};
 
 use crate::sets::Sets;
 use rbg_base::Position;
@@ -60,5 +60,34 @@ pub(crate) fn meet_targets(sets: &mut Sets, game: &Game, leaps: &Leaps, targets:
 {
     for target in targets {
         meet_target(sets, game, leaps, target);
+    }
+}
+
+/// Meets the vertices of a word at a position. What is new of them is to be looked at, unless a modifier stands there.
+#[inline(always)]
+fn meet_at(sets: &mut Sets, game: &Game, position: Position, column: usize, word: u64)
+    requires lawful { IsGame game.now }
+    requires sized { AreSizedFor game.now sets.old }
+    requires position { IsPositionIn game.now position }
+    requires column { column < sets.old.columns }
+    ensures { Meets sets.old sets.new (IsInWord position column word)
+        (λ p. ¬ IsModifierAt game.now.rules p) }
+{
+    let opens = !is_modifier(game, position);
+    sets.meet_word(position, column, word, opens);
+}
+
+/// Meets the vertices of a word at the positions of targets.
+#[inline(always)]
+pub(crate) fn meet_bits(sets: &mut Sets, game: &Game, targets: &[Target], column: usize, word: u64)
+    requires lawful { IsGame game.now }
+    requires sized { AreSizedFor game.now sets.old }
+    requires column { column < sets.old.columns }
+    requires targets { All (λ t. IsPositionIn game.now t.position) targets.now }
+    ensures { Meets sets.old sets.new (IsAmongBits targets.now column word)
+        (λ p. ¬ IsModifierAt game.now.rules p) }
+{
+    for target in targets {
+        meet_at(sets, game, target.position, column, word);
     }
 }

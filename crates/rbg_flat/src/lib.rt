@@ -6,8 +6,10 @@ mod gathering;
 pub mod laws;
 mod leading;
 mod passing;
+mod paths;
 mod positions;
 mod sets;
 mod words;
 
 pub use flat::Flat;
+pub use paths::Paths;

@@ -69,3 +69,14 @@ pub record EndsPast (game : AbstractGame) (q c word rest : ℕ) : Type 0 where
   pub there : IsInWord q c word vertex q
   pub past : bit_at rest (vertex % 64) ≡ 0
   pub ends : EndsAcross game (after q) vertex
+
+-- The vertex is in a word, and one of the targets is at the position.
+pub record IsAmongBits (targets : List Target) (c word v p : ℕ) : Type 0 where
+  pub target : Target
+  pub listed : Contains targets target
+  pub there : IsInWord target.position c word v p
+
+-- The position is one of the game's.
+pub record IsPositionIn (game : AbstractGame) (p : ℕ) : Type 0 where
+  pub from_one : 0 < p
+  pub there : p ≤ length (positions_of game.rules)

@@ -12,3 +12,13 @@ shows_modifier (On pieces) = false
 shows_modifier (Compare e r f) = false
 shows_modifier Positive = false
 shows_modifier Negative = false
+
+abbrev pub shows_shift : Action → Bool
+shows_shift (Shift d) = true
+shows_shift (Off x) = false
+shows_shift (Assign v e) = false
+shows_shift (Switch n) = false
+shows_shift (On pieces) = false
+shows_shift (Compare e r f) = false
+shows_shift Positive = false
+shows_shift Negative = false

@@ -4,7 +4,7 @@ use Rattle.std.specs.Int.{bit_at}
 use Rattle.rbg_rules.specs.Positions.{IsModifierAt}
 use Rattle.rbg_flat.specs.internal.Leading.{AreSizedFor, AreOn, LeadsPast, EndsPast, LearnsEnd}
 use Rattle.rbg_flat.specs.internal.Sets.{Meets}
-use Rattle.rbg_flat.proofs.flat.Flat.lead_word.Given as goal
+use Rattle.rbg_flat.proofs.flat.Flat.lead_each.Given as goal
 
 abbrev pub invariant-loop-rest : goal.invariant-loop-rest
 invariant-loop-rest l = record {
