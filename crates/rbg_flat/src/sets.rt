@@ -282,6 +282,11 @@ fn clear_row(words: &mut Vec<u64>, start: usize, columns: usize)
     ensures others { (i : ℕ) → (i < start) ⊎ (start + columns ≤ i)
         → slice_index words.new.items i ≡ slice_index words.old.items i }
 {
+    // most boards have one word for each position
+    if columns == 1 {
+        words[start] = 0;
+        return;
+    }
     for column in 0..columns {
         words[start + column] = 0;
     }
