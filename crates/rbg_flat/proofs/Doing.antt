@@ -23,6 +23,10 @@ meets_quiet old new In Opens meets v p opens done = record { marked = by_case (m
     by_case (inl was) = was
     by_case (inr (_, is)) = absurd (done.closed (is opens))
 
+-- Where nothing was marked before, nothing that opens was looked at.
+pub nothing_done : (old new : SetsOfVertices) (In : (v p : ℕ) → Type 0) (Opens : ℕ → Type 0) → ((v p : ℕ) → ¬ IsMarked old v p) → Meets old new In Opens → (v p : ℕ) → Opens p → ¬ IsDone new v p
+nothing_done old new In Opens none meets v p opens done = none v p (meets_quiet old new In Opens meets v p opens done).marked
+
 -- Where a word was closed, nothing else was looked at.
 pub closes_quiet : (old new : SetsOfVertices) (q c word : ℕ) → ClosesWord old new q c word → (v p : ℕ) → ¬ IsInWord q c word v p → IsDone new v p → IsDone old v p
 closes_quiet old new q c word closing v p other done = record { marked = marked_before old new q c word v p closing done.marked; closed = λ was. by_case (closing.still v p was) }

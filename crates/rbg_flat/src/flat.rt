@@ -48,6 +48,14 @@ impl Flat {
         })
     }
 
+    /// Whether it is of use for the game.
+    pub fn is_for(&self, game: &Game) -> bool
+        ensures { IsTrue result → AreSizedFor game.now self.now.sets }
+    {
+        self.sets.size() == game.positions() + 1
+            && self.sets.columns() == (game.board().len() + 63) / 64
+    }
+
     /// Begins anew, at a place in the rules and a vertex.
     pub fn begin(&mut self, game: &Game, paths: &Paths, origin: Origin, vertex: Vertex)
         requires lawful { IsGame game.now }
@@ -60,6 +68,7 @@ impl Flat {
             → IsBegun game.now s (start_of origin) (IsMarked self.new.sets) (IsOpen self.new.sets)
             self.new.ends }
         ensures on { AreOn game.now self.new.sets }
+        ensures fresh { (v p : ℕ) → ¬ IsModifierAt game.now.rules p → ¬ IsDone self.new.sets v p }
     {
         self.sets.clear();
         self.ends = false;
@@ -92,6 +101,7 @@ impl Flat {
         ensures quiet { (v p : ℕ) → IsPatternAt game.now.rules p → IsDone self.new.sets v p
             → IsDone self.old.sets v p }
         ensures done { IfNone result ((v p : ℕ) → ¬ IsOpen self.new.sets v p) }
+        ensures lighter { weight self.new.sets ≤ weight self.old.sets }
     {
         while let Some(position) = self.sets.waiting() {
             match self.sets.first_open(position) {

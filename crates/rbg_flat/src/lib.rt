@@ -12,4 +12,4 @@ mod sets;
 mod words;
 
 pub use flat::Flat;
-pub use paths::Paths;
+pub use paths::{Paths, is_shift};

@@ -75,7 +75,7 @@ fn no_shift(game: &Game, positions: &[Position]) -> bool
 }
 
 /// Whether a shift stands at a position.
-fn is_shift(game: &Game, position: Position) -> bool
+pub fn is_shift(game: &Game, position: Position) -> bool
     requires lawful { IsGame game.now }
     requires position { IsPositionIn game.now position }
     ensures { IsTrue result ↔ IsShiftAt game.now.rules position }

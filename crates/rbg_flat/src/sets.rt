@@ -90,6 +90,13 @@ impl Sets {
         self.touched.take_last();
     }
 
+    /// Below which size the positions are.
+    pub(crate) fn size(&self) -> usize
+        ensures { result ≡ self.now.size }
+    {
+        self.size
+    }
+
     /// How many words a row has.
     pub(crate) fn columns(&self) -> usize
         ensures { result ≡ self.now.columns }

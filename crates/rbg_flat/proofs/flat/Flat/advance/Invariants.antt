@@ -1,5 +1,5 @@
 -- What was found so far is right.
-use Rattle.std.proofs.Common.{ℕ}
+use Rattle.std.proofs.Common.{ℕ, ◌≤◌}
 use Rattle.rbg_rules.specs.Positions.{IsPatternAt}
 use Rattle.rbg_rules.specs.Words.{Start}
 use Rattle.rbg_flat.specs.internal.Begun.{IsBegun}
@@ -17,6 +17,7 @@ invariant-loop-position l = record {
       IsBegun l.game l.state.state f (IsMarked l.self.sets) (IsOpen l.self.sets) l.self.ends;
   still_done : KeepsDone l.fn.self.sets l.self.sets;
   quiet : (v p : ℕ) → IsPatternAt l.game.rules p → IsDone l.self.sets v p → IsDone l.fn.self.sets v p;
+  lighter : weight l.self.sets ≤ weight l.fn.self.sets;
 }
 
 abbrev pub decreases-loop-position : goal.decreases-loop-position
