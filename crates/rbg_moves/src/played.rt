@@ -26,7 +26,7 @@ ghost use Rattle.rbg_rules.specs.Limits.{most_players};
 ghost use Rattle.rbg_rules.specs.Moves.{AbstractPlace, Finished, IsLegal, Legal};
 ghost use Rattle.rbg_rules.specs.Places.{IsPlaceOf};
 ghost use Rattle.rbg_rules.specs.Questions.{find_move, list_moves as listing_moves, try_move};
-ghost use Rattle.rbg_rules.specs.State.{start_of};
+ghost use Rattle.rbg_rules.specs.State.{AbstractGame, start_of};
 ghost use Rattle.rbg_flat.specs.Paths.{ArePathsOf};
 ghost use Rattle.rbg_moves.specs.Limits.{FitsLimits, IsDeepAt, IsWideAt};
 ghost use Rattle.rbg_moves.specs.Listing.{IsGathered, IsListed};
@@ -79,6 +79,17 @@ impl Model for PlayedGame {
         × IfSome played.paths (ArePathsOf played.game) };
 }
 
+/// The leaps of a game, where they are told.
+fn told(paths: &Option<Paths>) -> Option<&Paths>
+    ensures { (game : AbstractGame) → IfSome paths.now (ArePathsOf game)
+        → IfSome result (λ lent. ArePathsOf game lent.now) }
+{
+    match paths {
+        Some(lent) => Some(lent),
+        None => None,
+    }
+}
+
 impl PlayedGame {
     /// Makes the automaton of a game, and its leaps where they don't take too much memory.
     pub fn new(alloc: Global, game: Game) -> Result<PlayedGame, Memory>
@@ -93,16 +104,6 @@ impl PlayedGame {
             automaton,
             paths,
         })
-    }
-
-    /// The leaps of the game, where they are told.
-    fn paths(&self) -> Option<&Paths>
-        ensures { IfSome result (λ told. ArePathsOf self.now told.now) }
-    {
-        match &self.paths {
-            Some(paths) => Some(paths),
-            None => None,
-        }
     }
 
     /// The game itself.
@@ -163,7 +164,7 @@ impl PlayedGame {
             self.alloc,
             &self.game,
             &self.automaton,
-            self.paths(),
+            told(&self.paths),
             place,
             &mut workspace,
         )
@@ -194,7 +195,7 @@ impl PlayedGame {
             self.alloc,
             &self.game,
             &self.automaton,
-            self.paths(),
+            told(&self.paths),
             place,
             workspace,
         )
@@ -226,7 +227,7 @@ impl PlayedGame {
             self.alloc,
             &self.game,
             &self.automaton,
-            self.paths(),
+            told(&self.paths),
             place,
             workspace,
         )
@@ -253,7 +254,7 @@ impl PlayedGame {
             self.alloc,
             &self.game,
             &self.automaton,
-            self.paths(),
+            told(&self.paths),
             place,
             pairs,
             &mut workspace,
@@ -288,7 +289,7 @@ impl PlayedGame {
             self.alloc,
             &self.game,
             &self.automaton,
-            self.paths(),
+            told(&self.paths),
             place,
             pairs,
             workspace,
@@ -313,7 +314,7 @@ impl PlayedGame {
             self.alloc,
             &self.game,
             &self.automaton,
-            self.paths(),
+            told(&self.paths),
             place,
             max,
             &mut workspace,
@@ -346,7 +347,7 @@ impl PlayedGame {
             self.alloc,
             &self.game,
             &self.automaton,
-            self.paths(),
+            told(&self.paths),
             place,
             max,
             workspace,
