@@ -137,16 +137,16 @@ pub flat_part-ask-requires : goal.flat_part-ask-requires
 flat_part-ask-requires g t c κs within =
     let given : c.advance.new.state ≡ (record c.args.state.now { room = c.advance.new.state.room }) = room_twice c.args.state.now c.loop-flat.state c.advance.new.state c.loop-flat.invariant.given_back (back_same c.loop-flat.state c.advance.new.state c.advance.ensures.given_back) in
     let fits : IsStateOf c.loop-flat.self.game c.advance.new.state.state = onward IsStateOf c.args.self.now c.loop-flat.self c.args.state.now c.advance.new.state c.loop-flat.invariant.kept given c.requires.fits in
-    let asked : (slice_get c.advance.new.flat.value.queue.pairs c.advance.new.flat.value.taken ≡ Some (c.in-Some.vertex, c.in-Some.position)) × (c.in-Some.vertex < length c.loop-flat.self.game.board.first) × IsPatternAt c.loop-flat.self.game.rules c.in-Some.position = search rules in
+    let asked : (slice_get c.advance.new.flat.value.queue.pairs c.advance.new.flat.value.taken ≡ Some (c.in-Some-2.vertex, c.in-Some-2.position)) × (c.in-Some-2.vertex < length c.loop-flat.self.game.board.first) × IsPatternAt c.loop-flat.self.game.rules c.in-Some-2.position = search rules in
     let lawful : IsGame c.loop-flat.self.game = onward_rules IsGame c.args.self.now c.loop-flat.self c.loop-flat.invariant.kept c.loop-flat.invariant.lawful in
     let nests : NestsFrom c.loop-flat.self.game.rules c.args.nested (start_of c.args.origin) = onward_rules (λ x. NestsFrom x.rules c.args.nested (start_of c.args.origin)) c.args.self.now c.loop-flat.self c.loop-flat.invariant.kept c.requires.nested in
     let begun : IsBegun c.loop-flat.self.game c.loop-flat.state.state (start_of c.args.origin) c.advance.new.flat.value = c.in_ok-vertex.ensures.begun (start_of c.args.origin)
     (onward (λ x s. IsBegun x s (start_of c.args.origin) c.loop-flat.flat.value) c.args.self.now c.loop-flat.self c.args.state.now c.loop-flat.state c.loop-flat.invariant.kept c.loop-flat.invariant.given_back c.loop-flat.invariant.begun) in
-    let inner = asked_nests c.loop-flat.self.game lawful.numbered c.loop-flat.state.state (start_of c.args.origin) c.args.nested nests c.advance.new.flat.value.queue.pairs (take c.advance.new.flat.value.taken c.advance.new.flat.value.queue.pairs) c.advance.new.flat.value.found.items c.advance.new.flat.value.ends begun.part c.advance.new.flat.value.taken c.in-Some.vertex c.in-Some.position asked.0 asked.2 in
-    let need = some_nested c.loop-flat.self.game.rules c.args.nested c.in-Some.position inner in
+    let inner = asked_nests c.loop-flat.self.game lawful.numbered c.loop-flat.state.state (start_of c.args.origin) c.args.nested nests c.advance.new.flat.value.queue.pairs (take c.advance.new.flat.value.taken c.advance.new.flat.value.queue.pairs) c.advance.new.flat.value.found.items c.advance.new.flat.value.ends begun.part c.advance.new.flat.value.taken c.in-Some-2.vertex c.in-Some-2.position asked.0 asked.2 in
+    let need = some_nested c.loop-flat.self.game.rules c.args.nested c.in-Some-2.position inner in
     let room : 1 ≤ c.advance.new.state.room = (let same : c.advance.new.state.room ≡ c.loop-flat.state.room = ap (λ (h : History). h.room) c.advance.ensures.given_back in omega (arith, same, c.loop-flat.invariant.enough)) in
     let size : length c.advance.new.state.state.pieces ≡ length c.loop-flat.self.game.board.first = fits.vertices in
-    let under : c.in-Some.vertex < length c.advance.new.state.state.pieces = omega (arith, size, asked.1) in
+    let under : c.in-Some-2.vertex < length c.advance.new.state.state.pieces = omega (arith, size, asked.1) in
     (search rules, (within, (fits, (room, (under, (asked.2, need))))))
 
 pub flat_part-returns-in_err-valid-clause-kept : goal.flat_part-returns-in_err-valid-clause-kept
@@ -168,23 +168,23 @@ flat_part-take-requires-clause-marks g t c = onward_rules (λ x. HasMarksOf x c.
 
 pub flat_part-take-requires-clause-vertex : goal.flat_part-take-requires-clause-vertex
 flat_part-take-requires-clause-vertex g t c =
-    let asked : (slice_get c.advance.new.flat.value.queue.pairs c.advance.new.flat.value.taken ≡ Some (c.in-Some.vertex, c.in-Some.position)) × (c.in-Some.vertex < length c.loop-flat.self.game.board.first) × IsPatternAt c.loop-flat.self.game.rules c.in-Some.position = search rules in
-    onward_rules (λ x. c.in-Some.vertex < length x.board.first) c.loop-flat.self c.ask.new.self c.ask.ensures.kept asked.1
+    let asked : (slice_get c.advance.new.flat.value.queue.pairs c.advance.new.flat.value.taken ≡ Some (c.in-Some-2.vertex, c.in-Some-2.position)) × (c.in-Some-2.vertex < length c.loop-flat.self.game.board.first) × IsPatternAt c.loop-flat.self.game.rules c.in-Some-2.position = search rules in
+    onward_rules (λ x. c.in-Some-2.vertex < length x.board.first) c.loop-flat.self c.ask.new.self c.ask.ensures.kept asked.1
 
 pub flat_part-take-requires-clause-there : goal.flat_part-take-requires-clause-there
 flat_part-take-requires-clause-there g t c =
-    let asked : (slice_get c.advance.new.flat.value.queue.pairs c.advance.new.flat.value.taken ≡ Some (c.in-Some.vertex, c.in-Some.position)) × (c.in-Some.vertex < length c.loop-flat.self.game.board.first) × IsPatternAt c.loop-flat.self.game.rules c.in-Some.position = search rules in
-    onward_rules (λ x. IsPatternAt x.rules c.in-Some.position) c.loop-flat.self c.ask.new.self c.ask.ensures.kept asked.2
+    let asked : (slice_get c.advance.new.flat.value.queue.pairs c.advance.new.flat.value.taken ≡ Some (c.in-Some-2.vertex, c.in-Some-2.position)) × (c.in-Some-2.vertex < length c.loop-flat.self.game.board.first) × IsPatternAt c.loop-flat.self.game.rules c.in-Some-2.position = search rules in
+    onward_rules (λ x. IsPatternAt x.rules c.in-Some-2.position) c.loop-flat.self c.ask.new.self c.ask.ensures.kept asked.2
 
 pub flat_part-loop-flat-preserved : goal.flat_part-loop-flat-preserved
 flat_part-loop-flat-preserved g t c =
     let f : Start = start_of c.args.origin in
-    let v : ℕ = c.in-Some.vertex in
+    let v : ℕ = c.in-Some-2.vertex in
     let same : c.advance.new.state.room ≡ c.loop-flat.state.room = ap (λ (h : History). h.room) c.advance.ensures.given_back in
     let given : c.advance.new.state ≡ (record c.args.state.now { room = c.advance.new.state.room }) = room_twice c.args.state.now c.loop-flat.state c.advance.new.state c.loop-flat.invariant.given_back (back_same c.loop-flat.state c.advance.new.state c.advance.ensures.given_back) in
     let kept : c.ask.new.self ≡ (record c.args.self.now { opened = c.ask.new.self.opened; taken = c.ask.new.self.taken }) = kept_twice c.args.self.now c.loop-flat.self c.ask.new.self c.loop-flat.invariant.kept c.ask.ensures.kept in
     let there : AbstractState = at_vertex c.advance.new.state.state v in
-    let decides : IsTrue c.in_ok-valid.valid ↔ Applies c.ask.new.self.game c.in-Some.position there there = onward_rules (λ x. IsTrue c.in_ok-valid.valid ↔ Applies x c.in-Some.position there there) c.loop-flat.self c.ask.new.self c.ask.ensures.kept c.in_ok-valid.ensures.valid in
+    let decides : IsTrue c.in_ok-valid.valid ↔ Applies c.ask.new.self.game c.in-Some-2.position there there = onward_rules (λ x. IsTrue c.in_ok-valid.valid ↔ Applies x c.in-Some-2.position there there) c.loop-flat.self c.ask.new.self c.ask.ensures.kept c.in_ok-valid.ensures.valid in
     let begun : IsBegun c.loop-flat.self.game c.loop-flat.state.state f c.advance.new.flat.value = c.in_ok-vertex.ensures.begun f
     (onward (λ x s. IsBegun x s f c.loop-flat.flat.value) c.args.self.now c.loop-flat.self c.args.state.now c.loop-flat.state c.loop-flat.invariant.kept c.loop-flat.invariant.given_back c.loop-flat.invariant.begun) in
     let asked : IsBegun c.ask.new.self.game c.advance.new.state.state f c.advance.new.flat.value =
@@ -199,18 +199,18 @@ flat_part-loop-flat-preserved g t c =
           (c.in_ok-take.ensures.begun c.advance.new.state.state f decides asked);
       lawful = c.loop-flat.invariant.lawful;
       counted =
-          let pair : (slice_get c.advance.new.flat.value.queue.pairs c.advance.new.flat.value.taken ≡ Some (c.in-Some.vertex, c.in-Some.position)) × (c.in-Some.vertex < length c.loop-flat.self.game.board.first) × IsPatternAt c.loop-flat.self.game.rules c.in-Some.position = search rules in
-          let fresh : ¬ Contains (take c.advance.new.flat.value.taken c.advance.new.flat.value.queue.pairs) (c.in-Some.vertex, c.in-Some.position) = search rules in
+          let pair : (slice_get c.advance.new.flat.value.queue.pairs c.advance.new.flat.value.taken ≡ Some (c.in-Some-2.vertex, c.in-Some-2.position)) × (c.in-Some-2.vertex < length c.loop-flat.self.game.board.first) × IsPatternAt c.loop-flat.self.game.rules c.in-Some-2.position = search rules in
+          let fresh : ¬ Contains (take c.advance.new.flat.value.taken c.advance.new.flat.value.queue.pairs) (c.in-Some-2.vertex, c.in-Some-2.position) = search rules in
           subst (λ (ds : List (ℕ × ℕ)). CountsAsked c.args.self.now.game c.args.state.now.state f ds c.args.self.now.opened c.ask.new.self.opened) (sym c.in_ok-take.ensures.done)
-          (ask_step c.args.self.now c.loop-flat.self c.args.state.now c.loop-flat.state c.advance.new.state f c.loop-flat.flat.value c.advance.new.flat.value c.in-Some.vertex c.in-Some.position c.args.self.now.opened c.ask.new.self.opened _ _ c.loop-flat.invariant.kept c.loop-flat.invariant.given_back given c.loop-flat.invariant.lawful begun pair.0 pair.2 c.in_ok-vertex.ensures.still_done fresh c.loop-flat.invariant.counted c.ask.ensures.counts).counts;
+          (ask_step c.args.self.now c.loop-flat.self c.args.state.now c.loop-flat.state c.advance.new.state f c.loop-flat.flat.value c.advance.new.flat.value c.in-Some-2.vertex c.in-Some-2.position c.args.self.now.opened c.ask.new.self.opened _ _ c.loop-flat.invariant.kept c.loop-flat.invariant.given_back given c.loop-flat.invariant.lawful begun pair.0 pair.2 c.in_ok-vertex.ensures.still_done fresh c.loop-flat.invariant.counted c.ask.ensures.counts).counts;
       forced = λ cut.
           subst (λ (ds : List (ℕ × ℕ)). AsksForced c.args.self.now.game cut c.args.state.now.state ds c.args.self.now.opened c.ask.new.self.opened c.args.self.now.modifiers) (sym c.in_ok-take.ensures.done)
-          (ask_forced c.args.self.now c.loop-flat.self c.args.state.now c.advance.new.state (take c.loop-flat.flat.value.taken c.loop-flat.flat.value.queue.pairs) (take c.advance.new.flat.value.taken c.advance.new.flat.value.queue.pairs) c.in-Some.vertex c.in-Some.position c.args.self.now.opened c.ask.new.self.opened cut c.loop-flat.invariant.kept given c.loop-flat.invariant.lawful.numbered c.in_ok-vertex.ensures.quiet (c.loop-flat.invariant.forced cut) (c.in_ok-valid.ensures.forced cut));
+          (ask_forced c.args.self.now c.loop-flat.self c.args.state.now c.advance.new.state (take c.loop-flat.flat.value.taken c.loop-flat.flat.value.queue.pairs) (take c.advance.new.flat.value.taken c.advance.new.flat.value.queue.pairs) c.in-Some-2.vertex c.in-Some-2.position c.args.self.now.opened c.ask.new.self.opened cut c.loop-flat.invariant.kept given c.loop-flat.invariant.lawful.numbered c.in_ok-vertex.ensures.quiet (c.loop-flat.invariant.forced cut) (c.in_ok-valid.ensures.forced cut));
       spent = c.loop-flat.invariant.spent;
       taken =
-          let pair : (slice_get c.advance.new.flat.value.queue.pairs c.advance.new.flat.value.taken ≡ Some (c.in-Some.vertex, c.in-Some.position)) × (c.in-Some.vertex < length c.loop-flat.self.game.board.first) × IsPatternAt c.loop-flat.self.game.rules c.in-Some.position = search rules in
-          asked_takes c.args.self.now c.loop-flat.self c.args.state.now c.loop-flat.state c.advance.new.state f c.advance.new.flat.value v c.in-Some.position c.ask.new.self.opened c.ask.new.self.taken (Unit {0}) c.loop-flat.invariant.kept c.loop-flat.invariant.given_back given c.loop-flat.invariant.lawful begun pair.0 pair.2 c.loop-flat.invariant.taken
-          (takes_as c.loop-flat.self.game pattern there (beginning (inside c.in-Some.position)) c.loop-flat.self.opened c.ask.new.self.opened c.loop-flat.self.taken c.ask.new.self.taken (IsOk c.ask.result) (Unit {0}) c.ask.ensures.taken (λ _. is_answer c.ask.result c.in_ok-valid.valid c.in_ok-valid.was));
+          let pair : (slice_get c.advance.new.flat.value.queue.pairs c.advance.new.flat.value.taken ≡ Some (c.in-Some-2.vertex, c.in-Some-2.position)) × (c.in-Some-2.vertex < length c.loop-flat.self.game.board.first) × IsPatternAt c.loop-flat.self.game.rules c.in-Some-2.position = search rules in
+          asked_takes c.args.self.now c.loop-flat.self c.args.state.now c.loop-flat.state c.advance.new.state f c.advance.new.flat.value v c.in-Some-2.position c.ask.new.self.opened c.ask.new.self.taken (Unit {0}) c.loop-flat.invariant.kept c.loop-flat.invariant.given_back given c.loop-flat.invariant.lawful begun pair.0 pair.2 c.loop-flat.invariant.taken
+          (takes_as c.loop-flat.self.game pattern there (beginning (inside c.in-Some-2.position)) c.loop-flat.self.opened c.ask.new.self.opened c.loop-flat.self.taken c.ask.new.self.taken (IsOk c.ask.result) (Unit {0}) c.ask.ensures.taken (λ _. is_answer c.ask.result c.in_ok-valid.valid c.in_ok-valid.was));
     }
 
 pub flat_part-returns-in_err-take-clause-kept : goal.flat_part-returns-in_err-take-clause-kept
@@ -480,25 +480,25 @@ pub flat_part-returns-in_err-valid-clause-counts : goal.flat_part-returns-in_err
 flat_part-returns-in_err-valid-clause-counts g t c =
     let f : Start = start_of c.args.origin in
     let given : c.advance.new.state ≡ (record c.args.state.now { room = c.advance.new.state.room }) = room_twice c.args.state.now c.loop-flat.state c.advance.new.state c.loop-flat.invariant.given_back (back_same c.loop-flat.state c.advance.new.state c.advance.ensures.given_back) in
-    let asked : (slice_get c.advance.new.flat.value.queue.pairs c.advance.new.flat.value.taken ≡ Some (c.in-Some.vertex, c.in-Some.position)) × (c.in-Some.vertex < length c.loop-flat.self.game.board.first) × IsPatternAt c.loop-flat.self.game.rules c.in-Some.position = search rules in
-    let fresh : ¬ Contains (take c.advance.new.flat.value.taken c.advance.new.flat.value.queue.pairs) (c.in-Some.vertex, c.in-Some.position) = search rules in
+    let asked : (slice_get c.advance.new.flat.value.queue.pairs c.advance.new.flat.value.taken ≡ Some (c.in-Some-2.vertex, c.in-Some-2.position)) × (c.in-Some-2.vertex < length c.loop-flat.self.game.board.first) × IsPatternAt c.loop-flat.self.game.rules c.in-Some-2.position = search rules in
+    let fresh : ¬ Contains (take c.advance.new.flat.value.taken c.advance.new.flat.value.queue.pairs) (c.in-Some-2.vertex, c.in-Some-2.position) = search rules in
     let begun : IsBegun c.loop-flat.self.game c.loop-flat.state.state f c.advance.new.flat.value = c.in_ok-vertex.ensures.begun f
     (onward (λ x s. IsBegun x s f c.loop-flat.flat.value) c.args.self.now c.loop-flat.self c.args.state.now c.loop-flat.state c.loop-flat.invariant.kept c.loop-flat.invariant.given_back c.loop-flat.invariant.begun) in
     counted_as c.args.self.now.game reach c.args.state.now.state f c.args.self.now.opened c.ask.new.self.opened c.args.self.now.modifiers c.args.self.now.openings c.args.self.now.modifiers _ _ _ _
     (given_up c.ask.result c.from_residual-in_err-valid.result c.in_err-valid.field-0.0 Deep c.in_err-valid.was c.from_residual-in_err-valid.ensures.1)
     (given_up c.ask.result c.from_residual-in_err-valid.result c.in_err-valid.field-0.0 Wide c.in_err-valid.was c.from_residual-in_err-valid.ensures.1)
-    (ask_step c.args.self.now c.loop-flat.self c.args.state.now c.loop-flat.state c.advance.new.state f c.loop-flat.flat.value c.advance.new.flat.value c.in-Some.vertex c.in-Some.position c.args.self.now.opened c.ask.new.self.opened _ _ c.loop-flat.invariant.kept c.loop-flat.invariant.given_back given c.loop-flat.invariant.lawful begun asked.0 asked.2 c.in_ok-vertex.ensures.still_done fresh c.loop-flat.invariant.counted c.ask.ensures.counts).gave_up
+    (ask_step c.args.self.now c.loop-flat.self c.args.state.now c.loop-flat.state c.advance.new.state f c.loop-flat.flat.value c.advance.new.flat.value c.in-Some-2.vertex c.in-Some-2.position c.args.self.now.opened c.ask.new.self.opened _ _ c.loop-flat.invariant.kept c.loop-flat.invariant.given_back given c.loop-flat.invariant.lawful begun asked.0 asked.2 c.in_ok-vertex.ensures.still_done fresh c.loop-flat.invariant.counted c.ask.ensures.counts).gave_up
 
 pub flat_part-returns-in_err-take-clause-counts : goal.flat_part-returns-in_err-take-clause-counts
 flat_part-returns-in_err-take-clause-counts g t c =
     let f : Start = start_of c.args.origin in
     let given : c.advance.new.state ≡ (record c.args.state.now { room = c.advance.new.state.room }) = room_twice c.args.state.now c.loop-flat.state c.advance.new.state c.loop-flat.invariant.given_back (back_same c.loop-flat.state c.advance.new.state c.advance.ensures.given_back) in
-    let asked : (slice_get c.advance.new.flat.value.queue.pairs c.advance.new.flat.value.taken ≡ Some (c.in-Some.vertex, c.in-Some.position)) × (c.in-Some.vertex < length c.loop-flat.self.game.board.first) × IsPatternAt c.loop-flat.self.game.rules c.in-Some.position = search rules in
-    let fresh : ¬ Contains (take c.advance.new.flat.value.taken c.advance.new.flat.value.queue.pairs) (c.in-Some.vertex, c.in-Some.position) = search rules in
+    let asked : (slice_get c.advance.new.flat.value.queue.pairs c.advance.new.flat.value.taken ≡ Some (c.in-Some-2.vertex, c.in-Some-2.position)) × (c.in-Some-2.vertex < length c.loop-flat.self.game.board.first) × IsPatternAt c.loop-flat.self.game.rules c.in-Some-2.position = search rules in
+    let fresh : ¬ Contains (take c.advance.new.flat.value.taken c.advance.new.flat.value.queue.pairs) (c.in-Some-2.vertex, c.in-Some-2.position) = search rules in
     let begun : IsBegun c.loop-flat.self.game c.loop-flat.state.state f c.advance.new.flat.value = c.in_ok-vertex.ensures.begun f
     (onward (λ x s. IsBegun x s f c.loop-flat.flat.value) c.args.self.now c.loop-flat.self c.args.state.now c.loop-flat.state c.loop-flat.invariant.kept c.loop-flat.invariant.given_back c.loop-flat.invariant.begun) in
-    asked_only c.args.self.now.game c.args.state.now.state f (take c.advance.new.flat.value.taken c.advance.new.flat.value.queue.pairs ++ (c.in-Some.vertex, c.in-Some.position) ∷ []) c.args.self.now.opened c.ask.new.self.opened c.args.self.now.modifiers c.args.self.now.openings c.args.self.now.modifiers _ _
-    (ask_step c.args.self.now c.loop-flat.self c.args.state.now c.loop-flat.state c.advance.new.state f c.loop-flat.flat.value c.advance.new.flat.value c.in-Some.vertex c.in-Some.position c.args.self.now.opened c.ask.new.self.opened _ _ c.loop-flat.invariant.kept c.loop-flat.invariant.given_back given c.loop-flat.invariant.lawful begun asked.0 asked.2 c.in_ok-vertex.ensures.still_done fresh c.loop-flat.invariant.counted c.ask.ensures.counts).counts
+    asked_only c.args.self.now.game c.args.state.now.state f (take c.advance.new.flat.value.taken c.advance.new.flat.value.queue.pairs ++ (c.in-Some-2.vertex, c.in-Some-2.position) ∷ []) c.args.self.now.opened c.ask.new.self.opened c.args.self.now.modifiers c.args.self.now.openings c.args.self.now.modifiers _ _
+    (ask_step c.args.self.now c.loop-flat.self c.args.state.now c.loop-flat.state c.advance.new.state f c.loop-flat.flat.value c.advance.new.flat.value c.in-Some-2.vertex c.in-Some-2.position c.args.self.now.opened c.ask.new.self.opened _ _ c.loop-flat.invariant.kept c.loop-flat.invariant.given_back given c.loop-flat.invariant.lawful begun asked.0 asked.2 c.in_ok-vertex.ensures.still_done fresh c.loop-flat.invariant.counted c.ask.ensures.counts).counts
     (not_memory c.from_residual-in_err-take.result Memory Deep c.from_residual-in_err-take.ensures.1 refl memory_not_deep)
     (not_memory c.from_residual-in_err-take.result Memory Wide c.from_residual-in_err-take.ensures.1 refl memory_not_wide)
 
@@ -725,22 +725,22 @@ pub flat_part-returns-in_err-valid-clause-taken : goal.flat_part-returns-in_err-
 flat_part-returns-in_err-valid-clause-taken g t c =
     let f : Start = start_of c.args.origin in
     let given : c.advance.new.state ≡ (record c.args.state.now { room = c.advance.new.state.room }) = room_twice c.args.state.now c.loop-flat.state c.advance.new.state c.loop-flat.invariant.given_back (back_same c.loop-flat.state c.advance.new.state c.advance.ensures.given_back) in
-    let asked : (slice_get c.advance.new.flat.value.queue.pairs c.advance.new.flat.value.taken ≡ Some (c.in-Some.vertex, c.in-Some.position)) × (c.in-Some.vertex < length c.loop-flat.self.game.board.first) × IsPatternAt c.loop-flat.self.game.rules c.in-Some.position = search rules in
+    let asked : (slice_get c.advance.new.flat.value.queue.pairs c.advance.new.flat.value.taken ≡ Some (c.in-Some-2.vertex, c.in-Some-2.position)) × (c.in-Some-2.vertex < length c.loop-flat.self.game.board.first) × IsPatternAt c.loop-flat.self.game.rules c.in-Some-2.position = search rules in
     let begun : IsBegun c.loop-flat.self.game c.loop-flat.state.state f c.advance.new.flat.value = c.in_ok-vertex.ensures.begun f
     (onward (λ x s. IsBegun x s f c.loop-flat.flat.value) c.args.self.now c.loop-flat.self c.args.state.now c.loop-flat.state c.loop-flat.invariant.kept c.loop-flat.invariant.given_back c.loop-flat.invariant.begun) in
     takes_unfinished c.args.self.now.game reach c.args.state.now.state (start_of c.args.origin) c.args.self.now.opened c.ask.new.self.opened c.args.self.now.taken c.ask.new.self.taken (IsOk c.ask.result) _
-    (asked_takes c.args.self.now c.loop-flat.self c.args.state.now c.loop-flat.state c.advance.new.state f c.advance.new.flat.value c.in-Some.vertex c.in-Some.position c.ask.new.self.opened c.ask.new.self.taken (IsOk c.ask.result) c.loop-flat.invariant.kept c.loop-flat.invariant.given_back given c.loop-flat.invariant.lawful begun asked.0 asked.2 c.loop-flat.invariant.taken c.ask.ensures.taken)
+    (asked_takes c.args.self.now c.loop-flat.self c.args.state.now c.loop-flat.state c.advance.new.state f c.advance.new.flat.value c.in-Some-2.vertex c.in-Some-2.position c.ask.new.self.opened c.ask.new.self.taken (IsOk c.ask.result) c.loop-flat.invariant.kept c.loop-flat.invariant.given_back given c.loop-flat.invariant.lawful begun asked.0 asked.2 c.loop-flat.invariant.taken c.ask.ensures.taken)
     (not_ok c.from_residual-in_err-valid.result c.in_err-valid.field-0.0 c.from_residual-in_err-valid.ensures.1)
 
 pub flat_part-returns-in_err-take-clause-taken : goal.flat_part-returns-in_err-take-clause-taken
 flat_part-returns-in_err-take-clause-taken g t c =
     let f : Start = start_of c.args.origin in
     let given : c.advance.new.state ≡ (record c.args.state.now { room = c.advance.new.state.room }) = room_twice c.args.state.now c.loop-flat.state c.advance.new.state c.loop-flat.invariant.given_back (back_same c.loop-flat.state c.advance.new.state c.advance.ensures.given_back) in
-    let asked : (slice_get c.advance.new.flat.value.queue.pairs c.advance.new.flat.value.taken ≡ Some (c.in-Some.vertex, c.in-Some.position)) × (c.in-Some.vertex < length c.loop-flat.self.game.board.first) × IsPatternAt c.loop-flat.self.game.rules c.in-Some.position = search rules in
+    let asked : (slice_get c.advance.new.flat.value.queue.pairs c.advance.new.flat.value.taken ≡ Some (c.in-Some-2.vertex, c.in-Some-2.position)) × (c.in-Some-2.vertex < length c.loop-flat.self.game.board.first) × IsPatternAt c.loop-flat.self.game.rules c.in-Some-2.position = search rules in
     let begun : IsBegun c.loop-flat.self.game c.loop-flat.state.state f c.advance.new.flat.value = c.in_ok-vertex.ensures.begun f
     (onward (λ x s. IsBegun x s f c.loop-flat.flat.value) c.args.self.now c.loop-flat.self c.args.state.now c.loop-flat.state c.loop-flat.invariant.kept c.loop-flat.invariant.given_back c.loop-flat.invariant.begun) in
     takes_unfinished c.args.self.now.game reach c.args.state.now.state (start_of c.args.origin) c.args.self.now.opened c.ask.new.self.opened c.args.self.now.taken c.ask.new.self.taken (IsOk c.ask.result) _
-    (asked_takes c.args.self.now c.loop-flat.self c.args.state.now c.loop-flat.state c.advance.new.state f c.advance.new.flat.value c.in-Some.vertex c.in-Some.position c.ask.new.self.opened c.ask.new.self.taken (IsOk c.ask.result) c.loop-flat.invariant.kept c.loop-flat.invariant.given_back given c.loop-flat.invariant.lawful begun asked.0 asked.2 c.loop-flat.invariant.taken c.ask.ensures.taken)
+    (asked_takes c.args.self.now c.loop-flat.self c.args.state.now c.loop-flat.state c.advance.new.state f c.advance.new.flat.value c.in-Some-2.vertex c.in-Some-2.position c.ask.new.self.opened c.ask.new.self.taken (IsOk c.ask.result) c.loop-flat.invariant.kept c.loop-flat.invariant.given_back given c.loop-flat.invariant.lawful begun asked.0 asked.2 c.loop-flat.invariant.taken c.ask.ensures.taken)
     (not_ok c.from_residual-in_err-take.result Memory c.from_residual-in_err-take.ensures.1)
 
 pub flat_part-returns-in_err-ends-clause-taken : goal.flat_part-returns-in_err-ends-clause-taken
