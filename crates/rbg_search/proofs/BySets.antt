@@ -1,5 +1,5 @@
 -- A flat part by sets, in words of a search.
-use Rattle.std.proofs.Common.{◌≡◌, ℕ, ◌<◌, ◌⊎◌, inl, inr, List, [], ◌∷◌, ◌++◌, Bool, ap, sym, subst, arith}
+use Rattle.std.proofs.Common.{◌≡◌, ℕ, ◌⊎◌, inl, inr, List, [], ◌∷◌, ◌++◌, Bool, sym, subst, arith}
 use Rattle.std.specs.Prelude.{Contains, IsTrue, ◌↔◌}
 use Rattle.std.proofs.lemmas.List.Elements.{Contains-append_left, Contains-push, Contains-push_cases}
 use Rattle.rbg_rules.specs.Positions.{IsNumbered, IsModifierAt, IsPatternAt}
@@ -8,7 +8,7 @@ use Rattle.rbg_rules.specs.State.{AbstractGame, AbstractState}
 use Rattle.rbg_rules.specs.Actions.{Applies}
 use Rattle.rbg_flat.specs.declared.flat.Flat.{Flat}
 use Rattle.rbg_flat.specs.Candidates.{IsCandidate, MayEnd}
-use Rattle.rbg_flat.specs.Chains.{Holds, IsMet}
+use Rattle.rbg_flat.specs.Chains.{Holds}
 use Rattle.rbg_flat.specs.Found.{IsFound as IsFoundBySets, AreFound}
 use Rattle.rbg_flat.specs.internal.Begun.{IsBegun}
 use Rattle.rbg_flat.specs.internal.Sets.{IsMarked, IsOpen, IsDone, KeepsDone}

@@ -1,11 +1,10 @@
 -- A search that finds a flat part by sets, step by step.
-use Rattle.std.proofs.Common.{◌≡◌, ℕ, ◌+◌, ◌<◌, ◌≤◌, List, [], ◌∷◌, ◌++◌, Bool, refl, sym, ap, ◌∙◌, subst, arith}
-use Rattle.std.specs.Prelude.{Contains, IsTrue, ◌↔◌}
+use Rattle.std.proofs.Common.{◌≡◌, ℕ, ◌+◌, ◌≤◌, List, [], ◌∷◌, ◌++◌, Bool, sym, ap, ◌∙◌, subst, arith}
+use Rattle.std.specs.Prelude.{IsTrue, ◌↔◌}
 use Rattle.rbg_rules.specs.Games.{IsGame}
 use Rattle.rbg_rules.specs.Laws.{IsStart}
-use Rattle.rbg_rules.specs.Positions.{IsPatternAt, inside}
+use Rattle.rbg_rules.specs.Positions.{inside}
 use Rattle.rbg_rules.specs.Words.{Start, beginning}
-use Rattle.rbg_rules.specs.State.{AbstractGame, AbstractState}
 use Rattle.rbg_rules.specs.Actions.{Applies}
 use Rattle.rbg_rules.specs.Questions.{reach, pattern}
 use Rattle.rbg_state.specs.History.{History}
@@ -15,12 +14,11 @@ use Rattle.rbg_search.specs.Flat.{IsFlatPart}
 use Rattle.rbg_search.specs.Forced.{CountsForced}
 use Rattle.rbg_search.specs.Searching.{Searching}
 use Rattle.rbg_search.specs.Taken.{HasPart, CountsPairs, most_pairs_of}
-use Rattle.rbg_search.specs.internal.Asked.{CountsAsked, IsCounted}
-use Rattle.rbg_search.specs.internal.BySets.{IsBegunBySets, HasSetsFor, IsWhole, AreAsked, BeginsBySets, AdvancesBySets, IsToBeAsked, TakesBySets, CountsBySets, FindsBySets}
+use Rattle.rbg_search.specs.internal.Asked.{IsCounted}
+use Rattle.rbg_search.specs.internal.BySets.{IsBegunBySets, HasSetsFor, IsWhole, BeginsBySets, AdvancesBySets, IsToBeAsked, TakesBySets, FindsBySets}
 use Rattle.rbg_search.specs.internal.Closure.{at_vertex, Reached}
 use Rattle.rbg_search.specs.internal.Plain.{CountsPart}
 use Rattle.rbg_search.specs.internal.Spent.{IsSpent, IsSpentButOne}
-use Rattle.rbg_search.specs.internal.Taking.{AsksForced}
 use Rattle.rbg_search.proofs.BySets.{asked_reached, all_asked, not_asked}
 use Rattle.rbg_search.proofs.Counted.{asked_only, onward_search, search_before}
 use Rattle.rbg_search.proofs.CountedSteps.{AskStep, ask_step_at}

@@ -4,7 +4,6 @@ use Rattle.rbg_rules.specs.State.{AbstractGame}
 use Rattle.rbg_flat.specs.declared.flat.Flat.{Flat}
 use Rattle.rbg_search.specs.Searching.{Searching}
 use Rattle.rbg_search.specs.internal.BySets.{HasSetsFor, IsToBeAsked, TakesBySets}
-use Rattle.rbg_search.proofs.Asking.{pattern_position}
 use Rattle.rbg_search.proofs.BySets.{asked_one, pattern_holds}
 use Rattle.rbg_search.proofs.search.Search.take_by_sets.Goals as goal
 
