@@ -122,49 +122,20 @@ impl<'a> Reader<'a> {
         Ok(true)
     }
 
-    /// Reads the line with which a text, a case or a part of a case begins.
+    /// Reads the line with which a text, a case or a part of a case begins, or one that says how a case is run or shown.
     fn read_head(&mut self, alloc: Global, line: &'a [u8]) -> Result<bool, AllocError> {
         if let Some(words) = line.strip_prefix(b"words ") {
             return self.add_words(alloc, words);
         }
-        if line == b"author".as_slice() {
-            return Ok(self.run_author());
-        }
-        if line == b"news".as_slice() {
-            return Ok(self.show_news());
-        }
-        if line == b"logs".as_slice() {
-            return Ok(self.show_logs());
-        }
-        if let Some(word) = line.strip_prefix(b"input ") {
-            return Ok(self.change_input(word));
-        }
-        if line == b"output fails".as_slice() {
-            return Ok(self.close_output());
-        }
-        if let Some(count) = line.strip_prefix(b"last ") {
-            return Ok(self.show_last(count));
-        }
         if let Some(name) = line.strip_prefix(b"made ") {
             return self.show_made(alloc, name);
         }
+        if let Some(is_read) = self.read_option(line) {
+            return Ok(is_read);
+        }
         self.end_part(alloc)?;
         if let Some(name) = line.strip_prefix(b"case ") {
-            self.cases.push(Case {
-                name,
-                program: Program::Rbg,
-                shown: usize::MAX,
-                news: false,
-                made: None,
-                logs: false,
-                words: Vec::new(alloc),
-                files: Vec::new(alloc),
-                streams: Vec::new(alloc),
-                input: Vec::new(alloc),
-                behind: Behind::End,
-                output_fails: false,
-            })?;
-            self.target = Target::Input;
+            self.begin_case(alloc, name)?;
         } else if let Some(name) = line.strip_prefix(b"text ") {
             self.target = Target::Text { name };
         } else if let Some(name) = line.strip_prefix(b"file ") {
@@ -177,6 +148,50 @@ impl<'a> Reader<'a> {
             return Ok(false);
         }
         Ok(true)
+    }
+
+    /// Reads a line that says how a case is run or shown. None where it is no such line, false where there is no case, or it
+    /// is not of its form.
+    fn read_option(&mut self, line: &[u8]) -> Option<bool> {
+        if line == b"author".as_slice() {
+            return Some(self.run_author());
+        }
+        if line == b"news".as_slice() {
+            return Some(self.show_news());
+        }
+        if line == b"logs".as_slice() {
+            return Some(self.show_logs());
+        }
+        if line == b"output fails".as_slice() {
+            return Some(self.close_output());
+        }
+        if let Some(word) = line.strip_prefix(b"input ") {
+            return Some(self.change_input(word));
+        }
+        if let Some(count) = line.strip_prefix(b"last ") {
+            return Some(self.show_last(count));
+        }
+        None
+    }
+
+    /// A case begins, and its standard input.
+    fn begin_case(&mut self, alloc: Global, name: &'a [u8]) -> Result<(), AllocError> {
+        self.cases.push(Case {
+            name,
+            program: Program::Rbg,
+            shown: usize::MAX,
+            news: false,
+            made: None,
+            logs: false,
+            words: Vec::new(alloc),
+            files: Vec::new(alloc),
+            streams: Vec::new(alloc),
+            input: Vec::new(alloc),
+            behind: Behind::End,
+            output_fails: false,
+        })?;
+        self.target = Target::Input;
+        Ok(())
     }
 
     /// Gives the bytes of the part that was read to the text or the case that it belongs to.
