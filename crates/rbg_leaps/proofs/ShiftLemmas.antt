@@ -33,7 +33,7 @@ word_stands rules level w word p h =
     (a, level_stands rules level word.expression word.is_level p a (own_stands word.expression p a own))
 
 -- What follows stands in the rules.
-follower_stands : (rules : Expression) (f : Start) (p : ℕ) → Follows rules f (p ∷ []) → (a : AbstractAction) × HasAction rules p a
+pub follower_stands : (rules : Expression) (f : Start) (p : ℕ) → Follows rules f (p ∷ []) → (a : AbstractAction) × HasAction rules p a
 follower_stands rules (beginning level) p (z, word) = word_stands rules level (p ∷ z) word p (inl refl)
 follower_stands rules (after i) p (level, u, z, word) = word_stands rules level (u ++ i ∷ p ∷ z) word p (Among_right p u (i ∷ p ∷ z) (inr (inl refl)))
 

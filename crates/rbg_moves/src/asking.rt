@@ -1,28 +1,32 @@
 //! What the questions at a place have in common.
-ghost use Rattle.std.specs.Prelude.{◌≡◌, ◌<◌, ◌≤◌, ◌↔◌, [], ◌∷◌, ◌++◌, length, OnOk, IsTrue};
+ghost use Rattle.std.specs.Prelude.{◌≡◌, ◌<◌, ◌≤◌, ◌↔◌, [], ◌∷◌, ◌++◌, length, IfSome, OnOk, IsTrue};
 ghost use Rattle.rbg_base.specs.Move.{IsMoveLength};
 ghost use Rattle.rbg_rules.specs.Games.{IsGame};
 ghost use Rattle.rbg_rules.specs.Limits.{most_openings, most_modifiers};
 ghost use Rattle.rbg_rules.specs.Positions.{IsSwitchAt};
 ghost use Rattle.rbg_rules.specs.Moves.{stand_of};
+ghost use Rattle.rbg_flat.specs.Paths.{ArePathsOf};
 ghost use Rattle.rbg_search.specs.Start.{start_of, IsPositionOf};
 ghost use Rattle.rbg_moves.specs.internal.Shown.{shows_switch};
 
 use rbg_auto::{Expr, Steps};
 use rbg_base::{Memory, Move, Pair, Position};
+use rbg_flat::Paths;
 use rbg_rules::limits::{MAX_MODIFIERS, MAX_OPENINGS};
 use rbg_rules::{Action, Game};
 use rbg_search::{Budget, Origin, Search, Workspace};
 use std::alloc::Global;
 
-/// A search that may take up as many openings as a question may have.
+/// A search that may take up as many openings as a question may have. Where the game has paths, it goes by sets.
 pub(crate) fn search_in<'a, S: Steps>(
     alloc: Global,
     game: &'a Game,
     steps: &'a S,
+    paths: Option<&'a Paths>,
     workspace: &mut Workspace,
 ) -> Search<'a, S>
-    requires { S.of_rules steps.now game.now.rules }
+    requires steps { S.of_rules steps.now game.now.rules }
+    requires paths { IfSome paths (λ told. ArePathsOf game.now told.now) }
     ensures game { result.game ≡ game.now }
     ensures openings { result.openings ≡ most_openings }
     ensures modifiers { result.modifiers ≡ most_modifiers }
@@ -34,7 +38,7 @@ pub(crate) fn search_in<'a, S: Steps>(
         openings: MAX_OPENINGS as u32,
         modifiers: MAX_MODIFIERS as u16,
     };
-    Search::with_workspace(alloc, game, steps, budget, workspace)
+    Search::with_paths(alloc, game, steps, paths, budget, workspace)
 }
 
 /// For proofs alone: the game is an accepted one. It does nothing.

@@ -10,6 +10,7 @@ ghost use Rattle.rbg_rules.specs.Questions.{find_move};
 ghost use Rattle.rbg_rules.specs.Games.{IsGame};
 ghost use Rattle.rbg_rules.specs.Places.{IsPlaceOf};
 ghost use Rattle.rbg_rules.specs.Heavy.{IsHeavyToFind};
+ghost use Rattle.rbg_flat.specs.Paths.{ArePathsOf};
 ghost use Rattle.rbg_search.specs.Start.{IsPositionOf};
 ghost use Rattle.rbg_search.specs.Counting.{CountsOpenings, IsOverBudget};
 ghost use Rattle.rbg_search.specs.Passing.{IsTooDeep};
@@ -27,6 +28,7 @@ use crate::stepping::apply_at;
 use crate::workspace::Workspace;
 use rbg_auto::Steps;
 use rbg_base::{MAX_PAIRS, Move, Pair, Position, Vertex};
+use rbg_flat::Paths;
 use rbg_rules::Game;
 use rbg_search::{Over, Search, Workspace as SearchWorkspace};
 use rbg_state::SemiState;
@@ -81,7 +83,34 @@ pub fn find_move_with<S: Steps>(
         workspace.old.searches workspace.new.searches) }
     ensures untallied { OnErr result (workspace.new.searches ≡ workspace.old.searches) }
 {
-    let Some(pairs) = find_pairs_with(alloc, game, steps, place, workspace)? else {
+    find_move_by(alloc, game, steps, None, place, workspace)
+}
+
+/// As `find_move_with`, with the paths of the game where it has some.
+pub(crate) fn find_move_by<S: Steps>(
+    alloc: Global,
+    game: &Game,
+    steps: &S,
+    paths: Option<&Paths>,
+    place: &Place,
+    workspace: &mut Workspace,
+) -> Result<Option<Move>, Over>
+    requires steps { S.of_rules steps.now game.now.rules }
+    requires paths { IfSome paths (λ told. ArePathsOf game.now told.now) }
+    requires place { IsPlaceOf game.now place.now }
+    ensures found { IfOk result (λ found. IfSome found (IsLegal game.now place.now)) }
+    ensures length { IfOk result (λ found. IfSome found (λ pairs. IsMoveLength (length pairs))) }
+    ensures finished { IfOk result (λ found. IfNone found (Finished game.now place.now)) }
+    ensures heavy { (result ≡ Err Over.Deep) ⊎ (result ≡ Err Over.Wide)
+        → IsHeavyToFind game.now place.now }
+    ensures deep { result ≡ Err Over.Deep → IsDeepAt game.now find_move place.now }
+    ensures wide { result ≡ Err Over.Wide → IsWideAt game.now find_move place.now }
+    ensures fits { OnOk result ((cut : Bool) → FitsLimits game.now cut find_move place.now) }
+    ensures tally { OnOk result (IsTallied game.now find_move place.now
+        workspace.old.searches workspace.new.searches) }
+    ensures untallied { OnErr result (workspace.new.searches ≡ workspace.old.searches) }
+{
+    let Some(pairs) = find_pairs_with(alloc, game, steps, paths, place, workspace)? else {
         return Ok(None);
     };
     let found = move_of(pairs.as_slice());
@@ -89,15 +118,17 @@ pub fn find_move_with<S: Steps>(
     Ok(Some(found))
 }
 
-/// As `find_move_with`, with the pairs of the move in a list, which `Workspace::keep_pairs` takes back.
+/// As `find_move_by`, with the pairs of the move in a list, which `Workspace::keep_pairs` takes back.
 pub(crate) fn find_pairs_with<S: Steps>(
     alloc: Global,
     game: &Game,
     steps: &S,
+    paths: Option<&Paths>,
     place: &Place,
     workspace: &mut Workspace,
 ) -> Result<Option<Vec<Pair>>, Over>
     requires steps { S.of_rules steps.now game.now.rules }
+    requires paths { IfSome paths (λ told. ArePathsOf game.now told.now) }
     requires place { IsPlaceOf game.now place.now }
     ensures found { IfOk result (λ found.
         IfSome found (λ pairs. IsLegal game.now place.now pairs.items)) }
@@ -118,6 +149,7 @@ pub(crate) fn find_pairs_with<S: Steps>(
         alloc,
         game,
         steps,
+        paths,
         &mut workspace.asked,
         place.after,
         &mut workspace.searches,
@@ -132,10 +164,12 @@ pub(crate) fn find_pairs_on<S: Steps>(
     alloc: Global,
     game: &Game,
     steps: &S,
+    paths: Option<&Paths>,
     place: &mut Place,
     workspace: &mut Workspace,
 ) -> Result<Option<Vec<Pair>>, Over>
     requires steps { S.of_rules steps.now game.now.rules }
+    requires paths { IfSome paths (λ told. ArePathsOf game.now told.now) }
     requires place { IsPlaceOf game.now place.old }
     ensures found { IfOk result (λ found.
         IfSome found (λ pairs. IsLegal game.now place.old pairs.items)) }
@@ -157,6 +191,7 @@ pub(crate) fn find_pairs_on<S: Steps>(
         alloc,
         game,
         steps,
+        paths,
         &mut place.state,
         after,
         &mut workspace.searches,
@@ -171,6 +206,7 @@ fn find_from<S: Steps>(
     alloc: Global,
     game: &Game,
     steps: &S,
+    paths: Option<&Paths>,
     state: &mut SemiState,
     after: Option<Position>,
     searches: &mut SearchWorkspace,
@@ -178,6 +214,7 @@ fn find_from<S: Steps>(
     whole: &mut Vec<Pair>,
 ) -> Result<Option<Vec<Pair>>, Over>
     requires steps { S.of_rules steps.now game.now.rules }
+    requires paths { IfSome paths (λ told. ArePathsOf game.now told.now) }
     requires place { IsPlaceOf game.now (record { state = state.old.state; last = after }) }
     ensures found { IfOk result (λ found. IfSome found (λ pairs.
         IsLegal game.now (record { state = state.old.state; last = after }) pairs.items)) }
@@ -199,7 +236,7 @@ fn find_from<S: Steps>(
     game_is_accepted(game);
     front.clear();
     let mark = state.mark();
-    let mut search = search_in(alloc, game, steps, searches);
+    let mut search = search_in(alloc, game, steps, paths, searches);
     let found = find(&mut search, state, front, whole, after);
     state.undo_to(mark);
     let found = found?;

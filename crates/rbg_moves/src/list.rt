@@ -1,5 +1,5 @@
 //! The legal moves of a place.
-ghost use Rattle.std.specs.Prelude.{◌≡◌, ◌≢◌, ◌⊎◌, ℕ, ◌+◌, ◌-◌, ◌<◌, ◌≤◌, [], ◌∷◌, ◌++◌, length, All, AllPairs, IfOk, OnOk, OnErr, IsOk, Err, Some, Bool};
+ghost use Rattle.std.specs.Prelude.{◌≡◌, ◌≢◌, ◌⊎◌, ℕ, ◌+◌, ◌-◌, ◌<◌, ◌≤◌, [], ◌∷◌, ◌++◌, length, All, AllPairs, IfOk, OnOk, OnErr, IfSome, IsOk, Err, Some, Bool};
 ghost use Rattle.std.specs.List.Sorted.{IsPermutation};
 ghost use Rattle.rbg_base.specs.Move.{most_pairs};
 ghost use Rattle.rbg_rules.specs.State.{AbstractState, IsStateOf};
@@ -11,6 +11,7 @@ ghost use Rattle.rbg_rules.specs.Questions.{reach, list_moves as listing_moves, 
 ghost use Rattle.rbg_rules.specs.Games.{IsGame};
 ghost use Rattle.rbg_rules.specs.Places.{IsPlaceOf};
 ghost use Rattle.rbg_rules.specs.Heavy.{IsTooHard};
+ghost use Rattle.rbg_flat.specs.Paths.{ArePathsOf};
 ghost use Rattle.rbg_search.specs.Start.{start_of, IsPositionOf};
 ghost use Rattle.rbg_search.specs.Flat.{IsFlatPart};
 ghost use Rattle.rbg_search.specs.Counting.{CountsOpenings, IsOverBudget};
@@ -29,6 +30,7 @@ use crate::stepping::apply_at;
 use crate::workspace::Workspace;
 use rbg_auto::Steps;
 use rbg_base::{MAX_PAIRS, Memory, Move, MoveList, Pair, Position, Vertex};
+use rbg_flat::Paths;
 use rbg_rules::Game;
 use rbg_search::{Origin, Over, Search};
 use rbg_state::SemiState;
@@ -72,20 +74,22 @@ pub fn list_moves<S: Steps>(
     ensures fits { IfOk result (λ listed. FitsLimits game.now listed.cut listing_moves place.now) }
 {
     let mut workspace = Workspace::new(alloc);
-    list_moves_with(alloc, game, steps, place, max, &mut workspace)
+    list_moves_with(alloc, game, steps, None, place, max, &mut workspace)
 }
 
-/// As `list_moves`, with the buffers of a workspace, which also counts what is taken up. Where there is no answer, its
-/// buffers are lost.
+/// As `list_moves`, with the paths of the game where it has some, and with the buffers of a workspace, which also counts
+/// what is taken up. Where there is no answer, its buffers are lost.
 pub(crate) fn list_moves_with<S: Steps>(
     alloc: Global,
     game: &Game,
     steps: &S,
+    paths: Option<&Paths>,
     place: &Place,
     max: usize,
     workspace: &mut Workspace,
 ) -> Result<Listed, Over>
     requires steps { S.of_rules steps.now game.now.rules }
+    requires paths { IfSome paths (λ told. ArePathsOf game.now told.now) }
     requires place { IsPlaceOf game.now place.now }
     requires some { 0 < max }
     ensures listed { IfOk result (λ listed.
@@ -96,7 +100,7 @@ pub(crate) fn list_moves_with<S: Steps>(
     ensures wide { result ≡ Err Over.Wide → IsWideAt game.now listing_moves place.now }
     ensures fits { IfOk result (λ listed. FitsLimits game.now listed.cut listing_moves place.now) }
 {
-    let gathered = gather(alloc, game, steps, place, max, true, workspace)?;
+    let gathered = gather(alloc, game, steps, paths, place, max, true, workspace)?;
     let mut moves = moves_of(alloc, &gathered.moves)?;
     let cut = gathered.cut;
     workspace.keep_moves(gathered.moves);
@@ -110,11 +114,13 @@ pub(crate) fn gather_moves_with<S: Steps>(
     alloc: Global,
     game: &Game,
     steps: &S,
+    paths: Option<&Paths>,
     place: &Place,
     max: usize,
     workspace: &mut Workspace,
 ) -> Result<Gathered, Over>
     requires steps { S.of_rules steps.now game.now.rules }
+    requires paths { IfSome paths (λ told. ArePathsOf game.now told.now) }
     requires place { IsPlaceOf game.now place.now }
     requires some { 0 < max }
     ensures gathered { IfOk result (λ gathered.
@@ -129,7 +135,7 @@ pub(crate) fn gather_moves_with<S: Steps>(
         workspace.old.searches workspace.new.searches) }
     ensures untallied { OnErr result (workspace.new.searches ≡ workspace.old.searches) }
 {
-    let found = gather(alloc, game, steps, place, max, false, workspace)?;
+    let found = gather(alloc, game, steps, paths, place, max, false, workspace)?;
     Ok(found)
 }
 
@@ -138,12 +144,14 @@ fn gather<S: Steps>(
     alloc: Global,
     game: &Game,
     steps: &S,
+    paths: Option<&Paths>,
     place: &Place,
     max: usize,
     in_order: bool,
     workspace: &mut Workspace,
 ) -> Result<Gathered, Over>
     requires steps { S.of_rules steps.now game.now.rules }
+    requires paths { IfSome paths (λ told. ArePathsOf game.now told.now) }
     requires place { IsPlaceOf game.now place.now }
     requires some { 0 < max }
     ensures gathered { IfOk result (λ gathered.
@@ -166,7 +174,7 @@ fn gather<S: Steps>(
     };
     workspace.asked.copy_from(&place.state)?;
     workspace.front.clear();
-    let mut search = search_in(alloc, game, steps, &mut workspace.searches);
+    let mut search = search_in(alloc, game, steps, paths, &mut workspace.searches);
     let cut = list(
         &mut search,
         &mut workspace.asked,

@@ -26,33 +26,37 @@ ghost use Rattle.rbg_rules.specs.Limits.{most_players};
 ghost use Rattle.rbg_rules.specs.Moves.{AbstractPlace, Finished, IsLegal, Legal};
 ghost use Rattle.rbg_rules.specs.Places.{IsPlaceOf};
 ghost use Rattle.rbg_rules.specs.Questions.{find_move, list_moves as listing_moves, try_move};
-ghost use Rattle.rbg_rules.specs.State.{start_of};
+ghost use Rattle.rbg_rules.specs.State.{AbstractGame, start_of};
+ghost use Rattle.rbg_flat.specs.Paths.{ArePathsOf};
 ghost use Rattle.rbg_moves.specs.Limits.{FitsLimits, IsDeepAt, IsWideAt};
 ghost use Rattle.rbg_moves.specs.Listing.{IsGathered, IsListed};
 ghost use Rattle.rbg_moves.specs.Tallying.{IsTallied};
 
 use crate::asking::game_is_accepted;
-use crate::finding::{find_move, find_pairs_on, find_pairs_with};
-use crate::list::{Gathered, Listed, gather_moves_with, list_moves};
+use crate::finding::{find_move_by, find_pairs_on, find_pairs_with};
+use crate::list::{Gathered, Listed, gather_moves_with, list_moves_with};
 use crate::making::{make_move, make_move_into, make_move_on, make_move_with};
 use crate::place::Place;
-use crate::trying::{try_move, try_move_with};
+use crate::trying::try_move_with;
 use crate::workspace::Workspace;
 use arrayvec::ArrayVec;
 use rbg_auto::{Compact, Steps, compact};
 use rbg_base::{Memory, Move, Pair};
+use rbg_flat::Paths;
 use rbg_rules::Game;
 use rbg_rules::limits::MAX_PLAYERS;
 use rbg_search::Over;
 use std::alloc::Global;
 use std::marker::Model;
 
-/// A game with the automaton of its rules, which is made once. Contracts see the game.
+/// A game with the automaton of its rules and with its leaps, which are made once. Contracts see the game.
 #[derive(Debug, Drop)]
 pub struct PlayedGame {
     alloc: Global,
     game: Game,
     automaton: Compact,
+    /// The leaps of the game; none where they would take too much memory.
+    paths: Option<Paths>,
 }
 
 impl Model for PlayedGame {
@@ -66,23 +70,39 @@ impl Model for PlayedGame {
 
     ghost view = { λ played. played.game };
 
+    ghost use Rattle.std.specs.Prelude.{IfSome};
     ghost use Rattle.rbg_rules.specs.Games.{IsGame};
+    ghost use Rattle.rbg_flat.specs.Paths.{ArePathsOf};
 
     ghost invariant = { λ played.
-        IsGame played.game × ⟦<Compact as Steps>⟧.of_rules played.automaton played.game.rules };
+        IsGame played.game × ⟦<Compact as Steps>⟧.of_rules played.automaton played.game.rules
+        × IfSome played.paths (ArePathsOf played.game) };
+}
+
+/// The leaps of a game, where they are told.
+fn told(paths: &Option<Paths>) -> Option<&Paths>
+    ensures { (game : AbstractGame) → IfSome paths.now (ArePathsOf game)
+        → IfSome result (λ lent. ArePathsOf game lent.now) }
+{
+    match paths {
+        Some(lent) => Some(lent),
+        None => None,
+    }
 }
 
 impl PlayedGame {
-    /// Makes the automaton of a game.
+    /// Makes the automaton of a game, and its leaps where they don't take too much memory.
     pub fn new(alloc: Global, game: Game) -> Result<PlayedGame, Memory>
         ensures { IfOk result (λ played. played ≡ game) }
     {
         game_is_accepted(&game);
         let automaton = compact(alloc, &game)?;
+        let paths = Paths::new(alloc, &game, &automaton)?;
         Ok(PlayedGame {
             alloc,
             game,
             automaton,
+            paths,
         })
     }
 
@@ -139,7 +159,15 @@ impl PlayedGame {
         ensures wide { result ≡ Err Over.Wide → IsWideAt self.now find_move place.now }
         ensures fits { OnOk result ((cut : Bool) → FitsLimits self.now cut find_move place.now) }
     {
-        find_move(self.alloc, &self.game, &self.automaton, place)
+        let mut workspace = Workspace::new(self.alloc);
+        find_move_by(
+            self.alloc,
+            &self.game,
+            &self.automaton,
+            told(&self.paths),
+            place,
+            &mut workspace,
+        )
     }
 
     /// As `find_move`, with the pairs of the move in a list, which `Workspace::keep_pairs` takes back.
@@ -163,7 +191,14 @@ impl PlayedGame {
             workspace.old.searches workspace.new.searches) }
         ensures untallied { OnErr result (workspace.new.searches ≡ workspace.old.searches) }
     {
-        find_pairs_with(self.alloc, &self.game, &self.automaton, place, workspace)
+        find_pairs_with(
+            self.alloc,
+            &self.game,
+            &self.automaton,
+            told(&self.paths),
+            place,
+            workspace,
+        )
     }
 
     /// As `find_pairs`, but asked on the place's own semi-state, which is given back, also where there is no answer.
@@ -188,7 +223,14 @@ impl PlayedGame {
             workspace.old.searches workspace.new.searches) }
         ensures untallied { OnErr result (workspace.new.searches ≡ workspace.old.searches) }
     {
-        find_pairs_on(self.alloc, &self.game, &self.automaton, place, workspace)
+        find_pairs_on(
+            self.alloc,
+            &self.game,
+            &self.automaton,
+            told(&self.paths),
+            place,
+            workspace,
+        )
     }
 
     /// The place after the move of these pairs, or None if it is not legal. See `try_move`.
@@ -207,7 +249,16 @@ impl PlayedGame {
         ensures fits { OnOk result ((cut : Bool)
             → FitsLimits self.now cut (try_move pairs.now) place.now) }
     {
-        try_move(self.alloc, &self.game, &self.automaton, place, pairs)
+        let mut workspace = Workspace::new(self.alloc);
+        try_move_with(
+            self.alloc,
+            &self.game,
+            &self.automaton,
+            told(&self.paths),
+            place,
+            pairs,
+            &mut workspace,
+        )
     }
 
     /// As `try_move`, with the buffers of a workspace.
@@ -238,6 +289,7 @@ impl PlayedGame {
             self.alloc,
             &self.game,
             &self.automaton,
+            told(&self.paths),
             place,
             pairs,
             workspace,
@@ -257,7 +309,16 @@ impl PlayedGame {
         ensures fits { IfOk result (λ listed.
             FitsLimits self.now listed.cut listing_moves place.now) }
     {
-        list_moves(self.alloc, &self.game, &self.automaton, place, max)
+        let mut workspace = Workspace::new(self.alloc);
+        list_moves_with(
+            self.alloc,
+            &self.game,
+            &self.automaton,
+            told(&self.paths),
+            place,
+            max,
+            &mut workspace,
+        )
     }
 
     /// As `list_moves`, with the buffers of a workspace. The moves stand in the order in which they were found, in a
@@ -286,6 +347,7 @@ impl PlayedGame {
             self.alloc,
             &self.game,
             &self.automaton,
+            told(&self.paths),
             place,
             max,
             workspace,

@@ -4,6 +4,7 @@ ghost use Rattle.rbg_rules.specs.Moves.{AbstractPlace, stand_of, Legal};
 ghost use Rattle.rbg_rules.specs.Places.{IsPlaceOf};
 ghost use Rattle.rbg_rules.specs.Heavy.{IsHeavyToTry};
 ghost use Rattle.rbg_rules.specs.Questions.{try_move, IsDeep};
+ghost use Rattle.rbg_flat.specs.Paths.{ArePathsOf};
 ghost use Rattle.rbg_search.specs.Counting.{CountsOpenings, IsOverBudget};
 ghost use Rattle.rbg_search.specs.Forced.{CountsForced};
 ghost use Rattle.rbg_search.specs.Taken.{CountsPairs};
@@ -17,6 +18,7 @@ use crate::stepping::take;
 use crate::workspace::Workspace;
 use rbg_auto::Steps;
 use rbg_base::{Move, Pair, Position};
+use rbg_flat::Paths;
 use rbg_rules::Game;
 use rbg_search::{Over, Search};
 use rbg_state::SemiState;
@@ -49,20 +51,22 @@ pub fn try_move<S: Steps>(
         → FitsLimits game.now cut (try_move pairs.now) place.now) }
 {
     let mut workspace = Workspace::new(alloc);
-    try_move_with(alloc, game, steps, place, pairs, &mut workspace)
+    try_move_with(alloc, game, steps, None, place, pairs, &mut workspace)
 }
 
-/// As `try_move`, with the buffers of a workspace, which also counts what is taken up. Where there is no answer, its
-/// buffers are lost.
+/// As `try_move`, with the paths of the game where it has some, and with the buffers of a workspace, which also counts
+/// what is taken up. Where there is no answer, its buffers are lost.
 pub(crate) fn try_move_with<S: Steps>(
     alloc: Global,
     game: &Game,
     steps: &S,
+    paths: Option<&Paths>,
     place: &Place,
     pairs: &Move,
     workspace: &mut Workspace,
 ) -> Result<Option<Place>, Over>
     requires steps { S.of_rules steps.now game.now.rules }
+    requires paths { IfSome paths (λ told. ArePathsOf game.now told.now) }
     requires place { IsPlaceOf game.now place.now }
     ensures legal { IfOk result (λ after. IfSome after (Legal game.now place.now pairs.now)) }
     ensures only { IfOk result (λ after. IfSome after (λ to.
@@ -81,7 +85,7 @@ pub(crate) fn try_move_with<S: Steps>(
     ensures untallied { OnErr result (workspace.new.searches ≡ workspace.old.searches) }
 {
     game_is_accepted(game);
-    let mut search = search_in(alloc, game, steps, &mut workspace.searches);
+    let mut search = search_in(alloc, game, steps, paths, &mut workspace.searches);
     let mut state = workspace.copy_of(&place.state)?;
     let end = follow(&mut search, &mut state, place.after, pairs.as_slice())?;
     budget_is_kept(&search);

@@ -45,7 +45,7 @@ impl Workspace {
         self.searches.openings()
     }
 
-    /// How many pairs of a position and a vertex the questions tried.
+    /// How many pairs of a position and a vertex the questions tried, shifts left out.
     pub fn pairs(&self) -> u64
         ensures { result ≡ self.now.searches.pairs }
     {

@@ -7,6 +7,7 @@ use Rattle.rbg_rules.specs.Expression.{AbstractAction, shift, on, off, assignmen
 use Rattle.rbg_rules.specs.Positions.{IsNumbered, IsModifierAt, IsPatternAt, is_modifier, is_pattern}
 use Rattle.rbg_rules.specs.Words.{Start, Ends}
 use Rattle.rbg_rules.specs.State.{AbstractGame, AbstractState}
+use Rattle.rbg_leaps.specs.Leaps.{IsShiftAt}
 use Rattle.rbg_auto.specs.Steps.{AreAllThatFollow}
 use Rattle.rbg_search.specs.Flat.{IsFlatPart}
 use Rattle.rbg_search.specs.Start.{IsPositionOf}
@@ -15,8 +16,9 @@ use Rattle.rbg_search.specs.internal.Meeting.{MeetsAll}
 use Rattle.rbg_search.specs.internal.Part.{IsOutcome, IsPart}
 use Rattle.rbg_search.specs.declared.outcome.Outcome.TheVariants.{Modifies}
 use Rattle.rbg_search.proofs.Glances.{no_pattern}
-use Rattle.rbg_search.specs.Taken.{HasPairs}
-use Rattle.rbg_search.proofs.Takings.{part_pairs}
+use Rattle.rbg_flat.specs.Found.{HasCandidates}
+use Rattle.rbg_search.proofs.Plains.{plain_none, plain_more}
+use Rattle.rbg_search.proofs.Takings.{no_modifier_shift, part_pairs}
 use Rattle.rbg_search.proofs.Starts.{follower_position}
 use Rattle.rbg_search.proofs.Meetings.{meets_none, meets_one}
 use Rattle.rbg_search.proofs.Parts.{begin_part, modifier_part, all_met, whole_part}
@@ -69,9 +71,12 @@ module _ (game : AbstractGame) (numbered : IsNumbered game.rules) (s : AbstractS
   unfolding alone
   alone_met v q = all_met game s f numbered alone alone ends part v q
 
-  pub alone_pairs : HasPairs game s f 1
+  no_shift_alone : ¬ IsShiftAt game.rules p
+  no_shift_alone other = no_modifier_shift game.rules numbered p modifies.0 other
+
+  pub alone_pairs : HasCandidates game s f 1
   unfolding alone
-  alone_pairs = part_pairs game numbered s f alone alone ends part (λ i j d less within. absurd (omega (arith, less, within)))
+  alone_pairs = part_pairs game numbered s f alone alone ends 1 part (plain_more game.rules [] 0 s.vertex p (plain_none game.rules) (none_there (s.vertex, p)) no_shift_alone)
 
   -- It is no pattern.
   pub alone_quiet : (w q : ℕ) → Contains {X = ℕ × ℕ} ((s.vertex, p) ∷ []) (w, q) → IsPatternAt game.rules q → Contains {X = ℕ × ℕ} [] (w, q)

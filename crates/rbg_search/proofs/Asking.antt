@@ -55,14 +55,19 @@ pub pattern_fails : (game : AbstractGame) → IsNumbered game.rules → (s : Abs
 pattern_fails game numbered s v p pattern fails = λ t applies.
     fails (subst (λ (u : AbstractState). Applies game p (at_vertex s v) u) (pattern_law game numbered p pattern.inside_it pattern.stands (at_vertex s v) t applies) applies)
 
--- In a pattern that was met patterns nest one less deep.
+-- In a pattern that is reached patterns nest one less deep.
+pub reached_nests : (game : AbstractGame) → IsNumbered game.rules → (s : AbstractState) (f : Start) (n : ℕ) → NestsFrom game.rules n f → (v p : ℕ) → Reached game s f v p → IsPatternAt game.rules p → (less : ℕ) × (n ≡ suc less) × NestsFrom game.rules less (beginning (inside p))
+reached_nests game numbered s f n nests v p reached pattern =
+    let words = by_words game numbered s f v p reached in
+    nests_inside game.rules numbered n f nests words.before p words.follows pattern.inside_it pattern.stands
+
+-- .. so in one that was met.
 pub asked_nests : (game : AbstractGame) → IsNumbered game.rules → (s : AbstractState) (f : Start) (n : ℕ) → NestsFrom game.rules n f → (pairs done found : List (ℕ × ℕ)) (ends : Bool) → IsPart game s f pairs done found ends → (k v p : ℕ) → slice_get pairs k ≡ Some (v, p) → IsPatternAt game.rules p → (less : ℕ) × (n ≡ suc less) × NestsFrom game.rules less (beginning (inside p))
 asked_nests game numbered s f n nests pairs done found ends part k v p at pattern =
     let under = slice_get_within pairs k (v, p) at in
     let there : Contains pairs (v, p) = (k, under, get_or_from_slice_get pairs k (v, p) (v, p) at) in
     let reached : Reached game s f v p = All-contains (λ q. Reached game s f q.0 q.1) pairs (v, p) part.sound there in
-    let words = by_words game numbered s f v p reached in
-    nests_inside game.rules numbered n f nests words.before p words.follows pattern.inside_it pattern.stands
+    reached_nests game numbered s f n nests v p reached pattern
 
 pub some_nested : (rules : Expression) (n p : ℕ) → ((less : ℕ) × (n ≡ suc less) × NestsFrom rules less (beginning (inside p))) → (0 < n) × ((k : ℕ) → n ≡ suc k → NestsFrom rules k (beginning (inside p)))
 some_nested rules n p (less, is, nests) = (omega (arith, is), (λ k is'. subst (λ (i : ℕ). NestsFrom rules i (beginning (inside p))) (suc_same less k (sym is ∙ is')) nests))

@@ -15,7 +15,8 @@ use Rattle.rbg_rules.specs.Laws.{IsStart}
 use Rattle.rbg_rules.proofs.PlaceLemmas.{RunPairs-Runs}
 use Rattle.rbg_rules.proofs.TableLemmas.{numbered_action}
 use Rattle.rbg_rules.proofs.TrimLemmas.{empty_opening_law}
-use Rattle.rbg_search.specs.Flat.{IsNext, IsFlatPart, MayEnd}
+use Rattle.rbg_flat.specs.Candidates.{MayEnd}
+use Rattle.rbg_search.specs.Flat.{IsNext, IsFlatPart}
 use Rattle.rbg_search.specs.Counting.{CountsOpenings, IsOverBudget}
 use Rattle.rbg_search.specs.Passing.{GoesOn, CountsUpTo, BeginsAmong, HasRow, IsTooDeep, from_here, somewhere}
 use Rattle.rbg_search.proofs.Closures.{quiet_place}

@@ -12,7 +12,8 @@ use Rattle.rbg_rules.proofs.RunLemmas.{Runs_join}
 use Rattle.rbg_rules.proofs.PositionLemmas.{one_stands}
 use Rattle.rbg_rules.proofs.PlaceLemmas.{quiet_acts, same_state, RunPairs_join, Runs-RunPairs}
 use Rattle.rbg_rules.proofs.LocalityLemmas.{locality_law}
-use Rattle.rbg_search.specs.Flat.{IsNext, MayEnd}
+use Rattle.rbg_flat.specs.Candidates.{MayEnd}
+use Rattle.rbg_search.specs.Flat.{IsNext}
 use Rattle.rbg_search.specs.internal.Closure.{at_vertex, Leads, Reached, first, then, IsFound, EndsFlat, RunsBehind}
 
 -- An action that stands where no modifier does is none.

@@ -54,6 +54,15 @@ pub record AskStep (h : Searching) (s : AbstractState) (f : Start) (done : List 
   pub counts : CountsAsked h.game s f done a b
   pub gave_up : IsCounted h.game reach s f a b h.modifiers h.openings h.modifiers D W
 
+pub ask_step_at : (h k : Searching) (s u : History) (f : Start) (done : List (ℕ × ℕ)) (v p a b : ℕ) (D W : Type 0) → k ≡ record h { opened = k.opened; taken = k.taken } → u ≡ record s { room = u.room } → IsGame h.game → Reached h.game s.state f v p → IsPatternAt h.game.rules p → ¬ Contains done (v, p) → CountsAsked h.game s.state f done a k.opened → IsCounted k.game pattern (at_vertex u.state v) (beginning (inside p)) k.opened b k.modifiers k.openings k.modifiers D W → AskStep h s.state f (done ++ (v, p) ∷ []) a b D W
+ask_step_at h k s u f done v p a b D W kept given lawful met is fresh so_far asked =
+    let asked_here : IsCounted h.game pattern (at_vertex s.state v) (beginning (inside p)) k.opened b h.modifiers h.openings h.modifiers D W =
+    search_before (λ y w. IsCounted y.game pattern (at_vertex w v) (beginning (inside p)) k.opened b y.modifiers y.openings y.modifiers D W) h k s u kept given asked in
+    record {
+      counts = asked_more h.game lawful.numbered s.state f v p met is done a k.opened b so_far fresh asked_here.counted;
+      gave_up = asked_counted h.game lawful.numbered s.state f v p met is done fresh a k.opened b h.modifiers h.openings D W so_far asked_here;
+    }
+
 pub ask_step : (h k : Searching) (s l u : History) (f : Start) (flat flat' : Flat) (v p a b : ℕ) (D W : Type 0) → k ≡ record h { opened = k.opened; taken = k.taken } → l ≡ record s { room = l.room } → u ≡ record s { room = u.room } → IsGame h.game → IsBegun k.game l.state f flat' → slice_get flat'.queue.pairs flat'.taken ≡ Some (v, p) → IsPatternAt k.game.rules p → ((x : ℕ × ℕ) → Contains (take flat.taken flat.queue.pairs) x → Contains (take flat'.taken flat'.queue.pairs) x) → ¬ Contains (take flat'.taken flat'.queue.pairs) (v, p) → CountsAsked h.game s.state f (take flat.taken flat.queue.pairs) a k.opened → IsCounted k.game pattern (at_vertex u.state v) (beginning (inside p)) k.opened b k.modifiers k.openings k.modifiers D W → AskStep h s.state f (take flat'.taken flat'.queue.pairs ++ (v, p) ∷ []) a b D W
 ask_step h k s l u f flat flat' v p a b D W kept given given' lawful begun at is still fresh counts asked =
     let done : List (ℕ × ℕ) = take flat'.taken flat'.queue.pairs in
@@ -61,12 +70,7 @@ ask_step h k s l u f flat flat' v p a b D W kept given given' lawful begun at is
     let met : Reached h.game s.state f v p = taken_reached h.game s.state f flat' v p here at in
     let is_here : IsPatternAt h.game.rules p = search_before (λ y w. IsPatternAt y.game.rules p) h k s l kept given is in
     let so_far : CountsAsked h.game s.state f done a k.opened = asked_weaker h.game s.state f (take flat.taken flat.queue.pairs) done a k.opened still counts in
-    let asked_here : IsCounted h.game pattern (at_vertex s.state v) (beginning (inside p)) k.opened b h.modifiers h.openings h.modifiers D W =
-    search_before (λ y w. IsCounted y.game pattern (at_vertex w v) (beginning (inside p)) k.opened b y.modifiers y.openings y.modifiers D W) h k s u kept given' asked in
-    record {
-      counts = asked_more h.game lawful.numbered s.state f v p met is_here done a k.opened b so_far fresh asked_here.counted;
-      gave_up = asked_counted h.game lawful.numbered s.state f v p met is_here done fresh a k.opened b h.modifiers h.openings D W so_far asked_here;
-    }
+    ask_step_at h k s u f done v p a b D W kept given' lawful met is_here fresh so_far asked
 
 -- The whole number of modifiers in a row is left, so an opening has it.
 pub deep_is : (game : AbstractGame) (question : Question) (s : AbstractState) (f : Start) (most : ℕ) → IsTooDeep game question s f most most → IsDeep game question s f most

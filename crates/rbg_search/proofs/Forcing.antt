@@ -291,7 +291,7 @@ module _ (game : AbstractGame) (numbered : IsNumbered game.rules) where
   }
 
   -- In the end they are all that is forced of `reach`.
-  pub asks_end : (cut : Bool) (s : AbstractState) (f : Start) (done : List (ℕ × ℕ)) (a b left most : ℕ) → ((v p : ℕ) → Reached game s f v p → Contains done (v, p)) → AsksForced game cut s done a b most → CountsForced game cut reach s f a b left most
+  pub asks_end : (cut : Bool) (s : AbstractState) (f : Start) (done : List (ℕ × ℕ)) (a b left most : ℕ) → ((v p : ℕ) → Reached game s f v p → IsPatternAt game.rules p → Contains done (v, p)) → AsksForced game cut s done a b most → CountsForced game cut reach s f a b left most
   asks_end cut s f done a b left most met asks = record {
     openings = asks.openings;
     all = λ o forced. there o (forced_here game numbered cut s f o forced);
@@ -301,11 +301,11 @@ module _ (game : AbstractGame) (numbered : IsNumbered game.rules) where
     where
       there : (o : List Item) → IsForcedHere game cut s f o → Contains asks.openings o
       there _ nothing = asks.nothing
-      there _ (asked {v = v} {p = p} {o = o} reached is forced) = asks.all v p o (met v p reached) is forced
+      there _ (asked {v = v} {p = p} {o = o} reached is forced) = asks.all v p o (met v p reached is) is forced
 
       short : (o : List Item) → IsForcedHere game cut s f o → HasFewInRow left most o
       short _ nothing = tt
-      short _ (asked {v = v} {p = p} {o = o} reached is forced) = asks.few v p o (met v p reached) is forced
+      short _ (asked {v = v} {p = p} {o = o} reached is forced) = asks.few v p o (met v p reached is) is forced
 
   -- ---- behind the modifiers that come next
 

@@ -24,10 +24,10 @@ ask_forced h k s u done done' v p a b cut kept given numbered quiet asks more =
     (search_before (λ y w. CountsForced y.game cut pattern (at_vertex w v) (beginning (inside p)) k.opened b y.modifiers y.modifiers) h k s u kept given more)
 
 -- Each pattern was asked.
-pub flat_forced : (h k : Searching) (s l : History) (f : Start) (done done' : List (ℕ × ℕ)) (a left : ℕ) (cut : Bool) → k ≡ record h { opened = k.opened; taken = k.taken } → l ≡ record s { room = l.room } → IsNumbered h.game.rules → ((w q : ℕ) → Contains done' (w, q) → IsPatternAt k.game.rules q → Contains done (w, q)) → ((v p : ℕ) → Reached k.game l.state f v p → Contains done' (v, p)) → AsksForced h.game cut s.state done a k.opened h.modifiers → CountsForced h.game cut reach s.state f a k.opened left h.modifiers
+pub flat_forced : (h k : Searching) (s l : History) (f : Start) (done done' : List (ℕ × ℕ)) (a left : ℕ) (cut : Bool) → k ≡ record h { opened = k.opened; taken = k.taken } → l ≡ record s { room = l.room } → IsNumbered h.game.rules → ((w q : ℕ) → Contains done' (w, q) → IsPatternAt k.game.rules q → Contains done (w, q)) → ((v p : ℕ) → Reached k.game l.state f v p → IsPatternAt k.game.rules p → Contains done' (v, p)) → AsksForced h.game cut s.state done a k.opened h.modifiers → CountsForced h.game cut reach s.state f a k.opened left h.modifiers
 flat_forced h k s l f done done' a left cut kept given numbered quiet met asks =
     asks_end h.game numbered cut s.state f done' a k.opened left h.modifiers
-    (search_before (λ y w. (v p : ℕ) → Reached y.game w f v p → Contains done' (v, p)) h k s l kept given met)
+    (search_before (λ y w. (v p : ℕ) → Reached y.game w f v p → IsPatternAt y.game.rules p → Contains done' (v, p)) h k s l kept given met)
     (asks_still h.game numbered cut s.state done done' a k.opened h.modifiers
     (search_before (λ y w. (x q : ℕ) → Contains done' (x, q) → IsPatternAt y.game.rules q → Contains done (x, q)) h k s l kept given quiet) asks)
 

@@ -26,4 +26,7 @@ pub mod Straights
 pub mod Tolds
 pub mod Walking
 pub mod Takings
+pub mod Plains
+pub mod BySets
+pub mod FindingBySets
 pub mod TakingSteps

@@ -1,21 +1,22 @@
 -- A walk along a straight line, step by step.
-use Rattle.std.proofs.Common.{◌≡◌, ◌≢◌, ℕ, suc, ◌+◌, ◌<◌, List, [], ◌∷◌, ◌++◌, length, ◌==◌, Bool, true, ◌||◌, refl, sym, ap, ◌∙◌, subst, append-nil, arith}
+use Rattle.std.proofs.Common.{◌≡◌, ◌≢◌, ℕ, suc, ◌<◌, List, [], ◌∷◌, ◌++◌, length, ◌==◌, Bool, true, ◌||◌, refl, sym, subst, append-nil, arith}
 use Rattle.std.specs.Prelude.{All, AllPairs, Contains, Decides}
 use Rattle.std.proofs.lemmas.List.Elements.{All-nil, All-cons, All-head, All-push, All-weaker, All-contains, Contains-push}
-use Rattle.std.proofs.lemmas.List.{length-append}
 use Rattle.std.proofs.lemmas.List.Quantifiers.{all_pairs_push}
 use Rattle.std.proofs.lemmas.Bool.Decides.{nat_tests}
 use Rattle.rbg_rules.specs.Positions.{IsNumbered, IsPatternAt}
 use Rattle.rbg_rules.specs.Words.{Start, after, Ends}
 use Rattle.rbg_rules.specs.State.{AbstractGame, AbstractState}
 use Rattle.rbg_auto.specs.Steps.{AreAllThatFollow}
-use Rattle.rbg_search.specs.Taken.{HasPairs}
+use Rattle.rbg_flat.specs.Found.{HasCandidates}
 use Rattle.rbg_search.specs.internal.Meeting.{MeetsAll}
 use Rattle.rbg_search.specs.internal.Part.{IsOutcome, IsPart}
+use Rattle.rbg_search.specs.internal.Plain.{HasPlain}
 use Rattle.rbg_search.specs.internal.Straight.{IsWalked, IsWalking}
 use Rattle.rbg_search.specs.declared.outcome.Outcome.{Outcome}
 use Rattle.rbg_search.specs.declared.outcome.Outcome.TheVariants.{Invalid, Modifies, LeadsTo}
 use Rattle.rbg_search.specs.internal.Closure.{at_vertex}
+use Rattle.rbg_search.proofs.Plains.{plain_none}
 use Rattle.rbg_search.proofs.Takings.{part_pairs}
 use Rattle.rbg_search.proofs.Parts.{begin_part, invalid_part, leads_part, all_met, whole_part}
 
@@ -52,7 +53,7 @@ module _ (game : AbstractGame) (s : AbstractState) (f : Start) where
   pub begin_walk : (ps : List ℕ) (p : ℕ) (ends : Bool) → ps ≡ p ∷ [] → AreAllThatFollow game.rules f ps → Decides ends (Ends game.rules f []) → IsWalking game s f s.vertex p ends 0
   begin_walk ps p ends one follow decides = record {
     done = [];
-    count = refl;
+    plain = plain_none game.rules;
     different = λ i j d less within. absurd (omega (arith, less, within));
     before = All-nil (λ (q : ℕ × ℕ). q.1 < p);
     part = begin_part game s f ((s.vertex, p) ∷ []) (p ∷ []) ends (meets_one [] s.vertex p) (subst (λ (qs : List ℕ). AreAllThatFollow game.rules f qs) one follow) decides;
@@ -70,8 +71,11 @@ module _ (game : AbstractGame) (s : AbstractState) (f : Start) where
         not_before : p < p → ⊥
         not_before less = absurd (omega (arith, less))
 
-    counted : length (walking.done ++ (v, p) ∷ []) ≡ many + 1
-    counted = length-append walking.done ((v, p) ∷ []) ∙ ap (λ (n : ℕ). n + 1) walking.count
+    pub not_done : ¬ Contains walking.done (v, p)
+    not_done there = not_before (All-contains (λ (q : ℕ × ℕ). q.1 < p) walking.done (v, p) walking.before there)
+      where
+        not_before : p < p → ⊥
+        not_before less = absurd (omega (arith, less))
 
     -- Each pair is done.
     walked : IsNumbered game.rules → (ends' : Bool) → IsPart game s f (walking.done ++ (v, p) ∷ []) (walking.done ++ (v, p) ∷ []) [] ends' → IsWalked game s f ends'
@@ -80,12 +84,12 @@ module _ (game : AbstractGame) (s : AbstractState) (f : Start) where
       quiet = λ w q reached. All-contains (λ x. ¬ IsPatternAt game.rules x.1) (walking.done ++ (v, p) ∷ []) (w, q) quiet_on (all_met game s f numbered (walking.done ++ (v, p) ∷ []) [] ends' part w q reached);
     }
 
-    all_taken : IsNumbered game.rules → (ends' : Bool) → IsPart game s f (walking.done ++ (v, p) ∷ []) (walking.done ++ (v, p) ∷ []) [] ends' → HasPairs game s f (many + 1)
-    all_taken numbered ends' part = subst (λ (n : ℕ). HasPairs game s f n) counted (part_pairs game numbered s f (walking.done ++ (v, p) ∷ []) [] ends' part once)
+    all_taken : IsNumbered game.rules → (ends' : Bool) (all : ℕ) → IsPart game s f (walking.done ++ (v, p) ∷ []) (walking.done ++ (v, p) ∷ []) [] ends' → HasPlain game.rules (walking.done ++ (v, p) ∷ []) all → HasCandidates game s f all
+    all_taken numbered ends' all part has = part_pairs game numbered s f (walking.done ++ (v, p) ∷ []) [] ends' all part has
 
     -- The last action isn't valid.
-    pub taken_up_to : IsNumbered game.rules → IsOutcome game s v p Invalid → HasPairs game s f (many + 1)
-    taken_up_to numbered invalid = all_taken numbered ends (invalid_part game s f (walking.done ++ (v, p) ∷ []) walking.done [] ends v p walking.part invalid)
+    pub taken_up_to : IsNumbered game.rules → (all : ℕ) → HasPlain game.rules (walking.done ++ (v, p) ∷ []) all → IsOutcome game s v p Invalid → HasCandidates game s f all
+    taken_up_to numbered all has invalid = all_taken numbered ends all (invalid_part game s f (walking.done ++ (v, p) ∷ []) walking.done [] ends v p walking.part invalid) has
 
     pub walked_up_to : IsNumbered game.rules → IsOutcome game s v p Invalid → IsWalked game s f ends
     walked_up_to numbered invalid = walked numbered ends (invalid_part game s f (walking.done ++ (v, p) ∷ []) walking.done [] ends v p walking.part invalid)
@@ -107,14 +111,14 @@ module _ (game : AbstractGame) (s : AbstractState) (f : Start) where
     pub walked_through : IsNumbered game.rules → (u : ℕ) (ps : List ℕ) (last : Bool) → IsOutcome game s v p (LeadsTo u) → ps ≡ [] → AreAllThatFollow game.rules (after p) ps → Decides last (Ends game.rules (after p) []) → IsWalked game s f (ends || last)
     walked_through numbered u ps last leads none follow decides = walked numbered (ends || last) (through u ps last leads none follow decides)
 
-    pub taken_through : IsNumbered game.rules → (u : ℕ) (ps : List ℕ) (last : Bool) → IsOutcome game s v p (LeadsTo u) → ps ≡ [] → AreAllThatFollow game.rules (after p) ps → Decides last (Ends game.rules (after p) []) → HasPairs game s f (many + 1)
-    taken_through numbered u ps last leads none follow decides = all_taken numbered (ends || last) (through u ps last leads none follow decides)
+    pub taken_through : IsNumbered game.rules → (all : ℕ) → HasPlain game.rules (walking.done ++ (v, p) ∷ []) all → (u : ℕ) (ps : List ℕ) (last : Bool) → IsOutcome game s v p (LeadsTo u) → ps ≡ [] → AreAllThatFollow game.rules (after p) ps → Decides last (Ends game.rules (after p) []) → HasCandidates game s f all
+    taken_through numbered all has u ps last leads none follow decides = all_taken numbered (ends || last) all (through u ps last leads none follow decides) has
 
     -- One more action follows.
-    pub walked_on : (u q : ℕ) (ps : List ℕ) (last : Bool) → IsOutcome game s v p (LeadsTo u) → ps ≡ q ∷ [] → AreAllThatFollow game.rules (after p) ps → Decides last (Ends game.rules (after p) []) → p < q → IsWalking game s f u q (ends || last) (many + 1)
-    walked_on u q ps last leads one follow decides later = record {
+    pub walked_on : (all : ℕ) → HasPlain game.rules (walking.done ++ (v, p) ∷ []) all → (u q : ℕ) (ps : List ℕ) (last : Bool) → IsOutcome game s v p (LeadsTo u) → ps ≡ q ∷ [] → AreAllThatFollow game.rules (after p) ps → Decides last (Ends game.rules (after p) []) → p < q → IsWalking game s f u q (ends || last) all
+    walked_on all has u q ps last leads one follow decides later = record {
       done = walking.done ++ (v, p) ∷ [];
-      count = counted;
+      plain = has;
       different = once;
       before =
           All-push (λ (r : ℕ × ℕ). r.1 < q) walking.done (v, p)

@@ -1,6 +1,6 @@
 -- Each step of a search that counts pairs, by what it began with.
-use Rattle.std.proofs.Common.{◌≡◌, ◌≢◌, ℕ, ◌+◌, ◌<◌, ◌≤◌, List, length, get_or, take, Bool, false, sym, subst}
-use Rattle.std.specs.Prelude.{AllPairs, Contains, Some, slice_get}
+use Rattle.std.proofs.Common.{◌≡◌, ℕ, ◌+◌, ◌<◌, ◌≤◌, List, length, get_or, take, Bool, false, sym, subst}
+use Rattle.std.specs.Prelude.{Contains, Some, slice_get}
 use Rattle.std.proofs.lemmas.List.{get_or_default}
 use Rattle.std.proofs.lemmas.List.Elements.{All-contains, All-contains_itself, All-take}
 use Rattle.rbg_rules.specs.Positions.{IsPatternAt, inside}
@@ -16,38 +16,44 @@ use Rattle.rbg_search.specs.Searching.{Searching}
 use Rattle.rbg_search.specs.Taken.{HasPart, CountsPairs, most_pairs_of}
 use Rattle.rbg_search.specs.internal.Asked.{StandsInPattern, GoesBehind}
 use Rattle.rbg_search.specs.internal.Begun.{IsBegun}
+use Rattle.rbg_search.specs.internal.Plain.{HasPlain}
 use Rattle.rbg_search.specs.internal.Closure.{at_vertex, Reached}
 use Rattle.rbg_search.specs.declared.flat.Flat.{Flat}
 use Rattle.rbg_search.proofs.Counted.{found_behind, search_before, onward_search}
 use Rattle.rbg_search.proofs.CountedSteps.{taken_reached}
 use Rattle.rbg_search.proofs.Countings.{goes_behind}
-use Rattle.rbg_search.proofs.Takings.{comes_next, reached_pairs, own_part, any_part, pattern_part, behind_part, takes_then, takes_part_of}
+use Rattle.rbg_search.proofs.Takings.{is_candidate, no_shift, reached_pairs, own_part, any_part, pattern_part, behind_part, takes_then, takes_part_of}
 
 -- A pattern was asked in a flat part.
+pub asked_takes_at : (h k : Searching) (s u : History) (f : Start) (v p b w : ℕ) (A : Type 0) → k ≡ record h { opened = k.opened; taken = k.taken } → u ≡ record s { room = u.room } → IsGame h.game → Reached h.game s.state f v p → IsPatternAt h.game.rules p → CountsPairs h.game reach s.state f (h.opened + 1) k.opened h.taken k.taken (Unit {0}) → CountsPairs k.game pattern (at_vertex u.state v) (beginning (inside p)) k.opened b k.taken w A → CountsPairs h.game reach s.state f (h.opened + 1) b h.taken w A
+asked_takes_at h k s u f v p b w A kept given lawful met is so_far asked =
+    let asked_here : CountsPairs h.game pattern (at_vertex s.state v) (beginning (inside p)) k.opened b k.taken w A =
+    search_before (λ y z. CountsPairs y.game pattern (at_vertex z v) (beginning (inside p)) k.opened b k.taken w A) h k s u kept given asked in
+    takes_then h.game reach s.state f (h.opened + 1) k.opened b h.taken k.taken w A so_far
+    (takes_part_of h.game reach s.state f pattern (at_vertex s.state v) (beginning (inside p)) k.opened b k.taken w A
+    (pattern_part h.game reach s.state f v p (is_candidate h.game lawful.numbered s.state f v p met (no_shift h.game.rules lawful.numbered p is)) is) asked_here)
+
 pub asked_takes : (h k : Searching) (s l u : History) (f : Start) (flat' : Flat) (v p b w : ℕ) (A : Type 0) → k ≡ record h { opened = k.opened; taken = k.taken } → l ≡ record s { room = l.room } → u ≡ record s { room = u.room } → IsGame h.game → IsBegun k.game l.state f flat' → slice_get flat'.queue.pairs flat'.taken ≡ Some (v, p) → IsPatternAt k.game.rules p → CountsPairs h.game reach s.state f (h.opened + 1) k.opened h.taken k.taken (Unit {0}) → CountsPairs k.game pattern (at_vertex u.state v) (beginning (inside p)) k.opened b k.taken w A → CountsPairs h.game reach s.state f (h.opened + 1) b h.taken w A
 asked_takes h k s l u f flat' v p b w A kept given given' lawful begun at is so_far asked =
     let here : IsBegun h.game s.state f flat' = search_before (λ y z. IsBegun y.game z f flat') h k s l kept given begun in
     let met : Reached h.game s.state f v p = taken_reached h.game s.state f flat' v p here at in
     let is_here : IsPatternAt h.game.rules p = search_before (λ y z. IsPatternAt y.game.rules p) h k s l kept given is in
-    let asked_here : CountsPairs h.game pattern (at_vertex s.state v) (beginning (inside p)) k.opened b k.taken w A =
-    search_before (λ y z. CountsPairs y.game pattern (at_vertex z v) (beginning (inside p)) k.opened b k.taken w A) h k s u kept given' asked in
-    takes_then h.game reach s.state f (h.opened + 1) k.opened b h.taken k.taken w A so_far
-    (takes_part_of h.game reach s.state f pattern (at_vertex s.state v) (beginning (inside p)) k.opened b k.taken w A
-    (pattern_part h.game reach s.state f v p (comes_next h.game lawful.numbered s.state f v p met) is_here) asked_here)
+    asked_takes_at h k s u f v p b w A kept given' lawful met is_here so_far asked
 
 contains_more : (pairs : List (ℕ × ℕ)) (n : ℕ) (q : ℕ × ℕ) → Contains (take n pairs) q → Contains pairs q
 contains_more pairs n q there = All-contains (Contains pairs) (take n pairs) q (All-take (Contains pairs) n pairs (All-contains_itself pairs)) there
 
 -- The flat part is whole.
-pub whole_takes : (h k : Searching) (s l : History) (f : Start) (flat : Flat) → k ≡ record h { opened = k.opened; taken = k.taken } → l ≡ record s { room = l.room } → IsGame h.game → IsBegun k.game l.state f flat → ((v p : ℕ) → Reached k.game l.state f v p → Contains (take flat.taken flat.queue.pairs) (v, p)) → AllPairs (λ a b. a ≢ b) flat.queue.pairs → length flat.queue.pairs ≤ most_pairs_of k.game → HasPart h.game reach s.state f (length flat.queue.pairs)
-whole_takes h k s l f flat kept given lawful begun met once few =
+pub whole_takes : (h k : Searching) (s l : History) (f : Start) (flat : Flat) (many : ℕ) → k ≡ record h { opened = k.opened; taken = k.taken } → l ≡ record s { room = l.room } → IsGame h.game → IsBegun k.game l.state f flat → ((v p : ℕ) → Reached k.game l.state f v p → Contains (take flat.taken flat.queue.pairs) (v, p)) → HasPlain k.game.rules flat.queue.pairs many → many ≤ most_pairs_of k.game → HasPart h.game reach s.state f many
+whole_takes h k s l f flat many kept given lawful begun met has few =
     let pairs = flat.queue.pairs in
     let here : IsBegun h.game s.state f flat = search_before (λ y z. IsBegun y.game z f flat) h k s l kept given begun in
     let met_here : (v p : ℕ) → Reached h.game s.state f v p → Contains (take flat.taken pairs) (v, p) =
     search_before (λ y z. (v p : ℕ) → Reached y.game z f v p → Contains (take flat.taken pairs) (v, p)) h k s l kept given met in
-    own_part h.game reach s.state f (length pairs)
-    (reached_pairs h.game lawful.numbered s.state f pairs here.part.sound (λ v p is. contains_more pairs flat.taken (v, p) (met_here v p is)) once)
-    (search_before (λ y z. length pairs ≤ most_pairs_of y.game) h k s l kept given few)
+    own_part h.game reach s.state f many
+    (reached_pairs h.game lawful.numbered s.state f pairs many here.part.sound (λ v p is. contains_more pairs flat.taken (v, p) (met_here v p is))
+    (search_before (λ y z. HasPlain y.game.rules pairs many) h k s l kept given has))
+    (search_before (λ y z. many ≤ most_pairs_of y.game) h k s l kept given few)
 
 -- The search went on behind the modifiers that were found.
 pub behind_takes : (h k : Searching) (s l : History) (f : Start) (pairs pairs' : List (ℕ × ℕ)) (ends : Bool) (b w : ℕ) (A : Type 0) → k ≡ record h { opened = k.opened; taken = k.taken } → l ≡ record s { room = l.room } → pairs' ≡ pairs → IsGame h.game → StandsInPattern h.game.rules f → IsFlatPart h.game s.state f pairs ends → ends ≡ false → CountsPairs h.game reach s.state f h.opened k.opened h.taken k.taken (Unit {0}) → ((e : Start) → GoesBehind k.game l.state e pairs' → CountsPairs k.game pattern l.state e k.opened b k.taken w A) → CountsPairs h.game pattern s.state f h.opened b h.taken w A

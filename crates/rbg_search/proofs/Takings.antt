@@ -1,21 +1,28 @@
 -- What a search counts of pairs: those of a flat part, and those of parts that are joined.
-use Rattle.std.proofs.Common.{◌≡◌, ◌≢◌, ℕ, ◌+◌, ◌*◌, ◌≤◌, List, [], ◌∷◌, ◌++◌, length, Bool, true, false, refl, subst, arith}
-use Rattle.std.specs.Prelude.{Result, Ok, Err, IsOk, IsErrAnd, All, AllPairs, Contains, sum}
+use Rattle.std.proofs.Common.{◌≡◌, ℕ, ◌+◌, ◌*◌, ◌≤◌, List, [], ◌∷◌, ◌++◌, length, Bool, true, false, refl, ap, ◌∙◌, subst, arith}
+use Rattle.std.specs.Prelude.{Result, Ok, Err, IsOk, IsErrAnd, All, Contains, sum}
 use Rattle.std.proofs.lemmas.Nat.{mul-le}
 use Rattle.std.proofs.lemmas.List.{length-append}
 use Rattle.std.proofs.lemmas.List.Sums.{sum_by-append, sum_by-le}
 use Rattle.std.proofs.lemmas.List.Elements.{All-nil, All-push, All-append, All-weaker, All-contains}
-use Rattle.rbg_rules.specs.Positions.{IsNumbered, IsPatternAt, inside}
+use Rattle.rbg_rules.specs.Expression.{shift, Expression}
+use Rattle.rbg_rules.specs.Positions.{IsNumbered, IsModifierAt, IsPatternAt, is_modifier, inside}
 use Rattle.rbg_rules.specs.Words.{Start, beginning, after}
 use Rattle.rbg_rules.specs.State.{AbstractGame, AbstractState}
 use Rattle.rbg_rules.specs.Questions.{Question, reach, pattern}
+use Rattle.rbg_rules.proofs.PositionLemmas.{one_stands}
+use Rattle.rbg_leaps.specs.Leaps.{IsShiftAt}
+use Rattle.rbg_flat.specs.Candidates.{IsCandidate}
+use Rattle.rbg_flat.specs.Found.{HasCandidates}
 use Rattle.rbg_search.specs.Passing.{Passes, trying, finding, listing, asking, GoesOn}
-use Rattle.rbg_search.specs.Taken.{MayComeNext, HasPairs, ComesTo, begins, by_pattern, by_modifier, HasPart, CountsPairs, most_pairs_of}
+use Rattle.rbg_search.specs.Taken.{ComesTo, begins, by_pattern, by_modifier, HasPart, CountsPairs, most_pairs_of}
 use Rattle.rbg_search.specs.declared.over.Over.{Over}
 use Rattle.rbg_search.specs.internal.Closure.{at_vertex, Reached}
 use Rattle.rbg_search.specs.internal.Part.{IsPart}
+use Rattle.rbg_search.specs.internal.Plain.{HasPlain}
 use Rattle.rbg_search.specs.internal.Spent.{IsSpent, IsSpentButOne}
 use Rattle.rbg_search.proofs.Closures.{reached, by_words}
+use Rattle.rbg_search.proofs.Glances.{no_pattern}
 use Rattle.rbg_search.proofs.Parts.{all_met}
 
 -- ---- which result is an answer
@@ -33,28 +40,39 @@ is_answer (Err e) x is = cc
 
 -- ---- the pairs of one flat part
 
-pub comes_next : (game : AbstractGame) → IsNumbered game.rules → (s : AbstractState) (f : Start) (v p : ℕ) → Reached game s f v p → MayComeNext game s f v p
-comes_next game numbered s f v p is =
+pub is_candidate : (game : AbstractGame) → IsNumbered game.rules → (s : AbstractState) (f : Start) (v p : ℕ) → Reached game s f v p → ¬ IsShiftAt game.rules p → IsCandidate game s f v p
+is_candidate game numbered s f v p is plain =
     let words = by_words game numbered s f v p is in
-    record { before = words.before; here = at_vertex s v; no_modifier = words.no_modifier; runs = words.runs; vertex = refl; follows = words.follows }
+    record { before = words.before; here = at_vertex s v; no_modifier = words.no_modifier; runs = words.runs; vertex = refl; follows = words.follows; plain = plain }
 
-pub is_reached : (game : AbstractGame) → IsNumbered game.rules → (s : AbstractState) (f : Start) (v p : ℕ) → MayComeNext game s f v p → Reached game s f v p
+pub is_reached : (game : AbstractGame) → IsNumbered game.rules → (s : AbstractState) (f : Start) (v p : ℕ) → IsCandidate game s f v p → Reached game s f v p
 is_reached game numbered s f v p may = subst (λ (u : ℕ). Reached game s f u p) may.vertex (reached game numbered s may.here f may.before p may.no_modifier may.runs may.follows)
 
+-- No shift stands where a pattern does.
+pub no_shift : (rules : Expression) → IsNumbered rules → (p : ℕ) → IsPatternAt rules p → ¬ IsShiftAt rules p
+no_shift rules numbered p stands other = no_pattern rules numbered p (shift other.direction) other.stands refl stands
+
+-- .. nor where a modifier does.
+pub no_modifier_shift : (rules : Expression) → IsNumbered rules → (p : ℕ) → IsModifierAt rules p → ¬ IsShiftAt rules p
+no_modifier_shift rules numbered p m other = false_not_true (ap is_modifier (one_stands rules numbered p (shift other.direction) m.action other.stands m.stands) ∙ m.modifies)
+  where
+    false_not_true : false ≡ true → ⊥
+    false_not_true e = cc
+
 -- All that is reached was met, and all that was met is reached.
-pub reached_pairs : (game : AbstractGame) → IsNumbered game.rules → (s : AbstractState) (f : Start) (pairs : List (ℕ × ℕ)) → All (λ q. Reached game s f q.0 q.1) pairs → ((v p : ℕ) → Reached game s f v p → Contains pairs (v, p)) → AllPairs (λ a b. a ≢ b) pairs → HasPairs game s f (length pairs)
-reached_pairs game numbered s f pairs sound met different = record {
-  pairs = pairs;
+pub reached_pairs : (game : AbstractGame) → IsNumbered game.rules → (s : AbstractState) (f : Start) (pairs : List (ℕ × ℕ)) (many : ℕ) → All (λ q. Reached game s f q.0 q.1) pairs → ((v p : ℕ) → Reached game s f v p → Contains pairs (v, p)) → HasPlain game.rules pairs many → HasCandidates game s f many
+reached_pairs game numbered s f pairs many sound met has = record {
+  pairs = has.plain;
   all = λ v p. (
-    (λ there. comes_next game numbered s f v p (All-contains (λ q. Reached game s f q.0 q.1) pairs (v, p) sound there)),
-    (λ may. met v p (is_reached game numbered s f v p may)),
+    (λ there. let both = (has.all v p).0 there in is_candidate game numbered s f v p (All-contains (λ q. Reached game s f q.0 q.1) pairs (v, p) sound both.0) both.1),
+    (λ may. (has.all v p).1 (met v p (is_reached game numbered s f v p may), may.plain)),
   );
-  different = different;
-  count = refl;
+  different = has.different;
+  count = has.count;
 }
 
-pub part_pairs : (game : AbstractGame) → IsNumbered game.rules → (s : AbstractState) (f : Start) (pairs found : List (ℕ × ℕ)) (ends : Bool) → IsPart game s f pairs pairs found ends → AllPairs (λ a b. a ≢ b) pairs → HasPairs game s f (length pairs)
-part_pairs game numbered s f pairs found ends part different = reached_pairs game numbered s f pairs part.sound (all_met game s f numbered pairs found ends part) different
+pub part_pairs : (game : AbstractGame) → IsNumbered game.rules → (s : AbstractState) (f : Start) (pairs found : List (ℕ × ℕ)) (ends : Bool) (many : ℕ) → IsPart game s f pairs pairs found ends → HasPlain game.rules pairs many → HasCandidates game s f many
+part_pairs game numbered s f pairs found ends many part has = reached_pairs game numbered s f pairs many part.sound (all_met game s f numbered pairs found ends part) has
 
 -- ---- where a question comes to a flat part
 
@@ -79,13 +97,13 @@ any_part game question s f many part = record {
   few = part.few;
 }
 
-pub pattern_part : (game : AbstractGame) (question : Question) (s : AbstractState) (f : Start) (v p : ℕ) → MayComeNext game s f v p → IsPatternAt game.rules p → (many : ℕ) → HasPart game pattern (at_vertex s v) (beginning (inside p)) many → HasPart game question s f many
+pub pattern_part : (game : AbstractGame) (question : Question) (s : AbstractState) (f : Start) (v p : ℕ) → IsCandidate game s f v p → IsPatternAt game.rules p → (many : ℕ) → HasPart game pattern (at_vertex s v) (beginning (inside p)) many → HasPart game question s f many
 pattern_part game question s f v p may there many part = record { state = part.state; start = part.start; comes = by_pattern may there part.comes; has = part.has; few = part.few }
 
 pub behind_part : (game : AbstractGame) (question question' : Question) (s later : AbstractState) (f : Start) (v p : ℕ) → GoesOn game question s f v p question' later → (many : ℕ) → HasPart game question' later (after p) many → HasPart game question s f many
 behind_part game question question' s later f v p on many part = record { state = part.state; start = part.start; comes = by_modifier on part.comes; has = part.has; few = part.few }
 
-pub own_part : (game : AbstractGame) (question : Question) (s : AbstractState) (f : Start) (many : ℕ) → HasPairs game s f many → many ≤ most_pairs_of game → HasPart game question s f many
+pub own_part : (game : AbstractGame) (question : Question) (s : AbstractState) (f : Start) (many : ℕ) → HasCandidates game s f many → many ≤ most_pairs_of game → HasPart game question s f many
 own_part game question s f many has few = record { state = s; start = f; comes = begins; has = has; few = few }
 
 -- ---- counts

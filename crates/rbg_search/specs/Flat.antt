@@ -1,9 +1,10 @@
 -- The flat part of an opening: what is reached from a semi-state without a modifier.
 use Rattle.std.specs.Prelude.{◌≡◌, ◌≢◌, ℕ, ◌<◌, ◌⊎◌, ◌↔◌, List, [], ◌∷◌, ◌++◌, Contains, AllPairs, Bool, Decides}
 use Rattle.rbg_rules.specs.Positions.{IsModifierAt, HasNoModifier}
-use Rattle.rbg_rules.specs.Words.{Start, Follows, Ends}
+use Rattle.rbg_rules.specs.Words.{Start, Follows}
 use Rattle.rbg_rules.specs.State.{AbstractGame, AbstractState}
 use Rattle.rbg_rules.specs.Actions.{Applies, Run}
+use Rattle.rbg_flat.specs.Candidates.{MayEnd}
 
 -- The modifier at position p comes next from s and f, with no modifier before it, and is valid at vertex v: some
 -- positions without a modifier run from s to a semi-state at v, p follows them there, and it can be applied.
@@ -17,15 +18,6 @@ pub record IsNext (game : AbstractGame) (s : AbstractState) (f : Start) (v p : �
   pub follows : Follows game.rules f (before ++ p ∷ [])
   pub modifies : IsModifierAt game.rules p
   pub applies : Applies game p here later
-
--- A word may end with no modifier more: some positions without a modifier run from s, and they are all that follows f
--- in a word.
-pub record MayEnd (game : AbstractGame) (s : AbstractState) (f : Start) : Type 0 where
-  pub before : List ℕ
-  pub here : AbstractState
-  pub no_modifier : HasNoModifier game.rules before
-  pub runs : Run game before s here
-  pub ends : Ends game.rules f before
 
 -- Found are the modifiers that come next, each once; and `ends` tells whether a word may end with no modifier more.
 pub record IsFlatPart

@@ -9,5 +9,7 @@ pub mod Asked
 pub mod Begun
 pub mod Taking
 pub mod Spent
+pub mod Plain
+pub mod BySets
 pub mod Straight
 pub mod Told

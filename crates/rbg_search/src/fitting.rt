@@ -1,8 +1,10 @@
 //! Which flat parts that were left by other searches are of use for a game.
 ghost use Rattle.std.specs.Prelude.{All, IsTrue};
+ghost use Rattle.rbg_flat.specs.internal.Leading.{AreSizedFor};
 ghost use Rattle.rbg_search.specs.internal.Part.{HasMarksOf};
 
 use crate::flat::Flat;
+use rbg_flat::Flat as SetFlat;
 use rbg_rules::Game;
 use std::alloc::Global;
 
@@ -20,6 +22,33 @@ pub(crate) fn fitting(alloc: Global, game: &Game, flats: Vec<Box<Flat>>) -> Vec<
 /// Whether each flat part has marks for the game.
 fn are_for(game: &Game, flats: &[Box<Flat>]) -> bool
     ensures { IsTrue result → All (λ flat. HasMarksOf game.now flat.value.queue) flats.now }
+{
+    for flat in flats {
+        if !flat.is_for(game) {
+            return false;
+        }
+    }
+    true
+}
+
+/// The flat parts by sets, if each is of use for the game; else none.
+pub(crate) fn fitting_sets(
+    alloc: Global,
+    game: &Game,
+    flats: Vec<Box<SetFlat>>,
+) -> Vec<Box<SetFlat>>
+    ensures { All (λ flat. AreSizedFor game.now flat.value.sets) result.items }
+{
+    if are_sets_for(game, &flats) {
+        flats
+    } else {
+        Vec::new(alloc)
+    }
+}
+
+/// Whether each flat part by sets is of use for the game.
+fn are_sets_for(game: &Game, flats: &[Box<SetFlat>]) -> bool
+    ensures { IsTrue result → All (λ flat. AreSizedFor game.now flat.value.sets) flats.now }
 {
     for flat in flats {
         if !flat.is_for(game) {

@@ -1,6 +1,6 @@
 //! One flat part: the pairs that are reached without a modifier, the modifiers found among them, and whether a word may
 //! end.
-ghost use Rattle.std.specs.Prelude.{◌≡◌, ℕ, ◌<◌, ◌≤◌, ◌+◌, ◌-◌, ◌^◌, ◌↔◌, ◌≢◌, [], ◌∷◌, ◌++◌, length, take, slice_get, AllPairs, Contains, Some, IfOk, IfSome, IfNone, OnOk, IsTrue};
+ghost use Rattle.std.specs.Prelude.{◌≡◌, ℕ, ◌<◌, ◌≤◌, ◌+◌, ◌-◌, ◌^◌, ◌↔◌, [], ◌∷◌, ◌++◌, List, length, take, slice_get, Contains, Some, IfOk, IfSome, IfNone, OnOk, IsTrue};
 ghost use Rattle.rbg_rules.specs.Expression.{shift, on};
 ghost use Rattle.rbg_rules.specs.State.{AbstractGame, AbstractState, IsStateOf};
 ghost use Rattle.rbg_rules.specs.Positions.{IsNumbered, HasAction, IsPatternAt};
@@ -8,6 +8,7 @@ ghost use Rattle.rbg_rules.specs.Words.{Start};
 ghost use Rattle.rbg_rules.specs.Games.{IsGame};
 ghost use Rattle.rbg_search.specs.Flat.{IsFlatPart};
 ghost use Rattle.rbg_search.specs.internal.Part.{IsOutcome, IsPart, HasMarksOf};
+ghost use Rattle.rbg_search.specs.internal.Plain.{HasPlain};
 ghost use Rattle.rbg_search.specs.Start.{start_of, IsPositionOf};
 
 use crate::game_steps::GameSteps;
@@ -16,6 +17,7 @@ use crate::outcome::Outcome;
 use crate::queue::Queue;
 use rbg_auto::{Glance, Steps};
 use rbg_base::{Direction, Memory, Piece, Position, Vertex};
+use rbg_flat::is_shift;
 use rbg_rules::Game;
 use rbg_state::{SemiState, Trial};
 use std::alloc::Global;
@@ -79,13 +81,18 @@ impl Flat {
         Ok(())
     }
 
-    /// How many pairs were met: those that were taken, once none is left.
-    pub(crate) fn pairs(&self) -> usize
-        ensures count { result ≡ length self.now.queue.pairs }
+    /// How many pairs were met that are no shifts.
+    pub(crate) fn candidates<S: Steps>(&self, rules: &GameSteps<'_, S>) -> usize
+        requires marks { HasMarksOf rules.now self.now.queue }
+        ensures count { HasPlain rules.now.rules self.now.queue.pairs result }
         ensures few { result ≤ self.now.queue.marks - self.now.queue.vertices }
-        ensures once { AllPairs (λ a b. a ≢ b) self.now.queue.pairs }
     {
-        self.queue.len()
+        let mut many = 0;
+        for index in 0..self.queue.len() {
+            let (_, position) = self.queue.pair(index);
+            many = one_more(rules, position, many);
+        }
+        many
     }
 
     /// Takes the next pair, of which this became.
@@ -250,6 +257,23 @@ impl Flat {
                 .queue
                 .take_told(&tables, state.pieces(), &mut self.found, self.taken);
         }
+    }
+}
+
+/// A number of pairs that are no shifts, with one pair more, at this position.
+#[inline(always)]
+pub(crate) fn one_more<S: Steps>(rules: &GameSteps<'_, S>, position: Position, many: usize) -> usize
+    requires position { IsPositionOf rules.now.rules position }
+    requires small { many + 1 < 2 ^ 64 }
+    ensures count { (done : List (ℕ × ℕ)) (v : ℕ) → HasPlain rules.now.rules done many
+        → ¬ Contains done (v, position)
+        → HasPlain rules.now.rules (done ++ (v, position) ∷ []) result }
+    ensures few { result ≤ many + 1 }
+{
+    if is_shift(rules.game(), position) {
+        many
+    } else {
+        many + 1
     }
 }
 

@@ -4,12 +4,14 @@ ghost use Rattle.rbg_rules.specs.Games.{IsGame};
 ghost use Rattle.rbg_rules.specs.Words.{Start, Ends};
 ghost use Rattle.rbg_search.specs.internal.Nesting.{NestsFrom};
 ghost use Rattle.rbg_auto.specs.Steps.{AreAllThatFollow, IsGlance};
+ghost use Rattle.rbg_flat.specs.Paths.{ArePathsOf};
 ghost use Rattle.rbg_search.specs.Start.{start_of, IsPositionOf};
 
 use crate::origin::Origin;
 use crate::tables::Tables;
 use rbg_auto::{Glance, Steps};
 use rbg_base::Position;
+use rbg_flat::Paths;
 use rbg_rules::Game;
 use rbg_rules::limits::MAX_NESTED_PATTERNS;
 use std::marker::Model;
@@ -19,6 +21,8 @@ use std::marker::Model;
 pub(crate) struct GameSteps<'a, S: Steps> {
     game: &'a Game,
     steps: &'a S,
+    /// The leaps of the game, where they are told.
+    paths: Option<&'a Paths>,
 }
 
 impl<'a, S: Steps> Model for GameSteps<'a, S> {
@@ -32,19 +36,31 @@ impl<'a, S: Steps> Model for GameSteps<'a, S> {
 
     ghost view = { λ g. g.game.now };
 
+    ghost use Rattle.std.specs.Prelude.{IfSome};
     ghost use Rattle.rbg_rules.specs.Games.{IsGame};
+    ghost use Rattle.rbg_flat.specs.Paths.{ArePathsOf};
 
-    ghost invariant = { λ g. S.of_rules g.steps.now g.game.now.rules × IsGame g.game.now };
+    ghost invariant = { λ g. S.of_rules g.steps.now g.game.now.rules × IsGame g.game.now
+        × IfSome g.paths (λ paths. ArePathsOf g.game.now paths.now) };
 }
 
 impl<'a, S: Steps> GameSteps<'a, S> {
-    /// The steps are those of the game's rules.
-    pub(crate) fn new(game: &'a Game, steps: &'a S) -> GameSteps<'a, S>
+    /// The steps are those of the game's rules, and the paths those of the game.
+    pub(crate) fn new(game: &'a Game, steps: &'a S, paths: Option<&'a Paths>) -> GameSteps<'a, S>
         requires steps { S.of_rules steps.now game.now.rules }
         requires lawful { IsGame game.now }
+        requires paths { IfSome paths (λ told. ArePathsOf game.now told.now) }
         ensures { result ≡ game.now }
     {
-        GameSteps { game, steps }
+        GameSteps { game, steps, paths }
+    }
+
+    /// The leaps of the game, where they are told.
+    #[inline(always)]
+    pub(crate) fn paths(&self) -> Option<&'a Paths>
+        ensures { IfSome result (λ told. ArePathsOf self.now told.now) }
+    {
+        self.paths
     }
 
     pub(crate) fn game(&self) -> &'a Game

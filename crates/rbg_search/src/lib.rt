@@ -2,6 +2,8 @@
 #![tactic(auto)]
 
 mod answer;
+mod by_pairs;
+mod by_sets;
 mod fitting;
 mod flat;
 mod game_steps;

@@ -9,13 +9,15 @@ ghost use Rattle.rbg_rules.specs.Games.{IsGame};
 ghost use Rattle.rbg_rules.specs.Laws.{IsStart};
 ghost use Rattle.rbg_search.specs.Counting.{CountsOpenings, IsOverBudget};
 ghost use Rattle.rbg_search.specs.Forced.{CountsForced, CountsAllForced};
-ghost use Rattle.rbg_search.specs.Taken.{CountsPairs, HasPairs, most_pairs_of};
+ghost use Rattle.rbg_flat.specs.Found.{HasCandidates};
+ghost use Rattle.rbg_flat.specs.Paths.{ArePathsOf};
+ghost use Rattle.rbg_flat.specs.internal.Leading.{AreSizedFor};
+ghost use Rattle.rbg_search.specs.Taken.{CountsPairs, most_pairs_of};
 ghost use Rattle.rbg_search.specs.internal.Taking.{RanBehind};
 ghost use Rattle.rbg_search.specs.internal.Asked.{StandsInPattern, GoesBehind, IsCounted};
 ghost use Rattle.rbg_search.specs.Flat.{IsFlatPart, IsBefore};
 ghost use Rattle.rbg_search.specs.Start.{start_of, IsPositionOf};
 ghost use Rattle.rbg_state.specs.History.{capacity_of, IsAfter};
-ghost use Rattle.rbg_search.specs.internal.Begun.{IsBegun};
 ghost use Rattle.rbg_search.specs.internal.Behind.{IsReady, RunsBehindPair, SomeRunsBehind};
 ghost use Rattle.rbg_search.specs.internal.Closure.{at_vertex, Reached as Meets};
 ghost use Rattle.rbg_search.specs.internal.Nesting.{NestsFrom};
@@ -24,8 +26,8 @@ ghost use Rattle.rbg_search.specs.internal.Part.{HasMarksOf, IsOutcome};
 ghost use Rattle.rbg_search.specs.internal.Spent.{IsSpent, IsSpentButOne};
 ghost use Rattle.rbg_search.specs.internal.Straight.{IsWalked};
 
-use crate::answer::{is_valid, outcome_of};
-use crate::fitting::fitting;
+use crate::answer::is_valid;
+use crate::fitting::{fitting, fitting_sets};
 use crate::flat::Flat;
 use crate::game_steps::GameSteps;
 use crate::only::only_modifier;
@@ -37,11 +39,12 @@ use crate::walk::{Walk, walk_inside};
 use crate::workspace::Workspace;
 use rbg_auto::{Expr, Steps};
 use rbg_base::{Memory, Position, Vertex};
+use rbg_flat::{Flat as SetFlat, Paths};
 use rbg_rules::Game;
 use rbg_state::SemiState;
 use std::alloc::Global;
 use std::marker::Model;
-use std::mem::{replace, swap};
+use std::mem::replace;
 
 /// How much a search may do.
 #[derive(Clone, Copy, Debug, PartialEq, Eq, Drop)]
@@ -64,13 +67,15 @@ pub struct Reached {
 /// A search in a game: it counts the openings that it takes up, and keeps its buffers for further use.
 #[derive(Drop)]
 pub struct Search<'a, S: Steps> {
-    alloc: Global,
-    rules: GameSteps<'a, S>,
+    pub(crate) alloc: Global,
+    pub(crate) rules: GameSteps<'a, S>,
     budget: Budget,
     opened: u32,
     taken: u64,
     /// Flat parts that are not in use.
-    flats: Vec<Box<Flat>>,
+    pub(crate) flats: Vec<Box<Flat>>,
+    /// Flat parts by sets that are not in use.
+    pub(crate) sets: Vec<Box<SetFlat>>,
     /// Lists of modifiers that are not in use.
     lists: Vec<Vec<(Vertex, Position)>>,
 }
@@ -91,11 +96,13 @@ impl<'a, S: Steps> Model for Search<'a, S> {
     } };
 
     ghost use Rattle.std.specs.Prelude.{All, ◌<◌, ◌≤◌};
+    ghost use Rattle.rbg_flat.specs.internal.Leading.{AreSizedFor};
     ghost use Rattle.rbg_search.specs.internal.Part.{HasMarksOf};
     ghost use Rattle.rbg_search.specs.internal.Spent.{IsSpent};
 
     ghost invariant = { λ s.
         All (λ flat. HasMarksOf s.rules flat.value.queue) s.flats.items × (s.opened ≤ s.budget.openings)
+        × All (λ flat. AreSizedFor s.rules flat.value.sets) s.sets.items
         × IsSpent s.rules s.opened s.taken × (0 < s.budget.modifiers) };
 }
 
@@ -109,10 +116,29 @@ impl<'a, S: Steps> Search<'a, S> {
         ensures opened { result.opened ≡ 0 }
         ensures taken { result.taken ≡ 0 }
     {
+        Search::on_paths(alloc, game, steps, None, budget)
+    }
+
+    /// As `new`, with the paths of the game where it has some: then flat parts are found by sets.
+    fn on_paths(
+        alloc: Global,
+        game: &'a Game,
+        steps: &'a S,
+        paths: Option<&'a Paths>,
+        budget: Budget,
+    ) -> Search<'a, S>
+        requires steps { S.of_rules steps.now game.now.rules }
+        requires paths { IfSome paths (λ told. ArePathsOf game.now told.now) }
+        ensures game { result.game ≡ game.now }
+        ensures openings { result.openings ≡ budget.openings }
+        ensures modifiers { result.modifiers ≡ max budget.modifiers 1 }
+        ensures opened { result.opened ≡ 0 }
+        ensures taken { result.taken ≡ 0 }
+    {
         let _positions = game.positions();
         Search {
             alloc,
-            rules: GameSteps::new(game, steps),
+            rules: GameSteps::new(game, steps, paths),
             budget: Budget {
                 openings: budget.openings,
                 modifiers: budget.modifiers.max(1),
@@ -120,6 +146,7 @@ impl<'a, S: Steps> Search<'a, S> {
             opened: 0,
             taken: 0,
             flats: Vec::new(alloc),
+            sets: Vec::new(alloc),
             lists: Vec::new(alloc),
         }
     }
@@ -140,9 +167,32 @@ impl<'a, S: Steps> Search<'a, S> {
         ensures taken { result.taken ≡ 0 }
         ensures tally { workspace.new ≡ workspace.old }
     {
-        let mut search = Search::new(alloc, game, steps, budget);
+        Search::with_paths(alloc, game, steps, None, budget, workspace)
+    }
+
+    /// As `with_workspace`, with the paths of the game where it has some: then flat parts are found by sets.
+    pub fn with_paths(
+        alloc: Global,
+        game: &'a Game,
+        steps: &'a S,
+        paths: Option<&'a Paths>,
+        budget: Budget,
+        workspace: &mut Workspace,
+    ) -> Search<'a, S>
+        requires steps { S.of_rules steps.now game.now.rules }
+        requires paths { IfSome paths (λ told. ArePathsOf game.now told.now) }
+        ensures game { result.game ≡ game.now }
+        ensures openings { result.openings ≡ budget.openings }
+        ensures modifiers { result.modifiers ≡ max budget.modifiers 1 }
+        ensures opened { result.opened ≡ 0 }
+        ensures taken { result.taken ≡ 0 }
+        ensures tally { workspace.new ≡ workspace.old }
+    {
+        let mut search = Search::on_paths(alloc, game, steps, paths, budget);
         let flats = replace(&mut workspace.flats, Vec::new(alloc));
         search.flats = fitting(alloc, game, flats);
+        let sets = replace(&mut workspace.sets, Vec::new(alloc));
+        search.sets = fitting_sets(alloc, game, sets);
         search.lists = replace(&mut workspace.lists, Vec::new(alloc));
         search
     }
@@ -157,6 +207,7 @@ impl<'a, S: Steps> Search<'a, S> {
         workspace.openings = workspace.openings.saturating_add(u64::from(self.opened));
         workspace.pairs = workspace.pairs.saturating_add(self.taken);
         workspace.flats = self.flats;
+        workspace.sets = self.sets;
         workspace.lists = self.lists;
     }
 
@@ -388,18 +439,6 @@ impl<'a, S: Steps> Search<'a, S> {
         Ok(())
     }
 
-    /// A flat part that is not in use.
-    fn unused_flat(&mut self) -> Result<Box<Flat>, Over>
-        ensures kept { self.new ≡ self.old }
-        ensures marks { IfOk result (λ flat. HasMarksOf self.old.game flat.value.queue) }
-        ensures memory { IfErr result (λ over. over ≡ Over.Memory) }
-    {
-        match self.flats.pop() {
-            Some(flat) => Ok(flat),
-            None => Ok(Box::new(self.alloc, Flat::new(self.alloc, self.rules.game())?)?),
-        }
-    }
-
     /// Counts the pairs of a flat part that is found whole. It was opened, and isn't counted yet.
     pub(crate) fn count_pairs(&mut self, pairs: usize)
         requires few { pairs ≤ most_pairs_of self.old.game }
@@ -412,28 +451,6 @@ impl<'a, S: Steps> Search<'a, S> {
         let _game = self.rules.game();
         let _opened = self.opened;
         self.taken += pairs as u64;
-    }
-
-    /// Hands out what a flat part found, in the list that is lent, and keeps the rest for further use, with the buffer
-    /// that came. Returns whether a word may end with no modifier more.
-    fn finish(&mut self, flat: Box<Flat>, pairs: &mut Vec<(Vertex, Position)>) -> Result<bool, Over>
-        requires marks { HasMarksOf self.old.game flat.value.queue }
-        requires one { IsSpentButOne self.old.game self.old.opened self.old.taken }
-        ensures kept { self.new ≡ record self.old { opened = self.new.opened; taken = self.new.taken } }
-        ensures opened { self.new.opened ≡ self.old.opened }
-        ensures taken { self.new.taken ≡ self.old.taken + length flat.value.queue.pairs }
-        ensures once { AllPairs (λ a b. a ≢ b) flat.value.queue.pairs }
-        ensures few { length flat.value.queue.pairs ≤ most_pairs_of self.old.game }
-        ensures pairs { OnOk result (pairs.new.items ≡ flat.value.found.items) }
-        ensures ends { IfOk result (λ ends. ends ≡ flat.value.ends) }
-        ensures memory { IfErr result (λ over. over ≡ Over.Memory) }
-    {
-        let mut flat = flat;
-        swap(&mut flat.found, pairs);
-        let ends = flat.ends;
-        self.count_pairs(flat.pairs());
-        self.flats.push(flat)?;
-        Ok(ends)
     }
 
     /// Takes one more opening up, and makes room for the changes of two actions.
@@ -454,93 +471,6 @@ impl<'a, S: Steps> Search<'a, S> {
     {
         self.open()?;
         state.reserve(2)?;
-        Ok(())
-    }
-
-    /// A flat part that is begun at a vertex.
-    fn begun(&mut self, origin: Origin, vertex: Vertex) -> Result<Box<Flat>, Over>
-        requires there { vertex < length self.old.game.board.first }
-        ensures kept { self.new ≡ self.old }
-        ensures begun { IfOk result (λ flat. (s : AbstractState) → s.vertex ≡ vertex
-            → IsBegun self.old.game s (start_of origin) flat.value) }
-        ensures none_taken { IfOk result (λ flat. flat.value.taken ≡ 0) }
-        ensures lawful { IfOk result (λ _. IsGame self.old.game) }
-        ensures memory { IfErr result (λ over. over ≡ Over.Memory) }
-    {
-        let mut flat = self.unused_flat()?;
-        flat.begin(&self.rules, origin, vertex)?;
-        Ok(flat)
-    }
-
-    /// Takes pairs up to the next one at a pattern, and returns that; none where each pair was taken.
-    fn advance(
-        &self,
-        flat: &mut Box<Flat>,
-        state: &mut SemiState,
-    ) -> Result<Option<(Vertex, Position)>, Memory>
-        requires fits { IsStateOf self.now.game state.old.state }
-        requires room { 2 ≤ state.old.room }
-        requires marks { HasMarksOf self.now.game flat.old.value.queue }
-        requires within { flat.old.value.taken ≤ length flat.old.value.queue.pairs }
-        ensures given_back { state.new ≡ state.old }
-        ensures begun { OnOk result ((f : Start)
-            → IsBegun self.now.game state.old.state f flat.old.value
-            → IsBegun self.now.game state.old.state f flat.new.value) }
-        ensures further { OnOk result (flat.old.value.taken ≤ flat.new.value.taken) }
-        ensures asked { IfOk result (λ next. IfSome next (λ pair.
-            (slice_get flat.new.value.queue.pairs flat.new.value.taken ≡ Some pair)
-            × (pair.0 < length self.now.game.board.first)
-            × IsPatternAt self.now.game.rules pair.1)) }
-        ensures whole { IfOk result (λ next. IfNone next ((f : Start)
-            → IsBegun self.now.game state.old.state f flat.old.value
-            → IsFlatPart self.now.game state.old.state f flat.new.value.found.items
-            flat.new.value.ends)) }
-        ensures marks { HasMarksOf self.now.game flat.new.value.queue }
-        ensures still_done { OnOk result ((x : ℕ × ℕ)
-            → Contains (take flat.old.value.taken flat.old.value.queue.pairs) x
-            → Contains (take flat.new.value.taken flat.new.value.queue.pairs) x) }
-        ensures quiet { OnOk result ((v p : ℕ)
-            → Contains (take flat.new.value.taken flat.new.value.queue.pairs) (v, p)
-            → IsPatternAt self.now.game.rules p
-            → Contains (take flat.old.value.taken flat.old.value.queue.pairs) (v, p)) }
-        ensures met { IfOk result (λ next. IfNone next ((f : Start)
-            → IsBegun self.now.game state.old.state f flat.old.value → (v p : ℕ)
-            → Meets self.now.game state.old.state f v p
-            → Contains (take flat.new.value.taken flat.new.value.queue.pairs) (v, p))) }
-        ensures fresh { IfOk result (λ next. IfSome next (λ pair.
-            ¬ Contains (take flat.new.value.taken flat.new.value.queue.pairs) pair)) }
-    {
-        // The game is lawful.
-        let _game = self.rules.game();
-        flat.advance(&self.rules, state)
-    }
-
-    /// Takes the pair at a pattern, which is valid there or isn't.
-    fn take(
-        &self,
-        flat: &mut Box<Flat>,
-        vertex: Vertex,
-        position: Position,
-        valid: bool,
-    ) -> Result<(), Memory>
-        requires marks { HasMarksOf self.now.game flat.old.value.queue }
-        requires here { slice_get flat.old.value.queue.pairs flat.old.value.taken
-            ≡ Some (vertex, position) }
-        requires vertex { vertex < length self.now.game.board.first }
-        requires there { IsPatternAt self.now.game.rules position }
-        ensures begun { OnOk result ((s : AbstractState) (f : Start)
-            → IsTrue valid
-            ↔ Applies self.now.game position (at_vertex s vertex) (at_vertex s vertex)
-            → IsBegun self.now.game s f flat.old.value → IsBegun self.now.game s f flat.new.value) }
-        ensures taken { OnOk result (flat.new.value.taken ≡ flat.old.value.taken + 1) }
-        ensures small { OnOk result (flat.new.value.taken < 2 ^ 64) }
-        ensures done { OnOk result (take flat.new.value.taken flat.new.value.queue.pairs
-            ≡ take flat.old.value.taken flat.old.value.queue.pairs ++ (vertex, position) ∷ []) }
-    {
-        let _game = self.rules.game();
-        let _position = position;
-        flat.take(&self.rules, outcome_of(vertex, valid))?;
-        let _taken = flat.taken;
         Ok(())
     }
 
@@ -581,7 +511,7 @@ impl<'a, S: Steps> Search<'a, S> {
             (beginning (inside position)) walk.ends) }
         ensures few { IfSome result (λ walk. walk.pairs ≤ most_pairs_of self.now.game) }
         ensures taken { IfSome result (λ walk.
-            HasPairs self.now.game (at_vertex state.now.state vertex)
+            HasCandidates self.now.game (at_vertex state.now.state vertex)
             (beginning (inside position)) walk.pairs) }
     {
         walk_inside(&self.rules, state, vertex, position)
@@ -618,6 +548,9 @@ impl<'a, S: Steps> Search<'a, S> {
         ensures taken { CountsPairs self.old.game reach state.old.state (start_of origin)
             self.old.opened self.new.opened self.old.taken self.new.taken (IsOk result) }
     {
+        if let Some(paths) = self.rules.paths() {
+            return self.sets_part(state, origin, nested, pairs, paths);
+        }
         self.enter(state)?;
         let mut flat = self.begun(origin, state.vertex())?;
         while let Some((vertex, position)) = self.advance(&mut flat, state)? {
@@ -625,6 +558,48 @@ impl<'a, S: Steps> Search<'a, S> {
             self.take(&mut flat, vertex, position, valid)?;
         }
         let ends = self.finish(flat, pairs)?;
+        Ok(ends)
+    }
+
+    /// The same by sets, along the paths of the game.
+    #[cycle(search)]
+    fn sets_part(
+        &mut self,
+        state: &mut SemiState,
+        origin: Origin,
+        nested: u8,
+        pairs: &mut Vec<(Vertex, Position)>,
+        paths: &Paths,
+    ) -> Result<bool, Over>
+        requires fits { IsStateOf self.old.game state.old.state }
+        requires nested { NestsFrom self.old.game.rules nested (start_of origin) }
+        requires start { IsStart self.old.game.rules (start_of origin) }
+        requires paths { ArePathsOf self.old.game paths.now }
+        ensures kept { self.new ≡ record self.old { opened = self.new.opened; taken = self.new.taken } }
+        ensures given_back { state.new ≡ record state.old { room = state.new.room } }
+        ensures room { state.old.room ≤ state.new.room }
+        ensures enough { OnOk result (2 ≤ state.new.room) }
+        ensures reached { IfOk result (λ ends.
+            IsFlatPart self.old.game state.old.state (start_of origin) pairs.new.items ends) }
+        ensures ready { OnOk result (All (IsReady self.old.game state.old.state nested)
+            pairs.new.items) }
+        ensures lawful { IfOk result (λ _. IsGame self.old.game) }
+        ensures counts { IsCounted self.old.game reach state.old.state (start_of origin)
+            self.old.opened self.new.opened self.old.modifiers self.old.openings self.old.modifiers
+            (result ≡ Err Over.Deep) (result ≡ Err Over.Wide) }
+        ensures forced { OnOk result ((cut : Bool) (left : ℕ)
+            → CountsForced self.old.game cut reach state.old.state (start_of origin)
+            self.old.opened self.new.opened left self.old.modifiers) }
+        ensures taken { CountsPairs self.old.game reach state.old.state (start_of origin)
+            self.old.opened self.new.opened self.old.taken self.new.taken (IsOk result) }
+    {
+        self.enter(state)?;
+        let mut flat = self.begun_by_sets(paths, origin, state.vertex())?;
+        while let Some((vertex, position)) = self.advance_by_sets(paths, &mut flat, state) {
+            let valid = self.ask(state, vertex, position, nested)?;
+            self.take_by_sets(paths, &mut flat, vertex, position, valid);
+        }
+        let ends = self.finish_by_sets(flat, state, pairs)?;
         Ok(ends)
     }
 

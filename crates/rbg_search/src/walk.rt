@@ -3,11 +3,12 @@ ghost use Rattle.std.specs.Prelude.{◌≡◌, ◌<◌, ◌≤◌, [], ◌∷◌
 ghost use Rattle.rbg_rules.specs.State.{IsStateOf};
 ghost use Rattle.rbg_rules.specs.Positions.{inside};
 ghost use Rattle.rbg_rules.specs.Words.{beginning};
-ghost use Rattle.rbg_search.specs.Taken.{HasPairs, most_pairs_of};
+ghost use Rattle.rbg_flat.specs.Found.{HasCandidates};
+ghost use Rattle.rbg_search.specs.Taken.{most_pairs_of};
 ghost use Rattle.rbg_search.specs.internal.Closure.{at_vertex};
 ghost use Rattle.rbg_search.specs.internal.Straight.{IsWalked};
 
-use crate::flat::tried;
+use crate::flat::{one_more, tried};
 use crate::game_steps::GameSteps;
 use crate::origin::Origin;
 use crate::outcome::Outcome;
@@ -20,7 +21,7 @@ use rbg_state::SemiState;
 pub(crate) struct Walk {
     /// Whether a word ends on the way.
     pub(crate) ends: bool,
-    /// How many pairs were tried.
+    /// How many pairs were tried that are no shifts.
     pub(crate) pairs: usize,
 }
 
@@ -38,7 +39,7 @@ pub(crate) fn walk_inside<S: Steps>(
     ensures walked { IfSome result (λ walk. IsWalked rules.now (at_vertex state.now.state vertex)
         (beginning (inside pattern)) walk.ends) }
     ensures few { IfSome result (λ walk. walk.pairs ≤ most_pairs_of rules.now) }
-    ensures taken { IfSome result (λ walk. HasPairs rules.now (at_vertex state.now.state vertex)
+    ensures taken { IfSome result (λ walk. HasCandidates rules.now (at_vertex state.now.state vertex)
         (beginning (inside pattern)) walk.pairs) }
 {
     let begin = Origin::Begin(Expr::Inside(pattern));
@@ -47,7 +48,7 @@ pub(crate) fn walk_inside<S: Steps>(
     let mut ends = rules.may_end(begin);
     let mut pairs = 0;
     loop {
-        pairs += 1;
+        pairs = one_more(rules, position, pairs);
         match tried(rules, state, vertex, position)? {
             Outcome::Invalid => return Some(Walk { ends, pairs }),
             Outcome::Modifies => return None,

@@ -6,7 +6,8 @@ ghost use Rattle.rbg_rules.specs.Questions.{pattern};
 ghost use Rattle.rbg_rules.specs.State.{AbstractState};
 ghost use Rattle.rbg_rules.specs.Words.{beginning};
 ghost use Rattle.rbg_search.specs.Forced.{CountsForced};
-ghost use Rattle.rbg_search.specs.Taken.{CountsPairs, HasPairs, most_pairs_of};
+ghost use Rattle.rbg_flat.specs.Found.{HasCandidates};
+ghost use Rattle.rbg_search.specs.Taken.{CountsPairs, most_pairs_of};
 ghost use Rattle.rbg_search.specs.internal.Asked.{IsCounted};
 ghost use Rattle.rbg_search.specs.internal.Straight.{IsWalked};
 
@@ -34,7 +35,7 @@ impl<'a, S: Steps> Search<'a, S> {
             → CountsForced self.old.game cut pattern s (beginning (inside position))
             self.old.opened self.new.opened self.old.modifiers self.old.modifiers) }
         ensures taken { (s : AbstractState)
-            → HasPairs self.old.game s (beginning (inside position)) walk.pairs
+            → HasCandidates self.old.game s (beginning (inside position)) walk.pairs
             → CountsPairs self.old.game pattern s (beginning (inside position))
             self.old.opened self.new.opened self.old.taken self.new.taken (IsOk result) }
     {

@@ -3,6 +3,7 @@ ghost use Rattle.std.specs.Prelude.{◌≡◌};
 
 use crate::flat::Flat;
 use rbg_base::{Position, Vertex};
+use rbg_flat::Flat as SetFlat;
 use std::alloc::Global;
 use std::marker::Model;
 
@@ -11,6 +12,8 @@ use std::marker::Model;
 pub struct Workspace {
     /// Flat parts that are not in use.
     pub(crate) flats: Vec<Box<Flat>>,
+    /// Flat parts by sets that are not in use.
+    pub(crate) sets: Vec<Box<SetFlat>>,
     /// Lists of modifiers that are not in use.
     pub(crate) lists: Vec<Vec<(Vertex, Position)>>,
     pub(crate) openings: u64,
@@ -32,6 +35,7 @@ impl Workspace {
     {
         Workspace {
             flats: Vec::new(alloc),
+            sets: Vec::new(alloc),
             lists: Vec::new(alloc),
             openings: 0,
             pairs: 0,
@@ -45,7 +49,7 @@ impl Workspace {
         self.openings
     }
 
-    /// How many pairs the searches tried.
+    /// How many pairs of a position and a vertex the searches tried, shifts left out.
     pub fn pairs(&self) -> u64
         ensures { result ≡ self.now.pairs }
     {

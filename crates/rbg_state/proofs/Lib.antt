@@ -7,3 +7,4 @@ pub mod Applying
 pub mod Reading
 pub mod Chains
 pub mod Trying
+pub mod RowLemmas

@@ -7,3 +7,4 @@ pub mod Answer
 pub mod Reads
 pub mod Evaluation
 pub mod Trials
+pub mod Rows

@@ -4,6 +4,7 @@
 mod change;
 mod occupancy;
 mod parts;
+mod rows;
 mod state;
 
 pub use change::Mark;

@@ -1,7 +1,9 @@
-//! The piece on each vertex of a board, with a running count for each piece.
-ghost use Rattle.std.specs.Prelude.{◌≡◌, ◌+◌, ◌-◌, ◌<◌, ◌^◌, ◌==◌, ◌++◌, [], ◌∷◌, Some, length, count_by, slice_get, slice_index, slice_set, IfOk, OnErr};
+//! The piece on each vertex of a board, with a running count and a row of vertices for each piece.
+ghost use Rattle.std.specs.Prelude.{◌≡◌, ◌+◌, ◌-◌, ◌<◌, ◌^◌, ◌==◌, ◌++◌, [], ◌∷◌, Some, length, count_by, slice_get, slice_index, slice_set, IfOk, IfSome, OnErr};
 ghost use Rattle.rbg_state.specs.Tallies.{IsTally};
+ghost use Rattle.rbg_state.specs.Rows.{IsRowOf};
 
+use crate::rows::Rows;
 use rbg_base::{Memory, Piece, Vertex};
 use rbg_board::Board;
 use std::alloc::Global;
@@ -14,6 +16,8 @@ pub(crate) struct Occupancy {
     pieces: Vec<Piece>,
     /// How many vertices hold each piece of the game.
     counts: Vec<u16>,
+    /// The vertices on which each piece of the game stands.
+    rows: Rows,
 }
 
 impl Model for Occupancy {
@@ -23,9 +27,13 @@ impl Model for Occupancy {
 
     ghost view = { λ o. o.pieces.items };
 
+    ghost use Rattle.std.specs.Prelude.{◌≤◌, ◌*◌, length};
     ghost use Rattle.rbg_state.specs.Tallies.{IsTally};
+    ghost use Rattle.rbg_state.specs.Rows.{AreRows};
 
-    ghost invariant = { λ o. IsTally o.pieces.items o.counts.items };
+    ghost invariant = { λ o. IsTally o.pieces.items o.counts.items
+        × AreRows o.pieces.items (length o.pieces.items) o.rows.columns o.rows.words.items
+        × (length o.pieces.items ≤ o.rows.columns * 64) };
 }
 
 impl Occupancy {
@@ -33,14 +41,14 @@ impl Occupancy {
     pub(crate) fn start(alloc: Global, board: &Board, kinds: usize) -> Result<Occupancy, Memory>
         ensures { IfOk result (λ occupancy. occupancy ≡ board.now.first) }
     {
-        let mut occupancy = Occupancy {
-            pieces: Vec::with_capacity(alloc, board.len())?,
-            counts: vec![in alloc; 0; kinds]?,
-        };
-        for vertex in 0..board.len() {
-            occupancy.push(board.piece_at_start(vertex as Vertex))?;
-        }
-        Ok(occupancy)
+        let pieces = pieces_at_start(alloc, board)?;
+        let counts = tallied(alloc, &pieces, kinds)?;
+        let rows = Rows::of(alloc, &pieces, kinds)?;
+        Ok(Occupancy {
+            pieces,
+            counts,
+            rows,
+        })
     }
 
     /// No pieces.
@@ -48,17 +56,8 @@ impl Occupancy {
         Occupancy {
             pieces: Vec::new(alloc),
             counts: Vec::new(alloc),
+            rows: Rows::empty(alloc),
         }
-    }
-
-    /// Adds a vertex that holds a piece.
-    fn push(&mut self, piece: Piece) -> Result<(), Memory>
-        requires { length self.old + 1 < 2 ^ 16 }
-        ensures { IfOk result (λ _. self.new ≡ self.old ++ piece ∷ []) }
-    {
-        self.pieces.push(piece)?;
-        add_one(&mut self.counts, piece);
-        Ok(())
     }
 
     pub(crate) fn try_clone(&self) -> Result<Occupancy, Memory>
@@ -67,6 +66,7 @@ impl Occupancy {
         Ok(Occupancy {
             pieces: self.pieces.clone()?,
             counts: self.counts.clone()?,
+            rows: self.rows.try_clone()?,
         })
     }
 
@@ -74,10 +74,12 @@ impl Occupancy {
     pub(crate) fn copy_from(&mut self, other: &Occupancy) -> Result<(), Memory>
         ensures { IfOk result (λ _. self.new ≡ other.now) }
     {
-        // With no counts they are right, also where memory is refused below.
+        // With no counts and no rows they are right, also where memory is refused below.
         self.counts.clear();
+        self.rows.clear_for(&other.rows);
         refill(&mut self.pieces, &other.pieces)?;
-        refill(&mut self.counts, &other.counts)
+        refill(&mut self.counts, &other.counts)?;
+        self.rows.fill(&other.rows)
     }
 
     /// The piece on each vertex.
@@ -97,6 +99,13 @@ impl Occupancy {
         }
     }
 
+    /// The row of a piece, if it has one.
+    pub(crate) fn row(&self, piece: Piece) -> Option<&[u64]>
+        ensures { IfSome result (λ row. IsRowOf self.now piece row.now) }
+    {
+        self.rows.row(piece)
+    }
+
     /// Puts a piece on a vertex, and returns the piece that stood there.
     pub(crate) fn put(&mut self, vertex: Vertex, piece: Piece) -> Piece
         requires vertex { vertex < length self.old }
@@ -105,8 +114,34 @@ impl Occupancy {
     {
         let replaced = replace(&mut self.pieces[vertex as usize], piece);
         recount(&mut self.counts, &self.pieces, vertex, replaced);
+        self.rows.take(replaced, vertex);
+        self.rows.add(piece, vertex);
         replaced
     }
+}
+
+/// The pieces that stand on a board when play begins.
+fn pieces_at_start(alloc: Global, board: &Board) -> Result<Vec<Piece>, Memory>
+    ensures pieces { IfOk result (λ pieces. pieces.items ≡ board.now.first) }
+    ensures few { length board.now.first < 2 ^ 16 }
+{
+    let mut pieces = Vec::with_capacity(alloc, board.len())?;
+    for vertex in 0..board.len() {
+        pieces.push(board.piece_at_start(vertex as Vertex))?;
+    }
+    Ok(pieces)
+}
+
+/// A count for each of the first `kinds` pieces, where these stand on the vertices.
+fn tallied(alloc: Global, pieces: &[Piece], kinds: usize) -> Result<Vec<u16>, Memory>
+    requires few { length pieces.now < 2 ^ 16 }
+    ensures { IfOk result (λ counts. IsTally pieces.now counts.items) }
+{
+    let mut counts = vec![in alloc; 0; kinds]?;
+    for piece in pieces {
+        add_one(&mut counts, *piece);
+    }
+    Ok(counts)
 }
 
 /// Counts the piece that was put on a vertex, and no longer the one that it replaced.

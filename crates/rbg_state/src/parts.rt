@@ -1,7 +1,8 @@
 //! The parts of a semi-state, one of which is changed at a time.
-ghost use Rattle.std.specs.Prelude.{◌≡◌, ◌<◌, ◌==◌, Some, length, count_by, slice_get, IfOk};
+ghost use Rattle.std.specs.Prelude.{◌≡◌, ◌<◌, ◌==◌, Some, length, count_by, slice_get, IfOk, IfSome};
 ghost use Rattle.rbg_rules.specs.State.{start_of, IsStateOf};
 ghost use Rattle.rbg_state.specs.Changes.{set, IsChangeWithin};
+ghost use Rattle.rbg_state.specs.Rows.{IsRowOf};
 
 use crate::change::Change;
 use crate::occupancy::{Occupancy, refill};
@@ -105,6 +106,12 @@ impl Parts {
         ensures { result ≡ count_by (λ x. x == piece) self.now.pieces }
     {
         self.occupancy.count(piece)
+    }
+
+    pub(crate) fn row(&self, piece: Piece) -> Option<&[u64]>
+        ensures { IfSome result (λ row. IsRowOf self.now.pieces piece row.now) }
+    {
+        self.occupancy.row(piece)
     }
 
     pub(crate) fn value(&self, variable: Variable) -> u32

@@ -1,9 +1,10 @@
 //! A semi-state: who is to act, what stands on each vertex, what each variable holds, and the current
 //! vertex. It changes in place and keeps a list of its changes, so that they can be taken back.
-ghost use Rattle.std.specs.Prelude.{◌≡◌, ℕ, ◌+◌, ◌-◌, ◌<◌, ◌≤◌, ◌==◌, [], length, take, count_by, slice_get, Some, IfOk, OnOk, OnErr};
+ghost use Rattle.std.specs.Prelude.{◌≡◌, ℕ, ◌+◌, ◌-◌, ◌<◌, ◌≤◌, ◌==◌, [], length, take, count_by, slice_get, Some, IfOk, IfSome, OnOk, OnErr};
 ghost use Rattle.rbg_rules.specs.State.{AbstractGame, start_of, IsStateOf};
 ghost use Rattle.rbg_state.specs.History.{History, states_of, capacity_of, changed_to, IsAfter};
 ghost use Rattle.rbg_state.specs.Changes.{set, IsChangeWithin};
+ghost use Rattle.rbg_state.specs.Rows.{IsRowOf};
 
 mod actions;
 mod arithmetic;
@@ -126,6 +127,13 @@ impl SemiState {
         ensures { result ≡ count_by (λ x. x == piece) self.now.state.pieces }
     {
         self.parts.count(piece)
+    }
+
+    /// The vertices on which a piece stands, a bit for each, 64 in a word. A piece of the game has a row.
+    pub fn row(&self, piece: Piece) -> Option<&[u64]>
+        ensures { IfSome result (λ row. IsRowOf self.now.state.pieces piece row.now) }
+    {
+        self.parts.row(piece)
     }
 
     /// What a player has scored. Players are numbered from 1.

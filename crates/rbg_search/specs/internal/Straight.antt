@@ -1,25 +1,26 @@
 -- A straight line of actions that is walked along.
-use Rattle.std.specs.Prelude.{◌≡◌, ◌≢◌, ℕ, ◌<◌, List, [], ◌∷◌, ◌++◌, length, All, AllPairs, Bool}
+use Rattle.std.specs.Prelude.{◌≢◌, ℕ, ◌<◌, List, [], ◌∷◌, ◌++◌, All, AllPairs, Bool}
 use Rattle.rbg_rules.specs.Positions.{IsPatternAt}
 use Rattle.rbg_rules.specs.Words.{Start}
 use Rattle.rbg_rules.specs.State.{AbstractGame, AbstractState}
 use Rattle.rbg_search.specs.Flat.{IsFlatPart}
 use Rattle.rbg_search.specs.internal.Closure.{Reached}
 use Rattle.rbg_search.specs.internal.Part.{IsPart}
+use Rattle.rbg_search.specs.internal.Plain.{HasPlain}
 
 -- The flat part is whole: it has no modifier, no pattern may come in it, and `ends` tells whether a word may end.
 pub record IsWalked (game : AbstractGame) (s : AbstractState) (f : Start) (ends : Bool) : Type 0 where
   pub part : IsFlatPart game s f [] ends
   pub quiet : (v p : ℕ) → Reached game s f v p → ¬ IsPatternAt game.rules p
 
--- So many pairs were tried so far, none at a pattern or a valid modifier, each at a position before p; and position p at
--- vertex v is all that is left.
+-- So many pairs were tried so far that are no shifts, none at a pattern or a valid modifier, each at a position before p;
+-- and position p at vertex v is all that is left.
 pub record IsWalking
     (game : AbstractGame) (s : AbstractState) (f : Start) (v p : ℕ) (ends : Bool) (many : ℕ)
     : Type 0
   where
     pub done : List (ℕ × ℕ)
-    pub count : length done ≡ many
+    pub plain : HasPlain game.rules done many
     pub different : AllPairs (λ a b. a ≢ b) done
     pub before : All (λ q. q.1 < p) done
     pub part : IsPart game s f (done ++ (v, p) ∷ []) done [] ends

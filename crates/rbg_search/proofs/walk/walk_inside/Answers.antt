@@ -1,4 +1,4 @@
-use Rattle.std.proofs.Common.{◌≡◌, ℕ, ◌+◌, ◌*◌, ◌<◌, ◌≤◌, length, subst, arith, sym, ◌∙◌}
+use Rattle.std.proofs.Common.{◌≡◌, ℕ, ◌*◌, ◌<◌, ◌≤◌, length, subst, arith, sym, ◌∙◌}
 use Rattle.std.proofs.lemmas.Nat.{mul-le}
 use Rattle.rbg_rules.specs.Positions.{inside, positions_of, IsPatternAt}
 use Rattle.rbg_rules.specs.Words.{beginning}
@@ -6,7 +6,7 @@ use Rattle.rbg_rules.specs.State.{AbstractState}
 use Rattle.rbg_search.specs.Start.{IsPositionOf}
 use Rattle.rbg_search.specs.internal.Closure.{at_vertex}
 use Rattle.rbg_search.specs.internal.Part.{IsOutcome}
-use Rattle.rbg_search.proofs.Straights.{one_within, is_empty_list, outcome_there, begin_walk, walked_up_to, walked_through, walked_on, taken_up_to, taken_through}
+use Rattle.rbg_search.proofs.Straights.{one_within, is_empty_list, outcome_there, begin_walk, not_done, walked_up_to, walked_through, walked_on, taken_up_to, taken_through}
 use Rattle.rbg_search.proofs.walk.walk_inside.Goals as goal
 
 pub loop-to-init : goal.loop-to-init
@@ -36,7 +36,8 @@ returns-in-Invalid-clause-taken g c =
     outcome_there c.args.rules.now c.args.state.now.state c.args.vertex c.loop-to.vertex c.loop-to.position c.in_ok-tried.field-0
     c.in_ok-tried.ensures.outcome in
     let plain : ¬ IsPatternAt c.args.rules.now.rules c.loop-to.position = c.in_ok-tried.ensures.plain in
-    taken_up_to c.args.rules.now s (beginning (inside c.args.pattern)) c.loop-to.vertex c.loop-to.position c.loop-to.ends c.loop-to.pairs c.loop-to.invariant.walking plain c.following.ensures.lawful.numbered
+    taken_up_to c.args.rules.now s (beginning (inside c.args.pattern)) c.loop-to.vertex c.loop-to.position c.loop-to.ends c.loop-to.pairs c.loop-to.invariant.walking plain c.following.ensures.lawful.numbered c.one_more-pairs.result
+    (c.one_more-pairs.ensures.count c.loop-to.invariant.walking.done c.loop-to.vertex c.loop-to.invariant.walking.plain (not_done c.args.rules.now s (beginning (inside c.args.pattern)) c.loop-to.vertex c.loop-to.position c.loop-to.ends c.loop-to.pairs c.loop-to.invariant.walking plain))
     (subst (λ o. IsOutcome c.args.rules.now s c.loop-to.vertex c.loop-to.position o) c.in-Invalid.is outcome)
 
 pub returns-then-is_empty-clause-walked : goal.returns-then-is_empty-clause-walked
@@ -57,7 +58,8 @@ returns-then-is_empty-clause-taken g c =
     outcome_there c.args.rules.now c.args.state.now.state c.args.vertex c.loop-to.vertex c.loop-to.position c.in_ok-tried.field-0
     c.in_ok-tried.ensures.outcome in
     let plain : ¬ IsPatternAt c.args.rules.now.rules c.loop-to.position = c.in_ok-tried.ensures.plain in
-    taken_through c.args.rules.now s (beginning (inside c.args.pattern)) c.loop-to.vertex c.loop-to.position c.loop-to.ends c.loop-to.pairs c.loop-to.invariant.walking plain c.following.ensures.lawful.numbered c.in-LeadsTo.to c.following-following.result.now c.may_end-ends-in-LeadsTo.result
+    taken_through c.args.rules.now s (beginning (inside c.args.pattern)) c.loop-to.vertex c.loop-to.position c.loop-to.ends c.loop-to.pairs c.loop-to.invariant.walking plain c.following.ensures.lawful.numbered c.one_more-pairs.result
+    (c.one_more-pairs.ensures.count c.loop-to.invariant.walking.done c.loop-to.vertex c.loop-to.invariant.walking.plain (not_done c.args.rules.now s (beginning (inside c.args.pattern)) c.loop-to.vertex c.loop-to.position c.loop-to.ends c.loop-to.pairs c.loop-to.invariant.walking plain)) c.in-LeadsTo.to c.following-following.result.now c.may_end-ends-in-LeadsTo.result
     (subst (λ o. IsOutcome c.args.rules.now s c.loop-to.vertex c.loop-to.position o) c.in-LeadsTo.is outcome)
     (is_empty_list c.following-following.result.now (sym c.is_empty.ensures ∙ c.if-is_empty.true)) c.following-following.ensures.follow c.may_end-ends-in-LeadsTo.ensures
 
@@ -72,12 +74,12 @@ loop-to-preserved g c =
     let position : IsPositionOf c.args.rules.now.rules q = one_within (IsPositionOf c.args.rules.now.rules) _ q c.in_ok-next-in-LeadsTo.ensures c.following-following.ensures.within in
     record {
       walking =
-          walked_on c.args.rules.now s (beginning (inside c.args.pattern)) c.loop-to.vertex c.loop-to.position c.loop-to.ends c.loop-to.pairs c.loop-to.invariant.walking plain c.in-LeadsTo.to q c.following-following.result.now c.may_end-ends-in-LeadsTo.result
+          walked_on c.args.rules.now s (beginning (inside c.args.pattern)) c.loop-to.vertex c.loop-to.position c.loop-to.ends c.loop-to.pairs c.loop-to.invariant.walking plain c.one_more-pairs.result (c.one_more-pairs.ensures.count c.loop-to.invariant.walking.done c.loop-to.vertex c.loop-to.invariant.walking.plain (not_done c.args.rules.now s (beginning (inside c.args.pattern)) c.loop-to.vertex c.loop-to.position c.loop-to.ends c.loop-to.pairs c.loop-to.invariant.walking plain)) c.in-LeadsTo.to q c.following-following.result.now c.may_end-ends-in-LeadsTo.result
           (subst (λ o. IsOutcome c.args.rules.now s c.loop-to.vertex c.loop-to.position o) c.in-LeadsTo.is outcome)
           c.in_ok-next-in-LeadsTo.ensures c.following-following.ensures.follow c.may_end-ends-in-LeadsTo.ensures (omega (arith, c.if-next-position.false));
       there = c.in_ok-tried.ensures.there c.in-LeadsTo.to c.in-LeadsTo.is;
       position = position;
-      few = omega (arith, c.loop-to.invariant.few, c.if-next-position.false);
+      few = omega (arith, c.loop-to.invariant.few, c.one_more-pairs.ensures.few, c.if-next-position.false);
     }
 
 -- There are at least as many pairs as positions.
@@ -89,8 +91,8 @@ few_walked a b n v under there =
 
 pub returns-in-Invalid-clause-few : goal.returns-in-Invalid-clause-few
 returns-in-Invalid-clause-few g c =
-    few_walked (length (positions_of c.args.rules.now.rules)) (length c.args.rules.now.board.first) (c.loop-to.pairs + 1) c.loop-to.vertex (omega (arith, c.loop-to.invariant.few, c.loop-to.invariant.position.there)) c.loop-to.invariant.there
+    few_walked (length (positions_of c.args.rules.now.rules)) (length c.args.rules.now.board.first) c.one_more-pairs.result c.loop-to.vertex (omega (arith, c.loop-to.invariant.few, c.one_more-pairs.ensures.few, c.loop-to.invariant.position.there)) c.loop-to.invariant.there
 
 pub returns-then-is_empty-clause-few : goal.returns-then-is_empty-clause-few
 returns-then-is_empty-clause-few g c =
-    few_walked (length (positions_of c.args.rules.now.rules)) (length c.args.rules.now.board.first) (c.loop-to.pairs + 1) c.loop-to.vertex (omega (arith, c.loop-to.invariant.few, c.loop-to.invariant.position.there)) c.loop-to.invariant.there
+    few_walked (length (positions_of c.args.rules.now.rules)) (length c.args.rules.now.board.first) c.one_more-pairs.result c.loop-to.vertex (omega (arith, c.loop-to.invariant.few, c.one_more-pairs.ensures.few, c.loop-to.invariant.position.there)) c.loop-to.invariant.there

@@ -1,4 +1,4 @@
-use Rattle.std.proofs.Common.{rules, ◌≡◌, ℕ, ◌^◌, ◌<◌, ◌≤◌, List, length, get_or, take, Bool, sym, ap, ◌∙◌, subst, arith, [], ◌∷◌, ◌++◌, ◌-◌, refl, ◌+◌, false, true}
+use Rattle.std.proofs.Common.{rules, ◌≡◌, ℕ, suc, ◌^◌, ◌<◌, ◌≤◌, List, length, get_or, take, Bool, sym, ap, ◌∙◌, subst, arith, [], ◌∷◌, ◌++◌, ◌-◌, refl, ◌+◌, false, true}
 use Rattle.std.specs.Prelude.{IsTrue, IsOk, ◌↔◌, All, Some, slice_get, Contains, Err}
 use Rattle.rbg_rules.specs.Positions.{inside, IsPatternAt}
 use Rattle.rbg_rules.specs.Words.{Start, beginning, after}
@@ -10,12 +10,14 @@ use Rattle.rbg_rules.specs.Laws.{IsStart}
 use Rattle.rbg_state.specs.History.{History}
 use Rattle.rbg_search.specs.Flat.{IsFlatPart}
 use Rattle.rbg_search.specs.Start.{start_of}
+use Rattle.rbg_flat.specs.Paths.{ArePathsOf}
 use Rattle.rbg_search.specs.internal.Begun.{IsBegun}
+use Rattle.rbg_search.specs.internal.BySets.{HasSetsFor, IsWhole, IsToBeAsked, FindsBySets}
 use Rattle.rbg_search.specs.internal.Behind.{IsReady, RunsBehindPair, SomeRunsBehind}
 use Rattle.rbg_search.specs.internal.Closure.{at_vertex, Reached}
 use Rattle.rbg_search.specs.internal.Nesting.{NestsFrom}
 use Rattle.rbg_search.specs.internal.Part.{HasMarksOf}
-use Rattle.rbg_search.proofs.Asking.{back, mark_within, given_room, room_twice, asked_nests, some_nested, runs_one, none_more, some_behind, none_behind, runs_here, runs_there}
+use Rattle.rbg_search.proofs.Asking.{back, mark_within, given_room, room_twice, asked_nests, reached_nests, some_nested, runs_one, none_more, some_behind, none_behind, runs_here, runs_there}
 use Rattle.rbg_search.proofs.Behinds.{all_ready}
 use Rattle.std.proofs.lemmas.List.Sorted.{All-permutation}
 use Rattle.rbg_search.proofs.Orders.{flat_permuted}
@@ -37,6 +39,7 @@ use Rattle.rbg_search.specs.Searching.{Searching}
 use Rattle.rbg_search.specs.Taken.{CountsPairs}
 use Rattle.rbg_search.specs.internal.Spent.{IsSpentButOne}
 use Rattle.rbg_search.proofs.Takings.{not_ok, is_answer, any_part, takes_nothing, takes_none_yet, takes_own, takes_unfinished, takes_as, takes_part_of, room_for_own}
+use Rattle.rbg_search.proofs.FindingBySets.{finds_begun, finds_on, sets_now, reached_here, asked_counts, asked_pairs, finds_more, finds_forced, finds_counted, finds_room, finds_part, finds_taken, finds_untaken}
 use Rattle.rbg_search.proofs.TakingSteps.{asked_takes, whole_takes, behind_takes, one_takes}
 use Rattle.rbg_search.proofs.search.Search.+search.Goals as goal
 
@@ -134,16 +137,16 @@ pub flat_part-ask-requires : goal.flat_part-ask-requires
 flat_part-ask-requires g t c κs within =
     let given : c.advance.new.state ≡ (record c.args.state.now { room = c.advance.new.state.room }) = room_twice c.args.state.now c.loop-flat.state c.advance.new.state c.loop-flat.invariant.given_back (back_same c.loop-flat.state c.advance.new.state c.advance.ensures.given_back) in
     let fits : IsStateOf c.loop-flat.self.game c.advance.new.state.state = onward IsStateOf c.args.self.now c.loop-flat.self c.args.state.now c.advance.new.state c.loop-flat.invariant.kept given c.requires.fits in
-    let asked : (slice_get c.advance.new.flat.value.queue.pairs c.advance.new.flat.value.taken ≡ Some (c.in-Some.vertex, c.in-Some.position)) × (c.in-Some.vertex < length c.loop-flat.self.game.board.first) × IsPatternAt c.loop-flat.self.game.rules c.in-Some.position = search rules in
+    let asked : (slice_get c.advance.new.flat.value.queue.pairs c.advance.new.flat.value.taken ≡ Some (c.in-Some-2.vertex, c.in-Some-2.position)) × (c.in-Some-2.vertex < length c.loop-flat.self.game.board.first) × IsPatternAt c.loop-flat.self.game.rules c.in-Some-2.position = search rules in
     let lawful : IsGame c.loop-flat.self.game = onward_rules IsGame c.args.self.now c.loop-flat.self c.loop-flat.invariant.kept c.loop-flat.invariant.lawful in
     let nests : NestsFrom c.loop-flat.self.game.rules c.args.nested (start_of c.args.origin) = onward_rules (λ x. NestsFrom x.rules c.args.nested (start_of c.args.origin)) c.args.self.now c.loop-flat.self c.loop-flat.invariant.kept c.requires.nested in
     let begun : IsBegun c.loop-flat.self.game c.loop-flat.state.state (start_of c.args.origin) c.advance.new.flat.value = c.in_ok-vertex.ensures.begun (start_of c.args.origin)
     (onward (λ x s. IsBegun x s (start_of c.args.origin) c.loop-flat.flat.value) c.args.self.now c.loop-flat.self c.args.state.now c.loop-flat.state c.loop-flat.invariant.kept c.loop-flat.invariant.given_back c.loop-flat.invariant.begun) in
-    let inner = asked_nests c.loop-flat.self.game lawful.numbered c.loop-flat.state.state (start_of c.args.origin) c.args.nested nests c.advance.new.flat.value.queue.pairs (take c.advance.new.flat.value.taken c.advance.new.flat.value.queue.pairs) c.advance.new.flat.value.found.items c.advance.new.flat.value.ends begun.part c.advance.new.flat.value.taken c.in-Some.vertex c.in-Some.position asked.0 asked.2 in
-    let need = some_nested c.loop-flat.self.game.rules c.args.nested c.in-Some.position inner in
+    let inner = asked_nests c.loop-flat.self.game lawful.numbered c.loop-flat.state.state (start_of c.args.origin) c.args.nested nests c.advance.new.flat.value.queue.pairs (take c.advance.new.flat.value.taken c.advance.new.flat.value.queue.pairs) c.advance.new.flat.value.found.items c.advance.new.flat.value.ends begun.part c.advance.new.flat.value.taken c.in-Some-2.vertex c.in-Some-2.position asked.0 asked.2 in
+    let need = some_nested c.loop-flat.self.game.rules c.args.nested c.in-Some-2.position inner in
     let room : 1 ≤ c.advance.new.state.room = (let same : c.advance.new.state.room ≡ c.loop-flat.state.room = ap (λ (h : History). h.room) c.advance.ensures.given_back in omega (arith, same, c.loop-flat.invariant.enough)) in
     let size : length c.advance.new.state.state.pieces ≡ length c.loop-flat.self.game.board.first = fits.vertices in
-    let under : c.in-Some.vertex < length c.advance.new.state.state.pieces = omega (arith, size, asked.1) in
+    let under : c.in-Some-2.vertex < length c.advance.new.state.state.pieces = omega (arith, size, asked.1) in
     (search rules, (within, (fits, (room, (under, (asked.2, need))))))
 
 pub flat_part-returns-in_err-valid-clause-kept : goal.flat_part-returns-in_err-valid-clause-kept
@@ -165,23 +168,23 @@ flat_part-take-requires-clause-marks g t c = onward_rules (λ x. HasMarksOf x c.
 
 pub flat_part-take-requires-clause-vertex : goal.flat_part-take-requires-clause-vertex
 flat_part-take-requires-clause-vertex g t c =
-    let asked : (slice_get c.advance.new.flat.value.queue.pairs c.advance.new.flat.value.taken ≡ Some (c.in-Some.vertex, c.in-Some.position)) × (c.in-Some.vertex < length c.loop-flat.self.game.board.first) × IsPatternAt c.loop-flat.self.game.rules c.in-Some.position = search rules in
-    onward_rules (λ x. c.in-Some.vertex < length x.board.first) c.loop-flat.self c.ask.new.self c.ask.ensures.kept asked.1
+    let asked : (slice_get c.advance.new.flat.value.queue.pairs c.advance.new.flat.value.taken ≡ Some (c.in-Some-2.vertex, c.in-Some-2.position)) × (c.in-Some-2.vertex < length c.loop-flat.self.game.board.first) × IsPatternAt c.loop-flat.self.game.rules c.in-Some-2.position = search rules in
+    onward_rules (λ x. c.in-Some-2.vertex < length x.board.first) c.loop-flat.self c.ask.new.self c.ask.ensures.kept asked.1
 
 pub flat_part-take-requires-clause-there : goal.flat_part-take-requires-clause-there
 flat_part-take-requires-clause-there g t c =
-    let asked : (slice_get c.advance.new.flat.value.queue.pairs c.advance.new.flat.value.taken ≡ Some (c.in-Some.vertex, c.in-Some.position)) × (c.in-Some.vertex < length c.loop-flat.self.game.board.first) × IsPatternAt c.loop-flat.self.game.rules c.in-Some.position = search rules in
-    onward_rules (λ x. IsPatternAt x.rules c.in-Some.position) c.loop-flat.self c.ask.new.self c.ask.ensures.kept asked.2
+    let asked : (slice_get c.advance.new.flat.value.queue.pairs c.advance.new.flat.value.taken ≡ Some (c.in-Some-2.vertex, c.in-Some-2.position)) × (c.in-Some-2.vertex < length c.loop-flat.self.game.board.first) × IsPatternAt c.loop-flat.self.game.rules c.in-Some-2.position = search rules in
+    onward_rules (λ x. IsPatternAt x.rules c.in-Some-2.position) c.loop-flat.self c.ask.new.self c.ask.ensures.kept asked.2
 
 pub flat_part-loop-flat-preserved : goal.flat_part-loop-flat-preserved
 flat_part-loop-flat-preserved g t c =
     let f : Start = start_of c.args.origin in
-    let v : ℕ = c.in-Some.vertex in
+    let v : ℕ = c.in-Some-2.vertex in
     let same : c.advance.new.state.room ≡ c.loop-flat.state.room = ap (λ (h : History). h.room) c.advance.ensures.given_back in
     let given : c.advance.new.state ≡ (record c.args.state.now { room = c.advance.new.state.room }) = room_twice c.args.state.now c.loop-flat.state c.advance.new.state c.loop-flat.invariant.given_back (back_same c.loop-flat.state c.advance.new.state c.advance.ensures.given_back) in
     let kept : c.ask.new.self ≡ (record c.args.self.now { opened = c.ask.new.self.opened; taken = c.ask.new.self.taken }) = kept_twice c.args.self.now c.loop-flat.self c.ask.new.self c.loop-flat.invariant.kept c.ask.ensures.kept in
     let there : AbstractState = at_vertex c.advance.new.state.state v in
-    let decides : IsTrue c.in_ok-valid.valid ↔ Applies c.ask.new.self.game c.in-Some.position there there = onward_rules (λ x. IsTrue c.in_ok-valid.valid ↔ Applies x c.in-Some.position there there) c.loop-flat.self c.ask.new.self c.ask.ensures.kept c.in_ok-valid.ensures.valid in
+    let decides : IsTrue c.in_ok-valid.valid ↔ Applies c.ask.new.self.game c.in-Some-2.position there there = onward_rules (λ x. IsTrue c.in_ok-valid.valid ↔ Applies x c.in-Some-2.position there there) c.loop-flat.self c.ask.new.self c.ask.ensures.kept c.in_ok-valid.ensures.valid in
     let begun : IsBegun c.loop-flat.self.game c.loop-flat.state.state f c.advance.new.flat.value = c.in_ok-vertex.ensures.begun f
     (onward (λ x s. IsBegun x s f c.loop-flat.flat.value) c.args.self.now c.loop-flat.self c.args.state.now c.loop-flat.state c.loop-flat.invariant.kept c.loop-flat.invariant.given_back c.loop-flat.invariant.begun) in
     let asked : IsBegun c.ask.new.self.game c.advance.new.state.state f c.advance.new.flat.value =
@@ -196,18 +199,18 @@ flat_part-loop-flat-preserved g t c =
           (c.in_ok-take.ensures.begun c.advance.new.state.state f decides asked);
       lawful = c.loop-flat.invariant.lawful;
       counted =
-          let pair : (slice_get c.advance.new.flat.value.queue.pairs c.advance.new.flat.value.taken ≡ Some (c.in-Some.vertex, c.in-Some.position)) × (c.in-Some.vertex < length c.loop-flat.self.game.board.first) × IsPatternAt c.loop-flat.self.game.rules c.in-Some.position = search rules in
-          let fresh : ¬ Contains (take c.advance.new.flat.value.taken c.advance.new.flat.value.queue.pairs) (c.in-Some.vertex, c.in-Some.position) = search rules in
+          let pair : (slice_get c.advance.new.flat.value.queue.pairs c.advance.new.flat.value.taken ≡ Some (c.in-Some-2.vertex, c.in-Some-2.position)) × (c.in-Some-2.vertex < length c.loop-flat.self.game.board.first) × IsPatternAt c.loop-flat.self.game.rules c.in-Some-2.position = search rules in
+          let fresh : ¬ Contains (take c.advance.new.flat.value.taken c.advance.new.flat.value.queue.pairs) (c.in-Some-2.vertex, c.in-Some-2.position) = search rules in
           subst (λ (ds : List (ℕ × ℕ)). CountsAsked c.args.self.now.game c.args.state.now.state f ds c.args.self.now.opened c.ask.new.self.opened) (sym c.in_ok-take.ensures.done)
-          (ask_step c.args.self.now c.loop-flat.self c.args.state.now c.loop-flat.state c.advance.new.state f c.loop-flat.flat.value c.advance.new.flat.value c.in-Some.vertex c.in-Some.position c.args.self.now.opened c.ask.new.self.opened _ _ c.loop-flat.invariant.kept c.loop-flat.invariant.given_back given c.loop-flat.invariant.lawful begun pair.0 pair.2 c.in_ok-vertex.ensures.still_done fresh c.loop-flat.invariant.counted c.ask.ensures.counts).counts;
+          (ask_step c.args.self.now c.loop-flat.self c.args.state.now c.loop-flat.state c.advance.new.state f c.loop-flat.flat.value c.advance.new.flat.value c.in-Some-2.vertex c.in-Some-2.position c.args.self.now.opened c.ask.new.self.opened _ _ c.loop-flat.invariant.kept c.loop-flat.invariant.given_back given c.loop-flat.invariant.lawful begun pair.0 pair.2 c.in_ok-vertex.ensures.still_done fresh c.loop-flat.invariant.counted c.ask.ensures.counts).counts;
       forced = λ cut.
           subst (λ (ds : List (ℕ × ℕ)). AsksForced c.args.self.now.game cut c.args.state.now.state ds c.args.self.now.opened c.ask.new.self.opened c.args.self.now.modifiers) (sym c.in_ok-take.ensures.done)
-          (ask_forced c.args.self.now c.loop-flat.self c.args.state.now c.advance.new.state (take c.loop-flat.flat.value.taken c.loop-flat.flat.value.queue.pairs) (take c.advance.new.flat.value.taken c.advance.new.flat.value.queue.pairs) c.in-Some.vertex c.in-Some.position c.args.self.now.opened c.ask.new.self.opened cut c.loop-flat.invariant.kept given c.loop-flat.invariant.lawful.numbered c.in_ok-vertex.ensures.quiet (c.loop-flat.invariant.forced cut) (c.in_ok-valid.ensures.forced cut));
+          (ask_forced c.args.self.now c.loop-flat.self c.args.state.now c.advance.new.state (take c.loop-flat.flat.value.taken c.loop-flat.flat.value.queue.pairs) (take c.advance.new.flat.value.taken c.advance.new.flat.value.queue.pairs) c.in-Some-2.vertex c.in-Some-2.position c.args.self.now.opened c.ask.new.self.opened cut c.loop-flat.invariant.kept given c.loop-flat.invariant.lawful.numbered c.in_ok-vertex.ensures.quiet (c.loop-flat.invariant.forced cut) (c.in_ok-valid.ensures.forced cut));
       spent = c.loop-flat.invariant.spent;
       taken =
-          let pair : (slice_get c.advance.new.flat.value.queue.pairs c.advance.new.flat.value.taken ≡ Some (c.in-Some.vertex, c.in-Some.position)) × (c.in-Some.vertex < length c.loop-flat.self.game.board.first) × IsPatternAt c.loop-flat.self.game.rules c.in-Some.position = search rules in
-          asked_takes c.args.self.now c.loop-flat.self c.args.state.now c.loop-flat.state c.advance.new.state f c.advance.new.flat.value v c.in-Some.position c.ask.new.self.opened c.ask.new.self.taken (Unit {0}) c.loop-flat.invariant.kept c.loop-flat.invariant.given_back given c.loop-flat.invariant.lawful begun pair.0 pair.2 c.loop-flat.invariant.taken
-          (takes_as c.loop-flat.self.game pattern there (beginning (inside c.in-Some.position)) c.loop-flat.self.opened c.ask.new.self.opened c.loop-flat.self.taken c.ask.new.self.taken (IsOk c.ask.result) (Unit {0}) c.ask.ensures.taken (λ _. is_answer c.ask.result c.in_ok-valid.valid c.in_ok-valid.was));
+          let pair : (slice_get c.advance.new.flat.value.queue.pairs c.advance.new.flat.value.taken ≡ Some (c.in-Some-2.vertex, c.in-Some-2.position)) × (c.in-Some-2.vertex < length c.loop-flat.self.game.board.first) × IsPatternAt c.loop-flat.self.game.rules c.in-Some-2.position = search rules in
+          asked_takes c.args.self.now c.loop-flat.self c.args.state.now c.loop-flat.state c.advance.new.state f c.advance.new.flat.value v c.in-Some-2.position c.ask.new.self.opened c.ask.new.self.taken (Unit {0}) c.loop-flat.invariant.kept c.loop-flat.invariant.given_back given c.loop-flat.invariant.lawful begun pair.0 pair.2 c.loop-flat.invariant.taken
+          (takes_as c.loop-flat.self.game pattern there (beginning (inside c.in-Some-2.position)) c.loop-flat.self.opened c.ask.new.self.opened c.loop-flat.self.taken c.ask.new.self.taken (IsOk c.ask.result) (Unit {0}) c.ask.ensures.taken (λ _. is_answer c.ask.result c.in_ok-valid.valid c.in_ok-valid.was));
     }
 
 pub flat_part-returns-in_err-take-clause-kept : goal.flat_part-returns-in_err-take-clause-kept
@@ -477,25 +480,25 @@ pub flat_part-returns-in_err-valid-clause-counts : goal.flat_part-returns-in_err
 flat_part-returns-in_err-valid-clause-counts g t c =
     let f : Start = start_of c.args.origin in
     let given : c.advance.new.state ≡ (record c.args.state.now { room = c.advance.new.state.room }) = room_twice c.args.state.now c.loop-flat.state c.advance.new.state c.loop-flat.invariant.given_back (back_same c.loop-flat.state c.advance.new.state c.advance.ensures.given_back) in
-    let asked : (slice_get c.advance.new.flat.value.queue.pairs c.advance.new.flat.value.taken ≡ Some (c.in-Some.vertex, c.in-Some.position)) × (c.in-Some.vertex < length c.loop-flat.self.game.board.first) × IsPatternAt c.loop-flat.self.game.rules c.in-Some.position = search rules in
-    let fresh : ¬ Contains (take c.advance.new.flat.value.taken c.advance.new.flat.value.queue.pairs) (c.in-Some.vertex, c.in-Some.position) = search rules in
+    let asked : (slice_get c.advance.new.flat.value.queue.pairs c.advance.new.flat.value.taken ≡ Some (c.in-Some-2.vertex, c.in-Some-2.position)) × (c.in-Some-2.vertex < length c.loop-flat.self.game.board.first) × IsPatternAt c.loop-flat.self.game.rules c.in-Some-2.position = search rules in
+    let fresh : ¬ Contains (take c.advance.new.flat.value.taken c.advance.new.flat.value.queue.pairs) (c.in-Some-2.vertex, c.in-Some-2.position) = search rules in
     let begun : IsBegun c.loop-flat.self.game c.loop-flat.state.state f c.advance.new.flat.value = c.in_ok-vertex.ensures.begun f
     (onward (λ x s. IsBegun x s f c.loop-flat.flat.value) c.args.self.now c.loop-flat.self c.args.state.now c.loop-flat.state c.loop-flat.invariant.kept c.loop-flat.invariant.given_back c.loop-flat.invariant.begun) in
     counted_as c.args.self.now.game reach c.args.state.now.state f c.args.self.now.opened c.ask.new.self.opened c.args.self.now.modifiers c.args.self.now.openings c.args.self.now.modifiers _ _ _ _
     (given_up c.ask.result c.from_residual-in_err-valid.result c.in_err-valid.field-0.0 Deep c.in_err-valid.was c.from_residual-in_err-valid.ensures.1)
     (given_up c.ask.result c.from_residual-in_err-valid.result c.in_err-valid.field-0.0 Wide c.in_err-valid.was c.from_residual-in_err-valid.ensures.1)
-    (ask_step c.args.self.now c.loop-flat.self c.args.state.now c.loop-flat.state c.advance.new.state f c.loop-flat.flat.value c.advance.new.flat.value c.in-Some.vertex c.in-Some.position c.args.self.now.opened c.ask.new.self.opened _ _ c.loop-flat.invariant.kept c.loop-flat.invariant.given_back given c.loop-flat.invariant.lawful begun asked.0 asked.2 c.in_ok-vertex.ensures.still_done fresh c.loop-flat.invariant.counted c.ask.ensures.counts).gave_up
+    (ask_step c.args.self.now c.loop-flat.self c.args.state.now c.loop-flat.state c.advance.new.state f c.loop-flat.flat.value c.advance.new.flat.value c.in-Some-2.vertex c.in-Some-2.position c.args.self.now.opened c.ask.new.self.opened _ _ c.loop-flat.invariant.kept c.loop-flat.invariant.given_back given c.loop-flat.invariant.lawful begun asked.0 asked.2 c.in_ok-vertex.ensures.still_done fresh c.loop-flat.invariant.counted c.ask.ensures.counts).gave_up
 
 pub flat_part-returns-in_err-take-clause-counts : goal.flat_part-returns-in_err-take-clause-counts
 flat_part-returns-in_err-take-clause-counts g t c =
     let f : Start = start_of c.args.origin in
     let given : c.advance.new.state ≡ (record c.args.state.now { room = c.advance.new.state.room }) = room_twice c.args.state.now c.loop-flat.state c.advance.new.state c.loop-flat.invariant.given_back (back_same c.loop-flat.state c.advance.new.state c.advance.ensures.given_back) in
-    let asked : (slice_get c.advance.new.flat.value.queue.pairs c.advance.new.flat.value.taken ≡ Some (c.in-Some.vertex, c.in-Some.position)) × (c.in-Some.vertex < length c.loop-flat.self.game.board.first) × IsPatternAt c.loop-flat.self.game.rules c.in-Some.position = search rules in
-    let fresh : ¬ Contains (take c.advance.new.flat.value.taken c.advance.new.flat.value.queue.pairs) (c.in-Some.vertex, c.in-Some.position) = search rules in
+    let asked : (slice_get c.advance.new.flat.value.queue.pairs c.advance.new.flat.value.taken ≡ Some (c.in-Some-2.vertex, c.in-Some-2.position)) × (c.in-Some-2.vertex < length c.loop-flat.self.game.board.first) × IsPatternAt c.loop-flat.self.game.rules c.in-Some-2.position = search rules in
+    let fresh : ¬ Contains (take c.advance.new.flat.value.taken c.advance.new.flat.value.queue.pairs) (c.in-Some-2.vertex, c.in-Some-2.position) = search rules in
     let begun : IsBegun c.loop-flat.self.game c.loop-flat.state.state f c.advance.new.flat.value = c.in_ok-vertex.ensures.begun f
     (onward (λ x s. IsBegun x s f c.loop-flat.flat.value) c.args.self.now c.loop-flat.self c.args.state.now c.loop-flat.state c.loop-flat.invariant.kept c.loop-flat.invariant.given_back c.loop-flat.invariant.begun) in
-    asked_only c.args.self.now.game c.args.state.now.state f (take c.advance.new.flat.value.taken c.advance.new.flat.value.queue.pairs ++ (c.in-Some.vertex, c.in-Some.position) ∷ []) c.args.self.now.opened c.ask.new.self.opened c.args.self.now.modifiers c.args.self.now.openings c.args.self.now.modifiers _ _
-    (ask_step c.args.self.now c.loop-flat.self c.args.state.now c.loop-flat.state c.advance.new.state f c.loop-flat.flat.value c.advance.new.flat.value c.in-Some.vertex c.in-Some.position c.args.self.now.opened c.ask.new.self.opened _ _ c.loop-flat.invariant.kept c.loop-flat.invariant.given_back given c.loop-flat.invariant.lawful begun asked.0 asked.2 c.in_ok-vertex.ensures.still_done fresh c.loop-flat.invariant.counted c.ask.ensures.counts).counts
+    asked_only c.args.self.now.game c.args.state.now.state f (take c.advance.new.flat.value.taken c.advance.new.flat.value.queue.pairs ++ (c.in-Some-2.vertex, c.in-Some-2.position) ∷ []) c.args.self.now.opened c.ask.new.self.opened c.args.self.now.modifiers c.args.self.now.openings c.args.self.now.modifiers _ _
+    (ask_step c.args.self.now c.loop-flat.self c.args.state.now c.loop-flat.state c.advance.new.state f c.loop-flat.flat.value c.advance.new.flat.value c.in-Some-2.vertex c.in-Some-2.position c.args.self.now.opened c.ask.new.self.opened _ _ c.loop-flat.invariant.kept c.loop-flat.invariant.given_back given c.loop-flat.invariant.lawful begun asked.0 asked.2 c.in_ok-vertex.ensures.still_done fresh c.loop-flat.invariant.counted c.ask.ensures.counts).counts
     (not_memory c.from_residual-in_err-take.result Memory Deep c.from_residual-in_err-take.ensures.1 refl memory_not_deep)
     (not_memory c.from_residual-in_err-take.result Memory Wide c.from_residual-in_err-take.ensures.1 refl memory_not_wide)
 
@@ -642,7 +645,7 @@ flat_part-returns-clause-forced g t c = λ cut left.
     let met : (e : Start) → IsBegun here.game c.loop-flat.state.state e c.loop-flat.flat.value → (v p : ℕ) → Reached here.game c.loop-flat.state.state e v p → Contains last (v, p) = search rules in
     let begun = onward (λ x u. IsBegun x u f c.loop-flat.flat.value) c.args.self.now here c.args.state.now c.loop-flat.state c.loop-flat.invariant.kept c.loop-flat.invariant.given_back c.loop-flat.invariant.begun in
     subst (λ (n : ℕ). CountsForced c.args.self.now.game cut reach c.args.state.now.state f c.args.self.now.opened n left c.args.self.now.modifiers) (sym c.finish.ensures.opened)
-    (flat_forced c.args.self.now here c.args.state.now c.loop-flat.state f done last c.args.self.now.opened left cut c.loop-flat.invariant.kept c.loop-flat.invariant.given_back c.loop-flat.invariant.lawful.numbered c.in_ok-vertex.ensures.quiet (met f begun) (c.loop-flat.invariant.forced cut))
+    (flat_forced c.args.self.now here c.args.state.now c.loop-flat.state f done last c.args.self.now.opened left cut c.loop-flat.invariant.kept c.loop-flat.invariant.given_back c.loop-flat.invariant.lawful.numbered c.in_ok-vertex.ensures.quiet (λ v p is _. met f begun v p is) (c.loop-flat.invariant.forced cut))
 
 pub runs_behind-returns-then-branch-clause-forced : goal.runs_behind-returns-then-branch-clause-forced
 runs_behind-returns-then-branch-clause-forced g t c =
@@ -722,22 +725,22 @@ pub flat_part-returns-in_err-valid-clause-taken : goal.flat_part-returns-in_err-
 flat_part-returns-in_err-valid-clause-taken g t c =
     let f : Start = start_of c.args.origin in
     let given : c.advance.new.state ≡ (record c.args.state.now { room = c.advance.new.state.room }) = room_twice c.args.state.now c.loop-flat.state c.advance.new.state c.loop-flat.invariant.given_back (back_same c.loop-flat.state c.advance.new.state c.advance.ensures.given_back) in
-    let asked : (slice_get c.advance.new.flat.value.queue.pairs c.advance.new.flat.value.taken ≡ Some (c.in-Some.vertex, c.in-Some.position)) × (c.in-Some.vertex < length c.loop-flat.self.game.board.first) × IsPatternAt c.loop-flat.self.game.rules c.in-Some.position = search rules in
+    let asked : (slice_get c.advance.new.flat.value.queue.pairs c.advance.new.flat.value.taken ≡ Some (c.in-Some-2.vertex, c.in-Some-2.position)) × (c.in-Some-2.vertex < length c.loop-flat.self.game.board.first) × IsPatternAt c.loop-flat.self.game.rules c.in-Some-2.position = search rules in
     let begun : IsBegun c.loop-flat.self.game c.loop-flat.state.state f c.advance.new.flat.value = c.in_ok-vertex.ensures.begun f
     (onward (λ x s. IsBegun x s f c.loop-flat.flat.value) c.args.self.now c.loop-flat.self c.args.state.now c.loop-flat.state c.loop-flat.invariant.kept c.loop-flat.invariant.given_back c.loop-flat.invariant.begun) in
     takes_unfinished c.args.self.now.game reach c.args.state.now.state (start_of c.args.origin) c.args.self.now.opened c.ask.new.self.opened c.args.self.now.taken c.ask.new.self.taken (IsOk c.ask.result) _
-    (asked_takes c.args.self.now c.loop-flat.self c.args.state.now c.loop-flat.state c.advance.new.state f c.advance.new.flat.value c.in-Some.vertex c.in-Some.position c.ask.new.self.opened c.ask.new.self.taken (IsOk c.ask.result) c.loop-flat.invariant.kept c.loop-flat.invariant.given_back given c.loop-flat.invariant.lawful begun asked.0 asked.2 c.loop-flat.invariant.taken c.ask.ensures.taken)
+    (asked_takes c.args.self.now c.loop-flat.self c.args.state.now c.loop-flat.state c.advance.new.state f c.advance.new.flat.value c.in-Some-2.vertex c.in-Some-2.position c.ask.new.self.opened c.ask.new.self.taken (IsOk c.ask.result) c.loop-flat.invariant.kept c.loop-flat.invariant.given_back given c.loop-flat.invariant.lawful begun asked.0 asked.2 c.loop-flat.invariant.taken c.ask.ensures.taken)
     (not_ok c.from_residual-in_err-valid.result c.in_err-valid.field-0.0 c.from_residual-in_err-valid.ensures.1)
 
 pub flat_part-returns-in_err-take-clause-taken : goal.flat_part-returns-in_err-take-clause-taken
 flat_part-returns-in_err-take-clause-taken g t c =
     let f : Start = start_of c.args.origin in
     let given : c.advance.new.state ≡ (record c.args.state.now { room = c.advance.new.state.room }) = room_twice c.args.state.now c.loop-flat.state c.advance.new.state c.loop-flat.invariant.given_back (back_same c.loop-flat.state c.advance.new.state c.advance.ensures.given_back) in
-    let asked : (slice_get c.advance.new.flat.value.queue.pairs c.advance.new.flat.value.taken ≡ Some (c.in-Some.vertex, c.in-Some.position)) × (c.in-Some.vertex < length c.loop-flat.self.game.board.first) × IsPatternAt c.loop-flat.self.game.rules c.in-Some.position = search rules in
+    let asked : (slice_get c.advance.new.flat.value.queue.pairs c.advance.new.flat.value.taken ≡ Some (c.in-Some-2.vertex, c.in-Some-2.position)) × (c.in-Some-2.vertex < length c.loop-flat.self.game.board.first) × IsPatternAt c.loop-flat.self.game.rules c.in-Some-2.position = search rules in
     let begun : IsBegun c.loop-flat.self.game c.loop-flat.state.state f c.advance.new.flat.value = c.in_ok-vertex.ensures.begun f
     (onward (λ x s. IsBegun x s f c.loop-flat.flat.value) c.args.self.now c.loop-flat.self c.args.state.now c.loop-flat.state c.loop-flat.invariant.kept c.loop-flat.invariant.given_back c.loop-flat.invariant.begun) in
     takes_unfinished c.args.self.now.game reach c.args.state.now.state (start_of c.args.origin) c.args.self.now.opened c.ask.new.self.opened c.args.self.now.taken c.ask.new.self.taken (IsOk c.ask.result) _
-    (asked_takes c.args.self.now c.loop-flat.self c.args.state.now c.loop-flat.state c.advance.new.state f c.advance.new.flat.value c.in-Some.vertex c.in-Some.position c.ask.new.self.opened c.ask.new.self.taken (IsOk c.ask.result) c.loop-flat.invariant.kept c.loop-flat.invariant.given_back given c.loop-flat.invariant.lawful begun asked.0 asked.2 c.loop-flat.invariant.taken c.ask.ensures.taken)
+    (asked_takes c.args.self.now c.loop-flat.self c.args.state.now c.loop-flat.state c.advance.new.state f c.advance.new.flat.value c.in-Some-2.vertex c.in-Some-2.position c.ask.new.self.opened c.ask.new.self.taken (IsOk c.ask.result) c.loop-flat.invariant.kept c.loop-flat.invariant.given_back given c.loop-flat.invariant.lawful begun asked.0 asked.2 c.loop-flat.invariant.taken c.ask.ensures.taken)
     (not_ok c.from_residual-in_err-take.result Memory c.from_residual-in_err-take.ensures.1)
 
 pub flat_part-returns-in_err-ends-clause-taken : goal.flat_part-returns-in_err-ends-clause-taken
@@ -747,10 +750,10 @@ flat_part-returns-in_err-ends-clause-taken g t c =
     let last : List (ℕ × ℕ) = take c.advance.new.flat.value.taken c.advance.new.flat.value.queue.pairs in
     let met : (e : Start) → IsBegun here.game c.loop-flat.state.state e c.loop-flat.flat.value → (v p : ℕ) → Reached here.game c.loop-flat.state.state e v p → Contains last (v, p) = search rules in
     let begun = onward (λ x u. IsBegun x u f c.loop-flat.flat.value) c.args.self.now here c.args.state.now c.loop-flat.state c.loop-flat.invariant.kept c.loop-flat.invariant.given_back c.loop-flat.invariant.begun in
-    let part = whole_takes c.args.self.now here c.args.state.now c.loop-flat.state f c.advance.new.flat.value c.loop-flat.invariant.kept c.loop-flat.invariant.given_back c.loop-flat.invariant.lawful (c.in_ok-vertex.ensures.begun f begun) (met f begun) c.finish.ensures.once c.finish.ensures.few in
+    let part = whole_takes c.args.self.now here c.args.state.now c.loop-flat.state f c.advance.new.flat.value c.finish.ensures.taken.many c.loop-flat.invariant.kept c.loop-flat.invariant.given_back c.loop-flat.invariant.lawful (c.in_ok-vertex.ensures.begun f begun) (met f begun) c.finish.ensures.taken.has c.finish.ensures.taken.few in
     takes_as c.args.self.now.game reach c.args.state.now.state f c.args.self.now.opened c.finish.new.self.opened c.args.self.now.taken c.finish.new.self.taken (Unit {0}) _
     (subst (λ (n : ℕ). CountsPairs c.args.self.now.game reach c.args.state.now.state f c.args.self.now.opened n c.args.self.now.taken c.finish.new.self.taken (Unit {0})) (sym c.finish.ensures.opened)
-    (takes_own c.args.self.now.game reach c.args.state.now.state f c.args.self.now.opened here.opened c.args.self.now.taken here.taken c.finish.new.self.taken (length c.advance.new.flat.value.queue.pairs) (Unit {0}) c.loop-flat.invariant.taken part c.finish.ensures.taken))
+    (takes_own c.args.self.now.game reach c.args.state.now.state f c.args.self.now.opened here.opened c.args.self.now.taken here.taken c.finish.new.self.taken c.finish.ensures.taken.many (Unit {0}) c.loop-flat.invariant.taken part c.finish.ensures.taken.sum))
     (λ _. tt)
 
 pub flat_part-returns-clause-taken : goal.flat_part-returns-clause-taken
@@ -760,10 +763,10 @@ flat_part-returns-clause-taken g t c =
     let last : List (ℕ × ℕ) = take c.advance.new.flat.value.taken c.advance.new.flat.value.queue.pairs in
     let met : (e : Start) → IsBegun here.game c.loop-flat.state.state e c.loop-flat.flat.value → (v p : ℕ) → Reached here.game c.loop-flat.state.state e v p → Contains last (v, p) = search rules in
     let begun = onward (λ x u. IsBegun x u f c.loop-flat.flat.value) c.args.self.now here c.args.state.now c.loop-flat.state c.loop-flat.invariant.kept c.loop-flat.invariant.given_back c.loop-flat.invariant.begun in
-    let part = whole_takes c.args.self.now here c.args.state.now c.loop-flat.state f c.advance.new.flat.value c.loop-flat.invariant.kept c.loop-flat.invariant.given_back c.loop-flat.invariant.lawful (c.in_ok-vertex.ensures.begun f begun) (met f begun) c.finish.ensures.once c.finish.ensures.few in
+    let part = whole_takes c.args.self.now here c.args.state.now c.loop-flat.state f c.advance.new.flat.value c.finish.ensures.taken.many c.loop-flat.invariant.kept c.loop-flat.invariant.given_back c.loop-flat.invariant.lawful (c.in_ok-vertex.ensures.begun f begun) (met f begun) c.finish.ensures.taken.has c.finish.ensures.taken.few in
     takes_as c.args.self.now.game reach c.args.state.now.state f c.args.self.now.opened c.finish.new.self.opened c.args.self.now.taken c.finish.new.self.taken (Unit {0}) _
     (subst (λ (n : ℕ). CountsPairs c.args.self.now.game reach c.args.state.now.state f c.args.self.now.opened n c.args.self.now.taken c.finish.new.self.taken (Unit {0})) (sym c.finish.ensures.opened)
-    (takes_own c.args.self.now.game reach c.args.state.now.state f c.args.self.now.opened here.opened c.args.self.now.taken here.taken c.finish.new.self.taken (length c.advance.new.flat.value.queue.pairs) (Unit {0}) c.loop-flat.invariant.taken part c.finish.ensures.taken))
+    (takes_own c.args.self.now.game reach c.args.state.now.state f c.args.self.now.opened here.opened c.args.self.now.taken here.taken c.finish.new.self.taken c.finish.ensures.taken.many (Unit {0}) c.loop-flat.invariant.taken part c.finish.ensures.taken.sum))
     (λ _. tt)
 
 pub ask-returns-in_err-runs-clause-taken : goal.ask-returns-in_err-runs-clause-taken
@@ -874,3 +877,227 @@ word_runs-returns-clause-taken g t c =
     subst (λ (x : Searching). CountsPairs c.args.self.now.game pattern c.args.state.now.state f c.args.self.now.opened x.opened c.args.self.now.taken x.taken _) (sym c.keep_list-2.ensures)
     (takes_as c.args.self.now.game pattern c.args.state.now.state f c.args.self.now.opened c.runs_behind.new.self.opened c.args.self.now.taken c.runs_behind.new.self.taken (IsOk c.runs_behind.result) _ all
     (λ _. is_answer c.runs_behind.result c.in_ok-runs.runs c.in_ok-runs.was))
+
+-- ---- a flat part by sets
+
+pub sets_part-begun_by_sets-requires-clause-paths : goal.sets_part-begun_by_sets-requires-clause-paths
+sets_part-begun_by_sets-requires-clause-paths g t c = onward_rules (λ x. ArePathsOf x c.args.paths.now) c.args.self.now c.enter.new.self c.enter.ensures.kept c.requires.paths
+
+pub sets_part-begun_by_sets-requires-clause-there : goal.sets_part-begun_by_sets-requires-clause-there
+sets_part-begun_by_sets-requires-clause-there g t c =
+    let fits : IsStateOf c.enter.new.self.game c.enter.new.state.state = onward IsStateOf c.args.self.now c.enter.new.self c.args.state.now c.enter.new.state c.enter.ensures.kept c.enter.ensures.given_back c.requires.fits in
+    let under : c.enter.new.state.state.vertex < length c.enter.new.state.state.pieces = fits.vertex in
+    let size : length c.enter.new.state.state.pieces ≡ length c.enter.new.self.game.board.first = fits.vertices in
+    omega (arith, under, size, c.vertex.ensures)
+
+pub sets_part-begun_by_sets-requires-clause-stands : goal.sets_part-begun_by_sets-requires-clause-stands
+sets_part-begun_by_sets-requires-clause-stands g t c = onward_rules (λ x. IsStart x.rules (start_of c.args.origin)) c.args.self.now c.enter.new.self c.enter.ensures.kept c.requires.start
+
+pub sets_part-loop-vertex-init : goal.sets_part-loop-vertex-init
+sets_part-loop-vertex-init g t c =
+    finds_begun c.args.self.now c.enter.new.self c.begun_by_sets.new.self c.args.state.now c.enter.new.state (start_of c.args.origin) c.vertex.result c.in_ok-flat.flat.value c.requires.start c.enter.ensures.kept c.begun_by_sets.ensures.kept c.enter.ensures.given_back c.enter.ensures.room c.in_ok-enter.ensures.enough
+    c.in_ok-enter.ensures.opened c.enter.ensures.none_taken c.enter.ensures.spent c.vertex.ensures c.in_ok-flat.ensures.begins
+
+pub sets_part-advance_by_sets-requires-clause-paths : goal.sets_part-advance_by_sets-requires-clause-paths
+sets_part-advance_by_sets-requires-clause-paths g t c = onward_rules (λ x. ArePathsOf x c.args.paths.now) c.args.self.now c.loop-vertex.self c.loop-vertex.invariant.kept c.requires.paths
+
+pub sets_part-advance_by_sets-requires-clause-fits : goal.sets_part-advance_by_sets-requires-clause-fits
+sets_part-advance_by_sets-requires-clause-fits g t c =
+    onward IsStateOf c.args.self.now c.loop-vertex.self c.args.state.now c.loop-vertex.state c.loop-vertex.invariant.kept c.loop-vertex.invariant.given_back c.requires.fits
+
+pub sets_part-advance_by_sets-requires-clause-sets : goal.sets_part-advance_by_sets-requires-clause-sets
+sets_part-advance_by_sets-requires-clause-sets g t c =
+    sets_now c.args.self.now c.loop-vertex.self c.args.state.now c.loop-vertex.state (start_of c.args.origin) c.loop-vertex.flat.value c.loop-vertex.invariant
+
+pub sets_part-ask-requires : goal.sets_part-ask-requires
+sets_part-ask-requires g t c κs within =
+    let h = c.args.self.now in
+    let k = c.loop-vertex.self in
+    let s = c.args.state.now in
+    let l = c.loop-vertex.state in
+    let f : Start = start_of c.args.origin in
+    let flat = c.advance_by_sets.new.flat.value in
+    let v : ℕ = c.in-Some.vertex in
+    let p : ℕ = c.in-Some.position in
+    let is : FindsBySets h k s l f flat = finds_on h k s l f c.loop-vertex.flat.value c.loop-vertex.invariant flat c.advance_by_sets.ensures.advances in
+    let next : IsToBeAsked k.game flat v p = search rules in
+    let fits : IsStateOf k.game l.state = onward IsStateOf h k s l is.kept is.given_back c.requires.fits in
+    let nests = some_nested h.game.rules c.args.nested p
+    (reached_nests h.game is.lawful.numbered s.state f c.args.nested c.requires.nested v p (reached_here h k s l f flat is v p next) (rules_before (λ x. IsPatternAt x.rules p) h k is.kept next.pattern)) in
+    let inner : (0 < c.args.nested) × ((n : ℕ) → c.args.nested ≡ suc n → NestsFrom k.game.rules n (beginning (inside p))) =
+    onward_rules (λ x. (0 < c.args.nested) × ((n : ℕ) → c.args.nested ≡ suc n → NestsFrom x.rules n (beginning (inside p)))) h k is.kept nests in
+    let room : 1 ≤ l.room = omega (arith, is.enough) in
+    let size : length l.state.pieces ≡ length k.game.board.first = fits.vertices in
+    let under : v < length l.state.pieces = omega (arith, size, next.vertex) in
+    (search rules, (within, (fits, (room, (under, (next.pattern, inner))))))
+
+pub sets_part-take_by_sets-requires-clause-paths : goal.sets_part-take_by_sets-requires-clause-paths
+sets_part-take_by_sets-requires-clause-paths g t c =
+    onward_rules (λ x. ArePathsOf x c.args.paths.now) c.loop-vertex.self c.ask.new.self c.ask.ensures.kept (onward_rules (λ x. ArePathsOf x c.args.paths.now) c.args.self.now c.loop-vertex.self c.loop-vertex.invariant.kept c.requires.paths)
+
+pub sets_part-take_by_sets-requires-clause-sets : goal.sets_part-take_by_sets-requires-clause-sets
+sets_part-take_by_sets-requires-clause-sets g t c =
+    onward_rules (λ x. HasSetsFor x c.advance_by_sets.new.flat.value) c.loop-vertex.self c.ask.new.self c.ask.ensures.kept c.advance_by_sets.ensures.advances.sets
+
+pub sets_part-take_by_sets-requires-clause-next : goal.sets_part-take_by_sets-requires-clause-next
+sets_part-take_by_sets-requires-clause-next g t c =
+    let next : IsToBeAsked c.loop-vertex.self.game c.advance_by_sets.new.flat.value c.in-Some.vertex c.in-Some.position = search rules in
+    onward_rules (λ x. IsToBeAsked x c.advance_by_sets.new.flat.value c.in-Some.vertex c.in-Some.position) c.loop-vertex.self c.ask.new.self c.ask.ensures.kept next
+
+pub sets_part-loop-vertex-preserved : goal.sets_part-loop-vertex-preserved
+sets_part-loop-vertex-preserved g t c =
+    let h = c.args.self.now in
+    let k = c.loop-vertex.self in
+    let s = c.args.state.now in
+    let l = c.loop-vertex.state in
+    let f : Start = start_of c.args.origin in
+    let flat = c.advance_by_sets.new.flat.value in
+    let v : ℕ = c.in-Some.vertex in
+    let p : ℕ = c.in-Some.position in
+    let is : FindsBySets h k s l f flat = finds_on h k s l f c.loop-vertex.flat.value c.loop-vertex.invariant flat c.advance_by_sets.ensures.advances in
+    let next : IsToBeAsked k.game flat v p = search rules in
+    finds_more h k s l f flat is v p next c.ask.new.self c.ask.new.state c.take_by_sets.new.flat.value c.in_ok-valid.valid _ _ c.ask.ensures.kept c.ask.ensures.given_back c.ask.ensures.room c.in_ok-valid.ensures.valid c.take_by_sets.ensures.takes c.ask.ensures.counts c.in_ok-valid.ensures.forced
+    (takes_as k.game pattern (at_vertex l.state v) (beginning (inside p)) k.opened c.ask.new.self.opened k.taken c.ask.new.self.taken (IsOk c.ask.result) (Unit {0}) c.ask.ensures.taken (λ _. is_answer c.ask.result c.in_ok-valid.valid c.in_ok-valid.was))
+
+pub sets_part-loop-vertex-smaller : goal.sets_part-loop-vertex-smaller
+sets_part-loop-vertex-smaller g t c = omega (arith, c.advance_by_sets.ensures.advances.lighter, c.take_by_sets.ensures.takes.lighter)
+
+pub sets_part-returns-in_err-enter-clause-counts : goal.sets_part-returns-in_err-enter-clause-counts
+sets_part-returns-in_err-enter-clause-counts g t c =
+    counted_as c.args.self.now.game reach c.args.state.now.state (start_of c.args.origin) c.args.self.now.opened c.enter.new.self.opened c.args.self.now.modifiers c.args.self.now.openings c.args.self.now.modifiers _ _ _ _
+    (given_up c.enter.result c.from_residual.result c.in_err-enter.field-0.0 Deep c.in_err-enter.was c.from_residual.ensures.1)
+    (given_up c.enter.result c.from_residual.result c.in_err-enter.field-0.0 Wide c.in_err-enter.was c.from_residual.ensures.1)
+    (c.enter.ensures.counts c.args.state.now.state (start_of c.args.origin) c.requires.start)
+
+pub sets_part-returns-in_err-enter-clause-taken : goal.sets_part-returns-in_err-enter-clause-taken
+sets_part-returns-in_err-enter-clause-taken g t c =
+    takes_nothing c.args.self.now.game reach c.args.state.now.state (start_of c.args.origin) c.args.self.now.opened c.enter.new.self.opened c.args.self.now.taken c.enter.new.self.taken _ c.enter.ensures.grows c.enter.ensures.none_taken
+    (not_ok c.from_residual.result c.in_err-enter.field-0.0 c.from_residual.ensures.1)
+
+pub sets_part-returns-in_err-flat-clause-counts : goal.sets_part-returns-in_err-flat-clause-counts
+sets_part-returns-in_err-flat-clause-counts g t c =
+    let opened : c.begun_by_sets.new.self.opened ≡ c.args.self.now.opened + 1 = ap (λ (x : Searching). x.opened) c.begun_by_sets.ensures.kept ∙ c.in_ok-enter.ensures.opened in
+    counted_only c.args.self.now.game reach c.args.state.now.state (start_of c.args.origin) c.args.self.now.opened c.begun_by_sets.new.self.opened c.args.self.now.modifiers c.args.self.now.openings c.args.self.now.modifiers _ _
+    (opened_one c.args.self.now.game c.enter.ensures.lawful reach reach_pairs c.args.state.now.state (start_of c.args.origin) c.requires.start c.args.self.now.opened c.begun_by_sets.new.self.opened opened)
+    (not_memory c.from_residual-in_err-flat.result c.in_err-flat.field-0.0 Deep c.from_residual-in_err-flat.ensures.1 c.in_err-flat.ensures.memory memory_not_deep)
+    (not_memory c.from_residual-in_err-flat.result c.in_err-flat.field-0.0 Wide c.from_residual-in_err-flat.ensures.1 c.in_err-flat.ensures.memory memory_not_wide)
+
+pub sets_part-returns-in_err-flat-clause-taken : goal.sets_part-returns-in_err-flat-clause-taken
+sets_part-returns-in_err-flat-clause-taken g t c =
+    let opened : c.begun_by_sets.new.self.opened ≡ c.args.self.now.opened + 1 = ap (λ (x : Searching). x.opened) c.begun_by_sets.ensures.kept ∙ c.in_ok-enter.ensures.opened in
+    takes_nothing c.args.self.now.game reach c.args.state.now.state (start_of c.args.origin) c.args.self.now.opened c.begun_by_sets.new.self.opened c.args.self.now.taken c.begun_by_sets.new.self.taken _ (omega (arith, opened)) (ap (λ (x : Searching). x.taken) c.begun_by_sets.ensures.kept ∙ c.enter.ensures.none_taken)
+    (not_ok c.from_residual-in_err-flat.result c.in_err-flat.field-0.0 c.from_residual-in_err-flat.ensures.1)
+
+pub sets_part-returns-in_err-valid-clause-kept : goal.sets_part-returns-in_err-valid-clause-kept
+sets_part-returns-in_err-valid-clause-kept g t c = kept_twice c.args.self.now c.loop-vertex.self c.ask.new.self c.loop-vertex.invariant.kept c.ask.ensures.kept
+
+pub sets_part-returns-in_err-valid-clause-given_back : goal.sets_part-returns-in_err-valid-clause-given_back
+sets_part-returns-in_err-valid-clause-given_back g t c = room_twice c.args.state.now c.loop-vertex.state c.ask.new.state c.loop-vertex.invariant.given_back c.ask.ensures.given_back
+
+pub sets_part-returns-in_err-valid-clause-room : goal.sets_part-returns-in_err-valid-clause-room
+sets_part-returns-in_err-valid-clause-room g t c = omega (arith, c.loop-vertex.invariant.room, c.ask.ensures.room)
+
+pub sets_part-returns-in_err-valid-clause-counts : goal.sets_part-returns-in_err-valid-clause-counts
+sets_part-returns-in_err-valid-clause-counts g t c =
+    let h = c.args.self.now in
+    let k = c.loop-vertex.self in
+    let s = c.args.state.now in
+    let l = c.loop-vertex.state in
+    let f : Start = start_of c.args.origin in
+    let flat = c.advance_by_sets.new.flat.value in
+    let is : FindsBySets h k s l f flat = finds_on h k s l f c.loop-vertex.flat.value c.loop-vertex.invariant flat c.advance_by_sets.ensures.advances in
+    let next : IsToBeAsked k.game flat c.in-Some.vertex c.in-Some.position = search rules in
+    counted_as h.game reach s.state f h.opened c.ask.new.self.opened h.modifiers h.openings h.modifiers _ _ _ _
+    (given_up c.ask.result c.from_residual-in_err-valid.result c.in_err-valid.field-0.0 Deep c.in_err-valid.was c.from_residual-in_err-valid.ensures.1)
+    (given_up c.ask.result c.from_residual-in_err-valid.result c.in_err-valid.field-0.0 Wide c.in_err-valid.was c.from_residual-in_err-valid.ensures.1)
+    (asked_counts h k s l f flat is c.in-Some.vertex c.in-Some.position next c.ask.new.self.opened _ _ c.ask.ensures.counts).gave_up
+
+pub sets_part-returns-in_err-valid-clause-taken : goal.sets_part-returns-in_err-valid-clause-taken
+sets_part-returns-in_err-valid-clause-taken g t c =
+    let h = c.args.self.now in
+    let k = c.loop-vertex.self in
+    let s = c.args.state.now in
+    let l = c.loop-vertex.state in
+    let f : Start = start_of c.args.origin in
+    let flat = c.advance_by_sets.new.flat.value in
+    let is : FindsBySets h k s l f flat = finds_on h k s l f c.loop-vertex.flat.value c.loop-vertex.invariant flat c.advance_by_sets.ensures.advances in
+    let next : IsToBeAsked k.game flat c.in-Some.vertex c.in-Some.position = search rules in
+    takes_unfinished h.game reach s.state f h.opened c.ask.new.self.opened h.taken c.ask.new.self.taken (IsOk c.ask.result) _
+    (asked_pairs h k s l f flat is c.in-Some.vertex c.in-Some.position next c.ask.new.self.opened c.ask.new.self.taken (IsOk c.ask.result) c.ask.ensures.taken)
+    (not_ok c.from_residual-in_err-valid.result c.in_err-valid.field-0.0 c.from_residual-in_err-valid.ensures.1)
+
+pub sets_part-finish_by_sets-requires-clause-fits : goal.sets_part-finish_by_sets-requires-clause-fits
+sets_part-finish_by_sets-requires-clause-fits g t c =
+    onward IsStateOf c.args.self.now c.loop-vertex.self c.args.state.now c.loop-vertex.state c.loop-vertex.invariant.kept c.loop-vertex.invariant.given_back c.requires.fits
+
+pub sets_part-finish_by_sets-requires-clause-sets : goal.sets_part-finish_by_sets-requires-clause-sets
+sets_part-finish_by_sets-requires-clause-sets g t c = c.advance_by_sets.ensures.advances.sets
+
+pub sets_part-finish_by_sets-requires-clause-whole : goal.sets_part-finish_by_sets-requires-clause-whole
+sets_part-finish_by_sets-requires-clause-whole g t c = search rules
+
+pub sets_part-finish_by_sets-requires-clause-one : goal.sets_part-finish_by_sets-requires-clause-one
+sets_part-finish_by_sets-requires-clause-one g t c =
+    finds_room c.args.self.now c.loop-vertex.self c.args.state.now c.loop-vertex.state (start_of c.args.origin) c.loop-vertex.flat.value c.loop-vertex.invariant
+
+pub sets_part-returns-in_err-ends-clause-kept : goal.sets_part-returns-in_err-ends-clause-kept
+sets_part-returns-in_err-ends-clause-kept g t c = kept_twice c.args.self.now c.loop-vertex.self c.finish_by_sets.new.self c.loop-vertex.invariant.kept c.finish_by_sets.ensures.kept
+
+pub sets_part-returns-in_err-ends-clause-given_back : goal.sets_part-returns-in_err-ends-clause-given_back
+sets_part-returns-in_err-ends-clause-given_back g t c = c.loop-vertex.invariant.given_back
+
+pub sets_part-returns-in_err-ends-clause-room : goal.sets_part-returns-in_err-ends-clause-room
+sets_part-returns-in_err-ends-clause-room g t c = c.loop-vertex.invariant.room
+
+pub sets_part-returns-in_err-ends-clause-counts : goal.sets_part-returns-in_err-ends-clause-counts
+sets_part-returns-in_err-ends-clause-counts g t c =
+    finds_counted c.args.self.now c.loop-vertex.self c.args.state.now c.loop-vertex.state (start_of c.args.origin) c.loop-vertex.flat.value c.loop-vertex.invariant c.finish_by_sets.new.self.opened _ _ c.finish_by_sets.ensures.opened
+    (not_memory c.from_residual-in_err-ends.result c.in_err-ends.field-0.0 Deep c.from_residual-in_err-ends.ensures.1 c.in_err-ends.ensures.memory memory_not_deep)
+    (not_memory c.from_residual-in_err-ends.result c.in_err-ends.field-0.0 Wide c.from_residual-in_err-ends.ensures.1 c.in_err-ends.ensures.memory memory_not_wide)
+
+pub sets_part-returns-in_err-ends-clause-taken : goal.sets_part-returns-in_err-ends-clause-taken
+sets_part-returns-in_err-ends-clause-taken g t c =
+    finds_untaken c.args.self.now c.loop-vertex.self c.args.state.now c.loop-vertex.state (start_of c.args.origin) c.loop-vertex.flat.value c.loop-vertex.invariant c.finish_by_sets.new.self [] false c.finish_by_sets.ensures.opened _ c.in_err-ends.ensures.none_taken
+    (not_ok c.from_residual-in_err-ends.result c.in_err-ends.field-0.0 c.from_residual-in_err-ends.ensures.1)
+
+pub sets_part-returns-clause-kept : goal.sets_part-returns-clause-kept
+sets_part-returns-clause-kept g t c = kept_twice c.args.self.now c.loop-vertex.self c.finish_by_sets.new.self c.loop-vertex.invariant.kept c.finish_by_sets.ensures.kept
+
+pub sets_part-returns-clause-given_back : goal.sets_part-returns-clause-given_back
+sets_part-returns-clause-given_back g t c = c.loop-vertex.invariant.given_back
+
+pub sets_part-returns-clause-room : goal.sets_part-returns-clause-room
+sets_part-returns-clause-room g t c = c.loop-vertex.invariant.room
+
+pub sets_part-returns-clause-enough : goal.sets_part-returns-clause-enough
+sets_part-returns-clause-enough g t c = c.loop-vertex.invariant.enough
+
+pub sets_part-returns-clause-reached : goal.sets_part-returns-clause-reached
+sets_part-returns-clause-reached g t c =
+    let is = finds_on c.args.self.now c.loop-vertex.self c.args.state.now c.loop-vertex.state (start_of c.args.origin) c.loop-vertex.flat.value c.loop-vertex.invariant c.advance_by_sets.new.flat.value c.advance_by_sets.ensures.advances in
+    finds_part c.args.self.now c.loop-vertex.self c.args.state.now c.loop-vertex.state (start_of c.args.origin) c.advance_by_sets.new.flat.value is c.finish_by_sets.new.self c.finish_by_sets.new.pairs.items c.in_ok-ends.ends c.finish_by_sets.ensures.opened c.in_ok-ends.ensures.part
+
+pub sets_part-returns-clause-ready : goal.sets_part-returns-clause-ready
+sets_part-returns-clause-ready g t c =
+    let is = finds_on c.args.self.now c.loop-vertex.self c.args.state.now c.loop-vertex.state (start_of c.args.origin) c.loop-vertex.flat.value c.loop-vertex.invariant c.advance_by_sets.new.flat.value c.advance_by_sets.ensures.advances in
+    let part = finds_part c.args.self.now c.loop-vertex.self c.args.state.now c.loop-vertex.state (start_of c.args.origin) c.advance_by_sets.new.flat.value is c.finish_by_sets.new.self c.finish_by_sets.new.pairs.items c.in_ok-ends.ends c.finish_by_sets.ensures.opened c.in_ok-ends.ensures.part in
+    all_ready c.args.self.now.game is.lawful c.args.state.now.state c.requires.fits (start_of c.args.origin) c.args.nested c.requires.nested c.finish_by_sets.new.pairs.items c.in_ok-ends.ends part
+
+pub sets_part-returns-clause-lawful : goal.sets_part-returns-clause-lawful
+sets_part-returns-clause-lawful g t c = c.loop-vertex.invariant.lawful
+
+pub sets_part-returns-clause-counts : goal.sets_part-returns-clause-counts
+sets_part-returns-clause-counts g t c =
+    finds_counted c.args.self.now c.loop-vertex.self c.args.state.now c.loop-vertex.state (start_of c.args.origin) c.loop-vertex.flat.value c.loop-vertex.invariant c.finish_by_sets.new.self.opened _ _ c.finish_by_sets.ensures.opened (ok_not_err c.in_ok-ends.ends Deep) (ok_not_err c.in_ok-ends.ends Wide)
+
+pub sets_part-returns-clause-forced : goal.sets_part-returns-clause-forced
+sets_part-returns-clause-forced g t c = λ cut left.
+    let is = finds_on c.args.self.now c.loop-vertex.self c.args.state.now c.loop-vertex.state (start_of c.args.origin) c.loop-vertex.flat.value c.loop-vertex.invariant c.advance_by_sets.new.flat.value c.advance_by_sets.ensures.advances in
+    let whole : IsWhole c.advance_by_sets.new.flat.value = search rules in
+    subst (λ (n : ℕ). CountsForced c.args.self.now.game cut reach c.args.state.now.state (start_of c.args.origin) c.args.self.now.opened n left c.args.self.now.modifiers) (sym c.finish_by_sets.ensures.opened)
+    (finds_forced c.args.self.now c.loop-vertex.self c.args.state.now c.loop-vertex.state (start_of c.args.origin) c.advance_by_sets.new.flat.value is whole cut left)
+
+pub sets_part-returns-clause-taken : goal.sets_part-returns-clause-taken
+sets_part-returns-clause-taken g t c =
+    let is = finds_on c.args.self.now c.loop-vertex.self c.args.state.now c.loop-vertex.state (start_of c.args.origin) c.loop-vertex.flat.value c.loop-vertex.invariant c.advance_by_sets.new.flat.value c.advance_by_sets.ensures.advances in
+    finds_taken c.args.self.now c.loop-vertex.self c.args.state.now c.loop-vertex.state (start_of c.args.origin) c.advance_by_sets.new.flat.value is c.finish_by_sets.new.self c.finish_by_sets.new.pairs.items c.in_ok-ends.ends c.finish_by_sets.ensures.opened _ c.in_ok-ends.ensures.taken

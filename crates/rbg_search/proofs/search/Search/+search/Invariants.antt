@@ -3,7 +3,9 @@ use Rattle.std.proofs.Common.{◌≡◌, ◌+◌, ◌*◌, ◌-◌, ◌^◌, ◌
 use Rattle.std.specs.Prelude.{All, Bool}
 use Rattle.rbg_rules.specs.Games.{IsGame}
 use Rattle.rbg_search.specs.Start.{start_of}
+use Rattle.rbg_flat.specs.internal.Sets.{weight}
 use Rattle.rbg_search.specs.internal.Begun.{IsBegun}
+use Rattle.rbg_search.specs.internal.BySets.{FindsBySets}
 use Rattle.rbg_search.specs.internal.Behind.{RunsBehindPair}
 use Rattle.rbg_rules.specs.Positions.{IsNumbered}
 use Rattle.rbg_rules.specs.Words.{Start}
@@ -18,7 +20,10 @@ use Rattle.rbg_search.specs.internal.Spent.{IsSpent}
 use Rattle.rbg_search.proofs.search.Search.+search.Given as goal
 
 abbrev pub decreases-flat_part : goal.decreases-flat_part
-decreases-flat_part g l = l.nested * 1000000 + 2
+decreases-flat_part g l = l.nested * 1000000 + 3
+
+abbrev pub decreases-sets_part : goal.decreases-sets_part
+decreases-sets_part g l = l.nested * 1000000 + 2
 
 abbrev pub decreases-ask : goal.decreases-ask
 decreases-ask g l = l.nested * 1000000 + 1
@@ -50,6 +55,12 @@ invariant-flat_part-loop-flat g l = record {
 
 abbrev pub decreases-flat_part-loop-flat : goal.decreases-flat_part-loop-flat
 decreases-flat_part-loop-flat g l = 2 ^ 64 - l.flat.value.taken
+
+abbrev pub invariant-sets_part-loop-vertex : goal.invariant-sets_part-loop-vertex
+invariant-sets_part-loop-vertex g l = FindsBySets l.fn.self l.self l.fn.state l.state (start_of l.fn.origin) l.flat.value
+
+abbrev pub decreases-sets_part-loop-vertex : goal.decreases-sets_part-loop-vertex
+decreases-sets_part-loop-vertex g l = weight l.flat.value.sets
 
 abbrev pub invariant-runs_behind-loop-vertex : goal.invariant-runs_behind-loop-vertex
 invariant-runs_behind-loop-vertex g l = record {

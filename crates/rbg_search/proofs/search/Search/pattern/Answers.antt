@@ -105,7 +105,7 @@ returns-clause-not_deep g c = λ cut.
     let here : at_vertex c.reserve.new.self.state c.vertex-vertex.result ≡ c.args.state.now.state =
     ap (λ (v : ℕ). at_vertex c.reserve.new.self.state v) c.vertex-vertex.ensures ∙ ap (λ (h : History). h.state) c.reserve.ensures.kept in
     none_deep c.args.self.now.game cut pattern c.args.state.now.state (beginning (inside c.args.position)) c.args.self.now.opened c.ask.new.self.opened c.args.self.now.modifiers c.args.self.now.modifiers
-    (subst (λ (s : AbstractState). CountsForced c.args.self.now.game cut pattern s (beginning (inside c.args.position)) c.args.self.now.opened c.ask.new.self.opened c.args.self.now.modifiers c.args.self.now.modifiers) here (c.in_ok-valid.ensures.forced cut)) (omega arith) (subst (λ (m : ℕ). 0 < m) (ap (λ (x : Searching). x.modifiers) c.self.view_is) c.self.invariant.3)
+    (subst (λ (s : AbstractState). CountsForced c.args.self.now.game cut pattern s (beginning (inside c.args.position)) c.args.self.now.opened c.ask.new.self.opened c.args.self.now.modifiers c.args.self.now.modifiers) here (c.in_ok-valid.ensures.forced cut)) (omega arith) (subst (λ (m : ℕ). 0 < m) (ap (λ (x : Searching). x.modifiers) c.self.view_is) c.self.invariant.4)
 
 pub returns-in_err-reserve-clause-taken : goal.returns-in_err-reserve-clause-taken
 returns-in_err-reserve-clause-taken g c =

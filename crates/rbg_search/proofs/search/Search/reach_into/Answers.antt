@@ -48,7 +48,7 @@ returns-clause-all_forced g c = λ cut.
 pub returns-clause-not_deep : goal.returns-clause-not_deep
 returns-clause-not_deep g c = λ cut.
     none_deep c.args.self.now.game cut reach c.args.state.now.state (start_of c.args.origin) c.args.self.now.opened c.flat_part.new.self.opened c.args.self.now.modifiers c.args.self.now.modifiers
-    (c.in_ok-ends.ensures.forced cut c.args.self.now.modifiers) (omega arith) (subst (λ (m : ℕ). 0 < m) (ap (λ (x : Searching). x.modifiers) c.self.view_is) c.self.invariant.3)
+    (c.in_ok-ends.ensures.forced cut c.args.self.now.modifiers) (omega arith) (subst (λ (m : ℕ). 0 < m) (ap (λ (x : Searching). x.modifiers) c.self.view_is) c.self.invariant.4)
 
 pub returns-clause-within : goal.returns-clause-within
 returns-clause-within g c =
@@ -71,7 +71,7 @@ returns-in-Some-clause-all_forced g c =
 pub returns-in-Some-clause-not_deep : goal.returns-in-Some-clause-not_deep
 returns-in-Some-clause-not_deep g c =
     on_ok c.reach_only.result _ _
-    (λ forced cut. none_deep c.args.self.now.game cut reach c.args.state.now.state (start_of c.args.origin) c.args.self.now.opened c.reach_only.new.self.opened c.args.self.now.modifiers c.args.self.now.modifiers (forced cut c.args.self.now.modifiers) (omega arith) (subst (λ (m : ℕ). 0 < m) (ap (λ (x : Searching). x.modifiers) c.self.view_is) c.self.invariant.3))
+    (λ forced cut. none_deep c.args.self.now.game cut reach c.args.state.now.state (start_of c.args.origin) c.args.self.now.opened c.reach_only.new.self.opened c.args.self.now.modifiers c.args.self.now.modifiers (forced cut c.args.self.now.modifiers) (omega arith) (subst (λ (m : ℕ). 0 < m) (ap (λ (x : Searching). x.modifiers) c.self.view_is) c.self.invariant.4))
     c.reach_only.ensures.forced
 
 pub returns-in_err-ends-clause-taken : goal.returns-in_err-ends-clause-taken

@@ -12,7 +12,8 @@ use Rattle.rbg_search.specs.Searching.{Searching}
 use Rattle.rbg_search.specs.Start.{start_of, IsPositionOf}
 use Rattle.rbg_search.specs.internal.Closure.{Reached}
 use Rattle.rbg_search.proofs.Alone.{only_position, some_pair, alone_whole, alone_met, alone_pairs, alone_quiet}
-use Rattle.rbg_search.specs.Taken.{HasPairs, CountsPairs, most_pairs_of}
+use Rattle.rbg_flat.specs.Found.{HasCandidates}
+use Rattle.rbg_search.specs.Taken.{CountsPairs, most_pairs_of}
 use Rattle.rbg_search.specs.internal.Spent.{IsSpentButOne}
 use Rattle.rbg_search.proofs.Fewness.{one_opened}
 use Rattle.rbg_search.proofs.Takings.{takes_nothing, takes_none_yet, takes_own, own_part, not_ok}
@@ -71,8 +72,8 @@ returns-clause-forced g c = λ cut left.
     flat_forced c.args.self.now c.count_pairs.new.self c.args.state.now c.enter.new.state f [] (pair ∷ []) c.args.self.now.opened left cut kept c.enter.ensures.given_back numbered
     (onward_rules (λ x. (w q : ℕ) → Contains (pair ∷ []) (w, q) → IsPatternAt x.rules q → Contains {X = ℕ × ℕ} [] (w, q)) c.args.self.now c.count_pairs.new.self kept
     (alone_quiet game numbered s f c.args.position c.may_end-ends.result c.requires.only (decides g c) c.requires.modifies))
-    (onward (λ x t. (v q : ℕ) → Reached x t f v q → Contains (pair ∷ []) (v, q)) c.args.self.now c.count_pairs.new.self c.args.state.now c.enter.new.state kept c.enter.ensures.given_back
-    (alone_met game numbered s f c.args.position c.may_end-ends.result c.requires.only (decides g c) c.requires.modifies))
+    (λ v q is _. onward (λ x t. (v q : ℕ) → Reached x t f v q → Contains (pair ∷ []) (v, q)) c.args.self.now c.count_pairs.new.self c.args.state.now c.enter.new.state kept c.enter.ensures.given_back
+    (alone_met game numbered s f c.args.position c.may_end-ends.result c.requires.only (decides g c) c.requires.modifies) v q is)
     (asks_begin game numbered cut s c.args.self.now.opened c.count_pairs.new.self.opened c.args.self.now.modifiers opened)
 
 pub count_pairs-requires-clause-one : goal.count_pairs-requires-clause-one
@@ -88,7 +89,7 @@ returns-in_err-enter-clause-taken g c =
     (not_ok c.from_residual.result c.in_err-enter.field-0.0 c.from_residual.ensures.1)
 
 -- The one pair is all that is counted.
-takes : (h e k : Searching) (s : AbstractState) (f : Start) (A : Type 0) → HasPairs h.game s f 1 → 1 ≤ most_pairs_of h.game → e.taken ≡ h.taken → k.opened ≡ h.opened + 1 → k.taken ≡ e.taken + 1 → CountsPairs h.game reach s f h.opened k.opened h.taken k.taken A
+takes : (h e k : Searching) (s : AbstractState) (f : Start) (A : Type 0) → HasCandidates h.game s f 1 → 1 ≤ most_pairs_of h.game → e.taken ≡ h.taken → k.opened ≡ h.opened + 1 → k.taken ≡ e.taken + 1 → CountsPairs h.game reach s f h.opened k.opened h.taken k.taken A
 takes h e k s f A has few none opened more =
     takes_own h.game reach s f h.opened k.opened h.taken e.taken k.taken 1 A
     (takes_none_yet h.game reach s f (h.opened + 1) k.opened h.taken e.taken (Unit {0}) (sym opened) none) (own_part h.game reach s f 1 has few) more

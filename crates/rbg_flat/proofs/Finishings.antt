@@ -1,0 +1,258 @@
+-- What is found in the end.
+use Rattle.std.proofs.Common.{◌≡◌, ◌≢◌, ℕ, zero, suc, ◌+◌, ◌-◌, ◌*◌, ◌/◌, ◌%◌, ◌^◌, ◌<◌, ◌≤◌, ◌⊎◌, inl, inr, List, ◌++◌, Bool, true, false, length, get_or, map, refl, sym, ap, subst, ◌∙◌, arith}
+use Rattle.std.specs.Prelude.{Contains, IsTrue, ◌↔◌, nat_eq}
+use Rattle.std.specs.List.{list_any, IsDistinct}
+use Rattle.std.proofs.lemmas.Nat.{mul-le, div-mul-add, mod-mul-add}
+use Rattle.std.proofs.lemmas.Bool.{eqb-true}
+use Rattle.std.proofs.lemmas.Bool.Decides.{Decides-eqb}
+use Rattle.std.proofs.lemmas.List.{length-append, length-map, get_or-map}
+use Rattle.std.proofs.lemmas.List.Elements.{Contains-get_or}
+use Rattle.std.proofs.lemmas.Map.Made.{IsDistinct-from_AllPairs}
+use Rattle.std.proofs.lemmas.Map.Steps.{length-le_from_distinct_below}
+use Rattle.std.proofs.lemmas.Map.Views.{Contains-from_any}
+use native.Mathlib.Decide.{ℕ_discrete}
+use Rattle.rbg_rules.specs.Expression.{AbstractAction, shift, on, off, assignment, comparison, switch, positive, negative}
+use Rattle.rbg_rules.specs.Games.{IsGame}
+use Rattle.rbg_rules.specs.Positions.{HasAction, IsModifierAt, IsNumbered, is_modifier, positions_of}
+use Rattle.rbg_rules.specs.State.{AbstractGame, AbstractState}
+use Rattle.rbg_rules.specs.Actions.{Acts, Applies}
+use Rattle.rbg_rules.specs.Words.{Start}
+use Rattle.rbg_rules.proofs.PositionLemmas.{one_stands}
+use Rattle.rbg_state.proofs.Trying.{same_value}
+use Rattle.rbg_flat.specs.Found.{IsFound, AreFound, HasCandidates, most_candidates}
+use Rattle.rbg_flat.specs.internal.Begun.{IsBegun}
+use Rattle.rbg_flat.specs.internal.Gathering.{Lists, at_position, Gathers, IsMetBelow, Keeps, IsGone, IsKept, Gathered}
+use Rattle.rbg_flat.specs.internal.Leading.{AreOn}
+use Rattle.rbg_flat.specs.internal.Sets.{SetsOfVertices, IsMarked, IsOpen, Forgets}
+use Rattle.rbg_flat.proofs.ChainLemmas.{candidate_of, met_of}
+use Rattle.rbg_flat.proofs.Lists.{lists_same, lists_join, lists_map}
+use Rattle.rbg_flat.proofs.Steps.{all_marked}
+use Rattle.rbg_flat.proofs.Takings.{bit_decided}
+
+false_not_true : false ≡ true → ⊥
+false_not_true e = cc
+
+-- A modifier that is valid at one vertex is so at each.
+module _ (game : AbstractGame) (numbered : IsNumbered game.rules) (s : AbstractState) (p v w : ℕ) (t : AbstractState) where
+  by_action : (a : AbstractAction) → HasAction game.rules p a → is_modifier a ≡ true → Acts game a (record s { vertex = v }) t → (u : AbstractState) × Applies game p (record s { vertex = w }) u
+  by_action (off x) stands modifies acts = (_, record { action = off x; stands = stands; acts = refl })
+  by_action (assignment x e) stands modifies (n, value, small, is) =
+      (_, record { action = assignment x e; stands = stands; acts = (n, same_value e s w ∙ sym (same_value e s v) ∙ value, small, refl) })
+  by_action (switch n) stands modifies acts = (_, record { action = switch n; stands = stands; acts = refl })
+  by_action (shift d) stands modifies acts = absurd (false_not_true modifies)
+  by_action (on xs) stands modifies acts = absurd (false_not_true modifies)
+  by_action (comparison e r f) stands modifies acts = absurd (false_not_true modifies)
+  by_action (positive x) stands modifies acts = absurd (false_not_true modifies)
+  by_action (negative x) stands modifies acts = absurd (false_not_true modifies)
+
+  pub everywhere : IsModifierAt game.rules p → Applies game p (record s { vertex = v }) t → (u : AbstractState) × Applies game p (record s { vertex = w }) u
+  everywhere modifies applies =
+      let same : modifies.action ≡ applies.action = one_stands game.rules numbered p modifies.action applies.action modifies.stands applies.stands in
+      by_action applies.action applies.stands (sym (ap is_modifier same) ∙ modifies.modifies) applies.acts
+
+-- the number of a pair among those of the positions from 1 on
+abbrev number : ℕ → ℕ × ℕ → ℕ
+number n q = q.1 * n + q.0 - n
+
+row_before : (n p : ℕ) → 0 < p → n ≤ p * n
+row_before n zero some = absurd (omega (arith, some))
+row_before n (suc p) some = grind arith
+
+one_pair : (n v w p q : ℕ) → v < n → w < n → p * n + v ≡ q * n + w → (v ≡ w) × (p ≡ q)
+one_pair n v w p q first second same = (
+  sym (mod-mul-add p n v first) ∙ ap (λ (x : ℕ). x % n) same ∙ mod-mul-add q n w second,
+  sym (div-mul-add p n v first) ∙ ap (λ (x : ℕ). x / n) same ∙ div-mul-add q n w second,
+)
+
+module _ (game : AbstractGame) (lawful : IsGame game) (s : AbstractState) (first : SetsOfVertices) (on_board : AreOn game first) where
+  abbrev vertices : ℕ
+  vertices = length game.board.first
+
+  -- No more pairs than positions and vertices.
+  module _ (now : SetsOfVertices) (pairs : List (ℕ × ℕ)) (lists : Lists (IsGone first now) pairs) where
+    at : (i : ℕ) (d : ℕ × ℕ) → i < length pairs → IsGone first now (get_or pairs i d)
+    at i d below = (lists.all (get_or pairs i d)).0 (Contains-get_or pairs i d below)
+
+    differ : (i j : ℕ) (e : ℕ) → i < j → j < length (map (number vertices) pairs) → get_or (map (number vertices) pairs) i e ≢ get_or (map (number vertices) pairs) j e
+    differ i j e before below same =
+        let long = length-map pairs (number vertices) in
+        let d : ℕ × ℕ = (0, 0) in
+        let at_j : j < length pairs = omega (arith, below, long) in
+        let at_i : i < length pairs = omega (arith, at_j, before) in
+        let q : ℕ × ℕ = get_or pairs i d in
+        let r : ℕ × ℕ = get_or pairs j d in
+        let one = (at i d at_i).marked in
+        let other = (at j d at_j).marked in
+        let is_q : get_or (map (number vertices) pairs) i e ≡ q.1 * vertices + q.0 - vertices = get_or-map (number vertices) pairs i d e at_i in
+        let is_r : get_or (map (number vertices) pairs) j e ≡ r.1 * vertices + r.0 - vertices = get_or-map (number vertices) pairs j d e at_j in
+        let least_q = row_before vertices q.1 (on_board.from_one q.0 q.1 one) in
+        let least_r = row_before vertices r.1 (on_board.from_one r.0 r.1 other) in
+        let sums : q.1 * vertices + q.0 ≡ r.1 * vertices + r.0 = omega (arith, same, is_q, is_r, least_q, least_r) in
+        let both = one_pair vertices q.0 r.0 q.1 r.1 (on_board.vertex q.0 q.1 one) (on_board.vertex r.0 r.1 other) sums in
+        lists.different i j d before at_j (λ k. (both.0 k, both.1 k))
+
+    below_all : (x : ℕ) → Contains (map (number vertices) pairs) x → x < most_candidates game
+    below_all x (i, below, is) =
+        let long = length-map pairs (number vertices) in
+        let d : ℕ × ℕ = (0, 0) in
+        let at_i : i < length pairs = omega (arith, below, long) in
+        let q : ℕ × ℕ = get_or pairs i d in
+        let one = (at i d at_i).marked in
+        let is_q : get_or (map (number vertices) pairs) i x ≡ q.1 * vertices + q.0 - vertices = get_or-map (number vertices) pairs i d x at_i in
+        let least_q = row_before vertices q.1 (on_board.from_one q.0 q.1 one) in
+        let under = on_board.vertex q.0 q.1 one in
+        let most : q.1 * vertices ≤ length (positions_of game.rules) * vertices = mul-le q.1 vertices (length (positions_of game.rules)) vertices (on_board.there q.0 q.1 one) (omega arith) in
+        omega (arith, is, is_q, least_q, under, most)
+
+    pub few_gone : length pairs ≤ most_candidates game
+    few_gone =
+        let distinct : IsDistinct nat_eq (map (number vertices) pairs) = IsDistinct-from_AllPairs Decides-eqb (map (number vertices) pairs) differ in
+        let all : (x : ℕ) → list_any (nat_eq x) (map (number vertices) pairs) ≡ true → x < most_candidates game = λ x any. below_all x (Contains-from_any eqb-true x (map (number vertices) pairs) any) in
+        let short = length-le_from_distinct_below (map (number vertices) pairs) (most_candidates game) distinct all in
+        omega (arith, short, length-map pairs (number vertices))
+
+  -- A position's row is gathered and forgotten.
+  module _
+      (now new : SetsOfVertices) (found found' : List (ℕ × ℕ)) (count many most p : ℕ) (keeps : Bool)
+      (so_far : Gathered game s first now found count)
+      (row : Gathers (IsMetBelow now p now.columns) found found' p keeps many most)
+      (forgets : Forgets now new p)
+      (told : 0 < p → IsTrue keeps ↔ Keeps game s p)
+    where
+      abbrev InRow : ℕ × ℕ → Type 0
+      InRow q = (q.1 ≡ p) × IsMarked now q.0 p
+
+      in_row : Lists InRow (at_position p row.vertices)
+      in_row = lists_map (λ (v : ℕ). (v, p)) (λ a b same. ap (λ (q : ℕ × ℕ). q.0) same) (IsMetBelow now p now.columns) InRow row.vertices row.lists
+          (λ q is. (q.0, record { marked = is.1; below = is.1.column }, λ i. (q.0, sym is.0 i)))
+          (λ v is. (refl, is.marked))
+
+      apart : (q : ℕ × ℕ) → IsGone first now q → InRow q → ⊥
+      apart q gone is = gone.forgotten (subst (λ (k : ℕ). IsMarked now q.0 k) (sym is.0) is.1)
+
+      cases : (q : ℕ × ℕ) → IsGone first new q → IsGone first now q ⊎ InRow q
+      cases q gone = elim (bit_decided now.columns now.marks q.0 q.1) [
+        | inr never ↦ inl (record { marked = gone.marked; forgotten = never })
+        | inl was ↦ elim (ℕ_discrete q.1 p) [
+          | yes same ↦ inr (same, subst (λ (k : ℕ). IsMarked now q.0 k) same was)
+          | no other ↦ absurd (gone.forgotten (forgets.still q.0 q.1 other was))
+        ]
+      ]
+
+      earlier : (q : ℕ × ℕ) → IsGone first now q → IsGone first new q
+      earlier q gone = record { marked = gone.marked; forgotten = λ is. gone.forgotten (forgets.only q.0 q.1 is) }
+
+      here : (q : ℕ × ℕ) → InRow q → IsGone first new q
+      here q is = record {
+        marked = so_far.under q.0 q.1 (subst (λ (k : ℕ). IsMarked now q.0 k) (sym is.0) is.1);
+        forgotten = λ still. forgets.gone q.0 (subst (λ (k : ℕ). IsMarked new q.0 k) is.0 still);
+      }
+
+      some_position : (q : ℕ × ℕ) → InRow q → 0 < p
+      some_position q is = on_board.from_one q.0 p (so_far.under q.0 p is.1)
+
+      with_row : keeps ≡ true → Lists (IsKept game s first new) found'
+      with_row keep =
+          subst (λ (xs : List (ℕ × ℕ)). Lists (IsKept game s first new) xs) (sym (row.kept keep))
+          (lists_join (IsKept game s first now) InRow (IsKept game s first new) found (at_position p row.vertices) so_far.kept in_row
+          (λ q kept is. apart q kept.gone is) kept_cases (λ q kept. record { gone = earlier q kept.gone; keeps = kept.keeps }) kept_here)
+        where
+          kept_case : (q : ℕ × ℕ) → IsKept game s first new q → IsGone first now q ⊎ InRow q → IsKept game s first now q ⊎ InRow q
+          kept_case q kept (inl gone) = inl (record { gone = gone; keeps = kept.keeps })
+          kept_case q kept (inr is) = inr is
+
+          kept_cases : (q : ℕ × ℕ) → IsKept game s first new q → IsKept game s first now q ⊎ InRow q
+          kept_cases q kept = kept_case q kept (cases q kept.gone)
+
+          kept_here : (q : ℕ × ℕ) → InRow q → IsKept game s first new q
+          kept_here q is = record { gone = here q is; keeps = subst (λ (k : ℕ). Keeps game s k) (sym is.0) ((told (some_position q is)).0 keep) }
+
+      without_row : keeps ≡ false → Lists (IsKept game s first new) found'
+      without_row leave =
+          subst (λ (xs : List (ℕ × ℕ)). Lists (IsKept game s first new) xs) (sym (row.left leave))
+          (lists_same (IsKept game s first now) (IsKept game s first new) found so_far.kept (λ q kept. record { gone = earlier q kept.gone; keeps = kept.keeps }) kept_before)
+        where
+          kept_case : (q : ℕ × ℕ) → IsKept game s first new q → IsGone first now q ⊎ InRow q → IsKept game s first now q
+          kept_case q kept (inl gone) = record { gone = gone; keeps = kept.keeps }
+          kept_case q kept (inr is) = absurd (false_not_true (sym leave ∙ (told (some_position q is)).1 (subst (λ (k : ℕ). Keeps game s k) is.0 kept.keeps)))
+
+          kept_before : (q : ℕ × ℕ) → IsKept game s first new q → IsKept game s first now q
+          kept_before q kept = kept_case q kept (cases q kept.gone)
+
+      kept_then : (b : Bool) → keeps ≡ b → Lists (IsKept game s first new) found'
+      kept_then true is = with_row is
+      kept_then false is = without_row is
+
+      pub gathered_more : Gathered game s first new found' (count + many)
+      gathered_more = record {
+        under = λ v r is. so_far.under v r (forgets.only v r is);
+        pairs = so_far.pairs ++ at_position p row.vertices;
+        lists = lists_join (IsGone first now) InRow (IsGone first new) so_far.pairs (at_position p row.vertices) so_far.lists in_row apart cases earlier here;
+        count_is =
+            let one = so_far.count_is in
+            let other = row.count in
+            let long = length-append so_far.pairs (at_position p row.vertices) in
+            let pair : ℕ → ℕ × ℕ = λ v. (v, p) in
+            let same : length (at_position p row.vertices) ≡ length row.vertices = length-map row.vertices pair in
+            omega (arith, one, other, long, same);
+        kept = kept_then keeps refl;
+      }
+
+  -- The sum is a number of 64 bits.
+  pub count_fits : (now : SetsOfVertices) (found : List (ℕ × ℕ)) (count many columns : ℕ) → Gathered game s first now found count → many ≤ 64 * columns → columns < 2 ^ 16 → count + many < 2 ^ 64
+  count_fits now found count many columns so_far few narrow =
+      let short = few_gone now so_far.pairs so_far.lists in
+      let is = so_far.count_is in
+      let most : most_candidates game ≤ 20000 * 4096 = mul-le (length (positions_of game.rules)) vertices 20000 4096 lawful.limits.positions lawful.limits.vertices in
+      omega (arith, short, is, most, few, narrow)
+
+  -- Where all is forgotten, what was met was gathered.
+  module _
+      (f : Start) (ends : Bool) (now : SetsOfVertices) (found : List (ℕ × ℕ)) (count : ℕ)
+      (is : IsBegun game s f (IsMarked first) (IsOpen first) ends)
+      (done : (v p : ℕ) → ¬ IsOpen first v p)
+      (none : (v p : ℕ) → ¬ IsMarked now v p)
+      (gathered : Gathered game s first now found count)
+    where
+      pub are_found : AreFound game s f found
+      are_found = record {
+        next = λ v p. (λ there. found_of v p ((gathered.kept.all (v, p)).0 there), λ here. (gathered.kept.all (v, p)).1 (kept_of v p here));
+        different = gathered.kept.different;
+      }
+        where
+          found_of : (v p : ℕ) → IsKept game s first now (v, p) → IsFound game s f v p
+          found_of v p kept = record {
+            later = (kept.keeps.valid v).0;
+            candidate = candidate_of game lawful.numbered s f v p (is.sound v p kept.gone.marked);
+            modifies = kept.keeps.modifies;
+            applies = (kept.keeps.valid v).1;
+          }
+
+          kept_of : (v p : ℕ) → IsFound game s f v p → IsKept game s first now (v, p)
+          kept_of v p here = record {
+            gone = record {
+              marked = all_marked game s f (IsMarked first) (IsOpen first) ends is done v p (met_of game lawful.numbered s f v p here.candidate);
+              forgotten = none v p;
+            };
+            keeps = record { modifies = here.modifies; valid = λ w. everywhere game lawful.numbered s p v w here.later here.modifies here.applies };
+          }
+
+      pub has_candidates : HasCandidates game s f count
+      has_candidates = record {
+        pairs = gathered.pairs;
+        all = λ v p. (
+          λ there. candidate_of game lawful.numbered s f v p (is.sound v p ((gathered.lists.all (v, p)).0 there).marked),
+          λ here. (gathered.lists.all (v, p)).1 (record {
+            marked = all_marked game s f (IsMarked first) (IsOpen first) ends is done v p (met_of game lawful.numbered s f v p here);
+            forgotten = none v p;
+          }),
+        );
+        different = gathered.lists.different;
+        count = sym gathered.count_is;
+      }
+
+  pub few_gathered : (now : SetsOfVertices) (found : List (ℕ × ℕ)) (count : ℕ) → Gathered game s first now found count → count ≤ most_candidates game
+  few_gathered now found count gathered =
+      let short = few_gone now gathered.pairs gathered.lists in
+      let same = gathered.count_is in
+      omega (arith, short, same)

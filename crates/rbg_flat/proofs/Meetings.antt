@@ -1,0 +1,151 @@
+-- Meetings, one after another.
+use Rattle.std.proofs.Common.{◌≡◌, ℕ, ◌+◌, ◌/◌, ◌%◌, ◌<◌, ◌≤◌, ◌⊎◌, inl, inr, List, [], Bool, true, length, get_or, take, refl, sym, ap, ◌∙◌, arith}
+use Rattle.std.specs.Int.{bit_at}
+use Rattle.std.proofs.lemmas.Bool.{cases_lt}
+use Rattle.std.proofs.lemmas.Nat.Bits.{bit_at-zero}
+use Rattle.std.proofs.lemmas.List.{get_or-take, get_or_past, length-take-le}
+use native.Mathlib.Decide.{ℕ_discrete}
+use Rattle.rbg_flat.specs.internal.Sets.{SetsOfVertices, IsMarked, IsOpen, IsInWord, IsInRow, MeetsWord, Meets, weight}
+
+-- Nothing is met.
+pub meets_none : (sets : SetsOfVertices) (In : (v p : ℕ) → Type 0) (Opens : ℕ → Type 0) → ((v p : ℕ) → ¬ In v p) → Meets sets sets In Opens
+meets_none sets In Opens none = record {
+  size = refl;
+  columns = refl;
+  kept = λ v p has. has;
+  met = λ v p there. absurd (none v p there);
+  only = λ v p has. inl has;
+  still = λ v p has. has;
+  no_other = λ v p has. inl has;
+  lighter = omega arith;
+}
+
+pub meets_word : (old new : SetsOfVertices) (q c word : ℕ) (opens : Bool) → MeetsWord old new q c word opens → Meets old new (IsInWord q c word) (λ _. opens ≡ true)
+meets_word old new q c word opens meets = record {
+  size = meets.size;
+  columns = meets.columns;
+  kept = meets.kept;
+  met = meets.met;
+  only = meets.only;
+  still = meets.still;
+  no_other = meets.no_other;
+  lighter = meets.lighter;
+}
+
+no_heavier : (a b c : ℕ) → a ≤ b → b ≤ c → a ≤ c
+no_heavier a b c one other = omega (arith, one, other)
+
+-- Both are met, one after the other.
+pub meets_both : (old middle new : SetsOfVertices) (In In' Both : (v p : ℕ) → Type 0) (Opens : ℕ → Type 0) → Meets old middle In Opens → Meets middle new In' Opens → ((v p : ℕ) → Both v p → In v p ⊎ In' v p) → ((v p : ℕ) → In v p → Both v p) → ((v p : ℕ) → In' v p → Both v p) → Meets old new Both Opens
+meets_both old middle new In In' Both Opens one other apart first second = record {
+  size = other.size ∙ one.size;
+  columns = other.columns ∙ one.columns;
+  kept = λ v p has. other.kept v p (one.kept v p has);
+  met = λ v p there. by_met v p (apart v p there);
+  only = λ v p has. by_only v p (other.only v p has);
+  still = λ v p has. other.still v p (one.still v p has);
+  no_other = λ v p has. by_other v p (other.no_other v p has);
+  lighter = no_heavier (weight new) (weight middle) (weight old) other.lighter one.lighter;
+}
+  where
+    by_met : (v p : ℕ) → In v p ⊎ In' v p → IsMarked new v p
+    by_met v p (inl there) = other.kept v p (one.met v p there)
+    by_met v p (inr there) = other.met v p there
+
+    by_one : (v p : ℕ) → IsMarked old v p ⊎ (In v p × (Opens p → IsOpen middle v p)) → IsMarked old v p ⊎ (Both v p × (Opens p → IsOpen new v p))
+    by_one v p (inl was) = inl was
+    by_one v p (inr (there, opens)) = inr (first v p there, λ is. other.still v p (opens is))
+
+    by_only : (v p : ℕ) → IsMarked middle v p ⊎ (In' v p × (Opens p → IsOpen new v p)) → IsMarked old v p ⊎ (Both v p × (Opens p → IsOpen new v p))
+    by_only v p (inl was) = by_one v p (one.only v p was)
+    by_only v p (inr (there, opens)) = inr (second v p there, opens)
+
+    by_first : (v p : ℕ) → IsOpen old v p ⊎ (In v p × Opens p × (¬ IsMarked old v p)) → IsOpen old v p ⊎ (Both v p × Opens p × (¬ IsMarked old v p))
+    by_first v p (inl was) = inl was
+    by_first v p (inr (there, opens, fresh)) = inr (first v p there, opens, fresh)
+
+    by_other : (v p : ℕ) → IsOpen middle v p ⊎ (In' v p × Opens p × (¬ IsMarked middle v p)) → IsOpen old v p ⊎ (Both v p × Opens p × (¬ IsMarked old v p))
+    by_other v p (inl was) = by_first v p (one.no_other v p was)
+    by_other v p (inr (there, opens, fresh)) = inr (second v p there, opens, λ was. fresh (one.kept v p was))
+
+-- The same pairs, said in another way.
+pub meets_same : (old new : SetsOfVertices) (In In' : (v p : ℕ) → Type 0) (Opens Opens' : ℕ → Type 0) → Meets old new In Opens → ((v p : ℕ) → In v p → In' v p) → ((v p : ℕ) → In' v p → In v p) → ((v p : ℕ) → In v p → Opens p → Opens' p) → ((v p : ℕ) → In v p → Opens' p → Opens p) → Meets old new In' Opens'
+meets_same old new In In' Opens Opens' meets to of opens_to opens_of = record {
+  size = meets.size;
+  columns = meets.columns;
+  kept = meets.kept;
+  met = λ v p there. meets.met v p (of v p there);
+  only = λ v p has. by_only v p (meets.only v p has);
+  still = meets.still;
+  no_other = λ v p has. by_other v p (meets.no_other v p has);
+  lighter = meets.lighter;
+}
+  where
+    by_only : (v p : ℕ) → IsMarked old v p ⊎ (In v p × (Opens p → IsOpen new v p)) → IsMarked old v p ⊎ (In' v p × (Opens' p → IsOpen new v p))
+    by_only v p (inl was) = inl was
+    by_only v p (inr (there, opens)) = inr (to v p there, λ is. opens (opens_of v p there is))
+
+    by_other : (v p : ℕ) → IsOpen old v p ⊎ (In v p × Opens p × (¬ IsMarked old v p)) → IsOpen old v p ⊎ (In' v p × Opens' p × (¬ IsMarked old v p))
+    by_other v p (inl was) = inl was
+    by_other v p (inr (there, opens, fresh)) = inr (to v p there, opens_to v p there opens, fresh)
+
+-- A row up to a column, and one column more.
+no_bit : {n : ℕ} → n ≡ 0 → n ≡ 1 → ⊥
+no_bit clear set = omega (arith, clear, set)
+
+pub empty_row : (q v p : ℕ) → ¬ IsInRow q [] v p
+empty_row q v p there = no_bit (bit_at-zero (v % 64)) there.set
+
+module _ (q : ℕ) (row : List ℕ) (many : ℕ) (within : many < length row) where
+  word_at : (i : ℕ) → i < many + 1 → get_or (take (many + 1) row) i 0 ≡ get_or row i 0
+  word_at i below = get_or-take (many + 1) row i 0 below
+
+  beyond : (k i v : ℕ) → k ≤ length row → k ≤ i → bit_at (get_or (take k row) i 0) (v % 64) ≡ 1 → ⊥
+  beyond k i v small far set =
+      let long = length-take-le k row small in
+      let none : get_or (take k row) i 0 ≡ 0 = get_or_past (take k row) i 0 (omega (arith, long, far)) in
+      no_bit (ap (λ (n : ℕ). bit_at n (v % 64)) none ∙ bit_at-zero (v % 64)) set
+
+  pub row_apart : (v p : ℕ) → IsInRow q (take (many + 1) row) v p → IsInRow q (take many row) v p ⊎ IsInWord q many (get_or row many 0) v p
+  row_apart v p there = elim (cases_lt (v / 64) many) [
+    | inl below ↦ inl (record {
+      position = there.position;
+      set = ap (λ (n : ℕ). bit_at n (v % 64)) (get_or-take many row (v / 64) 0 below ∙ sym (word_at (v / 64) (omega (arith, below)))) ∙ there.set;
+    })
+    | inr far ↦ elim (ℕ_discrete (v / 64) many) [
+      | yes same ↦ inr (record {
+        position = there.position;
+        column = same;
+        set = sym (ap (λ (n : ℕ). bit_at n (v % 64)) (word_at (v / 64) (omega (arith, same)) ∙ ap (λ (k : ℕ). get_or row k 0) same)) ∙ there.set;
+      })
+      | no other ↦ absurd (beyond (many + 1) (v / 64) v (omega (arith, within)) (past (v / 64) far other) there.set)
+    ]
+  ]
+    where
+      past : (i : ℕ) → many ≤ i → ¬ (i ≡ many) → many + 1 ≤ i
+      past i far other = elim (cases_lt i (many + 1)) [
+        | inl below ↦ absurd (other (omega (arith, far, below)))
+        | inr far ↦ far
+      ]
+
+  pub row_first : (v p : ℕ) → IsInRow q (take many row) v p → IsInRow q (take (many + 1) row) v p
+  row_first v p there = elim (cases_lt (v / 64) many) [
+    | inl below ↦ record {
+      position = there.position;
+      set = sym (ap (λ (n : ℕ). bit_at n (v % 64)) (get_or-take many row (v / 64) 0 below ∙ sym (word_at (v / 64) (omega (arith, below))))) ∙ there.set;
+    }
+    | inr far ↦ absurd (beyond many (v / 64) v (omega (arith, within)) far there.set)
+  ]
+
+  pub row_second : (v p : ℕ) → IsInWord q many (get_or row many 0) v p → IsInRow q (take (many + 1) row) v p
+  row_second v p there = record {
+    position = there.position;
+    set = ap (λ (n : ℕ). bit_at n (v % 64)) (word_at (v / 64) (omega (arith, there.column)) ∙ ap (λ (k : ℕ). get_or row k 0) there.column) ∙ there.set;
+  }
+
+-- One word more of a row is met.
+pub meets_more : (old middle new : SetsOfVertices) (q : ℕ) (row : List ℕ) (many : ℕ) (opens : Bool) → many < length row → Meets old middle (IsInRow q (take many row)) (λ _. opens ≡ true) → MeetsWord middle new q many (get_or row many 0) opens → Meets old new (IsInRow q (take (many + 1) row)) (λ _. opens ≡ true)
+meets_more old middle new q row many opens within so_far word =
+    meets_both old middle new (IsInRow q (take many row)) (IsInWord q many (get_or row many 0)) (IsInRow q (take (many + 1) row)) (λ _. opens ≡ true)
+    so_far (meets_word middle new q many (get_or row many 0) opens word)
+    (row_apart q row many within) (row_first q row many within) (row_second q row many within)

@@ -1,0 +1,222 @@
+-- Where no shift comes next, leaps stay where they begin.
+use Rattle.std.proofs.Common.{◌≡◌, ℕ, zero, suc, ◌||◌, ◌+◌, ◌/◌, ◌%◌, ◌<◌, ◌≤◌, ◌⊎◌, inl, inr, List, [], ◌∷◌, ◌++◌, Bool, true, false, length, get_or, take, refl, sym, ap, subst, ◌∙◌, arith}
+use Rattle.std.specs.Prelude.{Contains, All, IsTrue, ◌↔◌}
+use Rattle.std.specs.Int.{bit_at}
+use Rattle.std.proofs.lemmas.List.{take_more}
+use Rattle.std.proofs.lemmas.List.Elements.{Contains-push, Contains-push_cases, Contains-append_left, Contains-get_or, All-contains}
+use Rattle.rbg_rules.specs.Expression.{AbstractAction, shift, on, off, assignment, comparison, switch, positive, negative, Expression}
+use Rattle.rbg_rules.specs.Games.{IsGame}
+use Rattle.rbg_rules.specs.Positions.{IsNumbered, HasAction, IsModifierAt, positions_of}
+use Rattle.rbg_rules.specs.State.{AbstractGame}
+use Rattle.rbg_rules.specs.Table.{Stands}
+use Rattle.rbg_rules.specs.Words.{after, Follows, Ends}
+use Rattle.rbg_rules.specs.declared.rule.Action.{Action}
+use Rattle.rbg_rules.specs.declared.rule.Action.TheVariants.{Shift, On, Off, Assign, Compare, Switch, Positive, Negative}
+use Rattle.rbg_rules.proofs.LocalityLemmas.{locality_law}
+use Rattle.rbg_rules.proofs.PositionLemmas.{one_stands}
+use Rattle.rbg_auto.specs.Steps.{AreNext}
+use Rattle.rbg_leaps.specs.declared.asking.Leaps.{Leaps}
+use Rattle.rbg_leaps.specs.declared.table.Target.{Target}
+use Rattle.rbg_leaps.specs.Asked.{AreTargetsFrom}
+use Rattle.rbg_leaps.specs.Leaps.{IsShiftAt, IsLeap, EndsAcross, Leads, stay, go}
+use Rattle.rbg_flat.specs.Paths.{IsStill}
+use Rattle.rbg_flat.specs.internal.Leading.{IsAmongBits, IsOnBoard, IsPositionIn, LeadsFrom, EndsFrom, LearnsEnd, AreOn}
+use Rattle.rbg_flat.specs.internal.Sets.{SetsOfVertices, IsInWord, IsMarked, IsOpen, Meets}
+use Rattle.rbg_flat.specs.internal.Shown.{shows_shift}
+use Rattle.rbg_flat.proofs.Leaping.{within, leap_among}
+use Rattle.rbg_flat.proofs.Meetings.{meets_both, meets_same}
+
+true_not_false : true ≡ false → ⊥
+true_not_false e = cc
+
+abbrev is_shift : AbstractAction → Bool
+is_shift (shift d) = true
+is_shift (on xs) = false
+is_shift (off x) = false
+is_shift (assignment v e) = false
+is_shift (comparison e r f) = false
+is_shift (switch n) = false
+is_shift (positive x) = false
+is_shift (negative x) = false
+
+other_stands : (rules : Expression) → IsNumbered rules → (p : ℕ) (a : AbstractAction) → HasAction rules p a → is_shift a ≡ false → IsTrue false ↔ IsShiftAt rules p
+other_stands rules numbered p a stands plain = (
+  (λ e. absurd (true_not_false (sym e))),
+  (λ other. absurd (true_not_false (ap is_shift (one_stands rules numbered p (shift other.direction) a other.stands stands) ∙ plain))),
+)
+
+-- A shift stands at a position exactly where the program's action there is one.
+pub stands_shift : (rules : Expression) → IsNumbered rules → (p : ℕ) (i : Action) → Stands rules p i → IsTrue (shows_shift i) ↔ IsShiftAt rules p
+stands_shift rules numbered p (Shift d) stands = ((λ _. record { direction = d; stands = stands }), (λ _. refl))
+stands_shift rules numbered p (On pieces) stands = other_stands rules numbered p _ stands refl
+stands_shift rules numbered p (Off x) stands = other_stands rules numbered p (off x) stands refl
+stands_shift rules numbered p (Assign v e) stands = other_stands rules numbered p _ stands refl
+stands_shift rules numbered p (Compare e r f) stands = other_stands rules numbered p _ stands refl
+stands_shift rules numbered p (Switch n) stands = other_stands rules numbered p (switch n) stands refl
+stands_shift rules numbered p Positive (x, stands) = other_stands rules numbered p (positive x) stands refl
+stands_shift rules numbered p Negative (x, stands) = other_stands rules numbered p (negative x) stands refl
+
+-- What comes next are positions of the game.
+pub next_within : (game : AbstractGame) → IsNumbered game.rules → (p : ℕ) (positions : List ℕ) → AreNext game.rules p positions → All (IsPositionIn game) positions
+next_within game numbered p positions next i d below =
+    let range = within game numbered (after p) [] (get_or positions i d) ((next.exact (get_or positions i d)).0 (Contains-get_or positions i d below)) in
+    record { from_one = range.0; there = range.1 }
+
+-- Where none of them is a shift, no shift comes next.
+pub still_by : (game : AbstractGame) (p : ℕ) (positions : List ℕ) → AreNext game.rules p positions → All (λ q. ¬ IsShiftAt game.rules q) positions → IsStill game.rules p
+still_by game p positions next none = record { no_shift = λ q follows. All-contains (λ (k : ℕ). ¬ IsShiftAt game.rules k) positions q none ((next.exact q).1 follows) }
+
+module _ (game : AbstractGame) (numbered : IsNumbered game.rules) (q : ℕ) (still : IsStill game.rules q) where
+  stays : {v u : ℕ} → Leads game v [] u → u ≡ v
+  stays stay = refl
+
+  by_shifts : (v j u : ℕ) (m : List ℕ) → Leads game v m u → Follows game.rules (after q) (m ++ j ∷ []) → (u ≡ v) × Follows game.rules (after q) (j ∷ [])
+  by_shifts v j u [] leads follows = (stays leads, follows)
+  by_shifts v j u (x ∷ m) (go d stands edge more) follows =
+      absurd (still.no_shift x ((locality_law game.rules numbered (after q) [] x (m ++ j ∷ [])).0.0 follows).0 (record { direction = d; stands = stands }))
+
+  pub leap_stays : (v j u : ℕ) → IsLeap game (after q) v j u → (u ≡ v) × ((w : ℕ) → IsLeap game (after q) w j w)
+  leap_stays v j u leap =
+      let is = by_shifts v j u leap.shifts leap.leads leap.follows in
+      (is.0, λ w. record { shifts = []; leads = stay; follows = is.1; plain = leap.plain })
+
+  by_end : (v to : ℕ) (m : List ℕ) → Leads game v m to → Ends game.rules (after q) m → Ends game.rules (after q) []
+  by_end v to [] leads ends = ends
+  by_end v to (x ∷ m) (go d stands edge more) ends =
+      absurd (still.no_shift x ((locality_law game.rules numbered (after q) [] x m).1.0 ends).0 (record { direction = d; stands = stands }))
+
+  pub end_stays : (v w : ℕ) → EndsAcross game (after q) v → EndsAcross game (after q) w
+  end_stays v w end = record { shifts = []; to = w; leads = stay; ends = by_end v end.to end.shifts end.leads end.ends }
+
+  -- What is met at once is what leaps from each vertex of the word lead to.
+  module _ (c word vertex : ℕ) (there : IsInWord q c word vertex q) (leaps : Leaps) (targets : List Target) (are : AreTargetsFrom game (after q) vertex leaps targets) where
+    to_leads : (u p : ℕ) → IsAmongBits targets c word u p → LeadsFrom game q c word u p
+    to_leads u p among =
+        let some = All-contains (λ (x : Target). (v : ℕ) × IsLeap game (after q) vertex x.position v) targets among.target are.are.some among.listed in
+        record {
+          vertex = u;
+          there = record { position = refl; column = among.there.column; set = among.there.set };
+          leap = subst (λ (k : ℕ). IsLeap game (after q) u k u) (sym among.there.position) ((leap_stays vertex among.target.position some.0 some.1).1 u);
+        }
+
+    of_leads : (u p : ℕ) → LeadsFrom game q c word u p → IsAmongBits targets c word u p
+    of_leads u p leads =
+        let is = leap_stays leads.vertex p u leads.leap in
+        let among = leap_among game numbered (after q) vertex leaps targets are vertex p (is.1 vertex) in
+        record {
+          target = among.target;
+          listed = among.listed;
+          there = record {
+            position = among.row.position;
+            column = ap (λ (k : ℕ). k / 64) is.0 ∙ leads.there.column;
+            set = subst (λ (k : ℕ). bit_at word (k % 64) ≡ 1) (sym is.0) leads.there.set;
+          };
+        }
+
+    pub meets_still : (old new : SetsOfVertices) → Meets old new (IsAmongBits targets c word) (λ p. ¬ IsModifierAt game.rules p) → Meets old new (LeadsFrom game q c word) (λ p. ¬ IsModifierAt game.rules p)
+    meets_still old new meets = meets_same old new (IsAmongBits targets c word) (LeadsFrom game q c word) (λ p. ¬ IsModifierAt game.rules p) (λ p. ¬ IsModifierAt game.rules p) meets to_leads of_leads (λ u p _ is. is) (λ u p _ is. is)
+
+    pub targets_in : All (λ t. IsPositionIn game t.position) targets
+    targets_in i d below =
+        let t : Target = get_or targets i d in
+        let some = All-contains (λ (x : Target). (u : ℕ) × IsLeap game (after q) vertex x.position u) targets t are.are.some (Contains-get_or targets i d below) in
+        let range = within game numbered (after q) some.1.shifts t.position some.1.follows in
+        record { from_one = range.0; there = range.1 }
+
+  -- What is learned at one vertex is so at each of the word.
+  pub ends_still : (c word vertex : ℕ) → IsInWord q c word vertex q → (old new : Bool) → LearnsEnd old new (EndsAcross game (after q) vertex) → LearnsEnd old new (EndsFrom game q c word)
+  ends_still c word vertex there old new learns = record {
+    kept = learns.kept;
+    all = λ end. learns.all (end_stays end.vertex vertex end.ends);
+    only = λ is. by_case (learns.only is);
+  }
+    where
+      by_case : (old ≡ true) ⊎ EndsAcross game (after q) vertex → (old ≡ true) ⊎ EndsFrom game q c word
+      by_case (inl was) = inl was
+      by_case (inr end) = inr (record { vertex = vertex; there = there; ends = end })
+
+-- What is met so is on the board.
+pub still_on_board : (game : AbstractGame) → IsGame game → (q c word : ℕ) → IsStill game.rules q → IsOnBoard game c word → (old new : SetsOfVertices) → Meets old new (LeadsFrom game q c word) (λ p. ¬ IsModifierAt game.rules p) → AreOn game old → AreOn game new
+still_on_board game lawful q c word still board old new meets on_old = record {
+  vertex = λ v p has. vertex_of v p (meets.only v p has);
+  from_one = λ v p has. first_of v p (meets.only v p has);
+  there = λ v p has. last_of v p (meets.only v p has);
+}
+  where
+    Or : (v p : ℕ) → Type 0
+    Or v p = IsMarked old v p ⊎ (LeadsFrom game q c word v p × (¬ IsModifierAt game.rules p → IsOpen new v p))
+
+    vertex_of : (v p : ℕ) → IsMarked old v p ⊎ (LeadsFrom game q c word v p × (¬ IsModifierAt game.rules p → IsOpen new v p)) → v < length game.board.first
+    vertex_of v p (inl was) = on_old.vertex v p was
+    vertex_of v p (inr (leads, _)) =
+        let is = leap_stays game lawful.numbered q still leads.vertex p v leads.leap in
+        let below = board (leads.vertex % 64) leads.there.set in
+        let column = leads.there.column in
+        let same = is.0 in
+        omega (arith, below, column, same)
+
+    first_of : (v p : ℕ) → IsMarked old v p ⊎ (LeadsFrom game q c word v p × (¬ IsModifierAt game.rules p → IsOpen new v p)) → 0 < p
+    first_of v p (inl was) = on_old.from_one v p was
+    first_of v p (inr (leads, _)) = (within game lawful.numbered (after q) leads.leap.shifts p leads.leap.follows).0
+
+    last_of : (v p : ℕ) → IsMarked old v p ⊎ (LeadsFrom game q c word v p × (¬ IsModifierAt game.rules p → IsOpen new v p)) → p ≤ length (positions_of game.rules)
+    last_of v p (inl was) = on_old.there v p was
+    last_of v p (inr (leads, _)) = (within game lawful.numbered (after q) leads.leap.shifts p leads.leap.follows).1
+
+-- One target more.
+module _ (targets : List Target) (i : ℕ) (d : Target) (below : i < length targets) (c word : ℕ) where
+  abbrev t : Target
+  t = get_or targets i d
+
+  one_more : take (i + 1) targets ≡ take i targets ++ t ∷ []
+  one_more = take_more targets i d below
+
+  bits_apart : (v p : ℕ) → IsAmongBits (take (i + 1) targets) c word v p → IsAmongBits (take i targets) c word v p ⊎ IsInWord t.position c word v p
+  bits_apart v p among = by_case (Contains-push_cases (take i targets) t among.target (subst (λ (ts : List Target). Contains ts among.target) one_more among.listed))
+    where
+      by_case : Contains (take i targets) among.target ⊎ (t ≡ among.target) → IsAmongBits (take i targets) c word v p ⊎ IsInWord t.position c word v p
+      by_case (inl before) = inl (record { target = among.target; listed = before; there = among.there })
+      by_case (inr same) = inr (subst (λ (x : Target). IsInWord x.position c word v p) (sym same) among.there)
+
+  bits_first : (v p : ℕ) → IsAmongBits (take i targets) c word v p → IsAmongBits (take (i + 1) targets) c word v p
+  bits_first v p among = record {
+    target = among.target;
+    listed = subst (λ (ts : List Target). Contains ts among.target) (sym one_more) (Contains-append_left (take i targets) (t ∷ []) among.target among.listed);
+    there = among.there;
+  }
+
+  bits_second : (v p : ℕ) → IsInWord t.position c word v p → IsAmongBits (take (i + 1) targets) c word v p
+  bits_second v p bits = record { target = t; listed = subst (λ (ts : List Target). Contains ts t) (sym one_more) (Contains-push (take i targets) t); there = bits }
+
+  pub meets_bits_more : (old middle new : SetsOfVertices) (Opens : ℕ → Type 0) → Meets old middle (IsAmongBits (take i targets) c word) Opens → Meets middle new (IsInWord t.position c word) Opens → Meets old new (IsAmongBits (take (i + 1) targets) c word) Opens
+  meets_bits_more old middle new Opens so_far bits =
+      meets_both old middle new (IsAmongBits (take i targets) c word) (IsInWord t.position c word) (IsAmongBits (take (i + 1) targets) c word) Opens so_far bits bits_apart bits_first bits_second
+
+pub none_among_bits : (c word v p : ℕ) → ¬ IsAmongBits [] c word v p
+none_among_bits c word v p among = no_index among.listed.0 among.listed.1
+  where
+    no_index : (k : ℕ) → k < 0 → ⊥
+    no_index k h = omega (arith, h)
+
+get_push : (xs : List Bool) (b : Bool) (p : ℕ) → get_or (xs ++ b ∷ []) p false ≡ true → (get_or xs p false ≡ true) ⊎ ((p ≡ length xs) × (b ≡ true))
+get_push [] b zero e = inr (refl, e)
+get_push [] b (suc p) e = inl e
+get_push (x ∷ xs) b zero e = inl e
+get_push (x ∷ xs) b (suc p) e = by_case (get_push xs b p e)
+  where
+    by_case : (get_or xs p false ≡ true) ⊎ ((p ≡ length xs) × (b ≡ true)) → (get_or (x ∷ xs) (suc p) false ≡ true) ⊎ ((suc p ≡ length (x ∷ xs)) × (b ≡ true))
+    by_case (inl there) = inl there
+    by_case (inr (same, told)) = inr (omega (arith, same), told)
+
+-- One position more is told of.
+pub told_more : (game : AbstractGame) (xs ys : List Bool) (b : Bool) (last : ℕ) → ys ≡ xs ++ b ∷ [] → length xs ≡ last → ((p : ℕ) → get_or xs p false ≡ true → IsStill game.rules p) → (b ≡ true → IsStill game.rules last) → (p : ℕ) → get_or ys p false ≡ true → IsStill game.rules p
+told_more game xs ys b last grown size so_far here p is = by_case (get_push xs b p (subst (λ (zs : List Bool). get_or zs p false ≡ true) grown is))
+  where
+    by_case : (get_or xs p false ≡ true) ⊎ ((p ≡ length xs) × (b ≡ true)) → IsStill game.rules p
+    by_case (inl there) = so_far p there
+    by_case (inr (same, told)) = subst (λ (k : ℕ). IsStill game.rules k) (sym (same ∙ size)) (here told)
+
+-- Whether a word may end was told of one thing more.
+pub learns_or : (old told : Bool) (Ends : Type 0) → IsTrue told ↔ Ends → LearnsEnd old (old || told) Ends
+learns_or true told Ends is = record { kept = λ _. refl; all = λ _. refl; only = λ _. inl refl }
+learns_or false told Ends is = record { kept = λ e. absurd (true_not_false (sym e)); all = is.1; only = λ e. inr (is.0 e) }

@@ -1,0 +1,113 @@
+-- A word of vertices is taken from what is open, and led on from where the action holds.
+use Rattle.std.proofs.Common.{◌≡◌, ℕ, ◌+◌, ◌*◌, ◌%◌, ◌<◌, ◌⊎◌, inl, inr, List, Bool, true, refl, sym, subst, arith}
+use Rattle.std.specs.Prelude.{◌↔◌}
+use Rattle.std.specs.Int.{bit_at}
+use Rattle.rbg_rules.specs.Positions.{IsModifierAt, IsNumbered}
+use Rattle.rbg_rules.specs.State.{AbstractGame, AbstractState}
+use Rattle.rbg_rules.specs.Actions.{Applies}
+use Rattle.rbg_rules.specs.Words.{Start, after}
+use Rattle.rbg_leaps.specs.Leaps.{IsLeap, EndsAcross}
+use Rattle.rbg_flat.specs.Chains.{Holds, IsMet, then, EndsMet}
+use Rattle.rbg_flat.specs.internal.Begun.{IsBegun}
+use Rattle.rbg_flat.specs.internal.Leading.{LearnsEnd, LeadsFrom, EndsFrom, AreOn, IsOnBoard}
+use Rattle.rbg_flat.specs.internal.Passing.{Passes}
+use Rattle.rbg_flat.specs.internal.Sets.{SetsOfVertices, IsMarked, IsOpen, IsInWord, Meets, ClosesWord, HasBitAt}
+use Rattle.rbg_flat.proofs.Takings.{bit_decided, tried_holds}
+
+-- What is marked stays so where bits are closed.
+pub marked_then : (old new : SetsOfVertices) (q c word v p : ℕ) → ClosesWord old new q c word → IsMarked old v p → IsMarked new v p
+marked_then old new q c word v p closing has = subst (λ (marks : List ℕ). HasBitAt new.columns marks v p) (sym closing.marks) (subst (λ (k : ℕ). HasBitAt k old.marks v p) (sym closing.columns) has)
+
+pub marked_before : (old new : SetsOfVertices) (q c word v p : ℕ) → ClosesWord old new q c word → IsMarked new v p → IsMarked old v p
+marked_before old new q c word v p closing has = subst (λ (marks : List ℕ). HasBitAt old.columns marks v p) closing.marks (subst (λ (k : ℕ). HasBitAt k new.marks v p) closing.columns has)
+
+-- A vertex of a word is the place of a bit.
+pub by_bits : (q c word v p : ℕ) → IsInWord q c word v p → c * 64 + v % 64 ≡ v
+by_bits q c word v p there = let column = there.column in omega (arith, column)
+
+pub marked_bits : (sets : SetsOfVertices) (q c word : ℕ) → ((b : ℕ) → bit_at word b ≡ 1 → (b < 64) × IsMarked sets (c * 64 + b) q) → (v : ℕ) → IsInWord q c word v q → IsMarked sets v q
+marked_bits sets q c word marked v there = subst (λ (u : ℕ). IsMarked sets u q) (by_bits q c word v q there) (marked (v % 64) there.set).1
+
+pub board_bits : (game : AbstractGame) (sets : SetsOfVertices) (q c word : ℕ) → AreOn game sets → ((b : ℕ) → bit_at word b ≡ 1 → (b < 64) × IsMarked sets (c * 64 + b) q) → IsOnBoard game c word
+board_bits game sets q c word on marked = λ b set. on.vertex (c * 64 + b) q (marked b set).1
+
+module _
+    (game : AbstractGame) (numbered : IsNumbered game.rules) (s : AbstractState) (f : Start)
+    (old middle new : SetsOfVertices) (ends more : Bool) (q c word held : ℕ)
+    (closing : ClosesWord old middle q c word)
+    (marked : (b : ℕ) → bit_at word b ≡ 1 → (b < 64) × IsMarked old (c * 64 + b) q)
+    (meets : Meets middle new (LeadsFrom game q c held) (λ p. ¬ IsModifierAt game.rules p))
+    (learns : LearnsEnd ends more (EndsFrom game q c held))
+    (within : (b : ℕ) → bit_at held b ≡ 1 → bit_at word b ≡ 1)
+    (told : (b : ℕ) → b < 64 → bit_at word b ≡ 1 → (bit_at held b ≡ 1) ↔ Passes game s (c * 64 + b) q)
+    (is : IsBegun game s f (IsMarked old) (IsOpen old) ends)
+  where
+    in_word : (v : ℕ) → IsInWord q c held v q → IsInWord q c word v q
+    in_word v there = record { position = there.position; column = there.column; set = within (v % 64) there.set }
+
+    met_there : (v : ℕ) → IsInWord q c held v q → IsMet game s f v q
+    met_there v there = is.sound v q (marked_bits old q c word marked v (in_word v there))
+
+    holds_there : (v : ℕ) → IsInWord q c held v q → Holds game s v q
+    holds_there v there =
+        let passes = subst (λ (u : ℕ). Passes game s u q) (by_bits q c held v q there) ((told (v % 64) (omega arith) (within (v % 64) there.set)).0 there.set) in
+        tried_holds game numbered s f v q passes.to (met_there v there) passes.quiet passes.applies
+
+    met_leap : (u p : ℕ) → LeadsFrom game q c held u p → IsMet game s f u p
+    met_leap u p leads = then (met_there leads.vertex leads.there) (holds_there leads.vertex leads.there) leads.leap
+
+    -- What holds in the word is led on from.
+    held_there : (v r : ℕ) → IsInWord q c word v r → Holds game s v r → IsInWord q c held v q × (r ≡ q)
+    held_there v r there holds =
+        let same = there.position in
+        let at = by_bits q c word v r there in
+        let passes : Passes game s (c * 64 + v % 64) q = record {
+          to = c * 64 + v % 64;
+          quiet = subst (λ (k : ℕ). ¬ IsModifierAt game.rules k) same holds.quiet;
+          applies = subst (λ (u : ℕ). Applies game q (record s { vertex = u }) (record s { vertex = u })) (sym at) (subst (λ (k : ℕ). Applies game k (record s { vertex = v }) (record s { vertex = v })) same holds.applies);
+        } in
+        (record { position = refl; column = there.column; set = (told (v % 64) (omega arith) there.set).1 passes }, same)
+
+    by_old : (v r : ℕ) → ¬ IsOpen new v r → Holds game s v r → IsMarked middle v r → (IsMarked old v r × (¬ IsOpen old v r)) ⊎ (IsInWord q c held v q × (r ≡ q))
+    by_old v r closed holds was = elim (bit_decided old.columns old.pending v r) [
+      | inr not_open ↦ inl (marked_before old middle q c word v r closing was, not_open)
+      | inl open_then ↦ inr (by_case (closing.still v r open_then))
+    ]
+      where
+        by_case : IsOpen middle v r ⊎ IsInWord q c word v r → IsInWord q c held v q × (r ≡ q)
+        by_case (inl still) = absurd (closed (meets.still v r still))
+        by_case (inr there) = held_there v r there holds
+
+    pub word_done : IsBegun game s f (IsMarked new) (IsOpen new) more
+    word_done = record {
+      sound = λ v p has. sound v p (meets.only v p has);
+      begun = λ v p leap. meets.kept v p (marked_then old middle q c word v p closing (is.begun v p leap));
+      closed = λ v r u p has closed holds leap. leaps v r u p closed holds leap (meets.only v r has);
+      sound_end = λ told_end. sound_end (learns.only told_end);
+      begun_end = λ end. learns.kept (is.begun_end end);
+      closed_end = λ v r has closed holds end. ends_there v r closed holds end (meets.only v r has);
+    }
+      where
+        sound : (v p : ℕ) → IsMarked middle v p ⊎ (LeadsFrom game q c held v p × (¬ IsModifierAt game.rules p → IsOpen new v p)) → IsMet game s f v p
+        sound v p (inl was) = is.sound v p (marked_before old middle q c word v p closing was)
+        sound v p (inr (leads, _)) = met_leap v p leads
+
+        by_leaps : (v r u p : ℕ) → Holds game s v r → IsLeap game (after r) v p u → (IsMarked old v r × (¬ IsOpen old v r)) ⊎ (IsInWord q c held v q × (r ≡ q)) → IsMarked new u p
+        by_leaps v r u p holds leap (inl (was, not_open)) = meets.kept u p (marked_then old middle q c word u p closing (is.closed v r u p was not_open holds leap))
+        by_leaps v r u p holds leap (inr (there, same)) = meets.met u p (record { vertex = v; there = there; leap = subst (λ (k : ℕ). IsLeap game (after k) v p u) same leap })
+
+        leaps : (v r u p : ℕ) → ¬ IsOpen new v r → Holds game s v r → IsLeap game (after r) v p u → IsMarked middle v r ⊎ (LeadsFrom game q c held v r × (¬ IsModifierAt game.rules r → IsOpen new v r)) → IsMarked new u p
+        leaps v r u p closed holds leap (inl was) = by_leaps v r u p holds leap (by_old v r closed holds was)
+        leaps v r u p closed holds leap (inr (_, opens)) = absurd (closed (opens holds.quiet))
+
+        sound_end : (ends ≡ true) ⊎ EndsFrom game q c held → EndsMet game s f
+        sound_end (inl was) = is.sound_end was
+        sound_end (inr end) = inr (record { vertex = end.vertex; position = q; met = met_there end.vertex end.there; holds = holds_there end.vertex end.there; ends = end.ends })
+
+        by_ends : (v r : ℕ) → Holds game s v r → EndsAcross game (after r) v → (IsMarked old v r × (¬ IsOpen old v r)) ⊎ (IsInWord q c held v q × (r ≡ q)) → more ≡ true
+        by_ends v r holds end (inl (was, not_open)) = learns.kept (is.closed_end v r was not_open holds end)
+        by_ends v r holds end (inr (there, same)) = learns.all (record { vertex = v; there = there; ends = subst (λ (k : ℕ). EndsAcross game (after k) v) same end })
+
+        ends_there : (v r : ℕ) → ¬ IsOpen new v r → Holds game s v r → EndsAcross game (after r) v → IsMarked middle v r ⊎ (LeadsFrom game q c held v r × (¬ IsModifierAt game.rules r → IsOpen new v r)) → more ≡ true
+        ends_there v r closed holds end (inl was) = by_ends v r holds end (by_old v r closed holds was)
+        ends_there v r closed holds end (inr (_, opens)) = absurd (closed (opens holds.quiet))

@@ -1,0 +1,15 @@
+-- What is forgotten was gathered.
+use Rattle.std.proofs.Common.{◌≡◌, length}
+use Rattle.rbg_flat.specs.internal.Gathering.{Gathered}
+use Rattle.rbg_flat.specs.internal.Leading.{AreSizedFor}
+use Rattle.rbg_flat.proofs.flat.Flat.finish.Given as goal
+
+abbrev pub invariant-loop-position : goal.invariant-loop-position
+invariant-loop-position l = record {
+  sized : AreSizedFor l.game l.self.sets;
+  ends : l.self.ends ≡ l.fn.self.ends;
+  gathered : Gathered l.game l.state.state l.fn.self.sets l.self.sets l.found.items l.many;
+}
+
+abbrev pub decreases-loop-position : goal.decreases-loop-position
+decreases-loop-position l = length l.self.sets.touched

@@ -1,0 +1,35 @@
+use Rattle.std.proofs.Common.{◌≡◌, ℕ, ◌+◌, ◌*◌, sym, ◌∙◌, true, false}
+use Rattle.rbg_flat.specs.internal.Passing.{Passes}
+use Rattle.rbg_flat.proofs.Passings.{stays, falls, still_left}
+use Rattle.rbg_flat.proofs.passing.passing.Goals as goal
+
+false_not_true : false ≡ true → ⊥
+false_not_true e = cc
+
+pub loop-rest-preserved-then-not-passes_at : goal.loop-rest-preserved-then-not-passes_at
+loop-rest-preserved-then-not-passes_at c =
+    let Good : ℕ → Type 0 = λ b. Passes c.args.game.now c.args.state.now.state (c.args.column * 64 + b) c.args.position in
+    let is = c.loop-rest.invariant in
+    let out = c.without-rest.ensures in
+    record {
+      rest_in = λ b there. is.rest_in b (out.only b there);
+      passed_in = λ b there. is.passed_in b (c.without-passed.ensures.only b there);
+      still = still_left Good c.args.word c.loop-rest.passed c.loop-rest.rest c.lowest-bit.result c.without-rest.result c.lowest-bit.ensures.set is.still is.told out.gone out.only out.others c.without-passed.result c.without-passed.ensures.others;
+      told =
+          falls Good c.args.word c.loop-rest.passed c.loop-rest.rest c.lowest-bit.result c.without-rest.result c.lowest-bit.ensures.set is.still is.told out.gone out.only out.others
+          (λ good. false_not_true (sym c.if-not-passes_at.true ∙ c.passes_at.ensures.1 good)) c.without-passed.result c.without-passed.ensures.gone c.without-passed.ensures.others;
+    }
+
+pub loop-rest-preserved : goal.loop-rest-preserved
+loop-rest-preserved c =
+    let Good : ℕ → Type 0 = λ b. Passes c.args.game.now c.args.state.now.state (c.args.column * 64 + b) c.args.position in
+    let is = c.loop-rest.invariant in
+    let out = c.without-rest.ensures in
+    record {
+      rest_in = λ b there. is.rest_in b (out.only b there);
+      passed_in = is.passed_in;
+      still = λ b there. is.still b (out.only b there);
+      told =
+          stays Good c.args.word c.loop-rest.passed c.loop-rest.rest c.lowest-bit.result c.without-rest.result c.lowest-bit.ensures.set is.still is.told out.gone out.only out.others
+          (c.passes_at.ensures.0 c.if-not-passes_at.false);
+    }

@@ -1,0 +1,27 @@
+-- What may come next with no modifier before it.
+use Rattle.std.specs.Prelude.{◌≡◌, ℕ, List, [], ◌∷◌, ◌++◌}
+use Rattle.rbg_rules.specs.Positions.{HasNoModifier}
+use Rattle.rbg_rules.specs.Words.{Start, Follows, Ends}
+use Rattle.rbg_rules.specs.State.{AbstractGame, AbstractState}
+use Rattle.rbg_rules.specs.Actions.{Run}
+use Rattle.rbg_leaps.specs.Leaps.{IsShiftAt}
+
+-- Position p, which is no shift, may come next at vertex v, with no modifier before it: some positions without a
+-- modifier run from s to a semi-state at v, and p follows them there.
+pub record IsCandidate (game : AbstractGame) (s : AbstractState) (f : Start) (v p : ℕ) : Type 0 where
+  pub before : List ℕ
+  pub here : AbstractState
+  pub no_modifier : HasNoModifier game.rules before
+  pub runs : Run game before s here
+  pub vertex : here.vertex ≡ v
+  pub follows : Follows game.rules f (before ++ p ∷ [])
+  pub plain : ¬ IsShiftAt game.rules p
+
+-- A word may end with no modifier more: some positions without a modifier run from s, and they are all that follows f
+-- in a word.
+pub record MayEnd (game : AbstractGame) (s : AbstractState) (f : Start) : Type 0 where
+  pub before : List ℕ
+  pub here : AbstractState
+  pub no_modifier : HasNoModifier game.rules before
+  pub runs : Run game before s here
+  pub ends : Ends game.rules f before

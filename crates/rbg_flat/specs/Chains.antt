@@ -1,0 +1,46 @@
+-- Candidates by leaps: what holds where a leap ends leads on to the next leap.
+use Rattle.std.specs.Prelude.{◌⊎◌, ◌↔◌, ℕ}
+use Rattle.rbg_rules.specs.Positions.{IsNumbered, IsModifierAt}
+use Rattle.rbg_rules.specs.Words.{Start, after}
+use Rattle.rbg_rules.specs.State.{AbstractGame, AbstractState}
+use Rattle.rbg_rules.specs.Actions.{Applies}
+use Rattle.rbg_leaps.specs.Leaps.{IsShiftAt, IsLeap, EndsAcross}
+use Rattle.rbg_flat.specs.Candidates.{IsCandidate, MayEnd}
+
+-- the semi-state with this current vertex
+abbrev pub at_vertex : AbstractState → ℕ → AbstractState
+at_vertex s v = record s { vertex = v }
+
+-- The action at position q is neither a modifier nor a shift, and holds at vertex v.
+pub record Holds (game : AbstractGame) (s : AbstractState) (v q : ℕ) : Type 0 where
+  pub quiet : ¬ IsModifierAt game.rules q
+  pub plain : ¬ IsShiftAt game.rules q
+  pub applies : Applies game q (at_vertex s v) (at_vertex s v)
+
+-- A leap leads from f to position p at vertex v, or one leads there from behind what was met so and holds.
+pub data IsMet (game : AbstractGame) (s : AbstractState) (f : Start) : (v p : ℕ) → Type 0 where
+  first : {v p : ℕ} → IsLeap game f s.vertex p v → IsMet game s f v p
+  then :
+      {v q u p : ℕ} →
+      IsMet game s f v q →
+      Holds game s v q →
+      IsLeap game (after q) v p u →
+      IsMet game s f u p
+
+-- Behind what was met and holds, a word may end with shifts alone.
+pub record EndsBehind (game : AbstractGame) (s : AbstractState) (f : Start) : Type 0 where
+  pub vertex : ℕ
+  pub position : ℕ
+  pub met : IsMet game s f vertex position
+  pub holds : Holds game s vertex position
+  pub ends : EndsAcross game (after position) vertex
+
+-- A word may end so, or with shifts alone from the beginning.
+abbrev pub EndsMet : AbstractGame → AbstractState → Start → Type 0
+EndsMet game s f = EndsAcross game f s.vertex ⊎ EndsBehind game s f
+
+-- What is met by leaps are the candidates, and words may end where leaps tell so.
+abbrev pub ChainLaw : Type 0
+ChainLaw =
+    (game : AbstractGame) → IsNumbered game.rules → (s : AbstractState) (f : Start) →
+    ((v p : ℕ) → IsMet game s f v p ↔ IsCandidate game s f v p) × (EndsMet game s f ↔ MayEnd game s f)

@@ -1,0 +1,6 @@
+-- What is found from one place with no modifier before it.
+pub mod Candidates
+pub mod Chains
+pub mod Found
+pub mod Paths
+pub mod internal

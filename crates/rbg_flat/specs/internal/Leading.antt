@@ -1,0 +1,82 @@
+-- Sets that are led on by leaps.
+use Rattle.std.specs.Prelude.{◌≡◌, ◌⊎◌, ◌+◌, ◌*◌, ◌%◌, ◌<◌, ◌≤◌, ℕ, List, length, Bool, true, Contains}
+use Rattle.std.specs.Int.{bit_at}
+use Rattle.rbg_rules.specs.Positions.{positions_of}
+use Rattle.rbg_rules.specs.State.{AbstractGame}
+use Rattle.rbg_rules.specs.Words.{after}
+use Rattle.rbg_leaps.specs.declared.asking.Leaps.{Leaps}
+use Rattle.rbg_leaps.specs.declared.table.Target.{Target}
+use Rattle.rbg_leaps.specs.Asked.{row_of, HasRow}
+use Rattle.rbg_leaps.specs.Leaps.{IsLeap, EndsAcross}
+use Rattle.rbg_leaps.specs.Limits.{row_words}
+use Rattle.rbg_flat.specs.internal.Sets.{SetsOfVertices, IsInRow, IsInWord, IsMarked}
+
+-- The sets have a row for each position of the game, and a bit in it for each vertex.
+pub record AreSizedFor (game : AbstractGame) (sets : SetsOfVertices) : Type 0 where
+  pub size : sets.size ≡ length (positions_of game.rules) + 1
+  pub columns : sets.columns ≡ row_words game
+
+-- What is marked is on the board, at positions of the game.
+pub record AreOn (game : AbstractGame) (sets : SetsOfVertices) : Type 0 where
+  pub vertex : (v p : ℕ) → IsMarked sets v p → v < length game.board.first
+  pub from_one : (v p : ℕ) → IsMarked sets v p → 0 < p
+  pub there : (v p : ℕ) → IsMarked sets v p → p ≤ length (positions_of game.rules)
+
+-- The target is at a position of the game, and has a row of as many words as it takes.
+pub record IsTargetFor (game : AbstractGame) (leaps : Leaps) (t : Target) : Type 0 where
+  pub from_one : 0 < t.position
+  pub there : t.position ≤ length (positions_of game.rules)
+  pub row : HasRow leaps t
+  pub columns : leaps.table.columns ≡ row_words game
+
+-- The vertex is in the row of one of the targets, which is at the position.
+pub record IsAmong (leaps : Leaps) (targets : List Target) (v p : ℕ) : Type 0 where
+  pub target : Target
+  pub listed : Contains targets target
+  pub row : IsInRow target.position (row_of leaps target) v p
+
+-- It was learned whether something ends.
+pub record LearnsEnd (old new : Bool) (Ends : Type 0) : Type 0 where
+  pub kept : old ≡ true → new ≡ true
+  pub all : Ends → new ≡ true
+  pub only : new ≡ true → (old ≡ true) ⊎ Ends
+
+-- The bits of a word, in the column c of a row, are vertices of the board.
+abbrev pub IsOnBoard : AbstractGame → (c word : ℕ) → Type 0
+IsOnBoard game c word = (b : ℕ) → bit_at word b ≡ 1 → c * 64 + b < length game.board.first
+
+-- A leap leads to position p at vertex u, from behind position q at one of the vertices of a word.
+pub record LeadsFrom (game : AbstractGame) (q c word u p : ℕ) : Type 0 where
+  pub vertex : ℕ
+  pub there : IsInWord q c word vertex q
+  pub leap : IsLeap game (after q) vertex p u
+
+-- A word may end with shifts alone behind position q at one of the vertices of a word of bits.
+pub record EndsFrom (game : AbstractGame) (q c word : ℕ) : Type 0 where
+  pub vertex : ℕ
+  pub there : IsInWord q c word vertex q
+  pub ends : EndsAcross game (after q) vertex
+
+-- The same, but for the vertices that are still in the rest.
+pub record LeadsPast (game : AbstractGame) (q c word rest u p : ℕ) : Type 0 where
+  pub vertex : ℕ
+  pub there : IsInWord q c word vertex q
+  pub past : bit_at rest (vertex % 64) ≡ 0
+  pub leap : IsLeap game (after q) vertex p u
+
+pub record EndsPast (game : AbstractGame) (q c word rest : ℕ) : Type 0 where
+  pub vertex : ℕ
+  pub there : IsInWord q c word vertex q
+  pub past : bit_at rest (vertex % 64) ≡ 0
+  pub ends : EndsAcross game (after q) vertex
+
+-- The vertex is in a word, and one of the targets is at the position.
+pub record IsAmongBits (targets : List Target) (c word v p : ℕ) : Type 0 where
+  pub target : Target
+  pub listed : Contains targets target
+  pub there : IsInWord target.position c word v p
+
+-- The position is one of the game's.
+pub record IsPositionIn (game : AbstractGame) (p : ℕ) : Type 0 where
+  pub from_one : 0 < p
+  pub there : p ≤ length (positions_of game.rules)

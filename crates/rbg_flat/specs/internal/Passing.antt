@@ -1,0 +1,18 @@
+-- Where an action passes.
+use Rattle.std.specs.Prelude.{◌≡◌, ℕ, List, Contains, slice_get, Some}
+use Rattle.rbg_rules.specs.Positions.{IsModifierAt}
+use Rattle.rbg_rules.specs.State.{AbstractGame, AbstractState}
+use Rattle.rbg_rules.specs.Actions.{Applies}
+use Rattle.rbg_flat.specs.Chains.{at_vertex}
+
+-- The action at position p is no modifier, and valid at vertex v.
+pub record Passes (game : AbstractGame) (s : AbstractState) (v p : ℕ) : Type 0 where
+  pub to : ℕ
+  pub quiet : ¬ IsModifierAt game.rules p
+  pub applies : Applies game p (at_vertex s v) (at_vertex s to)
+
+-- One of the pieces stands on the vertex.
+pub record IsOneOf (wanted pieces : List ℕ) (v : ℕ) : Type 0 where
+  pub piece : ℕ
+  pub listed : Contains wanted piece
+  pub stands : slice_get pieces v ≡ Some piece

@@ -1,0 +1,128 @@
+-- Sets of vertices for each position, as rows of bits, and lists of positions in which each stands once.
+use Rattle.std.specs.Prelude.{◌≡◌, ◌≢◌, ◌↔◌, ◌⊎◌, ℕ, ◌+◌, ◌-◌, ◌*◌, ◌^◌, ◌/◌, ◌%◌, ◌<◌, ◌≤◌, List, length, slice_index, slice_index_or, true, false, Bool, take, All, AllPairs, Contains, IsTrue}
+use Rattle.std.specs.Int.{bit_at}
+use Rattle.std.specs.List.{sum_by}
+
+-- Positions below a size, each once.
+pub record Listed : Type 0 where
+  pub size : ℕ
+  pub positions : List ℕ
+
+-- The first `many` of the room are the positions of which `inside` tells that they are there, each once.
+pub record AreListed (room : List ℕ) (many : ℕ) (inside : List Bool) : Type 0 where
+  pub within : many ≤ length room
+  pub same : length inside ≡ length room
+  pub below : All (λ p. p < length room) (take many room)
+  pub different : AllPairs (λ p q. p ≢ q) (take many room)
+  pub told : (p : ℕ) → IsTrue (slice_index_or inside p false) ↔ Contains (take many room) p
+
+-- The position is the last of the list.
+pub record IsLastOf (positions : List ℕ) (p : ℕ) : Type 0 where
+  pub some : 0 < length positions
+  pub last : slice_index positions (length positions - 1) ≡ p
+
+-- Rows of vertices by position: so many words for each of so many positions.
+--   marks: what was met
+--   pending: what of it is still to be looked at
+--   waiting, touched: the positions that have something open, or something marked, and maybe others
+pub record SetsOfVertices : Type 0 where
+  pub size : ℕ
+  pub columns : ℕ
+  pub marks : List ℕ
+  pub pending : List ℕ
+  pub waiting : List ℕ
+  pub touched : List ℕ
+
+-- The bit of a vertex in the row of a position is set.
+pub record HasBitAt (columns : ℕ) (words : List ℕ) (v p : ℕ) : Type 0 where
+  pub column : v / 64 < columns
+  pub set : bit_at (slice_index words (p * columns + v / 64)) (v % 64) ≡ 1
+
+-- The vertex is a bit of that word of the row of a position.
+pub record IsInWord (q c word v p : ℕ) : Type 0 where
+  pub position : p ≡ q
+  pub column : v / 64 ≡ c
+  pub set : bit_at word (v % 64) ≡ 1
+
+abbrev pub IsMarked : SetsOfVertices → (v p : ℕ) → Type 0
+IsMarked sets = HasBitAt sets.columns sets.marks
+
+abbrev pub IsOpen : SetsOfVertices → (v p : ℕ) → Type 0
+IsOpen sets = HasBitAt sets.columns sets.pending
+
+abbrev pub sets_of : (size columns : ℕ) → (marks pending waiting touched : List ℕ) → SetsOfVertices
+sets_of size columns marks pending waiting touched =
+    record { size = size; columns = columns; marks = marks; pending = pending; waiting = waiting; touched = touched }
+
+-- There is a row for each position, and the lists name all positions that have bits.
+pub record AreSets (sets : SetsOfVertices) : Type 0 where
+  pub marks : length sets.marks ≡ sets.size * sets.columns
+  pub pendings : length sets.pending ≡ sets.size * sets.columns
+  pub under : (v p : ℕ) → IsOpen sets v p → IsMarked sets v p
+  pub waits : (v p : ℕ) → IsOpen sets v p → Contains sets.waiting p
+  pub touches : (v p : ℕ) → IsMarked sets v p → Contains sets.touched p
+
+-- How much is left to be done: each bit that is met or closed takes something off, and so does each position that no
+-- longer waits.
+abbrev pub weight : SetsOfVertices → ℕ
+weight sets = 4 * sum_by (λ m. 2 ^ 64 - m) sets.marks + 2 * sum_by (λ m. m) sets.pending + length sets.waiting
+
+-- A word of a row was met: its bits are marked, and what is new of it is open where that is wanted.
+pub record MeetsWord (old new : SetsOfVertices) (position column word : ℕ) (opens : Bool) : Type 0 where
+  pub size : new.size ≡ old.size
+  pub columns : new.columns ≡ old.columns
+  pub kept : (v p : ℕ) → IsMarked old v p → IsMarked new v p
+  pub met : (v p : ℕ) → IsInWord position column word v p → IsMarked new v p
+  pub only :
+      (v p : ℕ) → IsMarked new v p →
+      IsMarked old v p ⊎ (IsInWord position column word v p × (opens ≡ true → IsOpen new v p))
+  pub still : (v p : ℕ) → IsOpen old v p → IsOpen new v p
+  pub no_other :
+      (v p : ℕ) → IsOpen new v p →
+      IsOpen old v p ⊎ (IsInWord position column word v p × (opens ≡ true) × (¬ IsMarked old v p))
+  pub lighter : weight new ≤ weight old
+
+-- Bits of a word of a row are no longer open.
+pub record ClosesWord (old new : SetsOfVertices) (position column word : ℕ) : Type 0 where
+  pub size : new.size ≡ old.size
+  pub columns : new.columns ≡ old.columns
+  pub marks : new.marks ≡ old.marks
+  pub still : (v p : ℕ) → IsOpen old v p → IsOpen new v p ⊎ IsInWord position column word v p
+  pub only : (v p : ℕ) → IsOpen new v p → IsOpen old v p
+  pub gone : (v p : ℕ) → IsInWord position column word v p → ¬ IsOpen new v p
+  pub lighter : weight new ≤ weight old
+  pub less : (v : ℕ) → IsOpen old v position → IsInWord position column word v position → weight new < weight old
+
+-- These vertices with positions were met: they are marked, and those of them that are new and of such positions are
+-- open.
+pub record Meets (old new : SetsOfVertices) (In : (v p : ℕ) → Type 0) (Opens : ℕ → Type 0) : Type 0 where
+  pub size : new.size ≡ old.size
+  pub columns : new.columns ≡ old.columns
+  pub kept : (v p : ℕ) → IsMarked old v p → IsMarked new v p
+  pub met : (v p : ℕ) → In v p → IsMarked new v p
+  pub only : (v p : ℕ) → IsMarked new v p → IsMarked old v p ⊎ (In v p × (Opens p → IsOpen new v p))
+  pub still : (v p : ℕ) → IsOpen old v p → IsOpen new v p
+  pub no_other :
+      (v p : ℕ) → IsOpen new v p →
+      IsOpen old v p ⊎ (In v p × Opens p × (¬ IsMarked old v p))
+  pub lighter : weight new ≤ weight old
+
+-- The vertex is in a row of a position.
+pub record IsInRow (q : ℕ) (row : List ℕ) (v p : ℕ) : Type 0 where
+  pub position : p ≡ q
+  pub set : bit_at (slice_index row (v / 64)) (v % 64) ≡ 1
+
+-- It is marked and no longer open: it was looked at.
+pub record IsDone (sets : SetsOfVertices) (v p : ℕ) : Type 0 where
+  pub marked : IsMarked sets v p
+  pub closed : ¬ IsOpen sets v p
+
+-- What was looked at stays so.
+abbrev pub KeepsDone : (old new : SetsOfVertices) → Type 0
+KeepsDone old new = (v p : ℕ) → IsDone old v p → IsDone new v p
+
+-- What was met at the position is forgotten, and nothing else.
+pub record Forgets (old new : SetsOfVertices) (q : ℕ) : Type 0 where
+  pub gone : (v : ℕ) → ¬ IsMarked new v q
+  pub only : (v p : ℕ) → IsMarked new v p → IsMarked old v p
+  pub still : (v p : ℕ) → p ≢ q → IsMarked old v p → IsMarked new v p

@@ -1,0 +1,433 @@
+//! A flat part that is being found, by sets of vertices.
+ghost use Rattle.std.specs.Prelude.{◌≡◌, ℕ, ◌<◌, ◌≤◌, ◌↔◌, ◌⊎◌, ◌^◌, length, IfOk, IfSome, IfNone, OnOk, IsTrue, false};
+ghost use Rattle.rbg_rules.specs.Games.{IsGame};
+ghost use Rattle.rbg_rules.specs.Laws.{IsStart};
+ghost use Rattle.rbg_rules.specs.Positions.{IsModifierAt, IsNumbered, IsPatternAt, positions_of};
+ghost use Rattle.rbg_rules.specs.State.{AbstractGame, AbstractState, IsStateOf};
+ghost use Rattle.rbg_rules.specs.Words.{Start, after};
+ghost use Rattle.rbg_leaps.specs.Leaps.{IsLeap, EndsAcross};
+ghost use Rattle.rbg_leaps.specs.Made.{AreLeapsOf};
+ghost use Rattle.rbg_leaps.specs.Origin.{start_of};
+ghost use Rattle.rbg_flat.specs.Candidates.{MayEnd};
+ghost use Rattle.rbg_flat.specs.Chains.{Holds, IsMet};
+ghost use Rattle.rbg_flat.specs.Paths.{ArePathsOf, IsStill};
+ghost use Rattle.rbg_flat.specs.Found.{AreFound, HasCandidates, most_candidates};
+ghost use Rattle.rbg_flat.specs.internal.Begun.{IsBegun};
+ghost use Rattle.rbg_flat.specs.internal.Sets.{Meets, IsInWord, IsMarked, IsOpen, IsDone, KeepsDone, weight};
+ghost use Rattle.rbg_flat.specs.internal.Leading.{AreSizedFor, AreOn, IsOnBoard, LeadsFrom, EndsFrom, LearnsEnd};
+
+use crate::gathering::{gather_row, keeps};
+use crate::leading::{meet_bits, meet_targets};
+use crate::passing::held;
+use crate::paths::Paths;
+use crate::sets::Sets;
+use crate::words::{lowest, unit_word, without};
+use rbg_base::{Memory, Position, Vertex};
+use rbg_leaps::{Leaps, Origin};
+use rbg_rules::Game;
+use rbg_state::SemiState;
+use std::alloc::Global;
+
+/// A flat part that is being found: what may come next from one place with no modifier before it.
+#[derive(Debug, Drop)]
+pub struct Flat {
+    sets: Sets,
+    /// Whether a word may end with no modifier more.
+    ends: bool,
+}
+
+impl Flat {
+    /// A flat part of a game, not begun.
+    pub fn new(alloc: Global, game: &Game) -> Result<Flat, Memory>
+        ensures { IfOk result (λ flat. AreSizedFor game.now flat.sets) }
+    {
+        let columns = (game.board().len() + 63) / 64;
+        Ok(Flat {
+            sets: Sets::new(alloc, game.positions() + 1, columns)?,
+            ends: false,
+        })
+    }
+
+    /// Whether it is of use for the game.
+    pub fn is_for(&self, game: &Game) -> bool
+        ensures { IsTrue result → AreSizedFor game.now self.now.sets }
+    {
+        self.sets.size() == game.positions() + 1
+            && self.sets.columns() == (game.board().len() + 63) / 64
+    }
+
+    /// Begins anew, at a place in the rules and a vertex.
+    pub fn begin(&mut self, game: &Game, paths: &Paths, origin: Origin, vertex: Vertex)
+        requires lawful { IsGame game.now }
+        requires paths { ArePathsOf game.now paths.now }
+        requires sized { AreSizedFor game.now self.old.sets }
+        requires vertex { vertex < length game.now.board.first }
+        requires stands { IsStart game.now.rules (start_of origin) }
+        ensures sized { AreSizedFor game.now self.new.sets }
+        ensures begun { (s : AbstractState) → s.vertex ≡ vertex
+            → IsBegun game.now s (start_of origin) (IsMarked self.new.sets) (IsOpen self.new.sets)
+            self.new.ends }
+        ensures on { AreOn game.now self.new.sets }
+        ensures fresh { (v p : ℕ) → ¬ IsModifierAt game.now.rules p → ¬ IsDone self.new.sets v p }
+    {
+        self.sets.clear();
+        self.ends = false;
+        self.lead(game, &paths.leaps, origin, vertex);
+    }
+
+    /// Goes on up to the next vertex that is to be asked about a pattern, and returns it with the pattern's position;
+    /// none where nothing is left to be looked at. Each turn takes one bit, or one position off those that wait.
+    pub fn advance(
+        &mut self,
+        game: &Game,
+        paths: &Paths,
+        state: &SemiState,
+    ) -> Option<(Vertex, Position)>
+        requires lawful { IsGame game.now }
+        requires paths { ArePathsOf game.now paths.now }
+        requires fits { IsStateOf game.now state.now.state }
+        requires sized { AreSizedFor game.now self.old.sets }
+        requires on { AreOn game.now self.old.sets }
+        ensures sized { AreSizedFor game.now self.new.sets }
+        ensures on { AreOn game.now self.new.sets }
+        ensures begun { (f : Start)
+            → IsBegun game.now state.now.state f (IsMarked self.old.sets) (IsOpen self.old.sets)
+            self.old.ends
+            → IsBegun game.now state.now.state f (IsMarked self.new.sets) (IsOpen self.new.sets)
+            self.new.ends }
+        ensures asked { IfSome result (λ pair. IsOpen self.new.sets pair.0 pair.1
+            × IsMarked self.new.sets pair.0 pair.1 × IsPatternAt game.now.rules pair.1) }
+        ensures still_done { KeepsDone self.old.sets self.new.sets }
+        ensures quiet { (v p : ℕ) → IsPatternAt game.now.rules p → IsDone self.new.sets v p
+            → IsDone self.old.sets v p }
+        ensures done { IfNone result ((v p : ℕ) → ¬ IsOpen self.new.sets v p) }
+        ensures lighter { weight self.new.sets ≤ weight self.old.sets }
+    {
+        while let Some(position) = self.sets.waiting() {
+            match self.sets.first_open(position) {
+                None => self.sets.wait_no_more(position),
+                Some(vertex) => {
+                    if is_pattern(game, &self.sets, vertex, position) {
+                        return Some((vertex, position));
+                    }
+                    self.try_word(game, paths, state, position, vertex);
+                }
+            }
+        }
+        None
+    }
+
+    /// Takes a vertex that was asked about the pattern at a position, which is valid there or isn't.
+    pub fn take(
+        &mut self,
+        game: &Game,
+        paths: &Paths,
+        vertex: Vertex,
+        position: Position,
+        valid: bool,
+    )
+        requires lawful { IsGame game.now }
+        requires paths { ArePathsOf game.now paths.now }
+        requires sized { AreSizedFor game.now self.old.sets }
+        requires vertex { vertex < length game.now.board.first }
+        requires from_one { 0 < position }
+        requires there { position ≤ length (positions_of game.now.rules) }
+        requires marked { IsMarked self.old.sets vertex position }
+        ensures sized { AreSizedFor game.now self.new.sets }
+        ensures on { AreOn game.now self.old.sets → AreOn game.now self.new.sets }
+        ensures begun { (s : AbstractState) (f : Start)
+            → IsTrue valid ↔ Holds game.now s vertex position
+            → IsBegun game.now s f (IsMarked self.old.sets) (IsOpen self.old.sets) self.old.ends
+            → IsBegun game.now s f (IsMarked self.new.sets) (IsOpen self.new.sets) self.new.ends }
+        ensures still_done { KeepsDone self.old.sets self.new.sets }
+        ensures done { IsDone self.new.sets vertex position }
+        ensures quiet { (v p : ℕ) → IsPatternAt game.now.rules p → IsDone self.new.sets v p
+            → ((v ≡ vertex) × (p ≡ position)) ⊎ IsDone self.old.sets v p }
+        ensures less { IsOpen self.old.sets vertex position
+            → weight self.new.sets < weight self.old.sets }
+    {
+        if valid {
+            self.lead_on(game, &paths.leaps, position, vertex);
+        } else {
+            self.drop_one(game, position, vertex);
+        }
+    }
+
+    /// Whether a word may end with no modifier more, once nothing is left to be looked at.
+    pub fn ends(&self) -> bool
+        ensures { (game : AbstractGame) (s : AbstractState) (f : Start) → IsNumbered game.rules
+            → IsBegun game s f (IsMarked self.now.sets) (IsOpen self.now.sets) self.now.ends
+            → ((v p : ℕ) → ¬ IsOpen self.now.sets v p) → IsTrue result ↔ MayEnd game s f }
+    {
+        self.ends
+    }
+
+    /// Gathers what was found, once nothing is left to be looked at, in place of what the list held: the modifiers that
+    /// come next and are valid, each with its vertex. All is forgotten then. Returns how many candidates there were.
+    pub fn finish(
+        &mut self,
+        game: &Game,
+        state: &SemiState,
+        found: &mut Vec<(Vertex, Position)>,
+    ) -> Result<usize, Memory>
+        requires lawful { IsGame game.now }
+        requires fits { IsStateOf game.now state.now.state }
+        requires sized { AreSizedFor game.now self.old.sets }
+        requires on { AreOn game.now self.old.sets }
+        requires done { (v p : ℕ) → ¬ IsOpen self.old.sets v p }
+        ensures sized { AreSizedFor game.now self.new.sets }
+        ensures ends { self.new.ends ≡ self.old.ends }
+        ensures found { OnOk result ((f : Start)
+            → IsBegun game.now state.now.state f (IsMarked self.old.sets) (IsOpen self.old.sets)
+            self.old.ends
+            → AreFound game.now state.now.state f found.new.items) }
+        ensures count { IfOk result (λ many. (f : Start)
+            → IsBegun game.now state.now.state f (IsMarked self.old.sets) (IsOpen self.old.sets)
+            self.old.ends
+            → HasCandidates game.now state.now.state f many) }
+        ensures few { IfOk result (λ many. many ≤ most_candidates game.now) }
+    {
+        found.clear();
+        let mut many = 0;
+        while let Some(position) = self.sets.last_touched() {
+            let keeps = keeps(game, state, position);
+            many += gather_row(found, &self.sets, position, keeps)?;
+            self.sets.forget(position);
+        }
+        Ok(many)
+    }
+
+    /// Leads on from a place in the rules and a vertex: meets where leaps lead from there.
+    #[inline(always)]
+    fn lead(&mut self, game: &Game, leaps: &Leaps, origin: Origin, vertex: Vertex)
+        requires lawful { IsGame game.now }
+        requires leaps { AreLeapsOf game.now leaps.now }
+        requires sized { AreSizedFor game.now self.old.sets }
+        requires vertex { vertex < length game.now.board.first }
+        requires stands { IsStart game.now.rules (start_of origin) }
+        ensures met { Meets self.old.sets self.new.sets
+            (λ v p. IsLeap game.now (start_of origin) vertex p v)
+            (λ p. ¬ IsModifierAt game.now.rules p) }
+        ensures ends { LearnsEnd self.old.ends self.new.ends
+            (EndsAcross game.now (start_of origin) vertex) }
+        ensures on { AreOn game.now self.old.sets → AreOn game.now self.new.sets }
+    {
+        meet_targets(&mut self.sets, game, leaps, leaps.from(origin, vertex));
+        let ends = leaps.ends(origin, vertex);
+        self.ends |= ends;
+    }
+
+    /// Leads on from a position that holds at a vertex, which is no longer open then.
+    #[inline(always)]
+    fn lead_on(&mut self, game: &Game, leaps: &Leaps, position: Position, vertex: Vertex)
+        requires lawful { IsGame game.now }
+        requires leaps { AreLeapsOf game.now leaps.now }
+        requires sized { AreSizedFor game.now self.old.sets }
+        requires vertex { vertex < length game.now.board.first }
+        requires from_one { 0 < position }
+        requires there { position ≤ length (positions_of game.now.rules) }
+        ensures sized { AreSizedFor game.now self.new.sets }
+        ensures begun { (s : AbstractState) (f : Start) → IsMet game.now s f vertex position
+            → Holds game.now s vertex position
+            → IsBegun game.now s f (IsMarked self.old.sets) (IsOpen self.old.sets) self.old.ends
+            → IsBegun game.now s f (IsMarked self.new.sets) (IsOpen self.new.sets) self.new.ends }
+        ensures on { AreOn game.now self.old.sets → AreOn game.now self.new.sets }
+        ensures still_done { KeepsDone self.old.sets self.new.sets }
+        ensures done { IsMarked self.old.sets vertex position → IsDone self.new.sets vertex position }
+        ensures quiet { (v p : ℕ) → ¬ IsModifierAt game.now.rules p → IsDone self.new.sets v p
+            → ((v ≡ vertex) × (p ≡ position)) ⊎ IsDone self.old.sets v p }
+        ensures less { IsOpen self.old.sets vertex position
+            → weight self.new.sets < weight self.old.sets }
+    {
+        // an action stands there
+        let _action = game.action(position);
+        self.lead(game, leaps, Origin::After(position), vertex);
+        self.sets
+            .close_word(position, vertex as usize / 64, unit_word(vertex % 64));
+    }
+
+    /// A position that doesn't hold at a vertex is no longer open there.
+    #[inline(always)]
+    fn drop_one(&mut self, game: &Game, position: Position, vertex: Vertex)
+        requires lawful { IsGame game.now }
+        requires sized { AreSizedFor game.now self.old.sets }
+        requires vertex { vertex < length game.now.board.first }
+        requires there { position ≤ length (positions_of game.now.rules) }
+        ensures sized { AreSizedFor game.now self.new.sets }
+        ensures begun { (s : AbstractState) (f : Start) → ¬ Holds game.now s vertex position
+            → IsBegun game.now s f (IsMarked self.old.sets) (IsOpen self.old.sets) self.old.ends
+            → IsBegun game.now s f (IsMarked self.new.sets) (IsOpen self.new.sets) self.new.ends }
+        ensures on { AreOn game.now self.old.sets → AreOn game.now self.new.sets }
+        ensures still_done { KeepsDone self.old.sets self.new.sets }
+        ensures done { IsMarked self.old.sets vertex position → IsDone self.new.sets vertex position }
+        ensures quiet { (v p : ℕ) → ¬ IsModifierAt game.now.rules p → IsDone self.new.sets v p
+            → ((v ≡ vertex) × (p ≡ position)) ⊎ IsDone self.old.sets v p }
+        ensures less { IsOpen self.old.sets vertex position
+            → weight self.new.sets < weight self.old.sets }
+    {
+        self.sets
+            .close_word(position, vertex as usize / 64, unit_word(vertex % 64));
+    }
+
+    /// Tries a position at all vertices of a word that are open there, of which one is given, and leads on from those
+    /// at which it holds. No pattern stands at the position.
+    #[inline(always)]
+    fn try_word(
+        &mut self,
+        game: &Game,
+        paths: &Paths,
+        state: &SemiState,
+        position: Position,
+        vertex: Vertex,
+    )
+        requires lawful { IsGame game.now }
+        requires paths { ArePathsOf game.now paths.now }
+        requires fits { IsStateOf game.now state.now.state }
+        requires sized { AreSizedFor game.now self.old.sets }
+        requires on { AreOn game.now self.old.sets }
+        requires open { IsOpen self.old.sets vertex position }
+        requires marked { IsMarked self.old.sets vertex position }
+        requires plain { ¬ IsPatternAt game.now.rules position }
+        ensures sized { AreSizedFor game.now self.new.sets }
+        ensures begun { (f : Start)
+            → IsBegun game.now state.now.state f (IsMarked self.old.sets) (IsOpen self.old.sets)
+            self.old.ends
+            → IsBegun game.now state.now.state f (IsMarked self.new.sets) (IsOpen self.new.sets)
+            self.new.ends }
+        ensures on { AreOn game.now self.new.sets }
+        ensures done { KeepsDone self.old.sets self.new.sets }
+        ensures quiet { (v p : ℕ) → IsPatternAt game.now.rules p → IsDone self.new.sets v p
+            → IsDone self.old.sets v p }
+        ensures less { weight self.new.sets < weight self.old.sets }
+    {
+        let column = vertex as usize / 64;
+        let word = self.sets.take_word(position, column);
+        let held = held(game, state, position, column, word);
+        self.lead_word(game, paths, position, column, held);
+    }
+
+    /// Leads on from a position at each vertex of a word: at all of them at once where no shift comes next.
+    #[inline(always)]
+    fn lead_word(
+        &mut self,
+        game: &Game,
+        paths: &Paths,
+        position: Position,
+        column: usize,
+        word: u64,
+    )
+        requires lawful { IsGame game.now }
+        requires paths { ArePathsOf game.now paths.now }
+        requires sized { AreSizedFor game.now self.old.sets }
+        requires board { IsOnBoard game.now column word }
+        requires column { column < self.old.sets.columns }
+        requires from_one { 0 < position }
+        requires there { position ≤ length (positions_of game.now.rules) }
+        ensures sized { AreSizedFor game.now self.new.sets }
+        ensures met { Meets self.old.sets self.new.sets (LeadsFrom game.now position column word)
+            (λ p. ¬ IsModifierAt game.now.rules p) }
+        ensures ends { LearnsEnd self.old.ends self.new.ends
+            (EndsFrom game.now position column word) }
+        ensures on { AreOn game.now self.old.sets → AreOn game.now self.new.sets }
+    {
+        match first_still(paths, position, column, word) {
+            Some(vertex) => self.lead_still(game, paths, position, vertex, column, word),
+            None => self.lead_each(game, &paths.leaps, position, column, word),
+        }
+    }
+
+    /// Leads on from a position at all vertices of a word at once, of which one is given. No shift comes next.
+    #[inline(always)]
+    fn lead_still(
+        &mut self,
+        game: &Game,
+        paths: &Paths,
+        position: Position,
+        vertex: Vertex,
+        column: usize,
+        word: u64,
+    )
+        requires lawful { IsGame game.now }
+        requires paths { ArePathsOf game.now paths.now }
+        requires sized { AreSizedFor game.now self.old.sets }
+        requires board { IsOnBoard game.now column word }
+        requires column { column < self.old.sets.columns }
+        requires from_one { 0 < position }
+        requires there { position ≤ length (positions_of game.now.rules) }
+        requires still { IsStill game.now.rules position }
+        requires in_word { IsInWord position column word vertex position }
+        ensures sized { AreSizedFor game.now self.new.sets }
+        ensures met { Meets self.old.sets self.new.sets (LeadsFrom game.now position column word)
+            (λ p. ¬ IsModifierAt game.now.rules p) }
+        ensures ends { LearnsEnd self.old.ends self.new.ends
+            (EndsAcross game.now (after position) vertex) }
+        ensures on { AreOn game.now self.old.sets → AreOn game.now self.new.sets }
+    {
+        // an action stands there
+        let _action = game.action(position);
+        let origin = Origin::After(position);
+        let targets = paths.leaps.from(origin, vertex);
+        meet_bits(&mut self.sets, game, targets, column, word);
+        let ends = paths.leaps.ends(origin, vertex);
+        self.ends |= ends;
+    }
+
+    /// Leads on from a position at each vertex of a word, one after another.
+    #[inline(always)]
+    fn lead_each(
+        &mut self,
+        game: &Game,
+        leaps: &Leaps,
+        position: Position,
+        column: usize,
+        word: u64,
+    )
+        requires lawful { IsGame game.now }
+        requires leaps { AreLeapsOf game.now leaps.now }
+        requires sized { AreSizedFor game.now self.old.sets }
+        requires board { IsOnBoard game.now column word }
+        requires from_one { 0 < position }
+        requires there { position ≤ length (positions_of game.now.rules) }
+        ensures sized { AreSizedFor game.now self.new.sets }
+        ensures met { Meets self.old.sets self.new.sets (LeadsFrom game.now position column word)
+            (λ p. ¬ IsModifierAt game.now.rules p) }
+        ensures ends { LearnsEnd self.old.ends self.new.ends
+            (EndsFrom game.now position column word) }
+        ensures on { AreOn game.now self.old.sets → AreOn game.now self.new.sets }
+    {
+        // an action stands there
+        let _action = game.action(position);
+        let mut rest = word;
+        while rest != 0 {
+            let bit = lowest(rest);
+            let vertex = column as Vertex * 64 + bit;
+            self.lead(game, leaps, Origin::After(position), vertex);
+            rest = without(rest, bit);
+        }
+    }
+}
+
+/// Whether a pattern stands at a position that is open at a vertex.
+#[inline(always)]
+fn is_pattern(game: &Game, sets: &Sets, vertex: Vertex, position: Position) -> bool
+    requires on { AreOn game.now sets.now }
+    requires marked { IsMarked sets.now vertex position }
+    ensures { IsTrue result ↔ IsPatternAt game.now.rules position }
+{
+    game.is_pattern(position)
+}
+
+/// The first vertex of a word, where no shift comes next behind a position.
+#[inline(always)]
+fn first_still(paths: &Paths, position: Position, column: usize, word: u64) -> Option<Vertex>
+    requires { column < 2 ^ 25 }
+    ensures still { IfSome result (λ _. (game : AbstractGame) → ArePathsOf game paths.now
+        → IsStill game.rules position) }
+    ensures there { IfSome result (λ v. IsInWord position column word v position) }
+{
+    if word != 0 && paths.is_still(position) {
+        Some(column as Vertex * 64 + lowest(word))
+    } else {
+        None
+    }
+}

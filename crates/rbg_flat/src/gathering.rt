@@ -1,0 +1,100 @@
+//! What was found is gathered: the modifiers that are valid, and how many candidates there are.
+ghost use Rattle.std.specs.Prelude.{◌≡◌, ◌≢◌, ◌↔◌, ℕ, ◌+◌, ◌*◌, ◌<◌, ◌≤◌, ◌^◌, length, count_ones, IfOk, OnOk, IsTrue};
+ghost use Rattle.rbg_rules.specs.Games.{IsGame};
+ghost use Rattle.rbg_rules.specs.Positions.{positions_of};
+ghost use Rattle.rbg_rules.specs.State.{IsStateOf};
+ghost use Rattle.rbg_flat.specs.internal.Gathering.{Lists, IsBitOf, PushesWord, Gathers, IsMetBelow, Keeps};
+
+use crate::sets::Sets;
+use crate::words::{lowest, without};
+use rbg_base::{Memory, Position, Vertex};
+use rbg_rules::Game;
+use rbg_state::{SemiState, Trial};
+
+/// Whether a modifier stands at a position that is valid: where it is valid at one vertex, it is at each. No action
+/// stands at position 0.
+pub(crate) fn keeps(game: &Game, state: &SemiState, position: Position) -> bool
+    requires lawful { IsGame game.now }
+    requires fits { IsStateOf game.now state.now.state }
+    requires there { position ≤ length (positions_of game.now.rules) }
+    ensures { 0 < position → IsTrue result ↔ Keeps game.now state.now.state position }
+{
+    if position == 0 {
+        return false;
+    }
+    match state.try_at(game, state.vertex(), position) {
+        Trial::Modifies => true,
+        Trial::Invalid => false,
+        Trial::Pattern => false,
+        Trial::LeadsTo(_) => false,
+    }
+}
+
+/// Puts the vertices of a word, each with the position, behind what was found.
+fn push_word(
+    found: &mut Vec<(Vertex, Position)>,
+    position: Position,
+    column: usize,
+    word: u64,
+) -> Result<(), Memory>
+    requires { column < 2 ^ 25 }
+    ensures { OnOk result (PushesWord found.old.items found.new.items position column word) }
+{
+    let mut rest = word;
+    while rest != 0 {
+        let bit = lowest(rest);
+        found.push((column as Vertex * 64 + bit, position))?;
+        rest = without(rest, bit);
+    }
+    Ok(())
+}
+
+/// Counts the vertices of a word, and puts them behind what was found where they are kept.
+fn gather_word(
+    found: &mut Vec<(Vertex, Position)>,
+    position: Position,
+    column: usize,
+    word: u64,
+    keeps: bool,
+) -> Result<usize, Memory>
+    requires { column < 2 ^ 25 }
+    ensures { IfOk result (λ many.
+        Gathers (IsBitOf column word) found.old.items found.new.items position keeps many 64) }
+{
+    if keeps {
+        push_word(found, position, column, word)?;
+        Ok(count(word))
+    } else {
+        Ok(count(word))
+    }
+}
+
+/// How many bits of a word are set.
+#[inline(always)]
+fn count(word: u64) -> usize
+    ensures ones { result ≡ count_ones word }
+    ensures few { result ≤ 64 }
+{
+    word.count_ones() as usize
+}
+
+/// Counts the vertices of the row of a position, and puts them behind what was found where they are kept.
+pub(crate) fn gather_row(
+    found: &mut Vec<(Vertex, Position)>,
+    sets: &Sets,
+    position: Position,
+    keeps: bool,
+) -> Result<usize, Memory>
+    requires position { position < sets.now.size }
+    requires narrow { sets.now.columns < 2 ^ 16 }
+    ensures { IfOk result (λ many.
+        Gathers (IsMetBelow sets.now position sets.now.columns)
+        found.old.items found.new.items position keeps many (64 * sets.now.columns)) }
+{
+    let mut many = 0;
+    for column in 0..sets.columns() {
+        let word = sets.met_word(position, column);
+        many += gather_word(found, position, column, word, keeps)?;
+    }
+    Ok(many)
+}

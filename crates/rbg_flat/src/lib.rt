@@ -1,0 +1,15 @@
+//! What is found from one place in the rules and one semi-state with no modifier before it, by sets of vertices.
+#![tactic(auto)]
+
+mod flat;
+mod gathering;
+pub mod laws;
+mod leading;
+mod passing;
+mod paths;
+mod positions;
+mod sets;
+mod words;
+
+pub use flat::Flat;
+pub use paths::{Paths, is_shift};

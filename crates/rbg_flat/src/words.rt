@@ -1,0 +1,39 @@
+//! Words of bits.
+ghost use Rattle.std.specs.Prelude.{◌≡◌, ◌≢◌, ℕ, ◌<◌};
+ghost use Rattle.std.specs.Int.{bit_at};
+
+/// The place of the lowest bit of a word.
+#[inline(always)]
+pub(crate) fn lowest(word: u64) -> u32
+    requires { 0 < word }
+    ensures set { bit_at word result ≡ 1 }
+    ensures small { result < 64 }
+{
+    word.trailing_zeros()
+}
+
+/// The word with one bit.
+#[inline(always)]
+pub(crate) fn unit_word(bit: u32) -> u64
+    requires { bit < 64 }
+    ensures only { (b : ℕ) → bit_at result b ≡ 1 → b ≡ bit }
+    ensures set { bit_at result bit ≡ 1 }
+{
+    let mut word = 0;
+    word |= 1 << bit;
+    word
+}
+
+/// A word without one of its bits.
+#[inline(always)]
+pub(crate) fn without(word: u64, bit: u32) -> u64
+    requires { bit < 64 }
+    ensures gone { bit_at result bit ≡ 0 }
+    ensures only { (b : ℕ) → bit_at result b ≡ 1 → bit_at word b ≡ 1 }
+    ensures others { (b : ℕ) → b ≢ bit → bit_at result b ≡ bit_at word b }
+    ensures less { bit_at word bit ≡ 1 → result < word }
+{
+    let mut rest = word;
+    rest &= !(1 << bit);
+    rest
+}

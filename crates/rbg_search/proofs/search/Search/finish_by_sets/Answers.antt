@@ -1,0 +1,42 @@
+use Rattle.std.proofs.Common.{◌≡◌, ◌≤◌, sym, ap, ◌∙◌, subst}
+use Rattle.std.specs.Prelude.{IsTrue, ◌↔◌}
+use Rattle.rbg_rules.specs.Games.{IsGame}
+use Rattle.rbg_rules.specs.State.{AbstractGame}
+use Rattle.rbg_flat.specs.declared.flat.Flat.{Flat}
+use Rattle.rbg_flat.specs.Candidates.{MayEnd}
+use Rattle.rbg_flat.specs.Found.{AreFound, HasCandidates}
+use Rattle.rbg_search.specs.Flat.{IsFlatPart}
+use Rattle.rbg_search.specs.Searching.{Searching}
+use Rattle.rbg_search.specs.Taken.{most_pairs_of}
+use Rattle.rbg_search.specs.internal.BySets.{IsBegunBySets, IsWhole}
+use Rattle.rbg_search.proofs.BySets.{found_part}
+use Rattle.rbg_search.proofs.search.Search.finish_by_sets.Goals as goal
+
+pub returns-clause-part : goal.returns-clause-part
+returns-clause-part g c = λ f begun.
+    let s = c.args.state.now.state in
+    let game : AbstractGame = c.game.result.now in
+    let same : game ≡ c.args.self.now.game = c.game.ensures.game ∙ ap (λ (x : Searching). x.game) c.self.view_is in
+    let lawful : IsGame game = subst IsGame (sym c.game.ensures.game) c.game.ensures.lawful in
+    let here : IsBegunBySets game s f c.args.flat.value = subst (λ (x : AbstractGame). IsBegunBySets x s f c.args.flat.value) (sym same) begun in
+    let before : IsBegunBySets game s f c.deref_mut.result.now = subst (λ (x : Flat). IsBegunBySets game s f x) (sym c.deref_mut.ensures.value) here in
+    let asked : IsBegunBySets game s f c.deref.result.now = subst (λ (x : Flat). IsBegunBySets game s f x) (sym c.deref.ensures) here in
+    let whole : IsWhole c.deref.result.now = subst IsWhole (sym c.deref.ensures) c.requires.whole in
+    let found : AreFound game s f c.finish.new.found.items = c.in_ok-many.ensures.found f before.begun in
+    let decides : IsTrue c.ends-ends.result ↔ MayEnd game s f = c.ends-ends.ensures game s f lawful.numbered asked.begun whole.closed in
+    subst (λ (x : AbstractGame). IsFlatPart x s f c.finish.new.found.items c.ends-ends.result) same (found_part game lawful.numbered s f c.finish.new.found.items c.ends-ends.result found decides)
+
+pub returns-clause-taken : goal.returns-clause-taken
+returns-clause-taken g c =
+    let s = c.args.state.now.state in
+    let game : AbstractGame = c.game.result.now in
+    let same : game ≡ c.args.self.now.game = c.game.ensures.game ∙ ap (λ (x : Searching). x.game) c.self.view_is in
+    record {
+      many = c.in_ok-many.many;
+      has = λ f begun.
+          let here : IsBegunBySets game s f c.args.flat.value = subst (λ (x : AbstractGame). IsBegunBySets x s f c.args.flat.value) (sym same) begun in
+          let before : IsBegunBySets game s f c.deref_mut.result.now = subst (λ (x : Flat). IsBegunBySets game s f x) (sym c.deref_mut.ensures.value) here in
+          subst (λ (x : AbstractGame). HasCandidates x s f c.in_ok-many.many) same (c.in_ok-many.ensures.count f before.begun);
+      sum = ap (λ (x : Searching). x.taken) c.self-2.view_is ∙ c.count_pairs.ensures.taken;
+      few = subst (λ (x : AbstractGame). c.in_ok-many.many ≤ most_pairs_of x) same c.in_ok-many.ensures.few;
+    }

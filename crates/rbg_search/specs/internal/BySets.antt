@@ -1,0 +1,89 @@
+-- A flat part that is being found by sets of vertices.
+use Rattle.std.specs.Prelude.{◌≡◌, ◌↔◌, ℕ, ◌+◌, ◌<◌, ◌≤◌, List, [], ◌∷◌, ◌++◌, length, Bool, Contains, IsTrue}
+use Rattle.rbg_rules.specs.Games.{IsGame}
+use Rattle.rbg_rules.specs.Positions.{IsPatternAt}
+use Rattle.rbg_rules.specs.Words.{Start}
+use Rattle.rbg_rules.specs.State.{AbstractGame, AbstractState}
+use Rattle.rbg_rules.specs.Actions.{Applies}
+use Rattle.rbg_rules.specs.Questions.{reach}
+use Rattle.rbg_state.specs.History.{History}
+use Rattle.rbg_flat.specs.declared.flat.Flat.{Flat}
+use Rattle.rbg_flat.specs.internal.Begun.{IsBegun}
+use Rattle.rbg_flat.specs.internal.Leading.{AreSizedFor, AreOn}
+use Rattle.rbg_flat.specs.internal.Sets.{IsMarked, IsOpen, IsDone, weight}
+use Rattle.rbg_search.specs.Searching.{Searching}
+use Rattle.rbg_search.specs.Taken.{CountsPairs}
+use Rattle.rbg_search.specs.internal.Asked.{CountsAsked}
+use Rattle.rbg_search.specs.internal.Closure.{at_vertex}
+use Rattle.rbg_search.specs.internal.Spent.{IsSpent}
+use Rattle.rbg_search.specs.internal.Taking.{AsksForced}
+
+-- What was found so far is right.
+pub record IsBegunBySets (game : AbstractGame) (s : AbstractState) (f : Start) (flat : Flat) : Type 0 where
+  pub begun : IsBegun game s f (IsMarked flat.sets) (IsOpen flat.sets) flat.ends
+
+-- There are sets for the game, and all that was met is of the game.
+pub record HasSetsFor (game : AbstractGame) (flat : Flat) : Type 0 where
+  pub sized : AreSizedFor game flat.sets
+  pub on : AreOn game flat.sets
+
+-- Nothing is left to be looked at.
+pub record IsWhole (flat : Flat) : Type 0 where
+  pub closed : (v p : ℕ) → ¬ IsOpen flat.sets v p
+
+-- The pairs are the patterns that were asked.
+pub record AreAsked (game : AbstractGame) (flat : Flat) (pairs : List (ℕ × ℕ)) : Type 0 where
+  pub done : (v p : ℕ) → Contains pairs (v, p) → IsDone flat.sets v p
+  pub all : (v p : ℕ) → IsPatternAt game.rules p → IsDone flat.sets v p → Contains pairs (v, p)
+
+-- A flat part is begun at a vertex, and nothing was asked.
+pub record BeginsBySets (game : AbstractGame) (f : Start) (vertex : ℕ) (flat : Flat) : Type 0 where
+  pub lawful : IsGame game
+  pub sets : HasSetsFor game flat
+  pub begun : (s : AbstractState) → s.vertex ≡ vertex → IsBegunBySets game s f flat
+  pub asked : AreAsked game flat []
+
+-- A flat part goes on, and nothing is asked.
+pub record AdvancesBySets (game : AbstractGame) (s : AbstractState) (old new : Flat) : Type 0 where
+  pub sets : HasSetsFor game new
+  pub begun : (f : Start) → IsBegunBySets game s f old → IsBegunBySets game s f new
+  pub asked : (pairs : List (ℕ × ℕ)) → AreAsked game old pairs → AreAsked game new pairs
+  pub lighter : weight new.sets ≤ weight old.sets
+
+-- The vertex is to be asked about the pattern at the position.
+pub record IsToBeAsked (game : AbstractGame) (flat : Flat) (v p : ℕ) : Type 0 where
+  pub pattern : IsPatternAt game.rules p
+  pub vertex : v < length game.board.first
+  pub marked : IsMarked flat.sets v p
+  pub is_open : IsOpen flat.sets v p
+
+-- It was asked, and the pattern is valid there or isn't.
+pub record TakesBySets (game : AbstractGame) (old new : Flat) (v p : ℕ) (valid : Bool) : Type 0 where
+  pub sets : HasSetsFor game new
+  pub begun :
+      (s : AbstractState) (f : Start) →
+      IsTrue valid ↔ Applies game p (at_vertex s v) (at_vertex s v) →
+      IsBegunBySets game s f old →
+      IsBegunBySets game s f new
+  pub asked : (pairs : List (ℕ × ℕ)) → AreAsked game old pairs → AreAsked game new (pairs ++ (v, p) ∷ [])
+  pub lighter : weight new.sets < weight old.sets
+
+-- What was counted while the patterns among some pairs were asked.
+pub record CountsBySets (game : AbstractGame) (s : AbstractState) (f : Start) (flat : Flat) (old new most : ℕ) : Type 0 where
+  pub pairs : List (ℕ × ℕ)
+  pub asked : AreAsked game flat pairs
+  pub counted : CountsAsked game s f pairs old new
+  pub forced : (cut : Bool) → AsksForced game cut s pairs old new most
+
+-- A search finds a flat part from f by sets: it was h, and the semi-state s, when that was begun.
+pub record FindsBySets (h k : Searching) (s l : History) (f : Start) (flat : Flat) : Type 0 where
+  pub kept : k ≡ record h { opened = k.opened; taken = k.taken }
+  pub given_back : l ≡ record s { room = l.room }
+  pub room : s.room ≤ l.room
+  pub enough : 2 ≤ l.room
+  pub lawful : IsGame h.game
+  pub sets : HasSetsFor h.game flat
+  pub begun : IsBegunBySets h.game s.state f flat
+  pub counts : CountsBySets h.game s.state f flat h.opened k.opened h.modifiers
+  pub spent : IsSpent h.game h.opened h.taken
+  pub taken : CountsPairs h.game reach s.state f (h.opened + 1) k.opened h.taken k.taken (Unit {0})

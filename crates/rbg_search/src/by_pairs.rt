@@ -1,0 +1,151 @@
+//! Flat parts that are found by pairs: what a search does with one.
+ghost use Rattle.std.specs.Prelude.{◌≡◌, ℕ, ◌+◌, ◌^◌, ◌<◌, ◌≤◌, ◌↔◌, length, slice_get, Some, IfOk, OnOk, IfSome, IfNone, IsTrue, [], ◌∷◌, ◌++◌, take, Contains, IfErr};
+ghost use Rattle.rbg_rules.specs.State.{AbstractState, IsStateOf};
+ghost use Rattle.rbg_rules.specs.Positions.{IsPatternAt};
+ghost use Rattle.rbg_rules.specs.Words.{Start};
+ghost use Rattle.rbg_rules.specs.Actions.{Applies};
+ghost use Rattle.rbg_rules.specs.Games.{IsGame};
+ghost use Rattle.rbg_search.specs.Flat.{IsFlatPart};
+ghost use Rattle.rbg_search.specs.Start.{start_of};
+ghost use Rattle.rbg_search.specs.internal.Begun.{IsBegun};
+ghost use Rattle.rbg_search.specs.internal.Closure.{at_vertex, Reached as Meets};
+ghost use Rattle.rbg_search.specs.internal.Part.{HasMarksOf};
+ghost use Rattle.rbg_search.specs.internal.Plain.{CountsPart, HasPlain};
+ghost use Rattle.rbg_search.specs.internal.Spent.{IsSpentButOne};
+
+use crate::answer::outcome_of;
+use crate::flat::Flat;
+use crate::origin::Origin;
+use crate::over::Over;
+use crate::search::Search;
+use rbg_auto::Steps;
+use rbg_base::{Memory, Position, Vertex};
+use rbg_state::SemiState;
+use std::mem::swap;
+
+impl<'a, S: Steps> Search<'a, S> {
+    /// A flat part that is not in use.
+    fn unused_flat(&mut self) -> Result<Box<Flat>, Over>
+        ensures kept { self.new ≡ self.old }
+        ensures marks { IfOk result (λ flat. HasMarksOf self.old.game flat.value.queue) }
+        ensures memory { IfErr result (λ over. over ≡ Over.Memory) }
+    {
+        match self.flats.pop() {
+            Some(flat) => Ok(flat),
+            None => Ok(Box::new(self.alloc, Flat::new(self.alloc, self.rules.game())?)?),
+        }
+    }
+
+    /// A flat part that is begun at a vertex.
+    pub(crate) fn begun(&mut self, origin: Origin, vertex: Vertex) -> Result<Box<Flat>, Over>
+        requires there { vertex < length self.old.game.board.first }
+        ensures kept { self.new ≡ self.old }
+        ensures begun { IfOk result (λ flat. (s : AbstractState) → s.vertex ≡ vertex
+            → IsBegun self.old.game s (start_of origin) flat.value) }
+        ensures none_taken { IfOk result (λ flat. flat.value.taken ≡ 0) }
+        ensures lawful { IfOk result (λ _. IsGame self.old.game) }
+        ensures memory { IfErr result (λ over. over ≡ Over.Memory) }
+    {
+        let mut flat = self.unused_flat()?;
+        flat.begin(&self.rules, origin, vertex)?;
+        Ok(flat)
+    }
+
+    /// Takes pairs up to the next one at a pattern, and returns that; none where each pair was taken.
+    pub(crate) fn advance(
+        &self,
+        flat: &mut Box<Flat>,
+        state: &mut SemiState,
+    ) -> Result<Option<(Vertex, Position)>, Memory>
+        requires fits { IsStateOf self.now.game state.old.state }
+        requires room { 2 ≤ state.old.room }
+        requires marks { HasMarksOf self.now.game flat.old.value.queue }
+        requires within { flat.old.value.taken ≤ length flat.old.value.queue.pairs }
+        ensures given_back { state.new ≡ state.old }
+        ensures begun { OnOk result ((f : Start)
+            → IsBegun self.now.game state.old.state f flat.old.value
+            → IsBegun self.now.game state.old.state f flat.new.value) }
+        ensures further { OnOk result (flat.old.value.taken ≤ flat.new.value.taken) }
+        ensures asked { IfOk result (λ next. IfSome next (λ pair.
+            (slice_get flat.new.value.queue.pairs flat.new.value.taken ≡ Some pair)
+            × (pair.0 < length self.now.game.board.first)
+            × IsPatternAt self.now.game.rules pair.1)) }
+        ensures whole { IfOk result (λ next. IfNone next ((f : Start)
+            → IsBegun self.now.game state.old.state f flat.old.value
+            → IsFlatPart self.now.game state.old.state f flat.new.value.found.items
+            flat.new.value.ends)) }
+        ensures marks { HasMarksOf self.now.game flat.new.value.queue }
+        ensures still_done { OnOk result ((x : ℕ × ℕ)
+            → Contains (take flat.old.value.taken flat.old.value.queue.pairs) x
+            → Contains (take flat.new.value.taken flat.new.value.queue.pairs) x) }
+        ensures quiet { OnOk result ((v p : ℕ)
+            → Contains (take flat.new.value.taken flat.new.value.queue.pairs) (v, p)
+            → IsPatternAt self.now.game.rules p
+            → Contains (take flat.old.value.taken flat.old.value.queue.pairs) (v, p)) }
+        ensures met { IfOk result (λ next. IfNone next ((f : Start)
+            → IsBegun self.now.game state.old.state f flat.old.value → (v p : ℕ)
+            → Meets self.now.game state.old.state f v p
+            → Contains (take flat.new.value.taken flat.new.value.queue.pairs) (v, p))) }
+        ensures fresh { IfOk result (λ next. IfSome next (λ pair.
+            ¬ Contains (take flat.new.value.taken flat.new.value.queue.pairs) pair)) }
+    {
+        // The game is lawful.
+        let _game = self.rules.game();
+        flat.advance(&self.rules, state)
+    }
+
+    /// Takes the pair at a pattern, which is valid there or isn't.
+    pub(crate) fn take(
+        &self,
+        flat: &mut Box<Flat>,
+        vertex: Vertex,
+        position: Position,
+        valid: bool,
+    ) -> Result<(), Memory>
+        requires marks { HasMarksOf self.now.game flat.old.value.queue }
+        requires here { slice_get flat.old.value.queue.pairs flat.old.value.taken
+            ≡ Some (vertex, position) }
+        requires vertex { vertex < length self.now.game.board.first }
+        requires there { IsPatternAt self.now.game.rules position }
+        ensures begun { OnOk result ((s : AbstractState) (f : Start)
+            → IsTrue valid
+            ↔ Applies self.now.game position (at_vertex s vertex) (at_vertex s vertex)
+            → IsBegun self.now.game s f flat.old.value → IsBegun self.now.game s f flat.new.value) }
+        ensures taken { OnOk result (flat.new.value.taken ≡ flat.old.value.taken + 1) }
+        ensures small { OnOk result (flat.new.value.taken < 2 ^ 64) }
+        ensures done { OnOk result (take flat.new.value.taken flat.new.value.queue.pairs
+            ≡ take flat.old.value.taken flat.old.value.queue.pairs ++ (vertex, position) ∷ []) }
+    {
+        let _game = self.rules.game();
+        let _position = position;
+        flat.take(&self.rules, outcome_of(vertex, valid))?;
+        let _taken = flat.taken;
+        Ok(())
+    }
+
+    /// Hands out what a flat part found, in the list that is lent, and keeps the rest for further use, with the buffer
+    /// that came. Returns whether a word may end with no modifier more.
+    pub(crate) fn finish(
+        &mut self,
+        flat: Box<Flat>,
+        pairs: &mut Vec<(Vertex, Position)>,
+    ) -> Result<bool, Over>
+        requires marks { HasMarksOf self.old.game flat.value.queue }
+        requires one { IsSpentButOne self.old.game self.old.opened self.old.taken }
+        ensures kept { self.new ≡ record self.old { opened = self.new.opened; taken = self.new.taken } }
+        ensures opened { self.new.opened ≡ self.old.opened }
+        ensures taken { CountsPart self.old.game
+            (HasPlain self.old.game.rules flat.value.queue.pairs) self.old.taken self.new.taken }
+        ensures pairs { OnOk result (pairs.new.items ≡ flat.value.found.items) }
+        ensures ends { IfOk result (λ ends. ends ≡ flat.value.ends) }
+        ensures memory { IfErr result (λ over. over ≡ Over.Memory) }
+    {
+        let mut flat = flat;
+        swap(&mut flat.found, pairs);
+        let ends = flat.ends;
+        let many = flat.candidates(&self.rules);
+        self.count_pairs(many);
+        self.flats.push(flat)?;
+        Ok(ends)
+    }
+}

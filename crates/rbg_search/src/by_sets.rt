@@ -1,0 +1,137 @@
+//! Flat parts that are found by sets of vertices: what a search does with one.
+ghost use Rattle.std.specs.Prelude.{◌≡◌, ◌<◌, length, IfOk, IfErr, IfSome, IfNone, OnOk, OnErr};
+ghost use Rattle.rbg_rules.specs.Laws.{IsStart};
+ghost use Rattle.rbg_rules.specs.State.{IsStateOf};
+ghost use Rattle.rbg_rules.specs.Words.{Start};
+ghost use Rattle.rbg_leaps.specs.Origin.{start_of as leap_start_of};
+ghost use Rattle.rbg_flat.specs.Found.{HasCandidates};
+ghost use Rattle.rbg_flat.specs.Paths.{ArePathsOf};
+ghost use Rattle.rbg_flat.specs.internal.Leading.{AreSizedFor};
+ghost use Rattle.rbg_search.specs.Flat.{IsFlatPart};
+ghost use Rattle.rbg_search.specs.Start.{start_of};
+ghost use Rattle.rbg_search.specs.internal.BySets.{IsBegunBySets, HasSetsFor, IsWhole, BeginsBySets, AdvancesBySets, IsToBeAsked, TakesBySets};
+ghost use Rattle.rbg_search.specs.internal.Plain.{CountsPart};
+ghost use Rattle.rbg_search.specs.internal.Spent.{IsSpentButOne};
+
+use crate::origin::Origin;
+use crate::over::Over;
+use crate::search::Search;
+use rbg_auto::Steps;
+use rbg_base::{Position, Vertex};
+use rbg_flat::{Flat as SetFlat, Paths};
+use rbg_leaps::Origin as LeapOrigin;
+use rbg_state::SemiState;
+
+/// The same place in the rules, as leaps are asked for it.
+#[inline(always)]
+fn leap_origin(origin: Origin) -> LeapOrigin
+    ensures { leap_start_of result ≡ start_of origin }
+{
+    match origin {
+        Origin::Begin(expr) => LeapOrigin::Begin(expr),
+        Origin::After(position) => LeapOrigin::After(position),
+    }
+}
+
+impl<'a, S: Steps> Search<'a, S> {
+    /// A flat part by sets that is not in use.
+    fn unused_sets(&mut self) -> Result<Box<SetFlat>, Over>
+        ensures kept { self.new ≡ self.old }
+        ensures sized { IfOk result (λ flat. AreSizedFor self.old.game flat.value.sets) }
+        ensures memory { IfErr result (λ over. over ≡ Over.Memory) }
+    {
+        match self.sets.pop() {
+            Some(flat) => Ok(flat),
+            None => Ok(Box::new(self.alloc, SetFlat::new(self.alloc, self.rules.game())?)?),
+        }
+    }
+
+    /// A flat part by sets that is begun at a vertex.
+    pub(crate) fn begun_by_sets(
+        &mut self,
+        paths: &Paths,
+        origin: Origin,
+        vertex: Vertex,
+    ) -> Result<Box<SetFlat>, Over>
+        requires paths { ArePathsOf self.old.game paths.now }
+        requires there { vertex < length self.old.game.board.first }
+        requires stands { IsStart self.old.game.rules (start_of origin) }
+        ensures kept { self.new ≡ self.old }
+        ensures begins { IfOk result (λ flat.
+            BeginsBySets self.old.game (start_of origin) vertex flat.value) }
+        ensures memory { IfErr result (λ over. over ≡ Over.Memory) }
+    {
+        let mut flat = self.unused_sets()?;
+        flat.begin(self.rules.game(), paths, leap_origin(origin), vertex);
+        Ok(flat)
+    }
+
+    /// Goes on up to the next vertex that is to be asked about a pattern; none where nothing is left.
+    pub(crate) fn advance_by_sets(
+        &self,
+        paths: &Paths,
+        flat: &mut Box<SetFlat>,
+        state: &SemiState,
+    ) -> Option<(Vertex, Position)>
+        requires paths { ArePathsOf self.now.game paths.now }
+        requires fits { IsStateOf self.now.game state.now.state }
+        requires sets { HasSetsFor self.now.game flat.old.value }
+        ensures advances { AdvancesBySets self.now.game state.now.state flat.old.value
+            flat.new.value }
+        ensures next { IfSome result (λ pair.
+            IsToBeAsked self.now.game flat.new.value pair.0 pair.1) }
+        ensures whole { IfNone result (IsWhole flat.new.value) }
+    {
+        flat.advance(self.rules.game(), paths, state)
+    }
+
+    /// Takes a vertex that was asked about the pattern at a position, which is valid there or isn't.
+    pub(crate) fn take_by_sets(
+        &self,
+        paths: &Paths,
+        flat: &mut Box<SetFlat>,
+        vertex: Vertex,
+        position: Position,
+        valid: bool,
+    )
+        requires paths { ArePathsOf self.now.game paths.now }
+        requires sets { HasSetsFor self.now.game flat.old.value }
+        requires next { IsToBeAsked self.now.game flat.old.value vertex position }
+        ensures takes { TakesBySets self.now.game flat.old.value flat.new.value vertex position
+            valid }
+    {
+        flat.take(self.rules.game(), paths, vertex, position, valid);
+    }
+
+    /// Hands out what a flat part found, in the list that is lent, and keeps the rest for further use. Returns whether a
+    /// word may end with no modifier more.
+    pub(crate) fn finish_by_sets(
+        &mut self,
+        flat: Box<SetFlat>,
+        state: &SemiState,
+        pairs: &mut Vec<(Vertex, Position)>,
+    ) -> Result<bool, Over>
+        requires fits { IsStateOf self.old.game state.now.state }
+        requires sets { HasSetsFor self.old.game flat.value }
+        requires whole { IsWhole flat.value }
+        requires one { IsSpentButOne self.old.game self.old.opened self.old.taken }
+        ensures kept { self.new ≡ record self.old { opened = self.new.opened; taken = self.new.taken } }
+        ensures opened { self.new.opened ≡ self.old.opened }
+        ensures part { IfOk result (λ ends. (f : Start)
+            → IsBegunBySets self.old.game state.now.state f flat.value
+            → IsFlatPart self.old.game state.now.state f pairs.new.items ends) }
+        ensures taken { OnOk result (CountsPart self.old.game (λ many. (f : Start)
+            → IsBegunBySets self.old.game state.now.state f flat.value
+            → HasCandidates self.old.game state.now.state f many) self.old.taken self.new.taken) }
+        ensures none_taken { OnErr result (self.new.taken ≡ self.old.taken) }
+        ensures memory { IfErr result (λ over. over ≡ Over.Memory) }
+    {
+        let mut flat = flat;
+        let ends = flat.ends();
+        let many = flat.finish(self.rules.game(), state, pairs)?;
+        self.count_pairs(many);
+        // where there is no memory, it is let go
+        let _kept = self.sets.push(flat);
+        Ok(ends)
+    }
+}

@@ -1,6 +1,0 @@
--- The pieces of the vertices so far.
-use Rattle.std.proofs.Common.{◌≡◌, take}
-use Rattle.rbg_state.proofs.occupancy.Occupancy.start.Given as goal
-
-abbrev pub invariant-loop-vertex : goal.invariant-loop-vertex
-invariant-loop-vertex l = l.occupancy ≡ take l.vertex l.board.first

@@ -1,0 +1,147 @@
+//! The vertices on which each piece of the game stands, as rows of bits.
+ghost use Rattle.std.specs.Prelude.{◌≡◌, ℕ, List, ◌≤◌, ◌<◌, ◌^◌, ◌*◌, ◌++◌, [], ◌∷◌, length, slice_set, take, IfOk, IfSome, IfNone, OnErr};
+ghost use Rattle.rbg_state.specs.Rows.{IsRowOf, word_of, HasBit, AreRows, ChangesBit, ChangesWord};
+
+use crate::occupancy::refill;
+use rbg_base::{Memory, Piece, Vertex};
+use std::alloc::Global;
+
+/// For each of the first pieces a row of bits: the vertices on which it stands, 64 in a word.
+#[derive(Debug, Drop)]
+pub(crate) struct Rows {
+    /// How many words a row has.
+    columns: usize,
+    words: Vec<u64>,
+    ghost narrow: { columns < 2 ^ 32 },
+}
+
+impl Rows {
+    /// The rows of the first `kinds` pieces, where these stand on the vertices.
+    pub(crate) fn of(alloc: Global, pieces: &[Piece], kinds: usize) -> Result<Rows, Memory>
+        requires few { length pieces.now < 2 ^ 16 }
+        ensures rows { IfOk result (λ rows. AreRows pieces.now (length pieces.now) rows.columns rows.words.items) }
+        ensures wide { IfOk result (λ rows. length pieces.now ≤ rows.columns * 64) }
+    {
+        let columns = (pieces.len() + 63) / 64;
+        let mut rows = Rows {
+            columns,
+            words: vec![in alloc; 0; kinds.saturating_mul(columns)]?,
+        };
+        for index in 0..pieces.len() {
+            rows.add(pieces[index], index as Vertex);
+        }
+        Ok(rows)
+    }
+
+    /// No rows.
+    pub(crate) fn empty(alloc: Global) -> Rows
+        ensures { result.words.items ≡ [] }
+    {
+        Rows {
+            columns: 0,
+            words: Vec::new(alloc),
+        }
+    }
+
+    pub(crate) fn try_clone(&self) -> Result<Rows, Memory>
+        ensures columns { IfOk result (λ copy. copy.columns ≡ self.now.columns) }
+        ensures words { IfOk result (λ copy. copy.words.items ≡ self.now.words.items) }
+    {
+        Ok(Rows {
+            columns: self.columns,
+            words: self.words.clone()?,
+        })
+    }
+
+    /// Lets go of all rows, to become a copy of these by `fill`.
+    pub(crate) fn clear_for(&mut self, other: &Rows)
+        ensures columns { self.new.columns ≡ other.now.columns }
+        ensures words { self.new.words.items ≡ [] }
+    {
+        self.columns = other.columns;
+        self.words.clear();
+    }
+
+    /// Become a copy of others. Memory is taken only where there is no room for it.
+    pub(crate) fn fill(&mut self, other: &Rows) -> Result<(), Memory>
+        ensures columns { self.new.columns ≡ other.now.columns }
+        ensures words { IfOk result (λ _. self.new.words.items ≡ other.now.words.items) }
+        ensures refused { OnErr result (self.new.words.items ≡ []) }
+    {
+        self.columns = other.columns;
+        refill(&mut self.words, &other.words)
+    }
+
+    /// The row of a piece, if it has one.
+    pub(crate) fn row(&self, piece: Piece) -> Option<&[u64]>
+        ensures { (pieces : List ℕ) → AreRows pieces (length pieces) self.now.columns self.now.words.items
+            → length pieces ≤ self.now.columns * 64 → IfSome result (λ row. IsRowOf pieces piece row.now) }
+    {
+        let start = piece as usize * self.columns;
+        let end = start + self.columns;
+        if end <= self.words.len() {
+            Some(&self.words[start..end])
+        } else {
+            None
+        }
+    }
+
+    /// The word that has the bit of a piece and a vertex, if there is one.
+    #[inline(always)]
+    fn word(&self, piece: Piece, vertex: Vertex) -> Option<usize>
+        ensures some { IfSome result (λ word. word ≡ word_of self.now.columns piece vertex) }
+        ensures there { IfSome result (λ _. HasBit self.now.columns (length self.now.words.items) piece vertex) }
+        ensures within { IfSome result (λ word. word < length self.now.words.items) }
+        ensures none { IfNone result (¬ HasBit self.now.columns (length self.now.words.items) piece vertex) }
+    {
+        let column = vertex as usize / 64;
+        let word = piece as usize * self.columns + column;
+        if column < self.columns && word < self.words.len() {
+            Some(word)
+        } else {
+            None
+        }
+    }
+
+    /// The piece stands on the vertex from now on.
+    #[inline(always)]
+    pub(crate) fn add(&mut self, piece: Piece, vertex: Vertex)
+        ensures columns { self.new.columns ≡ self.old.columns }
+        ensures changed { ChangesBit self.old.columns self.old.words.items self.new.words.items piece vertex 1 }
+    {
+        if let Some(word) = self.word(piece, vertex) {
+            set_bit(&mut self.words, word, vertex % 64);
+        }
+    }
+
+    /// The piece no longer stands on the vertex.
+    #[inline(always)]
+    pub(crate) fn take(&mut self, piece: Piece, vertex: Vertex)
+        ensures columns { self.new.columns ≡ self.old.columns }
+        ensures changed { ChangesBit self.old.columns self.old.words.items self.new.words.items piece vertex 0 }
+    {
+        if let Some(word) = self.word(piece, vertex) {
+            clear_bit(&mut self.words, word, vertex % 64);
+        }
+    }
+}
+
+/// Sets a bit of a word.
+#[inline(always)]
+fn set_bit(words: &mut Vec<u64>, word: usize, bit: u32)
+    requires word { word < length words.old.items }
+    requires bit { bit < 64 }
+    ensures { ChangesWord words.old.items words.new.items word bit 1 }
+{
+    words[word] |= 1 << bit;
+}
+
+/// Clears a bit of a word.
+#[inline(always)]
+fn clear_bit(words: &mut Vec<u64>, word: usize, bit: u32)
+    requires word { word < length words.old.items }
+    requires bit { bit < 64 }
+    ensures { ChangesWord words.old.items words.new.items word bit 0 }
+{
+    words[word] &= !(1 << bit);
+}
