@@ -8,6 +8,7 @@ ghost use Rattle.rbg_ask.specs.Answers.{standing_answer, to_move};
 ghost use Rattle.rbg_ask.specs.Limits.{longest_line};
 ghost use Rattle.rbg_ask.specs.Questions.{QuestionHasSpelling};
 ghost use Rattle.rbg_ask.specs.Sessions.{AbstractSession, HasLedTo, beginning_of};
+ghost use Rattle.rbg_ask.specs.internal.Places.{AreReached};
 
 use crate::answer_writer::{
     write_board, write_matches, write_moves, write_refusal, write_standing, write_values,
@@ -55,6 +56,18 @@ impl Model for Session {
     ghost invariant = { λ s. AreReached s.game s.before.items s.place };
 }
 
+/// The place to which the keeper's first moves lead.
+fn first_place(game: &PlayedGame, workspace: &mut Workspace) -> Result<Place, Unsettled>
+    ensures place { IfOk result (λ place. Settles game.now (beginning_of game.now) place) }
+    ensures reached { IfOk result (AreReached game.now []) }
+    ensures heavy { result ≡ Err Heavy → MeetsHeavy game.now (beginning_of game.now) }
+    ensures endless { result ≡ Err Endless → IsEndless game.now (beginning_of game.now) }
+{
+    let mut place = game.start()?;
+    game.settle(&mut place, workspace)?;
+    Ok(place)
+}
+
 impl Session {
     /// A session at the place to which the keeper's first moves lead.
     pub fn new(alloc: Global, game: Game) -> Result<Session, Unsettled>
@@ -67,8 +80,7 @@ impl Session {
     {
         let game = PlayedGame::new(alloc, game)?;
         let mut workspace = Workspace::new(alloc);
-        let mut place = game.start()?;
-        game.settle(&mut place, &mut workspace)?;
+        let place = first_place(&game, &mut workspace)?;
         Ok(Session {
             alloc,
             game,

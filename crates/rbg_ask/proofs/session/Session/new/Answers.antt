@@ -1,6 +1,5 @@
 -- The keeper's first moves have led to the only place.
-use Rattle.rbg_ask.proofs.Places.{reached_first}
 use Rattle.rbg_ask.proofs.session.Session.new.Goals as goal
 
 pub invariant_of-result : goal.invariant_of-result
-invariant_of-result c = rw c.new-2.ensures.items (reached_first _ _ _ c.in_ok-place.ensures.start c.in_ok-settle.ensures.settles c.in_ok-settle.ensures.place)
+invariant_of-result c = rw c.new-2.ensures.items c.in_ok-place.ensures.reached
