@@ -1,5 +1,6 @@
 //! All questions of small random games are answered as slowly trying all words answers them.
-ghost use Rattle.std.specs.Prelude.{IfOk, IfSome};
+ghost use Rattle.std.specs.Prelude.{◌≡◌, IfOk, IfSome};
+ghost use Rattle.rbg_flat.specs.Paths.{ArePathsOf};
 ghost use Rattle.rbg_rules.specs.Places.{IsPlaceOf};
 
 use crate::asked::Asked;
@@ -13,9 +14,9 @@ use crate::table::Table;
 use crate::tree::Tree;
 use crate::world::World;
 use rbg_auto::{Steps, compact, compile};
+use rbg_flat::Paths;
 use rbg_game::load;
-use rbg_moves::Place;
-use rbg_rules::Game;
+use rbg_moves::{Place, PlayedGame};
 use std::alloc::{AllocError, Global};
 
 /// How many games are made.
@@ -23,10 +24,11 @@ const GAMES: u64 = 2_000;
 
 /// The text of a game on a board.
 fn text_of(alloc: Global, board: &Board, rules: &Tree) -> Result<String, AllocError> {
-    let board = board.text;
     let mut text = format!(in alloc;
-        "#players = white(4), black(4)\n#variables = n(2)\n#pieces = e, w\n#board = {board}\n#rules = "
+        "#players = white(4), black(4)\n#variables = n(2)\n#pieces = e, w\n#board = "
     )?;
+    board.spell(&mut text)?;
+    text.push_str("\n#rules = ")?;
     rules.spell(&mut text)?;
     Ok(text)
 }
@@ -46,6 +48,8 @@ fn compare_turn<S: Steps>(
     tally: &mut Tally,
 ) -> Result<Option<Turn>, Odd>
     requires steps { S.of_rules asked.now.steps.now asked.now.game.now.rules }
+    requires paths { IfSome asked.now.paths (λ told. ArePathsOf asked.now.game.now told.now) }
+    requires same { asked.now.played.now ≡ asked.now.game.now }
     requires place { IsPlaceOf asked.now.game.now turn.now.place }
     ensures { IfOk result (λ next. IfSome next (λ turn. IsPlaceOf asked.now.game.now turn.place)) }
 {
@@ -72,6 +76,8 @@ fn compare_turn<S: Steps>(
 /// Compares the first places of a game.
 fn compare_game<S: Steps>(asked: &Asked<'_, S>, choice: u64, tally: &mut Tally) -> Result<(), Odd>
     requires steps { S.of_rules asked.now.steps.now asked.now.game.now.rules }
+    requires paths { IfSome asked.now.paths (λ told. ArePathsOf asked.now.game.now told.now) }
+    requires same { asked.now.played.now ≡ asked.now.game.now }
 {
     let first = Turn {
         place: Place::start(asked.alloc, asked.game)?,
@@ -87,40 +93,61 @@ fn compare_game<S: Steps>(asked: &Asked<'_, S>, choice: u64, tally: &mut Tally) 
     Ok(())
 }
 
+/// Compares a game by an automaton, where seeds say so by sets of vertices.
+fn compare_by<'a, S: Steps>(
+    alloc: Global,
+    played: &'a PlayedGame,
+    steps: &'a S,
+    rules: Rules<'a>,
+    seed: u64,
+    tally: &mut Tally,
+) -> Result<(), Odd>
+    requires steps { S.of_rules steps.now played.now.rules }
+{
+    let game = played.as_game();
+    let paths = Paths::new(alloc, game, steps)?;
+    let asked = Asked {
+        alloc,
+        game,
+        steps,
+        paths: if seed % 4 < 2 { paths.as_ref() } else { None },
+        played,
+        rules,
+    };
+    compare_game(&asked, seed, tally)
+}
+
 /// Compares a game, by one of the two automata.
 fn compare(
     alloc: Global,
-    game: &Game,
+    played: &PlayedGame,
     rules: Rules<'_>,
     seed: u64,
     tally: &mut Tally,
 ) -> Result<(), Odd> {
+    let game = played.as_game();
     expect(game.positions() == rules.table.entries.len(), Odd::Load)?;
     if seed % 2 == 0 {
-        let steps = &compact(alloc, game)?;
-        let asked = Asked {
-            alloc,
-            game,
-            steps,
-            rules,
-        };
-        compare_game(&asked, seed, tally)
+        compare_by(alloc, played, &compact(alloc, game)?, rules, seed, tally)
     } else {
-        let steps = &compile(alloc, game)?;
-        let asked = Asked {
-            alloc,
-            game,
-            steps,
-            rules,
-        };
-        compare_game(&asked, seed, tally)
+        compare_by(alloc, played, &compile(alloc, game)?, rules, seed, tally)
+    }
+}
+
+/// The board of a seed: one of the rings for one in eight.
+fn board_of(seed: u64, generator: &mut Generator) -> Board {
+    let small = Board::small(generator.below(4));
+    if seed % 8 < 7 {
+        small
+    } else {
+        Board::ring(seed / 8)
     }
 }
 
 /// Makes a game and compares it.
 fn compare_seed(alloc: Global, seed: u64, tally: &mut Tally) -> Result<(), Odd> {
     let mut generator = Generator::new(alloc, seed);
-    let board = Board::of_number(generator.below(4));
+    let board = board_of(seed, &mut generator);
     let tree = generator.rules()?;
     let table = Table::new(alloc, &tree)?;
     let text = text_of(alloc, &board, &tree)?;
@@ -131,7 +158,8 @@ fn compare_seed(alloc: Global, seed: u64, tally: &mut Tally) -> Result<(), Odd> 
         board: &board,
         table: &table,
     };
-    compare(alloc, &game, rules, seed, tally)
+    let played = PlayedGame::new(alloc, game)?;
+    compare(alloc, &played, rules, seed, tally)
 }
 
 #[test]

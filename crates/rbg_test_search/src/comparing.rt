@@ -1,5 +1,6 @@
 //! What searches reach and which patterns hold, beside the slow answers.
-ghost use Rattle.std.specs.Prelude.{◌<◌, ◌≤◌, length};
+ghost use Rattle.std.specs.Prelude.{◌<◌, ◌≤◌, length, IfSome};
+ghost use Rattle.rbg_flat.specs.Paths.{ArePathsOf};
 ghost use Rattle.rbg_rules.specs.Laws.{IsStart};
 ghost use Rattle.rbg_rules.specs.Places.{IsPlaceOf};
 ghost use Rattle.rbg_rules.specs.Positions.{positions_of, IsPatternAt};
@@ -58,14 +59,16 @@ fn reach<S: Steps>(
     workspace: &mut Workspace,
 ) -> Result<Result<Reached, Over>, Odd>
     requires steps { S.of_rules asked.now.steps.now asked.now.game.now.rules }
+    requires paths { IfSome asked.now.paths (λ told. ArePathsOf asked.now.game.now told.now) }
     requires place { IsPlaceOf asked.now.game.now place.now }
     requires stands { IsStart asked.now.game.now.rules (start_of origin) }
 {
     let mut state = place.state.try_clone()?;
-    let mut search = Search::with_workspace(
+    let mut search = Search::with_paths(
         asked.alloc,
         asked.game,
         asked.steps,
+        asked.paths,
         BUDGET,
         workspace,
     );
@@ -102,6 +105,7 @@ fn compare_start<S: Steps>(
     tally: &mut Tally,
 ) -> Result<(), Odd>
     requires steps { S.of_rules asked.now.steps.now asked.now.game.now.rules }
+    requires paths { IfSome asked.now.paths (λ told. ArePathsOf asked.now.game.now told.now) }
     requires place { IsPlaceOf asked.now.game.now place.now }
     requires stands { IsStart asked.now.game.now.rules (start_of origin) }
 {
@@ -119,14 +123,16 @@ fn pattern<S: Steps>(
     workspace: &mut Workspace,
 ) -> Result<Result<bool, Over>, Odd>
     requires steps { S.of_rules asked.now.steps.now asked.now.game.now.rules }
+    requires paths { IfSome asked.now.paths (λ told. ArePathsOf asked.now.game.now told.now) }
     requires place { IsPlaceOf asked.now.game.now place.now }
     requires there { IsPatternAt asked.now.game.now.rules position }
 {
     let mut state = place.state.try_clone()?;
-    let mut search = Search::with_workspace(
+    let mut search = Search::with_paths(
         asked.alloc,
         asked.game,
         asked.steps,
+        asked.paths,
         BUDGET,
         workspace,
     );
@@ -164,6 +170,7 @@ fn compare_position<S: Steps>(
     tally: &mut Tally,
 ) -> Result<(), Odd>
     requires steps { S.of_rules asked.now.steps.now asked.now.game.now.rules }
+    requires paths { IfSome asked.now.paths (λ told. ArePathsOf asked.now.game.now told.now) }
     requires place { IsPlaceOf asked.now.game.now place.now }
     requires from_one { 0 < position }
     requires there { position ≤ length (positions_of asked.now.game.now.rules) }
@@ -193,6 +200,7 @@ pub(crate) fn compare_reach<S: Steps>(
     tally: &mut Tally,
 ) -> Result<(), Odd>
     requires steps { S.of_rules asked.now.steps.now asked.now.game.now.rules }
+    requires paths { IfSome asked.now.paths (λ told. ArePathsOf asked.now.game.now told.now) }
     requires place { IsPlaceOf asked.now.game.now place.now }
 {
     let mut workspace = Workspace::new(asked.alloc);

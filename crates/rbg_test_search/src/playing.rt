@@ -1,5 +1,5 @@
 //! Which moves are legal and where they lead, beside the slow answers.
-ghost use Rattle.std.specs.Prelude.{◌<◌, IfOk, IfSome};
+ghost use Rattle.std.specs.Prelude.{◌≡◌, ◌<◌, IfOk, IfSome};
 ghost use Rattle.rbg_rules.specs.State.{IsStateOf};
 ghost use Rattle.rbg_rules.specs.Places.{IsPlaceOf};
 
@@ -13,6 +13,9 @@ use rbg_base::{Position, Variable, Vertex};
 use rbg_moves::{Listed, Move, Over, Pair, Place, find_move, list_moves, try_move};
 use rbg_rules::Game;
 use rbg_state::SemiState;
+
+/// On boards with more vertices than that, what goes on and on takes long, so only moves that are all known are compared.
+const FEW_VERTICES: usize = 4;
 
 /// Whether a semi-state is the one of the slow answers.
 fn is_same(game: &Game, state: &SemiState, world: &World) -> bool
@@ -37,13 +40,17 @@ fn try_pairs<S: Steps>(
     pairs: &[Pair],
 ) -> Result<Option<Place>, Over>
     requires steps { S.of_rules asked.now.steps.now asked.now.game.now.rules }
+    requires same { asked.now.played.now ≡ asked.now.game.now }
     requires place { IsPlaceOf asked.now.game.now place.now }
     ensures { IfOk result (λ after. IfSome after (IsPlaceOf asked.now.game.now)) }
 {
     let Ok(pairs) = Move::try_from(pairs) else {
         return Ok(None);
     };
-    try_move(asked.alloc, asked.game, asked.steps, place, &pairs)
+    match asked.paths {
+        Some(_) => asked.played.try_move(place, &pairs),
+        None => try_move(asked.alloc, asked.game, asked.steps, place, &pairs),
+    }
 }
 
 /// Compares a legal move with what trying it answers.
@@ -54,6 +61,7 @@ fn compare_legal<S: Steps>(
     whole: bool,
 ) -> Result<(), Odd>
     requires steps { S.of_rules asked.now.steps.now asked.now.game.now.rules }
+    requires same { asked.now.played.now ≡ asked.now.game.now }
     requires place { IsPlaceOf asked.now.game.now place.now }
 {
     match try_pairs(asked, place, &played.pairs) {
@@ -75,6 +83,7 @@ fn compare_pairs<S: Steps>(
     tally: &mut Tally,
 ) -> Result<(), Odd>
     requires steps { S.of_rules asked.now.steps.now asked.now.game.now.rules }
+    requires same { asked.now.played.now ≡ asked.now.game.now }
     requires place { IsPlaceOf asked.now.game.now place.now }
 {
     if !moves.whole || moves.has(pairs) {
@@ -97,6 +106,7 @@ fn compare_near<S: Steps>(
     tally: &mut Tally,
 ) -> Result<(), Odd>
     requires steps { S.of_rules asked.now.steps.now asked.now.game.now.rules }
+    requires same { asked.now.played.now ≡ asked.now.game.now }
     requires place { IsPlaceOf asked.now.game.now place.now }
 {
     let Some((last, front)) = played.pairs.split_last() else {
@@ -131,6 +141,7 @@ fn compare_single<S: Steps>(
     tally: &mut Tally,
 ) -> Result<(), Odd>
     requires steps { S.of_rules asked.now.steps.now asked.now.game.now.rules }
+    requires same { asked.now.played.now ≡ asked.now.game.now }
     requires place { IsPlaceOf asked.now.game.now place.now }
 {
     let vertex = place.state.vertex();
@@ -175,6 +186,31 @@ fn is_list(listed: &Listed, moves: &Moves, max: usize) -> bool {
     right
 }
 
+/// The list of at most `max` moves.
+fn list<S: Steps>(asked: &Asked<'_, S>, place: &Place, max: usize) -> Result<Listed, Over>
+    requires steps { S.of_rules asked.now.steps.now asked.now.game.now.rules }
+    requires same { asked.now.played.now ≡ asked.now.game.now }
+    requires place { IsPlaceOf asked.now.game.now place.now }
+    requires some { 0 < max }
+{
+    match asked.paths {
+        Some(_) => asked.played.list_moves(place, max),
+        None => list_moves(asked.alloc, asked.game, asked.steps, place, max),
+    }
+}
+
+/// A move that is found.
+fn find<S: Steps>(asked: &Asked<'_, S>, place: &Place) -> Result<Option<Move>, Over>
+    requires steps { S.of_rules asked.now.steps.now asked.now.game.now.rules }
+    requires same { asked.now.played.now ≡ asked.now.game.now }
+    requires place { IsPlaceOf asked.now.game.now place.now }
+{
+    match asked.paths {
+        Some(_) => asked.played.find_move(place),
+        None => find_move(asked.alloc, asked.game, asked.steps, place),
+    }
+}
+
 /// Compares the list of at most `max` moves.
 fn compare_list<S: Steps>(
     asked: &Asked<'_, S>,
@@ -183,10 +219,11 @@ fn compare_list<S: Steps>(
     max: usize,
 ) -> Result<(), Odd>
     requires steps { S.of_rules asked.now.steps.now asked.now.game.now.rules }
+    requires same { asked.now.played.now ≡ asked.now.game.now }
     requires place { IsPlaceOf asked.now.game.now place.now }
     requires some { 0 < max }
 {
-    match list_moves(asked.alloc, asked.game, asked.steps, place, max) {
+    match list(asked, place, max) {
         Ok(listed) => expect(is_list(&listed, moves, max), Odd::List),
         Err(_) => expect(!moves.whole, Odd::Limits),
     }
@@ -195,9 +232,10 @@ fn compare_list<S: Steps>(
 /// Compares the move that is found.
 fn compare_found<S: Steps>(asked: &Asked<'_, S>, place: &Place, moves: &Moves) -> Result<(), Odd>
     requires steps { S.of_rules asked.now.steps.now asked.now.game.now.rules }
+    requires same { asked.now.played.now ≡ asked.now.game.now }
     requires place { IsPlaceOf asked.now.game.now place.now }
 {
-    match find_move(asked.alloc, asked.game, asked.steps, place) {
+    match find(asked, place) {
         Ok(Some(found)) => expect(!moves.whole || moves.has(found.as_slice()), Odd::Find),
         Ok(None) => expect(moves.moves.is_empty(), Odd::Find),
         Err(_) => expect(!moves.whole, Odd::Limits),
@@ -213,10 +251,14 @@ pub(crate) fn compare_moves<S: Steps>(
     tally: &mut Tally,
 ) -> Result<Moves, Odd>
     requires steps { S.of_rules asked.now.steps.now asked.now.game.now.rules }
+    requires same { asked.now.played.now ≡ asked.now.game.now }
     requires place { IsPlaceOf asked.now.game.now place.now }
 {
     let moves = asked.rules.moves(asked.alloc, world, words)?;
     tally.count_moves(&moves);
+    if !moves.whole && asked.rules.board.len() > FEW_VERTICES {
+        return Ok(moves);
+    }
     compare_found(asked, place, &moves)?;
     compare_list(asked, place, &moves, 200)?;
     compare_list(asked, place, &moves, 2)?;
@@ -235,6 +277,7 @@ pub(crate) fn play<S: Steps>(
     played: &Played,
 ) -> Result<Option<Place>, Odd>
     requires steps { S.of_rules asked.now.steps.now asked.now.game.now.rules }
+    requires same { asked.now.played.now ≡ asked.now.game.now }
     requires place { IsPlaceOf asked.now.game.now place.now }
     ensures { IfOk result (λ after. IfSome after (IsPlaceOf asked.now.game.now)) }
 {

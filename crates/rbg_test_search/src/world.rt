@@ -43,8 +43,8 @@ impl World {
     pub(crate) fn start(board: &Board) -> World {
         let mut pieces = [0; MOST_VERTICES];
         for vertex in 0..MOST_VERTICES {
-            if let Some(piece) = board.first.get(vertex) {
-                pieces[vertex] = *piece;
+            if let Some(piece) = board.first(vertex) {
+                pieces[vertex] = piece;
             }
         }
         World {
@@ -65,7 +65,7 @@ impl World {
             Operand::Number(number) => Some(i64::from(number)),
             Operand::Variable(variable) => self.values.get(variable as usize).copied(),
             Operand::Count(piece) => {
-                let vertices = self.pieces.get(..board.first.len())?;
+                let vertices = self.pieces.get(..board.len())?;
                 Some(count(vertices, piece))
             }
         }
