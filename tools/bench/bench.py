@@ -140,10 +140,11 @@ DEPTHS = {
 
 
 def search(run, programs):
-    head("The search: `rbg_author perft GAME MOVES`", "Game", "Moves", "Sequences", "Openings", "Pairs", "Instructions a pair")
+    head("The search: `rbg_author perft GAME MOVES`", "Game", "Moves", "Sequences", "Openings", "Candidates", "Instructions an opening")
     for name, depth in DEPTHS.items():
         file = run.file("text.rbg", texts.game(name))
-        before = run.counted([programs.author, "explain", file])[1], 0, 0
+        # asked nothing, the game is made ready for play and no more
+        before = run.counted([programs.rbg, "ask", file])[1], 0, 0
         for moves in range(1, depth + 1):
             printed, total, _ = run.counted([programs.author, "perft", file, str(moves)])
             lines = printed.splitlines()
@@ -151,7 +152,7 @@ def search(run, programs):
             spent, more, taken = total - before[0], openings - before[1], pairs - before[2]
             before = total, openings, pairs
             if moves >= depth - 1:
-                row(name, moves, f"{int(lines[-2].split()[1]):,}", f"{more:,}", f"{taken:,}", round(spent / taken))
+                row(name, moves, f"{int(lines[-2].split()[1]):,}", f"{more:,}", f"{taken:,}", f"{spent / more:,.0f}")
 
 
 def limit(run, programs):
