@@ -32,7 +32,7 @@ pub fn ask_file<F: Files, R: Read, W: Write>(
     let text = read_description(alloc, files, file)?;
     let game = load(alloc, text.as_slice())?;
     match Session::new(alloc, game) {
-        Ok(session) => answer_all(alloc, session, input, output),
+        Ok(mut session) => answer_all(alloc, &mut session, input, output),
         Err(Unsettled::Memory) => Err(Fault::Memory(AllocError)),
         Err(_) => Ok(over(alloc)?),
     }
@@ -46,13 +46,13 @@ fn over(alloc: Global) -> Result<Vec<u8>, AllocError> {
     Ok(line)
 }
 
+/// Answers the questions of the whole input.
 fn answer_all<R: Read, W: Write>(
     alloc: Global,
-    session: Session,
+    session: &mut Session,
     input: &mut R,
     output: &mut W,
 ) -> Result<Vec<u8>, Fault> {
-    let mut session = session;
     let mut chunk = vec![in alloc; 0u8; CHUNK]?;
     let mut line = Vec::with_capacity(alloc, MAX_LINE + 1)?;
     for _ in 0..u64::MAX {
@@ -68,14 +68,14 @@ fn answer_all<R: Read, W: Write>(
         if count == 0 {
             break;
         }
-        match hear_piece(alloc, &mut session, &mut line, &chunk[..count], output)? {
+        match hear_piece(alloc, session, &mut line, &chunk[..count], output)? {
             Next::Read => {}
             Next::End => return Ok(Vec::new(alloc)),
         }
     }
     // the last line may lack its line feed
     if !line.is_empty() {
-        hear_line(alloc, &mut session, line.as_slice(), output)?;
+        hear_line(alloc, session, line.as_slice(), output)?;
     }
     Ok(Vec::new(alloc))
 }

@@ -114,7 +114,17 @@ pub fn play<N: Network>(
         Some(table) => Client::join(alloc, stream, table)?,
         None => Client::new(alloc, stream),
     };
-    let outcome = play_rounds(network, &mut client, rounds)?;
+    play_on(alloc, network, &mut client, rounds)
+}
+
+/// Plays on a connection, and gives the match's last message.
+fn play_on<N: Network>(
+    alloc: Global,
+    network: &mut N,
+    client: &mut Client<N::Stream>,
+    rounds: u64,
+) -> Result<Vec<u8>, Fault> {
+    let outcome = play_rounds(network, client, rounds)?;
     Ok(outcome_line(alloc, &outcome)?)
 }
 
