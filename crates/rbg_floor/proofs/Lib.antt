@@ -5,6 +5,7 @@ mod Counts
 mod Early
 mod Growing
 mod Halls
+mod Logs
 mod Openings
 mod Owning
 mod Permitted

@@ -9,7 +9,8 @@ use Rattle.rbg_hall.proofs.Places.{there_within}
 use Rattle.rbg_wire.specs.Streams.{incomplete}
 use Rattle.rbg_match.specs.Config.{IsWithinLimits}
 use Rattle.rbg_hall.specs.Limits.{lines_in_all}
-use Rattle.rbg_hall.specs.Tables.{TableState, new_table}
+use Rattle.rbg_hall.specs.Tables.{new_table}
+use Rattle.rbg_ledger.specs.Kept.{KeptState, no_log}
 use Rattle.rbg_floor.specs.declared.error.HallError.{HallError}
 use Rattle.rbg_floor.specs.declared.error.HallError.TheVariants.{Config, Memory, Tables}
 use Rattle.rbg_floor.specs.declared.line.Line.{Line}
@@ -20,7 +21,7 @@ use Rattle.rbg_floor.specs.Openings.{AreWithinLimits, IsNewHall, IsRefusedHall, 
 use Rattle.rbg_floor.specs.Openings.{tables as refused_tables, config as refused_config}
 use Rattle.rbg_floor.specs.Failing.{HeldHall}
 use Rattle.rbg_floor.specs.Limits.{most_tables}
-use Rattle.rbg_floor.specs.internal.Parts.{AreReady, FirstHaveLimits, HaveLimits, IsFaulty, IsReady, line_of, lines_of, new_line, new_tables}
+use Rattle.rbg_floor.specs.internal.Parts.{AreReady, FirstHaveLimits, HaveLimits, IsFaulty, IsReady, ledgers_of, line_of, lines_of, new_kept, new_line, new_tables, states_of}
 
 get_of : {X : Type 0} (xs : List X) (i : ℕ) (d x : X) → slice_get xs i ≡ Some x → get_or xs i d ≡ x
 get_of [] i d x there = absurd (none-some x there)
@@ -54,9 +55,13 @@ all_have tables count past first k d within = first k (get_or tables k d) (omega
 pub starts_within : (tables : List Table) → HaveLimits tables → AreWithinLimits (starts_of tables)
 starts_within tables limits = All-map (λ (start : AbstractTable). IsWithinLimits start.config) start_of tables limits
 
-pub starts_new : (tables : List Table) → new_tables tables ≡ (new_hall (starts_of tables)).tables
-starts_new [] = refl
-starts_new (table ∷ tables) = ap (λ others. new_table table.game table.text.items table.config ∷ others) (starts_new tables)
+pub starts_new : (W : Type 0) (tables : List Table) → states_of (new_tables {W = W} tables) ≡ (new_hall (starts_of tables)).tables
+starts_new W [] = refl
+starts_new W (table ∷ tables) = ap (λ others. new_table table.game table.text.items table.config ∷ others) (starts_new W tables)
+
+pub ledgers_new : {W : Type 0} (tables : List Table) → ledgers_of (new_tables {W = W} tables) ≡ map (λ _. no_log) tables
+ledgers_new [] = refl
+ledgers_new {W} (table ∷ tables) = ap (λ others. no_log ∷ others) (ledgers_new {W = W} tables)
 
 pub fault_there : (tables : List Table) (index : ℕ) (table : Table) → slice_get tables index ≡ Some table → slice_get (starts_of tables) index ≡ Some (start_of table)
 fault_there [] index table there = absurd (none-some table there)
@@ -80,16 +85,16 @@ pub lines_new : (lines : List Line) → lines ≡ replicate lines_in_all new_lin
 lines_new lines are = ap lines_of are ∙ map_replicate line_of lines_in_all new_line
 
 -- tables are opened from the last to the first
-pub opened_one : (tables left rest : List Table) (table : Table) (opened more : List TableState) (one : TableState) → new_tables tables ≡ new_tables left ++ reverse opened → left ≡ rest ++ table ∷ [] → more ≡ opened ++ one ∷ [] → one ≡ new_table table.game table.text.items table.config → new_tables tables ≡ new_tables rest ++ reverse more
-opened_one tables left rest table opened more one so_far popped pushed is =
+pub opened_one : {W : Type 0} (tables left rest : List Table) (table : Table) (opened more : List (KeptState W)) (one : KeptState W) → new_tables tables ≡ new_tables left ++ reverse opened → left ≡ rest ++ table ∷ [] → more ≡ opened ++ one ∷ [] → one ≡ new_kept table → new_tables tables ≡ new_tables rest ++ reverse more
+opened_one {W} tables left rest table opened more one so_far popped pushed is =
     so_far
     ∙ ap (λ all. new_tables all ++ reverse opened) popped
-    ∙ ap (λ all. all ++ reverse opened) (map-append (λ (table : Table). new_table table.game table.text.items table.config) rest (table ∷ []))
-    ∙ append_assoc (new_tables rest) (new_table table.game table.text.items table.config ∷ []) (reverse opened)
-    ∙ ap (λ (first : TableState). new_tables rest ++ (first ∷ reverse opened)) (sym is)
+    ∙ ap (λ all. all ++ reverse opened) (map-append (λ (table : Table). new_kept {W = W} table) rest (table ∷ []))
+    ∙ append_assoc (new_tables rest) (new_kept table ∷ []) (reverse opened)
+    ∙ ap (λ (first : KeptState W). new_tables rest ++ (first ∷ reverse opened)) (sym is)
     ∙ ap (λ last. new_tables rest ++ last) (sym (ap reverse pushed ∙ reversed opened one))
   where
-    reversed : (xs : List TableState) (x : TableState) → reverse (xs ++ x ∷ []) ≡ x ∷ reverse xs
+    reversed : (xs : List (KeptState W)) (x : KeptState W) → reverse (xs ++ x ∷ []) ≡ x ∷ reverse xs
     reversed xs x = reverse-append xs (x ∷ [])
 
 pub memory_refused : (starts : List AbstractTable) (error : HallError) → error ≡ Memory → IsRefusedHall starts error
@@ -125,11 +130,11 @@ config_refused tables index some few fault = refused_config index (start_of faul
 pub fault_small : (tables : List Table) (index : ℕ) → IsFaulty tables index → index < length tables
 fault_small tables index fault = there_within tables index fault.table fault.there
 
-pub made_new : (tables : List Table) (opened : List TableState) (made : HeldHall) (queues : List (List ℕ)) → length tables ≢ 0 → length tables ≤ most_tables → HaveLimits tables → opened ≡ new_tables tables → made.state.tables ≡ opened → made.state.lines ≡ replicate lines_in_all (silent (incomplete [])) → made.failed ≡ false → queues ≡ replicate lines_in_all [] → IsNewHall (starts_of tables) made queues
-made_new tables opened made queues some few limits is holds lines works queued = record {
+pub made_new : {W : Type 0} (tables : List Table) (opened : List (KeptState W)) (made : HeldHall W) (queues : List (List ℕ)) → length tables ≢ 0 → length tables ≤ most_tables → HaveLimits tables → opened ≡ new_tables tables → made.state.tables ≡ states_of opened → made.state.lines ≡ replicate lines_in_all (silent (incomplete [])) → made.failed ≡ false → queues ≡ replicate lines_in_all [] → IsNewHall (starts_of tables) made queues
+made_new {W} tables opened made queues some few limits is holds lines works queued = record {
   lawful = right_number tables some few;
   configs = starts_within tables limits;
-  is = λ i. record { tables = (holds ∙ is ∙ starts_new tables) i; lines = lines i };
+  is = λ i. record { tables = (holds ∙ ap states_of is ∙ starts_new W tables) i; lines = lines i };
   works = works;
   queued = queued;
 }

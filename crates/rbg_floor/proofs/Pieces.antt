@@ -6,9 +6,9 @@ use Rattle.std.specs.List.{flat_map}
 use Rattle.rbg_wire.specs.declared.message.Reason.TheVariants.{NoSeat}
 use Rattle.rbg_wire.specs.Streams.{Item, Rest, Stream, cut, with_bytes, without_first}
 use Rattle.rbg_match.specs.Limits.{message_limit}
-use Rattle.rbg_hall.specs.Hearing.{HearsFor}
-use Rattle.rbg_hall.specs.Tables.{TableState, joins, arrives, says, leaves}
+use Rattle.rbg_hall.specs.Tables.{joins, arrives, says, leaves}
 use Rattle.rbg_hall.specs.Tellings.{refusal_to, told_to}
+use Rattle.rbg_ledger.specs.Kept.{KeptHearsFor, KeptState}
 use Rattle.rbg_floor.specs.declared.hearing.First.{First}
 use Rattle.rbg_floor.specs.declared.hearing.First.TheVariants.{Nothing, Table, NoTable}
 use Rattle.rbg_floor.specs.Halls.{refused_for, refused_first}
@@ -106,11 +106,11 @@ ready_table fills request left = (
 )
 
 -- A line that has completed nothing, or asks for no table: no table hears it.
-module _ (olds : List TableState) (line at : ℕ) (rest : Rest) (bytes : List ℕ) where
-  pub heard_nothing : (new fed : Stream) (queues : List (List ℕ)) → IsFed rest bytes fed → AsksNothing fed new → PieceHeard olds (silent rest) line at bytes olds (silent new.rest) queues queues
+module _ {W : Type 0} {tells : W → List ℕ → Type 0} (olds : List (KeptState W)) (line at : ℕ) (rest : Rest) (bytes : List ℕ) where
+  pub heard_nothing : (new fed : Stream) (queues : List (List ℕ)) → IsFed rest bytes fed → AsksNothing fed new → PieceHeard tells olds (silent rest) line at bytes olds (silent new.rest) queues queues
   heard_nothing new fed queues fills request =
       let none : (cut message_limit rest bytes).items ≡ [] = sym fills.items ∙ request.empty in
-      let hear = nobody_hears {heard = λ (number : ℕ). heard_of_piece (length olds) number (silent rest) line at bytes} olds queues (λ index. ap (heard_first (length olds) (index + 1) line at) none) in
+      let hear = nobody_hears {tells = tells} {heard = λ (number : ℕ). heard_of_piece (length olds) number (silent rest) line at bytes} olds queues (λ index. ap (heard_first (length olds) (index + 1) line at) none) in
       record {
         told = hear.told;
         tables = hear.tables;
@@ -118,7 +118,7 @@ module _ (olds : List TableState) (line at : ℕ) (rest : Rest) (bytes : List �
         queued = hear.queued ∙ ap (λ first. told_to queues (first ++ flat_map (λ one. one) hear.told)) (ap (refused_first (length olds) line) (sym none));
       }
 
-  pub heard_no_table : (new fed : Stream) (before after : List (List ℕ)) → IsFed rest bytes fed → AsksNone (length olds) fed new → after ≡ told_to before (refusal_to line NoSeat) → PieceHeard olds (silent rest) line at bytes olds over before after
+  pub heard_no_table : (new fed : Stream) (before after : List (List ℕ)) → IsFed rest bytes fed → AsksNone (length olds) fed new → after ≡ told_to before (refusal_to line NoSeat) → PieceHeard tells olds (silent rest) line at bytes olds over before after
   heard_no_table new fed before after fills request told =
       let some : (cut message_limit rest bytes).items ≡ request.item ∷ request.taken.others = sym fills.items ∙ request.taken.items in
       record {
@@ -129,12 +129,12 @@ module _ (olds : List TableState) (line at : ℕ) (rest : Rest) (bytes : List �
         queued = told ∙ ap (told_to before) (sym (append-nil (refusal_to line NoSeat)) ∙ (λ i. sym (ap (refused_first (length olds) line) some ∙ ap (refused_for line) request.asked) i ++ sym (silence_tells olds) i));
       }
 
-  pub heard_table : (index : ℕ) (new left fed : Stream) (old now : TableState) (before after : List (List ℕ)) → IsFed rest bytes fed → AsksTable (length olds) fed new index → old ≡ get_or olds index old → HearsEachFor old (joins line at ∷ map (says line at) new.items) now before after → left ≡ record new { items = [] } → PieceHeard olds (silent rest) line at bytes (set olds index now) (asks (index + 1) left.rest) before after
+  pub heard_table : (index : ℕ) (new left fed : Stream) (old now : KeptState W) (before after : List (List ℕ)) → IsFed rest bytes fed → AsksTable (length olds) fed new index → old ≡ get_or olds index old → HearsEachFor tells old (joins line at ∷ map (says line at) new.items) now before after → left ≡ record new { items = [] } → PieceHeard tells olds (silent rest) line at bytes (set olds index now) (asks (index + 1) left.rest) before after
   heard_table index new left fed old now before after fills request found hears empties =
       let others = request.taken.others in
       let some : (cut message_limit rest bytes).items ≡ request.item ∷ others = sym fills.items ∙ request.taken.items in
       let same : new.items ≡ others = ap (λ (s : Stream). s.items) request.taken.left in
-      let hear = one_table {heard = λ (number : ℕ). heard_of_piece (length olds) number (silent rest) line at bytes} {events = joins line at ∷ map (says line at) new.items} olds index old now found request.within hears
+      let hear = one_table {tells = tells} {heard = λ (number : ℕ). heard_of_piece (length olds) number (silent rest) line at bytes} {events = joins line at ∷ map (says line at) new.items} olds index old now found request.within hears
       (ap (heard_first (length olds) (index + 1) line at) some
       ∙ ap (λ asked. if is_for (index + 1) asked then joins line at ∷ map (says line at) others else []) request.asked
       ∙ ap (λ test. if test then joins line at ∷ map (says line at) others else []) (eq-eqb (index + 1) (index + 1) refl)
@@ -155,10 +155,10 @@ module _ (olds : List TableState) (line at : ℕ) (rest : Rest) (bytes : List �
       less : (n m : ℕ) → m + 1 ≡ n + 1 → n ≡ m
       less n m equal = omega arith
 
-  pub heard_again : (index : ℕ) (left fed : Stream) (old now : TableState) (before after : List (List ℕ)) → index < length olds → IsFed rest bytes fed → old ≡ get_or olds index old → HearsEachFor old (arrives line at ∷ map (says line at) fed.items) now before after → left ≡ record fed { items = [] } → PieceHeard olds (asks (index + 1) rest) line at bytes (set olds index now) (asks (index + 1) left.rest) before after
+  pub heard_again : (index : ℕ) (left fed : Stream) (old now : KeptState W) (before after : List (List ℕ)) → index < length olds → IsFed rest bytes fed → old ≡ get_or olds index old → HearsEachFor tells old (arrives line at ∷ map (says line at) fed.items) now before after → left ≡ record fed { items = [] } → PieceHeard tells olds (asks (index + 1) rest) line at bytes (set olds index now) (asks (index + 1) left.rest) before after
   heard_again index left fed old now before after within fills found hears empties =
       let items = (cut message_limit rest bytes).items in
-      let hear = one_table {heard = λ (number : ℕ). heard_of_piece (length olds) number (asks (index + 1) rest) line at bytes} {events = arrives line at ∷ map (says line at) fed.items} olds index old now found within hears
+      let hear = one_table {tells = tells} {heard = λ (number : ℕ). heard_of_piece (length olds) number (asks (index + 1) rest) line at bytes} {events = arrives line at ∷ map (says line at) fed.items} olds index old now found within hears
       (ap (λ test. if test then arrives line at ∷ map (says line at) items else []) (eq-eqb (index + 1) (index + 1) refl)
       ∙ ap (λ all. arrives line at ∷ map (says line at) all) (sym fills.items))
       (λ other differ. ap (λ test. if test then arrives line at ∷ map (says line at) items else []) (ne_eqb (index + 1) (other + 1) (λ equal. differ (less other index equal)))) in
@@ -172,23 +172,23 @@ module _ (olds : List TableState) (line at : ℕ) (rest : Rest) (bytes : List �
       less : (n m : ℕ) → m + 1 ≡ n + 1 → n ≡ m
       less n m equal = omega arith
 
-  pub heard_over : (queues : List (List ℕ)) → PieceHeard olds over line at bytes olds over queues queues
+  pub heard_over : (queues : List (List ℕ)) → PieceHeard tells olds over line at bytes olds over queues queues
   heard_over queues =
-      let hear = nobody_hears {heard = λ (number : ℕ). heard_of_piece (length olds) number over line at bytes} olds queues (λ index. refl) in
+      let hear = nobody_hears {tells = tells} {heard = λ (number : ℕ). heard_of_piece (length olds) number over line at bytes} olds queues (λ index. refl) in
       record { told = hear.told; tables = hear.tables; stands = refl; queued = hear.queued }
 
 -- the end of a line
-pub end_of_asking : (olds : List TableState) (line at index : ℕ) (rest : Rest) (old now : TableState) (before after : List (List ℕ)) → index < length olds → old ≡ get_or olds index old → HearsFor old (leaves line at) now before after → TablesHear (λ (number : ℕ). heard_of_end number (asks (index + 1) rest) line at) olds (set olds index now) before after
+pub end_of_asking : {W : Type 0} {tells : W → List ℕ → Type 0} (olds : List (KeptState W)) (line at index : ℕ) (rest : Rest) (old now : KeptState W) (before after : List (List ℕ)) → index < length olds → old ≡ get_or olds index old → KeptHearsFor tells old (leaves line at) now before after → TablesHear tells (λ (number : ℕ). heard_of_end number (asks (index + 1) rest) line at) olds (set olds index now) before after
 end_of_asking olds line at index rest old now before after within found hears =
-    one_table {heard = λ (number : ℕ). heard_of_end number (asks (index + 1) rest) line at} {events = leaves line at ∷ []} olds index old now found within (one_heard (nothing_heard old before) hears)
+    one_table {heard = λ (number : ℕ). heard_of_end number (asks (index + 1) rest) line at} {events = leaves line at ∷ []} olds index old now found within (one_heard (nothing_heard _ old before) hears)
     (ap (λ test. if test then leaves line at ∷ [] else []) (eq-eqb (index + 1) (index + 1) refl))
     (λ other differ. ap (λ test. if test then leaves line at ∷ [] else []) (ne_eqb (index + 1) (other + 1) (λ equal. differ (less other index equal))))
   where
     less : (n m : ℕ) → m + 1 ≡ n + 1 → n ≡ m
     less n m equal = omega arith
 
-pub end_of_silent : (olds : List TableState) (line at : ℕ) (rest : Rest) (queues : List (List ℕ)) → TablesHear (λ (number : ℕ). heard_of_end number (silent rest) line at) olds olds queues queues
+pub end_of_silent : {W : Type 0} {tells : W → List ℕ → Type 0} (olds : List (KeptState W)) (line at : ℕ) (rest : Rest) (queues : List (List ℕ)) → TablesHear tells (λ (number : ℕ). heard_of_end number (silent rest) line at) olds olds queues queues
 end_of_silent olds line at rest queues = nobody_hears {heard = λ (number : ℕ). heard_of_end number (silent rest) line at} olds queues (λ index. refl)
 
-pub end_of_over : (olds : List TableState) (line at : ℕ) (queues : List (List ℕ)) → TablesHear (λ (number : ℕ). heard_of_end number over line at) olds olds queues queues
+pub end_of_over : {W : Type 0} {tells : W → List ℕ → Type 0} (olds : List (KeptState W)) (line at : ℕ) (queues : List (List ℕ)) → TablesHear tells (λ (number : ℕ). heard_of_end number over line at) olds olds queues queues
 end_of_over olds line at queues = nobody_hears {heard = λ (number : ℕ). heard_of_end number over line at} olds queues (λ index. refl)

@@ -15,6 +15,7 @@ use Rattle.rbg_floor.specs.Halls.{AbstractTable, HallState}
 use Rattle.rbg_floor.specs.Hearing.{HallHears}
 use Rattle.rbg_floor.specs.Events.{AbstractHallEvent}
 use Rattle.rbg_floor.specs.Laws.{ServedHallIsAllowed}
+use Rattle.rbg_floor.specs.Ledgers.{HallStops, HallWrites}
 use Rattle.rbg_floor.specs.Openings.{IsNewHall}
 use Rattle.rbg_floor.specs.Serving.{IsServedHall, hall_event, hall_events, of_hall}
 use Rattle.rbg_floor.specs.Wholes.{HasRun, IsOfHall}
@@ -32,13 +33,13 @@ hearing_extends {before = before} hears = λ index within.
     (told_extends 0 before hears.told index within)
 
 -- what the step of a hall answers, as a call hears it
-pub stepped_so : {E : Type 0} (old new : HallState) (failed : Bool) (before after : List (List ℕ)) (result : Result (Unit {0}) E) (heard wanted : AbstractHallEvent) → heard ≡ wanted → failed ≡ is_err result → OnOk result (HallHears old heard new before after) → OnOk result (HallHears old wanted new before after × (failed ≡ false))
-stepped_so old new failed before after (Ok done) heard wanted same failing hears = (subst (λ event. HallHears old event new before after) same hears, failing)
-stepped_so old new failed before after (Err error) heard wanted same failing hears = tt
+pub stepped_so : {E W : Type 0} (told : W → List ℕ → Type 0) (old new : HeldHall W) (before after : List (List ℕ)) (result : Result (Unit {0}) E) (heard wanted : AbstractHallEvent) → heard ≡ wanted → new.failed ≡ is_err result → OnOk result (HallHears old.state heard new.state before after) → OnOk result (HallWrites told old.state old.ledgers heard new.state new.ledgers) → OnOk result (HallHears old.state wanted new.state before after × HallWrites told old.state old.ledgers wanted new.state new.ledgers × (new.failed ≡ false))
+stepped_so told old new before after (Ok done) heard wanted same failing hears writes = (subst (λ event. HallHears old.state event new.state before after) same hears, subst (λ event. HallWrites told old.state old.ledgers event new.state new.ledgers) same writes, failing)
+stepped_so told old new before after (Err error) heard wanted same failing hears writes = tt
 
-pub failed_so : {E : Type 0} (failed : Bool) (before after : List (List ℕ)) (result : Result (Unit {0}) E) → failed ≡ is_err result → OnErr result (after ≡ before) → OnErr result ((after ≡ before) × (failed ≡ true))
-failed_so failed before after (Ok done) failing kept = tt
-failed_so failed before after (Err error) failing kept = (kept, failing)
+pub failed_so : {E W : Type 0} (told : W → List ℕ → Type 0) (old new : HeldHall W) (before after : List (List ℕ)) (result : Result (Unit {0}) E) → new.failed ≡ is_err result → OnErr result (after ≡ before) → OnErr result (HallStops told old.state.tables old.ledgers new.state.tables new.ledgers) → OnErr result ((after ≡ before) × ((new.failed ≡ true) × HallStops told old.state.tables old.ledgers new.state.tables new.ledgers))
+failed_so told old new before after (Ok done) failing kept stops = tt
+failed_so told old new before after (Err error) failing kept stops = (kept, (failing, stops))
 
 pub works_so : {E : Type 0} (was failed : Bool) (result : Result (Unit {0}) E) → failed ≡ is_err result → OnOk result (was ≡ false → failed ≡ false)
 works_so was failed (Ok done) failing = λ _. failing
@@ -49,29 +50,29 @@ as_many_so old new event before after (Ok done) hears kept = ap length hears.que
 as_many_so old new event before after (Err error) hears kept = ap length kept
 
 -- a hall that handles what is heard has run through it
-pub handled_run : {starts : List AbstractTable} {lines : ℕ} {old : HeldHall} {before : List (List ℕ)} {heard : List Heard} {new : HeldHall} {queued : List (List ℕ)} {since : List Intake} →
+pub handled_run : {W : Type 0} {told : W → List ℕ → Type 0} {starts : List AbstractTable} {lines : ℕ} {old : HeldHall W} {before : List (List ℕ)} {heard : List Heard} {new : HeldHall W} {queued : List (List ℕ)} {since : List Intake} →
     HasRun starts [] old.state before →
-    Handles of_hall lines old before heard new queued since →
+    Handles (of_hall told) lines old before heard new queued since →
     HasRun starts (hall_events heard) new.state queued
 handled_run run passing.nothing = run
-handled_run {starts} {new = new} {queued = queued} run (passing.more {heard} handles now one may step) =
+handled_run {starts = starts} {new = new} {queued = queued} run (passing.more {heard} handles now one may step) =
     subst (λ events. HasRun starts events new.state queued) (sym (map-append (λ (one : Heard). hall_event (event_of one)) heard (one ∷ [])))
     (run_on (handled_run run handles) step.0)
 
-allowed_so : {starts : List AbstractTable} {lines : ℕ} {old new : HeldHall} {before queued : List (List ℕ)} {heard : List Heard} {since : List Intake} →
+allowed_so : {W : Type 0} {told : W → List ℕ → Type 0} {starts : List AbstractTable} {lines : ℕ} {old new : HeldHall W} {before queued : List (List ℕ)} {heard : List Heard} {since : List Intake} →
     IsNewHall starts old before →
-    Handles of_hall lines old before heard new queued since →
+    Handles (of_hall told) lines old before heard new queued since →
     IsOfHall starts (hall_events heard) queued
-allowed_so {starts} {old = old} {before = before} new handles = record {
+allowed_so {starts = starts} {old = old} {before = before} new handles = record {
   lawful = new.lawful;
   configs = new.configs;
   allowed = run_allowed (handled_run (new_run starts old before new) handles);
 }
 
 -- all that was heard was handled
-all_so : {starts : List AbstractTable} {lines : ℕ} {old new : HeldHall} {before queued : List (List ℕ)} {since : List Intake} (heard : List Heard) (result : Result Served ServeError) →
+all_so : {W : Type 0} {told : W → List ℕ → Type 0} {starts : List AbstractTable} {lines : ℕ} {old new : HeldHall W} {before queued : List (List ℕ)} {since : List Intake} (heard : List Heard) (result : Result Served ServeError) →
     IsNewHall starts old before →
-    Handles of_hall lines old before heard new queued since →
+    Handles (of_hall told) lines old before heard new queued since →
     IsServedHall starts heard queued result
 all_so heard result new handles = record {
   handled = heard;
@@ -81,12 +82,12 @@ all_so heard result new handles = record {
   allowed = allowed_so new handles;
 }
 
-pub served_hall_is_allowed : ServedHallIsAllowed
-served_hall_is_allowed starts rounds before after moments old new queued_before queued (Ok served) made serves =
+pub served_hall_is_allowed : {W : Type 0} (told : W → List ℕ → Type 0) → ServedHallIsAllowed told
+served_hall_is_allowed told starts rounds before after moments old new queued_before queued (Ok served) made serves =
     all_so serves.heard (Ok served) made serves.ends.0.handles
-served_hall_is_allowed starts rounds before after moments old new queued_before queued (Err Rounds) made serves =
+served_hall_is_allowed told starts rounds before after moments old new queued_before queued (Err Rounds) made serves =
     all_so serves.heard (Err Rounds) made serves.ends.0.handles
-served_hall_is_allowed starts rounds before after moments old new queued_before queued (Err Memory) made serves =
+served_hall_is_allowed told starts rounds before after moments old new queued_before queued (Err Memory) made serves =
     elim serves.ends.1 [
       | inl lacks ↦ record {
         handled = lacks.handled;
@@ -101,6 +102,6 @@ served_hall_is_allowed starts rounds before after moments old new queued_before 
         split = nothing.0;
         all = λ other. absurd (other refl);
         allowed = subst (λ queues. IsOfHall starts [] queues) (sym nothing.3)
-            (allowed_so {lines = 0} made passing.nothing);
+            (allowed_so {told = told} {lines = 0} made passing.nothing);
       }
     ]

@@ -29,7 +29,7 @@ one_heard starts earlier events index read old new before after within run hears
     ∙ ap (λ all. earlier ++ all) (sym (ap (map event_of) (take_more events index read within) ∙ map-append event_of (take index events) (get_or events index read ∷ []))))
     (run_on run hears)
 
-pub new_run : (starts : List AbstractTable) (hall : HeldHall) (queues : List (List ℕ)) → IsNewHall starts hall queues → HasRun starts [] hall.state queues
+pub new_run : {W : Type 0} (starts : List AbstractTable) (hall : HeldHall W) (queues : List (List ℕ)) → IsNewHall starts hall queues → HasRun starts [] hall.state queues
 new_run starts hall queues made = record {
   told = [];
   run = subst (λ (state : HallState). halls.HallRun starts [] state []) (sym made.is) halls.none;
@@ -39,5 +39,5 @@ new_run starts hall queues made = record {
 pub run_allowed : {starts : List AbstractTable} {events : List AbstractHallEvent} {state : HallState} {queues : List (List ℕ)} → HasRun starts events state queues → IsAllowed starts events queues
 run_allowed {starts} {events} {state} run = subst (IsAllowed starts events) (sym run.queued) (run_is_allowed starts events state run.told run.run)
 
-pub of_hall : (starts : List AbstractTable) (events : List AbstractHallEvent) (made : HeldHall) (state : HallState) (first queues : List (List ℕ)) → IsNewHall starts made first → HasRun starts ([] ++ events) state queues → IsOfHall starts events queues
+pub of_hall : {W : Type 0} (starts : List AbstractTable) (events : List AbstractHallEvent) (made : HeldHall W) (state : HallState) (first queues : List (List ℕ)) → IsNewHall starts made first → HasRun starts ([] ++ events) state queues → IsOfHall starts events queues
 of_hall starts events made state first queues new run = record { lawful = new.lawful; configs = new.configs; allowed = run_allowed run }

@@ -107,10 +107,10 @@ BegunMatchesHoldTranscripts =
     HoldsMatch start (own (length starts) (index + 1) events) table.seats playing told
 
 -- What is queued for the lines of a new hall that was served may be queued for them after what was heard.
-abbrev pub ServedHallIsAllowed : Type 0
-ServedHallIsAllowed =
-    (starts : List AbstractTable) (rounds : ℕ) (before after : List Told) (moments : List ℕ) (old new : HeldHall)
+abbrev pub ServedHallIsAllowed : {W : Type 0} → (told : W → List ℕ → Type 0) → Type 0
+ServedHallIsAllowed {W} told =
+    (starts : List AbstractTable) (rounds : ℕ) (before after : List Told) (moments : List ℕ) (old new : HeldHall W)
     (queued_before queued : List (List ℕ)) (result : Result Served ServeError) →
     IsNewHall starts old queued_before →
-    (serves : Serves of_hall rounds before after moments old new queued_before queued result) →
+    (serves : Serves (of_hall told) rounds before after moments old new queued_before queued result) →
     IsServedHall starts serves.heard queued result

@@ -30,7 +30,7 @@ abbrev pub AreWithinLimits : List AbstractTable → Type 0
 AreWithinLimits starts = All (λ (start : AbstractTable). IsWithinLimits start.config) starts
 
 -- A hall with these tables begins: nobody sits, no line was heard, and nothing is queued.
-pub record IsNewHall (starts : List AbstractTable) (hall : HeldHall) (queues : List (List ℕ)) : Type 0 where
+pub record IsNewHall {W : Type 0} (starts : List AbstractTable) (hall : HeldHall W) (queues : List (List ℕ)) : Type 0 where
   pub lawful : MayBeTables starts
   pub configs : AreWithinLimits starts
   pub is : hall.state ≡ new_hall starts

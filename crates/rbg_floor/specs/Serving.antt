@@ -12,6 +12,7 @@ use Rattle.rbg_floor.specs.Events.{AbstractHallEvent, sends, ends, ticks}
 use Rattle.rbg_floor.specs.Failing.{HeldHall}
 use Rattle.rbg_floor.specs.Halls.{AbstractTable, HallState, line_at}
 use Rattle.rbg_floor.specs.Hearing.{HallHears}
+use Rattle.rbg_floor.specs.Ledgers.{HallStops, HallWrites}
 use Rattle.rbg_floor.specs.Lines.{HallLine, silent, asks, over}
 use Rattle.rbg_floor.specs.Wholes.{IsOfHall}
 
@@ -48,12 +49,15 @@ SpeaksAs tables line over = ⊥
 abbrev pub MaySpeak : HallState → (line : ℕ) → Type 0
 MaySpeak hall line = SpeaksAs hall.tables line (line_at hall.lines line)
 
--- A hall is over once every match has ended, and hears each line that may speak until then. It fails where it has no
--- memory for an event.
-abbrev pub of_hall : Behaviour HeldHall
-of_hall = record {
-  steps = λ old event new before after. HallHears old.state (hall_event event) new.state before after × (new.failed ≡ false);
-  lacks = λ old new. new.failed ≡ true;
+-- A hall is over once every match has ended, and hears each line that may speak until then. What the matches are handed
+-- of an event is written to their logs before. It fails where it has no memory for an event, or a log fails.
+abbrev pub of_hall : {W : Type 0} → (told : W → List ℕ → Type 0) → Behaviour (HeldHall W)
+of_hall told = record {
+  steps = λ old event new before after.
+      HallHears old.state (hall_event event) new.state before after
+      × HallWrites told old.state old.ledgers (hall_event event) new.state new.ledgers
+      × (new.failed ≡ false);
+  lacks = λ old new. (new.failed ≡ true) × HallStops told old.state.tables old.ledgers new.state.tables new.ledgers;
   listens = λ hall seat. (¬ HaveAllEnded hall.state.tables) × MaySpeak hall.state (seat - 1);
   over = λ hall. HaveAllEnded hall.state.tables;
 }

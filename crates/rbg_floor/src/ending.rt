@@ -1,13 +1,15 @@
-//! Whether matches have ended.
+//! Whether matches have ended, and whether a log has failed.
 ghost use Rattle.std.specs.Prelude.{◌≡◌, ◌↔◌, IsTrue};
+ghost use Rattle.rbg_floor.specs.Ledgers.{HasLogFailed};
 ghost use Rattle.rbg_floor.specs.Serving.{HaveAllEnded, has_ended};
+ghost use Rattle.rbg_floor.specs.internal.Parts.{ledgers_of, states_of};
 
 use rbg_ledger::KeptTable;
 use rbg_log::Log;
 
 /// Whether the match of a table has begun and ended.
 fn has_ended<W: Log>(table: &KeptTable<W>) -> bool
-    ensures { result ≡ has_ended table.now.begun }
+    ensures { result ≡ has_ended table.now.table.begun }
 {
     match table.begun() {
         Some(playing) => playing.outcome().is_some(),
@@ -17,7 +19,7 @@ fn has_ended<W: Log>(table: &KeptTable<W>) -> bool
 
 /// Whether the match of each table has begun and ended.
 pub(crate) fn have_all_ended<W: Log>(tables: &[KeptTable<W>]) -> bool
-    ensures { IsTrue result ↔ HaveAllEnded tables.now }
+    ensures { IsTrue result ↔ HaveAllEnded (states_of tables.now) }
 {
     for table in tables {
         if !has_ended(table) {
@@ -25,4 +27,16 @@ pub(crate) fn have_all_ended<W: Log>(tables: &[KeptTable<W>]) -> bool
         }
     }
     true
+}
+
+/// Whether the log of a table failed.
+pub(crate) fn has_log_failed<W: Log>(tables: &[KeptTable<W>]) -> bool
+    ensures { IsTrue result ↔ HasLogFailed (ledgers_of tables.now) }
+{
+    for table in tables {
+        if table.has_log_failed() {
+            return true;
+        }
+    }
+    false
 }

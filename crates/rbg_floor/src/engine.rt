@@ -38,7 +38,7 @@ impl<W: Log> Engine for Hall<W> {
 
     ghost queued = { λ out. out };
 
-    ghost behaviour = { of_hall };
+    ghost behaviour = { of_hall W.told };
 
     ghost Fixed = { Unit {0} };
 

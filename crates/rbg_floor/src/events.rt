@@ -1,9 +1,10 @@
 //! What a hall does at an event.
-ghost use Rattle.std.specs.Prelude.{◌≡◌, length, OnOk};
+ghost use Rattle.std.specs.Prelude.{◌≡◌, length, OnErr, OnOk};
 ghost use Rattle.rbg_hall.specs.Undoing.{undone};
 ghost use Rattle.rbg_floor.specs.Events.{ends, event_of, sends};
 ghost use Rattle.rbg_floor.specs.Hearing.{HallHears};
-ghost use Rattle.rbg_floor.specs.internal.Parts.{AreReady, hall_of};
+ghost use Rattle.rbg_floor.specs.Ledgers.{HallStops, HallWrites};
+ghost use Rattle.rbg_floor.specs.internal.Parts.{AreReady, hall_of, ledgers_of, states_of};
 
 use crate::HallEvent;
 use crate::hearing::{hear_end, hear_piece, tick};
@@ -25,6 +26,10 @@ pub(crate) fn hear_event<W: Log>(
     requires { AreReady (length tables.old) lines.old }
     ensures hears { OnOk result (HallHears (hall_of tables.old lines.old) (event_of event.entry)
         (hall_of tables.new lines.new) out.old out.new) }
+    ensures writes { OnOk result (HallWrites W.told (hall_of tables.old lines.old) (ledgers_of tables.old) (event_of event.entry)
+        (hall_of tables.new lines.new) (ledgers_of tables.new)) }
+    ensures stops { OnErr result (HallStops W.told (states_of tables.old) (ledgers_of tables.old)
+        (states_of tables.new) (ledgers_of tables.new)) }
     ensures ready { AreReady (length tables.new) lines.new }
     ensures count { length tables.new ≡ length tables.old }
     ensures undone { undone out.new marks.new.items ≡ undone out.old marks.old.items }
@@ -51,6 +56,10 @@ fn hear_line<W: Log>(
     requires { AreReady (length tables.old) lines.old }
     ensures hears { OnOk result (HallHears (hall_of tables.old lines.old) (sends line at bytes.now)
         (hall_of tables.new lines.new) out.old out.new) }
+    ensures writes { OnOk result (HallWrites W.told (hall_of tables.old lines.old) (ledgers_of tables.old) (sends line at bytes.now)
+        (hall_of tables.new lines.new) (ledgers_of tables.new)) }
+    ensures stops { OnErr result (HallStops W.told (states_of tables.old) (ledgers_of tables.old)
+        (states_of tables.new) (ledgers_of tables.new)) }
     ensures ready { AreReady (length tables.new) lines.new }
     ensures count { length tables.new ≡ length tables.old }
     ensures undone { undone out.new marks.new.items ≡ undone out.old marks.old.items }
@@ -77,6 +86,10 @@ fn end_line<W: Log>(
     requires { AreReady (length tables.old) lines.old }
     ensures hears { OnOk result (HallHears (hall_of tables.old lines.old) (ends line at)
         (hall_of tables.new lines.new) out.old out.new) }
+    ensures writes { OnOk result (HallWrites W.told (hall_of tables.old lines.old) (ledgers_of tables.old) (ends line at)
+        (hall_of tables.new lines.new) (ledgers_of tables.new)) }
+    ensures stops { OnErr result (HallStops W.told (states_of tables.old) (ledgers_of tables.old)
+        (states_of tables.new) (ledgers_of tables.new)) }
     ensures ready { AreReady (length tables.new) lines.new }
     ensures count { length tables.new ≡ length tables.old }
     ensures undone { undone out.new marks.new.items ≡ undone out.old marks.old.items }

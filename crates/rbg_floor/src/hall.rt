@@ -1,19 +1,22 @@
 //! A hall: tables, and the lines that ask for them.
-ghost use Rattle.std.specs.Prelude.{◌≡◌, ◌↔◌, [], false, true, option_map, replicate, is_err, IfErr, IfOk, IfSome, IsErr, IsTrue, OnErr, OnOk};
+ghost use Rattle.std.specs.Prelude.{◌≡◌, ◌↔◌, [], false, true, map, option_copied, option_map, replicate, is_err, IfErr, IfOk, IfSome, IsErr, IsTrue, OnErr, OnOk};
 ghost use Rattle.rbg_wire.specs.Streams.{incomplete};
 ghost use Rattle.rbg_match.specs.Matches.{HasHistory};
 ghost use Rattle.rbg_hall.specs.Limits.{lines_in_all};
 ghost use Rattle.rbg_floor.specs.Events.{event_of};
 ghost use Rattle.rbg_floor.specs.Halls.{begun_at};
 ghost use Rattle.rbg_floor.specs.Hearing.{HallHears};
-ghost use Rattle.rbg_floor.specs.Ledgers.{IsLogAt};
+ghost use Rattle.rbg_floor.specs.Ledgers.{HallStops, HallWrites, HasLogFailed, IsLogAt, given_to, log_at};
 ghost use Rattle.rbg_floor.specs.Lines.{silent};
 ghost use Rattle.rbg_floor.specs.Openings.{AreLoaded, IsNewHall, IsRefusedHall, starts_of};
 ghost use Rattle.rbg_floor.specs.Serving.{HaveAllEnded, MaySpeak};
+ghost use Rattle.rbg_floor.specs.internal.Parts.{ledgers_of, states_of};
+ghost use Rattle.rbg_ledger.specs.Kept.{no_log};
 
-use crate::ending::have_all_ended;
+use crate::ending::{has_log_failed, have_all_ended};
 use crate::events::hear_event;
 use crate::line::Line;
+use crate::numbered::{keep_log, log_of, match_of};
 use crate::opening::{faulty, new_lines, open_tables};
 use crate::speaking::may_speak;
 use crate::{HallError, HallEvent, Table};
@@ -28,7 +31,8 @@ use std::marker::Model;
 /// The most tables of a hall.
 pub const TABLES: usize = 16;
 
-/// A hall of tables, each with the log of its match, or none. Contracts see its state, and whether it has failed.
+/// A hall of tables, each with the log of its match, or none. Contracts see its state, the logs and how things stand with
+/// each of them, and whether the hall has failed.
 #[derive(Drop)]
 pub struct Hall<W: Log> {
     /// The tables, table 1 first.
@@ -43,15 +47,16 @@ impl<W: Log> Model for Hall<W> {
     ghost use Rattle.rbg_floor.specs.Failing.{HeldHall};
     ghost use Rattle.rbg_floor.specs.internal.Codes.{coded_held};
 
-    ghost Value = { HeldHall };
+    ghost Value = { HeldHall W };
 
-    ghost coded = { coded_held };
+    ghost coded = { coded_held W.code };
 
     ghost use Rattle.std.specs.Prelude.{length};
-    ghost use Rattle.rbg_floor.specs.internal.Parts.{AreReady, lines_of};
+    ghost use Rattle.rbg_floor.specs.internal.Parts.{AreReady, ledgers_of, lines_of, states_of};
 
     ghost view = { λ h. record {
-      state = record { tables = h.tables.items; lines = lines_of h.lines.items };
+      state = record { tables = states_of h.tables.items; lines = lines_of h.lines.items };
+      ledgers = ledgers_of h.tables.items;
       failed = h.failed;
     } };
 
@@ -64,6 +69,7 @@ impl<W: Log> Hall<W> {
     pub fn new(alloc: Global, tables: Vec<Table>) -> Result<(Hall<W>, HallOut), HallError>
         requires { AreLoaded tables.items }
         ensures made { IfOk result (λ made. IsNewHall (starts_of tables.items) made.0 made.1) }
+        ensures ledgers { IfOk result (λ made. made.0.ledgers ≡ map (λ _. no_log) tables.items) }
         ensures refused { IfErr result (IsRefusedHall (starts_of tables.items)) }
     {
         if tables.is_empty() {
@@ -83,7 +89,8 @@ impl<W: Log> Hall<W> {
 
     /// A hall of these tables, of which no line was heard.
     fn of_tables(alloc: Global, tables: Vec<KeptTable<W>>) -> Result<(Hall<W>, HallOut), Memory>
-        ensures tables { IfOk result (λ made. made.0.state.tables ≡ tables.items) }
+        ensures tables { IfOk result (λ made. made.0.state.tables ≡ states_of tables.items) }
+        ensures ledgers { IfOk result (λ made. made.0.ledgers ≡ ledgers_of tables.items) }
         ensures lines { IfOk result (λ made. made.0.state.lines ≡ replicate lines_in_all (silent (incomplete []))) }
         ensures works { IfOk result (λ made. made.0.failed ≡ false) }
         ensures queued { IfOk result (λ made. made.1 ≡ replicate lines_in_all []) }
@@ -102,7 +109,11 @@ impl<W: Log> Hall<W> {
     /// `Memory` from then on.
     pub fn step(&mut self, event: HallEvent<'_>, out: &mut HallOut) -> Result<(), Memory>
         ensures hears { OnOk result (HallHears self.old.state (event_of event.entry) self.new.state out.old out.new) }
+        ensures writes { OnOk result (HallWrites W.told self.old.state self.old.ledgers (event_of event.entry)
+            self.new.state self.new.ledgers) }
         ensures kept { OnErr result (out.new ≡ out.old) }
+        ensures stops { OnErr result (HallStops W.told self.old.state.tables self.old.ledgers
+            self.new.state.tables self.new.ledgers) }
         ensures failing { self.new.failed ≡ is_err result }
         ensures failed { self.old.failed ≡ true → IsErr result }
     {
@@ -123,42 +134,31 @@ impl<W: Log> Hall<W> {
         ensures is { option_map (λ playing. playing.now) result ≡ begun_at self.now.state.tables table }
         ensures history { IfSome result (λ playing. playing.now.failed ≡ false → HasHistory playing.now) }
     {
-        if table < 1 || table > self.tables.len() as u64 {
-            return None;
-        }
-        self.tables[table as usize - 1].begun()
+        match_of(&self.tables, table)
     }
 
-    /// Gives the match of a table an empty log, unless it has begun. Tables are numbered from 1; a log for a table that isn't
-    /// there is let go.
+    /// Gives the match of a table an empty log, unless it has begun or the table has failed. Tables are numbered from 1; a
+    /// log that isn't taken is let go.
     pub fn keep(&mut self, table: u64, log: W)
         requires { W.told log [] }
-        ensures { self.new ≡ self.old }
+        ensures { self.new ≡ record self.old { ledgers = given_to self.old.state.tables self.old.ledgers table log } }
     {
-        if table < 1 || table > self.tables.len() as u64 {
-            return;
-        }
-        self.tables[table as usize - 1].keep(log);
+        keep_log(&mut self.tables, table, log);
     }
 
     /// The log of a table's match, if there is one and the table has not failed.
     pub fn log_of(&self, table: u64) -> Option<&W>
-        ensures { IfSome result (λ log. IsLogAt W.told log.now self.now.state.tables table) }
+        ensures is { option_copied result ≡ log_at self.now.ledgers table }
+        ensures has { IfSome result (λ log. IsLogAt W.told log.now self.now.state.tables table) }
     {
-        if table < 1 || table > self.tables.len() as u64 {
-            return None;
-        }
-        self.tables[table as usize - 1].log()
+        log_of(&self.tables, table)
     }
 
     /// Whether a log failed.
-    pub fn has_log_failed(&self) -> bool {
-        for table in &self.tables {
-            if table.has_log_failed() {
-                return true;
-            }
-        }
-        false
+    pub fn has_log_failed(&self) -> bool
+        ensures { IsTrue result ↔ HasLogFailed self.now.ledgers }
+    {
+        has_log_failed(&self.tables)
     }
 
     /// Whether every match has begun and ended.

@@ -1,11 +1,12 @@
 //! How the tables of a hall hear a line and the clock.
-ghost use Rattle.std.specs.Prelude.{◌≡◌, ◌+◌, ◌<◌, ◌∷◌, [], length, map, IfOk, OnOk};
+ghost use Rattle.std.specs.Prelude.{◌≡◌, ◌+◌, ◌<◌, ◌∷◌, [], length, map, IfOk, OnErr, OnOk};
 ghost use Rattle.rbg_hall.specs.Tables.{arrives, clock, joins, says};
 ghost use Rattle.rbg_hall.specs.Undoing.{undone};
+ghost use Rattle.rbg_floor.specs.Ledgers.{Becomes};
 ghost use Rattle.rbg_floor.specs.Lines.{asks, silent};
 ghost use Rattle.rbg_floor.specs.Own.{heard_of_end};
 ghost use Rattle.rbg_floor.specs.internal.First.{IsFirst};
-ghost use Rattle.rbg_floor.specs.internal.Hearing.{HearsEachFor, PieceHeard, TablesHear};
+ghost use Rattle.rbg_floor.specs.internal.Hearing.{HearsEachFor, PieceHeard, TablesHear, TablesStop};
 ghost use Rattle.rbg_floor.specs.internal.Parts.{IsEmptied, IsReady, line_of};
 
 use crate::line::Line;
@@ -49,8 +50,9 @@ fn say_each<W: Log>(
     out: &mut HallOut,
     marks: &mut Vec<Mark>,
 ) -> Result<(), Memory>
-    ensures hears { OnOk result (HearsEachFor table.old (map (says line at) inbox.old.items) table.new
+    ensures hears { OnOk result (HearsEachFor W.told table.old (map (says line at) inbox.old.items) table.new
         out.old out.new) }
+    ensures stops { OnErr result (Becomes W.told table.old table.new) }
     ensures inbox { OnOk result (inbox.new ≡ record inbox.old { items = [] }) }
     ensures undone { undone out.new marks.new.items ≡ undone out.old marks.old.items }
 {
@@ -69,8 +71,9 @@ fn join<W: Log>(
     out: &mut HallOut,
     marks: &mut Vec<Mark>,
 ) -> Result<(), Memory>
-    ensures hears { OnOk result (HearsEachFor table.old (joins line at ∷ map (says line at) inbox.old.items) table.new
+    ensures hears { OnOk result (HearsEachFor W.told table.old (joins line at ∷ map (says line at) inbox.old.items) table.new
         out.old out.new) }
+    ensures stops { OnErr result (Becomes W.told table.old table.new) }
     ensures inbox { OnOk result (inbox.new ≡ record inbox.old { items = [] }) }
     ensures undone { undone out.new marks.new.items ≡ undone out.old marks.old.items }
 {
@@ -87,8 +90,9 @@ fn arrive<W: Log>(
     out: &mut HallOut,
     marks: &mut Vec<Mark>,
 ) -> Result<(), Memory>
-    ensures hears { OnOk result (HearsEachFor table.old (arrives line at ∷ map (says line at) inbox.old.items) table.new
+    ensures hears { OnOk result (HearsEachFor W.told table.old (arrives line at ∷ map (says line at) inbox.old.items) table.new
         out.old out.new) }
+    ensures stops { OnErr result (Becomes W.told table.old table.new) }
     ensures inbox { OnOk result (inbox.new ≡ record inbox.old { items = [] }) }
     ensures undone { undone out.new marks.new.items ≡ undone out.old marks.old.items }
 {
@@ -107,8 +111,9 @@ fn hear_first<W: Log>(
     marks: &mut Vec<Mark>,
 ) -> Result<Line, Memory>
     requires { IsEmptied inbox }
-    ensures hears { IfOk result (λ next. PieceHeard tables.old (silent inbox.rest) line at bytes.now tables.new
+    ensures hears { IfOk result (λ next. PieceHeard W.told tables.old (silent inbox.rest) line at bytes.now tables.new
         (line_of next) out.old out.new) }
+    ensures stops { OnErr result (TablesStop W.told tables.old tables.new) }
     ensures ready { IfOk result (IsReady (length tables.old)) }
     ensures count { length tables.new ≡ length tables.old }
     ensures undone { undone out.new marks.new.items ≡ undone out.old marks.old.items }
@@ -140,8 +145,9 @@ fn hear_next<W: Log>(
 ) -> Result<Line, Memory>
     requires emptied { IsEmptied inbox }
     requires there { index < length tables.old }
-    ensures hears { IfOk result (λ next. PieceHeard tables.old (asks (index + 1) inbox.rest) line at bytes.now tables.new
+    ensures hears { IfOk result (λ next. PieceHeard W.told tables.old (asks (index + 1) inbox.rest) line at bytes.now tables.new
         (line_of next) out.old out.new) }
+    ensures stops { OnErr result (TablesStop W.told tables.old tables.new) }
     ensures ready { IfOk result (IsReady (length tables.old)) }
     ensures count { length tables.new ≡ length tables.old }
     ensures undone { undone out.new marks.new.items ≡ undone out.old marks.old.items }
@@ -162,8 +168,9 @@ pub(crate) fn hear_piece<W: Log>(
     marks: &mut Vec<Mark>,
 ) -> Result<Line, Memory>
     requires { IsReady (length tables.old) one }
-    ensures hears { IfOk result (λ next. PieceHeard tables.old (line_of one) line at bytes.now tables.new
+    ensures hears { IfOk result (λ next. PieceHeard W.told tables.old (line_of one) line at bytes.now tables.new
         (line_of next) out.old out.new) }
+    ensures stops { OnErr result (TablesStop W.told tables.old tables.new) }
     ensures ready { IfOk result (IsReady (length tables.old)) }
     ensures count { length tables.new ≡ length tables.old }
     ensures undone { undone out.new marks.new.items ≡ undone out.old marks.old.items }
@@ -187,8 +194,9 @@ pub(crate) fn hear_end<W: Log>(
     marks: &mut Vec<Mark>,
 ) -> Result<(), Memory>
     requires { IsReady (length tables.old) one }
-    ensures hears { OnOk result (TablesHear (λ table. heard_of_end table (line_of one) line at) tables.old tables.new
+    ensures hears { OnOk result (TablesHear W.told (λ table. heard_of_end table (line_of one) line at) tables.old tables.new
         out.old out.new) }
+    ensures stops { OnErr result (TablesStop W.told tables.old tables.new) }
     ensures count { length tables.new ≡ length tables.old }
     ensures undone { undone out.new marks.new.items ≡ undone out.old marks.old.items }
 {
@@ -208,7 +216,8 @@ pub(crate) fn tick<W: Log>(
     out: &mut HallOut,
     marks: &mut Vec<Mark>,
 ) -> Result<(), Memory>
-    ensures hears { OnOk result (TablesHear (λ table. clock at ∷ []) tables.old tables.new out.old out.new) }
+    ensures hears { OnOk result (TablesHear W.told (λ table. clock at ∷ []) tables.old tables.new out.old out.new) }
+    ensures stops { OnErr result (TablesStop W.told tables.old tables.new) }
     ensures count { length tables.new ≡ length tables.old }
     ensures undone { undone out.new marks.new.items ≡ undone out.old marks.old.items }
 {

@@ -4,6 +4,7 @@ ghost use Rattle.rbg_floor.specs.Limits.{most_tables};
 ghost use Rattle.rbg_floor.specs.Laws.{BegunMatchesHoldTranscripts, LinesHaveTheSameBytes, OthersAreUnheard, RunIsAllowed, ServedHallIsAllowed, TablesAreApart};
 
 use crate::TABLES;
+use rbg_log::Log;
 
 /// The limits are the numbers that the definitions state.
 pub fn limits_are_as_stated()
@@ -37,6 +38,6 @@ pub fn begun_matches_hold_transcripts()
 {}
 
 /// What is queued for the lines of a new hall that was served may be queued for them after what was heard.
-pub fn served_hall_is_allowed()
-    ensures { ServedHallIsAllowed }
+pub fn served_hall_is_allowed<W: Log>()
+    ensures { ServedHallIsAllowed W.told }
 {}

@@ -11,6 +11,7 @@ mod hall;
 mod hearing;
 pub mod laws;
 mod line;
+mod numbered;
 mod opening;
 mod request;
 mod serving;

@@ -2,9 +2,8 @@
 ghost use Rattle.std.specs.Prelude.{◌≡◌, IfNone, IfOk, IfSome};
 ghost use Rattle.rbg_game.specs.Loading.{Loads};
 ghost use Rattle.rbg_match.specs.Config.{IsWithinLimits};
-ghost use Rattle.rbg_hall.specs.Tables.{new_table};
 ghost use Rattle.rbg_floor.specs.Openings.{AreLoaded};
-ghost use Rattle.rbg_floor.specs.internal.Parts.{AreNew, HaveLimits, IsFaulty, new_tables};
+ghost use Rattle.rbg_floor.specs.internal.Parts.{AreNew, HaveLimits, IsFaulty, new_kept, new_tables};
 
 use crate::Table;
 use crate::line::Line;
@@ -50,7 +49,7 @@ pub(crate) fn open_tables<W: Log>(
 fn open_table<W: Log>(alloc: Global, table: Table) -> Result<KeptTable<W>, Memory>
     requires loaded { Loads table.text.items table.game }
     requires limits { IsWithinLimits table.config }
-    ensures { IfOk result (λ opened. opened ≡ new_table table.game table.text.items table.config) }
+    ensures { IfOk result (λ opened. opened ≡ new_kept table) }
 {
     let opened = HallTable::new(alloc, table.game, table.text, table.config)?;
     Ok(KeptTable::new(alloc, opened))

@@ -31,7 +31,7 @@ impl<W: Log> Hall<W> {
         ensures serves { (before : List Told) (asked : List ℕ) →
             TellEach L.told L.failure_count lines.old before →
             C.told clock.old asked →
-            ServesOver L.told L.failure_count C.told of_hall lines.new clock.new rounds before asked
+            ServesOver L.told L.failure_count C.told (of_hall W.told) lines.new clock.new rounds before asked
             self.old self.new
             out.old out.new result }
         ensures works { (¬ IsErrOf result ServeError.Memory) → self.old.failed ≡ false → self.new.failed ≡ false }

@@ -1,7 +1,7 @@
 //! Which lines may still speak.
 ghost use Rattle.std.specs.Prelude.{◌↔◌, length, IsTrue};
 ghost use Rattle.rbg_floor.specs.Serving.{MaySpeak, SpeaksAs};
-ghost use Rattle.rbg_floor.specs.internal.Parts.{AreReady, IsReady, hall_of, line_of};
+ghost use Rattle.rbg_floor.specs.internal.Parts.{AreReady, IsReady, hall_of, line_of, states_of};
 
 use crate::line::Line;
 use rbg_ledger::KeptTable;
@@ -21,7 +21,7 @@ pub(crate) fn may_speak<W: Log>(tables: &[KeptTable<W>], lines: &[Line], line: u
 /// Whether something may still be heard of a line that stands so.
 fn speaks<W: Log>(tables: &[KeptTable<W>], one: &Line, line: u64) -> bool
     requires { IsReady (length tables.now) one.now }
-    ensures { IsTrue result ↔ SpeaksAs tables.now line (line_of one.now) }
+    ensures { IsTrue result ↔ SpeaksAs (states_of tables.now) line (line_of one.now) }
 {
     match one {
         Line::Silent(_) => true,

@@ -40,7 +40,7 @@ all_tell told failure_count any lines = record {
 }
 
 -- a new hall that was served to its end
-pub ended_so : {starts : List AbstractTable} {rounds : ℕ} {before after : List Told} {moments : List ℕ} {old new : HeldHall} {queued_before queued : List (List ℕ)} {served : Served} → IsNewHall starts old queued_before → Serves of_hall rounds before after moments old new queued_before queued (Ok served) → HasEnded starts new.state
+pub ended_so : {starts : List AbstractTable} {rounds : ℕ} {before after : List Told} {moments : List ℕ} {W : Type 0} {keeps : W → List ℕ → Type 0} {old new : HeldHall W} {queued_before queued : List (List ℕ)} {served : Served} → IsNewHall starts old queued_before → Serves (of_hall keeps) rounds before after moments old new queued_before queued (Ok served) → HasEnded starts new.state
 ended_so {starts} {old = old} {queued_before = queued_before} {queued = queued} made serves = record {
   events = hall_events serves.heard;
   queues = queued;

@@ -71,7 +71,8 @@ fn keep_logs<N: Network>(
     tables: usize,
     service: HallService<'_>,
 ) -> Result<(), HallFault>
-    ensures { hall.new ≡ hall.old }
+    ensures state { hall.new.state ≡ hall.old.state }
+    ensures failed { hall.new.failed ≡ hall.old.failed }
 {
     let Some(name) = service.log else {
         return Ok(());

@@ -1,6 +1,7 @@
 -- A table keeps the log of its match.
-use Rattle.std.proofs.Common.{◌≡◌, ℕ, Bor, ◌+◌, ◌<◌, ◌^◌, Bool, List, [], ◌∷◌, ◌++◌, All, map, Option, Some, None, is_none, refl, sym, ap, subst, append-nil}
-use Rattle.std.specs.Prelude.{slice_set, option_copied, IfSome, OnOk, Result, Ok, Err}
+use Rattle.std.proofs.Common.{◌≡◌, ℕ, Bor, ◌+◌, ◌<◌, ◌^◌, Bool, true, false, List, [], ◌∷◌, ◌++◌, All, map, Option, Some, None, is_none, refl, sym, ap, subst, append-nil}
+use Rattle.std.specs.Prelude.{slice_set, option_copied, IfSome, OnErr, OnOk, Result, Ok, Err}
+use Rattle.std.proofs.lemmas.Bool.{true≢false}
 use Rattle.std.proofs.lemmas.List.Elements.{All-nil}
 use Rattle.std.proofs.lemmas.Option.{none-some}
 use Rattle.rbg_rules.specs.State.{AbstractGame}
@@ -21,7 +22,11 @@ use Rattle.rbg_hall.proofs.Seats.{SeatsDiffer, no_seats, one_differ}
 use Rattle.rbg_log.specs.Logs.{Appends, Logs, event_lines, first_line, scripted}
 use Rattle.rbg_log.specs.Written.{written}
 use Rattle.rbg_log.proofs.Logging.{log_begins, log_on}
-use Rattle.rbg_ledger.specs.Ledgers.{HasLog, IsLogged, IsLoggedSo, IsNewTable, IsNoted, IsNotedIn, handed, nothing, first_for, heard_at, if_kept, written_for, WritesFor}
+use Rattle.rbg_ledger.specs.declared.standing.Standing.{Standing}
+use Rattle.rbg_ledger.specs.declared.standing.Standing.TheVariants.{Works, LogFailed, OutOfMemory}
+use Rattle.rbg_ledger.specs.Kept.{works}
+use Rattle.rbg_ledger.specs.Ledgers.{HasLog, IsLogged, IsLoggedSo, IsNewTable, IsNoted, IsNotedIn, handed, nothing, first_for, heard_at, written_for, WritesFor}
+use Rattle.rbg_ledger.specs.internal.Parts.{HasNoLog, IsKept, IsNotedPart, WritesPart}
 
 -- a match is handed one thing of an event
 hands_same : {seats : List (Option ℕ)} {event : OwnEvent} {one other : List AbstractEvent} → SeatsDiffer seats → Hands seats event one → Hands seats event other → one ≡ other
@@ -115,7 +120,7 @@ module _ {W : Type 0} (told : W → List ℕ → Type 0) (first middle last : W)
 module _ {W : Type 0} (told : W → List ℕ → Type 0) (first middle last : W) where
   abbrev Becomes : (old new : TableState) → (at : ℕ) → Type 0
   Becomes old new at =
-      Appends told middle last (first_for (is_none old.begun) new.begun new.config at) →
+      Appends told middle last (first_for (is_none old.begun) new.begun old.config at) →
       IsLoggedSo told first old.text old.game old.begun →
       IsLoggedSo told last new.text new.game new.begun
 
@@ -149,63 +154,60 @@ module _ {W : Type 0} (told : W → List ℕ → Type 0) (first middle last : W)
   becomes {old} {lines = lines} differ small noted logs (is_unheard {line} {at} none) = unmoved old at lines logs (noted_none differ (laws.says_not none) noted)
   becomes {old} {lines = lines} differ small noted logs (goes_unheard {line} {at} none) = unmoved old at lines logs (noted_none differ (laws.goes_not none) noted)
 
-  pub keeps_log : {old new : TableState} {event : OwnEvent} {next : List Telling} → heard_at event < 2 ^ 64 → IsNotedIn told first middle old event → Hears old event new next → Appends told middle last (first_for (is_none old.begun) new.begun new.config (heard_at event)) → HasLog told old first → HasLog told new last
+  pub keeps_log : {old new : TableState} {event : OwnEvent} {next : List Telling} → heard_at event < 2 ^ 64 → IsNotedIn told first middle old event → Hears old event new next → Appends told middle last (first_for (is_none old.begun) new.begun old.config (heard_at event)) → HasLog told old first → HasLog told new last
   keeps_log small noted hears appends has = record {
     differ = one_differ hears has.differ;
     logged = becomes has.differ small noted.noted noted.logs hears appends has.logged;
   }
 
--- a table where nobody sits, with a log or none
-pub new_log : {W : Type 0} (told : W → List ℕ → Type 0) (table : TableState) (log : W) → IsNewTable table → told log [] → HasLog told table log
-new_log told table log new empty =
-    subst (λ (one : TableState). HasLog told one log) (sym new.is) (record { differ = no_seats _; logged = (new.loads, empty) })
+-- a table where nobody sits, with no log
+pub new_table_kept : {W : Type 0} (told : W → List ℕ → Type 0) (table : TableState) → IsNewTable table → IsKept told table None
+new_table_kept told table new = subst (λ (one : TableState). HasNoLog one) (sym new.is) (record { differ = no_seats _; loads = λ _. new.loads })
 
 pub nothing_written : {W : Type 0} (told : W → List ℕ → Type 0) (log : W) → Logs told log log []
 nothing_written told log = record { lines = λ held tells. subst (told log) (sym (append-nil held)) tells; spelled = All-nil EventHasSpelling }
 
-pub nothing_appended : {W : Type 0} (told : W → List ℕ → Type 0) (log : W) → Appends told log log []
-nothing_appended told log = λ held tells. subst (told log) (sym (append-nil held)) tells
+-- whether all works
+pub works_so : (standing : Standing) → works standing ≡ true → standing ≡ Works
+works_so Works so = refl
+works_so LogFailed so = absurd (true≢false (sym so))
+works_so OutOfMemory so = absurd (true≢false (sym so))
 
--- another log for a table that waits
-pub other_log : {W : Type 0} (told : W → List ℕ → Type 0) (table : TableState) (old log : W) → table.begun ≡ None → told log [] → HasLog told table old → HasLog told table log
-other_log told table old log none empty has = record {
-  differ = has.differ;
-  logged = by_begun table.begun none has.logged;
-}
-  where
-    by_begun : (begun : Option MatchState) → begun ≡ None → IsLoggedSo told old table.text table.game begun → IsLoggedSo told log table.text table.game begun
-    by_begun None is logged = (logged.0, empty)
-    by_begun (Some playing) is logged = absurd (none-some playing (sym is))
-
--- the same, by what a table answers
-pub keeps_so : {W : Type 0} (told : W → List ℕ → Type 0) (first middle last : W) (old new : TableState) (event : OwnEvent) (before after : List (List ℕ)) (waited : Bool) (at : ℕ) → waited ≡ is_none old.begun → at ≡ heard_at event → at < 2 ^ 64 → IsNotedIn told first middle old event → HearsFor old event new before after → Appends told middle last (first_for waited new.begun new.config at) → HasLog told old first → HasLog told new last
-keeps_so told first middle last old new event before after waited at waits_so at_so small noted hears appends has =
-    keeps_log told first middle last (subst (λ (moment : ℕ). moment < 2 ^ 64) at_so small) noted hears.hears
-    (subst (λ (moment : ℕ). Appends told middle last (first_for (is_none old.begun) new.begun new.config moment)) at_so
-    (subst (λ (test : Bool). Appends told middle last (first_for test new.begun new.config at)) waits_so appends)) has
-
--- the same, where the first line may not be written
-pub keeps_on : {W E : Type 0} (told : W → List ℕ → Type 0) (first middle last : W) (old new : TableState) (event : OwnEvent) (before after : List (List ℕ)) (waited : Bool) (at : ℕ) (result : Result (Unit {0}) E) → waited ≡ is_none old.begun → at ≡ heard_at event → at < 2 ^ 64 → IsNotedIn told first middle old event → HearsFor old event new before after → OnOk result (Appends told middle last (first_for waited new.begun new.config at)) → OnOk result (HasLog told old first → HasLog told new last)
-keeps_on told first middle last old new event before after waited at (Ok done) waits_so at_so small noted hears appends = keeps_so told first middle last old new event before after waited at waits_so at_so small noted hears appends
-keeps_on told first middle last old new event before after waited at (Err error) waits_so at_so small noted hears appends = tt
-
--- a log that is there
-pub own_log : {W : Type 0} (told : W → List ℕ → Type 0) (table : TableState) (log : W) → HasLog (if_kept told) table (Some log) → HasLog told table log
-own_log told table log has = record { differ = has.differ; logged = by_begun table.begun has.logged }
-  where
-    by_begun : (begun : Option MatchState) → IsLoggedSo (if_kept told) (Some log) table.text table.game begun → IsLoggedSo told log table.text table.game begun
-    by_begun None logged = (logged.0, logged.1)
-    by_begun (Some playing) logged = record { held = logged.held; said = logged.said; tells = logged.tells; is = logged.is }
+pub fails_so : (standing : Standing) → works standing ≡ false → ¬ (standing ≡ Works)
+fails_so Works so = λ _. true≢false so
+fails_so LogFailed so = λ is. cc
+fails_so OutOfMemory so = λ is. cc
 
 -- a log that is lent
-pub found_log : {W : Type 0} (told : W → List ℕ → Type 0) (table : TableState) (log : Option W) (found : Option (Bor W)) → option_copied found ≡ log → HasLog (if_kept told) table log → IfSome found (λ one. HasLog told table one.now)
-found_log told table log None is has = tt
-found_log told table log (Some one) is has = own_log told table one.now (subst (HasLog (if_kept told) table) (sym is) has)
+pub lent_log : {W : Type 0} (told : W → List ℕ → Type 0) (table : TableState) (log : Option W) (found : Option (Bor W)) → option_copied found ≡ log → IsKept told table log → IfSome found (λ one. HasLog told table one.now)
+lent_log told table log None is kept = tt
+lent_log told table log (Some one) is kept = subst (IsKept told table) (sym is) kept
+
+-- the first line, by what a table answers
+pub first_so : {W : Type 0} (told : W → List ℕ → Type 0) (middle last : W) (old new : TableState) (event : OwnEvent) (waited : Bool) (config : Config) (at : ℕ) → waited ≡ is_none old.begun → config ≡ old.config → at ≡ heard_at event → Appends told middle last (first_for waited new.begun config at) → Appends told middle last (first_for (is_none old.begun) new.begun old.config (heard_at event))
+first_so told middle last old new event waited config at waits_so config_so at_so appends =
+    subst (λ (moment : ℕ). Appends told middle last (first_for (is_none old.begun) new.begun old.config moment)) at_so
+    (subst (λ (one : Config). Appends told middle last (first_for (is_none old.begun) new.begun one at)) config_so
+    (subst (λ (test : Bool). Appends told middle last (first_for test new.begun config at)) waits_so appends))
+
+-- the same, by what a table answers
+keeps_so : {W : Type 0} (told : W → List ℕ → Type 0) (first middle last : W) (old new : TableState) (event : OwnEvent) (before after : List (List ℕ)) (waited : Bool) (config : Config) (at : ℕ) → waited ≡ is_none old.begun → config ≡ old.config → at ≡ heard_at event → at < 2 ^ 64 → IsNotedIn told first middle old event → HearsFor old event new before after → Appends told middle last (first_for waited new.begun config at) → HasLog told old first → HasLog told new last
+keeps_so told first middle last old new event before after waited config at waits_so config_so at_so small noted hears appends has =
+    keeps_log told first middle last (subst (λ (moment : ℕ). moment < 2 ^ 64) at_so small) noted hears.hears (first_so told middle last old new event waited config at waits_so config_so at_so appends) has
+
+-- the same, where the first line may not be written
+pub keeps_on : {W E : Type 0} (told : W → List ℕ → Type 0) (first middle last : W) (old new : TableState) (event : OwnEvent) (before after : List (List ℕ)) (waited : Bool) (config : Config) (at : ℕ) (result : Result (Unit {0}) E) → waited ≡ is_none old.begun → config ≡ old.config → at ≡ heard_at event → at < 2 ^ 64 → IsNotedIn told first middle old event → HearsFor old event new before after → OnOk result (Appends told middle last (first_for waited new.begun config at)) → OnOk result (HasLog told old first → HasLog told new last)
+keeps_on told first middle last old new event before after waited config at (Ok done) waits_so config_so at_so small noted hears appends = keeps_so told first middle last old new event before after waited config at waits_so config_so at_so small noted hears appends
+keeps_on told first middle last old new event before after waited config at (Err error) waits_so config_so at_so small noted hears appends = tt
 
 -- what a match is handed is written
 pub handed_in : {W E : Type 0} (told : W → List ℕ → Type 0) (old new : W) (table : TableState) (event : OwnEvent) (one : AbstractEvent) (result : Result (Unit {0}) E) → Hands table.seats event (one ∷ []) → OnOk result (WritesFor told old new table.begun one) → OnOk result (IsNotedIn told old new table event)
 handed_in told old new table event one (Ok done) hands logs = record { lines = written_for table.begun one; noted = handed one hands; logs = logs }
 handed_in told old new table event one (Err error) hands logs = tt
+
+pub handed_part : {W E : Type 0} (told : W → List ℕ → Type 0) (old new : W) (table : TableState) (event : OwnEvent) (one : AbstractEvent) (result : Result (Unit {0}) E) → Hands table.seats event (one ∷ []) → OnErr result (WritesPart told old new table.begun one) → OnErr result (IsNotedPart told old new table event)
+handed_part told old new table event one (Ok done) hands part = tt
+handed_part told old new table event one (Err error) hands part = record { lines = written_for table.begun one; noted = handed one hands; part = part }
 
 pub nothing_in : {W : Type 0} (told : W → List ℕ → Type 0) (log : W) (table : TableState) (event : OwnEvent) → Hands table.seats event [] → IsNotedIn told log log table event
 nothing_in told log table event hands = record { lines = []; noted = nothing hands; logs = nothing_written told log }

@@ -1,5 +1,5 @@
 -- A table, and the log of its match.
-use Rattle.std.specs.Prelude.{◌≡◌, ℕ, Bool, true, false, List, [], ◌∷◌, Option, Some, None, IfSome, slice_get}
+use Rattle.std.specs.Prelude.{◌≡◌, ℕ, Bool, true, false, List, [], ◌∷◌, Option, Some, None, slice_get}
 use Rattle.rbg_game.specs.Loading.{Loads}
 use Rattle.rbg_rules.specs.State.{AbstractGame}
 use Rattle.rbg_match.specs.declared.config.Config.{Config}
@@ -43,10 +43,6 @@ abbrev pub first_for : (waited : Bool) → Option MatchState → Config → (at 
 first_for true (Some playing) config at = first_line config at
 first_for true None config at = []
 first_for false begun config at = []
-
--- what a log may hold that may not be there
-abbrev pub if_kept : {W : Type 0} → (told : W → List ℕ → Type 0) → Option W → List ℕ → Type 0
-if_kept told log held = IfSome log (λ one. told one held)
 
 -- A table where nobody sits, whose text is that of its game.
 pub record IsNewTable (table : TableState) : Type 0 where

@@ -1,2 +1,4 @@
 -- Tables with a log.
+pub mod internal
+pub mod Kept
 pub mod Ledgers

@@ -4,5 +4,7 @@
 
 mod kept_table;
 mod noting;
+mod standing;
 
 pub use kept_table::KeptTable;
+pub use standing::Standing;

@@ -22,12 +22,22 @@ pub enum WriteError {
 }
 
 impl From<Memory> for WriteError {
+    ghost use Rattle.std.specs.Prelude.{◌≡◌};
+    ghost use Rattle.rbg_log.specs.declared.keeping.WriteError.{WriteError};
+
+    ghost from_gives = { λ _ error. error ≡ WriteError.Memory };
+
     fn from(_memory: Memory) -> WriteError {
         WriteError::Memory
     }
 }
 
 impl From<LogFailure> for WriteError {
+    ghost use Rattle.std.specs.Prelude.{◌≡◌};
+    ghost use Rattle.rbg_log.specs.declared.keeping.WriteError.{WriteError};
+
+    ghost from_gives = { λ _ error. error ≡ WriteError.Log };
+
     fn from(_failure: LogFailure) -> WriteError {
         WriteError::Log
     }

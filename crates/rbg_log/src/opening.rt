@@ -1,5 +1,5 @@
 //! A match begins, and its log with it.
-ghost use Rattle.std.specs.Prelude.{◌≡◌, ◌++◌, [], ℕ, List, length, IfOk, None, OnErr, OnOk};
+ghost use Rattle.std.specs.Prelude.{◌≡◌, ◌++◌, [], ℕ, List, length, IfOk, None, IsErrOf, OnErr, OnOk};
 ghost use Rattle.rbg_game.specs.Loading.{Loads};
 ghost use Rattle.rbg_match.specs.Matches.{HasHistory, Opens};
 ghost use Rattle.rbg_match.specs.PlayingOn.{seats_of};
@@ -60,6 +60,7 @@ pub fn write_first<W: Log>(
 ) -> Result<(), WriteError>
     ensures ok { OnOk result (Appends W.told log.old log.new (first_line config now)) }
     ensures err { OnErr result (AppendsFront W.told log.old log.new (first_line config now)) }
+    ensures kept { IsErrOf result WriteError.Memory → log.new ≡ log.old }
 {
     let config = ScriptConfig {
         turn_ms: config.turn_ms,

@@ -1,5 +1,5 @@
 //! Writing an event, at its counted moment, before it is handled.
-ghost use Rattle.std.specs.Prelude.{◌≡◌, ◌∷◌, [], ℕ, OnOk, OnErr, map, option_to_list};
+ghost use Rattle.std.specs.Prelude.{◌≡◌, ◌∷◌, [], ℕ, OnOk, OnErr, IsErrOf, map, option_to_list};
 ghost use Rattle.rbg_match.specs.Inputs.{counted, event_of, moment_of};
 ghost use Rattle.rbg_match.specs.Matches.{MatchState};
 ghost use Rattle.rbg_match.specs.Play.{due_of};
@@ -78,6 +78,7 @@ pub fn write_event<W: Log>(
         (written played.now (event_of event.entry))) }
     ensures err { OnErr result (LogsPart W.told log.old log.new
         (written played.now (event_of event.entry))) }
+    ensures kept { IsErrOf result WriteError.Memory → log.new ≡ log.old }
 {
     match written_at(played, event) {
         None => Ok(()),
@@ -96,6 +97,7 @@ fn write_at<W: Log>(
         (at_moment at (event_of event.entry) ∷ [])) }
     ensures err { OnErr result (LogsPart W.told log.old log.new
         (at_moment at (event_of event.entry) ∷ [])) }
+    ensures kept { IsErrOf result WriteError.Memory → log.new ≡ log.old }
 {
     line.clear();
     write_line(event, at, line)?;

@@ -7,6 +7,8 @@ use Rattle.rbg_wire.specs.Codes.{coded_rest}
 use Rattle.rbg_wire.specs.Streams.{Rest}
 use Rattle.rbg_hall.specs.Tables.{TableState}
 use Rattle.rbg_hall.specs.internal.Codes.{coded_table}
+use Rattle.rbg_ledger.specs.Kept.{Ledger}
+use Rattle.rbg_ledger.specs.internal.Codes.{coded_ledger}
 use Rattle.rbg_floor.specs.Failing.{HeldHall}
 use Rattle.rbg_floor.specs.Lines.{HallLine, silent, asks, over}
 
@@ -29,9 +31,9 @@ abbrev coded_line : Coded HallLine
 coded_line = code_by (Rest ⊎ ((ℕ × Rest) ⊎ Unit {0}))
     (coded⊎ coded_rest (coded⊎ (coded× coded_ℕ coded_rest) coded_unit)) line_parts line_from line_from-parts
 
-abbrev pub coded_held : Coded HeldHall
-coded_held = code_by ((List TableState × List HallLine) × Bool)
-    (coded× (coded× (coded_list coded_table) (coded_list coded_line)) coded_bool)
-    (λ h. ((h.state.tables, h.state.lines), h.failed))
-    (λ p. record { state = record { tables = p.0.0; lines = p.0.1 }; failed = p.1 })
+abbrev pub coded_held : {W : Type 0} → Coded W → Coded (HeldHall W)
+coded_held {W} code = code_by ((List TableState × List HallLine) × (List (Ledger W) × Bool))
+    (coded× (coded× (coded_list coded_table) (coded_list coded_line)) (coded× (coded_list (coded_ledger code)) coded_bool))
+    (λ h. ((h.state.tables, h.state.lines), (h.ledgers, h.failed)))
+    (λ p. record { state = record { tables = p.0.0; lines = p.0.1 }; ledgers = p.1.0; failed = p.1.1 })
     (λ _. refl)

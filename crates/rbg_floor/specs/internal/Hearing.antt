@@ -1,28 +1,50 @@
 -- What a hall does in parts, and what is queued for the lines then.
-use Rattle.std.specs.Prelude.{◌≡◌, ℕ, List, ◌++◌, length}
+use Rattle.std.specs.Prelude.{◌≡◌, ℕ, suc, List, [], ◌∷◌, ◌++◌, length}
 use Rattle.std.specs.List.{flat_map}
-use Rattle.rbg_hall.specs.Tables.{TableState, OwnEvent}
+use Rattle.rbg_hall.specs.Tables.{OwnEvent}
 use Rattle.rbg_hall.specs.Tellings.{Telling, told_to}
-use Rattle.rbg_floor.specs.Halls.{HearsEach, EachHears, line_behind, refused_in}
+use Rattle.rbg_ledger.specs.Kept.{KeptState}
+use Rattle.rbg_floor.specs.Halls.{line_behind, refused_in}
+use Rattle.rbg_floor.specs.Ledgers.{Becomes, KeptHearsEach}
 use Rattle.rbg_floor.specs.Lines.{HallLine}
 use Rattle.rbg_floor.specs.Own.{heard_of_piece}
 
 -- A table hears these events in turn.
-pub record HearsEachFor (old : TableState) (events : List OwnEvent) (new : TableState) (before after : List (List ℕ)) : Type 0 where
+pub record HearsEachFor {W : Type 0} (tells : W → List ℕ → Type 0) (old : KeptState W) (events : List OwnEvent) (new : KeptState W) (before after : List (List ℕ)) : Type 0 where
   pub told : List Telling
-  pub hears : HearsEach old events new told
+  pub hears : KeptHearsEach tells old events new told
   pub queued : after ≡ told_to before told
 
+-- Each of the tables, from this number on, hears what is its own, and tells its lines something.
+pub data EachKeptHears {W : Type 0} (tells : W → List ℕ → Type 0) (heard : (table : ℕ) → List OwnEvent) : (table : ℕ) → (old new : List (KeptState W)) →
+    (told : List (List Telling)) → Type 0 where
+  none : {table : ℕ} →
+      EachKeptHears tells heard table [] [] []
+  more : {table : ℕ} {old new : KeptState W} {olds news : List (KeptState W)} {first : List Telling}
+      {next : List (List Telling)} →
+      KeptHearsEach tells old (heard table) new first →
+      EachKeptHears tells heard (suc table) olds news next →
+      EachKeptHears tells heard table (old ∷ olds) (new ∷ news) (first ∷ next)
+
 -- Each table hears what is its own.
-pub record TablesHear (heard : (table : ℕ) → List OwnEvent) (old new : List TableState) (before after : List (List ℕ)) : Type 0 where
+pub record TablesHear {W : Type 0} (tells : W → List ℕ → Type 0) (heard : (table : ℕ) → List OwnEvent) (old new : List (KeptState W)) (before after : List (List ℕ)) : Type 0 where
   pub told : List (List Telling)
-  pub tables : EachHears heard 1 old new told
+  pub tables : EachKeptHears tells heard 1 old new told
   pub queued : after ≡ told_to before (flat_map (λ one. one) told)
 
+-- Each table heard events, at the last of which something may have failed.
+pub data TablesStop {W : Type 0} (tells : W → List ℕ → Type 0) : (old new : List (KeptState W)) → Type 0 where
+  none :
+      TablesStop tells [] []
+  more : {old new : KeptState W} {olds news : List (KeptState W)} →
+      Becomes tells old new →
+      TablesStop tells olds news →
+      TablesStop tells (old ∷ olds) (new ∷ news)
+
 -- The tables hear a line that stands so and sends bytes, and this is how it stands then.
-pub record PieceHeard (olds : List TableState) (one : HallLine) (line at : ℕ) (bytes : List ℕ) (news : List TableState)
+pub record PieceHeard {W : Type 0} (tells : W → List ℕ → Type 0) (olds : List (KeptState W)) (one : HallLine) (line at : ℕ) (bytes : List ℕ) (news : List (KeptState W))
     (next : HallLine) (before after : List (List ℕ)) : Type 0 where
   pub told : List (List Telling)
-  pub tables : EachHears (λ table. heard_of_piece (length olds) table one line at bytes) 1 olds news told
+  pub tables : EachKeptHears tells (λ table. heard_of_piece (length olds) table one line at bytes) 1 olds news told
   pub stands : next ≡ line_behind (length olds) one bytes
   pub queued : after ≡ told_to before (refused_in (length olds) one line bytes ++ flat_map (λ one. one) told)

@@ -5,6 +5,7 @@ use Rattle.rbg_match.specs.Config.{IsWithinLimits}
 use Rattle.rbg_match.specs.Limits.{message_limit}
 use Rattle.rbg_hall.specs.Limits.{lines_in_all}
 use Rattle.rbg_hall.specs.Tables.{TableState, new_table}
+use Rattle.rbg_ledger.specs.Kept.{KeptState, Ledger, no_log}
 use Rattle.rbg_floor.specs.declared.line.Line.{Line}
 use Rattle.rbg_floor.specs.declared.line.Line.TheVariants.{Silent, Asks, Over}
 use Rattle.rbg_floor.specs.declared.table.Table.{Table}
@@ -19,9 +20,21 @@ line_of Over = over
 abbrev pub lines_of : List Line → List HallLine
 lines_of lines = map line_of lines
 
+-- tables, and ledgers, of tables with their ledgers
+abbrev pub states_of : {W : Type 0} → List (KeptState W) → List TableState
+states_of tables = map (λ one. one.table) tables
+
+abbrev pub ledgers_of : {W : Type 0} → List (KeptState W) → List (Ledger W)
+ledgers_of tables = map (λ one. one.ledger) tables
+
 -- tables and lines as a hall
-abbrev pub hall_of : List TableState → List Line → HallState
-hall_of tables lines = record { tables = tables; lines = lines_of lines }
+abbrev pub hall_of : {W : Type 0} → List (KeptState W) → List Line → HallState
+hall_of tables lines = record { tables = states_of tables; lines = lines_of lines }
+
+-- The table of this number, of so many, is at this index.
+pub record IsPlaced (table tables index : ℕ) : Type 0 where
+  pub number : table ≡ index + 1
+  pub within : index < tables
 
 -- The inbox has the limit of a message, and no complete item is left in it.
 pub record IsEmptied (inbox : Stream) : Type 0 where
@@ -61,6 +74,9 @@ pub record IsFaulty (tables : List Table) (index : ℕ) : Type 0 where
 abbrev pub HaveLimits : List Table → Type 0
 HaveLimits tables = All (λ (table : Table). IsWithinLimits table.config) tables
 
--- the tables, where nobody sits
-abbrev pub new_tables : List Table → List TableState
-new_tables tables = map (λ (table : Table). new_table table.game table.text.items table.config) tables
+-- the tables, where nobody sits, with no logs
+abbrev pub new_kept : {W : Type 0} → Table → KeptState W
+new_kept table = record { table = new_table table.game table.text.items table.config; ledger = no_log }
+
+abbrev pub new_tables : {W : Type 0} → List Table → List (KeptState W)
+new_tables tables = map (λ (table : Table). new_kept table) tables

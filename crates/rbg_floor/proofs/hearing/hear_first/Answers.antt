@@ -1,5 +1,7 @@
 use Rattle.std.proofs.Common.{◌<◌, length, get_or, ap, rules}
 use Rattle.rbg_floor.proofs.Pieces.{fed_by, asks_nothing, asks_none, asks_table, heard_nothing, heard_no_table, heard_table, ready_nothing, ready_table}
+use Rattle.rbg_floor.proofs.Taking.{on_error}
+use Rattle.rbg_floor.proofs.Ticking.{none_stops, one_stops}
 use Rattle.rbg_floor.proofs.hearing.hear_first.Goals as goal
 
 pub returns-in-Nothing-clause-hears : goal.returns-in-Nothing-clause-hears
@@ -33,3 +35,14 @@ pub offset_bounds-tables-index : goal.offset_bounds-tables-index
 offset_bounds-tables-index g c =
     let within : c.in-Table.index < length c.args.tables.now = (asks_table c.in-Table.index c.take_first.ensures c.in-Table.is).within in
     search (within, rules)
+
+pub returns-in_err-feed-clause-stops : goal.returns-in_err-feed-clause-stops
+returns-in_err-feed-clause-stops g c = on_error _ (none_stops g.W.Log.told c.args.tables.now)
+
+pub returns-in_err-refuse-in-NoTable-clause-stops : goal.returns-in_err-refuse-in-NoTable-clause-stops
+returns-in_err-refuse-in-NoTable-clause-stops g c = on_error _ (none_stops g.W.Log.told c.args.tables.now)
+
+pub returns-in_err-join-in-Table-clause-stops : goal.returns-in_err-join-in-Table-clause-stops
+returns-in_err-join-in-Table-clause-stops g c =
+    let tables = c.args.tables.now in
+    on_error _ (one_stops tables c.in-Table.index (get_or tables c.in-Table.index c.index-tables-index.result) c.join.new.table (ap (get_or tables c.in-Table.index) c.index-tables-index.is) c.in_err-join-in-Table.ensures.stops)

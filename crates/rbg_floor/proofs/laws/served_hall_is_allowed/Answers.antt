@@ -2,4 +2,4 @@ use Rattle.rbg_floor.proofs.Served.{served_hall_is_allowed}
 use Rattle.rbg_floor.proofs.laws.served_hall_is_allowed.Goals as goal
 
 pub returns : goal.returns
-returns c = served_hall_is_allowed
+returns g c = served_hall_is_allowed g.W.Log.told

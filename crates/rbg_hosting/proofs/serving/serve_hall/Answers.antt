@@ -1,5 +1,5 @@
--- The hall that is served is the new one, since a log changes nothing of it.
-use Rattle.std.proofs.Common.{sym, subst, ◌∙◌, rules}
+-- The hall that is served is the new one, since a log changes nothing of its state.
+use Rattle.std.proofs.Common.{◌∙◌, rules}
 use Rattle.std.proofs.lemmas.List.{length-map}
 use Rattle.rbg_floor.specs.Openings.{IsNewHall, starts_of, start_of}
 use Rattle.rbg_hosting.proofs.serving.serve_hall.Goals as goal
@@ -7,7 +7,14 @@ use Rattle.rbg_hosting.proofs.serving.serve_hall.Goals as goal
 pub returns : goal.returns
 returns g c =
     let starts = starts_of c.in_ok-tables.tables.items in
-    let made = subst (λ one. IsNewHall starts one c.in_ok-hall.out) (sym c.keep_logs.ensures) c.in_ok-hall.ensures.made in
+    let first = c.in_ok-hall.ensures.made in
+    let made : IsNewHall starts c.keep_logs.new.hall c.in_ok-hall.out = record {
+      lawful = first.lawful;
+      configs = first.configs;
+      is = c.keep_logs.ensures.state ∙ first.is;
+      works = c.keep_logs.ensures.failed ∙ first.works;
+      queued = first.queued;
+    } in
     let ended = c.in_ok-run_hall.ensures starts made in
     let same = length-map c.in_ok-tables.tables.items start_of ∙ search rules in
     record {

@@ -1,8 +1,8 @@
-use Rattle.std.proofs.Common.{◌≢◌, ◌≤◌, length, subst, arith, ◌∙◌, sym}
+use Rattle.std.proofs.Common.{◌≢◌, ◌≤◌, length, ap, subst, arith, ◌∙◌, sym}
 use Rattle.std.proofs.lemmas.Bool.{eqb-true, eqb-false}
 use Rattle.rbg_floor.specs.Openings.{starts_of}
-use Rattle.rbg_floor.specs.internal.Parts.{HaveLimits, IsFaulty}
-use Rattle.rbg_floor.proofs.Openings.{no_table_refused, too_many_refused, config_refused, fault_small, memory_passed, made_new}
+use Rattle.rbg_floor.specs.internal.Parts.{HaveLimits, IsFaulty, ledgers_of}
+use Rattle.rbg_floor.proofs.Openings.{no_table_refused, too_many_refused, config_refused, fault_small, ledgers_new, memory_passed, made_new}
 use Rattle.rbg_floor.proofs.hall.Hall.new.Goals as goal
 
 pub returns-then-is_empty-clause-refused : goal.returns-then-is_empty-clause-refused
@@ -36,3 +36,6 @@ returns-clause-made g c =
     let limits : HaveLimits c.args.tables.items = subst HaveLimits c.deref.ensures.value c.in_default.ensures.none in
     let made = c.in_ok-of_tables.ensures in
     made_new c.args.tables.items c.in_ok-tables.tables.items c.in_ok-of_tables.field-0.0 c.in_ok-of_tables.field-0.1 some few limits c.in_ok-tables.ensures made.tables made.lines made.works made.queued
+
+pub returns-clause-ledgers : goal.returns-clause-ledgers
+returns-clause-ledgers g c = c.in_ok-of_tables.ensures.ledgers ∙ ap ledgers_of c.in_ok-tables.ensures ∙ ledgers_new c.args.tables.items

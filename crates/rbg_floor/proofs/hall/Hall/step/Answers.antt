@@ -1,0 +1,11 @@
+use Rattle.std.proofs.Common.{subst}
+use Rattle.rbg_floor.specs.Failing.{HeldHall}
+use Rattle.rbg_floor.specs.Ledgers.{HallStops}
+use Rattle.rbg_floor.proofs.Halls.{hall_stops}
+use Rattle.rbg_floor.proofs.Ticking.{none_stops}
+use Rattle.rbg_floor.proofs.hall.Hall.step.Goals as goal
+
+pub returns-then-self-clause-stops : goal.returns-then-self-clause-stops
+returns-then-self-clause-stops g c =
+    subst (λ (hall : HeldHall _). HallStops g.W.Log.told hall.state.tables hall.ledgers hall.state.tables hall.ledgers) c.self.view_is
+    (hall_stops (none_stops g.W.Log.told c.self.inside.tables.items))
