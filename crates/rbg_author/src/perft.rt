@@ -22,8 +22,20 @@ pub fn perft<W: Write>(
 ) -> Result<Report, AllocError> {
     let game = PlayedGame::new(alloc, game)?;
     let mut workspace = Workspace::new(alloc);
+    count_all(alloc, &game, depth, extent, &mut workspace, output)
+}
+
+/// Counts the sequences of each number of moves up to a depth.
+fn count_all<W: Write>(
+    alloc: Global,
+    game: &PlayedGame,
+    depth: u8,
+    extent: Extent,
+    workspace: &mut Workspace,
+    output: &mut W,
+) -> Result<Report, AllocError> {
     for moves in 1..=depth {
-        match count_from_start(&game, moves, extent, &mut workspace) {
+        match count_from_start(game, moves, extent, workspace) {
             Ok(counts) => {
                 if !write_counts(alloc, output, moves, extent, counts)? {
                     return Ok(last_line(Vec::new(alloc), Status::Device));

@@ -35,8 +35,24 @@ pub fn play_from_start(
     ensures unplayed { IfErr result (AreUnplayed game.now) }
 {
     let mut workspace = Workspace::new(alloc);
+    play_on(alloc, game, seed, count, &mut workspace)
+}
+
+/// The same with a workspace that is lent.
+fn play_on(
+    alloc: Global,
+    game: &PlayedGame,
+    seed: u64,
+    count: u64,
+    workspace: &mut Workspace,
+) -> Result<Vec<Tally>, Refusal>
+    requires { IsCount count }
+    ensures played { IfOk result (λ tallies.
+        ArePlayouts game.now count (map counted_by tallies.items)) }
+    ensures unplayed { IfErr result (AreUnplayed game.now) }
+{
     let mut place = game.start()?;
-    game.settle(&mut place, &mut workspace)?;
-    let tallies = play_matches(alloc, game, &place, seed, count, &mut workspace)?;
+    game.settle(&mut place, workspace)?;
+    let tallies = play_matches(alloc, game, &place, seed, count, workspace)?;
     Ok(tallies)
 }

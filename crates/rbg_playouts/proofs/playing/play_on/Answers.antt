@@ -4,7 +4,7 @@ use Rattle.rbg_ask.specs.internal.Refusing.{refusal_of_unsettled}
 use Rattle.rbg_ask.proofs.Faults.{passed_on}
 use Rattle.rbg_playouts.specs.Playing.{no_memory}
 use Rattle.rbg_playouts.proofs.Beginning.{played_behind, unplayed_behind, unsettled_unplayed}
-use Rattle.rbg_playouts.proofs.playing.play_from_start.Goals as goal
+use Rattle.rbg_playouts.proofs.playing.play_on.Goals as goal
 
 pub returns-in_err-place-clause-unplayed : goal.returns-in_err-place-clause-unplayed
 returns-in_err-place-clause-unplayed c =
