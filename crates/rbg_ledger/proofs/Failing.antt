@@ -18,7 +18,7 @@ use Rattle.rbg_log.specs.Logs.{Appends, AppendsFront, event_lines}
 use Rattle.rbg_ledger.specs.declared.standing.Standing.TheVariants.{Works}
 use Rattle.rbg_ledger.specs.Kept.{Changes, FailsSo, IsWhole, IsWritten, KeptFails, KeptHearsFor, KeptState, all_noted, fails_now, first_unless, log_failed, no_memory, standing_after, unwritten, with_log, without}
 use Rattle.rbg_ledger.specs.Ledgers.{IsNotedIn, first_for, heard_at}
-use Rattle.rbg_ledger.specs.internal.Parts.{HasNoLog, IsKept, IsNotedPart, LeavesIn}
+use Rattle.rbg_ledger.specs.internal.Parts.{HasNoLog, IsNotedPart, LeavesIn}
 use Rattle.rbg_ledger.proofs.Keeping.{first_so}
 
 -- bytes are appended in two parts
