@@ -38,6 +38,7 @@ pub struct Flat {
 
 impl Flat {
     /// A flat part of a game, not begun.
+    #[inline(never)]
     pub fn new(alloc: Global, game: &Game) -> Result<Flat, Memory>
         ensures { IfOk result (λ flat. AreSizedFor game.now flat.sets) }
     {

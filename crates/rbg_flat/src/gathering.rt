@@ -15,18 +15,25 @@ use rbg_state::{SemiState, Trial};
 
 /// Whether a modifier stands at a position that is valid: where it is valid at one vertex, it is at each. No action
 /// stands at position 0.
+#[inline(always)]
 pub(crate) fn keeps(game: &Game, state: &SemiState, position: Position) -> bool
     requires lawful { IsGame game.now }
     requires fits { IsStateOf game.now state.now.state }
     requires there { position ≤ length (positions_of game.now.rules) }
     ensures { 0 < position → IsTrue result ↔ Keeps game.now state.now.state position }
 {
-    if position == 0 {
-        return false;
-    }
-    if !is_modifier(game, position) {
-        return false;
-    }
+    position != 0 && is_modifier(game, position) && is_kept(game, state, position)
+}
+
+/// The same where an action stands.
+#[inline(never)]
+fn is_kept(game: &Game, state: &SemiState, position: Position) -> bool
+    requires lawful { IsGame game.now }
+    requires fits { IsStateOf game.now state.now.state }
+    requires from_one { 0 < position }
+    requires there { position ≤ length (positions_of game.now.rules) }
+    ensures { IsTrue result ↔ Keeps game.now state.now.state position }
+{
     match state.try_at(game, state.vertex(), position) {
         Trial::Modifies => true,
         Trial::Invalid => false,
