@@ -21,9 +21,10 @@ use Rattle.rbg_rules.proofs.PositionLemmas.{one_stands}
 use Rattle.rbg_state.proofs.Trying.{same_value}
 use Rattle.rbg_flat.specs.Found.{IsFound, AreFound, HasCandidates, most_candidates}
 use Rattle.rbg_flat.specs.internal.Begun.{IsBegun}
-use Rattle.rbg_flat.specs.internal.Gathering.{Lists, at_position, Gathers, IsMetBelow, Keeps, IsGone, IsKept, Gathered}
+use Rattle.rbg_flat.specs.internal.Gathering.{Lists, at_position, Gathers, Keeps, IsGone, IsKept, Gathered}
 use Rattle.rbg_flat.specs.internal.Leading.{AreOn}
-use Rattle.rbg_flat.specs.internal.Sets.{SetsOfVertices, IsMarked, IsOpen, Forgets}
+use Rattle.rbg_flat.specs.internal.Sets.{SetsOfVertices, IsMarked, IsOpen}
+use Rattle.rbg_flat.specs.internal.Places.{ForgetsPlace, IsMetAt}
 use Rattle.rbg_flat.proofs.ChainLemmas.{candidate_of, met_of}
 use Rattle.rbg_flat.proofs.Lists.{lists_same, lists_join, lists_map}
 use Rattle.rbg_flat.proofs.Steps.{all_marked}
@@ -111,30 +112,36 @@ module _ (game : AbstractGame) (lawful : IsGame game) (s : AbstractState) (first
         let short = length-le_from_distinct_below (map (number vertices) pairs) (most_candidates game) distinct all in
         omega (arith, short, length-map pairs (number vertices))
 
-  -- A position's row is gathered and forgotten.
+  -- What was met at a place is gathered and forgotten.
   module _
-      (now new : SetsOfVertices) (found found' : List (ℕ × ℕ)) (count many most p : ℕ) (keeps : Bool)
+      (now new : SetsOfVertices) (found found' : List (ℕ × ℕ)) (count many most place p : ℕ) (keeps : Bool)
+      (parts : p ≡ place / now.columns)
       (so_far : Gathered game s first now found count)
-      (row : Gathers (IsMetBelow now p now.columns) found found' p keeps many most)
-      (forgets : Forgets now new p)
+      (row : Gathers (IsMetAt now place p) found found' p keeps many most)
+      (forgets : ForgetsPlace now new place)
       (told : 0 < p → IsTrue keeps ↔ Keeps game s p)
     where
       abbrev InRow : ℕ × ℕ → Type 0
-      InRow q = (q.1 ≡ p) × IsMarked now q.0 p
+      InRow q = (q.1 ≡ p) × IsMetAt now place p q.0
 
       in_row : Lists InRow (at_position p row.vertices)
-      in_row = lists_map (λ (v : ℕ). (v, p)) (λ a b same. ap (λ (q : ℕ × ℕ). q.0) same) (IsMetBelow now p now.columns) InRow row.vertices row.lists
-          (λ q is. (q.0, record { marked = is.1; below = is.1.column }, λ i. (q.0, sym is.0 i)))
-          (λ v is. (refl, is.marked))
+      in_row = lists_map (λ (v : ℕ). (v, p)) (λ a b same. ap (λ (q : ℕ × ℕ). q.0) same) (IsMetAt now place p) InRow row.vertices row.lists
+          (λ q is. (q.0, is.1, λ i. (q.0, sym is.0 i)))
+          (λ v is. (refl, is))
 
       apart : (q : ℕ × ℕ) → IsGone first now q → InRow q → ⊥
-      apart q gone is = gone.forgotten (subst (λ (k : ℕ). IsMarked now q.0 k) (sym is.0) is.1)
+      apart q gone is = gone.forgotten (subst (λ (k : ℕ). IsMarked now q.0 k) (sym is.0) is.1.marked)
+
+      same_position : (q : ℕ × ℕ) → IsMarked now q.0 q.1 → q.1 * now.columns + q.0 / 64 ≡ place → q.1 ≡ p
+      same_position q was same = sym (div-mul-add q.1 now.columns (q.0 / 64) was.column) ∙ ap (λ (k : ℕ). k / now.columns) same ∙ sym parts
 
       cases : (q : ℕ × ℕ) → IsGone first new q → IsGone first now q ⊎ InRow q
       cases q gone = elim (bit_decided now.columns now.marks q.0 q.1) [
         | inr never ↦ inl (record { marked = gone.marked; forgotten = never })
-        | inl was ↦ elim (ℕ_discrete q.1 p) [
-          | yes same ↦ inr (same, subst (λ (k : ℕ). IsMarked now q.0 k) same was)
+        | inl was ↦ elim (ℕ_discrete (q.1 * now.columns + q.0 / 64) place) [
+          | yes same ↦
+              let at = same_position q was same in
+              inr (at, record { at = ap (λ (k : ℕ). k * now.columns + q.0 / 64) (sym at) ∙ same; marked = subst (λ (k : ℕ). IsMarked now q.0 k) at was })
           | no other ↦ absurd (gone.forgotten (forgets.still q.0 q.1 other was))
         ]
       ]
@@ -144,12 +151,12 @@ module _ (game : AbstractGame) (lawful : IsGame game) (s : AbstractState) (first
 
       here : (q : ℕ × ℕ) → InRow q → IsGone first new q
       here q is = record {
-        marked = so_far.under q.0 q.1 (subst (λ (k : ℕ). IsMarked now q.0 k) (sym is.0) is.1);
-        forgotten = λ still. forgets.gone q.0 (subst (λ (k : ℕ). IsMarked new q.0 k) is.0 still);
+        marked = so_far.under q.0 q.1 (subst (λ (k : ℕ). IsMarked now q.0 k) (sym is.0) is.1.marked);
+        forgotten = λ still. forgets.gone q.0 p is.1.at (subst (λ (k : ℕ). IsMarked new q.0 k) is.0 still);
       }
 
       some_position : (q : ℕ × ℕ) → InRow q → 0 < p
-      some_position q is = on_board.from_one q.0 p (so_far.under q.0 p is.1)
+      some_position q is = on_board.from_one q.0 p (so_far.under q.0 p is.1.marked)
 
       with_row : keeps ≡ true → Lists (IsKept game s first new) found'
       with_row keep =
@@ -199,12 +206,12 @@ module _ (game : AbstractGame) (lawful : IsGame game) (s : AbstractState) (first
       }
 
   -- The sum is a number of 64 bits.
-  pub count_fits : (now : SetsOfVertices) (found : List (ℕ × ℕ)) (count many columns : ℕ) → Gathered game s first now found count → many ≤ 64 * columns → columns < 2 ^ 16 → count + many < 2 ^ 64
-  count_fits now found count many columns so_far few narrow =
+  pub count_fits : (now : SetsOfVertices) (found : List (ℕ × ℕ)) (count many : ℕ) → Gathered game s first now found count → many ≤ 64 → count + many < 2 ^ 64
+  count_fits now found count many so_far few =
       let short = few_gone now so_far.pairs so_far.lists in
       let is = so_far.count_is in
       let most : most_candidates game ≤ 20000 * 4096 = mul-le (length (positions_of game.rules)) vertices 20000 4096 lawful.limits.positions lawful.limits.vertices in
-      omega (arith, short, is, most, few, narrow)
+      omega (arith, short, is, most, few)
 
   -- Where all is forgotten, what was met was gathered.
   module _

@@ -1,14 +1,14 @@
--- How words and rows are gathered.
+-- How words are gathered.
 use Rattle.std.proofs.Common.{◌≡◌, ◌≢◌, ℕ, ◌+◌, ◌*◌, ◌/◌, ◌%◌, ◌^◌, ◌<◌, ◌≤◌, ◌⊎◌, inl, inr, List, [], ◌∷◌, ◌++◌, Bool, true, false, get_or, sym, ap, subst, ◌∙◌, append_assoc, arith}
 use Rattle.std.specs.Prelude.{count_ones}
 use Rattle.std.specs.Int.{bit_at}
-use Rattle.std.proofs.lemmas.List.{length-append, map-append}
+use Rattle.std.proofs.lemmas.List.{map-append}
 use Rattle.std.proofs.lemmas.Nat.Bits.{bit_at-lt}
 use native.Mathlib.Decide.{ℕ_discrete}
-use Rattle.std.proofs.lemmas.Bool.{cases_lt}
-use Rattle.rbg_flat.specs.internal.Gathering.{at_position, IsBitOf, IsBitPast, PushedPast, PushesWord, Gathers, IsMetBelow}
+use Rattle.rbg_flat.specs.internal.Gathering.{at_position, IsBitOf, IsBitPast, PushedPast, PushesWord, Gathers}
+use Rattle.rbg_flat.specs.internal.Places.{IsMetAt}
 use Rattle.rbg_flat.specs.internal.Sets.{SetsOfVertices}
-use Rattle.rbg_flat.proofs.Lists.{lists_push, lists_join, lists_count}
+use Rattle.rbg_flat.proofs.Lists.{lists_push, lists_count}
 use Rattle.rbg_flat.proofs.Ones.{counted}
 
 not_both : {n : ℕ} → n ≡ 0 → n ≡ 1 → ⊥
@@ -79,41 +79,34 @@ gathers_left old new p c word keeps fits few none same =
       few = few;
     }
 
--- One column more of a row is gathered.
-pub gathers_more : (sets : SetsOfVertices) (old middle new : List (ℕ × ℕ)) (p c word : ℕ) (keeps : Bool) (many more : ℕ) → c < sets.columns → word ≡ get_or sets.marks (p * sets.columns + c) 0 → Gathers (IsMetBelow sets p c) old middle p keeps many (64 * c) → Gathers (IsBitOf c word) middle new p keeps more 64 → Gathers (IsMetBelow sets p (c + 1)) old new p keeps (many + more) (64 * (c + 1))
-gathers_more sets old middle new p c word keeps many more below is one other = record {
-  vertices = one.vertices ++ other.vertices;
-  lists = lists_join (IsMetBelow sets p c) (IsBitOf c word) (IsMetBelow sets p (c + 1)) one.vertices other.vertices one.lists other.lists apart cases first second;
-  count = let long = length-append one.vertices other.vertices in let a = one.count in let b = other.count in omega (arith, long, a, b);
-  kept = λ keep. other.kept keep ∙ ap (λ (xs : List (ℕ × ℕ)). xs ++ at_position p other.vertices) (one.kept keep) ∙ append_assoc old (at_position p one.vertices) (at_position p other.vertices)
-      ∙ ap (λ (xs : List (ℕ × ℕ)). old ++ xs) (sym (map-append (λ (v : ℕ). (v, p)) one.vertices other.vertices));
-  left = λ none. other.left none ∙ one.left none;
-  few = let a = one.few in let b = other.few in omega (arith, a, b);
+-- What is gathered, told in other words.
+pub gathers_same : (In Other : ℕ → Type 0) (old new : List (ℕ × ℕ)) (p : ℕ) (keeps : Bool) (many most : ℕ) → ((v : ℕ) → In v → Other v) → ((v : ℕ) → Other v → In v) → Gathers In old new p keeps many most → Gathers Other old new p keeps many most
+gathers_same In Other old new p keeps many most to back gathers = record {
+  vertices = gathers.vertices;
+  lists = record { all = λ v. (λ there. to v ((gathers.lists.all v).0 there), λ is. (gathers.lists.all v).1 (back v is)); different = gathers.lists.different };
+  count = gathers.count;
+  kept = gathers.kept;
+  left = gathers.left;
+  few = gathers.few;
 }
-  where
-    apart : (v : ℕ) → IsMetBelow sets p c v → IsBitOf c word v → ⊥
-    apart v met bit = let less = met.below in let at = bit.column in omega (arith, less, at)
 
-    first : (v : ℕ) → IsMetBelow sets p c v → IsMetBelow sets p (c + 1) v
-    first v met = record { marked = met.marked; below = let less = met.below in omega (arith, less) }
+-- The bits of the word at a place are what was met there.
+module _ (sets : SetsOfVertices) (place p c word : ℕ) (parts : place ≡ p * sets.columns + c) (below : c < sets.columns) (is : word ≡ get_or sets.marks place 0) where
+  pub met_bit : (v : ℕ) → IsBitOf c word v → IsMetAt sets place p v
+  met_bit v bit =
+      let at : p * sets.columns + v / 64 ≡ place = ap (λ (k : ℕ). p * sets.columns + k) bit.column ∙ sym parts in
+      record {
+        at = at;
+        marked = record {
+          column = subst (λ (k : ℕ). k < sets.columns) (sym bit.column) below;
+          set = ap (λ (k : ℕ). bit_at (get_or sets.marks k 0) (v % 64)) at ∙ sym (ap (λ (n : ℕ). bit_at n (v % 64)) is) ∙ bit.set;
+        };
+      }
 
-    second : (v : ℕ) → IsBitOf c word v → IsMetBelow sets p (c + 1) v
-    second v bit = record {
-      marked = record {
-        column = subst (λ (k : ℕ). k < sets.columns) (sym bit.column) below;
-        set = subst (λ (k : ℕ). bit_at (get_or sets.marks (p * sets.columns + k) 0) (v % 64) ≡ 1) (sym bit.column) (subst (λ (n : ℕ). bit_at n (v % 64) ≡ 1) is bit.set);
-      };
-      below = let at = bit.column in omega (arith, at);
-    }
-
-    cases : (v : ℕ) → IsMetBelow sets p (c + 1) v → IsMetBelow sets p c v ⊎ IsBitOf c word v
-    cases v met = elim (ℕ_discrete (v / 64) c) [
-      | yes at ↦ inr (record { column = at; set = subst (λ (n : ℕ). bit_at n (v % 64) ≡ 1) (sym is) (subst (λ (k : ℕ). bit_at (get_or sets.marks (p * sets.columns + k) 0) (v % 64) ≡ 1) at met.marked.set) })
-      | no other ↦ inl (record { marked = met.marked; below = let less = met.below in strictly less other })
-    ]
-      where
-        strictly : v / 64 < c + 1 → ¬ (v / 64 ≡ c) → v / 64 < c
-        strictly less other = elim (cases_lt (v / 64) c) [
-          | inl before ↦ before
-          | inr after ↦ absurd (other (omega (arith, less, after)))
-        ]
+  pub bit_met : (v : ℕ) → IsMetAt sets place p v → IsBitOf c word v
+  bit_met v met =
+      let at : p * sets.columns + v / 64 ≡ place = met.at in
+      record {
+        column = omega (arith, at, parts);
+        set = ap (λ (n : ℕ). bit_at n (v % 64)) is ∙ sym (ap (λ (k : ℕ). bit_at (get_or sets.marks k 0) (v % 64)) at) ∙ met.marked.set;
+      }

@@ -4,6 +4,7 @@ pub mod Listings
 pub mod Steps
 pub mod WordLemmas
 pub mod SetLemmas
+pub mod PlaceLemmas
 pub mod Meetings
 pub mod Modifiers
 pub mod Leadings

@@ -1,9 +1,9 @@
 -- Meetings, one after another.
-use Rattle.std.proofs.Common.{◌≡◌, ℕ, ◌+◌, ◌/◌, ◌%◌, ◌<◌, ◌≤◌, ◌⊎◌, inl, inr, List, [], Bool, true, length, get_or, take, refl, sym, ap, ◌∙◌, arith}
+use Rattle.std.proofs.Common.{◌≡◌, ℕ, ◌+◌, ◌/◌, ◌%◌, ◌<◌, ◌≤◌, ◌⊎◌, inl, inr, List, [], Bool, true, length, get_or, take, refl, sym, ap, subst, ◌∙◌, arith}
 use Rattle.std.specs.Int.{bit_at}
 use Rattle.std.proofs.lemmas.Bool.{cases_lt}
 use Rattle.std.proofs.lemmas.Nat.Bits.{bit_at-zero}
-use Rattle.std.proofs.lemmas.List.{get_or-take, get_or_past, length-take-le}
+use Rattle.std.proofs.lemmas.List.{get_or-take, get_or_past, length-take-le, take_all}
 use native.Mathlib.Decide.{ℕ_discrete}
 use Rattle.rbg_flat.specs.internal.Sets.{SetsOfVertices, IsMarked, IsOpen, IsInWord, IsInRow, MeetsWord, Meets, weight}
 
@@ -149,3 +149,22 @@ meets_more old middle new q row many opens within so_far word =
     meets_both old middle new (IsInRow q (take many row)) (IsInWord q many (get_or row many 0)) (IsInRow q (take (many + 1) row)) (λ _. opens ≡ true)
     so_far (meets_word middle new q many (get_or row many 0) opens word)
     (row_apart q row many within) (row_first q row many within) (row_second q row many within)
+
+-- A row of one word is met.
+pub meets_only : (old new : SetsOfVertices) (q : ℕ) (row : List ℕ) (opens : Bool) → length row ≡ 1 → MeetsWord old new q 0 (get_or row 0 0) opens → Meets old new (IsInRow q row) (λ _. opens ≡ true)
+meets_only old new q row opens one meets =
+    subst (λ (xs : List ℕ). Meets old new (IsInRow q xs) (λ _. opens ≡ true)) (take_all 1 row (omega (arith, one)))
+    (meets_more old old new q row 0 opens (omega (arith, one)) (meets_none old (IsInRow q []) (λ _. opens ≡ true) (empty_row q)) meets)
+
+-- A word with no bits is met.
+pub meets_zero : (sets : SetsOfVertices) (q c word : ℕ) (opens : Bool) → word ≡ 0 → MeetsWord sets sets q c word opens
+meets_zero sets q c word opens none = record {
+  size = refl;
+  columns = refl;
+  kept = λ v p has. has;
+  met = λ v p there. absurd (no_bit (ap (λ (n : ℕ). bit_at n (v % 64)) none ∙ bit_at-zero (v % 64)) there.set);
+  only = λ v p has. inl has;
+  still = λ v p has. has;
+  no_other = λ v p has. inl has;
+  lighter = omega arith;
+}

@@ -1,20 +1,19 @@
 -- How sets change where a word is met, and where bits are closed.
-use Rattle.std.proofs.Common.{◌≡◌, ℕ, ◌+◌, ◌-◌, ◌*◌, ◌/◌, ◌%◌, ◌<◌, ◌≤◌, ◌^◌, ◌⊎◌, inl, inr, List, [], ◌∷◌, ◌++◌, Bool, true, false, length, get_or, take, refl, sym, ap, subst, ◌∙◌, slice_set, arith}
+use Rattle.std.proofs.Common.{◌≡◌, ℕ, ◌+◌, ◌-◌, ◌*◌, ◌/◌, ◌%◌, ◌<◌, ◌≤◌, ◌^◌, ◌⊎◌, inl, inr, List, [], ◌∷◌, ◌++◌, Bool, true, false, length, get_or, refl, sym, ap, subst, ◌∙◌, slice_set, arith}
 use Rattle.std.specs.Prelude.{bit_or, bit_and, Contains}
 use Rattle.std.specs.Int.{bit_at, bit_not, w64}
 use Rattle.std.proofs.lemmas.Nat.Bits.{bit_at-zero}
-use Rattle.std.proofs.lemmas.List.{length-set, length_push, length-take-le, get_or-take, get_or_default}
+use Rattle.std.proofs.lemmas.List.{length-set, length_push}
 use Rattle.std.proofs.lemmas.Bool.{cases_lt}
-use Rattle.std.proofs.lemmas.Nat.{mul-add-lt, and_le_l}
+use Rattle.std.proofs.lemmas.Nat.{and_le_l}
 use Rattle.std.proofs.lemmas.List.Sums.{sum_by-set}
 use Rattle.std.specs.List.{sum_by}
-use Rattle.std.proofs.Math.Nat.{mul_comm}
-use native.Mathlib.Decide.{ℕ_discrete}
 use Rattle.std.proofs.lemmas.List.Elements.{Contains-push, Contains-append_left}
-use Rattle.rbg_flat.specs.internal.Sets.{SetsOfVertices, sets_of, HasBitAt, IsInWord, AreSets, MeetsWord, ClosesWord, Forgets, IsLastOf}
+use Rattle.rbg_flat.specs.internal.Sets.{SetsOfVertices, sets_of, HasBitAt, IsInWord, MeetsWord, ClosesWord}
+use Rattle.rbg_flat.specs.internal.Places.{AreSetsByPlace}
 use Rattle.rbg_flat.proofs.WordLemmas.{added_to, added_old, added_new, taken_of, taken_gone, taken_left, known_or_new, new_in_word, or_at_most, less_left, of_word}
 
--- What a list has after a position was added.
+-- What a list has after a place was added.
 abbrev pub Added : (old new : List ℕ) → ℕ → Type 0
 Added old new p = (Contains old p × (new ≡ old)) ⊎ ((¬ Contains old p) × (new ≡ old ++ p ∷ []))
 
@@ -99,7 +98,7 @@ module _
         omega (arith, put, most)
 
     -- What is new is opened.
-    pub meets_open : (waiting' touched' : List ℕ) → ((b : ℕ) → bit_at n b ≡ 1 → bit_at (get_or marks place 0) b ≡ 0) → ¬ (n ≡ 0) → bit_or (get_or marks place 0) n ≡ get_or marks place 0 + n → get_or marks place 0 + n < 2 ^ 64 → Added waiting waiting' q → MeetsWord old (sets_of size columns marks_then pending_then waiting' touched') q c x true
+    pub meets_open : (waiting' touched' : List ℕ) → ((b : ℕ) → bit_at n b ≡ 1 → bit_at (get_or marks place 0) b ≡ 0) → ¬ (n ≡ 0) → bit_or (get_or marks place 0) n ≡ get_or marks place 0 + n → get_or marks place 0 + n < 2 ^ 64 → Added waiting waiting' place → MeetsWord old (sets_of size columns marks_then pending_then waiting' touched') q c x true
     meets_open waiting' touched' fresh some sum fits adds = record {
       size = refl;
       columns = refl;
@@ -111,7 +110,7 @@ module _
       lighter =
           let less = marks_less sum fits in
           let more = pending_more in
-          let one = one_longer waiting waiting' q adds in
+          let one = one_longer waiting waiting' place adds in
           let least = at_least_one n some in
           omega (arith, less, more, one, least);
     }
@@ -147,8 +146,8 @@ module _
         by_marks v p (inl was) = inl was
         by_marks v p (inr new) = inr (new_in_word q c x n v p only new, λ e. absurd (false_not_true e))
 
-    -- The lists still name all positions that have bits.
-    pub sets_open : AreSets old → (waiting' touched' : List ℕ) → Added waiting waiting' q → Added touched touched' q → AreSets (sets_of size columns marks_then pending_then waiting' touched')
+    -- The lists still name the places of all words that have bits.
+    pub sets_open : AreSetsByPlace old → (waiting' touched' : List ℕ) → Added waiting waiting' place → Added touched touched' place → AreSetsByPlace (sets_of size columns marks_then pending_then waiting' touched')
     sets_open are waiting' touched' waits touches = record {
       marks = length-set marks place (bit_or (get_or marks place 0) n) ∙ are.marks;
       pendings = length-set pending place (bit_or (get_or pending place 0) n) ∙ are.pendings;
@@ -161,15 +160,15 @@ module _
         by_under v p (inl was) = added_old columns marks place q c is below in_marks n v p (are.under v p was)
         by_under v p (inr new) = added_new columns marks place q c is below in_marks n v p new
 
-        by_waits : (v p : ℕ) → HasBitAt columns pending v p ⊎ IsInWord q c n v p → Contains waiting' p
-        by_waits v p (inl was) = still_listed waiting waiting' q p waits (are.waits v p was)
-        by_waits v p (inr new) = subst (λ (k : ℕ). Contains waiting' k) (sym new.position) (now_listed waiting waiting' q waits)
+        by_waits : (v p : ℕ) → HasBitAt columns pending v p ⊎ IsInWord q c n v p → Contains waiting' (p * columns + v / 64)
+        by_waits v p (inl was) = still_listed waiting waiting' place (p * columns + v / 64) waits (are.waits v p was)
+        by_waits v p (inr new) = subst (λ (k : ℕ). Contains waiting' k) (sym (of_word columns pending place q c is below in_pending n v p new)) (now_listed waiting waiting' place waits)
 
-        by_touches : (v p : ℕ) → HasBitAt columns marks v p ⊎ IsInWord q c n v p → Contains touched' p
-        by_touches v p (inl was) = still_listed touched touched' q p touches (are.touches v p was)
-        by_touches v p (inr new) = subst (λ (k : ℕ). Contains touched' k) (sym new.position) (now_listed touched touched' q touches)
+        by_touches : (v p : ℕ) → HasBitAt columns marks v p ⊎ IsInWord q c n v p → Contains touched' (p * columns + v / 64)
+        by_touches v p (inl was) = still_listed touched touched' place (p * columns + v / 64) touches (are.touches v p was)
+        by_touches v p (inr new) = subst (λ (k : ℕ). Contains touched' k) (sym (of_word columns marks place q c is below in_marks n v p new)) (now_listed touched touched' place touches)
 
-    pub sets_closed : AreSets old → (touched' : List ℕ) → Added touched touched' q → AreSets (sets_of size columns marks_then pending waiting touched')
+    pub sets_closed : AreSetsByPlace old → (touched' : List ℕ) → Added touched touched' place → AreSetsByPlace (sets_of size columns marks_then pending waiting touched')
     sets_closed are touched' touches = record {
       marks = length-set marks place (bit_or (get_or marks place 0) n) ∙ are.marks;
       pendings = are.pendings;
@@ -178,9 +177,9 @@ module _
       touches = λ v p has. by_touches v p (added_to columns marks place q c is below in_marks n v p has);
     }
       where
-        by_touches : (v p : ℕ) → HasBitAt columns marks v p ⊎ IsInWord q c n v p → Contains touched' p
-        by_touches v p (inl was) = still_listed touched touched' q p touches (are.touches v p was)
-        by_touches v p (inr new) = subst (λ (k : ℕ). Contains touched' k) (sym new.position) (now_listed touched touched' q touches)
+        by_touches : (v p : ℕ) → HasBitAt columns marks v p ⊎ IsInWord q c n v p → Contains touched' (p * columns + v / 64)
+        by_touches v p (inl was) = still_listed touched touched' place (p * columns + v / 64) touches (are.touches v p was)
+        by_touches v p (inr new) = subst (λ (k : ℕ). Contains touched' k) (sym (of_word columns marks place q c is below in_marks n v p new)) (now_listed touched touched' place touches)
 
 -- Bits x of a word of the row of position q are closed.
 module _
@@ -214,79 +213,11 @@ module _
         sum_put : sum_by (λ (m : ℕ). m) pending_less + get_or pending place 0 ≡ sum_by (λ (m : ℕ). m) pending + bit_and (get_or pending place 0) (bit_not w64 x)
         sum_put = sum_by-set (λ (m : ℕ). m) pending place (bit_and (get_or pending place 0) (bit_not w64 x)) 0 in_pending
 
-    pub sets_less : AreSets (sets_of size columns marks pending waiting touched) → AreSets (sets_of size columns marks pending_less waiting touched)
+    pub sets_less : AreSetsByPlace (sets_of size columns marks pending waiting touched) → AreSetsByPlace (sets_of size columns marks pending_less waiting touched)
     sets_less are = record {
       marks = are.marks;
       pendings = length-set pending place (bit_and (get_or pending place 0) (bit_not w64 x)) ∙ are.pendings;
       under = λ v p has. are.under v p (taken_of columns pending place q c is below in_pending x v p has);
       waits = λ v p has. are.waits v p (taken_of columns pending place q c is below in_pending x v p has);
       touches = are.touches;
-    }
-
--- The rows of position q are cleared, which is the last that was touched.
-module _
-    (size columns : ℕ) (marks pending waiting touched : List ℕ) (q : ℕ) (marks' pending' : List ℕ)
-    (same_marks : length marks' ≡ length marks)
-    (clear_marks : (i : ℕ) → q * columns ≤ i → i < q * columns + columns → get_or marks' i 0 ≡ 0)
-    (other_marks : (i : ℕ) → (i < q * columns) ⊎ (q * columns + columns ≤ i) → get_or marks' i 0 ≡ get_or marks i 0)
-    (same_pending : length pending' ≡ length pending)
-    (clear_pending : (i : ℕ) → q * columns ≤ i → i < q * columns + columns → get_or pending' i 0 ≡ 0)
-    (other_pending : (i : ℕ) → (i < q * columns) ⊎ (q * columns + columns ≤ i) → get_or pending' i 0 ≡ get_or pending i 0)
-    (last : IsLastOf touched q)
-  where
-    no_bit_in : (words : List ℕ) → ((i : ℕ) → q * columns ≤ i → i < q * columns + columns → get_or words i 0 ≡ 0) → (v : ℕ) → ¬ HasBitAt columns words v q
-    no_bit_in words clear v has =
-        let column = has.column in
-        let none : bit_at (get_or words (q * columns + v / 64) 0) (v % 64) ≡ 0 = ap (λ (n : ℕ). bit_at n (v % 64)) (clear (q * columns + v / 64) (omega arith) (omega (arith, column))) ∙ bit_at-zero (v % 64) in
-        let set = has.set in
-        omega (arith, none, set)
-
-    outside : (p k : ℕ) → ¬ (p ≡ q) → k < columns → (p * columns + k < q * columns) ⊎ (q * columns + columns ≤ p * columns + k)
-    outside p k other column = elim (cases_lt p q) [
-      | inl below ↦ inl (let row = mul-add-lt p columns k q below column in let turned = mul_comm columns q in omega (arith, row, turned))
-      | inr above ↦ inr (let more : q < p = elim (cases_lt q p) [ inl less ↦ less | inr no_less ↦ absurd (other (omega (arith, above, no_less))) ] in
-          let row = mul-add-lt q columns (columns - 1) p more (omega (arith, column)) in let turned = mul_comm columns p in omega (arith, row, turned, column))
-    ]
-
-    was_there : (words words' : List ℕ) → ((i : ℕ) → (i < q * columns) ⊎ (q * columns + columns ≤ i) → get_or words' i 0 ≡ get_or words i 0) → (v p : ℕ) → ¬ (p ≡ q) → HasBitAt columns words' v p → HasBitAt columns words v p
-    was_there words words' others v p other has = record {
-      column = has.column;
-      set = sym (ap (λ (n : ℕ). bit_at n (v % 64)) (others (p * columns + v / 64) (outside p (v / 64) other has.column))) ∙ has.set;
-    }
-
-    is_there : (words words' : List ℕ) → ((i : ℕ) → (i < q * columns) ⊎ (q * columns + columns ≤ i) → get_or words' i 0 ≡ get_or words i 0) → (v p : ℕ) → ¬ (p ≡ q) → HasBitAt columns words v p → HasBitAt columns words' v p
-    is_there words words' others v p other has = record {
-      column = has.column;
-      set = ap (λ (n : ℕ). bit_at n (v % 64)) (others (p * columns + v / 64) (outside p (v / 64) other has.column)) ∙ has.set;
-    }
-
-    not_here : (words : List ℕ) → ((i : ℕ) → q * columns ≤ i → i < q * columns + columns → get_or words i 0 ≡ 0) → (v p : ℕ) → HasBitAt columns words v p → ¬ (p ≡ q)
-    not_here words clear v p has same = no_bit_in words clear v (subst (λ (k : ℕ). HasBitAt columns words v k) same has)
-
-    among_rest : (p : ℕ) → ¬ (p ≡ q) → Contains touched p → Contains (take (length touched - 1) touched) p
-    among_rest p other (i, within, is) =
-        let some = last.some in
-        let read : get_or touched i 0 ≡ p = get_or_default touched i 0 p within ∙ is in
-        let before : i < length touched - 1 = elim (ℕ_discrete i (length touched - 1)) [
-          | yes same ↦ absurd (other (sym read ∙ ap (λ (k : ℕ). get_or touched k 0) same ∙ last.last))
-          | no apart ↦ elim (cases_lt i (length touched - 1)) [ inl less ↦ less | inr no_less ↦ absurd (apart (omega (arith, within, no_less, some))) ]
-        ] in
-        let long = length-take-le (length touched - 1) touched (omega (arith, some)) in
-        (i, omega (arith, before, long), get_or-take (length touched - 1) touched i p before ∙ is)
-
-    pub sets_forgotten : AreSets (sets_of size columns marks pending waiting touched) → AreSets (sets_of size columns marks' pending' waiting (take (length touched - 1) touched))
-    sets_forgotten are = record {
-      marks = same_marks ∙ are.marks;
-      pendings = same_pending ∙ are.pendings;
-      under = λ v p has. let other = not_here pending' clear_pending v p has in is_there marks marks' other_marks v p other (are.under v p (was_there pending pending' other_pending v p other has));
-      waits = λ v p has. let other = not_here pending' clear_pending v p has in are.waits v p (was_there pending pending' other_pending v p other has);
-      touches = λ v p has. let other = not_here marks' clear_marks v p has in among_rest p other (are.touches v p (was_there marks marks' other_marks v p other has));
-    }
-
-    -- What was met there is gone, and nothing else.
-    pub forgets : (touched' : List ℕ) → Forgets (sets_of size columns marks pending waiting touched) (sets_of size columns marks' pending' waiting touched') q
-    forgets touched' = record {
-      gone = no_bit_in marks' clear_marks;
-      only = λ v p has. was_there marks marks' other_marks v p (not_here marks' clear_marks v p has) has;
-      still = λ v p other has. is_there marks marks' other_marks v p other has;
     }

@@ -1,5 +1,5 @@
 -- A word of vertices is taken from what is open, and led on from where the action holds.
-use Rattle.std.proofs.Common.{◌≡◌, ℕ, ◌+◌, ◌*◌, ◌%◌, ◌<◌, ◌⊎◌, inl, inr, List, Bool, true, refl, sym, subst, arith}
+use Rattle.std.proofs.Common.{◌≡◌, ℕ, ◌+◌, ◌*◌, ◌%◌, ◌<◌, ◌⊎◌, inl, inr, List, Bool, true, refl, sym, ap, subst, ◌∙◌, arith}
 use Rattle.std.specs.Prelude.{◌↔◌}
 use Rattle.std.specs.Int.{bit_at}
 use Rattle.rbg_rules.specs.Positions.{IsModifierAt, IsNumbered}
@@ -12,6 +12,8 @@ use Rattle.rbg_flat.specs.internal.Begun.{IsBegun}
 use Rattle.rbg_flat.specs.internal.Leading.{LearnsEnd, LeadsFrom, EndsFrom, AreOn, IsOnBoard}
 use Rattle.rbg_flat.specs.internal.Passing.{Passes}
 use Rattle.rbg_flat.specs.internal.Sets.{SetsOfVertices, IsMarked, IsOpen, IsInWord, Meets, ClosesWord, HasBitAt}
+use Rattle.std.proofs.lemmas.Nat.Bits.{bit_at-zero}
+use Rattle.rbg_flat.proofs.Meetings.{meets_none}
 use Rattle.rbg_flat.proofs.Takings.{bit_decided, tried_holds}
 
 -- What is marked stays so where bits are closed.
@@ -30,6 +32,23 @@ marked_bits sets q c word marked v there = subst (λ (u : ℕ). IsMarked sets u 
 
 pub board_bits : (game : AbstractGame) (sets : SetsOfVertices) (q c word : ℕ) → AreOn game sets → ((b : ℕ) → bit_at word b ≡ 1 → (b < 64) × IsMarked sets (c * 64 + b) q) → IsOnBoard game c word
 board_bits game sets q c word on marked = λ b set. on.vertex (c * 64 + b) q (marked b set).1
+
+-- An empty word has no vertices, and leads nowhere.
+pub no_vertex : (held q c v p : ℕ) → held ≡ 0 → ¬ IsInWord q c held v p
+no_vertex held q c v p none there =
+    let clear : bit_at held (v % 64) ≡ 0 = ap (λ (k : ℕ). bit_at k (v % 64)) none ∙ bit_at-zero (v % 64) in
+    let set = there.set in
+    omega (arith, clear, set)
+
+pub leads_nowhere : (game : AbstractGame) (sets : SetsOfVertices) (held q c : ℕ) → held ≡ 0 → Meets sets sets (LeadsFrom game q c held) (λ p. ¬ IsModifierAt game.rules p)
+leads_nowhere game sets held q c none = meets_none sets (LeadsFrom game q c held) (λ (p : ℕ). ¬ IsModifierAt game.rules p) (λ u p leads. no_vertex held q c leads.vertex q none leads.there)
+
+pub ends_nowhere : (game : AbstractGame) (ends : Bool) (held q c : ℕ) → held ≡ 0 → LearnsEnd ends ends (EndsFrom game q c held)
+ends_nowhere game ends held q c none = record {
+  kept = λ e. e;
+  all = λ end. absurd (no_vertex held q c end.vertex q none end.there);
+  only = λ e. inl e;
+}
 
 module _
     (game : AbstractGame) (numbered : IsNumbered game.rules) (s : AbstractState) (f : Start)

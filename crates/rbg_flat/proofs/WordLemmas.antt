@@ -69,7 +69,7 @@ module _ (columns : ℕ) (words : List ℕ) (place q c : ℕ) (is : place ≡ q 
   at_new : (n v p : ℕ) → p * columns + v / 64 ≡ place → get_or (slice_set words place n) (p * columns + v / 64) 0 ≡ n
   at_new n v p same = ap (λ (k : ℕ). get_or (slice_set words place n) k 0) same ∙ get_or-set_same words place n 0 within
 
-  at_old : (v p : ℕ) → p * columns + v / 64 ≡ place → get_or words (p * columns + v / 64) 0 ≡ get_or words place 0
+  pub at_old : (v p : ℕ) → p * columns + v / 64 ≡ place → get_or words (p * columns + v / 64) 0 ≡ get_or words place 0
   at_old v p same = ap (λ (k : ℕ). get_or words k 0) same
 
   changed : (n v p : ℕ) → HasBitAt columns (slice_set words place n) v p → (HasBitAt columns words v p × (p * columns + v / 64 ≢ place)) ⊎ ((p * columns + v / 64 ≡ place) × (bit_at n (v % 64) ≡ 1))
@@ -84,7 +84,7 @@ module _ (columns : ℕ) (words : List ℕ) (place q c : ℕ) (is : place ≡ q 
   elsewhere : (n v p : ℕ) → HasBitAt columns words v p → p * columns + v / 64 ≢ place → HasBitAt columns (slice_set words place n) v p
   elsewhere n v p has other = record { column = has.column; set = ap (λ (k : ℕ). bit_at k (v % 64)) (get_or-set_other words place (p * columns + v / 64) n 0 other) ∙ has.set }
 
-  in_word : (n v p : ℕ) → v / 64 < columns → p * columns + v / 64 ≡ place → bit_at n (v % 64) ≡ 1 → IsInWord q c n v p
+  pub in_word : (n v p : ℕ) → v / 64 < columns → p * columns + v / 64 ≡ place → bit_at n (v % 64) ≡ 1 → IsInWord q c n v p
   in_word n v p column same set = let at = at_place v p column same in record { position = at.0; column = at.1; set = set }
 
   abbrev word : ℕ

@@ -1,5 +1,5 @@
 //! A flat part that is being found, by sets of vertices.
-ghost use Rattle.std.specs.Prelude.{◌≡◌, ℕ, ◌<◌, ◌≤◌, ◌↔◌, ◌⊎◌, ◌^◌, length, IfOk, IfSome, IfNone, OnOk, IsTrue, false};
+ghost use Rattle.std.specs.Prelude.{◌≡◌, ℕ, ◌+◌, ◌*◌, ◌/◌, ◌<◌, ◌≤◌, ◌↔◌, ◌⊎◌, ◌^◌, length, IfOk, IfSome, IfNone, OnOk, IsTrue, false};
 ghost use Rattle.rbg_rules.specs.Games.{IsGame};
 ghost use Rattle.rbg_rules.specs.Laws.{IsStart};
 ghost use Rattle.rbg_rules.specs.Positions.{IsModifierAt, IsNumbered, IsPatternAt, positions_of};
@@ -13,10 +13,10 @@ ghost use Rattle.rbg_flat.specs.Chains.{Holds, IsMet};
 ghost use Rattle.rbg_flat.specs.Paths.{ArePathsOf, IsStill};
 ghost use Rattle.rbg_flat.specs.Found.{AreFound, HasCandidates, most_candidates};
 ghost use Rattle.rbg_flat.specs.internal.Begun.{IsBegun};
-ghost use Rattle.rbg_flat.specs.internal.Sets.{Meets, IsInWord, IsMarked, IsOpen, IsDone, KeepsDone, weight};
+ghost use Rattle.rbg_flat.specs.internal.Sets.{Meets, IsInWord, IsMarked, IsOpen, IsLastOf, IsDone, KeepsDone, weight};
 ghost use Rattle.rbg_flat.specs.internal.Leading.{AreSizedFor, AreOn, IsOnBoard, LeadsFrom, EndsFrom, LearnsEnd};
 
-use crate::gathering::{gather_row, keeps};
+use crate::gathering::{gather_place, keeps};
 use crate::leading::{meet_bits, meet_targets};
 use crate::passing::held;
 use crate::paths::Paths;
@@ -38,6 +38,7 @@ pub struct Flat {
 
 impl Flat {
     /// A flat part of a game, not begun.
+    #[inline(never)]
     pub fn new(alloc: Global, game: &Game) -> Result<Flat, Memory>
         ensures { IfOk result (λ flat. AreSizedFor game.now flat.sets) }
     {
@@ -76,7 +77,7 @@ impl Flat {
     }
 
     /// Goes on up to the next vertex that is to be asked about a pattern, and returns it with the pattern's position;
-    /// none where nothing is left to be looked at. Each turn takes one bit, or one position off those that wait.
+    /// none where nothing is left to be looked at. Each turn takes one word, or one place off those that wait.
     pub fn advance(
         &mut self,
         game: &Game,
@@ -103,14 +104,15 @@ impl Flat {
         ensures done { IfNone result ((v p : ℕ) → ¬ IsOpen self.new.sets v p) }
         ensures lighter { weight self.new.sets ≤ weight self.old.sets }
     {
-        while let Some(position) = self.sets.waiting() {
-            match self.sets.first_open(position) {
-                None => self.sets.wait_no_more(position),
+        while let Some(place) = self.sets.waiting() {
+            match self.sets.first_open(place) {
+                None => self.sets.wait_no_more(place),
                 Some(vertex) => {
+                    let position = self.sets.position_at(place);
                     if is_pattern(game, &self.sets, vertex, position) {
                         return Some((vertex, position));
                     }
-                    self.try_word(game, paths, state, position, vertex);
+                    self.try_word(game, paths, state, place, position, vertex);
                 }
             }
         }
@@ -189,10 +191,11 @@ impl Flat {
     {
         found.clear();
         let mut many = 0;
-        while let Some(position) = self.sets.last_touched() {
+        while let Some(place) = self.sets.last_touched() {
+            let position = self.sets.position_at(place);
             let keeps = keeps(game, state, position);
-            many += gather_row(found, &self.sets, position, keeps)?;
-            self.sets.forget(position);
+            many += gather_place(found, &self.sets, place, position, keeps)?;
+            self.sets.forget(place);
         }
         Ok(many)
     }
@@ -212,8 +215,8 @@ impl Flat {
             (EndsAcross game.now (start_of origin) vertex) }
         ensures on { AreOn game.now self.old.sets → AreOn game.now self.new.sets }
     {
-        meet_targets(&mut self.sets, game, leaps, leaps.from(origin, vertex));
-        let ends = leaps.ends(origin, vertex);
+        let (targets, ends) = leaps.leads(origin, vertex);
+        meet_targets(&mut self.sets, game, leaps, targets);
         self.ends |= ends;
     }
 
@@ -269,14 +272,15 @@ impl Flat {
             .close_word(position, vertex as usize / 64, unit_word(vertex % 64));
     }
 
-    /// Tries a position at all vertices of a word that are open there, of which one is given, and leads on from those
-    /// at which it holds. No pattern stands at the position.
+    /// Tries a position at all vertices that are open at the latest waiting place, of which one is given, and leads on
+    /// from those at which it holds. No pattern stands at the position.
     #[inline(always)]
     fn try_word(
         &mut self,
         game: &Game,
         paths: &Paths,
         state: &SemiState,
+        place: usize,
         position: Position,
         vertex: Vertex,
     )
@@ -285,6 +289,9 @@ impl Flat {
         requires fits { IsStateOf game.now state.now.state }
         requires sized { AreSizedFor game.now self.old.sets }
         requires on { AreOn game.now self.old.sets }
+        requires place { place < length self.old.sets.marks }
+        requires last { IsLastOf self.old.sets.waiting place }
+        requires at { place ≡ position * self.old.sets.columns + vertex / 64 }
         requires open { IsOpen self.old.sets vertex position }
         requires marked { IsMarked self.old.sets vertex position }
         requires plain { ¬ IsPatternAt game.now.rules position }
@@ -301,9 +308,12 @@ impl Flat {
         ensures less { weight self.new.sets < weight self.old.sets }
     {
         let column = vertex as usize / 64;
-        let word = self.sets.take_word(position, column);
+        let word = self.sets.open_at(place, position, column);
         let held = held(game, state, position, column, word);
-        self.lead_word(game, paths, position, column, held);
+        self.sets.take_waiting(place, position, column, word);
+        if held != 0 {
+            self.lead_word(game, paths, position, column, held);
+        }
     }
 
     /// Leads on from a position at each vertex of a word: at all of them at once where no shift comes next.
@@ -366,10 +376,9 @@ impl Flat {
         // an action stands there
         let _action = game.action(position);
         let origin = Origin::After(position);
-        let targets = paths.leaps.from(origin, vertex);
+        let (targets, may_end) = paths.leaps.leads(origin, vertex);
         meet_bits(&mut self.sets, game, targets, column, word);
-        let ends = paths.leaps.ends(origin, vertex);
-        self.ends |= ends;
+        self.ends |= may_end;
     }
 
     /// Leads on from a position at each vertex of a word, one after another.

@@ -1,10 +1,12 @@
 //! What was found is gathered: the modifiers that are valid, and how many candidates there are.
-ghost use Rattle.std.specs.Prelude.{◌≡◌, ◌≢◌, ◌↔◌, ℕ, ◌+◌, ◌*◌, ◌<◌, ◌≤◌, ◌^◌, length, count_ones, IfOk, OnOk, IsTrue};
+ghost use Rattle.std.specs.Prelude.{◌≡◌, ◌≢◌, ◌↔◌, ℕ, ◌+◌, ◌*◌, ◌/◌, ◌<◌, ◌≤◌, ◌^◌, length, count_ones, IfOk, OnOk, IsTrue};
 ghost use Rattle.rbg_rules.specs.Games.{IsGame};
 ghost use Rattle.rbg_rules.specs.Positions.{positions_of};
 ghost use Rattle.rbg_rules.specs.State.{IsStateOf};
-ghost use Rattle.rbg_flat.specs.internal.Gathering.{Lists, IsBitOf, PushesWord, Gathers, IsMetBelow, Keeps};
+ghost use Rattle.rbg_flat.specs.internal.Places.{IsMetAt};
+ghost use Rattle.rbg_flat.specs.internal.Gathering.{IsBitOf, PushesWord, Gathers, Keeps};
 
+use crate::leading::is_modifier;
 use crate::sets::Sets;
 use crate::words::{lowest, without};
 use rbg_base::{Memory, Position, Vertex};
@@ -13,15 +15,25 @@ use rbg_state::{SemiState, Trial};
 
 /// Whether a modifier stands at a position that is valid: where it is valid at one vertex, it is at each. No action
 /// stands at position 0.
+#[inline(always)]
 pub(crate) fn keeps(game: &Game, state: &SemiState, position: Position) -> bool
     requires lawful { IsGame game.now }
     requires fits { IsStateOf game.now state.now.state }
     requires there { position ≤ length (positions_of game.now.rules) }
     ensures { 0 < position → IsTrue result ↔ Keeps game.now state.now.state position }
 {
-    if position == 0 {
-        return false;
-    }
+    position != 0 && is_modifier(game, position) && is_kept(game, state, position)
+}
+
+/// The same where an action stands.
+#[inline(never)]
+fn is_kept(game: &Game, state: &SemiState, position: Position) -> bool
+    requires lawful { IsGame game.now }
+    requires fits { IsStateOf game.now state.now.state }
+    requires from_one { 0 < position }
+    requires there { position ≤ length (positions_of game.now.rules) }
+    ensures { IsTrue result ↔ Keeps game.now state.now.state position }
+{
     match state.try_at(game, state.vertex(), position) {
         Trial::Modifies => true,
         Trial::Invalid => false,
@@ -78,23 +90,26 @@ fn count(word: u64) -> usize
     word.count_ones() as usize
 }
 
-/// Counts the vertices of the row of a position, and puts them behind what was found where they are kept.
-pub(crate) fn gather_row(
+/// Counts the vertices that were met at a place, and puts them behind what was found where they are kept.
+#[inline(always)]
+pub(crate) fn gather_place(
     found: &mut Vec<(Vertex, Position)>,
     sets: &Sets,
+    place: usize,
     position: Position,
     keeps: bool,
 ) -> Result<usize, Memory>
-    requires position { position < sets.now.size }
+    requires place { place < length sets.now.marks }
+    requires position { position ≡ place / sets.now.columns }
     requires narrow { sets.now.columns < 2 ^ 16 }
-    ensures { IfOk result (λ many.
-        Gathers (IsMetBelow sets.now position sets.now.columns)
-        found.old.items found.new.items position keeps many (64 * sets.now.columns)) }
+    ensures { IfOk result (λ many. Gathers (IsMetAt sets.now place position)
+        found.old.items found.new.items position keeps many 64) }
 {
-    let mut many = 0;
-    for column in 0..sets.columns() {
-        let word = sets.met_word(position, column);
-        many += gather_word(found, position, column, word, keeps)?;
-    }
-    Ok(many)
+    gather_word(
+        found,
+        position,
+        sets.column_at(place),
+        sets.met_at(place),
+        keeps,
+    )
 }

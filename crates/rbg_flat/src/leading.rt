@@ -27,7 +27,8 @@ fn modifies(action: &Action) -> bool
 }
 
 /// Whether a modifier stands at a position.
-fn is_modifier(game: &Game, position: Position) -> bool
+#[inline(always)]
+pub(crate) fn is_modifier(game: &Game, position: Position) -> bool
     requires lawful { IsGame game.now }
     requires from_one { 0 < position }
     requires there { position ≤ length (positions_of game.now.rules) }
@@ -46,7 +47,7 @@ fn meet_target(sets: &mut Sets, game: &Game, leaps: &Leaps, target: &Target)
         (λ p. ¬ IsModifierAt game.now.rules p) }
 {
     let opens = !is_modifier(game, target.position);
-    sets.meet_row(target.position, leaps.row(target), opens);
+    sets.meet_row(target.position, leaps.row_of(target), opens);
 }
 
 /// Meets the rows of targets.

@@ -7,7 +7,7 @@ pub mod laws;
 mod leading;
 mod passing;
 mod paths;
-mod positions;
+mod places;
 mod sets;
 mod words;
 

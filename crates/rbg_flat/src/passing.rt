@@ -82,6 +82,7 @@ fn passes_at(game: &Game, state: &SemiState, vertex: Vertex, position: Position)
 }
 
 /// The bits of a word at whose vertices the action at a position passes, tried one by one.
+#[inline(never)]
 fn passing(game: &Game, state: &SemiState, position: Position, column: usize, word: u64) -> u64
     requires lawful { IsGame game.now }
     requires fits { IsStateOf game.now state.now.state }

@@ -1,9 +1,10 @@
 //! Sets of vertices for each position: what was met, and what of it is still to be looked at.
 ghost use Rattle.std.specs.Prelude.{◌≡◌, ℕ, ◌<◌, ◌≤◌, ◌+◌, ◌-◌, ◌/◌, ◌%◌, ◌↔◌, ◌*◌, ◌^◌, ◌⊎◌, [], length, take, slice_index, slice_set, bit_or, bit_and, Contains, IfOk, IfSome, IfNone, true};
 ghost use Rattle.std.specs.Int.{bit_at, bit_not, w64};
-ghost use Rattle.rbg_flat.specs.internal.Sets.{MeetsWord, Meets, IsInRow, ClosesWord, Forgets, IsMarked, IsOpen, IsLastOf, weight};
+ghost use Rattle.rbg_flat.specs.internal.Sets.{MeetsWord, Meets, IsInRow, ClosesWord, IsMarked, IsOpen, IsLastOf, weight};
+ghost use Rattle.rbg_flat.specs.internal.Places.{ForgetsPlace, IsClosedAt};
 
-use crate::positions::Positions;
+use crate::places::Places;
 use crate::words::lowest;
 use rbg_base::{Memory, Position, Vertex};
 use std::alloc::Global;
@@ -19,10 +20,10 @@ pub(crate) struct Sets {
     marks: Vec<u64>,
     /// What of it is still to be looked at.
     pending: Vec<u64>,
-    /// The positions at which something is open, and maybe others.
-    waiting: Positions,
-    /// The positions at which something was met.
-    touched: Positions,
+    /// The places of the words in which something is open, and maybe others.
+    waiting: Places,
+    /// The places of the words in which something was met.
+    touched: Places,
 }
 
 impl Model for Sets {
@@ -39,11 +40,12 @@ impl Model for Sets {
       touched = s.touched.positions;
     } };
 
-    ghost use Rattle.std.specs.Prelude.{◌≡◌};
-    ghost use Rattle.rbg_flat.specs.internal.Sets.{AreSets, sets_of};
+    ghost use Rattle.std.specs.Prelude.{◌≡◌, ◌*◌};
+    ghost use Rattle.rbg_flat.specs.internal.Sets.{sets_of};
+    ghost use Rattle.rbg_flat.specs.internal.Places.{AreSetsByPlace};
 
-    ghost invariant = { λ s. AreSets (sets_of s.size s.columns s.marks.items s.pending.items s.waiting.positions s.touched.positions)
-        × (s.waiting.size ≡ s.size) × (s.touched.size ≡ s.size) };
+    ghost invariant = { λ s. AreSetsByPlace (sets_of s.size s.columns s.marks.items s.pending.items s.waiting.positions s.touched.positions)
+        × (s.waiting.size ≡ s.size * s.columns) × (s.touched.size ≡ s.size * s.columns) };
 }
 
 impl Sets {
@@ -59,8 +61,8 @@ impl Sets {
             columns,
             marks: vec![in alloc; 0; size * columns]?,
             pending: vec![in alloc; 0; size * columns]?,
-            waiting: Positions::new(alloc, size)?,
-            touched: Positions::new(alloc, size)?,
+            waiting: Places::new(alloc, size * columns)?,
+            touched: Places::new(alloc, size * columns)?,
         })
     }
 
@@ -70,24 +72,24 @@ impl Sets {
         ensures columns { self.new.columns ≡ self.old.columns }
         ensures none { (v p : ℕ) → ¬ IsMarked self.new v p }
     {
-        while let Some(position) = self.touched.last() {
-            self.forget(position);
+        while let Some(place) = self.touched.last() {
+            self.forget(place);
         }
     }
 
-    /// Forgets what was met at the position that was touched last.
-    pub(crate) fn forget(&mut self, position: Position)
-        requires position { position < self.old.size }
-        requires last { IsLastOf self.old.touched position }
+    /// Forgets what was met at the place that was touched last.
+    #[inline(always)]
+    pub(crate) fn forget(&mut self, place: usize)
+        requires place { place < length self.old.marks }
+        requires last { IsLastOf self.old.touched place }
         ensures size { self.new.size ≡ self.old.size }
         ensures columns { self.new.columns ≡ self.old.columns }
-        ensures forgets { Forgets self.old self.new position }
+        ensures forgets { ForgetsPlace self.old self.new place }
         ensures touched { self.new.touched ≡ take (length self.old.touched - 1) self.old.touched }
     {
-        let start = position as usize * self.columns;
-        clear_row(&mut self.marks, start, self.columns);
-        clear_row(&mut self.pending, start, self.columns);
         self.touched.take_last();
+        clear_word(&mut self.marks, place);
+        clear_word(&mut self.pending, place);
     }
 
     /// Below which size the positions are.
@@ -104,20 +106,49 @@ impl Sets {
         self.columns
     }
 
-    /// What was met in a word of the row of a position.
+    /// The position of a place.
     #[inline(always)]
-    pub(crate) fn met_word(&self, position: Position, column: usize) -> u64
-        requires position { position < self.now.size }
-        requires column { column < self.now.columns }
-        ensures { result ≡ slice_index self.now.marks (position * self.now.columns + column) }
+    pub(crate) fn position_at(&self, place: usize) -> Position
+        requires place { place < length self.now.marks }
+        requires small { self.now.size ≤ 2 ^ 32 }
+        ensures is { result ≡ place / self.now.columns }
+        ensures below { result < self.now.size }
     {
-        self.marks[self.place(position, column)]
+        // most boards have one word for each position
+        if self.columns <= 1 {
+            place as Position
+        } else {
+            (place / self.columns) as Position
+        }
     }
 
-    /// The position that was touched last; none where nothing is met.
+    /// The column of a place.
     #[inline(always)]
-    pub(crate) fn last_touched(&self) -> Option<Position>
-        ensures below { IfSome result (λ p. p < self.now.size) }
+    pub(crate) fn column_at(&self, place: usize) -> usize
+        requires place { place < length self.now.marks }
+        ensures is { result ≡ place % self.now.columns }
+        ensures below { result < self.now.columns }
+    {
+        if self.columns <= 1 {
+            0
+        } else {
+            place % self.columns
+        }
+    }
+
+    /// What was met in the word at a place.
+    #[inline(always)]
+    pub(crate) fn met_at(&self, place: usize) -> u64
+        requires place { place < length self.now.marks }
+        ensures { result ≡ slice_index self.now.marks place }
+    {
+        self.marks[place]
+    }
+
+    /// The place that was touched last; none where nothing is met.
+    #[inline(always)]
+    pub(crate) fn last_touched(&self) -> Option<usize>
+        ensures below { IfSome result (λ p. p < length self.now.marks) }
         ensures last { IfSome result (λ p. IsLastOf self.now.touched p) }
         ensures none { IfNone result ((v p : ℕ) → ¬ IsMarked self.now v p) }
     {
@@ -149,10 +180,10 @@ impl Sets {
             return;
         }
         add_word(&mut self.marks, place, new);
-        self.touched.add(position);
+        self.touched.add(place);
         if opens {
             add_word(&mut self.pending, place, new);
-            self.waiting.add(position);
+            self.waiting.add(place);
         }
     }
 
@@ -163,21 +194,26 @@ impl Sets {
         requires row { length row.now ≤ self.old.columns }
         ensures { Meets self.old self.new (IsInRow position row.now) (λ _. opens ≡ true) }
     {
+        // most boards have one word for each position
+        if row.len() == 1 {
+            self.meet_word(position, 0, row[0], opens);
+            return;
+        }
         for column in 0..row.len() {
-            self.meet_word(position, column, row[column], opens);
+            self.meet_some(position, column, row[column], opens);
         }
     }
 
-    /// What is open in a word of the row of a position.
+    /// The same as `meet_word`, quick where the word has no bits.
     #[inline(always)]
-    pub(crate) fn open_word(&self, position: Position, column: usize) -> u64
-        requires position { position < self.now.size }
-        requires column { column < self.now.columns }
-        ensures is { result ≡ slice_index self.now.pending (position * self.now.columns + column) }
-        ensures there { (b : ℕ) → b < 64 → bit_at result b ≡ 1
-            → IsMarked self.now (column * 64 + b) position }
+    fn meet_some(&mut self, position: Position, column: usize, word: u64, opens: bool)
+        requires position { position < self.old.size }
+        requires column { column < self.old.columns }
+        ensures { MeetsWord self.old self.new position column word opens }
     {
-        self.pending[self.place(position, column)]
+        if word != 0 {
+            self.meet_word(position, column, word, opens);
+        }
     }
 
     /// These bits of a word of the row of a position are no longer open.
@@ -191,43 +227,62 @@ impl Sets {
         take_word(&mut self.pending, place, word);
     }
 
-    /// Takes the bits that are open in a word of the row of a position: they are no longer open.
+    /// What is open in the word of the row of a position, which is at a place.
     #[inline(always)]
-    pub(crate) fn take_word(&mut self, position: Position, column: usize) -> u64
-        requires position { position < self.old.size }
-        requires column { column < self.old.columns }
-        ensures closes { ClosesWord self.old self.new position column result }
-        ensures was { result ≡ slice_index self.old.pending (position * self.old.columns + column) }
+    pub(crate) fn open_at(&self, place: usize, position: Position, column: usize) -> u64
+        requires place { place < length self.now.marks }
+        requires at { place ≡ position * self.now.columns + column }
+        requires column { column < self.now.columns }
+        ensures is { result ≡ slice_index self.now.pending place }
         ensures there { (b : ℕ) → bit_at result b ≡ 1
-            → (b < 64) × IsMarked self.old (column * 64 + b) position }
+            → (b < 64) × IsMarked self.now (column * 64 + b) position }
     {
-        let word = self.open_word(position, column);
-        self.close_word(position, column, word);
-        word
+        word_at(&self.pending, place)
     }
 
-    /// The first vertex that is open at a position.
+    /// Takes all that is open at the latest waiting place, which waits no more.
     #[inline(always)]
-    pub(crate) fn first_open(&self, position: Position) -> Option<Vertex>
-        requires position { position < self.now.size }
-        requires narrow { self.now.columns < 2 ^ 16 }
-        ensures some { IfSome result (λ v. IsOpen self.now v position) }
-        ensures marked { IfSome result (λ v. IsMarked self.now v position) }
-        ensures none { IfNone result ((v : ℕ) → ¬ IsOpen self.now v position) }
+    pub(crate) fn take_waiting(
+        &mut self,
+        place: usize,
+        position: Position,
+        column: usize,
+        word: u64,
+    )
+        requires place { place < length self.old.marks }
+        requires last { IsLastOf self.old.waiting place }
+        requires at { place ≡ position * self.old.columns + column }
+        requires column { column < self.old.columns }
+        requires word { word ≡ slice_index self.old.pending place }
+        ensures closes { ClosesWord self.old self.new position column word }
+        ensures less { weight self.new < weight self.old }
     {
-        for column in 0..self.columns {
-            let word = self.open_word(position, column);
-            if word != 0 {
-                return Some(column as Vertex * 64 + lowest(word));
-            }
-        }
-        None
+        self.waiting.take_last();
+        clear_word(&mut self.pending, place);
     }
 
-    /// Nothing is open any more at the latest waiting position.
-    pub(crate) fn wait_no_more(&mut self, position: Position)
-        requires last { IsLastOf self.old.waiting position }
-        requires none { (v : ℕ) → ¬ IsOpen self.old v position }
+    /// The first vertex that is open at a place.
+    #[inline(always)]
+    pub(crate) fn first_open(&self, place: usize) -> Option<Vertex>
+        requires place { place < length self.now.marks }
+        requires narrow { self.now.columns < 2 ^ 16 }
+        ensures some { IfSome result (λ v. IsOpen self.now v (place / self.now.columns)) }
+        ensures marked { IfSome result (λ v. IsMarked self.now v (place / self.now.columns)) }
+        ensures at { IfSome result (λ v.
+            place ≡ place / self.now.columns * self.now.columns + v / 64) }
+        ensures none { IfNone result (IsClosedAt self.now place) }
+    {
+        let word = self.pending[place];
+        if word == 0 {
+            return None;
+        }
+        Some(self.column_at(place) as Vertex * 64 + lowest(word))
+    }
+
+    /// Nothing is open any more at the latest waiting place.
+    pub(crate) fn wait_no_more(&mut self, place: usize)
+        requires last { IsLastOf self.old.waiting place }
+        requires none { IsClosedAt self.old place }
         ensures size { self.new.size ≡ self.old.size }
         ensures columns { self.new.columns ≡ self.old.columns }
         ensures marks { self.new.marks ≡ self.old.marks }
@@ -237,10 +292,10 @@ impl Sets {
         self.waiting.take_last();
     }
 
-    /// The latest position at which something may be open.
+    /// The latest place at which something may be open.
     #[inline(always)]
-    pub(crate) fn waiting(&self) -> Option<Position>
-        ensures below { IfSome result (λ p. p < self.now.size) }
+    pub(crate) fn waiting(&self) -> Option<usize>
+        ensures below { IfSome result (λ p. p < length self.now.marks) }
         ensures last { IfSome result (λ p. IsLastOf self.now.waiting p) }
         ensures none { IfNone result ((v p : ℕ) → ¬ IsOpen self.now v p) }
     {
@@ -281,20 +336,20 @@ fn take_word(words: &mut Vec<u64>, place: usize, word: u64)
     words[place] &= !word;
 }
 
-/// Clears some words.
-fn clear_row(words: &mut Vec<u64>, start: usize, columns: usize)
-    requires { start + columns ≤ length words.old.items }
-    ensures size { length words.new.items ≡ length words.old.items }
-    ensures clear { (i : ℕ) → start ≤ i → i < start + columns → slice_index words.new.items i ≡ 0 }
-    ensures others { (i : ℕ) → (i < start) ⊎ (start + columns ≤ i)
-        → slice_index words.new.items i ≡ slice_index words.old.items i }
+/// The word at a place.
+#[inline(always)]
+fn word_at(words: &Vec<u64>, place: usize) -> u64
+    requires { place < length words.now.items }
+    ensures { result ≡ slice_index words.now.items place }
 {
-    // most boards have one word for each position
-    if columns == 1 {
-        words[start] = 0;
-        return;
-    }
-    for column in 0..columns {
-        words[start + column] = 0;
-    }
+    words[place]
+}
+
+/// Clears a word.
+#[inline(always)]
+fn clear_word(words: &mut Vec<u64>, place: usize)
+    requires { place < length words.old.items }
+    ensures { words.new.items ≡ slice_set words.old.items place 0 }
+{
+    words[place] = 0;
 }

@@ -61,6 +61,27 @@ impl Leaps {
         self.entry(origin, vertex).ends
     }
 
+    /// What `from` and `ends` tell, by one look.
+    pub fn leads(&self, origin: Origin, vertex: Vertex) -> (&[Target], bool)
+        ensures from { (game : AbstractGame) → AreLeapsOf game self.now → vertex < length game.board.first
+            → IsStart game.rules (start_of origin)
+            → AreTargetsFrom game (start_of origin) vertex self.now result.0.now }
+        ensures ends { (game : AbstractGame) → AreLeapsOf game self.now → vertex < length game.board.first
+            → IsStart game.rules (start_of origin)
+            → IsTrue result.1 ↔ EndsAcross game (start_of origin) vertex }
+    {
+        let entry = self.entry(origin, vertex);
+        (self.table.targets(entry), entry.ends)
+    }
+
+    /// The row of a target that has one: its vertices, a bit for each, 64 in a word.
+    pub fn row_of(&self, target: &Target) -> &[u64]
+        requires { HasRow self.now target.now }
+        ensures { result.now ≡ row_of self.now target.now }
+    {
+        &self.table.words[target.row..target.row + self.table.columns]
+    }
+
     /// The row of a target of these leaps: its vertices, a bit for each, 64 in a word. It is empty where the target is of
     /// other leaps and has no row here.
     pub fn row(&self, target: &Target) -> &[u64]

@@ -1,5 +1,5 @@
--- How what was found is gathered, word by word and row by row.
-use Rattle.std.specs.Prelude.{◌≡◌, ◌≢◌, ◌↔◌, ℕ, ◌/◌, ◌%◌, ◌<◌, ◌≤◌, List, ◌++◌, length, map, Bool, true, false, AllPairs, Contains}
+-- How what was found is gathered, word by word.
+use Rattle.std.specs.Prelude.{◌≡◌, ◌≢◌, ◌↔◌, ℕ, ◌/◌, ◌%◌, ◌≤◌, List, ◌++◌, length, map, Bool, true, false, AllPairs, Contains}
 use Rattle.std.specs.Int.{bit_at}
 use Rattle.rbg_rules.specs.Positions.{IsModifierAt}
 use Rattle.rbg_rules.specs.State.{AbstractGame, AbstractState}
@@ -38,7 +38,7 @@ pub record PushesWord (old new : List (ℕ × ℕ)) (p c word : ℕ) : Type 0 wh
   pub lists : Lists (IsBitOf c word) vertices
   pub grown : new ≡ old ++ at_position p vertices
 
--- So many vertices of a word, or of a row, were counted, and kept where that is wanted.
+-- So many vertices of a word were counted, and kept where that is wanted.
 pub record Gathers (In : ℕ → Type 0) (old new : List (ℕ × ℕ)) (p : ℕ) (keeps : Bool) (many most : ℕ) : Type 0 where
   pub vertices : List ℕ
   pub lists : Lists In vertices
@@ -46,11 +46,6 @@ pub record Gathers (In : ℕ → Type 0) (old new : List (ℕ × ℕ)) (p : ℕ)
   pub kept : keeps ≡ true → new ≡ old ++ at_position p vertices
   pub left : keeps ≡ false → new ≡ old
   pub few : many ≤ most
-
--- The vertex was met at the position, in one of the columns below.
-pub record IsMetBelow (sets : SetsOfVertices) (p c v : ℕ) : Type 0 where
-  pub marked : IsMarked sets v p
-  pub below : v / 64 < c
 
 -- A modifier stands at the position, and is valid at each vertex.
 pub record Keeps (game : AbstractGame) (s : AbstractState) (p : ℕ) : Type 0 where

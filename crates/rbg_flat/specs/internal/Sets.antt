@@ -24,7 +24,7 @@ pub record IsLastOf (positions : List ℕ) (p : ℕ) : Type 0 where
 -- Rows of vertices by position: so many words for each of so many positions.
 --   marks: what was met
 --   pending: what of it is still to be looked at
---   waiting, touched: the positions that have something open, or something marked, and maybe others
+--   waiting, touched: the places of the words that have something open, or something marked, and maybe others
 pub record SetsOfVertices : Type 0 where
   pub size : ℕ
   pub columns : ℕ

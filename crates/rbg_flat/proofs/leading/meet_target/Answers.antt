@@ -11,7 +11,7 @@ pub returns : goal.returns
 returns c =
     let p : ℕ = c.args.target.now.position in
     let row : List ℕ = row_of c.args.leaps.now c.args.target.now in
-    let meets = subst (λ (xs : List ℕ). Meets c.args.sets.now c.meet_row.new.self (IsInRow p xs) (λ _. not c.is_modifier-opens.result ≡ true)) (c.row.ensures.row c.requires.target.row) c.meet_row.ensures in
+    let meets = subst (λ (xs : List ℕ). Meets c.args.sets.now c.meet_row.new.self (IsInRow p xs) (λ _. not c.is_modifier-opens.result ≡ true)) c.row_of.ensures c.meet_row.ensures in
     meets_same c.args.sets.now c.meet_row.new.self (IsInRow p row) (IsInRow p row)
     (λ _. not c.is_modifier-opens.result ≡ true) (λ (q : ℕ). ¬ IsModifierAt c.args.game.now.rules q) meets
     (λ v q there. there) (λ v q there. there)

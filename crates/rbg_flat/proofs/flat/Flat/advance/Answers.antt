@@ -1,9 +1,9 @@
 use Rattle.std.proofs.Common.{arith}
 use Rattle.rbg_flat.proofs.flat.Flat.advance.Goals as goal
 
-pub loop-position-preserved : goal.loop-position-preserved
-loop-position-preserved c =
-    let is = c.loop-position.invariant in
+pub loop-place-preserved : goal.loop-place-preserved
+loop-place-preserved c =
+    let is = c.loop-place.invariant in
     record {
       sized = c.try_word.ensures.sized;
       on = c.try_word.ensures.on;

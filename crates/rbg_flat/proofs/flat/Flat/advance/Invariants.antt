@@ -7,8 +7,8 @@ use Rattle.rbg_flat.specs.internal.Leading.{AreSizedFor, AreOn}
 use Rattle.rbg_flat.specs.internal.Sets.{IsMarked, IsOpen, IsDone, KeepsDone, weight}
 use Rattle.rbg_flat.proofs.flat.Flat.advance.Given as goal
 
-abbrev pub invariant-loop-position : goal.invariant-loop-position
-invariant-loop-position l = record {
+abbrev pub invariant-loop-place : goal.invariant-loop-place
+invariant-loop-place l = record {
   sized : AreSizedFor l.game l.self.sets;
   on : AreOn l.game l.self.sets;
   begun :
@@ -20,5 +20,5 @@ invariant-loop-position l = record {
   lighter : weight l.self.sets ≤ weight l.fn.self.sets;
 }
 
-abbrev pub decreases-loop-position : goal.decreases-loop-position
-decreases-loop-position l = weight l.self.sets
+abbrev pub decreases-loop-place : goal.decreases-loop-place
+decreases-loop-place l = weight l.self.sets

@@ -4,12 +4,12 @@ use Rattle.rbg_flat.specs.internal.Gathering.{Gathered}
 use Rattle.rbg_flat.specs.internal.Leading.{AreSizedFor}
 use Rattle.rbg_flat.proofs.flat.Flat.finish.Given as goal
 
-abbrev pub invariant-loop-position : goal.invariant-loop-position
-invariant-loop-position l = record {
+abbrev pub invariant-loop-place : goal.invariant-loop-place
+invariant-loop-place l = record {
   sized : AreSizedFor l.game l.self.sets;
   ends : l.self.ends ≡ l.fn.self.ends;
   gathered : Gathered l.game l.state.state l.fn.self.sets l.self.sets l.found.items l.many;
 }
 
-abbrev pub decreases-loop-position : goal.decreases-loop-position
-decreases-loop-position l = length l.self.sets.touched
+abbrev pub decreases-loop-place : goal.decreases-loop-place
+decreases-loop-place l = length l.self.sets.touched

@@ -16,8 +16,8 @@ meet_bits-requires-clause-targets c =
     let column = c.requires.in_word.column in
     let here : c.args.vertex < length game.board.first = omega (arith, bit, column) in
     let stands : IsStart game.rules (after q) = goes_on game.rules q c.action-action.result.now c.action-action.ensures in
-    let are : AreTargetsFrom game (after q) c.args.vertex c.args.paths.now.leaps c.from-targets.result.now = c.from-targets.ensures game c.requires.paths.leaps here stands in
-    targets_in game c.requires.lawful.numbered q c.requires.still c.args.column c.args.word c.args.vertex c.requires.in_word c.args.paths.now.leaps c.from-targets.result.now are
+    let are : AreTargetsFrom game (after q) c.args.vertex c.args.paths.now.leaps c.leads-may_end.result.0.now = c.leads-may_end.ensures.from game c.requires.paths.leaps here stands in
+    targets_in game c.requires.lawful.numbered q c.requires.still c.args.column c.args.word c.args.vertex c.requires.in_word c.args.paths.now.leaps c.leads-may_end.result.0.now are
 
 pub returns-clause-met : goal.returns-clause-met
 returns-clause-met c =
@@ -27,8 +27,8 @@ returns-clause-met c =
     let column = c.requires.in_word.column in
     let here : c.args.vertex < length game.board.first = omega (arith, bit, column) in
     let stands : IsStart game.rules (after q) = goes_on game.rules q c.action-action.result.now c.action-action.ensures in
-    let are : AreTargetsFrom game (after q) c.args.vertex c.args.paths.now.leaps c.from-targets.result.now = c.from-targets.ensures game c.requires.paths.leaps here stands in
-    meets_still game c.requires.lawful.numbered q c.requires.still c.args.column c.args.word c.args.vertex c.requires.in_word c.args.paths.now.leaps c.from-targets.result.now are c.args.self.now.sets c.meet_bits.new.sets c.meet_bits.ensures
+    let are : AreTargetsFrom game (after q) c.args.vertex c.args.paths.now.leaps c.leads-may_end.result.0.now = c.leads-may_end.ensures.from game c.requires.paths.leaps here stands in
+    meets_still game c.requires.lawful.numbered q c.requires.still c.args.column c.args.word c.args.vertex c.requires.in_word c.args.paths.now.leaps c.leads-may_end.result.0.now are c.args.self.now.sets c.meet_bits.new.sets c.meet_bits.ensures
 
 pub returns-clause-ends : goal.returns-clause-ends
 returns-clause-ends c =
@@ -38,7 +38,7 @@ returns-clause-ends c =
     let column = c.requires.in_word.column in
     let here : c.args.vertex < length game.board.first = omega (arith, bit, column) in
     let stands : IsStart game.rules (after q) = goes_on game.rules q c.action-action.result.now c.action-action.ensures in
-    learns_or c.args.self.now.ends c.ends-ends.result (EndsAcross game (after q) c.args.vertex) (c.ends-ends.ensures game c.requires.paths.leaps here stands)
+    learns_or c.args.self.now.ends c.leads-may_end.result.1 (EndsAcross game (after q) c.args.vertex) (c.leads-may_end.ensures.ends game c.requires.paths.leaps here stands)
 
 pub returns-clause-on : goal.returns-clause-on
 returns-clause-on c =
@@ -48,6 +48,6 @@ returns-clause-on c =
     let column = c.requires.in_word.column in
     let here : c.args.vertex < length game.board.first = omega (arith, bit, column) in
     let stands : IsStart game.rules (after q) = goes_on game.rules q c.action-action.result.now c.action-action.ensures in
-    let are : AreTargetsFrom game (after q) c.args.vertex c.args.paths.now.leaps c.from-targets.result.now = c.from-targets.ensures game c.requires.paths.leaps here stands in
+    let are : AreTargetsFrom game (after q) c.args.vertex c.args.paths.now.leaps c.leads-may_end.result.0.now = c.leads-may_end.ensures.from game c.requires.paths.leaps here stands in
     still_on_board game c.requires.lawful q c.args.column c.args.word c.requires.still c.requires.board c.args.self.now.sets c.meet_bits.new.sets
-    (meets_still game c.requires.lawful.numbered q c.requires.still c.args.column c.args.word c.args.vertex c.requires.in_word c.args.paths.now.leaps c.from-targets.result.now are c.args.self.now.sets c.meet_bits.new.sets c.meet_bits.ensures)
+    (meets_still game c.requires.lawful.numbered q c.requires.still c.args.column c.args.word c.args.vertex c.requires.in_word c.args.paths.now.leaps c.leads-may_end.result.0.now are c.args.self.now.sets c.meet_bits.new.sets c.meet_bits.ensures)

@@ -1,22 +1,22 @@
-//! A list of positions in which each stands once.
+//! A list of places in which each stands once.
 ghost use Rattle.std.specs.Prelude.{◌≡◌, ℕ, ◌<◌, ◌-◌, ◌⊎◌, [], ◌∷◌, ◌++◌, length, take, Contains, IfOk, IfSome, IfNone};
 ghost use Rattle.rbg_flat.specs.internal.Sets.{IsLastOf};
 
-use rbg_base::{Memory, Position};
+use rbg_base::Memory;
 use std::alloc::Global;
 use std::marker::Model;
 
-/// Positions below a size, each once, the latest last. To add one takes no memory.
+/// Places below a size, each once, the latest last. To add one takes no memory.
 #[derive(Debug, Drop)]
-pub(crate) struct Positions {
-    /// The positions, and behind them room for all others.
-    room: Vec<Position>,
+pub(crate) struct Places {
+    /// The places, and behind them room for all others.
+    room: Vec<usize>,
     len: usize,
-    /// Of each position whether it is there.
+    /// Of each place whether it is there.
     inside: Vec<bool>,
 }
 
-impl Model for Positions {
+impl Model for Places {
     ghost use Rattle.std.specs.Prelude.{length, take};
     ghost use Rattle.rbg_flat.specs.internal.Sets.{Listed};
 
@@ -29,37 +29,37 @@ impl Model for Positions {
     ghost invariant = { λ p. AreListed p.room.items p.len p.inside.items };
 }
 
-impl Positions {
-    /// No position, with room for those below a size.
-    pub(crate) fn new(alloc: Global, size: usize) -> Result<Positions, Memory>
-        ensures size { IfOk result (λ positions. positions.size ≡ size) }
-        ensures none { IfOk result (λ positions. positions.positions ≡ []) }
+impl Places {
+    /// No place, with room for those below a size.
+    pub(crate) fn new(alloc: Global, size: usize) -> Result<Places, Memory>
+        ensures size { IfOk result (λ places. places.size ≡ size) }
+        ensures none { IfOk result (λ places. places.positions ≡ []) }
     {
-        Ok(Positions {
+        Ok(Places {
             room: vec![in alloc; 0; size]?,
             len: 0,
             inside: vec![in alloc; false; size]?,
         })
     }
 
-    /// Adds a position, where it isn't there.
+    /// Adds a place, where it isn't there.
     #[inline(always)]
-    pub(crate) fn add(&mut self, position: Position)
-        requires { position < self.old.size }
+    pub(crate) fn add(&mut self, place: usize)
+        requires { place < self.old.size }
         ensures size { self.new.size ≡ self.old.size }
-        ensures added { (Contains self.old.positions position × (self.new.positions ≡ self.old.positions))
-            ⊎ ((¬ Contains self.old.positions position) × (self.new.positions ≡ self.old.positions ++ position ∷ [])) }
+        ensures added { (Contains self.old.positions place × (self.new.positions ≡ self.old.positions))
+            ⊎ ((¬ Contains self.old.positions place) × (self.new.positions ≡ self.old.positions ++ place ∷ [])) }
     {
-        if !self.inside[position as usize] {
-            self.inside[position as usize] = true;
-            self.room[self.len] = position;
+        if !self.inside[place] {
+            self.inside[place] = true;
+            self.room[self.len] = place;
             self.len += 1;
         }
     }
 
-    /// The latest position.
+    /// The latest place.
     #[inline(always)]
-    pub(crate) fn last(&self) -> Option<Position>
+    pub(crate) fn last(&self) -> Option<usize>
         ensures some { IfSome result (λ p. Contains self.now.positions p) }
         ensures last { IfSome result (λ p. IsLastOf self.now.positions p) }
         ensures below { IfSome result (λ p. p < self.now.size) }
@@ -72,7 +72,7 @@ impl Positions {
         }
     }
 
-    /// Takes the latest position off.
+    /// Takes the latest place off.
     #[inline(always)]
     pub(crate) fn take_last(&mut self)
         requires { 0 < length self.old.positions }
@@ -80,7 +80,7 @@ impl Positions {
         ensures rest { self.new.positions ≡ take (length self.old.positions - 1) self.old.positions }
     {
         self.len -= 1;
-        let position = self.room[self.len];
-        self.inside[position as usize] = false;
+        let place = self.room[self.len];
+        self.inside[place] = false;
     }
 }

@@ -2,7 +2,7 @@ use Rattle.std.proofs.Common.{ℕ, ◌-◌, ◌<◌, List, take, sym, subst, ari
 use Rattle.std.specs.Prelude.{Contains}
 use Rattle.std.proofs.lemmas.List.{get_or_read}
 use Rattle.rbg_flat.proofs.Listings.{last_listed, index_within}
-use Rattle.rbg_flat.proofs.positions.Positions.last.Goals as goal
+use Rattle.rbg_flat.proofs.places.Places.last.Goals as goal
 
 pub returns-else-self-eq0-clause-some : goal.returns-else-self-eq0-clause-some
 returns-else-self-eq0-clause-some c =

@@ -1,0 +1,26 @@
+-- Words of sets by their place: position * columns + column.
+use Rattle.std.specs.Prelude.{◌≡◌, ℕ, ◌+◌, ◌*◌, ◌/◌, length, Contains}
+use Rattle.rbg_flat.specs.internal.Sets.{SetsOfVertices, IsMarked, IsOpen}
+
+-- There is a row for each position, and the lists name the places of all words that have bits.
+pub record AreSetsByPlace (sets : SetsOfVertices) : Type 0 where
+  pub marks : length sets.marks ≡ sets.size * sets.columns
+  pub pendings : length sets.pending ≡ sets.size * sets.columns
+  pub under : (v p : ℕ) → IsOpen sets v p → IsMarked sets v p
+  pub waits : (v p : ℕ) → IsOpen sets v p → Contains sets.waiting (p * sets.columns + v / 64)
+  pub touches : (v p : ℕ) → IsMarked sets v p → Contains sets.touched (p * sets.columns + v / 64)
+
+-- Nothing is open at a place.
+abbrev pub IsClosedAt : SetsOfVertices → ℕ → Type 0
+IsClosedAt sets place = (v p : ℕ) → p * sets.columns + v / 64 ≡ place → ¬ IsOpen sets v p
+
+-- What was met at a place is forgotten, and nothing else.
+pub record ForgetsPlace (old new : SetsOfVertices) (place : ℕ) : Type 0 where
+  pub gone : (v p : ℕ) → p * old.columns + v / 64 ≡ place → ¬ IsMarked new v p
+  pub only : (v p : ℕ) → IsMarked new v p → IsMarked old v p
+  pub still : (v p : ℕ) → ¬ (p * old.columns + v / 64 ≡ place) → IsMarked old v p → IsMarked new v p
+
+-- The vertex was met at the position, and its word is at the place.
+pub record IsMetAt (sets : SetsOfVertices) (place p v : ℕ) : Type 0 where
+  pub at : p * sets.columns + v / 64 ≡ place
+  pub marked : IsMarked sets v p
