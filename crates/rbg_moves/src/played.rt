@@ -50,13 +50,25 @@ use std::alloc::Global;
 use std::marker::Model;
 
 /// A game with the automaton of its rules and with its leaps, which are made once. Contracts see the game.
-#[derive(Debug, Drop)]
+#[derive(Debug)]
 pub struct PlayedGame {
     alloc: Global,
     game: Game,
     automaton: Compact,
     /// The leaps of the game; none where they would take too much memory.
     paths: Option<Paths>,
+}
+
+/// Written out, so that letting a game go is one call in the proofs of those who hold one, not a step for each part.
+impl Drop for PlayedGame {
+    fn drop(self) {
+        let PlayedGame {
+            alloc: _,
+            game: _,
+            automaton: _,
+            paths: _,
+        } = self;
+    }
 }
 
 impl Model for PlayedGame {
