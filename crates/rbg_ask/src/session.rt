@@ -31,13 +31,26 @@ use std::mem::replace;
 pub const MAX_LINE: usize = 4096;
 
 /// The places that play has reached, from the start on. Contracts see the game, the last place and those before it.
-#[derive(Debug, Drop)]
+#[derive(Debug)]
 pub struct Session {
     alloc: Global,
     game: PlayedGame,
     before: Vec<Place>,
     place: Place,
     workspace: Workspace,
+}
+
+/// Written out, so that letting a session go is one call in the proofs of those who hold one, not a step for each part.
+impl Drop for Session {
+    fn drop(self) {
+        let Session {
+            alloc: _,
+            game: _,
+            before: _,
+            place: _,
+            workspace: _,
+        } = self;
+    }
 }
 
 impl Model for Session {
