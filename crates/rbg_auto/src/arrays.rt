@@ -12,13 +12,24 @@ use rbg_base::Position;
 /// rules go on in the same way share one from the start. What `compact` makes has, beside what was laid at each
 /// position, a record of what a search reads of it: where its list is, and what is told at once of its action. These
 /// records are lent.
-#[derive(Debug, Drop)]
+#[derive(Debug)]
 pub struct Compact {
     pub(crate) table: Table,
     pub(crate) rules: Opening,
     /// What is lent of each position, where it was prepared.
     pub(crate) prepared: Option<Vec<Step>>,
     ghost begins: { IsSpan (length table.entries.items) rules.first },
+}
+
+/// Written out, so that letting an automaton go is one call in the proofs of those who hold one, not a step for each part.
+impl Drop for Compact {
+    fn drop(self) {
+        let Compact {
+            table: _,
+            rules: _,
+            prepared: _,
+        } = self;
+    }
 }
 
 impl Compact {
