@@ -16,10 +16,17 @@ use rbg_rules::{Action, Game};
 use std::alloc::Global;
 
 /// The leaps of a game, with what is told of each position: whether no shift comes next behind it.
-#[derive(Debug, Drop)]
+#[derive(Debug)]
 pub struct Paths {
     pub(crate) leaps: Leaps,
     pub(crate) still: Vec<bool>,
+}
+
+/// Written out, so that letting them go is one call in the proofs of those who hold them, not a step for each part.
+impl Drop for Paths {
+    fn drop(self) {
+        let Paths { leaps: _, still: _ } = self;
+    }
 }
 
 impl Paths {
