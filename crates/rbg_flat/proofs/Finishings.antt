@@ -1,5 +1,5 @@
 -- What is found in the end.
-use Rattle.std.proofs.Common.{◌≡◌, ◌≢◌, ℕ, zero, suc, ◌+◌, ◌-◌, ◌*◌, ◌/◌, ◌%◌, ◌^◌, ◌<◌, ◌≤◌, ◌⊎◌, inl, inr, List, ◌++◌, Bool, true, false, length, get_or, map, refl, sym, ap, subst, ◌∙◌, arith}
+use Rattle.std.proofs.Common.{◌≡◌, ◌≢◌, ℕ, zero, suc, ◌+◌, ◌-◌, ◌*◌, ◌/◌, ◌%◌, ◌^◌, ◌<◌, ◌≤◌, ◌⊎◌, inl, inr, List, [], ◌++◌, Bool, true, false, length, get_or, map, refl, sym, ap, subst, ◌∙◌, arith}
 use Rattle.std.specs.Prelude.{Contains, IsTrue, ◌↔◌, nat_eq}
 use Rattle.std.specs.List.{list_any, IsDistinct}
 use Rattle.std.proofs.lemmas.Nat.{mul-le, div-mul-add, mod-mul-add}
@@ -26,7 +26,7 @@ use Rattle.rbg_flat.specs.internal.Leading.{AreOn}
 use Rattle.rbg_flat.specs.internal.Sets.{SetsOfVertices, IsMarked, IsOpen}
 use Rattle.rbg_flat.specs.internal.Places.{ForgetsPlace, IsMetAt}
 use Rattle.rbg_flat.proofs.ChainLemmas.{candidate_of, met_of}
-use Rattle.rbg_flat.proofs.Lists.{lists_same, lists_join, lists_map}
+use Rattle.rbg_flat.proofs.Lists.{lists_none, lists_same, lists_join, lists_map}
 use Rattle.rbg_flat.proofs.Steps.{all_marked}
 use Rattle.rbg_flat.proofs.Takings.{bit_decided}
 
@@ -111,6 +111,16 @@ module _ (game : AbstractGame) (lawful : IsGame game) (s : AbstractState) (first
         let all : (x : ℕ) → list_any (nat_eq x) (map (number vertices) pairs) ≡ true → x < most_candidates game = λ x any. below_all x (Contains-from_any eqb-true x (map (number vertices) pairs) any) in
         let short = length-le_from_distinct_below (map (number vertices) pairs) (most_candidates game) distinct all in
         omega (arith, short, length-map pairs (number vertices))
+
+  -- At first nothing is gathered.
+  pub gathered_none : Gathered game s first first [] 0
+  gathered_none = record {
+    under = λ v p is. is;
+    pairs = [];
+    lists = lists_none (IsGone first first) (λ q gone. gone.forgotten gone.marked);
+    count_is = refl;
+    kept = lists_none (IsKept game s first first) (λ q kept. kept.gone.forgotten kept.gone.marked);
+  }
 
   -- What was met at a place is gathered and forgotten.
   module _

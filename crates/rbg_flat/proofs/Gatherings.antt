@@ -5,53 +5,11 @@ use Rattle.std.specs.Int.{bit_at}
 use Rattle.std.proofs.lemmas.List.{map-append}
 use Rattle.std.proofs.lemmas.Nat.Bits.{bit_at-lt}
 use native.Mathlib.Decide.{ℕ_discrete}
-use Rattle.rbg_flat.specs.internal.Gathering.{at_position, IsBitOf, IsBitPast, PushedPast, PushesWord, Gathers}
+use Rattle.rbg_flat.specs.internal.Gathering.{at_position, IsBitOf, PushesWord, Gathers}
 use Rattle.rbg_flat.specs.internal.Places.{IsMetAt}
 use Rattle.rbg_flat.specs.internal.Sets.{SetsOfVertices}
 use Rattle.rbg_flat.proofs.Lists.{lists_push, lists_count}
 use Rattle.rbg_flat.proofs.Ones.{counted}
-
-not_both : {n : ℕ} → n ≡ 0 → n ≡ 1 → ⊥
-not_both none one = omega (arith, none, one)
-
-clear_or_set : (n : ℕ) → n < 2 → ¬ (n ≡ 1) → n ≡ 0
-clear_or_set n small clear = elim (ℕ_discrete n 0) [
-  | yes none ↦ none
-  | no some ↦ absurd (clear (omega (arith, small, some)))
-]
-
--- One vertex more is pushed.
-pub pushed_more : (old middle new : List (ℕ × ℕ)) (p c word rest bit rest' : ℕ) → bit < 64 → bit_at word bit ≡ 1 → bit_at rest bit ≡ 1 → bit_at rest' bit ≡ 0 → ((b : ℕ) → bit_at rest' b ≡ 1 → bit_at rest b ≡ 1) → ((b : ℕ) → b ≢ bit → bit_at rest' b ≡ bit_at rest b) → new ≡ middle ++ (c * 64 + bit, p) ∷ [] → PushedPast old middle p c word rest → PushedPast old new p c word rest'
-pushed_more old middle new p c word rest bit rest' small set left gone only others pushed so_far = record {
-  vertices = so_far.vertices ++ (c * 64 + bit) ∷ [];
-  lists = lists_push (IsBitPast c word rest) (IsBitPast c word rest') so_far.vertices (c * 64 + bit) so_far.lists not_yet cases earlier here;
-  grown = pushed ∙ ap (λ (xs : List (ℕ × ℕ)). xs ++ (c * 64 + bit, p) ∷ []) so_far.grown ∙ append_assoc old (at_position p so_far.vertices) ((c * 64 + bit, p) ∷ [])
-      ∙ ap (λ (xs : List (ℕ × ℕ)). old ++ xs) (sym (map-append (λ (v : ℕ). (v, p)) so_far.vertices ((c * 64 + bit) ∷ [])));
-}
-  where
-    column : (c * 64 + bit) / 64 ≡ c
-    column = omega (arith, small)
-
-    place : (c * 64 + bit) % 64 ≡ bit
-    place = omega (arith, small)
-
-    not_yet : ¬ IsBitPast c word rest (c * 64 + bit)
-    not_yet is = not_both (subst (λ (b : ℕ). bit_at rest b ≡ 0) place is.past) left
-
-    here : IsBitPast c word rest' (c * 64 + bit)
-    here = record { column = column; set = subst (λ (b : ℕ). bit_at word b ≡ 1) (sym place) set; past = subst (λ (b : ℕ). bit_at rest' b ≡ 0) (sym place) gone }
-
-    earlier : (v : ℕ) → IsBitPast c word rest v → IsBitPast c word rest' v
-    earlier v is = record { column = is.column; set = is.set; past = clear_or_set (bit_at rest' (v % 64)) (bit_at-lt rest' (v % 64)) (λ there. not_both is.past (only (v % 64) there)) }
-
-    same : (v : ℕ) → IsBitPast c word rest' v → v % 64 ≡ bit → v ≡ c * 64 + bit
-    same v is bits = let at = is.column in omega (arith, bits, at)
-
-    cases : (v : ℕ) → IsBitPast c word rest' v → IsBitPast c word rest v ⊎ (v ≡ c * 64 + bit)
-    cases v is = elim (ℕ_discrete (v % 64) bit) [
-      | yes bits ↦ inr (same v is bits)
-      | no other ↦ inl (record { column = is.column; set = is.set; past = sym (others (v % 64) other) ∙ is.past })
-    ]
 
 true_not_false : true ≡ false → ⊥
 true_not_false e = cc

@@ -6,7 +6,7 @@ pub mod WordLemmas
 pub mod SetLemmas
 pub mod PlaceLemmas
 pub mod Meetings
-pub mod Modifiers
+pub mod ModifierLemmas
 pub mod Leadings
 pub mod Leaping
 pub mod Takings
@@ -16,6 +16,9 @@ pub mod Trying
 pub mod Doing
 pub mod Lists
 pub mod Ones
+pub mod Spellings
+pub mod Switches
+pub mod FirstSwitches
 pub mod Gatherings
 pub mod Finishings
 pub mod Stills

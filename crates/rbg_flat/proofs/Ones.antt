@@ -7,22 +7,11 @@ use Rattle.std.proofs.lemmas.List.{length-map}
 use Rattle.std.proofs.lemmas.Nat.{ones_le_self}
 use Rattle.std.proofs.lemmas.Nat.Bits.{bit_at_lowest, bit_at-suc}
 use Rattle.std.proofs.Math.Nat.{pow-suc}
+use Rattle.rbg_flat.specs.internal.Bits.{with_first, next, bits}
 use Rattle.rbg_flat.specs.internal.Gathering.{Lists, IsBitOf}
 use Rattle.rbg_flat.proofs.Lists.{lists_none, lists_same, lists_push, lists_join, lists_map}
 
-abbrev with_first : ℕ → List ℕ → List ℕ
-with_first zero xs = xs
-with_first (suc r) xs = (0 ∷ []) ++ xs
-
-abbrev next : ℕ → ℕ
-next b = b + 1
-
--- the places of the bits of n below k
-bits : (k n : ℕ) → List ℕ
-bits zero n = []
-bits (suc k) n = with_first (n % 2) (map next (bits k (n / 2)))
-
-abbrev IsBit : (k n b : ℕ) → Type 0
+abbrev pub IsBit : (k n b : ℕ) → Type 0
 IsBit k n b = (b < k) × (bit_at n b ≡ 1)
 
 -- a bit that isn't the first
@@ -65,7 +54,7 @@ first_case k n (suc r) odd xs lists =
     cases zero is = inl refl
     cases (suc b) (below, set) = inr (omega arith, below, set)
 
-bits_list : (k n : ℕ) → Lists (IsBit k n) (bits k n)
+pub bits_list : (k n : ℕ) → Lists (IsBit k n) (bits k n)
 unfolding bits
 bits_list zero n = lists_none (IsBit zero n) (λ b is. no_less b is.0)
   where
@@ -99,15 +88,13 @@ pub record Counted (c word many : ℕ) : Type 0 where
   pub lists : Lists (IsBitOf c word) vertices
   pub count : many ≡ length vertices
 
-abbrev place : (c b : ℕ) → ℕ
+abbrev pub place : (c b : ℕ) → ℕ
 place c b = c * 64 + b
 
-pub counted : (c word : ℕ) → word < 2 ^ 64 → Counted c word (count_ones word)
-counted c word fits = record {
-  vertices = map (place c) (bits 64 word);
-  lists = lists_map (place c) (λ a b same. omega (arith, same)) (IsBit 64 word) (IsBitOf c word) (bits 64 word) (bits_list 64 word) of to;
-  count = sym (length-map (bits 64 word) (place c) ∙ bits_count 64 word fits);
-}
+-- The vertices of a word.
+pub word_lists : (c word : ℕ) → Lists (IsBitOf c word) (map (place c) (bits 64 word))
+word_lists c word =
+    lists_map (place c) (λ a b same. omega (arith, same)) (IsBit 64 word) (IsBitOf c word) (bits 64 word) (bits_list 64 word) of to
   where
     of : (v : ℕ) → IsBitOf c word v → (b : ℕ) × IsBit 64 word b × (place c b ≡ v)
     of v is = (v % 64, (omega arith, is.set), let column = is.column in omega (arith, column))
@@ -120,3 +107,10 @@ counted c word fits = record {
       where
         rest : (i : ℕ) → i < 64 → i ≡ (c * 64 + i) % 64
         rest i small = omega (arith, small)
+
+pub counted : (c word : ℕ) → word < 2 ^ 64 → Counted c word (count_ones word)
+counted c word fits = record {
+  vertices = map (place c) (bits 64 word);
+  lists = word_lists c word;
+  count = sym (length-map (bits 64 word) (place c) ∙ bits_count 64 word fits);
+}

@@ -2,5 +2,6 @@
 pub mod Candidates
 pub mod Chains
 pub mod Found
+pub mod Order
 pub mod Paths
 pub mod internal

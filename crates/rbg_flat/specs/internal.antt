@@ -6,3 +6,4 @@ pub mod Shown
 pub mod Leading
 pub mod Passing
 pub mod Gathering
+pub mod Bits

@@ -16,6 +16,7 @@ ghost use Rattle.rbg_flat.specs.internal.Begun.{IsBegun};
 ghost use Rattle.rbg_flat.specs.internal.Sets.{Meets, IsInWord, IsMarked, IsOpen, IsLastOf, IsDone, KeepsDone, weight};
 ghost use Rattle.rbg_flat.specs.internal.Leading.{AreSizedFor, AreOn, IsOnBoard, LeadsFrom, EndsFrom, LearnsEnd};
 
+use crate::found::Modifiers;
 use crate::gathering::{gather_place, keeps};
 use crate::leading::{meet_bits, meet_targets};
 use crate::passing::held;
@@ -170,7 +171,7 @@ impl Flat {
         &mut self,
         game: &Game,
         state: &SemiState,
-        found: &mut Vec<(Vertex, Position)>,
+        found: &mut Modifiers,
     ) -> Result<usize, Memory>
         requires lawful { IsGame game.now }
         requires fits { IsStateOf game.now state.now.state }
@@ -182,7 +183,7 @@ impl Flat {
         ensures found { OnOk result ((f : Start)
             → IsBegun game.now state.now.state f (IsMarked self.old.sets) (IsOpen self.old.sets)
             self.old.ends
-            → AreFound game.now state.now.state f found.new.items) }
+            → AreFound game.now state.now.state f found.new) }
         ensures count { IfOk result (λ many. (f : Start)
             → IsBegun game.now state.now.state f (IsMarked self.old.sets) (IsOpen self.old.sets)
             self.old.ends

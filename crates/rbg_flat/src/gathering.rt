@@ -6,10 +6,10 @@ ghost use Rattle.rbg_rules.specs.State.{IsStateOf};
 ghost use Rattle.rbg_flat.specs.internal.Places.{IsMetAt};
 ghost use Rattle.rbg_flat.specs.internal.Gathering.{IsBitOf, PushesWord, Gathers, Keeps};
 
+use crate::found::Modifiers;
 use crate::leading::is_modifier;
 use crate::sets::Sets;
-use crate::words::{lowest, without};
-use rbg_base::{Memory, Position, Vertex};
+use rbg_base::{Memory, Position};
 use rbg_rules::Game;
 use rbg_state::{SemiState, Trial};
 
@@ -42,28 +42,9 @@ fn is_kept(game: &Game, state: &SemiState, position: Position) -> bool
     }
 }
 
-/// Puts the vertices of a word, each with the position, behind what was found.
-fn push_word(
-    found: &mut Vec<(Vertex, Position)>,
-    position: Position,
-    column: usize,
-    word: u64,
-) -> Result<(), Memory>
-    requires { column < 2 ^ 25 }
-    ensures { OnOk result (PushesWord found.old.items found.new.items position column word) }
-{
-    let mut rest = word;
-    while rest != 0 {
-        let bit = lowest(rest);
-        found.push((column as Vertex * 64 + bit, position))?;
-        rest = without(rest, bit);
-    }
-    Ok(())
-}
-
 /// Counts the vertices of a word, and puts them behind what was found where they are kept.
 fn gather_word(
-    found: &mut Vec<(Vertex, Position)>,
+    found: &mut Modifiers,
     position: Position,
     column: usize,
     word: u64,
@@ -71,10 +52,10 @@ fn gather_word(
 ) -> Result<usize, Memory>
     requires { column < 2 ^ 25 }
     ensures { IfOk result (λ many.
-        Gathers (IsBitOf column word) found.old.items found.new.items position keeps many 64) }
+        Gathers (IsBitOf column word) found.old found.new position keeps many 64) }
 {
     if keeps {
-        push_word(found, position, column, word)?;
+        found.push_word(position, column, word)?;
         Ok(count(word))
     } else {
         Ok(count(word))
@@ -93,7 +74,7 @@ fn count(word: u64) -> usize
 /// Counts the vertices that were met at a place, and puts them behind what was found where they are kept.
 #[inline(always)]
 pub(crate) fn gather_place(
-    found: &mut Vec<(Vertex, Position)>,
+    found: &mut Modifiers,
     sets: &Sets,
     place: usize,
     position: Position,
@@ -103,7 +84,7 @@ pub(crate) fn gather_place(
     requires position { position ≡ place / sets.now.columns }
     requires narrow { sets.now.columns < 2 ^ 16 }
     ensures { IfOk result (λ many. Gathers (IsMetAt sets.now place position)
-        found.old.items found.new.items position keeps many 64) }
+        found.old found.new position keeps many 64) }
 {
     gather_word(
         found,

@@ -2,6 +2,7 @@
 #![tactic(auto)]
 
 mod flat;
+mod found;
 mod gathering;
 pub mod laws;
 mod leading;
@@ -12,4 +13,5 @@ mod sets;
 mod words;
 
 pub use flat::Flat;
+pub use found::Modifiers;
 pub use paths::{Paths, is_shift};

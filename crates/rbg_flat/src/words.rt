@@ -1,13 +1,15 @@
 //! Words of bits.
 ghost use Rattle.std.specs.Prelude.{◌≡◌, ◌≢◌, ℕ, ◌<◌};
-ghost use Rattle.std.specs.Int.{bit_at};
+ghost use Rattle.std.specs.Int.{bit_at, trailing_zeros, w64};
 
 /// The place of the lowest bit of a word.
 #[inline(always)]
 pub(crate) fn lowest(word: u64) -> u32
     requires { 0 < word }
+    ensures is { result ≡ trailing_zeros w64 word }
     ensures set { bit_at word result ≡ 1 }
     ensures small { result < 64 }
+    ensures below { (b : ℕ) → b < result → bit_at word b ≡ 0 }
 {
     word.trailing_zeros()
 }

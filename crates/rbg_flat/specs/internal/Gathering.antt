@@ -20,19 +20,7 @@ pub record IsBitOf (c word v : ℕ) : Type 0 where
   pub column : v / 64 ≡ c
   pub set : bit_at word (v % 64) ≡ 1
 
--- It is none of the bits that are left.
-pub record IsBitPast (c word rest v : ℕ) : Type 0 where
-  pub column : v / 64 ≡ c
-  pub set : bit_at word (v % 64) ≡ 1
-  pub past : bit_at rest (v % 64) ≡ 0
-
--- The vertices of a word that aren't left, each with the position, stand behind what was there.
-pub record PushedPast (old new : List (ℕ × ℕ)) (p c word rest : ℕ) : Type 0 where
-  pub vertices : List ℕ
-  pub lists : Lists (IsBitPast c word rest) vertices
-  pub grown : new ≡ old ++ at_position p vertices
-
--- All vertices of a word do.
+-- The vertices of a word, each with the position, stand behind what was there.
 pub record PushesWord (old new : List (ℕ × ℕ)) (p c word : ℕ) : Type 0 where
   pub vertices : List ℕ
   pub lists : Lists (IsBitOf c word) vertices

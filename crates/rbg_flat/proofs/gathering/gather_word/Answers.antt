@@ -7,11 +7,11 @@ use Rattle.rbg_flat.proofs.gathering.gather_word.Goals as goal
 pub returns-in_ok-push_word : goal.returns-in_ok-push_word
 returns-in_ok-push_word c =
     let few : count_ones c.args.word ≤ 64 = subst (λ (n : ℕ). n ≤ 64) c.count.ensures.ones c.count.ensures.few in
-    subst (λ (n : ℕ). Gathers (IsBitOf c.args.column c.args.word) c.args.found.now.items c.push_word.new.found.items c.args.position c.args.keeps n 64) (sym c.count.ensures.ones)
-    (gathers_kept c.args.found.now.items c.push_word.new.found.items c.args.position c.args.column c.args.word c.args.keeps c.ranges.word.fits few c.if-keeps.true c.in_ok-push_word.ensures)
+    subst (λ (n : ℕ). Gathers (IsBitOf c.args.column c.args.word) c.args.found.now c.push_word.new.self c.args.position c.args.keeps n 64) (sym c.count.ensures.ones)
+    (gathers_kept c.args.found.now c.push_word.new.self c.args.position c.args.column c.args.word c.args.keeps c.ranges.word.fits few c.if-keeps.true c.in_ok-push_word.ensures)
 
 pub returns-else-keeps : goal.returns-else-keeps
 returns-else-keeps c =
     let few : count_ones c.args.word ≤ 64 = subst (λ (n : ℕ). n ≤ 64) c.count-else-keeps.ensures.ones c.count-else-keeps.ensures.few in
-    subst (λ (n : ℕ). Gathers (IsBitOf c.args.column c.args.word) c.args.found.now.items c.args.found.now.items c.args.position c.args.keeps n 64) (sym c.count-else-keeps.ensures.ones)
-    (gathers_left c.args.found.now.items c.args.found.now.items c.args.position c.args.column c.args.word c.args.keeps c.ranges.word.fits few c.if-keeps.false refl)
+    subst (λ (n : ℕ). Gathers (IsBitOf c.args.column c.args.word) c.args.found.now c.args.found.now c.args.position c.args.keeps n 64) (sym c.count-else-keeps.ensures.ones)
+    (gathers_left c.args.found.now c.args.found.now c.args.position c.args.column c.args.word c.args.keeps c.ranges.word.fits few c.if-keeps.false refl)

@@ -1,6 +1,6 @@
 use Rattle.std.proofs.Common.{◌≡◌, true, false, refl}
 use Rattle.rbg_flat.proofs.Finishings.{everywhere}
-use Rattle.rbg_flat.proofs.Modifiers.{pattern_opens}
+use Rattle.rbg_flat.proofs.ModifierLemmas.{pattern_opens}
 use Rattle.rbg_flat.proofs.gathering.is_kept.Goals as goal
 
 false_not_true : false ≡ true → ⊥

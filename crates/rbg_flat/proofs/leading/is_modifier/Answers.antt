@@ -1,4 +1,4 @@
-use Rattle.rbg_flat.proofs.Modifiers.{stands_modifier}
+use Rattle.rbg_flat.proofs.ModifierLemmas.{stands_modifier}
 use Rattle.rbg_flat.proofs.leading.is_modifier.Goals as goal
 
 pub returns : goal.returns

@@ -4,7 +4,7 @@ use Rattle.rbg_rules.specs.Positions.{IsModifierAt}
 use Rattle.rbg_leaps.specs.Asked.{row_of}
 use Rattle.rbg_flat.specs.internal.Sets.{IsInRow, Meets}
 use Rattle.rbg_flat.proofs.Meetings.{meets_same}
-use Rattle.rbg_flat.proofs.Modifiers.{opens_quiet, quiet_opens}
+use Rattle.rbg_flat.proofs.ModifierLemmas.{opens_quiet, quiet_opens}
 use Rattle.rbg_flat.proofs.leading.meet_target.Goals as goal
 
 pub returns : goal.returns

@@ -7,3 +7,6 @@ returns-clause-set c = (bit_at-trailing_zeros w64 c.args.word c.requires c.range
 
 pub returns-clause-small : goal.returns-clause-small
 returns-clause-small c = (bit_at-trailing_zeros w64 c.args.word c.requires c.ranges.word.fits).0
+
+pub returns-clause-below : goal.returns-clause-below
+returns-clause-below c = (bit_at-trailing_zeros w64 c.args.word c.requires c.ranges.word.fits).2

@@ -1,10 +1,20 @@
-use Rattle.std.proofs.Common.{◌∙◌}
-use Rattle.rbg_flat.proofs.Finishings.{gathered_more, count_fits, are_found, has_candidates, few_gathered}
+use Rattle.std.proofs.Common.{◌∙◌, ℕ, List, refl, sym, subst}
+use Rattle.rbg_flat.specs.internal.Gathering.{Gathered}
+use Rattle.rbg_flat.proofs.Finishings.{gathered_none, gathered_more, count_fits, are_found, has_candidates, few_gathered}
 use Rattle.rbg_flat.proofs.flat.Flat.finish.Goals as goal
+
+pub loop-place-init : goal.loop-place-init
+loop-place-init c =
+    let sets = c.args.self.now.sets in
+    record {
+      sized = c.requires.sized;
+      ends = refl;
+      gathered = subst (λ (found : List (ℕ × ℕ)). Gathered c.args.game.now c.args.state.now.state sets sets found 0) (sym c.clear.ensures) (gathered_none c.args.game.now c.requires.lawful c.args.state.now.state sets c.requires.on);
+    }
 
 pub overflow_add-many : goal.overflow_add-many
 overflow_add-many c =
-    let fits = count_fits c.args.game.now c.requires.lawful c.args.state.now.state c.args.self.now.sets c.requires.on c.loop-place.self.sets c.loop-place.found.items c.loop-place.many c.in_ok-many.field-0 c.loop-place.invariant.gathered c.in_ok-many.ensures.few in
+    let fits = count_fits c.args.game.now c.requires.lawful c.args.state.now.state c.args.self.now.sets c.requires.on c.loop-place.self.sets c.loop-place.found c.loop-place.many c.in_ok-many.field-0 c.loop-place.invariant.gathered c.in_ok-many.ensures.few in
     record { fits = fits }
 
 pub loop-place-preserved : goal.loop-place-preserved
@@ -14,17 +24,17 @@ loop-place-preserved c =
       sized = record { size = c.forget.ensures.size ∙ is.sized.size; columns = c.forget.ensures.columns ∙ is.sized.columns };
       ends = is.ends;
       gathered = gathered_more c.args.game.now c.requires.lawful c.args.state.now.state c.args.self.now.sets c.requires.on
-          c.loop-place.self.sets c.forget.new.self c.loop-place.found.items c.gather_place.new.found.items c.loop-place.many c.in_ok-many.field-0 _ c.in-Some.place c.position_at-position.result c.keeps-keeps.result
+          c.loop-place.self.sets c.forget.new.self c.loop-place.found c.gather_place.new.found c.loop-place.many c.in_ok-many.field-0 _ c.in-Some.place c.position_at-position.result c.keeps-keeps.result
           c.position_at-position.ensures.is is.gathered c.in_ok-many.ensures c.forget.ensures.forgets c.keeps-keeps.ensures;
     }
 
 pub returns-clause-found : goal.returns-clause-found
 returns-clause-found c = λ f is.
-    are_found c.args.game.now c.requires.lawful c.args.state.now.state c.args.self.now.sets c.requires.on f c.args.self.now.ends c.loop-place.self.sets c.loop-place.found.items c.loop-place.many is c.requires.done c.in_default.ensures.none c.loop-place.invariant.gathered
+    are_found c.args.game.now c.requires.lawful c.args.state.now.state c.args.self.now.sets c.requires.on f c.args.self.now.ends c.loop-place.self.sets c.loop-place.found c.loop-place.many is c.requires.done c.in_default.ensures.none c.loop-place.invariant.gathered
 
 pub returns-clause-count : goal.returns-clause-count
 returns-clause-count c = λ f is.
-    has_candidates c.args.game.now c.requires.lawful c.args.state.now.state c.args.self.now.sets c.requires.on f c.args.self.now.ends c.loop-place.self.sets c.loop-place.found.items c.loop-place.many is c.requires.done c.in_default.ensures.none c.loop-place.invariant.gathered
+    has_candidates c.args.game.now c.requires.lawful c.args.state.now.state c.args.self.now.sets c.requires.on f c.args.self.now.ends c.loop-place.self.sets c.loop-place.found c.loop-place.many is c.requires.done c.in_default.ensures.none c.loop-place.invariant.gathered
 
 pub returns-clause-few : goal.returns-clause-few
-returns-clause-few c = few_gathered c.args.game.now c.requires.lawful c.args.state.now.state c.args.self.now.sets c.requires.on c.loop-place.self.sets c.loop-place.found.items c.loop-place.many c.loop-place.invariant.gathered
+returns-clause-few c = few_gathered c.args.game.now c.requires.lawful c.args.state.now.state c.args.self.now.sets c.requires.on c.loop-place.self.sets c.loop-place.found c.loop-place.many c.loop-place.invariant.gathered

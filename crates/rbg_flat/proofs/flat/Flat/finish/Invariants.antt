@@ -8,7 +8,7 @@ abbrev pub invariant-loop-place : goal.invariant-loop-place
 invariant-loop-place l = record {
   sized : AreSizedFor l.game l.self.sets;
   ends : l.self.ends ≡ l.fn.self.ends;
-  gathered : Gathered l.game l.state.state l.fn.self.sets l.self.sets l.found.items l.many;
+  gathered : Gathered l.game l.state.state l.fn.self.sets l.self.sets l.found l.many;
 }
 
 abbrev pub decreases-loop-place : goal.decreases-loop-place

@@ -1,5 +1,5 @@
 use Rattle.std.proofs.Common.{◌≡◌, true, false, sym, ◌∙◌}
-use Rattle.rbg_flat.proofs.Modifiers.{pattern_opens}
+use Rattle.rbg_flat.proofs.ModifierLemmas.{pattern_opens}
 use Rattle.rbg_flat.proofs.flat.Flat.take.Goals as goal
 
 false_not_true : false ≡ true → ⊥

@@ -1,6 +1,6 @@
 use Rattle.std.proofs.Common.{◌≡◌, ℕ, ◌/◌, subst}
 use Rattle.rbg_rules.specs.Positions.{IsModifierAt, IsPatternAt}
-use Rattle.rbg_flat.proofs.Modifiers.{pattern_opens}
+use Rattle.rbg_flat.proofs.ModifierLemmas.{pattern_opens}
 use Rattle.rbg_flat.specs.internal.Leading.{LeadsFrom}
 use Rattle.rbg_flat.specs.internal.Sets.{IsInWord}
 use Rattle.rbg_flat.proofs.Leaping.{same_on}
