@@ -30,3 +30,4 @@ pub mod Plains
 pub mod BySets
 pub mod FindingBySets
 pub mod TakingSteps
+pub mod Turns

@@ -113,7 +113,7 @@ swap_keeps l a b a_in b_in one i j d first second same = ends (came_from a b i) 
     ends (m, from_m) (m', from_m') =
         back i m j m' from_m from_m' (one m m' d (within i m first from_m) (within j m' second from_m') (sym (read i m from_m) ∙ same ∙ read j m' from_m'))
 
-still_differ : (xs ys : List (ℕ × ℕ)) → IsPermutation xs ys → AllPairs (λ a b. a ≢ b) xs → AllPairs (λ a b. a ≢ b) ys
+pub still_differ : (xs ys : List (ℕ × ℕ)) → IsPermutation xs ys → AllPairs (λ a b. a ≢ b) xs → AllPairs (λ a b. a ≢ b) ys
 still_differ xs ys moves different = from_one_each ys (IsPermutation-keeps xs OneEach (one_each xs different) swap_keeps ys moves)
 
 -- What was found may be put in another order.

@@ -5,6 +5,7 @@ use Rattle.rbg_rules.specs.Words.{Start, Follows}
 use Rattle.rbg_rules.specs.State.{AbstractGame, AbstractState}
 use Rattle.rbg_rules.specs.Actions.{Applies, Run}
 use Rattle.rbg_flat.specs.Candidates.{MayEnd}
+pub use Rattle.rbg_flat.specs.Order.{IsBefore}
 
 -- The modifier at position p comes next from s and f, with no modifier before it, and is valid at vertex v: some
 -- positions without a modifier run from s to a semi-state at v, p follows them there, and it can be applied.
@@ -27,7 +28,3 @@ pub record IsFlatPart
     pub next : (v p : ℕ) → Contains found (v, p) ↔ IsNext game s f v p
     pub different : AllPairs (λ a b. a ≢ b) found
     pub may_end : Decides ends (MayEnd game s f)
-
--- The first pair stands before the other: by its vertex, then by its position.
-abbrev pub IsBefore : ℕ × ℕ → ℕ × ℕ → Type 0
-IsBefore a b = (a.0 < b.0) ⊎ ((a.0 ≡ b.0) × (a.1 < b.1))

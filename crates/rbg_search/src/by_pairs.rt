@@ -20,8 +20,8 @@ use crate::over::Over;
 use crate::search::Search;
 use rbg_auto::Steps;
 use rbg_base::{Memory, Position, Vertex};
+use rbg_flat::Modifiers;
 use rbg_state::SemiState;
-use std::mem::swap;
 
 impl<'a, S: Steps> Search<'a, S> {
     /// A flat part that is not in use.
@@ -123,28 +123,23 @@ impl<'a, S: Steps> Search<'a, S> {
         Ok(())
     }
 
-    /// Hands out what a flat part found, in the list that is lent, and keeps the rest for further use, with the buffer
-    /// that came. Returns whether a word may end with no modifier more.
-    pub(crate) fn finish(
-        &mut self,
-        flat: Box<Flat>,
-        pairs: &mut Vec<(Vertex, Position)>,
-    ) -> Result<bool, Over>
+    /// Hands out what a flat part found, in the list that is lent, and keeps the rest for further use. Returns whether a
+    /// word may end with no modifier more.
+    pub(crate) fn finish(&mut self, flat: Box<Flat>, pairs: &mut Modifiers) -> Result<bool, Over>
         requires marks { HasMarksOf self.old.game flat.value.queue }
         requires one { IsSpentButOne self.old.game self.old.opened self.old.taken }
         ensures kept { self.new ≡ record self.old { opened = self.new.opened; taken = self.new.taken } }
         ensures opened { self.new.opened ≡ self.old.opened }
         ensures taken { CountsPart self.old.game
             (HasPlain self.old.game.rules flat.value.queue.pairs) self.old.taken self.new.taken }
-        ensures pairs { OnOk result (pairs.new.items ≡ flat.value.found.items) }
+        ensures pairs { OnOk result (pairs.new ≡ flat.value.found.items) }
         ensures ends { IfOk result (λ ends. ends ≡ flat.value.ends) }
         ensures memory { IfErr result (λ over. over ≡ Over.Memory) }
     {
-        let mut flat = flat;
-        swap(&mut flat.found, pairs);
         let ends = flat.ends;
         let many = flat.candidates(&self.rules);
         self.count_pairs(many);
+        pairs.refill(&flat.found)?;
         self.flats.push(flat)?;
         Ok(ends)
     }

@@ -18,7 +18,7 @@ use crate::over::Over;
 use crate::search::Search;
 use rbg_auto::Steps;
 use rbg_base::{Position, Vertex};
-use rbg_flat::{Flat as SetFlat, Paths};
+use rbg_flat::{Flat as SetFlat, Modifiers, Paths};
 use rbg_leaps::Origin as LeapOrigin;
 use rbg_state::SemiState;
 
@@ -109,7 +109,7 @@ impl<'a, S: Steps> Search<'a, S> {
         &mut self,
         flat: Box<SetFlat>,
         state: &SemiState,
-        pairs: &mut Vec<(Vertex, Position)>,
+        pairs: &mut Modifiers,
     ) -> Result<bool, Over>
         requires fits { IsStateOf self.old.game state.now.state }
         requires sets { HasSetsFor self.old.game flat.value }
@@ -119,7 +119,7 @@ impl<'a, S: Steps> Search<'a, S> {
         ensures opened { self.new.opened ≡ self.old.opened }
         ensures part { IfOk result (λ ends. (f : Start)
             → IsBegunBySets self.old.game state.now.state f flat.value
-            → IsFlatPart self.old.game state.now.state f pairs.new.items ends) }
+            → IsFlatPart self.old.game state.now.state f pairs.new ends) }
         ensures taken { OnOk result (CountsPart self.old.game (λ many. (f : Start)
             → IsBegunBySets self.old.game state.now.state f flat.value
             → HasCandidates self.old.game state.now.state f many) self.old.taken self.new.taken) }

@@ -7,6 +7,7 @@ mod by_sets;
 mod fitting;
 mod flat;
 mod game_steps;
+mod lists;
 mod marks;
 mod only;
 mod order;

@@ -39,7 +39,7 @@ use crate::walk::{Walk, walk_inside};
 use crate::workspace::Workspace;
 use rbg_auto::{Expr, Steps};
 use rbg_base::{Memory, Position, Vertex};
-use rbg_flat::{Flat as SetFlat, Paths};
+use rbg_flat::{Flat as SetFlat, Modifiers, Paths};
 use rbg_rules::Game;
 use rbg_state::SemiState;
 use std::alloc::Global;
@@ -77,7 +77,9 @@ pub struct Search<'a, S: Steps> {
     /// Flat parts by sets that are not in use.
     pub(crate) sets: Vec<Box<SetFlat>>,
     /// Lists of modifiers that are not in use.
-    lists: Vec<Vec<(Vertex, Position)>>,
+    pub(crate) lists: Vec<Modifiers>,
+    /// Lists of pairs that are not in use.
+    pub(crate) pair_lists: Vec<Vec<(Vertex, Position)>>,
 }
 
 impl<'a, S: Steps> Model for Search<'a, S> {
@@ -148,6 +150,7 @@ impl<'a, S: Steps> Search<'a, S> {
             flats: Vec::new(alloc),
             sets: Vec::new(alloc),
             lists: Vec::new(alloc),
+            pair_lists: Vec::new(alloc),
         }
     }
 
@@ -194,6 +197,7 @@ impl<'a, S: Steps> Search<'a, S> {
         let sets = replace(&mut workspace.sets, Vec::new(alloc));
         search.sets = fitting_sets(alloc, game, sets);
         search.lists = replace(&mut workspace.lists, Vec::new(alloc));
+        search.pair_lists = replace(&mut workspace.pair_lists, Vec::new(alloc));
         search
     }
 
@@ -209,6 +213,7 @@ impl<'a, S: Steps> Search<'a, S> {
         workspace.flats = self.flats;
         workspace.sets = self.sets;
         workspace.lists = self.lists;
+        workspace.pair_lists = self.pair_lists;
     }
 
     /// The game that is searched.
@@ -271,16 +276,14 @@ impl<'a, S: Steps> Search<'a, S> {
         ensures taken { CountsPairs self.old.game reach state.old.state (start_of origin)
             self.old.opened self.new.opened self.old.taken self.new.taken (IsOk result) }
     {
-        let mut pairs = self.take_list();
-        let ends = self.reach_into(state, origin, &mut pairs)?;
+        let mut pairs = self.take_pairs();
+        let ends = self.reach_pairs(state, origin, &mut pairs)?;
         sort(&mut pairs);
         Ok(Reached { pairs, ends })
     }
 
-    /// As `reach`, with the modifiers in no order, in a list that is lent: what it held before is gone. Returns whether a
-    /// word may end with no modifier more.
-    #[inline(always)]
-    pub fn reach_into(
+    /// As `reach`, with the modifiers in no order, in a list that is lent. Returns whether a word may end with no more.
+    pub fn reach_pairs(
         &mut self,
         state: &mut SemiState,
         origin: Origin,
@@ -316,6 +319,51 @@ impl<'a, S: Steps> Search<'a, S> {
         ensures taken { CountsPairs self.old.game reach state.old.state (start_of origin)
             self.old.opened self.new.opened self.old.taken self.new.taken (IsOk result) }
     {
+        let mut found = self.take_list();
+        let ends = self.reach_into(state, origin, &mut found)?;
+        found.write_to(pairs)?;
+        self.keep_list(found);
+        Ok(ends)
+    }
+
+    /// The same with the modifiers by words, from which the least is taken first.
+    #[inline(always)]
+    pub fn reach_into(
+        &mut self,
+        state: &mut SemiState,
+        origin: Origin,
+        pairs: &mut Modifiers,
+    ) -> Result<bool, Over>
+        requires fits { IsStateOf self.old.game state.old.state }
+        requires stands { IsStart self.old.game.rules (start_of origin) }
+        ensures kept { self.new ≡ record self.old { opened = self.new.opened; taken = self.new.taken } }
+        ensures given_back { state.new ≡ record state.old { room = state.new.room } }
+        ensures room { state.old.room ≤ state.new.room }
+        ensures enough { OnOk result (2 ≤ state.new.room) }
+        ensures reached { IfOk result (λ ends.
+            IsFlatPart self.old.game state.old.state (start_of origin) pairs.new ends) }
+        ensures within { OnOk result (All (λ pair.
+            (pair.0 < length self.old.game.board.first) × IsPositionOf self.old.game.rules pair.1)
+            pairs.new) }
+        ensures counted { CountsOpenings self.old.game reach state.old.state (start_of origin)
+            self.old.opened self.new.opened }
+        ensures deep { result ≡ Err Over.Deep
+            → IsDeep self.old.game reach state.old.state (start_of origin) self.old.modifiers }
+        ensures wide { result ≡ Err Over.Wide
+            → IsOverBudget self.old.game reach state.old.state (start_of origin) self.old.opened
+            self.old.openings }
+        ensures forced { OnOk result ((cut : Bool) (left : ℕ)
+            → CountsForced self.old.game cut reach state.old.state (start_of origin)
+            self.old.opened self.new.opened left self.old.modifiers) }
+        ensures all_forced { OnOk result ((cut : Bool)
+            → CountsAllForced self.old.game cut reach state.old.state (start_of origin)
+            self.old.opened self.new.opened) }
+        ensures not_deep { OnOk result ((cut : Bool)
+            → ¬ IsForcedDeep self.old.game cut reach state.old.state (start_of origin)
+            self.old.modifiers) }
+        ensures taken { CountsPairs self.old.game reach state.old.state (start_of origin)
+            self.old.opened self.new.opened self.old.taken self.new.taken (IsOk result) }
+    {
         if let Some(position) = only_modifier(&self.rules, state, origin) {
             return self.reach_only(state, origin, position, pairs);
         }
@@ -331,7 +379,7 @@ impl<'a, S: Steps> Search<'a, S> {
         state: &mut SemiState,
         origin: Origin,
         position: Position,
-        pairs: &mut Vec<(Vertex, Position)>,
+        pairs: &mut Modifiers,
     ) -> Result<bool, Over>
         requires fits { IsStateOf self.old.game state.old.state }
         requires stands { IsStart self.old.game.rules (start_of origin) }
@@ -343,10 +391,10 @@ impl<'a, S: Steps> Search<'a, S> {
         ensures room { state.old.room ≤ state.new.room }
         ensures enough { OnOk result (2 ≤ state.new.room) }
         ensures reached { IfOk result (λ ends.
-            IsFlatPart self.old.game state.old.state (start_of origin) pairs.new.items ends) }
+            IsFlatPart self.old.game state.old.state (start_of origin) pairs.new ends) }
         ensures within { OnOk result (All (λ pair.
             (pair.0 < length self.old.game.board.first) × IsPositionOf self.old.game.rules pair.1)
-            pairs.new.items) }
+            pairs.new) }
         ensures counts { IsCounted self.old.game reach state.old.state (start_of origin)
             self.old.opened self.new.opened self.old.modifiers self.old.openings self.old.modifiers
             (result ≡ Err Over.Deep) (result ≡ Err Over.Wide) }
@@ -360,7 +408,7 @@ impl<'a, S: Steps> Search<'a, S> {
         let ends = self.rules.may_end(origin);
         self.count_pairs(1);
         pairs.clear();
-        pairs.push((state.vertex(), position))?;
+        pairs.push(state.vertex(), position)?;
         Ok(ends)
     }
 
@@ -401,24 +449,6 @@ impl<'a, S: Steps> Search<'a, S> {
         Ok(valid)
     }
 
-    /// A list to lend to `reach_into`: one that was kept, where there is one. What it holds is of no use.
-    pub fn take_list(&mut self) -> Vec<(Vertex, Position)>
-        ensures { self.new ≡ self.old }
-    {
-        match self.lists.pop() {
-            Some(list) => list,
-            None => Vec::new(self.alloc),
-        }
-    }
-
-    /// Keeps a list that is no longer needed.
-    pub fn keep_list(&mut self, list: Vec<(Vertex, Position)>)
-        ensures { self.new ≡ self.old }
-    {
-        // where there is no memory, it is let go
-        let _kept = self.lists.push(list);
-    }
-
     /// Takes one more opening up.
     pub(crate) fn open(&mut self) -> Result<(), Over>
         ensures kept { self.new ≡ record self.old { opened = self.new.opened; taken = self.new.taken } }
@@ -430,8 +460,7 @@ impl<'a, S: Steps> Search<'a, S> {
         ensures none_taken { self.new.taken ≡ self.old.taken }
         ensures spent { IsSpent self.old.game self.old.opened self.old.taken }
     {
-        // The game is lawful.
-        let _game = self.rules.game();
+        let _lawful = self.rules.game();
         if self.opened >= self.budget.openings {
             return Err(Over::Wide);
         }
@@ -447,7 +476,7 @@ impl<'a, S: Steps> Search<'a, S> {
         ensures opened { self.new.opened ≡ self.old.opened }
         ensures taken { self.new.taken ≡ self.old.taken + pairs }
     {
-        // The game is lawful and the openings are a number of 32 bits, so the sum is one of 64 bits.
+        // the game is lawful and the openings are a number of 32 bits, so the sum is one of 64 bits
         let _game = self.rules.game();
         let _opened = self.opened;
         self.taken += pairs as u64;
@@ -525,7 +554,7 @@ impl<'a, S: Steps> Search<'a, S> {
         state: &mut SemiState,
         origin: Origin,
         nested: u8,
-        pairs: &mut Vec<(Vertex, Position)>,
+        pairs: &mut Modifiers,
     ) -> Result<bool, Over>
         requires fits { IsStateOf self.old.game state.old.state }
         requires nested { NestsFrom self.old.game.rules nested (start_of origin) }
@@ -535,9 +564,9 @@ impl<'a, S: Steps> Search<'a, S> {
         ensures room { state.old.room ≤ state.new.room }
         ensures enough { OnOk result (2 ≤ state.new.room) }
         ensures reached { IfOk result (λ ends.
-            IsFlatPart self.old.game state.old.state (start_of origin) pairs.new.items ends) }
+            IsFlatPart self.old.game state.old.state (start_of origin) pairs.new ends) }
         ensures ready { OnOk result (All (IsReady self.old.game state.old.state nested)
-            pairs.new.items) }
+            pairs.new) }
         ensures lawful { IfOk result (λ _. IsGame self.old.game) }
         ensures counts { IsCounted self.old.game reach state.old.state (start_of origin)
             self.old.opened self.new.opened self.old.modifiers self.old.openings self.old.modifiers
@@ -568,7 +597,7 @@ impl<'a, S: Steps> Search<'a, S> {
         state: &mut SemiState,
         origin: Origin,
         nested: u8,
-        pairs: &mut Vec<(Vertex, Position)>,
+        pairs: &mut Modifiers,
         paths: &Paths,
     ) -> Result<bool, Over>
         requires fits { IsStateOf self.old.game state.old.state }
@@ -580,9 +609,9 @@ impl<'a, S: Steps> Search<'a, S> {
         ensures room { state.old.room ≤ state.new.room }
         ensures enough { OnOk result (2 ≤ state.new.room) }
         ensures reached { IfOk result (λ ends.
-            IsFlatPart self.old.game state.old.state (start_of origin) pairs.new.items ends) }
+            IsFlatPart self.old.game state.old.state (start_of origin) pairs.new ends) }
         ensures ready { OnOk result (All (IsReady self.old.game state.old.state nested)
-            pairs.new.items) }
+            pairs.new) }
         ensures lawful { IfOk result (λ _. IsGame self.old.game) }
         ensures counts { IsCounted self.old.game reach state.old.state (start_of origin)
             self.old.opened self.new.opened self.old.modifiers self.old.openings self.old.modifiers
@@ -680,48 +709,46 @@ impl<'a, S: Steps> Search<'a, S> {
             self.keep_list(pairs);
             return Ok(true);
         }
-        // which questions are above the limits doesn't depend on how the queue met the pairs
-        sort(&mut pairs);
-        let runs = self.runs_behind(state, &pairs, nested, modifiers)?;
+        let runs = self.runs_behind(state, &mut pairs, nested, modifiers)?;
         self.keep_list(pairs);
         Ok(runs)
     }
 
-    /// Whether some word runs behind one of these modifiers, which are tried in turn. An opening with `modifiers` more is
-    /// too deep.
+    /// Whether some word runs behind one of these modifiers, tried in turn. An opening with `modifiers` more is too deep.
     #[cycle(search)]
     fn runs_behind(
         &mut self,
         state: &mut SemiState,
-        pairs: &[(Vertex, Position)],
+        pairs: &mut Modifiers,
         nested: u8,
         modifiers: u16,
     ) -> Result<bool, Over>
         requires fits { IsStateOf self.old.game state.old.state }
         requires room { 2 ≤ state.old.room }
-        requires ready { All (IsReady self.old.game state.old.state nested) pairs.now }
-        requires inside { All (λ q. StandsInPattern self.old.game.rules (after q.1)) pairs.now }
+        requires ready { All (IsReady self.old.game state.old.state nested) pairs.old }
+        requires inside { All (λ q. StandsInPattern self.old.game.rules (after q.1)) pairs.old }
         ensures kept { self.new ≡ record self.old { opened = self.new.opened; taken = self.new.taken } }
         ensures given_back { state.new ≡ record state.old { room = state.new.room } }
         ensures room { state.old.room ≤ state.new.room }
         ensures answer { IfOk result (λ runs.
-            IsTrue runs ↔ SomeRunsBehind self.old.game state.old.state pairs.now) }
-        ensures counts { (f : Start) (a : ℕ) → GoesBehind self.old.game state.old.state f pairs.now
+            IsTrue runs ↔ SomeRunsBehind self.old.game state.old.state pairs.old) }
+        ensures counts { (f : Start) (a : ℕ) → GoesBehind self.old.game state.old.state f pairs.old
             → CountsOpenings self.old.game reach state.old.state f a self.old.opened
             → IsCounted self.old.game pattern state.old.state f
             a self.new.opened modifiers self.old.openings self.old.modifiers
             (result ≡ Err Over.Deep) (result ≡ Err Over.Wide) }
-        ensures forced { IfOk result (λ runs. RanBehind self.old.game state.old.state pairs.now runs
+        ensures forced { IfOk result (λ runs. RanBehind self.old.game state.old.state pairs.old runs
             self.old.opened self.new.opened modifiers self.old.modifiers) }
-        ensures taken { (f : Start) → GoesBehind self.old.game state.old.state f pairs.now
+        ensures taken { (f : Start) → GoesBehind self.old.game state.old.state f pairs.old
             → CountsPairs self.old.game pattern state.old.state f
             self.old.opened self.new.opened self.old.taken self.new.taken (IsOk result) }
     {
-        for (vertex, position) in pairs {
+        // which questions are above the limits doesn't depend on how the modifiers were met
+        while let Some((vertex, position)) = pairs.take_least() {
             if modifiers <= 1 {
                 return Err(Over::Deep);
             }
-            if self.runs_behind_one(state, *vertex, *position, nested, modifiers)? {
+            if self.runs_behind_one(state, vertex, position, nested, modifiers)? {
                 return Ok(true);
             }
         }

@@ -3,7 +3,7 @@ ghost use Rattle.std.specs.Prelude.{◌≡◌};
 
 use crate::flat::Flat;
 use rbg_base::{Position, Vertex};
-use rbg_flat::Flat as SetFlat;
+use rbg_flat::{Flat as SetFlat, Modifiers};
 use std::alloc::Global;
 use std::marker::Model;
 
@@ -15,7 +15,9 @@ pub struct Workspace {
     /// Flat parts by sets that are not in use.
     pub(crate) sets: Vec<Box<SetFlat>>,
     /// Lists of modifiers that are not in use.
-    pub(crate) lists: Vec<Vec<(Vertex, Position)>>,
+    pub(crate) lists: Vec<Modifiers>,
+    /// Lists of pairs that are not in use.
+    pub(crate) pair_lists: Vec<Vec<(Vertex, Position)>>,
     pub(crate) openings: u64,
     pub(crate) pairs: u64,
 }
@@ -37,6 +39,7 @@ impl Workspace {
             flats: Vec::new(alloc),
             sets: Vec::new(alloc),
             lists: Vec::new(alloc),
+            pair_lists: Vec::new(alloc),
             openings: 0,
             pairs: 0,
         }

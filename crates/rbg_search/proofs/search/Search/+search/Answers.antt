@@ -17,10 +17,11 @@ use Rattle.rbg_search.specs.internal.Behind.{IsReady, RunsBehindPair, SomeRunsBe
 use Rattle.rbg_search.specs.internal.Closure.{at_vertex, Reached}
 use Rattle.rbg_search.specs.internal.Nesting.{NestsFrom}
 use Rattle.rbg_search.specs.internal.Part.{HasMarksOf}
-use Rattle.rbg_search.proofs.Asking.{back, mark_within, given_room, room_twice, asked_nests, reached_nests, some_nested, runs_one, none_more, some_behind, none_behind, runs_here, runs_there}
+use Rattle.rbg_search.proofs.Asking.{back, mark_within, given_room, room_twice, asked_nests, reached_nests, some_nested, runs_one, runs_here, runs_there}
 use Rattle.rbg_search.proofs.Behinds.{all_ready}
-use Rattle.std.proofs.lemmas.List.Sorted.{All-permutation}
-use Rattle.rbg_search.proofs.Orders.{flat_permuted}
+use Rattle.rbg_search.proofs.Turns.{turn_fewer, turn_moves, turn_after, turn_there, turn_end, turn_none, turn_some, none_of_all, ran_permuted, turn_behind, turn_too_many, turn_forced, turn_takes}
+use Rattle.std.proofs.lemmas.List.Sorted.{IsPermutation-refl}
+use Rattle.std.proofs.lemmas.List.Elements.{All-contains}
 use Rattle.rbg_search.proofs.Kept.{kept_same, kept_since, kept_twice, back_same, onward, before, onward_rules, rules_before, further_on}
 use Rattle.rbg_search.specs.Counting.{CountsOpenings}
 use Rattle.rbg_search.specs.internal.Asked.{StandsInPattern, CountsAsked, IsCounted}
@@ -29,18 +30,18 @@ use Rattle.rbg_search.specs.internal.Taking.{AsksForced, RanBehind}
 use Rattle.rbg_search.proofs.Behinds.{runs_at_end}
 use Rattle.rbg_search.proofs.Counted.{search_before}
 use Rattle.rbg_search.proofs.Forcing.{asks_begin, takes_none, word_forced}
-use Rattle.rbg_search.proofs.ForcingSteps.{ask_forced, flat_forced, one_forced, ran_some, ran_none, asked_forced}
+use Rattle.rbg_search.proofs.ForcingSteps.{ask_forced, flat_forced, ran_some, asked_forced}
 use Rattle.rbg_search.specs.declared.over.Over.TheVariants.{Deep, Wide, Memory}
 use Rattle.rbg_search.proofs.Patterns.{pattern_inside, inside_start}
 use Rattle.rbg_search.proofs.Countings.{asked_begin, reach_pairs}
 use Rattle.rbg_search.proofs.Counted.{memory_not_deep, memory_not_wide, deep_not_wide, ok_not_err, same_error, counted_as, counted_only, opened_one, asked_only, behind_begin, behind_only}
-use Rattle.rbg_search.proofs.CountedSteps.{given_up, not_memory, ask_step, asks_reached, asks_only, behind_step, inside_pairs, one_behind, one_too_many, counted_there}
+use Rattle.rbg_search.proofs.CountedSteps.{given_up, not_memory, ask_step, asks_reached, asks_only, behind_step, inside_pairs, counted_there}
 use Rattle.rbg_search.specs.Searching.{Searching}
 use Rattle.rbg_search.specs.Taken.{CountsPairs}
 use Rattle.rbg_search.specs.internal.Spent.{IsSpentButOne}
 use Rattle.rbg_search.proofs.Takings.{not_ok, is_answer, any_part, takes_nothing, takes_none_yet, takes_own, takes_unfinished, takes_as, takes_part_of, room_for_own}
 use Rattle.rbg_search.proofs.FindingBySets.{finds_begun, finds_on, sets_now, reached_here, asked_counts, asked_pairs, finds_more, finds_forced, finds_counted, finds_room, finds_part, finds_taken, finds_untaken}
-use Rattle.rbg_search.proofs.TakingSteps.{asked_takes, whole_takes, behind_takes, one_takes}
+use Rattle.rbg_search.proofs.TakingSteps.{asked_takes, whole_takes, behind_takes}
 use Rattle.rbg_search.proofs.search.Search.+search.Goals as goal
 
 pub ask-undo_to-requires : goal.ask-undo_to-requires
@@ -290,23 +291,12 @@ pub runs_behind-runs_behind_one-requires : goal.runs_behind-runs_behind_one-requ
 runs_behind-runs_behind_one-requires g t c κs within =
     let fits : IsStateOf c.loop-vertex.self.game c.loop-vertex.state.state = onward IsStateOf c.args.self.now c.loop-vertex.self c.args.state.now c.loop-vertex.state c.loop-vertex.invariant.kept c.loop-vertex.invariant.given_back c.requires.fits in
     let room : 2 ≤ c.loop-vertex.state.room = omega (arith, c.requires.room, c.loop-vertex.invariant.room) in
-    let ready = onward (λ x s. All (IsReady x s c.args.nested) c.args.pairs.now) c.args.self.now c.loop-vertex.self c.args.state.now c.loop-vertex.state c.loop-vertex.invariant.kept c.loop-vertex.invariant.given_back c.requires.ready in
-    let some : 0 < c.args.modifiers = omega (arith, c.if-modifiers-le1.false) in (
-      search rules,
-      (
-        within,
-        (
-          fits,
-          (
-            room,
-            (
-              ready c.loop-vertex.vertex-index (0, 0) c.loop-vertex-test.true,
-              (onward (λ x s. All (λ q. StandsInPattern x.rules (after q.1)) c.args.pairs.now) c.args.self.now c.loop-vertex.self c.args.state.now c.loop-vertex.state c.loop-vertex.invariant.kept c.loop-vertex.invariant.given_back c.requires.inside c.loop-vertex.vertex-index (0, 0) c.loop-vertex-test.true, some),
-            ),
-          ),
-        ),
-      ),
-    )
+    let some : 0 < c.args.modifiers = omega (arith, c.if-modifiers-le1.false) in
+    let q : ℕ × ℕ = (c.in-Some.vertex, c.in-Some.position) in
+    let there = turn_there c.args.pairs.now c.loop-vertex.invariant.done c.loop-vertex.pairs c.take_least.new.self q c.loop-vertex.invariant.whole c.in-Some.ensures.permutation in
+    let ready = onward (λ x s. IsReady x s c.args.nested q) c.args.self.now c.loop-vertex.self c.args.state.now c.loop-vertex.state c.loop-vertex.invariant.kept c.loop-vertex.invariant.given_back (All-contains (IsReady c.args.self.now.game c.args.state.now.state c.args.nested) c.args.pairs.now q c.requires.ready there) in
+    let inside = onward (λ x s. StandsInPattern x.rules (after q.1)) c.args.self.now c.loop-vertex.self c.args.state.now c.loop-vertex.state c.loop-vertex.invariant.kept c.loop-vertex.invariant.given_back (All-contains (λ r. StandsInPattern c.args.self.now.game.rules (after r.1)) c.args.pairs.now q c.requires.inside there) in
+    (search rules, (within, (fits, (room, (ready, (inside, some))))))
 
 pub runs_behind-returns-in_err-runs_behind_one-clause-kept : goal.runs_behind-returns-in_err-runs_behind_one-clause-kept
 runs_behind-returns-in_err-runs_behind_one-clause-kept g t c = kept_twice c.args.self.now c.loop-vertex.self c.runs_behind_one.new.self c.loop-vertex.invariant.kept c.runs_behind_one.ensures.kept
@@ -322,37 +312,45 @@ runs_behind-returns-then-branch-clause-given_back g t c = room_twice c.args.stat
 
 pub runs_behind-returns-then-branch-clause-answer : goal.runs_behind-returns-then-branch-clause-answer
 runs_behind-returns-then-branch-clause-answer g t c =
-    let decides = before (λ x s. IsTrue c.in_ok-runs_behind_one.field-0 ↔ RunsBehindPair x s (get_or c.args.pairs.now c.loop-vertex.vertex-index (0, 0)).0 (get_or c.args.pairs.now c.loop-vertex.vertex-index (0, 0)).1) c.args.self.now c.loop-vertex.self c.args.state.now c.loop-vertex.state c.loop-vertex.invariant.kept c.loop-vertex.invariant.given_back c.in_ok-runs_behind_one.ensures.answer in
-    some_behind c.args.self.now.game c.args.state.now.state c.args.pairs.now c.loop-vertex.vertex-index (0, 0) c.in_ok-runs_behind_one.field-0 c.loop-vertex-test.true decides c.if-branch.true
+    let q : ℕ × ℕ = (c.in-Some.vertex, c.in-Some.position) in
+    let there = turn_there c.args.pairs.now c.loop-vertex.invariant.done c.loop-vertex.pairs c.take_least.new.self q c.loop-vertex.invariant.whole c.in-Some.ensures.permutation in
+    let decides = before (λ x s. IsTrue c.in_ok-runs_behind_one.field-0 ↔ RunsBehindPair x s q.0 q.1) c.args.self.now c.loop-vertex.self c.args.state.now c.loop-vertex.state c.loop-vertex.invariant.kept c.loop-vertex.invariant.given_back c.in_ok-runs_behind_one.ensures.answer in
+    turn_some c.args.self.now.game c.args.state.now.state c.args.pairs.now q c.in_ok-runs_behind_one.field-0 there decides c.if-branch.true
 
 pub runs_behind-loop-vertex-preserved : goal.runs_behind-loop-vertex-preserved
 runs_behind-loop-vertex-preserved g t c =
-    let decides = before (λ x s. IsTrue c.in_ok-runs_behind_one.field-0 ↔ RunsBehindPair x s (get_or c.args.pairs.now c.loop-vertex.vertex-index (0, 0)).0 (get_or c.args.pairs.now c.loop-vertex.vertex-index (0, 0)).1) c.args.self.now c.loop-vertex.self c.args.state.now c.loop-vertex.state c.loop-vertex.invariant.kept c.loop-vertex.invariant.given_back c.in_ok-runs_behind_one.ensures.answer in
+    let is = c.loop-vertex.invariant in
+    let done : List (ℕ × ℕ) = is.done in
+    let left : List (ℕ × ℕ) = c.take_least.new.self in
+    let q : ℕ × ℕ = (c.in-Some.vertex, c.in-Some.position) in
+    let taken = c.in-Some.ensures.permutation in
+    let moves = turn_moves c.args.pairs.now done c.loop-vertex.pairs left q is.whole taken in
+    let there = turn_there c.args.pairs.now done c.loop-vertex.pairs left q is.whole taken in
+    let ready : IsReady c.args.self.now.game c.args.state.now.state c.args.nested q = All-contains (IsReady c.args.self.now.game c.args.state.now.state c.args.nested) c.args.pairs.now q c.requires.ready there in
+    let decides = before (λ x s. IsTrue c.in_ok-runs_behind_one.field-0 ↔ RunsBehindPair x s q.0 q.1) c.args.self.now c.loop-vertex.self c.args.state.now c.loop-vertex.state is.kept is.given_back c.in_ok-runs_behind_one.ensures.answer in
+    let forced = turn_forced c.args.self.now c.loop-vertex.self c.args.state.now c.loop-vertex.state done left q c.args.self.now.opened c.runs_behind_one.new.self.opened c.args.modifiers ready.later is.kept is.given_back ready.applies (omega (arith, c.if-modifiers-le1.false)) c.in_ok-runs_behind_one.ensures.forced in
     record {
-      kept = kept_twice c.args.self.now c.loop-vertex.self c.runs_behind_one.new.self c.loop-vertex.invariant.kept c.runs_behind_one.ensures.kept;
-      given_back = room_twice c.args.state.now c.loop-vertex.state c.runs_behind_one.new.state c.loop-vertex.invariant.given_back c.runs_behind_one.ensures.given_back;
+      done = done ++ q ∷ [];
+      whole = turn_after c.args.pairs.now done c.loop-vertex.pairs left q is.whole taken;
+      kept = kept_twice c.args.self.now c.loop-vertex.self c.runs_behind_one.new.self is.kept c.runs_behind_one.ensures.kept;
+      given_back = room_twice c.args.state.now c.loop-vertex.state c.runs_behind_one.new.state is.given_back c.runs_behind_one.ensures.given_back;
       room = omega (arith, c.loop-vertex.invariant.room, c.runs_behind_one.ensures.room);
-      none = none_more c.args.self.now.game c.args.state.now.state c.args.pairs.now c.loop-vertex.vertex-index (0, 0) c.in_ok-runs_behind_one.field-0 c.loop-vertex-test.true c.loop-vertex.invariant.none decides c.if-branch.false;
+      none = turn_none c.args.self.now.game c.args.state.now.state done q c.in_ok-runs_behind_one.field-0 is.none decides c.if-branch.false;
       counted = λ f a goes counts.
-          let ready = c.requires.ready c.loop-vertex.vertex-index (0, 0) c.loop-vertex-test.true in
-          (one_behind c.args.self.now c.loop-vertex.self c.args.state.now c.loop-vertex.state f c.args.pairs.now c.loop-vertex.vertex-index (0, 0) a c.runs_behind_one.new.self.opened c.args.modifiers ready.later _ _ c.loop-vertex.invariant.kept c.loop-vertex.invariant.given_back goes c.loop-vertex-test.true ready.applies (omega (arith, c.if-modifiers-le1.false)) (c.loop-vertex.invariant.counted f a goes counts) c.runs_behind_one.ensures.counts).counts;
-      grows =
-          let ready = c.requires.ready c.loop-vertex.vertex-index (0, 0) c.loop-vertex-test.true in
-          let one = one_forced c.args.self.now c.loop-vertex.self c.args.state.now c.loop-vertex.state c.args.pairs.now c.loop-vertex.vertex-index (0, 0) c.args.self.now.opened c.runs_behind_one.new.self.opened c.args.modifiers ready.later c.loop-vertex.invariant.kept c.loop-vertex.invariant.given_back c.loop-vertex-test.true ready.applies (omega (arith, c.if-modifiers-le1.false)) c.in_ok-runs_behind_one.ensures.forced in
-          omega (arith, c.loop-vertex.invariant.grows, one.grows);
-      forced = λ cut numbered.
-          let ready = c.requires.ready c.loop-vertex.vertex-index (0, 0) c.loop-vertex-test.true in
-          let one = one_forced c.args.self.now c.loop-vertex.self c.args.state.now c.loop-vertex.state c.args.pairs.now c.loop-vertex.vertex-index (0, 0) c.args.self.now.opened c.runs_behind_one.new.self.opened c.args.modifiers ready.later c.loop-vertex.invariant.kept c.loop-vertex.invariant.given_back c.loop-vertex-test.true ready.applies (omega (arith, c.if-modifiers-le1.false)) c.in_ok-runs_behind_one.ensures.forced in
-          one.forced cut numbered (c.loop-vertex.invariant.forced cut numbered);
+          (turn_behind c.args.self.now c.loop-vertex.self c.args.state.now c.loop-vertex.state done left q f c.args.pairs.now a c.runs_behind_one.new.self.opened c.args.modifiers ready.later _ _ is.kept is.given_back moves goes ready.applies (omega (arith, c.if-modifiers-le1.false)) (is.counted f a goes counts) c.runs_behind_one.ensures.counts).counts;
+      grows = omega (arith, c.loop-vertex.invariant.grows, forced.grows);
+      forced = λ cut numbered. forced.forced cut numbered (is.forced cut numbered);
       taken = λ f goes.
-          let ready = c.requires.ready c.loop-vertex.vertex-index (0, 0) c.loop-vertex-test.true in
-          one_takes c.args.self.now c.loop-vertex.self c.args.state.now c.loop-vertex.state f c.args.pairs.now c.loop-vertex.vertex-index (0, 0) c.runs_behind_one.new.self.opened c.runs_behind_one.new.self.taken ready.later (Unit {0}) c.loop-vertex.invariant.kept c.loop-vertex.invariant.given_back goes c.loop-vertex-test.true ready.applies (c.loop-vertex.invariant.taken f goes)
-          (λ later applies. takes_as c.loop-vertex.self.game pattern later (after (get_or c.args.pairs.now c.loop-vertex.vertex-index (0, 0)).1) c.loop-vertex.self.opened c.runs_behind_one.new.self.opened c.loop-vertex.self.taken c.runs_behind_one.new.self.taken (IsOk c.runs_behind_one.result) (Unit {0}) (c.runs_behind_one.ensures.taken later applies) (λ _. is_answer c.runs_behind_one.result c.in_ok-runs_behind_one.field-0 c.in_ok-runs_behind_one.was));
+          turn_takes c.args.self.now c.loop-vertex.self c.args.state.now c.loop-vertex.state done left q f c.args.pairs.now c.runs_behind_one.new.self.opened c.runs_behind_one.new.self.taken ready.later (Unit {0}) is.kept is.given_back moves goes ready.applies (is.taken f goes)
+          (λ later applies. takes_as c.loop-vertex.self.game pattern later (after q.1) c.loop-vertex.self.opened c.runs_behind_one.new.self.opened c.loop-vertex.self.taken c.runs_behind_one.new.self.taken (IsOk c.runs_behind_one.result) (Unit {0}) (c.runs_behind_one.ensures.taken later applies) (λ _. is_answer c.runs_behind_one.result c.in_ok-runs_behind_one.field-0 c.in_ok-runs_behind_one.was));
     }
+
+pub runs_behind-loop-vertex-smaller : goal.runs_behind-loop-vertex-smaller
+runs_behind-loop-vertex-smaller g t c = turn_fewer c.loop-vertex.pairs c.take_least.new.self (c.in-Some.vertex, c.in-Some.position) c.in-Some.ensures.permutation
 
 pub runs_behind-returns-clause-answer : goal.runs_behind-returns-clause-answer
 runs_behind-returns-clause-answer g t c =
-    none_behind c.args.self.now.game c.args.state.now.state c.args.pairs.now c.loop-vertex.vertex-index (omega (arith, c.loop-vertex-test.false)) c.loop-vertex.invariant.none
+    none_of_all c.args.self.now.game c.args.state.now.state c.args.pairs.now c.loop-vertex.invariant.done (turn_end c.args.pairs.now c.loop-vertex.invariant.done c.loop-vertex.pairs c.loop-vertex.invariant.whole c.in_default.ensures.none) c.loop-vertex.invariant.none
 
 pub runs_behind_one-undo_to-requires : goal.runs_behind_one-undo_to-requires
 runs_behind_one-undo_to-requires g t c =
@@ -380,19 +378,15 @@ pub runs_behind_one-returns-clause-answer : goal.runs_behind_one-returns-clause-
 runs_behind_one-returns-clause-answer g t c =
     runs_one c.args.self.now.game c.args.state.now.state c.apply_at.new.state.state c.args.nested c.args.vertex c.args.position c.in_ok-runs.field-0 c.requires.ready c.apply_at.ensures.only c.in_ok-runs.ensures.answer
 
-pub word_runs-sort-requires : goal.word_runs-sort-requires
-word_runs-sort-requires g t c = c.in_ok-ends.ensures.reached.different
-
 pub word_runs-runs_behind-requires : goal.word_runs-runs_behind-requires
 word_runs-runs_behind-requires g t c κs within =
     let here : c.take_list-pairs.new.self ≡ c.args.self.now = c.take_list-pairs.ensures in
     let kept : c.flat_part.new.self ≡ (record c.args.self.now { opened = c.flat_part.new.self.opened; taken = c.flat_part.new.self.taken }) = kept_since c.args.self.now c.take_list-pairs.new.self c.flat_part.new.self here c.flat_part.ensures.kept in
     let lawful : IsGame c.args.self.now.game = subst (λ (x : Searching). IsGame x.game) here c.in_ok-ends.ensures.lawful in
-    let reached : IsFlatPart c.args.self.now.game c.args.state.now.state (start_of c.args.origin) c.flat_part.new.pairs.items c.in_ok-ends.ends = subst (λ (x : Searching). IsFlatPart x.game c.args.state.now.state (start_of c.args.origin) c.flat_part.new.pairs.items c.in_ok-ends.ends) here c.in_ok-ends.ensures.reached in
-    let sorted = flat_permuted c.args.self.now.game c.args.state.now.state (start_of c.args.origin) c.flat_part.new.pairs.items c.sort.new.pairs.items c.in_ok-ends.ends c.sort.ensures.permutation reached in
+    let reached : IsFlatPart c.args.self.now.game c.args.state.now.state (start_of c.args.origin) c.flat_part.new.pairs c.in_ok-ends.ends = subst (λ (x : Searching). IsFlatPart x.game c.args.state.now.state (start_of c.args.origin) c.flat_part.new.pairs c.in_ok-ends.ends) here c.in_ok-ends.ensures.reached in
     let fits : IsStateOf c.flat_part.new.self.game c.flat_part.new.state.state = onward IsStateOf c.args.self.now c.flat_part.new.self c.args.state.now c.flat_part.new.state kept c.flat_part.ensures.given_back c.requires.fits in
-    let all_ready = All-permutation (IsReady c.args.self.now.game c.args.state.now.state c.args.nested) c.flat_part.new.pairs.items c.sort.new.pairs.items c.sort.ensures.permutation (subst (λ (x : Searching). All (IsReady x.game c.args.state.now.state c.args.nested) c.flat_part.new.pairs.items) here c.in_ok-ends.ensures.ready) in
-    let ready = onward (λ x s. All (IsReady x s c.args.nested) c.sort.new.pairs.items) c.args.self.now c.flat_part.new.self c.args.state.now c.flat_part.new.state kept c.flat_part.ensures.given_back all_ready in (
+    let all_ready = subst (λ (x : Searching). All (IsReady x.game c.args.state.now.state c.args.nested) c.flat_part.new.pairs) here c.in_ok-ends.ensures.ready in
+    let ready = onward (λ x s. All (IsReady x s c.args.nested) c.flat_part.new.pairs) c.args.self.now c.flat_part.new.self c.args.state.now c.flat_part.new.state kept c.flat_part.ensures.given_back all_ready in (
       search rules,
       (
         within,
@@ -401,8 +395,8 @@ word_runs-runs_behind-requires g t c κs within =
           (
             c.in_ok-ends.ensures.enough,
             (
-              subst (λ (ps : List (ℕ × ℕ)). All (IsReady c.flat_part.new.self.game c.flat_part.new.state.state c.args.nested) ps) (sym c.deref.ensures.value) ready,
-              inside_pairs c.args.self.now c.flat_part.new.self c.args.state.now c.flat_part.new.state (start_of c.args.origin) c.sort.new.pairs.items c.deref.result.now c.in_ok-ends.ends kept c.flat_part.ensures.given_back c.deref.ensures.value lawful c.requires.inside sorted,
+              ready,
+              inside_pairs c.args.self.now c.flat_part.new.self c.args.state.now c.flat_part.new.state (start_of c.args.origin) c.flat_part.new.pairs c.flat_part.new.pairs c.in_ok-ends.ends kept c.flat_part.ensures.given_back refl lawful c.requires.inside reached,
             ),
           ),
         ),
@@ -414,19 +408,18 @@ word_runs-returns-clause-answer g t c =
     let here : c.take_list-pairs.new.self ≡ c.args.self.now = c.take_list-pairs.ensures in
     let kept : c.flat_part.new.self ≡ (record c.args.self.now { opened = c.flat_part.new.self.opened; taken = c.flat_part.new.self.taken }) = kept_since c.args.self.now c.take_list-pairs.new.self c.flat_part.new.self here c.flat_part.ensures.kept in
     let lawful : IsGame c.args.self.now.game = subst (λ (x : Searching). IsGame x.game) here c.in_ok-ends.ensures.lawful in
-    let reached : IsFlatPart c.args.self.now.game c.args.state.now.state (start_of c.args.origin) c.flat_part.new.pairs.items c.in_ok-ends.ends = subst (λ (x : Searching). IsFlatPart x.game c.args.state.now.state (start_of c.args.origin) c.flat_part.new.pairs.items c.in_ok-ends.ends) here c.in_ok-ends.ensures.reached in
-    let sorted = flat_permuted c.args.self.now.game c.args.state.now.state (start_of c.args.origin) c.flat_part.new.pairs.items c.sort.new.pairs.items c.in_ok-ends.ends c.sort.ensures.permutation reached in
-    let decides : IsTrue c.in_ok-runs.runs ↔ SomeRunsBehind c.args.self.now.game c.args.state.now.state c.sort.new.pairs.items =
-    before (λ x s. IsTrue c.in_ok-runs.runs ↔ SomeRunsBehind x s c.sort.new.pairs.items) c.args.self.now c.flat_part.new.self c.args.state.now c.flat_part.new.state kept c.flat_part.ensures.given_back
-    (subst (λ (ps : List (ℕ × ℕ)). IsTrue c.in_ok-runs.runs ↔ SomeRunsBehind c.flat_part.new.self.game c.flat_part.new.state.state ps) c.deref.ensures.value c.in_ok-runs.ensures.answer) in
-    runs_there c.args.self.now.game lawful.numbered c.args.state.now.state (start_of c.args.origin) c.sort.new.pairs.items c.in_ok-ends.ends c.in_ok-runs.runs sorted c.if-ends.false decides
+    let reached : IsFlatPart c.args.self.now.game c.args.state.now.state (start_of c.args.origin) c.flat_part.new.pairs c.in_ok-ends.ends = subst (λ (x : Searching). IsFlatPart x.game c.args.state.now.state (start_of c.args.origin) c.flat_part.new.pairs c.in_ok-ends.ends) here c.in_ok-ends.ensures.reached in
+    let decides : IsTrue c.in_ok-runs.runs ↔ SomeRunsBehind c.args.self.now.game c.args.state.now.state c.flat_part.new.pairs =
+    before (λ x s. IsTrue c.in_ok-runs.runs ↔ SomeRunsBehind x s c.flat_part.new.pairs) c.args.self.now c.flat_part.new.self c.args.state.now c.flat_part.new.state kept c.flat_part.ensures.given_back
+    c.in_ok-runs.ensures.answer in
+    runs_there c.args.self.now.game lawful.numbered c.args.state.now.state (start_of c.args.origin) c.flat_part.new.pairs c.in_ok-ends.ends c.in_ok-runs.runs reached c.if-ends.false decides
 
 pub word_runs-returns-then-ends-clause-answer : goal.word_runs-returns-then-ends-clause-answer
 word_runs-returns-then-ends-clause-answer g t c =
     let here : c.take_list-pairs.new.self ≡ c.args.self.now = c.take_list-pairs.ensures in
     let lawful : IsGame c.args.self.now.game = subst (λ (x : Searching). IsGame x.game) here c.in_ok-ends.ensures.lawful in
-    let reached : IsFlatPart c.args.self.now.game c.args.state.now.state (start_of c.args.origin) c.flat_part.new.pairs.items c.in_ok-ends.ends = subst (λ (x : Searching). IsFlatPart x.game c.args.state.now.state (start_of c.args.origin) c.flat_part.new.pairs.items c.in_ok-ends.ends) here c.in_ok-ends.ensures.reached in
-    runs_here c.args.self.now.game lawful.numbered c.args.state.now.state (start_of c.args.origin) c.flat_part.new.pairs.items c.in_ok-ends.ends reached c.if-ends.true
+    let reached : IsFlatPart c.args.self.now.game c.args.state.now.state (start_of c.args.origin) c.flat_part.new.pairs c.in_ok-ends.ends = subst (λ (x : Searching). IsFlatPart x.game c.args.state.now.state (start_of c.args.origin) c.flat_part.new.pairs c.in_ok-ends.ends) here c.in_ok-ends.ensures.reached in
+    runs_here c.args.self.now.game lawful.numbered c.args.state.now.state (start_of c.args.origin) c.flat_part.new.pairs c.in_ok-ends.ends reached c.if-ends.true
 
 pub flat_part-loop-flat-smaller : goal.flat_part-loop-flat-smaller
 flat_part-loop-flat-smaller g t c =
@@ -521,6 +514,8 @@ flat_part-returns-clause-counts g t c =
 
 pub runs_behind-loop-vertex-init : goal.runs_behind-loop-vertex-init
 runs_behind-loop-vertex-init g t c = record {
+  done = [];
+  whole = IsPermutation-refl c.args.pairs.now;
   kept = refl;
   given_back = refl;
   room = omega arith;
@@ -534,30 +529,51 @@ runs_behind-loop-vertex-init g t c = record {
 pub runs_behind-returns-then-modifiers-le1-clause-counts :
     goal.runs_behind-returns-then-modifiers-le1-clause-counts
 runs_behind-returns-then-modifiers-le1-clause-counts g t c = λ f a goes counts.
-    let ready = c.requires.ready c.loop-vertex.vertex-index (0, 0) c.loop-vertex-test.true in
-    one_too_many c.args.self.now c.args.state.now.state f c.args.pairs.now c.loop-vertex.vertex-index (0, 0) a c.loop-vertex.self.opened c.args.modifiers ready.later _ _ goes c.loop-vertex-test.true ready.applies c.if-modifiers-le1.true (c.loop-vertex.invariant.counted f a goes counts)
+    let is = c.loop-vertex.invariant in
+    let done : List (ℕ × ℕ) = is.done in
+    let left : List (ℕ × ℕ) = c.take_least.new.self in
+    let q : ℕ × ℕ = (c.in-Some.vertex, c.in-Some.position) in
+    let taken = c.in-Some.ensures.permutation in
+    let moves = turn_moves c.args.pairs.now done c.loop-vertex.pairs left q is.whole taken in
+    let there = turn_there c.args.pairs.now done c.loop-vertex.pairs left q is.whole taken in
+    let ready : IsReady c.args.self.now.game c.args.state.now.state c.args.nested q = All-contains (IsReady c.args.self.now.game c.args.state.now.state c.args.nested) c.args.pairs.now q c.requires.ready there in
+    turn_too_many c.args.self.now c.loop-vertex.self c.args.state.now c.loop-vertex.state done left q f c.args.pairs.now a c.loop-vertex.self.opened c.args.modifiers ready.later _ _ moves goes ready.applies c.if-modifiers-le1.true (is.counted f a goes counts)
     (λ w. deep_not_wide (same_error {X = Bool} Deep Wide w))
 
 pub runs_behind-returns-in_err-runs_behind_one-clause-counts :
     goal.runs_behind-returns-in_err-runs_behind_one-clause-counts
 runs_behind-returns-in_err-runs_behind_one-clause-counts g t c = λ f a goes counts.
-    let ready = c.requires.ready c.loop-vertex.vertex-index (0, 0) c.loop-vertex-test.true in
+    let is = c.loop-vertex.invariant in
+    let done : List (ℕ × ℕ) = is.done in
+    let left : List (ℕ × ℕ) = c.take_least.new.self in
+    let q : ℕ × ℕ = (c.in-Some.vertex, c.in-Some.position) in
+    let taken = c.in-Some.ensures.permutation in
+    let moves = turn_moves c.args.pairs.now done c.loop-vertex.pairs left q is.whole taken in
+    let there = turn_there c.args.pairs.now done c.loop-vertex.pairs left q is.whole taken in
+    let ready : IsReady c.args.self.now.game c.args.state.now.state c.args.nested q = All-contains (IsReady c.args.self.now.game c.args.state.now.state c.args.nested) c.args.pairs.now q c.requires.ready there in
     counted_as c.args.self.now.game pattern c.args.state.now.state f a c.runs_behind_one.new.self.opened c.args.modifiers c.args.self.now.openings c.args.self.now.modifiers _ _ _ _
     (given_up c.runs_behind_one.result c.from_residual.result c.in_err-runs_behind_one.field-0.0 Deep c.in_err-runs_behind_one.was c.from_residual.ensures.1)
     (given_up c.runs_behind_one.result c.from_residual.result c.in_err-runs_behind_one.field-0.0 Wide c.in_err-runs_behind_one.was c.from_residual.ensures.1)
-    (one_behind c.args.self.now c.loop-vertex.self c.args.state.now c.loop-vertex.state f c.args.pairs.now c.loop-vertex.vertex-index (0, 0) a c.runs_behind_one.new.self.opened c.args.modifiers ready.later _ _ c.loop-vertex.invariant.kept c.loop-vertex.invariant.given_back goes c.loop-vertex-test.true ready.applies (omega (arith, c.if-modifiers-le1.false)) (c.loop-vertex.invariant.counted f a goes counts) c.runs_behind_one.ensures.counts).gave_up
+    (turn_behind c.args.self.now c.loop-vertex.self c.args.state.now c.loop-vertex.state done left q f c.args.pairs.now a c.runs_behind_one.new.self.opened c.args.modifiers ready.later _ _ is.kept is.given_back moves goes ready.applies (omega (arith, c.if-modifiers-le1.false)) (is.counted f a goes counts) c.runs_behind_one.ensures.counts).gave_up
 
 pub runs_behind-returns-then-branch-clause-counts :
     goal.runs_behind-returns-then-branch-clause-counts
 runs_behind-returns-then-branch-clause-counts g t c = λ f a goes counts.
-    let ready = c.requires.ready c.loop-vertex.vertex-index (0, 0) c.loop-vertex-test.true in
-    behind_only c.args.self.now.game goes.lawful.numbered c.args.state.now.state f (take (c.loop-vertex.vertex-index + 1) c.args.pairs.now) a c.runs_behind_one.new.self.opened c.args.modifiers c.args.self.now.openings c.args.self.now.modifiers _ _
-    (one_behind c.args.self.now c.loop-vertex.self c.args.state.now c.loop-vertex.state f c.args.pairs.now c.loop-vertex.vertex-index (0, 0) a c.runs_behind_one.new.self.opened c.args.modifiers ready.later _ _ c.loop-vertex.invariant.kept c.loop-vertex.invariant.given_back goes c.loop-vertex-test.true ready.applies (omega (arith, c.if-modifiers-le1.false)) (c.loop-vertex.invariant.counted f a goes counts) c.runs_behind_one.ensures.counts).counts
+    let is = c.loop-vertex.invariant in
+    let done : List (ℕ × ℕ) = is.done in
+    let left : List (ℕ × ℕ) = c.take_least.new.self in
+    let q : ℕ × ℕ = (c.in-Some.vertex, c.in-Some.position) in
+    let taken = c.in-Some.ensures.permutation in
+    let moves = turn_moves c.args.pairs.now done c.loop-vertex.pairs left q is.whole taken in
+    let there = turn_there c.args.pairs.now done c.loop-vertex.pairs left q is.whole taken in
+    let ready : IsReady c.args.self.now.game c.args.state.now.state c.args.nested q = All-contains (IsReady c.args.self.now.game c.args.state.now.state c.args.nested) c.args.pairs.now q c.requires.ready there in
+    behind_only c.args.self.now.game goes.lawful.numbered c.args.state.now.state f (done ++ q ∷ []) a c.runs_behind_one.new.self.opened c.args.modifiers c.args.self.now.openings c.args.self.now.modifiers _ _
+    (turn_behind c.args.self.now c.loop-vertex.self c.args.state.now c.loop-vertex.state done left q f c.args.pairs.now a c.runs_behind_one.new.self.opened c.args.modifiers ready.later _ _ is.kept is.given_back moves goes ready.applies (omega (arith, c.if-modifiers-le1.false)) (is.counted f a goes counts) c.runs_behind_one.ensures.counts).counts
     (ok_not_err true Deep) (ok_not_err true Wide)
 
 pub runs_behind-returns-clause-counts : goal.runs_behind-returns-clause-counts
 runs_behind-returns-clause-counts g t c = λ f a goes counts.
-    behind_only c.args.self.now.game goes.lawful.numbered c.args.state.now.state f (take c.loop-vertex.vertex-index c.args.pairs.now) a c.loop-vertex.self.opened c.args.modifiers c.args.self.now.openings c.args.self.now.modifiers _ _
+    behind_only c.args.self.now.game goes.lawful.numbered c.args.state.now.state f c.loop-vertex.invariant.done a c.loop-vertex.self.opened c.args.modifiers c.args.self.now.openings c.args.self.now.modifiers _ _
     (c.loop-vertex.invariant.counted f a goes counts) (ok_not_err false Deep) (ok_not_err false Wide)
 
 pub runs_behind_one-word_runs-runs-requires : goal.runs_behind_one-word_runs-runs-requires
@@ -611,25 +627,23 @@ word_runs-returns-in_err-runs-clause-counts g t c =
     let here : c.take_list-pairs.new.self ≡ c.args.self.now = c.take_list-pairs.ensures in
     let kept : c.flat_part.new.self ≡ (record c.args.self.now { opened = c.flat_part.new.self.opened; taken = c.flat_part.new.self.taken }) = kept_since c.args.self.now c.take_list-pairs.new.self c.flat_part.new.self here c.flat_part.ensures.kept in
     let lawful : IsGame c.args.self.now.game = subst (λ (x : Searching). IsGame x.game) here c.in_ok-ends.ensures.lawful in
-    let reached : IsFlatPart c.args.self.now.game c.args.state.now.state (start_of c.args.origin) c.flat_part.new.pairs.items c.in_ok-ends.ends = subst (λ (x : Searching). IsFlatPart x.game c.args.state.now.state (start_of c.args.origin) c.flat_part.new.pairs.items c.in_ok-ends.ends) here c.in_ok-ends.ensures.reached in
-    let sorted = flat_permuted c.args.self.now.game c.args.state.now.state (start_of c.args.origin) c.flat_part.new.pairs.items c.sort.new.pairs.items c.in_ok-ends.ends c.sort.ensures.permutation reached in
+    let reached : IsFlatPart c.args.self.now.game c.args.state.now.state (start_of c.args.origin) c.flat_part.new.pairs c.in_ok-ends.ends = subst (λ (x : Searching). IsFlatPart x.game c.args.state.now.state (start_of c.args.origin) c.flat_part.new.pairs c.in_ok-ends.ends) here c.in_ok-ends.ensures.reached in
     let counts_first : IsCounted c.args.self.now.game reach c.args.state.now.state (start_of c.args.origin) c.args.self.now.opened c.flat_part.new.self.opened c.args.self.now.modifiers c.args.self.now.openings c.args.self.now.modifiers (c.flat_part.result ≡ Err Deep) (c.flat_part.result ≡ Err Wide) =
     subst (λ (x : Searching). IsCounted x.game reach c.args.state.now.state (start_of c.args.origin) x.opened c.flat_part.new.self.opened x.modifiers x.openings x.modifiers (c.flat_part.result ≡ Err Deep) (c.flat_part.result ≡ Err Wide)) here c.flat_part.ensures.counts in
     counted_as c.args.self.now.game pattern c.args.state.now.state (start_of c.args.origin) c.args.self.now.opened c.runs_behind.new.self.opened c.args.modifiers c.args.self.now.openings c.args.self.now.modifiers _ _ _ _
     (given_up c.runs_behind.result c.from_residual-in_err-runs.result c.in_err-runs.field-0.0 Deep c.in_err-runs.was c.from_residual-in_err-runs.ensures.1)
     (given_up c.runs_behind.result c.from_residual-in_err-runs.result c.in_err-runs.field-0.0 Wide c.in_err-runs.was c.from_residual-in_err-runs.ensures.1)
-    (behind_step c.args.self.now c.flat_part.new.self c.args.state.now c.flat_part.new.state (start_of c.args.origin) c.sort.new.pairs.items c.deref.result.now c.in_ok-ends.ends c.runs_behind.new.self.opened c.args.modifiers _ _ kept c.flat_part.ensures.given_back c.deref.ensures.value lawful c.requires.inside sorted c.if-ends.false counts_first.counted c.runs_behind.ensures.counts)
+    (behind_step c.args.self.now c.flat_part.new.self c.args.state.now c.flat_part.new.state (start_of c.args.origin) c.flat_part.new.pairs c.flat_part.new.pairs c.in_ok-ends.ends c.runs_behind.new.self.opened c.args.modifiers _ _ kept c.flat_part.ensures.given_back refl lawful c.requires.inside reached c.if-ends.false counts_first.counted c.runs_behind.ensures.counts)
 
 pub word_runs-returns-clause-counts : goal.word_runs-returns-clause-counts
 word_runs-returns-clause-counts g t c =
     let here : c.take_list-pairs.new.self ≡ c.args.self.now = c.take_list-pairs.ensures in
     let kept : c.flat_part.new.self ≡ (record c.args.self.now { opened = c.flat_part.new.self.opened; taken = c.flat_part.new.self.taken }) = kept_since c.args.self.now c.take_list-pairs.new.self c.flat_part.new.self here c.flat_part.ensures.kept in
     let lawful : IsGame c.args.self.now.game = subst (λ (x : Searching). IsGame x.game) here c.in_ok-ends.ensures.lawful in
-    let reached : IsFlatPart c.args.self.now.game c.args.state.now.state (start_of c.args.origin) c.flat_part.new.pairs.items c.in_ok-ends.ends = subst (λ (x : Searching). IsFlatPart x.game c.args.state.now.state (start_of c.args.origin) c.flat_part.new.pairs.items c.in_ok-ends.ends) here c.in_ok-ends.ensures.reached in
-    let sorted = flat_permuted c.args.self.now.game c.args.state.now.state (start_of c.args.origin) c.flat_part.new.pairs.items c.sort.new.pairs.items c.in_ok-ends.ends c.sort.ensures.permutation reached in
+    let reached : IsFlatPart c.args.self.now.game c.args.state.now.state (start_of c.args.origin) c.flat_part.new.pairs c.in_ok-ends.ends = subst (λ (x : Searching). IsFlatPart x.game c.args.state.now.state (start_of c.args.origin) c.flat_part.new.pairs c.in_ok-ends.ends) here c.in_ok-ends.ensures.reached in
     let counts_first : IsCounted c.args.self.now.game reach c.args.state.now.state (start_of c.args.origin) c.args.self.now.opened c.flat_part.new.self.opened c.args.self.now.modifiers c.args.self.now.openings c.args.self.now.modifiers (c.flat_part.result ≡ Err Deep) (c.flat_part.result ≡ Err Wide) =
     subst (λ (x : Searching). IsCounted x.game reach c.args.state.now.state (start_of c.args.origin) x.opened c.flat_part.new.self.opened x.modifiers x.openings x.modifiers (c.flat_part.result ≡ Err Deep) (c.flat_part.result ≡ Err Wide)) here c.flat_part.ensures.counts in
-    let counts = behind_step c.args.self.now c.flat_part.new.self c.args.state.now c.flat_part.new.state (start_of c.args.origin) c.sort.new.pairs.items c.deref.result.now c.in_ok-ends.ends c.runs_behind.new.self.opened c.args.modifiers _ _ kept c.flat_part.ensures.given_back c.deref.ensures.value lawful c.requires.inside sorted c.if-ends.false counts_first.counted c.runs_behind.ensures.counts in
+    let counts = behind_step c.args.self.now c.flat_part.new.self c.args.state.now c.flat_part.new.state (start_of c.args.origin) c.flat_part.new.pairs c.flat_part.new.pairs c.in_ok-ends.ends c.runs_behind.new.self.opened c.args.modifiers _ _ kept c.flat_part.ensures.given_back refl lawful c.requires.inside reached c.if-ends.false counts_first.counted c.runs_behind.ensures.counts in
     counted_only c.args.self.now.game pattern c.args.state.now.state (start_of c.args.origin) c.args.self.now.opened c.keep_list-2.new.self.opened c.args.modifiers c.args.self.now.openings c.args.self.now.modifiers _ _
     (subst (λ (x : ℕ). CountsOpenings c.args.self.now.game pattern c.args.state.now.state (start_of c.args.origin) c.args.self.now.opened x) (sym (ap (λ (x : Searching). x.opened) c.keep_list-2.ensures)) counts.counted)
     (ok_not_err c.in_ok-runs.runs Deep) (ok_not_err c.in_ok-runs.runs Wide)
@@ -649,13 +663,24 @@ flat_part-returns-clause-forced g t c = λ cut left.
 
 pub runs_behind-returns-then-branch-clause-forced : goal.runs_behind-returns-then-branch-clause-forced
 runs_behind-returns-then-branch-clause-forced g t c =
-    let ready = c.requires.ready c.loop-vertex.vertex-index (0, 0) c.loop-vertex-test.true in
-    let one = one_forced c.args.self.now c.loop-vertex.self c.args.state.now c.loop-vertex.state c.args.pairs.now c.loop-vertex.vertex-index (0, 0) c.args.self.now.opened c.runs_behind_one.new.self.opened c.args.modifiers ready.later c.loop-vertex.invariant.kept c.loop-vertex.invariant.given_back c.loop-vertex-test.true ready.applies (omega (arith, c.if-modifiers-le1.false)) c.in_ok-runs_behind_one.ensures.forced in
-    ran_some c.args.self.now.game c.args.state.now.state c.args.pairs.now c.args.self.now.opened c.runs_behind_one.new.self.opened c.args.modifiers c.args.self.now.modifiers (omega (arith, c.loop-vertex.invariant.grows, one.grows))
+    let is = c.loop-vertex.invariant in
+    let done : List (ℕ × ℕ) = is.done in
+    let left : List (ℕ × ℕ) = c.take_least.new.self in
+    let q : ℕ × ℕ = (c.in-Some.vertex, c.in-Some.position) in
+    let taken = c.in-Some.ensures.permutation in
+    let there = turn_there c.args.pairs.now done c.loop-vertex.pairs left q is.whole taken in
+    let ready : IsReady c.args.self.now.game c.args.state.now.state c.args.nested q = All-contains (IsReady c.args.self.now.game c.args.state.now.state c.args.nested) c.args.pairs.now q c.requires.ready there in
+    let forced = turn_forced c.args.self.now c.loop-vertex.self c.args.state.now c.loop-vertex.state done left q c.args.self.now.opened c.runs_behind_one.new.self.opened c.args.modifiers ready.later is.kept is.given_back ready.applies (omega (arith, c.if-modifiers-le1.false)) c.in_ok-runs_behind_one.ensures.forced in
+    ran_some c.args.self.now.game c.args.state.now.state c.args.pairs.now c.args.self.now.opened c.runs_behind_one.new.self.opened c.args.modifiers c.args.self.now.modifiers (omega (arith, c.loop-vertex.invariant.grows, forced.grows))
 
 pub runs_behind-returns-clause-forced : goal.runs_behind-returns-clause-forced
 runs_behind-returns-clause-forced g t c =
-    ran_none c.args.self.now.game c.args.state.now.state c.args.pairs.now c.loop-vertex.vertex-index c.args.self.now.opened c.loop-vertex.self.opened c.args.modifiers c.args.self.now.modifiers (omega (arith, c.loop-vertex-test.false)) c.loop-vertex.invariant.grows c.loop-vertex.invariant.forced
+    let is = c.loop-vertex.invariant in
+    let moves = turn_end c.args.pairs.now is.done c.loop-vertex.pairs is.whole c.in_default.ensures.none in
+    record {
+      grows = is.grows;
+      forced = λ cut numbered _. ran_permuted c.args.self.now.game cut c.args.state.now.state c.args.pairs.now is.done c.args.self.now.opened c.loop-vertex.self.opened c.args.modifiers c.args.self.now.modifiers moves (is.forced cut numbered);
+    }
 
 pub runs_behind_one-returns-clause-forced : goal.runs_behind_one-returns-clause-forced
 runs_behind_one-returns-clause-forced g t c = λ cut later applies.
@@ -665,14 +690,14 @@ pub word_runs-returns-then-ends-clause-forced : goal.word_runs-returns-then-ends
 word_runs-returns-then-ends-clause-forced g t c = λ cut.
     let here : c.take_list-pairs.new.self ≡ c.args.self.now = c.take_list-pairs.ensures in
     let lawful : IsGame c.args.self.now.game = subst (λ (x : Searching). IsGame x.game) here c.in_ok-ends.ensures.lawful in
-    let reached : IsFlatPart c.args.self.now.game c.args.state.now.state (start_of c.args.origin) c.flat_part.new.pairs.items c.in_ok-ends.ends = subst (λ (x : Searching). IsFlatPart x.game c.args.state.now.state (start_of c.args.origin) c.flat_part.new.pairs.items c.in_ok-ends.ends) here c.in_ok-ends.ensures.reached in
+    let reached : IsFlatPart c.args.self.now.game c.args.state.now.state (start_of c.args.origin) c.flat_part.new.pairs c.in_ok-ends.ends = subst (λ (x : Searching). IsFlatPart x.game c.args.state.now.state (start_of c.args.origin) c.flat_part.new.pairs c.in_ok-ends.ends) here c.in_ok-ends.ensures.reached in
     let counts_forced : CountsForced c.args.self.now.game cut reach c.args.state.now.state (start_of c.args.origin) c.args.self.now.opened c.flat_part.new.self.opened c.args.modifiers c.args.self.now.modifiers =
     subst (λ (x : Searching). CountsForced x.game cut reach c.args.state.now.state (start_of c.args.origin) x.opened c.flat_part.new.self.opened c.args.modifiers x.modifiers) here (c.in_ok-ends.ensures.forced cut c.args.modifiers) in
     let f : Start = start_of c.args.origin in
     let numbered = lawful.numbered in
     let same : c.keep_list.new.self.opened ≡ c.flat_part.new.self.opened = ap (λ (x : Searching). x.opened) c.keep_list.ensures in
     word_forced c.args.self.now.game numbered cut c.args.state.now.state f c.args.self.now.opened c.flat_part.new.self.opened c.keep_list.new.self.opened c.args.modifiers c.args.self.now.modifiers
-    (runs_at_end c.args.self.now.game numbered c.args.state.now.state f c.flat_part.new.pairs.items c.in_ok-ends.ends reached c.if-ends.true)
+    (runs_at_end c.args.self.now.game numbered c.args.state.now.state f c.flat_part.new.pairs c.in_ok-ends.ends reached c.if-ends.true)
     (omega (arith, same)) counts_forced
 
 pub word_runs-returns-clause-forced : goal.word_runs-returns-clause-forced
@@ -680,28 +705,27 @@ word_runs-returns-clause-forced g t c = λ cut.
     let here : c.take_list-pairs.new.self ≡ c.args.self.now = c.take_list-pairs.ensures in
     let kept : c.flat_part.new.self ≡ (record c.args.self.now { opened = c.flat_part.new.self.opened; taken = c.flat_part.new.self.taken }) = kept_since c.args.self.now c.take_list-pairs.new.self c.flat_part.new.self here c.flat_part.ensures.kept in
     let lawful : IsGame c.args.self.now.game = subst (λ (x : Searching). IsGame x.game) here c.in_ok-ends.ensures.lawful in
-    let reached : IsFlatPart c.args.self.now.game c.args.state.now.state (start_of c.args.origin) c.flat_part.new.pairs.items c.in_ok-ends.ends = subst (λ (x : Searching). IsFlatPart x.game c.args.state.now.state (start_of c.args.origin) c.flat_part.new.pairs.items c.in_ok-ends.ends) here c.in_ok-ends.ensures.reached in
-    let sorted = flat_permuted c.args.self.now.game c.args.state.now.state (start_of c.args.origin) c.flat_part.new.pairs.items c.sort.new.pairs.items c.in_ok-ends.ends c.sort.ensures.permutation reached in
+    let reached : IsFlatPart c.args.self.now.game c.args.state.now.state (start_of c.args.origin) c.flat_part.new.pairs c.in_ok-ends.ends = subst (λ (x : Searching). IsFlatPart x.game c.args.state.now.state (start_of c.args.origin) c.flat_part.new.pairs c.in_ok-ends.ends) here c.in_ok-ends.ensures.reached in
     let counts_forced : CountsForced c.args.self.now.game cut reach c.args.state.now.state (start_of c.args.origin) c.args.self.now.opened c.flat_part.new.self.opened c.args.modifiers c.args.self.now.modifiers =
     subst (λ (x : Searching). CountsForced x.game cut reach c.args.state.now.state (start_of c.args.origin) x.opened c.flat_part.new.self.opened c.args.modifiers x.modifiers) here (c.in_ok-ends.ensures.forced cut c.args.modifiers) in
     let game = c.args.self.now.game in
     let s : AbstractState = c.args.state.now.state in
     let f : Start = start_of c.args.origin in
     let numbered = lawful.numbered in
-    let found : List (ℕ × ℕ) = c.sort.new.pairs.items in
+    let found : List (ℕ × ℕ) = c.flat_part.new.pairs in
     let b = c.flat_part.new.self.opened in
     let last = c.runs_behind.new.self.opened in
     let most = c.args.self.now.modifiers in
     let same : c.keep_list-2.new.self.opened ≡ last = ap (λ (x : Searching). x.opened) c.keep_list-2.ensures in
     let decides : IsTrue c.in_ok-runs.runs ↔ SomeRunsBehind game s found =
     before (λ x u. IsTrue c.in_ok-runs.runs ↔ SomeRunsBehind x u found) c.args.self.now c.flat_part.new.self c.args.state.now c.flat_part.new.state kept c.flat_part.ensures.given_back
-    (subst (λ (ps : List (ℕ × ℕ)). IsTrue c.in_ok-runs.runs ↔ SomeRunsBehind c.flat_part.new.self.game c.flat_part.new.state.state ps) c.deref.ensures.value c.in_ok-runs.ensures.answer) in
-    let answer = runs_there game numbered s f found c.in_ok-ends.ends c.in_ok-runs.runs sorted c.if-ends.false decides in
+    c.in_ok-runs.ensures.answer in
+    let answer = runs_there game numbered s f found c.in_ok-ends.ends c.in_ok-runs.runs reached c.if-ends.false decides in
     let ran : RanBehind game s found c.in_ok-runs.runs b last c.args.modifiers most =
     search_before (λ y w. RanBehind y.game w found c.in_ok-runs.runs b last c.args.modifiers y.modifiers) c.args.self.now c.flat_part.new.self c.args.state.now c.flat_part.new.state kept c.flat_part.ensures.given_back
-    (subst (λ (ps : List (ℕ × ℕ)). RanBehind c.flat_part.new.self.game c.flat_part.new.state.state ps c.in_ok-runs.runs b last c.args.modifiers c.flat_part.new.self.modifiers) c.deref.ensures.value c.in_ok-runs.ensures.forced) in
+    c.in_ok-runs.ensures.forced in
     subst (λ (n : ℕ). CountsForced game cut pattern s f c.args.self.now.opened n c.args.modifiers most) (sym same)
-    (asked_forced game numbered s f found c.in_ok-ends.ends c.in_ok-runs.runs c.args.self.now.opened b last c.args.modifiers most cut answer sorted counts_forced ran)
+    (asked_forced game numbered s f found c.in_ok-ends.ends c.in_ok-runs.runs c.args.self.now.opened b last c.args.modifiers most cut answer reached counts_forced ran)
 
 -- ---- which pairs are counted
 
@@ -789,16 +813,30 @@ runs_behind-returns-then-modifiers-le1-clause-taken g t c = λ f goes.
 pub runs_behind-returns-in_err-runs_behind_one-clause-taken :
     goal.runs_behind-returns-in_err-runs_behind_one-clause-taken
 runs_behind-returns-in_err-runs_behind_one-clause-taken g t c = λ f goes.
-    let ready = c.requires.ready c.loop-vertex.vertex-index (0, 0) c.loop-vertex-test.true in
-    one_takes c.args.self.now c.loop-vertex.self c.args.state.now c.loop-vertex.state f c.args.pairs.now c.loop-vertex.vertex-index (0, 0) c.runs_behind_one.new.self.opened c.runs_behind_one.new.self.taken ready.later _ c.loop-vertex.invariant.kept c.loop-vertex.invariant.given_back goes c.loop-vertex-test.true ready.applies (c.loop-vertex.invariant.taken f goes)
-    (λ later applies. takes_as c.loop-vertex.self.game pattern later (after (get_or c.args.pairs.now c.loop-vertex.vertex-index (0, 0)).1) c.loop-vertex.self.opened c.runs_behind_one.new.self.opened c.loop-vertex.self.taken c.runs_behind_one.new.self.taken (IsOk c.runs_behind_one.result) _ (c.runs_behind_one.ensures.taken later applies) (λ ok. absurd (not_ok c.from_residual.result c.in_err-runs_behind_one.field-0.0 c.from_residual.ensures.1 ok)))
+    let is = c.loop-vertex.invariant in
+    let done : List (ℕ × ℕ) = is.done in
+    let left : List (ℕ × ℕ) = c.take_least.new.self in
+    let q : ℕ × ℕ = (c.in-Some.vertex, c.in-Some.position) in
+    let taken = c.in-Some.ensures.permutation in
+    let moves = turn_moves c.args.pairs.now done c.loop-vertex.pairs left q is.whole taken in
+    let there = turn_there c.args.pairs.now done c.loop-vertex.pairs left q is.whole taken in
+    let ready : IsReady c.args.self.now.game c.args.state.now.state c.args.nested q = All-contains (IsReady c.args.self.now.game c.args.state.now.state c.args.nested) c.args.pairs.now q c.requires.ready there in
+    turn_takes c.args.self.now c.loop-vertex.self c.args.state.now c.loop-vertex.state done left q f c.args.pairs.now c.runs_behind_one.new.self.opened c.runs_behind_one.new.self.taken ready.later _ is.kept is.given_back moves goes ready.applies (is.taken f goes)
+    (λ later applies. takes_as c.loop-vertex.self.game pattern later (after q.1) c.loop-vertex.self.opened c.runs_behind_one.new.self.opened c.loop-vertex.self.taken c.runs_behind_one.new.self.taken (IsOk c.runs_behind_one.result) _ (c.runs_behind_one.ensures.taken later applies) (λ ok. absurd (not_ok c.from_residual.result c.in_err-runs_behind_one.field-0.0 c.from_residual.ensures.1 ok)))
 
 pub runs_behind-returns-then-branch-clause-taken :
     goal.runs_behind-returns-then-branch-clause-taken
 runs_behind-returns-then-branch-clause-taken g t c = λ f goes.
-    let ready = c.requires.ready c.loop-vertex.vertex-index (0, 0) c.loop-vertex-test.true in
-    one_takes c.args.self.now c.loop-vertex.self c.args.state.now c.loop-vertex.state f c.args.pairs.now c.loop-vertex.vertex-index (0, 0) c.runs_behind_one.new.self.opened c.runs_behind_one.new.self.taken ready.later _ c.loop-vertex.invariant.kept c.loop-vertex.invariant.given_back goes c.loop-vertex-test.true ready.applies (c.loop-vertex.invariant.taken f goes)
-    (λ later applies. takes_as c.loop-vertex.self.game pattern later (after (get_or c.args.pairs.now c.loop-vertex.vertex-index (0, 0)).1) c.loop-vertex.self.opened c.runs_behind_one.new.self.opened c.loop-vertex.self.taken c.runs_behind_one.new.self.taken (IsOk c.runs_behind_one.result) _ (c.runs_behind_one.ensures.taken later applies) (λ _. is_answer c.runs_behind_one.result c.in_ok-runs_behind_one.field-0 c.in_ok-runs_behind_one.was))
+    let is = c.loop-vertex.invariant in
+    let done : List (ℕ × ℕ) = is.done in
+    let left : List (ℕ × ℕ) = c.take_least.new.self in
+    let q : ℕ × ℕ = (c.in-Some.vertex, c.in-Some.position) in
+    let taken = c.in-Some.ensures.permutation in
+    let moves = turn_moves c.args.pairs.now done c.loop-vertex.pairs left q is.whole taken in
+    let there = turn_there c.args.pairs.now done c.loop-vertex.pairs left q is.whole taken in
+    let ready : IsReady c.args.self.now.game c.args.state.now.state c.args.nested q = All-contains (IsReady c.args.self.now.game c.args.state.now.state c.args.nested) c.args.pairs.now q c.requires.ready there in
+    turn_takes c.args.self.now c.loop-vertex.self c.args.state.now c.loop-vertex.state done left q f c.args.pairs.now c.runs_behind_one.new.self.opened c.runs_behind_one.new.self.taken ready.later _ is.kept is.given_back moves goes ready.applies (is.taken f goes)
+    (λ later applies. takes_as c.loop-vertex.self.game pattern later (after q.1) c.loop-vertex.self.opened c.runs_behind_one.new.self.opened c.loop-vertex.self.taken c.runs_behind_one.new.self.taken (IsOk c.runs_behind_one.result) _ (c.runs_behind_one.ensures.taken later applies) (λ _. is_answer c.runs_behind_one.result c.in_ok-runs_behind_one.field-0 c.in_ok-runs_behind_one.was))
 
 pub runs_behind-returns-clause-taken : goal.runs_behind-returns-clause-taken
 runs_behind-returns-clause-taken g t c = λ f goes.
@@ -852,10 +890,9 @@ word_runs-returns-in_err-runs-clause-taken g t c =
     let first_whole = takes_as c.args.self.now.game reach c.args.state.now.state f c.args.self.now.opened b c.args.self.now.taken u (IsOk c.flat_part.result) (Unit {0}) first (λ _. is_answer c.flat_part.result c.in_ok-ends.ends c.in_ok-ends.was) in
     let kept : c.flat_part.new.self ≡ (record c.args.self.now { opened = c.flat_part.new.self.opened; taken = c.flat_part.new.self.taken }) = kept_since c.args.self.now c.take_list-pairs.new.self c.flat_part.new.self here c.flat_part.ensures.kept in
     let lawful : IsGame c.args.self.now.game = subst (λ (x : Searching). IsGame x.game) here c.in_ok-ends.ensures.lawful in
-    let reached : IsFlatPart c.args.self.now.game c.args.state.now.state f c.flat_part.new.pairs.items c.in_ok-ends.ends = subst (λ (x : Searching). IsFlatPart x.game c.args.state.now.state f c.flat_part.new.pairs.items c.in_ok-ends.ends) here c.in_ok-ends.ensures.reached in
-    let sorted = flat_permuted c.args.self.now.game c.args.state.now.state f c.flat_part.new.pairs.items c.sort.new.pairs.items c.in_ok-ends.ends c.sort.ensures.permutation reached in
+    let reached : IsFlatPart c.args.self.now.game c.args.state.now.state f c.flat_part.new.pairs c.in_ok-ends.ends = subst (λ (x : Searching). IsFlatPart x.game c.args.state.now.state f c.flat_part.new.pairs c.in_ok-ends.ends) here c.in_ok-ends.ensures.reached in
     let all : CountsPairs c.args.self.now.game pattern c.args.state.now.state f c.args.self.now.opened c.runs_behind.new.self.opened c.args.self.now.taken c.runs_behind.new.self.taken (IsOk c.runs_behind.result) =
-    behind_takes c.args.self.now c.flat_part.new.self c.args.state.now c.flat_part.new.state f c.sort.new.pairs.items c.deref.result.now c.in_ok-ends.ends c.runs_behind.new.self.opened c.runs_behind.new.self.taken (IsOk c.runs_behind.result) kept c.flat_part.ensures.given_back c.deref.ensures.value lawful c.requires.inside sorted c.if-ends.false first_whole c.runs_behind.ensures.taken in
+    behind_takes c.args.self.now c.flat_part.new.self c.args.state.now c.flat_part.new.state f c.flat_part.new.pairs c.flat_part.new.pairs c.in_ok-ends.ends c.runs_behind.new.self.opened c.runs_behind.new.self.taken (IsOk c.runs_behind.result) kept c.flat_part.ensures.given_back refl lawful c.requires.inside reached c.if-ends.false first_whole c.runs_behind.ensures.taken in
     takes_as c.args.self.now.game pattern c.args.state.now.state f c.args.self.now.opened c.runs_behind.new.self.opened c.args.self.now.taken c.runs_behind.new.self.taken (IsOk c.runs_behind.result) _ all
     (λ ok. absurd (not_ok c.from_residual-in_err-runs.result c.in_err-runs.field-0.0 c.from_residual-in_err-runs.ensures.1 ok))
 
@@ -870,10 +907,9 @@ word_runs-returns-clause-taken g t c =
     let first_whole = takes_as c.args.self.now.game reach c.args.state.now.state f c.args.self.now.opened b c.args.self.now.taken u (IsOk c.flat_part.result) (Unit {0}) first (λ _. is_answer c.flat_part.result c.in_ok-ends.ends c.in_ok-ends.was) in
     let kept : c.flat_part.new.self ≡ (record c.args.self.now { opened = c.flat_part.new.self.opened; taken = c.flat_part.new.self.taken }) = kept_since c.args.self.now c.take_list-pairs.new.self c.flat_part.new.self here c.flat_part.ensures.kept in
     let lawful : IsGame c.args.self.now.game = subst (λ (x : Searching). IsGame x.game) here c.in_ok-ends.ensures.lawful in
-    let reached : IsFlatPart c.args.self.now.game c.args.state.now.state f c.flat_part.new.pairs.items c.in_ok-ends.ends = subst (λ (x : Searching). IsFlatPart x.game c.args.state.now.state f c.flat_part.new.pairs.items c.in_ok-ends.ends) here c.in_ok-ends.ensures.reached in
-    let sorted = flat_permuted c.args.self.now.game c.args.state.now.state f c.flat_part.new.pairs.items c.sort.new.pairs.items c.in_ok-ends.ends c.sort.ensures.permutation reached in
+    let reached : IsFlatPart c.args.self.now.game c.args.state.now.state f c.flat_part.new.pairs c.in_ok-ends.ends = subst (λ (x : Searching). IsFlatPart x.game c.args.state.now.state f c.flat_part.new.pairs c.in_ok-ends.ends) here c.in_ok-ends.ensures.reached in
     let all : CountsPairs c.args.self.now.game pattern c.args.state.now.state f c.args.self.now.opened c.runs_behind.new.self.opened c.args.self.now.taken c.runs_behind.new.self.taken (IsOk c.runs_behind.result) =
-    behind_takes c.args.self.now c.flat_part.new.self c.args.state.now c.flat_part.new.state f c.sort.new.pairs.items c.deref.result.now c.in_ok-ends.ends c.runs_behind.new.self.opened c.runs_behind.new.self.taken (IsOk c.runs_behind.result) kept c.flat_part.ensures.given_back c.deref.ensures.value lawful c.requires.inside sorted c.if-ends.false first_whole c.runs_behind.ensures.taken in
+    behind_takes c.args.self.now c.flat_part.new.self c.args.state.now c.flat_part.new.state f c.flat_part.new.pairs c.flat_part.new.pairs c.in_ok-ends.ends c.runs_behind.new.self.opened c.runs_behind.new.self.taken (IsOk c.runs_behind.result) kept c.flat_part.ensures.given_back refl lawful c.requires.inside reached c.if-ends.false first_whole c.runs_behind.ensures.taken in
     subst (λ (x : Searching). CountsPairs c.args.self.now.game pattern c.args.state.now.state f c.args.self.now.opened x.opened c.args.self.now.taken x.taken _) (sym c.keep_list-2.ensures)
     (takes_as c.args.self.now.game pattern c.args.state.now.state f c.args.self.now.opened c.runs_behind.new.self.opened c.args.self.now.taken c.runs_behind.new.self.taken (IsOk c.runs_behind.result) _ all
     (λ _. is_answer c.runs_behind.result c.in_ok-runs.runs c.in_ok-runs.was))
@@ -1075,13 +1111,13 @@ sets_part-returns-clause-enough g t c = c.loop-vertex.invariant.enough
 pub sets_part-returns-clause-reached : goal.sets_part-returns-clause-reached
 sets_part-returns-clause-reached g t c =
     let is = finds_on c.args.self.now c.loop-vertex.self c.args.state.now c.loop-vertex.state (start_of c.args.origin) c.loop-vertex.flat.value c.loop-vertex.invariant c.advance_by_sets.new.flat.value c.advance_by_sets.ensures.advances in
-    finds_part c.args.self.now c.loop-vertex.self c.args.state.now c.loop-vertex.state (start_of c.args.origin) c.advance_by_sets.new.flat.value is c.finish_by_sets.new.self c.finish_by_sets.new.pairs.items c.in_ok-ends.ends c.finish_by_sets.ensures.opened c.in_ok-ends.ensures.part
+    finds_part c.args.self.now c.loop-vertex.self c.args.state.now c.loop-vertex.state (start_of c.args.origin) c.advance_by_sets.new.flat.value is c.finish_by_sets.new.self c.finish_by_sets.new.pairs c.in_ok-ends.ends c.finish_by_sets.ensures.opened c.in_ok-ends.ensures.part
 
 pub sets_part-returns-clause-ready : goal.sets_part-returns-clause-ready
 sets_part-returns-clause-ready g t c =
     let is = finds_on c.args.self.now c.loop-vertex.self c.args.state.now c.loop-vertex.state (start_of c.args.origin) c.loop-vertex.flat.value c.loop-vertex.invariant c.advance_by_sets.new.flat.value c.advance_by_sets.ensures.advances in
-    let part = finds_part c.args.self.now c.loop-vertex.self c.args.state.now c.loop-vertex.state (start_of c.args.origin) c.advance_by_sets.new.flat.value is c.finish_by_sets.new.self c.finish_by_sets.new.pairs.items c.in_ok-ends.ends c.finish_by_sets.ensures.opened c.in_ok-ends.ensures.part in
-    all_ready c.args.self.now.game is.lawful c.args.state.now.state c.requires.fits (start_of c.args.origin) c.args.nested c.requires.nested c.finish_by_sets.new.pairs.items c.in_ok-ends.ends part
+    let part = finds_part c.args.self.now c.loop-vertex.self c.args.state.now c.loop-vertex.state (start_of c.args.origin) c.advance_by_sets.new.flat.value is c.finish_by_sets.new.self c.finish_by_sets.new.pairs c.in_ok-ends.ends c.finish_by_sets.ensures.opened c.in_ok-ends.ensures.part in
+    all_ready c.args.self.now.game is.lawful c.args.state.now.state c.requires.fits (start_of c.args.origin) c.args.nested c.requires.nested c.finish_by_sets.new.pairs c.in_ok-ends.ends part
 
 pub sets_part-returns-clause-lawful : goal.sets_part-returns-clause-lawful
 sets_part-returns-clause-lawful g t c = c.loop-vertex.invariant.lawful
@@ -1100,4 +1136,4 @@ sets_part-returns-clause-forced g t c = λ cut left.
 pub sets_part-returns-clause-taken : goal.sets_part-returns-clause-taken
 sets_part-returns-clause-taken g t c =
     let is = finds_on c.args.self.now c.loop-vertex.self c.args.state.now c.loop-vertex.state (start_of c.args.origin) c.loop-vertex.flat.value c.loop-vertex.invariant c.advance_by_sets.new.flat.value c.advance_by_sets.ensures.advances in
-    finds_taken c.args.self.now c.loop-vertex.self c.args.state.now c.loop-vertex.state (start_of c.args.origin) c.advance_by_sets.new.flat.value is c.finish_by_sets.new.self c.finish_by_sets.new.pairs.items c.in_ok-ends.ends c.finish_by_sets.ensures.opened _ c.in_ok-ends.ensures.taken
+    finds_taken c.args.self.now c.loop-vertex.self c.args.state.now c.loop-vertex.state (start_of c.args.origin) c.advance_by_sets.new.flat.value is c.finish_by_sets.new.self c.finish_by_sets.new.pairs c.in_ok-ends.ends c.finish_by_sets.ensures.opened _ c.in_ok-ends.ensures.taken

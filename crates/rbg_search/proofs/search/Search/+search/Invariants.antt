@@ -1,5 +1,6 @@
 -- Each call has fewer patterns or fewer modifiers before it; the semi-state is given back after each.
-use Rattle.std.proofs.Common.{◌≡◌, ◌+◌, ◌*◌, ◌-◌, ◌^◌, ◌≤◌, take, ℕ}
+use Rattle.std.proofs.Common.{◌≡◌, ◌+◌, ◌*◌, ◌-◌, ◌^◌, ◌≤◌, ◌++◌, take, ℕ, List, length}
+use Rattle.std.specs.List.Sorted.{IsPermutation}
 use Rattle.std.specs.Prelude.{All, Bool}
 use Rattle.rbg_rules.specs.Games.{IsGame}
 use Rattle.rbg_search.specs.Start.{start_of}
@@ -64,22 +65,27 @@ decreases-sets_part-loop-vertex g l = weight l.flat.value.sets
 
 abbrev pub invariant-runs_behind-loop-vertex : goal.invariant-runs_behind-loop-vertex
 invariant-runs_behind-loop-vertex g l = record {
+  done : List (ℕ × ℕ);
+  whole : IsPermutation l.fn.pairs (done ++ l.pairs);
   kept : l.self ≡ record l.fn.self { opened = l.self.opened; taken = l.self.taken };
   given_back : l.state ≡ record l.fn.state { room = l.state.room };
   room : l.fn.state.room ≤ l.state.room;
-  none : All (λ q. ¬ RunsBehindPair l.fn.self.game l.fn.state.state q.0 q.1) (take l.vertex-index l.pairs);
+  none : All (λ q. ¬ RunsBehindPair l.fn.self.game l.fn.state.state q.0 q.1) done;
   counted :
       (f : Start) (a : ℕ) →
-      GoesBehind l.fn.self.game l.fn.state.state f l.pairs →
+      GoesBehind l.fn.self.game l.fn.state.state f l.fn.pairs →
       CountsOpenings l.fn.self.game reach l.fn.state.state f a l.fn.self.opened →
-      CountsUpTo l.fn.self.game pattern l.fn.state.state f (take l.vertex-index l.pairs) a l.self.opened;
+      CountsUpTo l.fn.self.game pattern l.fn.state.state f done a l.self.opened;
   grows : l.fn.self.opened ≤ l.self.opened;
   forced :
       (cut : Bool) →
       IsNumbered l.fn.self.game.rules →
-      TakesBehind l.fn.self.game cut pattern l.fn.state.state (take l.vertex-index l.pairs) l.fn.self.opened l.self.opened l.fn.modifiers l.fn.self.modifiers;
+      TakesBehind l.fn.self.game cut pattern l.fn.state.state done l.fn.self.opened l.self.opened l.fn.modifiers l.fn.self.modifiers;
   taken :
       (f : Start) →
-      GoesBehind l.fn.self.game l.fn.state.state f l.pairs →
+      GoesBehind l.fn.self.game l.fn.state.state f l.fn.pairs →
       CountsPairs l.fn.self.game pattern l.fn.state.state f l.fn.self.opened l.self.opened l.fn.self.taken l.self.taken (Unit {0});
 }
+
+abbrev pub decreases-runs_behind-loop-vertex : goal.decreases-runs_behind-loop-vertex
+decreases-runs_behind-loop-vertex g l = length l.pairs

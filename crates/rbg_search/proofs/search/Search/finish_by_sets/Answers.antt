@@ -22,9 +22,9 @@ returns-clause-part g c = λ f begun.
     let before : IsBegunBySets game s f c.deref_mut.result.now = subst (λ (x : Flat). IsBegunBySets game s f x) (sym c.deref_mut.ensures.value) here in
     let asked : IsBegunBySets game s f c.deref.result.now = subst (λ (x : Flat). IsBegunBySets game s f x) (sym c.deref.ensures) here in
     let whole : IsWhole c.deref.result.now = subst IsWhole (sym c.deref.ensures) c.requires.whole in
-    let found : AreFound game s f c.finish.new.found.items = c.in_ok-many.ensures.found f before.begun in
+    let found : AreFound game s f c.finish.new.found = c.in_ok-many.ensures.found f before.begun in
     let decides : IsTrue c.ends-ends.result ↔ MayEnd game s f = c.ends-ends.ensures game s f lawful.numbered asked.begun whole.closed in
-    subst (λ (x : AbstractGame). IsFlatPart x s f c.finish.new.found.items c.ends-ends.result) same (found_part game lawful.numbered s f c.finish.new.found.items c.ends-ends.result found decides)
+    subst (λ (x : AbstractGame). IsFlatPart x s f c.finish.new.found c.ends-ends.result) same (found_part game lawful.numbered s f c.finish.new.found c.ends-ends.result found decides)
 
 pub returns-clause-taken : goal.returns-clause-taken
 returns-clause-taken g c =

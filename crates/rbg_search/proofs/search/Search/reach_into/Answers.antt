@@ -52,7 +52,7 @@ returns-clause-not_deep g c = λ cut.
 
 pub returns-clause-within : goal.returns-clause-within
 returns-clause-within g c =
-    positions_within c.args.self.now.game c.args.state.now.state c.requires.fits c.nesting-nested.result c.flat_part.new.pairs.items c.in_ok-ends.ensures.ready
+    positions_within c.args.self.now.game c.args.state.now.state c.requires.fits c.nesting-nested.result c.flat_part.new.pairs c.in_ok-ends.ensures.ready
 
 pub returns-in-Some-clause-deep : goal.returns-in-Some-clause-deep
 returns-in-Some-clause-deep g c = λ d.

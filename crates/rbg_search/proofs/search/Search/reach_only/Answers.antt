@@ -39,10 +39,10 @@ decides g c =
     (subst (λ (x : AbstractGame). Decides c.may_end-ends.result (Ends x.rules (start_of c.args.origin) [])) game c.may_end-ends.ensures)
 
 -- The list has the one pair.
-items : (g : Over) (c : goal.In_ok-push g) → c.push.new.self.items ≡ (c.args.state.now.state.vertex, c.args.position) ∷ []
+items : (g : Over) (c : goal.In_ok-push g) → c.push.new.self ≡ (c.args.state.now.state.vertex, c.args.position) ∷ []
 items g c =
     let here : c.vertex.result ≡ c.args.state.now.state.vertex = c.vertex.ensures ∙ ap (λ (h : History). h.state.vertex) c.enter.ensures.given_back in
-    c.in_ok-push.ensures.items ∙ ap (λ (xs : List (ℕ × ℕ)). xs ++ (c.vertex.result, c.args.position) ∷ []) c.clear.ensures.items ∙ ap (λ (v : ℕ). (v, c.args.position) ∷ []) here
+    c.in_ok-push.ensures ∙ ap (λ (xs : List (ℕ × ℕ)). xs ++ (c.vertex.result, c.args.position) ∷ []) c.clear.ensures ∙ ap (λ (v : ℕ). (v, c.args.position) ∷ []) here
 
 pub returns-clause-reached : goal.returns-clause-reached
 returns-clause-reached g c =
