@@ -1,10 +1,10 @@
 -- What a search for a move knows at one pair of a flat part.
-use Rattle.std.proofs.Common.{◌≡◌, ◌≢◌, ℕ, suc, ◌+◌, ◌<◌, List, [], ◌∷◌, length, get_or, take, Bool, sym, ap, ◌∙◌, subst, arith}
+use Rattle.std.proofs.Common.{◌≡◌, ◌≢◌, ℕ, suc, ◌+◌, ◌<◌, List, [], ◌∷◌, ◌++◌, length, get_or, take, Bool, sym, ap, ◌∙◌, subst, arith}
 use Rattle.std.specs.Prelude.{All, Contains}
 use Rattle.std.proofs.lemmas.List.{get_or_default, take_more}
 use Rattle.std.proofs.lemmas.List.Elements.{All-contains, All-push, Contains-get_or}
 use Rattle.std.specs.List.Sorted.{IsPermutation}
-use Rattle.std.proofs.lemmas.List.Sorted.{All-permutation, length_permutation}
+use Rattle.std.proofs.lemmas.List.Sorted.{All-permutation, IsPermutation-append_right}
 use Rattle.rbg_rules.specs.Positions.{IsNumbered, IsSwitchAt}
 use Rattle.rbg_rules.specs.Words.{Start, after}
 use Rattle.rbg_rules.specs.State.{AbstractGame, AbstractState}
@@ -19,6 +19,7 @@ use Rattle.rbg_search.specs.Passing.{GoesOn, finding, CountsUpTo, IsTooDeep, fro
 use Rattle.rbg_search.specs.Searching.{Searching}
 use Rattle.rbg_search.proofs.CallerLemmas.{no_switch_found, counts_taken, over_taken, row_one, deep_more}
 use Rattle.rbg_search.proofs.Orders.{flat_permuted}
+use Rattle.rbg_search.proofs.Turns.{turned, turn_at, turn_under}
 use Rattle.rbg_rules.proofs.MoveLemmas.{Applies_one}
 use Rattle.rbg_moves.specs.internal.Stepping.{standing_at, place_behind, GoesOnByMove, GoesOnBehind}
 use Rattle.rbg_moves.proofs.Steps.{next_applies, legal_on}
@@ -58,20 +59,21 @@ pub record AtPair (game : AbstractGame) (s : AbstractState) (f : Start) (xs : Li
   pub under : k < length xs
   pub is : get_or xs k q ≡ q
 
--- Pairs of which one was brought to its place.
+-- Pairs of which some were taken, one is taken now, and the others are left.
 pub at_turn :
-    (game : AbstractGame) (s : AbstractState) (f : Start) (old xs : List (ℕ × ℕ)) (ends : Bool) (k end : ℕ) (q : ℕ × ℕ) → IsGame game →
-    IsFlatPart game s f old ends →
-    All (λ (r : ℕ × ℕ). ¬ IsSwitchAt game.rules r.1) old →
-    length old ≡ end → k < end →
-    IsPermutation old xs → q ≡ get_or xs k q → AtPair game s f xs ends k q
-at_turn game s f old xs ends k end q lawful part plain size under moves is = record {
-  lawful = lawful;
-  part = flat_permuted game s f old xs ends moves part;
-  plain = All-permutation (λ (r : ℕ × ℕ). ¬ IsSwitchAt game.rules r.1) old xs moves plain;
-  under = let same = length_permutation old xs moves in omega (arith, size, under, same);
-  is = sym is;
-}
+    (game : AbstractGame) (s : AbstractState) (f : Start) (done old left : List (ℕ × ℕ)) (ends : Bool) (q : ℕ × ℕ) → IsGame game →
+    IsFlatPart game s f (done ++ old) ends →
+    All (λ (r : ℕ × ℕ). ¬ IsSwitchAt game.rules r.1) (done ++ old) →
+    IsPermutation old (q ∷ left) → AtPair game s f (turned done left q) ends (length done) q
+at_turn game s f done old left ends q lawful part plain taken =
+    let moves : IsPermutation (done ++ old) (turned done left q) = IsPermutation-append_right done old (q ∷ left) taken in
+    record {
+      lawful = lawful;
+      part = flat_permuted game s f (done ++ old) (turned done left q) ends moves part;
+      plain = All-permutation (λ (r : ℕ × ℕ). ¬ IsSwitchAt game.rules r.1) (done ++ old) (turned done left q) moves plain;
+      under = turn_under done left q;
+      is = turn_at done left q q;
+    }
 
 module _ (game : AbstractGame) (s : AbstractState) (f : Start) (xs : List (ℕ × ℕ)) (ends : Bool) (k : ℕ) (q : ℕ × ℕ) (here : AtPair game s f xs ends k q) where
   pair_there : Contains xs q

@@ -22,7 +22,7 @@ ghost use Rattle.rbg_moves.specs.Tallying.{IsTallied};
 ghost use Rattle.rbg_moves.specs.internal.Stepping.{standing_at, place_behind, IsValidAt, GoesOnByMove, GoesOnBehind};
 
 use crate::asking::{budget_is_kept, game_is_accepted, join, move_of, origin_after, search_in};
-use crate::least::{least_switch, put_in_turn};
+use crate::least::least_switch;
 use crate::place::Place;
 use crate::stepping::apply_at;
 use crate::workspace::Workspace;
@@ -293,9 +293,7 @@ fn find<S: Steps>(
         search.keep_list(pairs);
         return Ok(true);
     }
-    for index in 0..pairs.len() {
-        put_in_turn(&mut pairs, index);
-        let (vertex, position) = pairs[index];
+    while let Some((vertex, position)) = pairs.take_least() {
         if front.len() + 1 == MAX_PAIRS {
             return Err(Over::Deep);
         }

@@ -281,7 +281,7 @@ fn reach_next<S: Steps>(
         → CountsForced search.old.game cut reach state.old.state (start_of origin)
         search.old.opened search.new.opened left search.old.modifiers) }
 {
-    let ends = search.reach_into(state, origin, pairs)?;
+    let ends = search.reach_pairs(state, origin, pairs)?;
     put_in_order(pairs, in_order);
     Ok(ends)
 }
@@ -332,7 +332,7 @@ fn list<S: Steps>(
         (most_pairs - length front.old.items) search.old.modifiers) }
 {
     let game = search.game();
-    let mut pairs = search.take_list();
+    let mut pairs = search.take_pairs();
     reach_next(
         search,
         state,
@@ -354,7 +354,7 @@ fn list<S: Steps>(
             }
         }
     }
-    search.keep_list(pairs);
+    search.keep_pairs(pairs);
     Ok(false)
 }
 

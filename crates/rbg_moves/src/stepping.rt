@@ -68,10 +68,10 @@ pub(crate) fn take<S: Steps>(
         search.old.opened search.new.opened left search.old.modifiers) }
 {
     let game = search.game();
-    let mut pairs = search.take_list();
-    search.reach_into(state, origin_after(after), &mut pairs)?;
+    let mut pairs = search.take_pairs();
+    search.reach_pairs(state, origin_after(after), &mut pairs)?;
     let comes_next = has_pair(&pairs, pair);
-    search.keep_list(pairs);
+    search.keep_pairs(pairs);
     if comes_next {
         apply_at(game, state, pair);
     }

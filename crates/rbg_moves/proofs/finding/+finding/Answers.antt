@@ -1,7 +1,7 @@
 -- A move that goes on from where one stands.
 use Rattle.std.proofs.Common.{rules, ◌≡◌, ℕ, suc, ◌+◌, ◌-◌, ◌<◌, ◌≤◌, List, ◌∷◌, [], ◌++◌, length, false, refl, sym, ap, ◌∙◌, subst, arith}
 use Rattle.std.specs.Prelude.{All, not}
-use Rattle.std.proofs.lemmas.List.{take_all, length_push}
+use Rattle.std.proofs.lemmas.List.{length_push}
 use Rattle.rbg_base.specs.Move.{most_pairs}
 use Rattle.rbg_rules.specs.Positions.{IsSwitchAt}
 use Rattle.rbg_rules.specs.Words.{Start, after}
@@ -16,12 +16,12 @@ use Rattle.rbg_state.specs.History.{History, IsAfter}
 use Rattle.rbg_state.proofs.Histories.{after_nothing, after_both}
 use Rattle.rbg_search.proofs.Asking.{after_room}
 use Rattle.rbg_search.specs.Counting.{CountsOpenings, IsOverBudget}
-use Rattle.std.proofs.lemmas.List.Sorted.{length_permutation}
 use Rattle.rbg_search.specs.Passing.{IsTooDeep, somewhere, CountsUpTo}
 use Rattle.rbg_search.specs.Searching.{Searching}
 use Rattle.rbg_search.specs.Start.{start_of}
 use Rattle.rbg_search.specs.Flat.{IsFlatPart}
 use Rattle.rbg_search.proofs.Kept.{kept_since}
+use Rattle.rbg_search.proofs.Turns.{turn_fewer, turned, turn_front, turn_more, turn_rest, none_left}
 use Rattle.rbg_search.proofs.CallerLemmas.{find_begins, counts_begin, counts_reached, counts_end, over_begin, deep_begin}
 use Rattle.rbg_moves.specs.internal.Stepping.{standing_at, place_behind, IsValidAt}
 use Rattle.rbg_moves.proofs.Steps.{place_start, place_after, next_applies, next_there, next_from, legal_end, none_found, valid_next}
@@ -69,13 +69,13 @@ find-returns-in-Some-clause-found g t c _ =
     let s = c.args.state.now.state in
     let f = stand_of c.args.after in
     let numbered = c.game-game.ensures.lawful.numbered in
-    let items = c.reach_into.new.pairs.items in
+    let items = c.reach_into.new.pairs in
     let last = c.in-Some.last in
-    let next = next_from game s f (start_of c.origin_after.result) c.deref.result.now items c.in_ok-reach_into.field-0 last (subst (λ (x : Searching). IsFlatPart x.game s (start_of c.origin_after.result) items c.in_ok-reach_into.field-0) c.take_list-pairs.ensures c.in_ok-reach_into.ensures.reached) c.origin_after.ensures c.deref.ensures.value c.in-Some.ensures.there in
+    let next = next_from game s f (start_of c.origin_after.result) items items c.in_ok-reach_into.field-0 last (subst (λ (x : Searching). IsFlatPart x.game s (start_of c.origin_after.result) items c.in_ok-reach_into.field-0) c.take_list-pairs.ensures c.in_ok-reach_into.ensures.reached) c.origin_after.ensures refl c.in-Some.ensures.there in
     let switches : IsSwitchAt game.rules last.1 = subst (λ (h : AbstractGame). IsSwitchAt h.rules last.1) c.game-game.ensures.game c.in-Some.ensures.switches in
     record {
       pairs = last ∷ [];
-      joined = c.in_ok-join.ensures ∙ ap (λ (qs : List (ℕ × ℕ)). qs ++ last ∷ []) c.deref-in-Some.ensures.value;
+      joined = c.in_ok-join.ensures ∙ ap (λ (qs : List (ℕ × ℕ)). qs ++ last ∷ []) c.deref.ensures.value;
       legal = (place_behind next.later last.1, legal_end game numbered (record { state = s; last = c.args.after }) last.0 last.1 next.later next switches (next_applies game numbered s f last.0 last.1 next));
     }
 
@@ -88,18 +88,17 @@ find-returns-in-Some-clause-counted g t c =
     subst (λ (x : Searching). CountsOpenings game find_move s f c.args.search.now.opened x.opened) (sym c.keep_list.ensures)
     (counts_reached game numbered (find_begins game s f) (subst (λ (h : Start). CountsOpenings game reach s h c.args.search.now.opened c.reach_into.new.self.opened) c.origin_after.ensures (subst (λ (x : Searching). CountsOpenings x.game reach s (start_of c.origin_after.result) x.opened c.reach_into.new.self.opened) c.take_list-pairs.ensures c.reach_into.ensures.counted)))
 
-pub find-loop-index-init : goal.find-loop-index-init
-find-loop-index-init g t c =
+pub find-loop-vertex-init : goal.find-loop-vertex-init
+find-loop-vertex-init g t c =
     let game = c.args.search.now.game in
     let s = c.args.state.now.state in
     let f = stand_of c.args.after in
     let numbered = c.game-game.ensures.lawful.numbered in
-    let items = c.reach_into.new.pairs.items in
-    let size : c.len-index-end.result ≡ length items = omega (arith, c.len-index-end.ensures, c.reach_into.new.pairs.ok.0) in
+    let items = c.reach_into.new.pairs in
     record {
+      done = [];
       part = record { ends = c.in_ok-reach_into.field-0; part = part_of game s f (start_of c.origin_after.result) items items c.in_ok-reach_into.field-0 (subst (λ (x : Searching). IsFlatPart x.game s (start_of c.origin_after.result) items c.in_ok-reach_into.field-0) c.take_list-pairs.ensures c.in_ok-reach_into.ensures.reached) c.origin_after.ensures refl };
-      plain = plain_of game c.game-game.result.now items c.deref.result.now items c.game-game.ensures.game c.deref.ensures.value refl c.in_default.ensures.none;
-      size = sym size;
+      plain = plain_of game c.game-game.result.now items items items c.game-game.ensures.game refl refl c.in_default.ensures.none;
       search = kept_since c.args.search.now c.take_list-pairs.new.self c.reach_into.new.self c.take_list-pairs.ensures c.reach_into.ensures.kept;
       state = c.reach_into.ensures.given_back;
       room = c.reach_into.ensures.room;
@@ -114,24 +113,21 @@ find-loop-index-init g t c =
           (subst (λ (h : Start). CountsForced game false reach s h c.args.search.now.opened c.reach_into.new.self.opened left c.args.search.now.modifiers) c.origin_after.ensures (subst (λ (x : Searching). CountsForced x.game false reach s (start_of c.origin_after.result) x.opened c.reach_into.new.self.opened left x.modifiers) c.take_list-pairs.ensures (c.in_ok-reach_into.ensures.forced false left)));
     }
 
-pub find-index-requires : goal.find-index-requires
-find-index-requires g t c =
-    let same = length_permutation c.loop-index.pairs.items c.put_in_turn.new.pairs.items c.put_in_turn.ensures.permutation in
-    omega (arith, c.loop-index-test.true, c.loop-index.invariant.size, same, c.put_in_turn.new.pairs.ok.0)
-
 pub find-returns-then-len-eq-MAX_PAIRS-clause-deep : goal.find-returns-then-len-eq-MAX_PAIRS-clause-deep
 find-returns-then-len-eq-MAX_PAIRS-clause-deep g t c _ =
     let game = c.args.search.now.game in
     let s = c.args.state.now.state in
     let f = stand_of c.args.after in
     let numbered = c.game-game.ensures.lawful.numbered in
-    let xs : List (ℕ × ℕ) = c.put_in_turn.new.pairs.items in
-    let ends = c.loop-index.invariant.part.ends in
-    let k = c.loop-index.index in
-    let q : ℕ × ℕ = c.index.result.now in
-    let here : AtPair game s f xs ends k q = at_turn game s f c.loop-index.pairs.items xs ends k c.len-index-end.result q c.game-game.ensures.lawful c.loop-index.invariant.part.part c.loop-index.invariant.plain c.loop-index.invariant.size c.loop-index-test.true c.put_in_turn.ensures.permutation c.index.ensures in
-    let same : length c.loop-index.front.items ≡ length c.args.front.now.items = ap length c.loop-index.invariant.front in
-    let one : 1 ≡ most_pairs - length c.args.front.now.items = omega (arith, same, c.len.ensures, c.loop-index.front.ok.0, c.if-len-eq-MAX_PAIRS.true) in
+    let done : List (ℕ × ℕ) = c.loop-vertex.invariant.done in
+    let left_over : List (ℕ × ℕ) = c.take_least.new.self in
+    let q : ℕ × ℕ = (c.in-Some-take_least.vertex, c.in-Some-take_least.position) in
+    let xs : List (ℕ × ℕ) = turned done left_over q in
+    let ends = c.loop-vertex.invariant.part.ends in
+    let k = length done in
+    let here : AtPair game s f xs ends k q = at_turn game s f done c.loop-vertex.pairs left_over ends q c.game-game.ensures.lawful c.loop-vertex.invariant.part.part c.loop-vertex.invariant.plain c.in-Some-take_least.ensures.permutation in
+    let same : length c.loop-vertex.front.items ≡ length c.args.front.now.items = ap length c.loop-vertex.invariant.front in
+    let one : 1 ≡ most_pairs - length c.args.front.now.items = omega (arith, same, c.len.ensures, c.loop-vertex.front.ok.0, c.if-len-eq-MAX_PAIRS.true) in
     subst (λ (n : ℕ). IsTooDeep game find_move s f n c.args.search.now.modifiers) one (pair_row game s f xs ends k q here c.args.search.now.modifiers)
 
 pub find-find_behind-requires : goal.find-find_behind-requires
@@ -140,25 +136,27 @@ find-find_behind-requires g t c κs within =
     let s = c.args.state.now.state in
     let f = stand_of c.args.after in
     let numbered = c.game-game.ensures.lawful.numbered in
-    let xs : List (ℕ × ℕ) = c.put_in_turn.new.pairs.items in
-    let ends = c.loop-index.invariant.part.ends in
-    let k = c.loop-index.index in
-    let q : ℕ × ℕ = c.index.result.now in
-    let here : AtPair game s f xs ends k q = at_turn game s f c.loop-index.pairs.items xs ends k c.len-index-end.result q c.game-game.ensures.lawful c.loop-index.invariant.part.part c.loop-index.invariant.plain c.loop-index.invariant.size c.loop-index-test.true c.put_in_turn.ensures.permutation c.index.ensures in
+    let done : List (ℕ × ℕ) = c.loop-vertex.invariant.done in
+    let left_over : List (ℕ × ℕ) = c.take_least.new.self in
+    let q : ℕ × ℕ = (c.in-Some-take_least.vertex, c.in-Some-take_least.position) in
+    let xs : List (ℕ × ℕ) = turned done left_over q in
+    let ends = c.loop-vertex.invariant.part.ends in
+    let k = length done in
+    let here : AtPair game s f xs ends k q = at_turn game s f done c.loop-vertex.pairs left_over ends q c.game-game.ensures.lawful c.loop-vertex.invariant.part.part c.loop-vertex.invariant.plain c.in-Some-take_least.ensures.permutation in
     let v = q.0 in
     let p = q.1 in
     let next = pair_next game s f xs ends k q here in
-    let now = c.loop-index in
-    let there : now.state.state ≡ s = ap (λ (x : History). x.state) c.loop-index.invariant.state in
+    let now = c.loop-vertex in
+    let there : now.state.state ≡ s = ap (λ (x : History). x.state) c.loop-vertex.invariant.state in
     let applied = applied_back game c.game-game.result.now s now.state.state next.later v p c.game-game.ensures.game there (pair_applies game s f xs ends k q here) in
-    let same : c.game-game.result.now ≡ now.search.game = c.game-game.ensures.game ∙ sym (ap (λ (x : Searching). x.game) c.loop-index.invariant.search) in
+    let same : c.game-game.result.now ≡ now.search.game = c.game-game.ensures.game ∙ sym (ap (λ (x : Searching). x.game) c.loop-vertex.invariant.search) in
     let fits : IsStateOf c.game-game.result.now now.state.state = subst (λ (u : AbstractState). IsStateOf c.game-game.result.now u) (sym there) (subst (λ (h : AbstractGame). IsStateOf h s) (sym c.game-game.ensures.game) c.requires.place.state) in
     let valid0 = valid_next game numbered s f v p (next_there game c.game-game.ensures.lawful s f v p c.requires.place.state next) next in
     let valid : IsValidAt c.game-game.result.now now.state.state v p = subst (λ (u : AbstractState). IsValidAt c.game-game.result.now u v p) (sym there) (subst (λ (h : AbstractGame). IsValidAt h s v p) (sym c.game-game.ensures.game) valid0) in
-    let front : length now.front.items ≡ length c.args.front.now.items = ap length c.loop-index.invariant.front in
-    let short : length now.front.items + 1 < most_pairs = omega (arith, front, c.requires.short, c.len.ensures, c.loop-index.front.ok.0, c.if-len-eq-MAX_PAIRS.false) in
+    let front : length now.front.items ≡ length c.args.front.now.items = ap length c.loop-vertex.invariant.front in
+    let short : length now.front.items + 1 < most_pairs = omega (arith, front, c.requires.short, c.len.ensures, c.loop-vertex.front.ok.0, c.if-len-eq-MAX_PAIRS.false) in
     let lawful = subst IsGame (sym c.game-game.ensures.game) c.game-game.ensures.lawful in
-    (search rules, (within, (same, (lawful, (fits, (valid, (c.loop-index.invariant.enough, short)))))))
+    (search rules, (within, (same, (lawful, (fits, (valid, (c.loop-vertex.invariant.enough, short)))))))
 
 pub find-returns-in_err-found-clause-deep : goal.find-returns-in_err-found-clause-deep
 find-returns-in_err-found-clause-deep g t c e =
@@ -166,21 +164,23 @@ find-returns-in_err-found-clause-deep g t c e =
     let s = c.args.state.now.state in
     let f = stand_of c.args.after in
     let numbered = c.game-game.ensures.lawful.numbered in
-    let xs : List (ℕ × ℕ) = c.put_in_turn.new.pairs.items in
-    let ends = c.loop-index.invariant.part.ends in
-    let k = c.loop-index.index in
-    let q : ℕ × ℕ = c.index.result.now in
-    let here : AtPair game s f xs ends k q = at_turn game s f c.loop-index.pairs.items xs ends k c.len-index-end.result q c.game-game.ensures.lawful c.loop-index.invariant.part.part c.loop-index.invariant.plain c.loop-index.invariant.size c.loop-index-test.true c.put_in_turn.ensures.permutation c.index.ensures in
+    let done : List (ℕ × ℕ) = c.loop-vertex.invariant.done in
+    let left_over : List (ℕ × ℕ) = c.take_least.new.self in
+    let q : ℕ × ℕ = (c.in-Some-take_least.vertex, c.in-Some-take_least.position) in
+    let xs : List (ℕ × ℕ) = turned done left_over q in
+    let ends = c.loop-vertex.invariant.part.ends in
+    let k = length done in
+    let here : AtPair game s f xs ends k q = at_turn game s f done c.loop-vertex.pairs left_over ends q c.game-game.ensures.lawful c.loop-vertex.invariant.part.part c.loop-vertex.invariant.plain c.in-Some-take_least.ensures.permutation in
     let v = q.0 in
     let p = q.1 in
     let next = pair_next game s f xs ends k q here in
-    let now = c.loop-index in
-    let there : now.state.state ≡ s = ap (λ (x : History). x.state) c.loop-index.invariant.state in
+    let now = c.loop-vertex in
+    let there : now.state.state ≡ s = ap (λ (x : History). x.state) c.loop-vertex.invariant.state in
     let applied = applied_back game c.game-game.result.now s now.state.state next.later v p c.game-game.ensures.game there (pair_applies game s f xs ends k q here) in
     let n = length c.args.front.now.items in
     let most = c.args.search.now.modifiers in
-    let fewer : most_pairs - (length now.front.items + 1) ≡ most_pairs - (n + 1) = ap (λ (qs : List (ℕ × ℕ)). most_pairs - (length qs + 1)) c.loop-index.invariant.front in
-    let limit : now.search.modifiers ≡ most = ap (λ (x : Searching). x.modifiers) c.loop-index.invariant.search in
+    let fewer : most_pairs - (length now.front.items + 1) ≡ most_pairs - (n + 1) = ap (λ (qs : List (ℕ × ℕ)). most_pairs - (length qs + 1)) c.loop-vertex.invariant.front in
+    let limit : now.search.modifiers ≡ most = ap (λ (x : Searching). x.modifiers) c.loop-vertex.invariant.search in
     let deep = deep_as game c.game-game.result.now next.later p (most_pairs - (n + 1)) _ most _ c.game-game.ensures.game fewer limit (c.find_behind.ensures.deep (search rules) next.later applied) in
     let more : suc (most_pairs - (n + 1)) ≡ most_pairs - n = omega (arith, c.requires.short) in
     subst (λ (m : ℕ). IsTooDeep game find_move s f m most) more (pair_deep game s f xs ends k q here (most_pairs - (n + 1)) most deep)
@@ -191,20 +191,25 @@ find-returns-in_err-found-clause-wide g t c e =
     let s = c.args.state.now.state in
     let f = stand_of c.args.after in
     let numbered = c.game-game.ensures.lawful.numbered in
-    let xs : List (ℕ × ℕ) = c.put_in_turn.new.pairs.items in
-    let ends = c.loop-index.invariant.part.ends in
-    let k = c.loop-index.index in
-    let q : ℕ × ℕ = c.index.result.now in
-    let here : AtPair game s f xs ends k q = at_turn game s f c.loop-index.pairs.items xs ends k c.len-index-end.result q c.game-game.ensures.lawful c.loop-index.invariant.part.part c.loop-index.invariant.plain c.loop-index.invariant.size c.loop-index-test.true c.put_in_turn.ensures.permutation c.index.ensures in
+    let done : List (ℕ × ℕ) = c.loop-vertex.invariant.done in
+    let left_over : List (ℕ × ℕ) = c.take_least.new.self in
+    let q : ℕ × ℕ = (c.in-Some-take_least.vertex, c.in-Some-take_least.position) in
+    let xs : List (ℕ × ℕ) = turned done left_over q in
+    let ends = c.loop-vertex.invariant.part.ends in
+    let k = length done in
+    let here : AtPair game s f xs ends k q = at_turn game s f done c.loop-vertex.pairs left_over ends q c.game-game.ensures.lawful c.loop-vertex.invariant.part.part c.loop-vertex.invariant.plain c.in-Some-take_least.ensures.permutation in
     let v = q.0 in
     let p = q.1 in
     let next = pair_next game s f xs ends k q here in
-    let now = c.loop-index in
-    let there : now.state.state ≡ s = ap (λ (x : History). x.state) c.loop-index.invariant.state in
+    let now = c.loop-vertex in
+    let there : now.state.state ≡ s = ap (λ (x : History). x.state) c.loop-vertex.invariant.state in
     let applied = applied_back game c.game-game.result.now s now.state.state next.later v p c.game-game.ensures.game there (pair_applies game s f xs ends k q here) in
-    let limit : now.search.openings ≡ c.args.search.now.openings = ap (λ (x : Searching). x.openings) c.loop-index.invariant.search in
+    let limit : now.search.openings ≡ c.args.search.now.openings = ap (λ (x : Searching). x.openings) c.loop-vertex.invariant.search in
     let wide = over_as game c.game-game.result.now next.later p now.search.opened c.args.search.now.openings _ c.game-game.ensures.game limit (c.find_behind.ensures.wide (search rules) next.later applied) in
-    pair_over game s f xs ends k q here c.args.search.now.opened now.search.opened c.args.search.now.openings (subst (λ (ds : List (ℕ × ℕ)). CountsUpTo game find_move s f ds c.args.search.now.opened c.loop-index.search.opened) (sym c.put_in_turn.ensures.before) c.loop-index.invariant.counted) wide
+    pair_over game s f xs ends k q here c.args.search.now.opened now.search.opened c.args.search.now.openings (subst (λ (ds : List (ℕ × ℕ)). CountsUpTo game find_move s f ds c.args.search.now.opened c.loop-vertex.search.opened) (sym (turn_front done left_over q)) c.loop-vertex.invariant.counted) wide
+
+pub find-loop-vertex-smaller : goal.find-loop-vertex-smaller
+find-loop-vertex-smaller g t c = turn_fewer c.loop-vertex.pairs c.take_least.new.self (c.in-Some-take_least.vertex, c.in-Some-take_least.position) c.in-Some-take_least.ensures.permutation
 
 pub find-returns-clause-none : goal.find-returns-clause-none
 find-returns-clause-none g t c _ =
@@ -212,12 +217,11 @@ find-returns-clause-none g t c _ =
     let s = c.args.state.now.state in
     let f = stand_of c.args.after in
     let numbered = c.game-game.ensures.lawful.numbered in
-    let xs : List (ℕ × ℕ) = c.loop-index.pairs.items in
-    let ends = c.loop-index.invariant.part.ends in
-    let k = c.loop-index.index in
-    let all_taken : length xs ≤ k = omega (arith, c.loop-index-test.false, c.loop-index.invariant.size) in
-    let all = subst (All (λ (q : ℕ × ℕ). (later : AbstractState) → Applies game q.1 (standing_at s q.0) later → Finished game (place_behind later q.1))) (take_all k xs all_taken) c.loop-index.invariant.nothing in
-    none_found game numbered (record { state = s; last = c.args.after }) f xs ends c.loop-index.invariant.part.part refl c.loop-index.invariant.plain all
+    let xs : List (ℕ × ℕ) = c.loop-vertex.invariant.done ++ c.loop-vertex.pairs in
+    let ends = c.loop-vertex.invariant.part.ends in
+    let all_taken : c.loop-vertex.invariant.done ≡ xs = none_left c.loop-vertex.invariant.done c.loop-vertex.pairs c.in_default-take_least.ensures.none in
+    let all = subst (All (λ (q : ℕ × ℕ). (later : AbstractState) → Applies game q.1 (standing_at s q.0) later → Finished game (place_behind later q.1))) all_taken c.loop-vertex.invariant.nothing in
+    none_found game numbered (record { state = s; last = c.args.after }) f xs ends c.loop-vertex.invariant.part.part refl c.loop-vertex.invariant.plain all
 
 pub find_behind-find-requires : goal.find_behind-find-requires
 find_behind-find-requires g t c κs within =
@@ -266,20 +270,22 @@ find-returns-then-found-clause-found g t c _ =
     let s = c.args.state.now.state in
     let f = stand_of c.args.after in
     let numbered = c.game-game.ensures.lawful.numbered in
-    let xs : List (ℕ × ℕ) = c.put_in_turn.new.pairs.items in
-    let ends = c.loop-index.invariant.part.ends in
-    let k = c.loop-index.index in
-    let q : ℕ × ℕ = c.index.result.now in
-    let here : AtPair game s f xs ends k q = at_turn game s f c.loop-index.pairs.items xs ends k c.len-index-end.result q c.game-game.ensures.lawful c.loop-index.invariant.part.part c.loop-index.invariant.plain c.loop-index.invariant.size c.loop-index-test.true c.put_in_turn.ensures.permutation c.index.ensures in
+    let done : List (ℕ × ℕ) = c.loop-vertex.invariant.done in
+    let left_over : List (ℕ × ℕ) = c.take_least.new.self in
+    let q : ℕ × ℕ = (c.in-Some-take_least.vertex, c.in-Some-take_least.position) in
+    let xs : List (ℕ × ℕ) = turned done left_over q in
+    let ends = c.loop-vertex.invariant.part.ends in
+    let k = length done in
+    let here : AtPair game s f xs ends k q = at_turn game s f done c.loop-vertex.pairs left_over ends q c.game-game.ensures.lawful c.loop-vertex.invariant.part.part c.loop-vertex.invariant.plain c.in-Some-take_least.ensures.permutation in
     let v = q.0 in
     let p = q.1 in
     let next = pair_next game s f xs ends k q here in
-    let now = c.loop-index in
-    let there : now.state.state ≡ s = ap (λ (x : History). x.state) c.loop-index.invariant.state in
+    let now = c.loop-vertex in
+    let there : now.state.state ≡ s = ap (λ (x : History). x.state) c.loop-vertex.invariant.state in
     let applied = applied_back game c.game-game.result.now s now.state.state next.later v p c.game-game.ensures.game there (pair_applies game s f xs ends k q here) in
     let behind = c.in_ok-found.ensures.found c.if-found.true in
     behind_found game numbered (record { state = s; last = c.args.after }) v p c.args.front.now.items c.find_behind.new.whole.items next (pair_plain game s f xs ends k q here)
-    (behind_as game c.game-game.result.now s now.state.state v p c.args.front.now.items now.front.items c.find_behind.new.whole.items c.game-game.ensures.game there c.loop-index.invariant.front behind)
+    (behind_as game c.game-game.result.now s now.state.state v p c.args.front.now.items now.front.items c.find_behind.new.whole.items c.game-game.ensures.game there c.loop-vertex.invariant.front behind)
 
 pub find-returns-then-found-clause-counted : goal.find-returns-then-found-clause-counted
 find-returns-then-found-clause-counted g t c =
@@ -287,20 +293,22 @@ find-returns-then-found-clause-counted g t c =
     let s = c.args.state.now.state in
     let f = stand_of c.args.after in
     let numbered = c.game-game.ensures.lawful.numbered in
-    let xs : List (ℕ × ℕ) = c.put_in_turn.new.pairs.items in
-    let ends = c.loop-index.invariant.part.ends in
-    let k = c.loop-index.index in
-    let q : ℕ × ℕ = c.index.result.now in
-    let here : AtPair game s f xs ends k q = at_turn game s f c.loop-index.pairs.items xs ends k c.len-index-end.result q c.game-game.ensures.lawful c.loop-index.invariant.part.part c.loop-index.invariant.plain c.loop-index.invariant.size c.loop-index-test.true c.put_in_turn.ensures.permutation c.index.ensures in
+    let done : List (ℕ × ℕ) = c.loop-vertex.invariant.done in
+    let left_over : List (ℕ × ℕ) = c.take_least.new.self in
+    let q : ℕ × ℕ = (c.in-Some-take_least.vertex, c.in-Some-take_least.position) in
+    let xs : List (ℕ × ℕ) = turned done left_over q in
+    let ends = c.loop-vertex.invariant.part.ends in
+    let k = length done in
+    let here : AtPair game s f xs ends k q = at_turn game s f done c.loop-vertex.pairs left_over ends q c.game-game.ensures.lawful c.loop-vertex.invariant.part.part c.loop-vertex.invariant.plain c.in-Some-take_least.ensures.permutation in
     let v = q.0 in
     let p = q.1 in
     let next = pair_next game s f xs ends k q here in
-    let now = c.loop-index in
-    let there : now.state.state ≡ s = ap (λ (x : History). x.state) c.loop-index.invariant.state in
+    let now = c.loop-vertex in
+    let there : now.state.state ≡ s = ap (λ (x : History). x.state) c.loop-vertex.invariant.state in
     let applied = applied_back game c.game-game.result.now s now.state.state next.later v p c.game-game.ensures.game there (pair_applies game s f xs ends k q here) in
     let counted = counts_as game c.game-game.result.now next.later p now.search.opened c.find_behind.new.search.opened c.game-game.ensures.game (c.in_ok-found.ensures.counted next.later applied) in
     subst (λ (x : Searching). CountsOpenings game find_move s f c.args.search.now.opened x.opened) (sym c.keep_list-then-found.ensures)
-    (counts_end game numbered (pair_counts game s f xs ends k q here c.args.search.now.opened now.search.opened c.find_behind.new.search.opened (subst (λ (ds : List (ℕ × ℕ)). CountsUpTo game find_move s f ds c.args.search.now.opened c.loop-index.search.opened) (sym c.put_in_turn.ensures.before) c.loop-index.invariant.counted) counted))
+    (counts_end game numbered (pair_counts game s f xs ends k q here c.args.search.now.opened now.search.opened c.find_behind.new.search.opened (subst (λ (ds : List (ℕ × ℕ)). CountsUpTo game find_move s f ds c.args.search.now.opened c.loop-vertex.search.opened) (sym (turn_front done left_over q)) c.loop-vertex.invariant.counted) counted))
 
 pub find-returns-then-found-clause-paired : goal.find-returns-then-found-clause-paired
 find-returns-then-found-clause-paired g t c =
@@ -308,58 +316,63 @@ find-returns-then-found-clause-paired g t c =
     let s = c.args.state.now.state in
     let f = stand_of c.args.after in
     let numbered = c.game-game.ensures.lawful.numbered in
-    let xs : List (ℕ × ℕ) = c.put_in_turn.new.pairs.items in
-    let ends = c.loop-index.invariant.part.ends in
-    let k = c.loop-index.index in
-    let q : ℕ × ℕ = c.index.result.now in
-    let here : AtPair game s f xs ends k q = at_turn game s f c.loop-index.pairs.items xs ends k c.len-index-end.result q c.game-game.ensures.lawful c.loop-index.invariant.part.part c.loop-index.invariant.plain c.loop-index.invariant.size c.loop-index-test.true c.put_in_turn.ensures.permutation c.index.ensures in
+    let done : List (ℕ × ℕ) = c.loop-vertex.invariant.done in
+    let left_over : List (ℕ × ℕ) = c.take_least.new.self in
+    let q : ℕ × ℕ = (c.in-Some-take_least.vertex, c.in-Some-take_least.position) in
+    let xs : List (ℕ × ℕ) = turned done left_over q in
+    let ends = c.loop-vertex.invariant.part.ends in
+    let k = length done in
+    let here : AtPair game s f xs ends k q = at_turn game s f done c.loop-vertex.pairs left_over ends q c.game-game.ensures.lawful c.loop-vertex.invariant.part.part c.loop-vertex.invariant.plain c.in-Some-take_least.ensures.permutation in
     let v = q.0 in
     let p = q.1 in
     let next = pair_next game s f xs ends k q here in
-    let now = c.loop-index in
-    let there : now.state.state ≡ s = ap (λ (x : History). x.state) c.loop-index.invariant.state in
+    let now = c.loop-vertex in
+    let there : now.state.state ≡ s = ap (λ (x : History). x.state) c.loop-vertex.invariant.state in
     let applied = applied_back game c.game-game.result.now s now.state.state next.later v p c.game-game.ensures.game there (pair_applies game s f xs ends k q here) in
     subst (λ (x : Searching). CountsPairs game find_move s f c.args.search.now.opened x.opened c.args.search.now.taken x.taken (Unit {0})) (sym c.keep_list-then-found.ensures)
-    (more_takes game c.game-game.result.now find_move find_move s next.later f v p c.args.search.now.opened now.search.opened c.find_behind.new.search.opened c.args.search.now.taken now.search.taken c.find_behind.new.search.taken c.game-game.ensures.game (pair_on game s f xs ends k q here) c.loop-index.invariant.paired (c.in_ok-found.ensures.paired next.later applied))
+    (more_takes game c.game-game.result.now find_move find_move s next.later f v p c.args.search.now.opened now.search.opened c.find_behind.new.search.opened c.args.search.now.taken now.search.taken c.find_behind.new.search.taken c.game-game.ensures.game (pair_on game s f xs ends k q here) c.loop-vertex.invariant.paired (c.in_ok-found.ensures.paired next.later applied))
 
-pub find-loop-index-preserved : goal.find-loop-index-preserved
-find-loop-index-preserved g t c =
+pub find-loop-vertex-preserved : goal.find-loop-vertex-preserved
+find-loop-vertex-preserved g t c =
     let game = c.args.search.now.game in
     let s = c.args.state.now.state in
     let f = stand_of c.args.after in
     let numbered = c.game-game.ensures.lawful.numbered in
-    let xs : List (ℕ × ℕ) = c.put_in_turn.new.pairs.items in
-    let ends = c.loop-index.invariant.part.ends in
-    let k = c.loop-index.index in
-    let q : ℕ × ℕ = c.index.result.now in
-    let here : AtPair game s f xs ends k q = at_turn game s f c.loop-index.pairs.items xs ends k c.len-index-end.result q c.game-game.ensures.lawful c.loop-index.invariant.part.part c.loop-index.invariant.plain c.loop-index.invariant.size c.loop-index-test.true c.put_in_turn.ensures.permutation c.index.ensures in
+    let done : List (ℕ × ℕ) = c.loop-vertex.invariant.done in
+    let left_over : List (ℕ × ℕ) = c.take_least.new.self in
+    let q : ℕ × ℕ = (c.in-Some-take_least.vertex, c.in-Some-take_least.position) in
+    let xs : List (ℕ × ℕ) = turned done left_over q in
+    let ends = c.loop-vertex.invariant.part.ends in
+    let k = length done in
+    let here : AtPair game s f xs ends k q = at_turn game s f done c.loop-vertex.pairs left_over ends q c.game-game.ensures.lawful c.loop-vertex.invariant.part.part c.loop-vertex.invariant.plain c.in-Some-take_least.ensures.permutation in
     let v = q.0 in
     let p = q.1 in
     let next = pair_next game s f xs ends k q here in
-    let now = c.loop-index in
-    let there : now.state.state ≡ s = ap (λ (x : History). x.state) c.loop-index.invariant.state in
+    let now = c.loop-vertex in
+    let there : now.state.state ≡ s = ap (λ (x : History). x.state) c.loop-vertex.invariant.state in
     let applied = applied_back game c.game-game.result.now s now.state.state next.later v p c.game-game.ensures.game there (pair_applies game s f xs ends k q here) in
     let nothing = c.in_ok-found.ensures.none (ap not c.if-found.false) in
     record {
-      part = record { ends = ends; part = here.part };
-      plain = here.plain;
-      size = length_permutation c.loop-index.pairs.items xs c.put_in_turn.ensures.permutation ∙ c.loop-index.invariant.size;
-      search = kept_twice c.args.search.now now.search c.find_behind.new.search c.loop-index.invariant.search c.find_behind.ensures.search;
-      state = room_twice c.args.state.now now.state c.find_behind.new.state c.loop-index.invariant.state c.in_ok-found.ensures.state;
-      room = omega (arith, c.loop-index.invariant.room, c.in_ok-found.ensures.room);
-      enough = omega (arith, c.loop-index.invariant.enough, c.in_ok-found.ensures.room);
-      front = c.in_ok-found.ensures.front ∙ c.loop-index.invariant.front;
-      nothing = pair_more game s f xs ends k q here (λ (q : ℕ × ℕ). (later : AbstractState) → Applies game q.1 (standing_at s q.0) later → Finished game (place_behind later q.1)) (subst (All (λ (q : ℕ × ℕ). (later : AbstractState) → Applies game q.1 (standing_at s q.0) later → Finished game (place_behind later q.1))) (sym c.put_in_turn.ensures.before) c.loop-index.invariant.nothing) (nothing_as game c.game-game.result.now s now.state.state v p c.game-game.ensures.game there nothing);
-      counted = pair_counts game s f xs ends k q here c.args.search.now.opened now.search.opened c.find_behind.new.search.opened (subst (λ (ds : List (ℕ × ℕ)). CountsUpTo game find_move s f ds c.args.search.now.opened c.loop-index.search.opened) (sym c.put_in_turn.ensures.before) c.loop-index.invariant.counted) (counts_as game c.game-game.result.now next.later p now.search.opened c.find_behind.new.search.opened c.game-game.ensures.game (c.in_ok-found.ensures.counted next.later applied));
-      paired = more_takes game c.game-game.result.now find_move find_move s next.later f v p c.args.search.now.opened now.search.opened c.find_behind.new.search.opened c.args.search.now.taken now.search.taken c.find_behind.new.search.taken c.game-game.ensures.game (pair_on game s f xs ends k q here) c.loop-index.invariant.paired (c.in_ok-found.ensures.paired next.later applied);
+      done = done ++ q ∷ [];
+      part = record { ends = ends; part = subst (λ (ps : List (ℕ × ℕ)). IsFlatPart game s f ps ends) (sym (turn_rest done left_over q)) here.part };
+      plain = subst (All (λ (r : ℕ × ℕ). ¬ IsSwitchAt game.rules r.1)) (sym (turn_rest done left_over q)) here.plain;
+      search = kept_twice c.args.search.now now.search c.find_behind.new.search c.loop-vertex.invariant.search c.find_behind.ensures.search;
+      state = room_twice c.args.state.now now.state c.find_behind.new.state c.loop-vertex.invariant.state c.in_ok-found.ensures.state;
+      room = omega (arith, c.loop-vertex.invariant.room, c.in_ok-found.ensures.room);
+      enough = omega (arith, c.loop-vertex.invariant.enough, c.in_ok-found.ensures.room);
+      front = c.in_ok-found.ensures.front ∙ c.loop-vertex.invariant.front;
+      nothing = subst (All (λ (q : ℕ × ℕ). (later : AbstractState) → Applies game q.1 (standing_at s q.0) later → Finished game (place_behind later q.1))) (turn_more done left_over q) (pair_more game s f xs ends k q here (λ (q : ℕ × ℕ). (later : AbstractState) → Applies game q.1 (standing_at s q.0) later → Finished game (place_behind later q.1)) (subst (All (λ (q : ℕ × ℕ). (later : AbstractState) → Applies game q.1 (standing_at s q.0) later → Finished game (place_behind later q.1))) (sym (turn_front done left_over q)) c.loop-vertex.invariant.nothing) (nothing_as game c.game-game.result.now s now.state.state v p c.game-game.ensures.game there nothing));
+      counted = subst (λ (ds : List (ℕ × ℕ)). CountsUpTo game find_move s f ds c.args.search.now.opened c.find_behind.new.search.opened) (turn_more done left_over q) (pair_counts game s f xs ends k q here c.args.search.now.opened now.search.opened c.find_behind.new.search.opened (subst (λ (ds : List (ℕ × ℕ)). CountsUpTo game find_move s f ds c.args.search.now.opened c.loop-vertex.search.opened) (sym (turn_front done left_over q)) c.loop-vertex.invariant.counted) (counts_as game c.game-game.result.now next.later p now.search.opened c.find_behind.new.search.opened c.game-game.ensures.game (c.in_ok-found.ensures.counted next.later applied)));
+      paired = more_takes game c.game-game.result.now find_move find_move s next.later f v p c.args.search.now.opened now.search.opened c.find_behind.new.search.opened c.args.search.now.taken now.search.taken c.find_behind.new.search.taken c.game-game.ensures.game (pair_on game s f xs ends k q here) c.loop-vertex.invariant.paired (c.in_ok-found.ensures.paired next.later applied);
       forced =
           let n = length c.args.front.now.items in
-          let size : length now.front.items ≡ n = ap (λ (ys : List (ℕ × ℕ)). length ys) c.loop-index.invariant.front in
-          let limit : now.search.modifiers ≡ c.args.search.now.modifiers = ap (λ (x : Searching). x.modifiers) c.loop-index.invariant.search in
-          let more_left : 1 < most_pairs - n = omega (arith, size, c.requires.short, c.len.ensures, c.loop-index.front.ok.0, c.if-len-eq-MAX_PAIRS.false) in
+          let size : length now.front.items ≡ n = ap (λ (ys : List (ℕ × ℕ)). length ys) c.loop-vertex.invariant.front in
+          let limit : now.search.modifiers ≡ c.args.search.now.modifiers = ap (λ (x : Searching). x.modifiers) c.loop-vertex.invariant.search in
+          let more_left : 1 < most_pairs - n = omega (arith, size, c.requires.short, c.len.ensures, c.loop-vertex.front.ok.0, c.if-len-eq-MAX_PAIRS.false) in
           let fewer : most_pairs - (length now.front.items + 1) ≡ (most_pairs - n) - 1 = omega (arith, size) in
-          so_far_with game numbered find_move s f xs k q next.later c.args.search.now.opened now.search.opened c.find_behind.new.search.opened (most_pairs - n) c.args.search.now.modifiers (pair_is game s f xs ends k q here) here.under (pair_applies game s f xs ends k q here) more_left (subst (λ (ds : List (ℕ × ℕ)). TakenSoFar game find_move s f ds c.args.search.now.opened c.loop-index.search.opened (most_pairs - length c.args.front.now.items) c.args.search.now.modifiers) (sym c.put_in_turn.ensures.before) c.loop-index.invariant.forced)
-          (forced_as game c.game-game.result.now false find_move next.later (after p) now.search.opened c.find_behind.new.search.opened _ _ _ _ c.game-game.ensures.game fewer limit (c.in_ok-found.ensures.forced next.later applied));
+          subst (λ (ds : List (ℕ × ℕ)). TakenSoFar game find_move s f ds c.args.search.now.opened c.find_behind.new.search.opened (most_pairs - n) c.args.search.now.modifiers) (turn_more done left_over q)
+          (so_far_with game numbered find_move s f xs k q next.later c.args.search.now.opened now.search.opened c.find_behind.new.search.opened (most_pairs - n) c.args.search.now.modifiers (pair_is game s f xs ends k q here) here.under (pair_applies game s f xs ends k q here) more_left (subst (λ (ds : List (ℕ × ℕ)). TakenSoFar game find_move s f ds c.args.search.now.opened c.loop-vertex.search.opened (most_pairs - length c.args.front.now.items) c.args.search.now.modifiers) (sym (turn_front done left_over q)) c.loop-vertex.invariant.forced)
+          (forced_as game c.game-game.result.now false find_move next.later (after p) now.search.opened c.find_behind.new.search.opened _ _ _ _ c.game-game.ensures.game fewer limit (c.in_ok-found.ensures.forced next.later applied)));
     }
 
 -- ---- what is forced
@@ -370,12 +383,12 @@ find-returns-in-Some-clause-forced g t c =
     let s = c.args.state.now.state in
     let f = stand_of c.args.after in
     let numbered = c.game-game.ensures.lawful.numbered in
-    let items = c.reach_into.new.pairs.items in
+    let items = c.reach_into.new.pairs in
     let last = c.in-Some.last in
     let left = most_pairs - length c.args.front.now.items in
     let most = c.args.search.now.modifiers in
     let place : AbstractPlace = record { state = s; last = c.args.after } in
-    let next = next_from game s f (start_of c.origin_after.result) c.deref.result.now items c.in_ok-reach_into.field-0 last (subst (λ (x : Searching). IsFlatPart x.game s (start_of c.origin_after.result) items c.in_ok-reach_into.field-0) c.take_list-pairs.ensures c.in_ok-reach_into.ensures.reached) c.origin_after.ensures c.deref.ensures.value c.in-Some.ensures.there in
+    let next = next_from game s f (start_of c.origin_after.result) items items c.in_ok-reach_into.field-0 last (subst (λ (x : Searching). IsFlatPart x.game s (start_of c.origin_after.result) items c.in_ok-reach_into.field-0) c.take_list-pairs.ensures c.in_ok-reach_into.ensures.reached) c.origin_after.ensures refl c.in-Some.ensures.there in
     let switches : IsSwitchAt game.rules last.1 = subst (λ (h : AbstractGame). IsSwitchAt h.rules last.1) c.game-game.ensures.game c.in-Some.ensures.switches in
     let legal = legal_end game numbered place last.0 last.1 next.later next switches (next_applies game numbered s f last.0 last.1 next) in
     subst (λ (x : Searching). CountsForced game false find_move s f c.args.search.now.opened x.opened left most) (sym c.keep_list.ensures)
@@ -388,23 +401,25 @@ find-returns-then-found-clause-forced g t c =
     let s = c.args.state.now.state in
     let f = stand_of c.args.after in
     let numbered = c.game-game.ensures.lawful.numbered in
-    let xs : List (ℕ × ℕ) = c.put_in_turn.new.pairs.items in
-    let ends = c.loop-index.invariant.part.ends in
-    let k = c.loop-index.index in
-    let q : ℕ × ℕ = c.index.result.now in
-    let here : AtPair game s f xs ends k q = at_turn game s f c.loop-index.pairs.items xs ends k c.len-index-end.result q c.game-game.ensures.lawful c.loop-index.invariant.part.part c.loop-index.invariant.plain c.loop-index.invariant.size c.loop-index-test.true c.put_in_turn.ensures.permutation c.index.ensures in
+    let done : List (ℕ × ℕ) = c.loop-vertex.invariant.done in
+    let left_over : List (ℕ × ℕ) = c.take_least.new.self in
+    let q : ℕ × ℕ = (c.in-Some-take_least.vertex, c.in-Some-take_least.position) in
+    let xs : List (ℕ × ℕ) = turned done left_over q in
+    let ends = c.loop-vertex.invariant.part.ends in
+    let k = length done in
+    let here : AtPair game s f xs ends k q = at_turn game s f done c.loop-vertex.pairs left_over ends q c.game-game.ensures.lawful c.loop-vertex.invariant.part.part c.loop-vertex.invariant.plain c.in-Some-take_least.ensures.permutation in
     let v = q.0 in
     let p = q.1 in
     let next = pair_next game s f xs ends k q here in
-    let now = c.loop-index in
-    let there : now.state.state ≡ s = ap (λ (x : History). x.state) c.loop-index.invariant.state in
+    let now = c.loop-vertex in
+    let there : now.state.state ≡ s = ap (λ (x : History). x.state) c.loop-vertex.invariant.state in
     let applied = applied_back game c.game-game.result.now s now.state.state next.later v p c.game-game.ensures.game there (pair_applies game s f xs ends k q here) in
     let behind = c.in_ok-found.ensures.found c.if-found.true in
     let found = behind_found game numbered (record { state = s; last = c.args.after }) v p c.args.front.now.items c.find_behind.new.whole.items next (pair_plain game s f xs ends k q here)
-    (behind_as game c.game-game.result.now s now.state.state v p c.args.front.now.items now.front.items c.find_behind.new.whole.items c.game-game.ensures.game there c.loop-index.invariant.front behind) in
+    (behind_as game c.game-game.result.now s now.state.state v p c.args.front.now.items now.front.items c.find_behind.new.whole.items c.game-game.ensures.game there c.loop-vertex.invariant.front behind) in
     let more = c.in_ok-found.ensures.forced next.later applied in
     subst (λ (x : Searching). CountsForced game false find_move s f c.args.search.now.opened x.opened (most_pairs - length c.args.front.now.items) c.args.search.now.modifiers) (sym c.keep_list-then-found.ensures)
-    (found_so_far game numbered (record { state = s; last = c.args.after }) found.pairs _ c.args.search.now.opened now.search.opened c.find_behind.new.search.opened (most_pairs - length c.args.front.now.items) c.args.search.now.modifiers found.legal (subst (λ (ds : List (ℕ × ℕ)). TakenSoFar game find_move s f ds c.args.search.now.opened c.loop-index.search.opened (most_pairs - length c.args.front.now.items) c.args.search.now.modifiers) (sym c.put_in_turn.ensures.before) c.loop-index.invariant.forced) (omega (arith, more.fits)))
+    (found_so_far game numbered (record { state = s; last = c.args.after }) found.pairs _ c.args.search.now.opened now.search.opened c.find_behind.new.search.opened (most_pairs - length c.args.front.now.items) c.args.search.now.modifiers found.legal (subst (λ (ds : List (ℕ × ℕ)). TakenSoFar game find_move s f ds c.args.search.now.opened c.loop-vertex.search.opened (most_pairs - length c.args.front.now.items) c.args.search.now.modifiers) (sym (turn_front done left_over q)) c.loop-vertex.invariant.forced) (omega (arith, more.fits)))
 
 pub find-returns-clause-forced : goal.find-returns-clause-forced
 find-returns-clause-forced g t c =
@@ -416,14 +431,13 @@ find-returns-clause-forced g t c =
     let left = most_pairs - length c.args.front.now.items in
     let most = c.args.search.now.modifiers in
     let place : AbstractPlace = record { state = s; last = c.args.after } in
-    let xs : List (ℕ × ℕ) = c.loop-index.pairs.items in
-    let ends = c.loop-index.invariant.part.ends in
-    let k = c.loop-index.index in
-    let all_taken : length xs ≤ k = omega (arith, c.loop-index-test.false, c.loop-index.invariant.size) in
-    let all = subst (All (λ (q : ℕ × ℕ). (later : AbstractState) → Applies game q.1 (standing_at s q.0) later → Finished game (place_behind later q.1))) (take_all k xs all_taken) c.loop-index.invariant.nothing in
-    let finished = none_found game numbered place f xs ends c.loop-index.invariant.part.part refl c.loop-index.invariant.plain all in
-    let taken = subst (λ (ds : List (ℕ × ℕ)). TakenSoFar game find_move s f ds a c.loop-index.search.opened left most) (take_all k xs all_taken) c.loop-index.invariant.forced in
-    let counts = finished_forced game numbered place xs ends a c.loop-index.search.opened left most finished c.loop-index.invariant.part.part taken in
+    let xs : List (ℕ × ℕ) = c.loop-vertex.invariant.done ++ c.loop-vertex.pairs in
+    let ends = c.loop-vertex.invariant.part.ends in
+    let all_taken : c.loop-vertex.invariant.done ≡ xs = none_left c.loop-vertex.invariant.done c.loop-vertex.pairs c.in_default-take_least.ensures.none in
+    let all = subst (All (λ (q : ℕ × ℕ). (later : AbstractState) → Applies game q.1 (standing_at s q.0) later → Finished game (place_behind later q.1))) all_taken c.loop-vertex.invariant.nothing in
+    let finished = none_found game numbered place f xs ends c.loop-vertex.invariant.part.part refl c.loop-vertex.invariant.plain all in
+    let taken = subst (λ (ds : List (ℕ × ℕ)). TakenSoFar game find_move s f ds a c.loop-vertex.search.opened left most) all_taken c.loop-vertex.invariant.forced in
+    let counts = finished_forced game numbered place xs ends a c.loop-vertex.search.opened left most finished c.loop-vertex.invariant.part.part taken in
     subst (λ (x : Searching). CountsForced game false find_move s f a x.opened left most) (sym c.keep_list-2.ensures) counts
 
 pub find_behind-returns-clause-forced : goal.find_behind-returns-clause-forced
@@ -442,7 +456,7 @@ find_behind-returns-clause-forced g t c later applied =
 pub find-returns-in-Some-clause-length : goal.find-returns-in-Some-clause-length
 find-returns-in-Some-clause-length g t c _ =
     let front : List (ℕ × ℕ) = c.args.front.now.items in
-    let whole : c.join.new.buffer.items ≡ front ++ c.in-Some.last ∷ [] = c.in_ok-join.ensures ∙ ap (λ (qs : List (ℕ × ℕ)). qs ++ c.in-Some.last ∷ []) c.deref-in-Some.ensures.value in
+    let whole : c.join.new.buffer.items ≡ front ++ c.in-Some.last ∷ [] = c.in_ok-join.ensures ∙ ap (λ (qs : List (ℕ × ℕ)). qs ++ c.in-Some.last ∷ []) c.deref.ensures.value in
     let size : length c.join.new.buffer.items ≡ length front + 1 = ap (λ (qs : List (ℕ × ℕ)). length qs) whole ∙ length_push front c.in-Some.last in
     (omega (arith, size), omega (arith, size, c.requires.short))
 
@@ -462,12 +476,12 @@ pub find-returns-in_err-join-clause-after : goal.find-returns-in_err-join-clause
 find-returns-in_err-join-clause-after g t c = on_err _ _ (after_kept c.args.state.now c.reach_into.new.state c.reach_into.ensures.given_back)
 
 pub find-returns-then-len-eq-MAX_PAIRS-clause-after : goal.find-returns-then-len-eq-MAX_PAIRS-clause-after
-find-returns-then-len-eq-MAX_PAIRS-clause-after g t c = after_kept c.args.state.now c.loop-index.state c.loop-index.invariant.state
+find-returns-then-len-eq-MAX_PAIRS-clause-after g t c = after_kept c.args.state.now c.loop-vertex.state c.loop-vertex.invariant.state
 
 pub find-returns-in_err-found-clause-after : goal.find-returns-in_err-found-clause-after
 find-returns-in_err-found-clause-after g t c =
     on_err _ _
-    (after_both c.args.state.now c.loop-index.state c.find_behind.new.state (after_kept c.args.state.now c.loop-index.state c.loop-index.invariant.state)
+    (after_both c.args.state.now c.loop-vertex.state c.find_behind.new.state (after_kept c.args.state.now c.loop-vertex.state c.loop-vertex.invariant.state)
     (err_of c.find_behind.result c.in_err-found.field-0.0 _ c.in_err-found.was c.find_behind.ensures.after))
 
 pub find_behind-returns-in_err-push-clause-after : goal.find_behind-returns-in_err-push-clause-after
@@ -486,7 +500,7 @@ find-returns-in-Some-clause-paired g t c =
 
 pub find-returns-clause-paired : goal.find-returns-clause-paired
 find-returns-clause-paired g t c =
-    subst (λ (x : Searching). CountsPairs c.args.search.now.game find_move c.args.state.now.state (stand_of c.args.after) c.args.search.now.opened x.opened c.args.search.now.taken x.taken (Unit {0})) (sym c.keep_list-2.ensures) c.loop-index.invariant.paired
+    subst (λ (x : Searching). CountsPairs c.args.search.now.game find_move c.args.state.now.state (stand_of c.args.after) c.args.search.now.opened x.opened c.args.search.now.taken x.taken (Unit {0})) (sym c.keep_list-2.ensures) c.loop-vertex.invariant.paired
 
 pub find_behind-returns-clause-paired : goal.find_behind-returns-clause-paired
 find_behind-returns-clause-paired g t c later applied =

@@ -44,21 +44,21 @@ list-reach_next-requires-clause-stands g t c =
     let game = c.args.search.now.game in
     let place : AbstractPlace = record { state = c.args.state.now.state; last = c.args.after } in
     let stands = subst (λ (f : Start). IsStart game.rules f) (sym c.origin_after.ensures) (place_start game c.game-game.ensures.lawful.numbered place c.requires.place) in
-    subst (λ (x : Searching). IsStart x.game.rules (start_of c.origin_after.result)) (sym c.take_list-pairs.ensures) stands
+    subst (λ (x : Searching). IsStart x.game.rules (start_of c.origin_after.result)) (sym c.take_pairs-pairs.ensures) stands
 
 pub list-returns-in_err-reach_next-clause-deep : goal.list-returns-in_err-reach_next-clause-deep
 list-returns-in_err-reach_next-clause-deep g t c =
     let game = c.args.search.now.game in
     let p = err_from_is_err_and c.from_residual.result c.from_residual.ensures.1 in
     rw (p.1, p.2)
-    (λ e. reach_deep game c.game-game.ensures.lawful.numbered c.args.state.now.state (start_of c.origin_after.result) (stand_of c.args.after) (200 - length c.args.front.now.items) c.args.search.now.modifiers c.origin_after.ensures (subst (λ (x : Searching). IsDeep x.game reach c.args.state.now.state (start_of c.origin_after.result) x.modifiers) c.take_list-pairs.ensures (c.in_err-reach_next.ensures.deep (ap (λ (over : Over). Err over) (err_same c.in_err-reach_next.field-0.0 Deep e)))))
+    (λ e. reach_deep game c.game-game.ensures.lawful.numbered c.args.state.now.state (start_of c.origin_after.result) (stand_of c.args.after) (200 - length c.args.front.now.items) c.args.search.now.modifiers c.origin_after.ensures (subst (λ (x : Searching). IsDeep x.game reach c.args.state.now.state (start_of c.origin_after.result) x.modifiers) c.take_pairs-pairs.ensures (c.in_err-reach_next.ensures.deep (ap (λ (over : Over). Err over) (err_same c.in_err-reach_next.field-0.0 Deep e)))))
 
 pub list-returns-in_err-reach_next-clause-wide : goal.list-returns-in_err-reach_next-clause-wide
 list-returns-in_err-reach_next-clause-wide g t c =
     let game = c.args.search.now.game in
     let p = err_from_is_err_and c.from_residual.result c.from_residual.ensures.1 in
     rw (p.1, p.2)
-    (λ e. reach_wide game c.game-game.ensures.lawful.numbered c.args.state.now.state (start_of c.origin_after.result) (stand_of c.args.after) c.args.search.now.opened c.args.search.now.openings c.origin_after.ensures (subst (λ (x : Searching). IsOverBudget x.game reach c.args.state.now.state (start_of c.origin_after.result) x.opened x.openings) c.take_list-pairs.ensures (c.in_err-reach_next.ensures.wide (ap (λ (over : Over). Err over) (err_same c.in_err-reach_next.field-0.0 Wide e)))))
+    (λ e. reach_wide game c.game-game.ensures.lawful.numbered c.args.state.now.state (start_of c.origin_after.result) (stand_of c.args.after) c.args.search.now.opened c.args.search.now.openings c.origin_after.ensures (subst (λ (x : Searching). IsOverBudget x.game reach c.args.state.now.state (start_of c.origin_after.result) x.opened x.openings) c.take_pairs-pairs.ensures (c.in_err-reach_next.ensures.wide (ap (λ (over : Over). Err over) (err_same c.in_err-reach_next.field-0.0 Wide e)))))
 
 pub list-returns-then-branch-clause-gathered : goal.list-returns-then-branch-clause-gathered
 list-returns-then-branch-clause-gathered g t c =
@@ -70,14 +70,14 @@ list-returns-then-branch-clause-gathered g t c =
     let max = c.args.found.now.max in
     let old : List (List (ℕ × ℕ)) = c.args.found.now.moves in
     let new : List (List (ℕ × ℕ)) = c.add_switches.new.self.moves in
-    let part = part_as game place.state (start_of c.origin_after.result) (stand_of place.last) pairs pairs ends c.origin_after.ensures refl (subst (λ (x : Searching). IsFlatPart x.game c.args.state.now.state (start_of c.origin_after.result) c.reach_next.new.pairs.items c.in_ok-reach_next.field-0) c.take_list-pairs.ensures c.in_ok-reach_next.ensures.reached) in
+    let part = part_as game place.state (start_of c.origin_after.result) (stand_of place.last) pairs pairs ends c.origin_after.ensures refl (subst (λ (x : Searching). IsFlatPart x.game c.args.state.now.state (start_of c.origin_after.result) c.reach_next.new.pairs.items c.in_ok-reach_next.field-0) c.take_pairs-pairs.ensures c.in_ok-reach_next.ensures.reached) in
     switches_cut game place pairs ends part front max old new
     (switches_as c.game-game.result.now game c.deref.result.now pairs c.deref-2.result.now front max old new c.in_ok-add_switches.field-0 true c.game-game.ensures.game c.deref.ensures.value c.deref-2.ensures.value c.if-branch.true c.in_ok-add_switches.ensures.lists)
 
 pub list-returns-then-branch-clause-counted : goal.list-returns-then-branch-clause-counted
 list-returns-then-branch-clause-counted g t c =
     let game = c.args.search.now.game in
-    reach_counted game c.game-game.ensures.lawful.numbered c.args.state.now.state (start_of c.origin_after.result) (stand_of c.args.after) c.args.search.now.opened c.reach_next.new.search.opened c.origin_after.ensures (subst (λ (x : Searching). CountsOpenings x.game reach c.args.state.now.state (start_of c.origin_after.result) x.opened c.reach_next.new.search.opened) c.take_list-pairs.ensures c.reach_next.ensures.counted)
+    reach_counted game c.game-game.ensures.lawful.numbered c.args.state.now.state (start_of c.origin_after.result) (stand_of c.args.after) c.args.search.now.opened c.reach_next.new.search.opened c.origin_after.ensures (subst (λ (x : Searching). CountsOpenings x.game reach c.args.state.now.state (start_of c.origin_after.result) x.opened c.reach_next.new.search.opened) c.take_pairs-pairs.ensures c.reach_next.ensures.counted)
 
 pub list-loop-pair-init : goal.list-loop-pair-init
 list-loop-pair-init g t c =
@@ -90,11 +90,11 @@ list-loop-pair-init g t c =
     let max = c.args.found.now.max in
     let old : List (List (ℕ × ℕ)) = c.args.found.now.moves in
     let new : List (List (ℕ × ℕ)) = c.add_switches.new.self.moves in
-    let part = part_as game place.state (start_of c.origin_after.result) (stand_of place.last) pairs pairs ends c.origin_after.ensures refl (subst (λ (x : Searching). IsFlatPart x.game c.args.state.now.state (start_of c.origin_after.result) c.reach_next.new.pairs.items c.in_ok-reach_next.field-0) c.take_list-pairs.ensures c.in_ok-reach_next.ensures.reached) in
+    let part = part_as game place.state (start_of c.origin_after.result) (stand_of place.last) pairs pairs ends c.origin_after.ensures refl (subst (λ (x : Searching). IsFlatPart x.game c.args.state.now.state (start_of c.origin_after.result) c.reach_next.new.pairs.items c.in_ok-reach_next.field-0) c.take_pairs-pairs.ensures c.in_ok-reach_next.ensures.reached) in
     let gathered = others_begin game numbered place pairs ends part front max old new
     (switches_as c.game-game.result.now game c.deref.result.now pairs c.deref-2.result.now front max old new c.in_ok-add_switches.field-0 false c.game-game.ensures.game c.deref.ensures.value c.deref-2.ensures.value c.if-branch.false c.in_ok-add_switches.ensures.lists) in
     record {
-      search = kept_since c.args.search.now c.take_list-pairs.new.self c.reach_next.new.search c.take_list-pairs.ensures c.reach_next.ensures.kept;
+      search = kept_since c.args.search.now c.take_pairs-pairs.new.self c.reach_next.new.search c.take_pairs-pairs.ensures c.reach_next.ensures.kept;
       state = c.reach_next.ensures.given_back;
       room = c.reach_next.ensures.room;
       enough = c.in_ok-reach_next.ensures.enough;
@@ -102,12 +102,12 @@ list-loop-pair-init g t c =
       max = c.add_switches.ensures.max;
       few = subst (λ (n : ℕ). length new ≤ n) (sym c.add_switches.ensures.max) gathered.few;
       gathered = gathered;
-      counted = reach_counts game numbered place.state (start_of c.origin_after.result) (stand_of place.last) c.args.search.now.opened c.reach_next.new.search.opened c.origin_after.ensures (subst (λ (x : Searching). CountsOpenings x.game reach c.args.state.now.state (start_of c.origin_after.result) x.opened c.reach_next.new.search.opened) c.take_list-pairs.ensures c.reach_next.ensures.counted);
-      paired = begin_takes c.args.search.now c.take_list-pairs.new.self c.reach_next.new.search list_moves c.args.state.now.state (stand_of c.args.after) (start_of c.origin_after.result) (IsOk c.reach_next.result) c.take_list-pairs.ensures c.origin_after.ensures c.reach_next.ensures.paired (is_answer c.reach_next.result c.in_ok-reach_next.field-0 c.in_ok-reach_next.was);
+      counted = reach_counts game numbered place.state (start_of c.origin_after.result) (stand_of place.last) c.args.search.now.opened c.reach_next.new.search.opened c.origin_after.ensures (subst (λ (x : Searching). CountsOpenings x.game reach c.args.state.now.state (start_of c.origin_after.result) x.opened c.reach_next.new.search.opened) c.take_pairs-pairs.ensures c.reach_next.ensures.counted);
+      paired = begin_takes c.args.search.now c.take_pairs-pairs.new.self c.reach_next.new.search list_moves c.args.state.now.state (stand_of c.args.after) (start_of c.origin_after.result) (IsOk c.reach_next.result) c.take_pairs-pairs.ensures c.origin_after.ensures c.reach_next.ensures.paired (is_answer c.reach_next.result c.in_ok-reach_next.field-0 c.in_ok-reach_next.was);
       forced =
           let left = 200 - length c.args.front.now.items in
           so_far_begin game numbered list_moves place.state (stand_of place.last) c.args.search.now.opened c.reach_next.new.search.opened left c.args.search.now.modifiers
-          (subst (λ (h : Start). CountsForced game false reach place.state h c.args.search.now.opened c.reach_next.new.search.opened left c.args.search.now.modifiers) c.origin_after.ensures (subst (λ (x : Searching). CountsForced x.game false reach c.args.state.now.state (start_of c.origin_after.result) x.opened c.reach_next.new.search.opened left x.modifiers) c.take_list-pairs.ensures (c.in_ok-reach_next.ensures.forced false left)));
+          (subst (λ (h : Start). CountsForced game false reach place.state h c.args.search.now.opened c.reach_next.new.search.opened left c.args.search.now.modifiers) c.origin_after.ensures (subst (λ (x : Searching). CountsForced x.game false reach c.args.state.now.state (start_of c.origin_after.result) x.opened c.reach_next.new.search.opened left x.modifiers) c.take_pairs-pairs.ensures (c.in_ok-reach_next.ensures.forced false left)));
     }
 
 pub list-returns-then-len-eq-MAX_PAIRS-clause-deep :
@@ -120,7 +120,7 @@ list-returns-then-len-eq-MAX_PAIRS-clause-deep g t c =
     let q : ℕ × ℕ = get_or xs k (0, 0) in
     let under = c.loop-pair-test.true in
     let ends = c.in_ok-reach_next.field-0 in
-    let part = part_as game place.state (start_of c.origin_after.result) (stand_of place.last) c.reach_next.new.pairs.items xs ends c.origin_after.ensures c.deref-pair-items.ensures.value (subst (λ (x : Searching). IsFlatPart x.game c.args.state.now.state (start_of c.origin_after.result) c.reach_next.new.pairs.items c.in_ok-reach_next.field-0) c.take_list-pairs.ensures c.in_ok-reach_next.ensures.reached) in
+    let part = part_as game place.state (start_of c.origin_after.result) (stand_of place.last) c.reach_next.new.pairs.items xs ends c.origin_after.ensures c.deref-pair-items.ensures.value (subst (λ (x : Searching). IsFlatPart x.game c.args.state.now.state (start_of c.origin_after.result) c.reach_next.new.pairs.items c.in_ok-reach_next.field-0) c.take_pairs-pairs.ensures c.in_ok-reach_next.ensures.reached) in
     let plain = plain_told game c.game-game.result.now q.1 c.is_switch.result c.game-game.ensures.game c.is_switch.ensures c.if-not-is_switch.true in
     let size : length c.loop-pair.front.items ≡ length c.args.front.now.items = ap (λ (ys : List (ℕ × ℕ)). length ys) c.loop-pair.invariant.front in
     let one : 200 - length c.args.front.now.items ≡ 1 = omega (arith, size, c.len.ensures, c.loop-pair.front.ok.0, c.if-len-eq-MAX_PAIRS.true) in
@@ -136,10 +136,10 @@ list-list_behind-requires g t c κs within =
     let q : ℕ × ℕ = get_or xs k (0, 0) in
     let under = c.loop-pair-test.true in
     let ends = c.in_ok-reach_next.field-0 in
-    let part = part_as game place.state (start_of c.origin_after.result) (stand_of place.last) c.reach_next.new.pairs.items xs ends c.origin_after.ensures c.deref-pair-items.ensures.value (subst (λ (x : Searching). IsFlatPart x.game c.args.state.now.state (start_of c.origin_after.result) c.reach_next.new.pairs.items c.in_ok-reach_next.field-0) c.take_list-pairs.ensures c.in_ok-reach_next.ensures.reached) in
+    let part = part_as game place.state (start_of c.origin_after.result) (stand_of place.last) c.reach_next.new.pairs.items xs ends c.origin_after.ensures c.deref-pair-items.ensures.value (subst (λ (x : Searching). IsFlatPart x.game c.args.state.now.state (start_of c.origin_after.result) c.reach_next.new.pairs.items c.in_ok-reach_next.field-0) c.take_pairs-pairs.ensures c.in_ok-reach_next.ensures.reached) in
     let same = ap (λ (x : Searching). x.game) c.loop-pair.invariant.search in
     let same_state = ap (λ (h : History). h.state) c.loop-pair.invariant.state in
-    let all = subst (λ (ys : List (ℕ × ℕ)). All (λ pair. (pair.0 < length game.board.first) × IsPositionOf game.rules pair.1) ys) (sym c.deref-pair-items.ensures.value) (subst (λ (x : Searching). All (λ pair. (pair.0 < length x.game.board.first) × IsPositionOf x.game.rules pair.1) c.reach_next.new.pairs.items) c.take_list-pairs.ensures c.in_ok-reach_next.ensures.within) in
+    let all = subst (λ (ys : List (ℕ × ℕ)). All (λ pair. (pair.0 < length game.board.first) × IsPositionOf game.rules pair.1) ys) (sym c.deref-pair-items.ensures.value) (subst (λ (x : Searching). All (λ pair. (pair.0 < length x.game.board.first) × IsPositionOf x.game.rules pair.1) c.reach_next.new.pairs.items) c.take_pairs-pairs.ensures c.in_ok-reach_next.ensures.within) in
     let fits : IsStateOf now.search.game now.state.state =
     subst (λ (g : AbstractGame). IsStateOf g now.state.state) (sym same)
     (subst (λ (s : AbstractState). IsStateOf game s) (sym same_state) c.requires.place.state) in
@@ -159,7 +159,7 @@ list-returns-in_err-list_behind-clause-deep g t c =
     let q : ℕ × ℕ = get_or xs k (0, 0) in
     let under = c.loop-pair-test.true in
     let ends = c.in_ok-reach_next.field-0 in
-    let part = part_as game place.state (start_of c.origin_after.result) (stand_of place.last) c.reach_next.new.pairs.items xs ends c.origin_after.ensures c.deref-pair-items.ensures.value (subst (λ (x : Searching). IsFlatPart x.game c.args.state.now.state (start_of c.origin_after.result) c.reach_next.new.pairs.items c.in_ok-reach_next.field-0) c.take_list-pairs.ensures c.in_ok-reach_next.ensures.reached) in
+    let part = part_as game place.state (start_of c.origin_after.result) (stand_of place.last) c.reach_next.new.pairs.items xs ends c.origin_after.ensures c.deref-pair-items.ensures.value (subst (λ (x : Searching). IsFlatPart x.game c.args.state.now.state (start_of c.origin_after.result) c.reach_next.new.pairs.items c.in_ok-reach_next.field-0) c.take_pairs-pairs.ensures c.in_ok-reach_next.ensures.reached) in
     let plain = plain_told game c.game-game.result.now q.1 c.is_switch.result c.game-game.ensures.game c.is_switch.ensures c.if-not-is_switch.true in
     let same = ap (λ (x : Searching). x.game) c.loop-pair.invariant.search in
     let same_state = ap (λ (h : History). h.state) c.loop-pair.invariant.state in
@@ -182,7 +182,7 @@ list-returns-in_err-list_behind-clause-wide g t c =
     let q : ℕ × ℕ = get_or xs k (0, 0) in
     let under = c.loop-pair-test.true in
     let ends = c.in_ok-reach_next.field-0 in
-    let part = part_as game place.state (start_of c.origin_after.result) (stand_of place.last) c.reach_next.new.pairs.items xs ends c.origin_after.ensures c.deref-pair-items.ensures.value (subst (λ (x : Searching). IsFlatPart x.game c.args.state.now.state (start_of c.origin_after.result) c.reach_next.new.pairs.items c.in_ok-reach_next.field-0) c.take_list-pairs.ensures c.in_ok-reach_next.ensures.reached) in
+    let part = part_as game place.state (start_of c.origin_after.result) (stand_of place.last) c.reach_next.new.pairs.items xs ends c.origin_after.ensures c.deref-pair-items.ensures.value (subst (λ (x : Searching). IsFlatPart x.game c.args.state.now.state (start_of c.origin_after.result) c.reach_next.new.pairs.items c.in_ok-reach_next.field-0) c.take_pairs-pairs.ensures c.in_ok-reach_next.ensures.reached) in
     let plain = plain_told game c.game-game.result.now q.1 c.is_switch.result c.game-game.ensures.game c.is_switch.ensures c.if-not-is_switch.true in
     let same = ap (λ (x : Searching). x.game) c.loop-pair.invariant.search in
     let same_state = ap (λ (h : History). h.state) c.loop-pair.invariant.state in
@@ -202,7 +202,7 @@ list-returns-then-branch-2-clause-gathered g t c =
     let q : ℕ × ℕ = get_or xs k (0, 0) in
     let under = c.loop-pair-test.true in
     let ends = c.in_ok-reach_next.field-0 in
-    let part = part_as game place.state (start_of c.origin_after.result) (stand_of place.last) c.reach_next.new.pairs.items xs ends c.origin_after.ensures c.deref-pair-items.ensures.value (subst (λ (x : Searching). IsFlatPart x.game c.args.state.now.state (start_of c.origin_after.result) c.reach_next.new.pairs.items c.in_ok-reach_next.field-0) c.take_list-pairs.ensures c.in_ok-reach_next.ensures.reached) in
+    let part = part_as game place.state (start_of c.origin_after.result) (stand_of place.last) c.reach_next.new.pairs.items xs ends c.origin_after.ensures c.deref-pair-items.ensures.value (subst (λ (x : Searching). IsFlatPart x.game c.args.state.now.state (start_of c.origin_after.result) c.reach_next.new.pairs.items c.in_ok-reach_next.field-0) c.take_pairs-pairs.ensures c.in_ok-reach_next.ensures.reached) in
     let plain = plain_told game c.game-game.result.now q.1 c.is_switch.result c.game-game.ensures.game c.is_switch.ensures c.if-not-is_switch.true in
     let same = ap (λ (x : Searching). x.game) c.loop-pair.invariant.search in
     let same_state = ap (λ (h : History). h.state) c.loop-pair.invariant.state in
@@ -224,7 +224,7 @@ list-returns-then-branch-2-clause-counted g t c =
     let q : ℕ × ℕ = get_or xs k (0, 0) in
     let under = c.loop-pair-test.true in
     let ends = c.in_ok-reach_next.field-0 in
-    let part = part_as game place.state (start_of c.origin_after.result) (stand_of place.last) c.reach_next.new.pairs.items xs ends c.origin_after.ensures c.deref-pair-items.ensures.value (subst (λ (x : Searching). IsFlatPart x.game c.args.state.now.state (start_of c.origin_after.result) c.reach_next.new.pairs.items c.in_ok-reach_next.field-0) c.take_list-pairs.ensures c.in_ok-reach_next.ensures.reached) in
+    let part = part_as game place.state (start_of c.origin_after.result) (stand_of place.last) c.reach_next.new.pairs.items xs ends c.origin_after.ensures c.deref-pair-items.ensures.value (subst (λ (x : Searching). IsFlatPart x.game c.args.state.now.state (start_of c.origin_after.result) c.reach_next.new.pairs.items c.in_ok-reach_next.field-0) c.take_pairs-pairs.ensures c.in_ok-reach_next.ensures.reached) in
     let plain = plain_told game c.game-game.result.now q.1 c.is_switch.result c.game-game.ensures.game c.is_switch.ensures c.if-not-is_switch.true in
     let same = ap (λ (x : Searching). x.game) c.loop-pair.invariant.search in
     let same_state = ap (λ (h : History). h.state) c.loop-pair.invariant.state in
@@ -242,7 +242,7 @@ list-returns-then-branch-2-clause-paired g t c =
     let q : ℕ × ℕ = get_or xs k (0, 0) in
     let under = c.loop-pair-test.true in
     let ends = c.in_ok-reach_next.field-0 in
-    let part = part_as game place.state (start_of c.origin_after.result) (stand_of place.last) c.reach_next.new.pairs.items xs ends c.origin_after.ensures c.deref-pair-items.ensures.value (subst (λ (x : Searching). IsFlatPart x.game c.args.state.now.state (start_of c.origin_after.result) c.reach_next.new.pairs.items c.in_ok-reach_next.field-0) c.take_list-pairs.ensures c.in_ok-reach_next.ensures.reached) in
+    let part = part_as game place.state (start_of c.origin_after.result) (stand_of place.last) c.reach_next.new.pairs.items xs ends c.origin_after.ensures c.deref-pair-items.ensures.value (subst (λ (x : Searching). IsFlatPart x.game c.args.state.now.state (start_of c.origin_after.result) c.reach_next.new.pairs.items c.in_ok-reach_next.field-0) c.take_pairs-pairs.ensures c.in_ok-reach_next.ensures.reached) in
     let plain = plain_told game c.game-game.result.now q.1 c.is_switch.result c.game-game.ensures.game c.is_switch.ensures c.if-not-is_switch.true in
     let same = ap (λ (x : Searching). x.game) c.loop-pair.invariant.search in
     let same_state = ap (λ (h : History). h.state) c.loop-pair.invariant.state in
@@ -260,7 +260,7 @@ list-loop-pair-preserved g t c =
     let q : ℕ × ℕ = get_or xs k (0, 0) in
     let under = c.loop-pair-test.true in
     let ends = c.in_ok-reach_next.field-0 in
-    let part = part_as game place.state (start_of c.origin_after.result) (stand_of place.last) c.reach_next.new.pairs.items xs ends c.origin_after.ensures c.deref-pair-items.ensures.value (subst (λ (x : Searching). IsFlatPart x.game c.args.state.now.state (start_of c.origin_after.result) c.reach_next.new.pairs.items c.in_ok-reach_next.field-0) c.take_list-pairs.ensures c.in_ok-reach_next.ensures.reached) in
+    let part = part_as game place.state (start_of c.origin_after.result) (stand_of place.last) c.reach_next.new.pairs.items xs ends c.origin_after.ensures c.deref-pair-items.ensures.value (subst (λ (x : Searching). IsFlatPart x.game c.args.state.now.state (start_of c.origin_after.result) c.reach_next.new.pairs.items c.in_ok-reach_next.field-0) c.take_pairs-pairs.ensures c.in_ok-reach_next.ensures.reached) in
     let same = ap (λ (x : Searching). x.game) inv.search in
     let same_state = ap (λ (h : History). h.state) inv.state in
     let front : List (ℕ × ℕ) = c.args.front.now.items in
@@ -322,7 +322,7 @@ list-returns-clause-gathered g t c =
     let xs : List (ℕ × ℕ) = c.deref-pair-items.result.now in
     let k = c.loop-pair.pair-index in
     let ends = c.in_ok-reach_next.field-0 in
-    let part = part_as game place.state (start_of c.origin_after.result) (stand_of place.last) c.reach_next.new.pairs.items xs ends c.origin_after.ensures c.deref-pair-items.ensures.value (subst (λ (x : Searching). IsFlatPart x.game c.args.state.now.state (start_of c.origin_after.result) c.reach_next.new.pairs.items c.in_ok-reach_next.field-0) c.take_list-pairs.ensures c.in_ok-reach_next.ensures.reached) in
+    let part = part_as game place.state (start_of c.origin_after.result) (stand_of place.last) c.reach_next.new.pairs.items xs ends c.origin_after.ensures c.deref-pair-items.ensures.value (subst (λ (x : Searching). IsFlatPart x.game c.args.state.now.state (start_of c.origin_after.result) c.reach_next.new.pairs.items c.in_ok-reach_next.field-0) c.take_pairs-pairs.ensures c.in_ok-reach_next.ensures.reached) in
     let front : List (ℕ × ℕ) = c.args.front.now.items in
     let max = c.args.found.now.max in
     let old : List (List (ℕ × ℕ)) = c.args.found.now.moves in
@@ -405,7 +405,7 @@ list-returns-then-branch-clause-forced g t c =
     let left = 200 - length c.args.front.now.items in
     let most = c.args.search.now.modifiers in
     cut_forced game c.game-game.ensures.lawful.numbered s f a b b left most (omega arith)
-    (subst (λ (h : Start). CountsForced game false reach s h a b left most) c.origin_after.ensures (subst (λ (x : Searching). CountsForced x.game false reach c.args.state.now.state (start_of c.origin_after.result) x.opened c.reach_next.new.search.opened left x.modifiers) c.take_list-pairs.ensures (c.in_ok-reach_next.ensures.forced false left)))
+    (subst (λ (h : Start). CountsForced game false reach s h a b left most) c.origin_after.ensures (subst (λ (x : Searching). CountsForced x.game false reach c.args.state.now.state (start_of c.origin_after.result) x.opened c.reach_next.new.search.opened left x.modifiers) c.take_pairs-pairs.ensures (c.in_ok-reach_next.ensures.forced false left)))
 
 pub list-returns-then-branch-2-clause-forced : goal.list-returns-then-branch-2-clause-forced
 list-returns-then-branch-2-clause-forced g t c =
@@ -417,7 +417,7 @@ list-returns-then-branch-2-clause-forced g t c =
     let q : ℕ × ℕ = get_or xs k (0, 0) in
     let under = c.loop-pair-test.true in
     let ends = c.in_ok-reach_next.field-0 in
-    let part = part_as game place.state (start_of c.origin_after.result) (stand_of place.last) c.reach_next.new.pairs.items xs ends c.origin_after.ensures c.deref-pair-items.ensures.value (subst (λ (x : Searching). IsFlatPart x.game c.args.state.now.state (start_of c.origin_after.result) c.reach_next.new.pairs.items c.in_ok-reach_next.field-0) c.take_list-pairs.ensures c.in_ok-reach_next.ensures.reached) in
+    let part = part_as game place.state (start_of c.origin_after.result) (stand_of place.last) c.reach_next.new.pairs.items xs ends c.origin_after.ensures c.deref-pair-items.ensures.value (subst (λ (x : Searching). IsFlatPart x.game c.args.state.now.state (start_of c.origin_after.result) c.reach_next.new.pairs.items c.in_ok-reach_next.field-0) c.take_pairs-pairs.ensures c.in_ok-reach_next.ensures.reached) in
     let same = ap (λ (x : Searching). x.game) c.loop-pair.invariant.search in
     let same_state = ap (λ (h : History). h.state) c.loop-pair.invariant.state in
     let next : IsNext game place.state (stand_of place.last) q.0 q.1 = (part.next q.0 q.1).0 (k, under, get_or_default xs k q (0, 0) under) in
@@ -437,10 +437,10 @@ list-returns-clause-forced g t c =
     let xs : List (ℕ × ℕ) = c.deref-pair-items.result.now in
     let k = c.loop-pair.pair-index in
     let ends = c.in_ok-reach_next.field-0 in
-    let part = part_as game s (start_of c.origin_after.result) f c.reach_next.new.pairs.items xs ends c.origin_after.ensures c.deref-pair-items.ensures.value (subst (λ (x : Searching). IsFlatPart x.game c.args.state.now.state (start_of c.origin_after.result) c.reach_next.new.pairs.items c.in_ok-reach_next.field-0) c.take_list-pairs.ensures c.in_ok-reach_next.ensures.reached) in
+    let part = part_as game s (start_of c.origin_after.result) f c.reach_next.new.pairs.items xs ends c.origin_after.ensures c.deref-pair-items.ensures.value (subst (λ (x : Searching). IsFlatPart x.game c.args.state.now.state (start_of c.origin_after.result) c.reach_next.new.pairs.items c.in_ok-reach_next.field-0) c.take_pairs-pairs.ensures c.in_ok-reach_next.ensures.reached) in
     let taken = subst (λ (ds : List (ℕ × ℕ)). TakenSoFar game list_moves s f ds a now.search.opened left most) (take_all k xs c.loop-pair-test.false) c.loop-pair.invariant.forced in
     let counts = listed_forced game c.game-game.ensures.lawful.numbered s f xs ends a now.search.opened left most part taken in
-    subst (λ (x : Searching). CountsForced game false list_moves s f a x.opened left most) (sym c.keep_list.ensures) counts
+    subst (λ (x : Searching). CountsForced game false list_moves s f a x.opened left most) (sym c.keep_pairs.ensures) counts
 
 pub list_behind-returns-clause-forced : goal.list_behind-returns-clause-forced
 list_behind-returns-clause-forced g t c = λ later applied.
@@ -457,11 +457,11 @@ list_behind-returns-clause-forced g t c = λ later applied.
 -- ---- which pairs are counted
 
 pub list-returns-then-branch-clause-paired : goal.list-returns-then-branch-clause-paired
-list-returns-then-branch-clause-paired g t c = begin_takes c.args.search.now c.take_list-pairs.new.self c.reach_next.new.search list_moves c.args.state.now.state (stand_of c.args.after) (start_of c.origin_after.result) (IsOk c.reach_next.result) c.take_list-pairs.ensures c.origin_after.ensures c.reach_next.ensures.paired (is_answer c.reach_next.result c.in_ok-reach_next.field-0 c.in_ok-reach_next.was)
+list-returns-then-branch-clause-paired g t c = begin_takes c.args.search.now c.take_pairs-pairs.new.self c.reach_next.new.search list_moves c.args.state.now.state (stand_of c.args.after) (start_of c.origin_after.result) (IsOk c.reach_next.result) c.take_pairs-pairs.ensures c.origin_after.ensures c.reach_next.ensures.paired (is_answer c.reach_next.result c.in_ok-reach_next.field-0 c.in_ok-reach_next.was)
 
 pub list-returns-clause-paired : goal.list-returns-clause-paired
 list-returns-clause-paired g t c =
-    subst (λ (x : Searching). CountsPairs c.args.search.now.game list_moves c.args.state.now.state (stand_of c.args.after) c.args.search.now.opened x.opened c.args.search.now.taken x.taken (Unit {0})) (sym c.keep_list.ensures) c.loop-pair.invariant.paired
+    subst (λ (x : Searching). CountsPairs c.args.search.now.game list_moves c.args.state.now.state (stand_of c.args.after) c.args.search.now.opened x.opened c.args.search.now.taken x.taken (Unit {0})) (sym c.keep_pairs.ensures) c.loop-pair.invariant.paired
 
 pub list_behind-returns-clause-paired : goal.list_behind-returns-clause-paired
 list_behind-returns-clause-paired g t c =
