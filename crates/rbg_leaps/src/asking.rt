@@ -1,5 +1,5 @@
 //! The leaps of a game: what is asked of them.
-ghost use Rattle.std.specs.Prelude.{◌≡◌, ◌<◌, ◌↔◌, length, IsTrue, []};
+ghost use Rattle.std.specs.Prelude.{◌≡◌, ◌<◌, ◌↔◌, length, IsTrue};
 ghost use Rattle.rbg_rules.specs.Laws.{IsStart};
 ghost use Rattle.rbg_rules.specs.State.{AbstractGame};
 ghost use Rattle.rbg_leaps.specs.Leaps.{EndsAcross};
@@ -42,26 +42,8 @@ impl Leaps {
         self.table.entry(self.node(origin), vertex)
     }
 
-    /// The positions to which leaps lead from an origin and a vertex, each with its row.
-    pub fn from(&self, origin: Origin, vertex: Vertex) -> &[Target]
-        ensures { (game : AbstractGame) → AreLeapsOf game self.now → vertex < length game.board.first
-            → IsStart game.rules (start_of origin)
-            → AreTargetsFrom game (start_of origin) vertex self.now result.now }
-    {
-        let entry = self.entry(origin, vertex);
-        self.table.targets(entry)
-    }
-
-    /// Whether words may end with shifts alone, or with nothing, from an origin and a vertex.
-    pub fn ends(&self, origin: Origin, vertex: Vertex) -> bool
-        ensures { (game : AbstractGame) → AreLeapsOf game self.now → vertex < length game.board.first
-            → IsStart game.rules (start_of origin)
-            → IsTrue result ↔ EndsAcross game (start_of origin) vertex }
-    {
-        self.entry(origin, vertex).ends
-    }
-
-    /// What `from` and `ends` tell, by one look.
+    /// The positions to which leaps lead from an origin and a vertex, each with its row, and whether words may end with
+    /// shifts alone, or with nothing, from there.
     pub fn leads(&self, origin: Origin, vertex: Vertex) -> (&[Target], bool)
         ensures from { (game : AbstractGame) → AreLeapsOf game self.now → vertex < length game.board.first
             → IsStart game.rules (start_of origin)
@@ -80,20 +62,5 @@ impl Leaps {
         ensures { result.now ≡ row_of self.now target.now }
     {
         &self.table.words[target.row..target.row + self.table.columns]
-    }
-
-    /// The row of a target of these leaps: its vertices, a bit for each, 64 in a word. It is empty where the target is of
-    /// other leaps and has no row here.
-    pub fn row(&self, target: &Target) -> &[u64]
-        ensures row { HasRow self.now target.now → result.now ≡ row_of self.now target.now }
-        ensures none { ¬ HasRow self.now target.now → result.now ≡ [] }
-    {
-        let words = self.table.words.as_slice();
-        let columns = self.table.columns;
-        if target.row <= words.len() && columns <= words.len() - target.row {
-            &words[target.row..target.row + columns]
-        } else {
-            &[]
-        }
     }
 }
