@@ -1,4 +1,5 @@
 -- Lemmas, by topic.
+pub mod Fillings
 pub mod RowLemmas
 pub mod ShiftLemmas
 pub mod Sharing

@@ -127,6 +127,16 @@ first_bit a b k is =
     one_most (suc zero) small = refl
     one_most (suc (suc y)) small = absurd (omega (arith, small))
 
+second_bit : (a b k : ℕ) → bit_at b k ≡ 1 → bit_at (bit_or a b) k ≡ 1
+second_bit a b k is =
+    let small = bit_at-lt a k in
+    bit_at_or a b k ∙ ap (λ (x : ℕ). max (bit_at a k) x) is ∙ one_most (bit_at a k) small
+  where
+    one_most : (x : ℕ) → x < 2 → max x 1 ≡ 1
+    one_most zero small = refl
+    one_most (suc zero) small = refl
+    one_most (suc (suc x)) small = absurd (omega (arith, small))
+
 -- Where joining changes nothing, each bit was there.
 pub under_bit : (a b k : ℕ) → bit_or a b ≡ b → bit_at a k ≡ 1 → bit_at b k ≡ 1
 under_bit a b k same is = ap (λ (n : ℕ). bit_at n k) (sym same) ∙ first_bit a b k is
@@ -188,6 +198,10 @@ is_union columns old new one other row begins first second is = record {
   first = λ u set. let has = to_bit columns old one u first set in of_bit columns new row u (record {
     within = has.within;
     set = ap (λ (n : ℕ). bit_at n (u % 64)) (word u has.within) ∙ first_bit (get_or old (one + u / 64) 0) (get_or old (other + u / 64) 0) (u % 64) has.set;
+  });
+  second = λ u set. let has = to_bit columns old other u second set in of_bit columns new row u (record {
+    within = has.within;
+    set = ap (λ (n : ℕ). bit_at n (u % 64)) (word u has.within) ∙ second_bit (get_or old (one + u / 64) 0) (get_or old (other + u / 64) 0) (u % 64) has.set;
   });
 }
   where

@@ -11,7 +11,8 @@ use Rattle.rbg_leaps.specs.Leaps.{IsShiftAt}
 use Rattle.rbg_leaps.specs.Made.{entry_at}
 use Rattle.rbg_leaps.specs.internal.Shelves.{list_at, may_end_at, IsNodeOf, AreListsOf}
 use Rattle.rbg_leaps.specs.internal.Steps.{Comes}
-use Rattle.rbg_leaps.specs.internal.Tables.{IsSoundEntry, IsSoundTable}
+use Rattle.rbg_leaps.specs.internal.Tables.{IsSoundEntry, IsSoundTable, targets_of, IsUnder, IsToldAt}
+use Rattle.rbg_leaps.proofs.Fillings.{told_behind}
 use Rattle.rbg_leaps.proofs.ShiftLemmas.{shift_within}
 use Rattle.rbg_leaps.proofs.Tabling.{entry_on}
 
@@ -24,3 +25,11 @@ entry_step game numbered lists are table right n v p w k e there is comes below 
     let sound : IsSoundEntry game (list_at lists.shelf m) (may_end_at lists.shelf m) w table e =
     subst (IsSoundEntry game (list_at lists.shelf m) (may_end_at lists.shelf m) w table) (sym same) (right.sound m w node.there on_board) in
     entry_on game numbered lists table n v p w m e there is comes node sound ends either
+
+-- What is told behind the only shift is told by an entry that shares its targets.
+pub shared_told : (game : AbstractGame) (lists : Lists) (table : Table) → IsSoundTable game lists table → (v p to k : ℕ) (e : Entry) (ends : Bool) → IsShiftAt game.rules p → ((w : ℕ) → Comes game v p w → w ≡ to) → to < length game.board.first → k ≡ get_or lists.afters.items p 0 → e ≡ entry_at table k to → (IsTrue e.ends → IsTrue ends) → IsToldAt game lists table (record { start = e.start; end = e.end; ends = ends }) v p
+shared_told game lists table right v p to k e ends is only below behind at more =
+    let on_board : to < table.vertices = subst (λ (many : ℕ). to < many) (sym right.laid_out.vertices) below in
+    let same : e ≡ entry_at table (get_or lists.afters.items p 0) to = at ∙ ap (λ (i : ℕ). entry_at table i to) behind in
+    told_behind game lists table (targets_of table e) ends v p to is only on_board
+    (subst (λ (x : Entry). IsUnder table x (targets_of table e) ends) same (record { tells = λ j u told. told; ends = more }))

@@ -1,7 +1,7 @@
 -- A table that is being made: what stays right when it grows.
 use Rattle.std.proofs.Common.{◌≡◌, ◌≢◌, ℕ, ◌+◌, ◌-◌, ◌*◌, ◌<◌, ◌≤◌, ◌⊎◌, List, [], ◌∷◌, ◌++◌, length, get_or, take, drop, set, Bool, true, false, refl, sym, ap, ◌∙◌, subst, inl, inr, zero, suc, arith}
 use Rattle.std.specs.Prelude.{All, Contains, IsTrue, slice_range, replicate}
-use Rattle.std.proofs.lemmas.List.{take_all, length-append, length-map, length-set, length-replicate, get_or-map, get_or-set_same, get_or-set_other, get_or-drop, get_or-take, length-take-le, length-drop}
+use Rattle.std.proofs.lemmas.List.{take_all, length-append, length-map, length-set, length-replicate, get_or-map, get_or-set_same, get_or-set_other, get_or-drop, get_or-take, get_or_append_left, get_or_push, length-take-le, length-drop}
 use Rattle.std.proofs.lemmas.List.Elements.{All-push}
 use Rattle.std.proofs.lemmas.List.Quantifiers.{all_pairs_push}
 use Rattle.std.proofs.lemmas.Slice.{between_is}
@@ -23,9 +23,9 @@ use Rattle.rbg_leaps.specs.Rows.{has_bit}
 use Rattle.rbg_leaps.specs.Targets.{row_at}
 use Rattle.rbg_leaps.specs.internal.Shelves.{Extends, list_at, may_end_at, IsNodeOf, AreListsOf}
 use Rattle.rbg_leaps.specs.internal.Steps.{Comes, IsLeapBy, EndsBy}
-use Rattle.rbg_leaps.specs.internal.Tables.{no_target, IsRowOf, AreSound, targets_of, TellsAt, IsSoundEntry, IsSoundTable, Grows, IsGathered, Puts, Shares, AddsRow, AddsAll, IsFilled, IsClosed, StaysClosed, AreClosedFrom}
+use Rattle.rbg_leaps.specs.internal.Tables.{no_target, Tells, IsRowOf, AreSound, targets_of, TellsAt, IsSoundEntry, IsSoundTable, Grows, IsGathered, Puts, Shares, AddsRow, AddsUpTo, AddsAll, IsFilled, IsClosed, StaysClosed, AreClosedFrom}
 use Rattle.rbg_leaps.specs.internal.Words.{IsUnion, IsUnit, AreUnits}
-use Rattle.rbg_leaps.proofs.RowLemmas.{below_or_not, same_or_not, one_place, extends_none, extends_more, extends_by, longer, part_extended, item_extended, row_extended, units_extended}
+use Rattle.rbg_leaps.proofs.RowLemmas.{below_or_not, same_or_not, one_place, extends_none, extends_more, extends_by, longer, part_extended, item_extended, row_extended, units_extended, LastPlace, before, last, last_place}
 use Rattle.rbg_leaps.proofs.Shelving.{node_there}
 use Rattle.rbg_leaps.proofs.Steppings.{leap_here, leap_on, ends_here, ends_on, all_told, all_ends_told}
 
@@ -73,17 +73,39 @@ adds_new columns words ts position row within rows none = record {
     different = all_pairs_push (λ s t. s.position ≢ t.position) ts target are.different (λ k d under same. none k under (ap (λ (t : Target). t.position) (any_default ts k no_target d under) ∙ same));
     rows = All-push (λ t. IsRowOf (IsLeapBy game list may_end v t.position) columns words t.row) ts target are.rows is;
   };
+  keeps = λ j u told.
+      let item : get_or (ts ++ target ∷ []) told.at no_target ≡ get_or ts told.at no_target = get_or_append_left ts (target ∷ []) no_target told.at told.there in
+      record {
+        at = told.at;
+        there = let there = told.there in omega (arith, long, there);
+        position = ap (λ (t : Target). t.position) item ∙ told.position;
+        bit = ap (λ (t : Target). has_bit (row_at columns words t.row) u) item ∙ told.bit;
+      };
+  has = λ u is. record {
+    at = length ts;
+    there = omega (arith, long);
+    position = ap (λ (t : Target). t.position) item_last;
+    bit = ap (λ (t : Target). has_bit (row_at columns words t.row) u) item_last ∙ is;
+  };
 }
   where
     target : Target
     target = record { position = position; row = row }
 
+    long : length (ts ++ target ∷ []) ≡ length ts + 1
+    long = length-append ts (target ∷ [])
+
+    item_last : get_or (ts ++ target ∷ []) (length ts) no_target ≡ target
+    item_last = get_or_push ts target no_target (length ts) refl
+
 -- A row that is under the one that is there adds nothing.
-pub adds_nothing : (columns : ℕ) (words : List ℕ) (ts : List Target) (position row : ℕ) → All (λ t. t.row + columns ≤ length words) ts → AddsRow columns words words ts ts position row
-adds_nothing columns words ts position row rows = record {
+pub adds_nothing : (columns : ℕ) (words : List ℕ) (ts : List Target) (position row index : ℕ) → index < length ts → (get_or ts index no_target).position ≡ position → All (λ t. t.row + columns ≤ length words) ts → ((u : ℕ) → has_bit (row_at columns words row) u ≡ true → has_bit (row_at columns words (get_or ts index no_target).row) u ≡ true) → AddsRow columns words words ts ts position row
+adds_nothing columns words ts position row index there same rows under = record {
   extends = extends_none words;
   rows = rows;
   sound = λ game list may_end v are is. are;
+  keeps = λ j u told. told;
+  has = λ u is. record { at = index; there = there; position = same; bit = under u is };
 }
 
 -- A row is joined with the one that is there.
@@ -95,6 +117,13 @@ adds_union columns old new ts position row index joined there same rows union = 
     different = λ i j d first below e. are.different i j d first (inside j below) (sym (position_at i d (omega (arith, first, below_set j below))) ∙ e ∙ position_at j d (inside j below));
     rows = λ k d below. sound_at (IsLeapBy game list may_end v) are is k d below (same_or_not k index);
   };
+  keeps = λ j u told. keep j u told (same_or_not told.at index);
+  has = λ u is. record {
+    at = index;
+    there = below_old index there;
+    position = ap (λ (t : Target). t.position) (here index no_target refl);
+    bit = ap (λ (t : Target). has_bit (row_at columns new t.row) u) (here index no_target refl) ∙ union.second u is;
+  };
 }
   where
     target : Target
@@ -105,6 +134,9 @@ adds_union columns old new ts position row index joined there same rows union = 
 
     below_set : (k : ℕ) → k < length (set ts index target) → k < length ts
     below_set k below = inside k below
+
+    below_old : (k : ℕ) → k < length ts → k < length (set ts index target)
+    below_old k below = let long = length-set ts index target in omega (arith, below, long)
 
     here : (k : ℕ) (d : Target) → k ≡ index → get_or (set ts index target) k d ≡ target
     here k d e = ap (λ (i : ℕ). get_or (set ts index target) i d) e ∙ get_or-set_same ts index target d there
@@ -119,6 +151,25 @@ adds_union columns old new ts position row index joined there same rows union = 
 
     position_at : (k : ℕ) (d : Target) → k < length ts → (get_or (set ts index target) k d).position ≡ (get_or ts k d).position
     position_at k d below = position_by k d below (same_or_not k index)
+
+    keep : (j u : ℕ) (told : Tells columns old ts j u) → (told.at ≡ index) ⊎ (told.at ≢ index) → Tells columns new (set ts index target) j u
+    keep j u told (inl e) = record {
+      at = told.at;
+      there = below_old told.at told.there;
+      position = position_at told.at no_target told.there ∙ told.position;
+      bit =
+          ap (λ (t : Target). has_bit (row_at columns new t.row) u) (here told.at no_target e)
+          ∙ union.first u (ap (λ (i : ℕ). has_bit (row_at columns old (get_or ts i no_target).row) u) (sym e) ∙ told.bit);
+    }
+    keep j u told (inr differ) = record {
+      at = told.at;
+      there = below_old told.at told.there;
+      position = position_at told.at no_target told.there ∙ told.position;
+      bit =
+          ap (λ (t : Target). has_bit (row_at columns new t.row) u) (other told.at no_target differ)
+          ∙ ap (λ (ws : List ℕ). has_bit ws u) (row_extended columns old new union.extends (get_or ts told.at no_target).row (rows told.at no_target told.there))
+          ∙ told.bit;
+    }
 
     rows_at : (k : ℕ) (d : Target) → k < length (set ts index target) → (k ≡ index) ⊎ (k ≢ index) → (get_or (set ts index target) k d).row + columns ≤ length new
     rows_at k d below (inl e) = subst (λ (t : Target). t.row + columns ≤ length new) (sym (here k d e)) union.within
@@ -201,7 +252,7 @@ gathered_grown game lists old new n v grows ts is =
     subst (λ (k : ℕ). AreSound Leap k new.words.items ts) (sym grows.columns) (sound_grown Leap old.columns old.words.items new.words.items grows.words ts is)
 
 -- The part behind a list is what was appended.
-part_last : {X : Type 0} (xs ys : List X) (b : ℕ) → b ≡ length xs + length ys → slice_range (xs ++ ys) (length xs) b ≡ ys
+pub part_last : {X : Type 0} (xs ys : List X) (b : ℕ) → b ≡ length xs + length ys → slice_range (xs ++ ys) (length xs) b ≡ ys
 part_last xs ys b whole = between_is (xs ++ ys) (length xs) b ∙ ap (drop (length xs)) (take_all b (xs ++ ys) (let long = length-append xs ys in omega (arith, long, whole))) ∙ drop-append_seam xs ys
 
 -- The place of a node and a vertex is there.
@@ -302,7 +353,7 @@ blank_table game lists t places vertices columns many entries units = record {
     none n v = ap (λ (es : List Entry). get_or es (n * t.vertices + v) no_entry) entries ∙ blanks places (n * t.vertices + v)
 
 -- An item of a part of a list.
-part_item : {X : Type 0} (xs : List X) (a b i : ℕ) (d : X) → a + i < b → get_or (slice_range xs a b) i d ≡ get_or xs (a + i) d
+pub part_item : {X : Type 0} (xs : List X) (a b i : ℕ) (d : X) → a + i < b → get_or (slice_range xs a b) i d ≡ get_or xs (a + i) d
 part_item xs a b i d below = ap (λ (ys : List _). get_or ys i d) (between_is xs a b) ∙ get_or-drop a (take b xs) i d ∙ get_or-take b xs (a + i) d below
 
 part_long : {X : Type 0} (xs : List X) (a b i : ℕ) → b ≤ length xs → a + i < b → i < length (slice_range xs a b)
@@ -313,18 +364,63 @@ part_long xs a b i within below =
     omega (arith, same, front, rest, below)
 
 -- Nothing was added of an entry yet, and then one target.
-pub adds_none : (t : Table) (ts : List Target) (e : Entry) → All (λ x. x.row + t.columns ≤ length t.words.items) ts → AddsAll t t ts ts e
-adds_none t ts e rows = record { grows = grows_none t; rows = rows; sound = λ game list may_end v are of_entry. are }
+pub adds_none : (t : Table) (ts : List Target) (e : Entry) → All (λ x. x.row + t.columns ≤ length t.words.items) ts → AddsUpTo t t ts ts e e.start
+adds_none t ts e rows = record {
+  grows = grows_none t;
+  rows = rows;
+  sound = λ game list may_end v are of_entry. are;
+  kept = record { keeps = λ j u told. told };
+  has = λ i u below is. absurd (omega (arith, below));
+}
 
-pub adds_one : (old middle new : Table) (first between behind : List Target) (e : Entry) (k : ℕ) (d : Target) → e.start ≤ k → k < e.end → e.end ≤ length old.targets.items → AddsAll old middle first between e → Grows middle new → AddsRow middle.columns middle.words.items new.words.items between behind (get_or middle.targets.items k d).position (get_or middle.targets.items k d).row → AddsAll old new first behind e
+-- All that is behind the end was added too.
+pub adds_all : (old new : Table) (first behind : List Target) (e : Entry) (place : ℕ) → e.end ≤ place → AddsUpTo old new first behind e place → AddsAll old new first behind e
+adds_all old new first behind e place far adds = record {
+  grows = adds.grows;
+  rows = adds.rows;
+  sound = adds.sound;
+  kept = adds.kept;
+  has = λ i u below is. adds.has i u (omega (arith, below, far)) is;
+}
+
+pub adds_one : (old middle new : Table) (first between behind : List Target) (e : Entry) (k : ℕ) (d : Target) → e.start ≤ k → k < e.end → e.end ≤ length old.targets.items → AddsUpTo old middle first between e k → Grows middle new → AddsRow middle.columns middle.words.items new.words.items between behind (get_or middle.targets.items k d).position (get_or middle.targets.items k d).row → AddsUpTo old new first behind e (k + 1)
 adds_one old middle new first between behind e k d starts ends within adds grows adds_row = record {
   grows = grows_more old middle new adds.grows grows;
   rows = subst (λ (c : ℕ). All (λ x. x.row + c ≤ length new.words.items) behind) (sym grows.columns) adds_row.rows;
   sound = λ game list may_end v are of_entry.
       subst (λ (c : ℕ). AreSound (IsLeapBy game list may_end v) c new.words.items behind) (sym grows.columns)
       (adds_row.sound game list may_end v (adds.sound game list may_end v are of_entry) (row game list may_end v of_entry));
+  kept = record { keeps = λ j u told. go_on j u (adds.kept.keeps j u told) };
+  has = λ n u below is. has_at n u (last_place k (e.start + n) below) is;
 }
   where
+    go_on : (j u : ℕ) → Tells middle.columns middle.words.items between j u → Tells new.columns new.words.items behind j u
+    go_on j u told = subst (λ (c : ℕ). Tells c new.words.items behind j u) (sym grows.columns) (adds_row.keeps j u told)
+
+    there_at : (n : ℕ) → e.start + n ≡ k → n < length (targets_of old e)
+    there_at n same = part_long old.targets.items e.start e.end n within (omega (arith, same, ends))
+
+    target_at : (n : ℕ) → e.start + n ≡ k → get_or (targets_of old e) n no_target ≡ get_or middle.targets.items k d
+    target_at n same =
+        any_default (targets_of old e) n no_target d (there_at n same)
+        ∙ part_item old.targets.items e.start e.end n d (omega (arith, same, ends))
+        ∙ ap (λ (j : ℕ). get_or old.targets.items j d) same
+        ∙ sym (item_extended old.targets.items middle.targets.items adds.grows.targets k d (omega (arith, ends, within)))
+
+    has_at : (n u : ℕ) → LastPlace k (e.start + n) → has_bit (row_at old.columns old.words.items (get_or (targets_of old e) n no_target).row) u ≡ true → Tells new.columns new.words.items behind (get_or (targets_of old e) n no_target).position u
+    has_at n u (before below) is = go_on (get_or (targets_of old e) n no_target).position u (adds.has n u below is)
+    has_at n u (last same) is =
+        let own : Target = get_or (targets_of old e) n no_target in
+        let in_row : own.row + old.columns ≤ length old.words.items =
+        subst (λ (t : Target). t.row + old.columns ≤ length old.words.items) (sym (any_default (targets_of old e) n no_target d (there_at n same) ∙ part_item old.targets.items e.start e.end n d (omega (arith, same, ends))))
+        (old.rows (e.start + n) d (omega (arith, same, ends, within))) in
+        let bit : has_bit (row_at middle.columns middle.words.items own.row) u ≡ true =
+        subst (λ (c : ℕ). has_bit (row_at c middle.words.items own.row) u ≡ true) (sym adds.grows.columns)
+        (ap (λ (ws : List ℕ). has_bit ws u) (row_extended old.columns old.words.items middle.words.items adds.grows.words own.row in_row) ∙ is) in
+        subst (λ (c : ℕ). Tells c new.words.items behind own.position u) (sym grows.columns)
+        (subst (λ (t : Target). Tells middle.columns new.words.items behind t.position u) (sym (target_at n same))
+        (adds_row.has u (subst (λ (t : Target). has_bit (row_at middle.columns middle.words.items t.row) u ≡ true) (target_at n same) bit)))
+
     i : ℕ
     i = k - e.start
 

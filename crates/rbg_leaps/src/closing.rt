@@ -4,7 +4,7 @@ ghost use Rattle.rbg_leaps.specs.Entries.{IsWithin};
 ghost use Rattle.rbg_leaps.specs.Made.{entry_at};
 ghost use Rattle.rbg_leaps.specs.Rows.{has_bit};
 ghost use Rattle.rbg_leaps.specs.Targets.{row_at};
-ghost use Rattle.rbg_leaps.specs.internal.Tables.{TellsAt, IsUnder, IsToldAt, IsToldEverywhere, AreClosedAt, IsLaidOut};
+ghost use Rattle.rbg_leaps.specs.internal.Tables.{TellsAt, targets_of, IsUnder, IsToldAt, IsToldEverywhere, AreClosedAt, IsLaidOut};
 
 use crate::gathering::index_of;
 use crate::ground::Ground;
@@ -60,7 +60,7 @@ fn tells_targets(table: &Table, entry: Entry, other: Entry) -> bool
 fn tells_all(table: &Table, entry: Entry, other: Entry) -> bool
     requires within { IsWithin (length table.now.targets.items) entry }
     requires other { IsWithin (length table.now.targets.items) other }
-    ensures { IsTrue result → IsUnder table.now other entry }
+    ensures { IsTrue result → IsUnder table.now other (targets_of table.now entry) entry.ends }
 {
     if other.ends && !entry.ends {
         return false;

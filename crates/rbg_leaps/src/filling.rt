@@ -1,11 +1,11 @@
 //! A first pass over all nodes, each after those to which its shifts lead.
-ghost use Rattle.std.specs.Prelude.{◌<◌, length, Contains, OnOk, IsTrue};
+ghost use Rattle.std.specs.Prelude.{◌≡◌, ◌≢◌, ◌<◌, length, false, Contains, IfOk, OnOk, IsTrue, slice_index_or};
 ghost use Rattle.rbg_rules.specs.Games.{IsGame};
 ghost use Rattle.rbg_leaps.specs.Entries.{IsWithin};
 ghost use Rattle.rbg_leaps.specs.Leaps.{IsShiftAt};
 ghost use Rattle.rbg_leaps.specs.internal.Shelves.{AreListsOf, list_at, may_end_at};
-ghost use Rattle.rbg_leaps.specs.internal.Steps.{HasOnlyShift};
-ghost use Rattle.rbg_leaps.specs.internal.Tables.{IsSoundEntry, IsSoundTable};
+ghost use Rattle.rbg_leaps.specs.internal.Steps.{HasOnlyShift, IsOnlyShift};
+ghost use Rattle.rbg_leaps.specs.internal.Tables.{IsSoundEntry, IsSoundTable, IsToldAt, FillsOne, FillsUpTo, FillsRightly, LeadsAway, LeadsToMarked, IsMarked, AreFilled};
 
 use crate::gathering::gather;
 use crate::ground::Ground;
@@ -15,6 +15,7 @@ use rbg_base::{Memory, Position, Vertex};
 use std::alloc::Global;
 
 /// Puts what one step leads to into the entry of a node and a vertex.
+#[inline(always)]
 fn fill_one(
     table: &mut Table,
     parts: &mut Vec<Target>,
@@ -28,7 +29,7 @@ fn fill_one(
     requires sound { IsSoundTable ground.now lists.now table.old }
     requires node { node < length lists.now.shelf.nodes.items }
     requires vertex { vertex < length ground.now.board.first }
-    ensures { OnOk result (IsSoundTable ground.now lists.now table.new) }
+    ensures { OnOk result (FillsOne ground.now lists.now table.old table.new node vertex) }
 {
     let ends = gather(table, parts, lists, ground, node, vertex)?;
     table.put(node, vertex, parts, ends)?;
@@ -36,6 +37,7 @@ fn fill_one(
 }
 
 /// The entry of a node and a vertex with what is told behind a shift of its list.
+#[inline(always)]
 fn entry_behind(
     table: &Table,
     lists: &Lists,
@@ -52,6 +54,8 @@ fn entry_behind(
     requires shift { IsShiftAt ground.now.rules position }
     ensures within { IsWithin (length table.now.targets.items) result }
     ensures sound { IsSoundEntry ground.now (list_at lists.now.shelf node) (may_end_at lists.now.shelf node) vertex table.now result }
+    ensures told { IsToldAt ground.now lists.now table.now result vertex position }
+    ensures ends { IsTrue (may_end_at lists.now.shelf node) → IsTrue result.ends }
 {
     let may_end = lists.shelf.may_end(node);
     let Some(to) = ground.to(vertex, position) else {
@@ -71,6 +75,7 @@ fn entry_behind(
 }
 
 /// Lets the entry of a node and a vertex share what is told behind a shift of its list.
+#[inline(always)]
 fn share_one(
     table: &mut Table,
     lists: &Lists,
@@ -84,9 +89,8 @@ fn share_one(
     requires sound { IsSoundTable ground.now lists.now table.old }
     requires node { node < length lists.now.shelf.nodes.items }
     requires vertex { vertex < length ground.now.board.first }
-    requires listed { Contains (list_at lists.now.shelf node) position }
-    requires shift { IsShiftAt ground.now.rules position }
-    ensures { IsSoundTable ground.now lists.now table.new }
+    requires shift { IsOnlyShift ground.now.rules (list_at lists.now.shelf node) position }
+    ensures { FillsOne ground.now lists.now table.old table.new node vertex }
 {
     let entry = entry_behind(table, lists, ground, node, vertex, position);
     table.share(node, vertex, entry);
@@ -107,7 +111,7 @@ fn share_node(table: &mut Table, lists: &Lists, ground: &Ground<'_>, node: usize
     requires sound { IsSoundTable ground.now lists.now table.old }
     requires node { node < length lists.now.shelf.nodes.items }
     requires shift { HasOnlyShift ground.now.rules (list_at lists.now.shelf node) }
-    ensures { IsSoundTable ground.now lists.now table.new }
+    ensures { FillsUpTo ground.now lists.now table.old table.new node (length ground.now.board.first) }
 {
     let position = lists.shelf.list(node)[0];
     for vertex in 0..ground.vertices() {
@@ -115,32 +119,41 @@ fn share_node(table: &mut Table, lists: &Lists, ground: &Ground<'_>, node: usize
     }
 }
 
-/// Fills the entries of a node: forwards over the vertices, and then backwards where that is asked for.
-pub(crate) fn fill_node(
+/// Fills the entries of a node forwards over the vertices.
+fn fill_forwards(
     table: &mut Table,
     parts: &mut Vec<Target>,
     lists: &Lists,
     ground: &Ground<'_>,
     node: usize,
-    back: bool,
 ) -> Result<(), Memory>
     requires lawful { IsGame ground.now }
     requires lists { AreListsOf ground.now.rules lists.now }
     requires sound { IsSoundTable ground.now lists.now table.old }
     requires node { node < length lists.now.shelf.nodes.items }
-    ensures { OnOk result (IsSoundTable ground.now lists.now table.new) }
+    ensures { OnOk result (FillsUpTo ground.now lists.now table.old table.new node (length ground.now.board.first)) }
 {
-    if !back && has_only_shift(lists, ground, node) {
-        share_node(table, lists, ground, node);
-        return Ok(());
-    }
-    let vertices = ground.vertices();
-    for vertex in 0..vertices {
+    for vertex in 0..ground.vertices() {
         fill_one(table, parts, lists, ground, node, vertex as Vertex)?;
     }
-    if !back {
-        return Ok(());
-    }
+    Ok(())
+}
+
+/// Fills the entries of a node backwards over the vertices.
+fn fill_backwards(
+    table: &mut Table,
+    parts: &mut Vec<Target>,
+    lists: &Lists,
+    ground: &Ground<'_>,
+    node: usize,
+) -> Result<(), Memory>
+    requires lawful { IsGame ground.now }
+    requires lists { AreListsOf ground.now.rules lists.now }
+    requires sound { IsSoundTable ground.now lists.now table.old }
+    requires node { node < length lists.now.shelf.nodes.items }
+    ensures { OnOk result (FillsRightly ground.now lists.now table.old table.new node) }
+{
+    let vertices = ground.vertices();
     for index in 0..vertices {
         let vertex = (vertices - 1 - index) as Vertex;
         fill_one(table, parts, lists, ground, node, vertex)?;
@@ -148,27 +161,163 @@ pub(crate) fn fill_node(
     Ok(())
 }
 
-/// Whether a shift of a node's list leads to the same node again.
-fn repeats(lists: &Lists, ground: &Ground<'_>, node: usize) -> bool {
+/// Fills the entries of a node from which no shift leads to the node again.
+fn fill_once(
+    table: &mut Table,
+    parts: &mut Vec<Target>,
+    lists: &Lists,
+    ground: &Ground<'_>,
+    node: usize,
+) -> Result<(), Memory>
+    requires lawful { IsGame ground.now }
+    requires lists { AreListsOf ground.now.rules lists.now }
+    requires sound { IsSoundTable ground.now lists.now table.old }
+    requires node { node < length lists.now.shelf.nodes.items }
+    ensures { OnOk result (FillsUpTo ground.now lists.now table.old table.new node (length ground.now.board.first)) }
+{
+    if has_only_shift(lists, ground, node) {
+        share_node(table, lists, ground, node);
+        return Ok(());
+    }
+    fill_forwards(table, parts, lists, ground, node)?;
+    Ok(())
+}
+
+/// Whether a position's shift leads from some vertex to a later one, or to an earlier one.
+fn leads(ground: &Ground<'_>, position: Position, later: bool) -> bool {
+    for index in 0..ground.vertices() {
+        let vertex = index as Vertex;
+        if let Some(to) = ground.to(vertex, position) {
+            if to != vertex && (vertex < to) == later {
+                return true;
+            }
+        }
+    }
+    false
+}
+
+/// Whether a shift of a node's list leads to the same node again, from some vertex to a later one, or to an earlier one.
+fn repeats(lists: &Lists, ground: &Ground<'_>, node: usize, later: bool) -> bool {
     for listed in lists.shelf.list(node) {
-        if ground.is_shift(*listed) && lists.after(*listed) == node {
+        if ground.is_shift(*listed)
+            && lists.after(*listed) == node
+            && leads(ground, *listed, later)
+        {
             return true;
         }
     }
     false
 }
 
-/// Whether all nodes to which a node's shifts lead are filled, but for itself.
-fn is_ready(lists: &Lists, ground: &Ground<'_>, filled: &[bool], node: usize) -> bool {
+/// Fills the entries of a node: forwards over the vertices where shifts lead from it to earlier vertices of its own, and
+/// backwards where they lead to later ones.
+pub(crate) fn fill_again(
+    table: &mut Table,
+    parts: &mut Vec<Target>,
+    lists: &Lists,
+    ground: &Ground<'_>,
+    node: usize,
+) -> Result<(), Memory>
+    requires lawful { IsGame ground.now }
+    requires lists { AreListsOf ground.now.rules lists.now }
+    requires sound { IsSoundTable ground.now lists.now table.old }
+    requires node { node < length lists.now.shelf.nodes.items }
+    ensures { OnOk result (FillsRightly ground.now lists.now table.old table.new node) }
+{
+    let back = repeats(lists, ground, node, true);
+    if back {
+        fill_backwards(table, parts, lists, ground, node)?;
+    }
+    if !back || repeats(lists, ground, node, false) {
+        fill_forwards(table, parts, lists, ground, node)?;
+    }
+    Ok(())
+}
+
+/// Whether a node is marked.
+pub(crate) fn is_marked(marks: &[bool], node: usize) -> bool
+    ensures { result ≡ slice_index_or marks.now node false }
+{
+    node < marks.len() && marks[node]
+}
+
+/// Whether no shift of a node's list leads to the node again.
+pub(crate) fn leads_away(lists: &Lists, ground: &Ground<'_>, node: usize) -> bool
+    ensures away { IsTrue result → LeadsAway ground.now lists.now node }
+    ensures again { LeadsAway ground.now lists.now node → IsTrue result }
+{
     for listed in lists.shelf.list(node) {
-        if ground.is_shift(*listed) {
-            let next = lists.after(*listed);
-            if next != node && next < filled.len() && !filled[next] {
-                return false;
-            }
+        if ground.is_shift(*listed) && lists.after(*listed) == node {
+            return false;
         }
     }
     true
+}
+
+/// Whether a node is marked, or is another one.
+fn is_marked_or(marks: &[bool], node: usize, other: usize) -> bool
+    ensures { IsTrue result → node ≢ other → IsMarked marks.now node }
+{
+    node == other || is_marked(marks, node)
+}
+
+/// Whether all nodes to which a node's shifts lead are filled, but for itself.
+fn is_ready(lists: &Lists, ground: &Ground<'_>, filled: &[bool], node: usize) -> bool
+    ensures { IsTrue result → LeadsToMarked ground.now lists.now filled.now node }
+{
+    for listed in lists.shelf.list(node) {
+        if ground.is_shift(*listed) && !is_marked_or(filled, lists.after(*listed), node) {
+            return false;
+        }
+    }
+    true
+}
+
+/// Fills the entries of a node.
+fn fill_node(
+    table: &mut Table,
+    parts: &mut Vec<Target>,
+    lists: &Lists,
+    ground: &Ground<'_>,
+    node: usize,
+) -> Result<(), Memory>
+    requires lawful { IsGame ground.now }
+    requires lists { AreListsOf ground.now.rules lists.now }
+    requires sound { IsSoundTable ground.now lists.now table.old }
+    requires node { node < length lists.now.shelf.nodes.items }
+    ensures { OnOk result (FillsUpTo ground.now lists.now table.old table.new node (length ground.now.board.first)) }
+{
+    if leads_away(lists, ground, node) {
+        fill_once(table, parts, lists, ground, node)?;
+        return Ok(());
+    }
+    fill_again(table, parts, lists, ground, node)?;
+    Ok(())
+}
+
+/// Fills a node that isn't filled, where it is ready. Returns whether it is filled then.
+fn fill_next(
+    table: &mut Table,
+    parts: &mut Vec<Target>,
+    lists: &Lists,
+    ground: &Ground<'_>,
+    filled: &mut [bool],
+    node: usize,
+) -> Result<bool, Memory>
+    requires lawful { IsGame ground.now }
+    requires lists { AreListsOf ground.now.rules lists.now }
+    requires filled { AreFilled ground.now lists.now table.old filled.old }
+    requires node { node < length lists.now.shelf.nodes.items }
+    requires there { node < length filled.old }
+    ensures size { length filled.new ≡ length filled.old }
+    ensures filled { OnOk result (AreFilled ground.now lists.now table.new filled.new) }
+{
+    if is_marked(filled, node) || !is_ready(lists, ground, filled, node) {
+        return Ok(false);
+    }
+    fill_node(table, parts, lists, ground, node)?;
+    filled[node] = true;
+    Ok(true)
 }
 
 /// Fills the nodes that are ready. Returns whether there was one.
@@ -181,19 +330,16 @@ fn fill_ready(
 ) -> Result<bool, Memory>
     requires lawful { IsGame ground.now }
     requires lists { AreListsOf ground.now.rules lists.now }
-    requires sound { IsSoundTable ground.now lists.now table.old }
-    ensures { OnOk result (IsSoundTable ground.now lists.now table.new) }
+    requires filled { AreFilled ground.now lists.now table.old filled.old }
+    requires size { length filled.old ≡ length lists.now.shelf.nodes.items }
+    ensures size { length filled.new ≡ length filled.old }
+    ensures filled { OnOk result (AreFilled ground.now lists.now table.new filled.new) }
 {
     let nodes = lists.shelf.nodes.len();
     let mut some = false;
     for done in 0..nodes {
-        let node = nodes - 1 - done;
-        if node < filled.len() && !filled[node] && is_ready(lists, ground, filled, node) {
-            let back = repeats(lists, ground, node);
-            fill_node(table, parts, lists, ground, node, back)?;
-            filled[node] = true;
-            some = true;
-        }
+        let more = fill_next(table, parts, lists, ground, filled, nodes - 1 - done)?;
+        some = some || more;
     }
     Ok(some)
 }
@@ -209,7 +355,7 @@ pub(crate) fn fill_in_order(
     requires lawful { IsGame ground.now }
     requires lists { AreListsOf ground.now.rules lists.now }
     requires sound { IsSoundTable ground.now lists.now table.old }
-    ensures { OnOk result (IsSoundTable ground.now lists.now table.new) }
+    ensures { IfOk result (λ filled. AreFilled ground.now lists.now table.new filled.items) }
 {
     let nodes = lists.shelf.nodes.len();
     let mut filled = vec![in alloc; false; nodes]?;

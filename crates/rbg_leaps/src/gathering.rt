@@ -4,7 +4,7 @@ ghost use Rattle.rbg_rules.specs.Games.{IsGame};
 ghost use Rattle.rbg_leaps.specs.Entries.{IsWithin};
 ghost use Rattle.rbg_leaps.specs.internal.Shelves.{Extends, AreListsOf, list_at, may_end_at};
 ghost use Rattle.rbg_leaps.specs.internal.Steps.{EndsBy};
-ghost use Rattle.rbg_leaps.specs.internal.Tables.{no_target, AddsRow, AddsAll, IsSoundTable, IsGathered, Grows};
+ghost use Rattle.rbg_leaps.specs.internal.Tables.{no_target, AddsRow, AddsAll, IsSoundTable, IsGathered, IsToldBy, IsWhole, Keeps, Grows};
 
 use crate::ground::Ground;
 use crate::lists::Lists;
@@ -13,6 +13,7 @@ use crate::table::{Entry, Table, Target};
 use rbg_base::{Memory, Position, Vertex};
 
 /// Which of the targets is of a position.
+#[inline(always)]
 pub(crate) fn index_of(targets: &[Target], position: Position) -> Option<usize>
     ensures there { IfSome result (λ i. i < length targets.now) }
     ensures some { IfSome result (λ i. (slice_index_or targets.now i no_target).position ≡ position) }
@@ -28,6 +29,7 @@ pub(crate) fn index_of(targets: &[Target], position: Position) -> Option<usize>
 }
 
 /// Adds a row to the targets at a position: as it is where they have none there, and else joined with theirs.
+#[inline(always)]
 pub(crate) fn add(
     parts: &mut Vec<Target>,
     words: &mut Vec<u64>,
@@ -53,6 +55,7 @@ pub(crate) fn add(
 }
 
 /// Adds all targets of an entry.
+#[inline(always)]
 fn add_all(table: &mut Table, parts: &mut Vec<Target>, entry: Entry) -> Result<(), Memory>
     requires within { IsWithin (length table.old.targets.items) entry }
     requires rows { All (λ t. t.row + table.old.columns ≤ length table.old.words.items) parts.old.items }
@@ -66,6 +69,7 @@ fn add_all(table: &mut Table, parts: &mut Vec<Target>, entry: Entry) -> Result<(
 }
 
 /// Gathers what a step by one position leads to. Returns whether a word may end then.
+#[inline(always)]
 fn gather_one(
     table: &mut Table,
     parts: &mut Vec<Target>,
@@ -85,6 +89,8 @@ fn gather_one(
     ensures grows { OnOk result (Grows table.old table.new) }
     ensures gathered { OnOk result (IsGathered ground.now lists.now table.new node vertex parts.new.items) }
     ensures ends { IfOk result (λ ends. IsTrue ends → EndsBy ground.now (list_at lists.now.shelf node) (may_end_at lists.now.shelf node) vertex) }
+    ensures keeps { OnOk result (Keeps table.old table.new parts.old.items parts.new.items) }
+    ensures told { IfOk result (λ ends. IsToldBy ground.now lists.now table.new parts.new.items ends vertex position) }
 {
     if !ground.is_shift(position) {
         let row = vertex as usize * table.columns;
@@ -100,6 +106,7 @@ fn gather_one(
 }
 
 /// Gathers what one step leads to. Returns whether a word may end at once or then.
+#[inline(always)]
 pub(crate) fn gather(
     table: &mut Table,
     parts: &mut Vec<Target>,
@@ -116,6 +123,7 @@ pub(crate) fn gather(
     ensures grows { OnOk result (Grows table.old table.new) }
     ensures gathered { OnOk result (IsGathered ground.now lists.now table.new node vertex parts.new.items) }
     ensures ends { IfOk result (λ ends. IsTrue ends → EndsBy ground.now (list_at lists.now.shelf node) (may_end_at lists.now.shelf node) vertex) }
+    ensures whole { IfOk result (λ ends. IsWhole ground.now lists.now table.new node vertex parts.new.items ends) }
 {
     parts.clear();
     let mut ends = lists.shelf.may_end(node);

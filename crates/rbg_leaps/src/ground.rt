@@ -37,6 +37,7 @@ impl<'a> Model for Ground<'a> {
 }
 
 /// The direction of a position, if it has one.
+#[inline(always)]
 fn direction_at(directions: &[Option<Direction>], position: Position) -> Option<Direction>
     ensures { result ≡ slice_index_or directions.now position None }
 {
@@ -71,6 +72,7 @@ impl<'a> Ground<'a> {
     }
 
     /// Whether a shift stands at a position.
+    #[inline(always)]
     pub(crate) fn is_shift(&self, position: Position) -> bool
         ensures { IsTrue result ↔ IsShiftAt self.now.rules position }
     {
@@ -78,6 +80,7 @@ impl<'a> Ground<'a> {
     }
 
     /// Where one comes from a vertex by a position, if one does.
+    #[inline(always)]
     pub(crate) fn to(&self, vertex: Vertex, position: Position) -> Option<Vertex>
         requires { vertex < length self.now.board.first }
         ensures comes { (u : ℕ) → (result ≡ Some u) ↔ Comes self.now vertex position u }

@@ -23,6 +23,7 @@ pub(crate) struct Lists {
 }
 
 /// The node of a position, or the first one where there is none.
+#[inline(always)]
 fn node_at(nodes: &[usize], position: Position) -> usize
     ensures { result ≡ slice_index_or nodes.now position 0 }
 {
@@ -32,6 +33,7 @@ fn node_at(nodes: &[usize], position: Position) -> usize
 
 impl Lists {
     /// The node after a position.
+    #[inline(always)]
     pub(crate) fn after(&self, position: Position) -> usize
         ensures { result ≡ slice_index_or self.now.afters.items position 0 }
     {

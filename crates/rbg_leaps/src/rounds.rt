@@ -1,11 +1,11 @@
 //! Rounds over all nodes and vertices, until nothing is missing.
-ghost use Rattle.std.specs.Prelude.{◌≡◌, ◌<◌, length, false, IfOk, OnOk};
+ghost use Rattle.std.specs.Prelude.{◌≡◌, ◌<◌, length, false, IfOk, OnOk, IsTrue};
 ghost use Rattle.rbg_rules.specs.Games.{IsGame};
 ghost use Rattle.rbg_leaps.specs.internal.Shelves.{AreListsOf};
-ghost use Rattle.rbg_leaps.specs.internal.Tables.{IsSoundTable, StaysClosed, AreAllClosed, IsFilled};
+ghost use Rattle.rbg_leaps.specs.internal.Tables.{IsSoundTable, StaysClosed, AreClosedAt, AreAllClosed, IsFilled, FillsRightly, AreFilled};
 
 use crate::closing::is_closed;
-use crate::filling::{fill_in_order, fill_node};
+use crate::filling::{fill_again, fill_in_order, is_marked, leads_away};
 use crate::ground::Ground;
 use crate::lists::Lists;
 use crate::rows::units;
@@ -25,14 +25,14 @@ fn mend(
     requires lists { AreListsOf ground.now.rules lists.now }
     requires sound { IsSoundTable ground.now lists.now table.old }
     requires node { node < length lists.now.shelf.nodes.items }
-    ensures sound { OnOk result (IsSoundTable ground.now lists.now table.new) }
+    ensures fills { OnOk result (FillsRightly ground.now lists.now table.old table.new node) }
     ensures closed { IfOk result (λ missing. missing ≡ false
         → StaysClosed ground.now lists.now table.old table.new node) }
 {
     if is_closed(table, lists, ground, node) {
         return Ok(false);
     }
-    fill_node(table, parts, lists, ground, node, true)?;
+    fill_again(table, parts, lists, ground, node)?;
     Ok(true)
 }
 
@@ -70,11 +70,11 @@ fn mend_other(
 ) -> Result<bool, Memory>
     requires lawful { IsGame ground.now }
     requires lists { AreListsOf ground.now.rules lists.now }
-    requires sound { IsSoundTable ground.now lists.now table.old }
+    requires filled { AreFilled ground.now lists.now table.old filled.now }
     requires node { node < length lists.now.shelf.nodes.items }
-    ensures { OnOk result (IsSoundTable ground.now lists.now table.new) }
+    ensures { OnOk result (AreFilled ground.now lists.now table.new filled.now) }
 {
-    if node < filled.len() && filled[node] {
+    if is_marked(filled, node) {
         return Ok(false);
     }
     let missing = mend(table, parts, lists, ground, node)?;
@@ -91,8 +91,8 @@ fn mend_others(
 ) -> Result<bool, Memory>
     requires lawful { IsGame ground.now }
     requires lists { AreListsOf ground.now.rules lists.now }
-    requires sound { IsSoundTable ground.now lists.now table.old }
-    ensures { OnOk result (IsSoundTable ground.now lists.now table.new) }
+    requires filled { AreFilled ground.now lists.now table.old filled.now }
+    ensures { OnOk result (AreFilled ground.now lists.now table.new filled.now) }
 {
     let nodes = lists.shelf.nodes.len();
     let mut missing = false;
@@ -113,8 +113,8 @@ fn mend_until_still(
 ) -> Result<(), Memory>
     requires lawful { IsGame ground.now }
     requires lists { AreListsOf ground.now.rules lists.now }
-    requires sound { IsSoundTable ground.now lists.now table.old }
-    ensures { OnOk result (IsSoundTable ground.now lists.now table.new) }
+    requires filled { AreFilled ground.now lists.now table.old filled.now }
+    ensures { OnOk result (AreFilled ground.now lists.now table.new filled.now) }
 {
     for _ in 0..u64::MAX {
         if !mend_others(table, parts, lists, ground, filled)? {
@@ -122,6 +122,28 @@ fn mend_until_still(
         }
     }
     Ok(())
+}
+
+/// Whether nothing is missing in a node. A node that is filled is looked at only where shifts lead from it to itself.
+fn is_done(table: &Table, lists: &Lists, ground: &Ground<'_>, filled: &[bool], node: usize) -> bool
+    requires filled { AreFilled ground.now lists.now table.now filled.now }
+    ensures { IsTrue result → AreClosedAt ground.now lists.now table.now node }
+{
+    (is_marked(filled, node) && leads_away(lists, ground, node))
+        || is_closed(table, lists, ground, node)
+}
+
+/// Whether nothing is missing.
+fn are_done(table: &Table, lists: &Lists, ground: &Ground<'_>, filled: &[bool]) -> bool
+    requires filled { AreFilled ground.now lists.now table.now filled.now }
+    ensures { IsTrue result → AreAllClosed ground.now lists.now table.now }
+{
+    for node in 0..lists.shelf.nodes.len() {
+        if !is_done(table, lists, ground, filled, node) {
+            return false;
+        }
+    }
+    true
 }
 
 /// A table of the nodes with nothing told.
@@ -148,6 +170,9 @@ pub(crate) fn fill(alloc: Global, lists: &Lists, ground: &Ground<'_>) -> Result<
     let mut parts = Vec::new(alloc);
     let filled = fill_in_order(alloc, &mut table, &mut parts, lists, ground)?;
     mend_until_still(&mut table, &mut parts, lists, ground, &filled)?;
+    if are_done(&table, lists, ground, &filled) {
+        return Ok(table);
+    }
     // (each round but the last one adds to what is told, so there are few)
     for _ in 0..u64::MAX {
         if !round(&mut table, &mut parts, lists, ground)? {

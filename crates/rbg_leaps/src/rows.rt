@@ -10,6 +10,7 @@ use rbg_base::Memory;
 use std::alloc::Global;
 
 /// Whether each bit of one row is a bit of the other.
+#[inline(always)]
 pub(crate) fn is_under(words: &[u64], columns: usize, one: usize, other: usize) -> bool
     requires one { one + columns ≤ length words.now }
     requires other { other + columns ≤ length words.now }
@@ -26,6 +27,7 @@ pub(crate) fn is_under(words: &[u64], columns: usize, one: usize, other: usize) 
 }
 
 /// Appends a row with the bits of two rows. Returns where it begins.
+#[inline(always)]
 pub(crate) fn push_union(
     words: &mut Vec<u64>,
     columns: usize,

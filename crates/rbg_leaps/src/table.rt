@@ -73,6 +73,7 @@ impl Table {
     }
 
     /// Where the entry of a node and a vertex is, unless that is beyond all memory.
+    #[inline(always)]
     fn place(&self, node: usize, vertex: Vertex) -> Option<usize>
         ensures some { IfSome result (λ place. place ≡ node * self.now.vertices + vertex) }
         ensures none { IfNone result (2 ^ 64 ≤ node * self.now.vertices + vertex) }
@@ -84,6 +85,7 @@ impl Table {
     }
 
     /// The entry of a node and a vertex, or an empty one where it isn't there.
+    #[inline(always)]
     pub(crate) fn entry(&self, node: usize, vertex: Vertex) -> Entry
         ensures entry { result ≡ entry_at self.now node vertex }
         ensures within { IsWithin (length self.now.targets.items) result }
@@ -95,6 +97,7 @@ impl Table {
     }
 
     /// The entry in a place, or an empty one where it isn't there.
+    #[inline(always)]
     fn entry_in(&self, place: usize) -> Entry
         ensures entry { result ≡ slice_index_or self.now.entries.items place no_entry }
         ensures within { IsWithin (length self.now.targets.items) result }
@@ -107,6 +110,7 @@ impl Table {
     }
 
     /// Puts the entry of a node and a vertex in its place, with targets of its own.
+    #[inline(always)]
     pub(crate) fn put(
         &mut self,
         node: usize,
@@ -128,6 +132,7 @@ impl Table {
     }
 
     /// Puts an entry of a node and a vertex in its place, with targets that are there.
+    #[inline(always)]
     pub(crate) fn share(&mut self, node: usize, vertex: Vertex, entry: Entry)
         requires there { node * self.old.vertices + vertex < length self.old.entries.items }
         requires within { IsWithin (length self.old.targets.items) entry }
@@ -139,6 +144,7 @@ impl Table {
     }
 
     /// Adds a row to targets at a position.
+    #[inline(always)]
     pub(crate) fn add_row(
         &mut self,
         parts: &mut Vec<Target>,
@@ -155,6 +161,7 @@ impl Table {
     }
 
     /// The targets of an entry.
+    #[inline(always)]
     pub(crate) fn targets(&self, entry: Entry) -> &[Target]
         requires { IsWithin (length self.now.targets.items) entry }
         ensures { result.now ≡ targets_of self.now entry }

@@ -1,5 +1,5 @@
 -- What a table that is being made tells, whether it is right so far, and whether anything is missing.
-use Rattle.std.specs.Prelude.{◌≡◌, ◌≢◌, ℕ, ◌+◌, ◌*◌, ◌<◌, ◌≤◌, List, ◌++◌, length, slice_range, slice_index_or, Bool, true, IsTrue, All, AllPairs}
+use Rattle.std.specs.Prelude.{◌≡◌, ◌≢◌, ℕ, ◌+◌, ◌*◌, ◌<◌, ◌≤◌, List, ◌++◌, length, slice_range, slice_index_or, Bool, true, false, IsTrue, All, AllPairs, Contains}
 use Rattle.rbg_rules.specs.State.{AbstractGame}
 use Rattle.rbg_leaps.specs.declared.lists.Lists.{Lists}
 use Rattle.rbg_leaps.specs.declared.table.Entry.{Entry}
@@ -63,24 +63,39 @@ pub record IsSoundTable (game : AbstractGame) (lists : Lists) (table : Table) : 
       (n v : ℕ) → n < length lists.shelf.nodes.items → v < table.vertices →
       IsSoundEntry game (list_at lists.shelf n) (may_end_at lists.shelf n) v table (entry_at table n v)
 
--- What one entry tells, the other one tells.
-pub record IsUnder (table : Table) (one other : Entry) : Type 0 where
-  pub tells : (j u : ℕ) → TellsAt table one j u → TellsAt table other j u
-  pub ends : IsTrue one.ends → IsTrue other.ends
+-- What an entry tells, the targets tell, and also whether a word may end.
+pub record IsUnder (table : Table) (one : Entry) (targets : List Target) (may_end : Bool) : Type 0 where
+  pub tells : (j u : ℕ) → TellsAt table one j u → Tells table.columns table.words.items targets j u
+  pub ends : IsTrue one.ends → IsTrue may_end
 
--- The entry tells of what one step by position p leads to from vertex v: of p itself where it is no shift, and of all
+-- The targets tell of what one step by position p leads to from vertex v: of p itself where it is no shift, and of all
 -- that is told where a shift leads.
-pub record IsToldAt (game : AbstractGame) (lists : Lists) (table : Table) (e : Entry) (v p : ℕ) : Type 0 where
-  pub plain : ¬ IsShiftAt game.rules p → TellsAt table e p v
-  pub is_vertex : (w : ℕ) → IsShiftAt game.rules p → Comes game v p w → w < table.vertices
-  pub shift :
-      (w : ℕ) → IsShiftAt game.rules p → Comes game v p w →
-      IsUnder table (entry_at table (slice_index_or lists.afters.items p 0) w) e
+pub record IsToldBy
+    (game : AbstractGame) (lists : Lists) (table : Table) (targets : List Target) (may_end : Bool) (v p : ℕ)
+    : Type 0
+  where
+    pub plain : ¬ IsShiftAt game.rules p → Tells table.columns table.words.items targets p v
+    pub is_vertex : (w : ℕ) → IsShiftAt game.rules p → Comes game v p w → w < table.vertices
+    pub shift :
+        (w : ℕ) → IsShiftAt game.rules p → Comes game v p w →
+        IsUnder table (entry_at table (slice_index_or lists.afters.items p 0) w) targets may_end
+
+-- The entry tells of it.
+abbrev pub IsToldAt : AbstractGame → Lists → Table → Entry → (v p : ℕ) → Type 0
+IsToldAt game lists table e = IsToldBy game lists table (targets_of table e) e.ends
+
+-- Nothing is missing in the targets at a node and a vertex.
+pub record IsWhole
+    (game : AbstractGame) (lists : Lists) (table : Table) (n v : ℕ) (targets : List Target) (may_end : Bool)
+    : Type 0
+  where
+    pub ends : IsTrue (may_end_at lists.shelf n) → IsTrue may_end
+    pub told : All (IsToldBy game lists table targets may_end v) (list_at lists.shelf n)
 
 -- Nothing is missing in the entry of a node and a vertex.
-pub record IsClosed (game : AbstractGame) (lists : Lists) (table : Table) (n v : ℕ) : Type 0 where
-  pub ends : IsTrue (may_end_at lists.shelf n) → IsTrue (entry_at table n v).ends
-  pub told : All (IsToldAt game lists table (entry_at table n v) v) (list_at lists.shelf n)
+abbrev pub IsClosed : AbstractGame → Lists → Table → (n v : ℕ) → Type 0
+IsClosed game lists table n v =
+    IsWhole game lists table n v (targets_of table (entry_at table n v)) (entry_at table n v).ends
 
 -- Words or targets were appended, and no more.
 pub record Grows (old new : Table) : Type 0 where
@@ -129,9 +144,16 @@ pub record AddsRow (columns : ℕ) (old new : List ℕ) (before behind : List Ta
       AreSound (IsLeapBy game list may_end v) columns old before →
       IsRowOf (IsLeapBy game list may_end v position) columns old row →
       AreSound (IsLeapBy game list may_end v) columns new behind
+  pub keeps : (j u : ℕ) → Tells columns old before j u → Tells columns new behind j u
+  pub has : (u : ℕ) → has_bit (row_at columns old row) u ≡ true → Tells columns new behind position u
 
--- The targets of an entry were added.
-pub record AddsAll (old new : Table) (before behind : List Target) (e : Entry) : Type 0 where
+-- What the targets told, they tell.
+pub record Keeps (old new : Table) (before behind : List Target) : Type 0 where
+  pub keeps :
+      (j u : ℕ) → Tells old.columns old.words.items before j u → Tells new.columns new.words.items behind j u
+
+-- The targets of an entry were added, up to a place among all targets.
+pub record AddsUpTo (old new : Table) (before behind : List Target) (e : Entry) (place : ℕ) : Type 0 where
   pub grows : Grows old new
   pub rows : All (λ t. t.row + new.columns ≤ length new.words.items) behind
   pub sound :
@@ -139,6 +161,64 @@ pub record AddsAll (old new : Table) (before behind : List Target) (e : Entry) :
       AreSound (IsLeapBy game list may_end v) old.columns old.words.items before →
       AreSound (IsLeapBy game list may_end v) old.columns old.words.items (targets_of old e) →
       AreSound (IsLeapBy game list may_end v) new.columns new.words.items behind
+  pub kept : Keeps old new before behind
+  pub has :
+      (i u : ℕ) → e.start + i < place →
+      has_bit (row_at old.columns old.words.items (slice_index_or (targets_of old e) i no_target).row) u ≡ true →
+      Tells new.columns new.words.items behind (slice_index_or (targets_of old e) i no_target).position u
+
+-- All of them were added.
+abbrev pub AddsAll : Table → Table → List Target → List Target → Entry → Type 0
+AddsAll old new before behind e = AddsUpTo old new before behind e e.end
+
+-- No shift of the node's list leads to the node again.
+abbrev pub LeadsAway : AbstractGame → Lists → (n : ℕ) → Type 0
+LeadsAway game lists n =
+    (p : ℕ) → Contains (list_at lists.shelf n) p → IsShiftAt game.rules p → slice_index_or lists.afters.items p 0 ≢ n
+
+-- Entries were filled; those of the other nodes stay.
+pub record Fills (old new : Table) (n : ℕ) : Type 0 where
+  pub vertices : new.vertices ≡ old.vertices
+  pub columns : new.columns ≡ old.columns
+  pub targets : Extends old.targets.items new.targets.items
+  pub words : Extends old.words.items new.words.items
+  pub others : (m w : ℕ) → m ≢ n → w < old.vertices → entry_at new m w ≡ entry_at old m w
+
+-- The entry of a node and a vertex was filled; the others stay.
+pub record FillsOne (game : AbstractGame) (lists : Lists) (old new : Table) (n v : ℕ) : Type 0 where
+  pub sound : IsSoundTable game lists new
+  pub fills : Fills old new n
+  pub beside : (w : ℕ) → w ≢ v → w < old.vertices → entry_at new n w ≡ entry_at old n w
+  pub closed : LeadsAway game lists n → IsClosed game lists new n v
+
+-- The entries of a node were filled at the first vertices.
+pub record FillsUpTo (game : AbstractGame) (lists : Lists) (old new : Table) (n many : ℕ) : Type 0 where
+  pub sound : IsSoundTable game lists new
+  pub fills : Fills old new n
+  pub closed : LeadsAway game lists n → (v : ℕ) → v < many → IsClosed game lists new n v
+
+-- The entries of a node were filled, and nothing wrong is told.
+pub record FillsRightly (game : AbstractGame) (lists : Lists) (old new : Table) (n : ℕ) : Type 0 where
+  pub sound : IsSoundTable game lists new
+  pub fills : Fills old new n
+
+-- Whether a node is marked.
+abbrev pub IsMarked : List Bool → ℕ → Type 0
+IsMarked marks n = slice_index_or marks n false ≡ true
+
+-- The shifts of a node's list lead to marked nodes, or to the node again.
+abbrev pub LeadsToMarked : AbstractGame → Lists → List Bool → (n : ℕ) → Type 0
+LeadsToMarked game lists marks n =
+    (p : ℕ) → Contains (list_at lists.shelf n) p → IsShiftAt game.rules p →
+    slice_index_or lists.afters.items p 0 ≢ n → IsMarked marks (slice_index_or lists.afters.items p 0)
+
+-- From marked nodes shifts lead to marked ones, and nothing is missing in those from which none leads to the node again.
+pub record AreFilled (game : AbstractGame) (lists : Lists) (table : Table) (marks : List Bool) : Type 0 where
+  pub sound : IsSoundTable game lists table
+  pub next : (n : ℕ) → IsMarked marks n → LeadsToMarked game lists marks n
+  pub closed :
+      (n v : ℕ) → IsMarked marks n → LeadsAway game lists n → v < length game.board.first →
+      IsClosed game lists table n v
 
 -- The entries of a node tell of what one step by position p leads to, at each vertex.
 abbrev pub IsToldEverywhere : AbstractGame → Lists → Table → (n p : ℕ) → Type 0

@@ -13,6 +13,7 @@ pub record IsUnion (columns : ℕ) (old new : List ℕ) (one other row : ℕ) : 
       (u : ℕ) → has_bit (row_at columns new row) u ≡ true →
       (has_bit (row_at columns old one) u ≡ true) ⊎ (has_bit (row_at columns old other) u ≡ true)
   pub first : (u : ℕ) → has_bit (row_at columns old one) u ≡ true → has_bit (row_at columns new row) u ≡ true
+  pub second : (u : ℕ) → has_bit (row_at columns old other) u ≡ true → has_bit (row_at columns new row) u ≡ true
 
 -- Some words of that row were appended.
 pub record IsUnionUpTo (old new : List ℕ) (one other many : ℕ) : Type 0 where

@@ -1,6 +1,10 @@
--- The table is right so far.
-use Rattle.rbg_leaps.specs.internal.Tables.{IsSoundTable}
+-- Nothing is missing in what is marked so far.
+use Rattle.std.proofs.Common.{◌≡◌, length}
+use Rattle.rbg_leaps.specs.internal.Tables.{AreFilled}
 use Rattle.rbg_leaps.proofs.filling.fill_in_order.Given as goal
 
 abbrev pub invariant-loop : goal.invariant-loop
-invariant-loop l = IsSoundTable l.ground l.lists l.table
+invariant-loop l = record {
+  size : length l.filled.items ≡ length l.lists.shelf.nodes.items;
+  filled : AreFilled l.ground l.lists l.table l.filled.items;
+}

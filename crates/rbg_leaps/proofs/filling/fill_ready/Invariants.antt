@@ -1,6 +1,10 @@
--- The table is right so far.
-use Rattle.rbg_leaps.specs.internal.Tables.{IsSoundTable}
+-- Nothing is missing in what is marked so far.
+use Rattle.std.proofs.Common.{◌≡◌, length}
+use Rattle.rbg_leaps.specs.internal.Tables.{AreFilled}
 use Rattle.rbg_leaps.proofs.filling.fill_ready.Given as goal
 
 abbrev pub invariant-loop-done : goal.invariant-loop-done
-invariant-loop-done l = IsSoundTable l.ground l.lists l.table
+invariant-loop-done l = record {
+  size : length l.filled ≡ length l.lists.shelf.nodes.items;
+  filled : AreFilled l.ground l.lists l.table l.filled;
+}

@@ -1,14 +1,22 @@
 use Rattle.std.proofs.Common.{◌≡◌, ◌*◌, ◌<◌, ◌∙◌, ℕ, List, get_or, true, false, sym, ap, subst}
-use Rattle.std.specs.Prelude.{Bool}
+use Rattle.std.specs.Prelude.{Bool, Some, None}
 use Rattle.rbg_rules.specs.Words.{after}
+use Rattle.rbg_leaps.specs.declared.table.Entry.{Entry}
 use Rattle.rbg_leaps.specs.Leaps.{IsShiftAt}
 use Rattle.rbg_leaps.specs.Made.{entry_at}
 use Rattle.rbg_leaps.specs.internal.Shelves.{list_at, may_end_at, IsNodeOf}
 use Rattle.rbg_leaps.specs.internal.Steps.{Comes, IsLeapBy}
-use Rattle.rbg_leaps.specs.internal.Tables.{AreSound, IsSoundEntry}
+use Rattle.rbg_leaps.specs.internal.Tables.{AreSound, IsSoundEntry, IsUnder, Tells}
+use Rattle.rbg_leaps.proofs.Fillings.{entry_grown_same, told_plain, told_nowhere, told_behind, added_under}
 use Rattle.rbg_leaps.proofs.ShiftLemmas.{shift_within}
 use Rattle.rbg_leaps.proofs.Tabling.{unit_row, sound_on, sound_ends_on}
 use Rattle.rbg_leaps.proofs.gathering.gather_one.Goals as goal
+
+no_some : {n : ℕ} → None ≡ Some n → ⊥
+no_some e = cc
+
+some_same : {m n : ℕ} → Some m ≡ Some n → n ≡ m
+some_same e = cc
 
 not_both : {b : Bool} → b ≡ true → b ≡ false → ⊥
 not_both e f = cc
@@ -51,3 +59,38 @@ returns-clause-ends c =
     let sound : IsSoundEntry game (list_at shelf m) (may_end_at shelf m) c.in-Some.to c.args.table.now c.entry-entry.result =
     subst (IsSoundEntry game (list_at shelf m) (may_end_at shelf m) c.in-Some.to c.args.table.now) (sym same) (c.requires.sound.sound m c.in-Some.to node.there on_board) in
     sound_ends_on game c.requires.lawful.numbered c.args.lists.now c.args.table.now c.args.node c.args.vertex c.args.position c.in-Some.to m c.entry-entry.result c.requires.listed is comes node sound
+
+pub returns-then-not-is_shift-clause-keeps : goal.returns-then-not-is_shift-clause-keeps
+returns-then-not-is_shift-clause-keeps c = record {
+  keeps = λ j u told. subst (λ (k : ℕ). Tells k c.add_row.new.self.words.items c.add_row.new.parts.items j u) (sym c.in_ok-add_row.ensures.grows.columns) (c.in_ok-add_row.ensures.adds.keeps j u told);
+}
+
+pub returns-then-not-is_shift-clause-told : goal.returns-then-not-is_shift-clause-told
+returns-then-not-is_shift-clause-told c =
+    let on_board : c.args.vertex < c.args.table.now.vertices = subst (λ (n : ℕ). c.args.vertex < n) (sym c.requires.sound.laid_out.vertices) c.requires.vertex in
+    told_plain c.args.ground.now c.args.lists.now c.add_row.new.self c.add_row.new.parts.items false c.args.vertex c.args.position (λ is. not_both (c.is_shift.ensures.1 is) c.if-not-is_shift.true)
+    (subst (λ (k : ℕ). Tells k c.add_row.new.self.words.items c.add_row.new.parts.items c.args.position c.args.vertex) (sym c.in_ok-add_row.ensures.grows.columns)
+    (c.in_ok-add_row.ensures.adds.has c.args.vertex (c.requires.sound.laid_out.units c.args.vertex on_board).has))
+
+pub returns-in_default-clause-keeps : goal.returns-in_default-clause-keeps
+returns-in_default-clause-keeps c = record { keeps = λ j u told. told }
+
+pub returns-in_default-clause-told : goal.returns-in_default-clause-told
+returns-in_default-clause-told c =
+    told_nowhere c.args.ground.now c.args.lists.now c.args.table.now c.args.parts.now.items false c.args.vertex c.args.position (c.is_shift.ensures.0 c.if-not-is_shift.false)
+    (λ w comes. no_some (sym c.in_default.is ∙ (c.to.ensures.comes w).1 comes))
+
+pub returns-clause-keeps : goal.returns-clause-keeps
+returns-clause-keeps c = c.in_ok-add_all.ensures.kept
+
+pub returns-clause-told : goal.returns-clause-told
+returns-clause-told c =
+    let m : ℕ = get_or c.args.lists.now.afters.items c.args.position 0 in
+    let grows = c.in_ok-add_all.ensures.grows in
+    let on_board : c.in-Some.to < c.add_all.new.table.vertices = subst (λ (n : ℕ). c.in-Some.to < n) (sym (grows.vertices ∙ c.requires.sound.laid_out.vertices)) c.in-Some.ensures.is_vertex in
+    let same : c.entry-entry.result ≡ entry_at c.add_all.new.table m c.in-Some.to =
+    c.entry-entry.ensures.entry ∙ ap (λ (k : ℕ). entry_at c.args.table.now k c.in-Some.to) c.after.ensures ∙ sym (entry_grown_same c.args.table.now c.add_all.new.table grows m c.in-Some.to) in
+    told_behind c.args.ground.now c.args.lists.now c.add_all.new.table c.add_all.new.parts.items c.entry-entry.result.ends c.args.vertex c.args.position c.in-Some.to (c.is_shift.ensures.0 c.if-not-is_shift.false)
+    (λ w comes. some_same (sym c.in-Some.is ∙ (c.to.ensures.comes w).1 comes)) on_board
+    (subst (λ (e : Entry). IsUnder c.add_all.new.table e c.add_all.new.parts.items c.entry-entry.result.ends) same
+    (added_under c.args.table.now c.add_all.new.table c.args.parts.now.items c.add_all.new.parts.items c.entry-entry.result c.entry-entry.ensures.within c.in_ok-add_all.ensures))

@@ -11,7 +11,7 @@ pub loop-done-preserved : goal.loop-done-preserved
 loop-done-preserved c =
     let size : c.len-nodes.result ≡ length c.args.lists.now.shelf.nodes.items = c.len-nodes.ensures ∙ c.args.lists.now.shelf.nodes.ok.0 in
     record {
-      sound = c.in_ok-mend.ensures.sound;
+      sound = c.in_ok-mend.ensures.fills.sound;
       closed = elim c.if-branch.branch [
         | then-branch w ↦ λ none. absurd (not_both w.missing-is none)
         | else-branch w ↦ λ none.

@@ -1,0 +1,12 @@
+use Rattle.std.proofs.Common.{◌≡◌, ◌∙◌, Bool, true, false, sym}
+use Rattle.rbg_leaps.proofs.rounds.is_done.Goals as goal
+use Rattle.rbg_leaps.proofs.rounds.is_done.Goals.{then-is_marked, else-is_marked}
+
+not_both : {b : Bool} → b ≡ true → b ≡ false → ⊥
+not_both e f = cc
+
+pub returns-then-leads_away : goal.returns-then-leads_away
+returns-then-leads_away c = λ t v below. elim c.if-is_marked.branch [
+  | then-is_marked w ↦ c.requires.filled.closed c.args.node v (sym c.is_marked.ensures ∙ w.if-is_marked.true) (w.leads_away.ensures.away (sym w.value-is ∙ t)) below
+  | else-is_marked w ↦ absurd (not_both t (w.value-is ∙ w.if-is_marked.false))
+]
