@@ -1,11 +1,10 @@
 -- Nothing is missing where all was gathered, and that stays so.
-use Rattle.std.proofs.Common.{◌≡◌, ◌≢◌, ℕ, ◌+◌, ◌*◌, ◌<◌, ◌≤◌, ◌⊎◌, List, length, get_or, take, set, Bool, true, false, refl, sym, ap, ◌∙◌, subst, inl, inr, zero, suc, arith}
+use Rattle.std.proofs.Common.{◌≡◌, ◌≢◌, ℕ, ◌+◌, ◌*◌, ◌<◌, ◌≤◌, ◌⊎◌, List, [], ◌∷◌, length, get_or, take, set, Bool, true, false, refl, sym, ap, ◌∙◌, subst, inl, inr, zero, suc, arith}
 use Rattle.std.specs.Prelude.{All, Contains, IsTrue, slice_range, replicate}
 use Rattle.std.proofs.lemmas.List.{length-append, length-take-le, length-drop, get_or-set_same, get_or-set_other}
 use Rattle.std.proofs.lemmas.List.Elements.{All-contains}
 use Rattle.std.proofs.Math.ListN.{get_or-eq_default}
 use Rattle.std.proofs.lemmas.Slice.{between_is}
-use Rattle.rbg_rules.specs.Expression.{Expression}
 use Rattle.rbg_rules.specs.State.{AbstractGame}
 use Rattle.rbg_leaps.specs.declared.lists.Lists.{Lists}
 use Rattle.rbg_leaps.specs.declared.table.Entry.{Entry}
@@ -16,10 +15,12 @@ use Rattle.rbg_leaps.specs.Leaps.{IsShiftAt}
 use Rattle.rbg_leaps.specs.Made.{entry_at, no_entry}
 use Rattle.rbg_leaps.specs.Rows.{has_bit}
 use Rattle.rbg_leaps.specs.internal.Shelves.{Extends, list_at, may_end_at}
-use Rattle.rbg_leaps.specs.internal.Steps.{Comes, HasOnlyShift, IsOnlyShift}
-use Rattle.rbg_leaps.specs.internal.Tables.{no_target, Tells, targets_of, TellsAt, IsSoundTable, IsUnder, IsToldBy, IsToldAt, IsWhole, IsClosed, Grows, Puts, Shares, Keeps, AddsAll, LeadsAway, Fills, FillsOne, FillsUpTo, FillsRightly, IsMarked, LeadsToMarked, AreFilled}
+use Rattle.rbg_leaps.specs.internal.Steps.{Comes, IsLeapBy, IsOnly}
+use Rattle.rbg_leaps.specs.internal.Tables.{no_target, Tells, targets_of, TellsAt, IsSoundTable, IsUnder, IsToldBy, IsToldAt, IsWhole, IsClosed, IsRowOf, AddsRow, Grows, Puts, Shares, Keeps, AddsAll, LeadsAway, Fills, FillsOne, FillsUpTo, FillsRightly, IsMarked, LeadsToMarked, AreFilled}
+use Rattle.rbg_leaps.specs.internal.Words.{IsUnit}
 use Rattle.rbg_leaps.proofs.RowLemmas.{below_or_not, same_or_not, one_place, same_item, extends_none, extends_more, extends_by, part_extended, row_extended, LastPlace, before, last, last_place}
-use Rattle.rbg_leaps.proofs.Tabling.{part_item, part_last}
+use Rattle.rbg_leaps.proofs.Steppings.{ends_here}
+use Rattle.rbg_leaps.proofs.Tabling.{part_item, part_last, sound_none, grows_none, adds_new, unit_row, table_put}
 
 -- Each entry of a table is within its targets, and their rows within its words.
 pub within_at : (t : Table) (n v : ℕ) → IsWithin (length t.targets.items) (entry_at t n v)
@@ -247,8 +248,15 @@ one_put game lists old middle new n v ts may_end below grows puts sound whole = 
         subst (λ (c : ℕ). Tells c new.words.items ts j u) (sym puts.columns)
         (subst (λ (ws : List ℕ). Tells middle.columns ws ts j u) (sym puts.words) told)
 
-pub one_shared : (game : AbstractGame) (lists : Lists) (old new : Table) (n v p : ℕ) (e : Entry) → v < old.vertices → Shares old new n v e → IsSoundTable game lists new → IsWithin (length old.targets.items) e → IsOnlyShift game.rules (list_at lists.shelf n) p → (IsTrue (may_end_at lists.shelf n) → IsTrue e.ends) → IsToldAt game lists old e v p → FillsOne game lists old new n v
-one_shared game lists old new n v p e below shares sound within only ends told = record {
+-- A list that has one item.
+only_item : (xs : List ℕ) (x : ℕ) → length xs ≡ 1 → get_or xs 0 x ≡ x → (k d : ℕ) → k < length xs → get_or xs k d ≡ x
+only_item xs x one is k d there =
+    let first : k ≡ 0 = omega (arith, one, there) in
+    let here : 0 < length xs = omega (arith, one) in
+    ap (λ (i : ℕ). get_or xs i d) first ∙ same_item xs 0 d here ∙ sym (same_item xs 0 x here) ∙ is
+
+pub one_shared : (game : AbstractGame) (lists : Lists) (old new : Table) (n v p : ℕ) (e : Entry) → v < old.vertices → Shares old new n v e → IsSoundTable game lists new → IsWithin (length old.targets.items) e → IsOnly (list_at lists.shelf n) p → IsShiftAt game.rules p → (IsTrue (may_end_at lists.shelf n) → IsTrue e.ends) → IsToldAt game lists old e v p → FillsOne game lists old new n v
+one_shared game lists old new n v p e below shares sound within only shift ends told = record {
   sound = sound;
   fills = record {
     vertices = shares.vertices;
@@ -279,10 +287,7 @@ one_shared game lists old new n v p e below shares sound within only ends told =
     zero_below = let one = only.one in omega (arith, one)
 
     is_only : (k d : ℕ) → k < length (list_at lists.shelf n) → get_or (list_at lists.shelf n) k d ≡ p
-    is_only k d there =
-        let first : k ≡ 0 = let one = only.one in omega (arith, one, there) in
-        ap (λ (i : ℕ). get_or (list_at lists.shelf n) i d) first
-        ∙ same_item (list_at lists.shelf n) 0 d zero_below ∙ sym (same_item (list_at lists.shelf n) 0 p zero_below) ∙ only.listed
+    is_only k d there = only_item (list_at lists.shelf n) p only.one only.listed k d there
 
 -- Marked nodes stay as they are where another node is filled.
 pub filled_on : (game : AbstractGame) (lists : Lists) (old new : Table) (marks : List Bool) (m : ℕ) → ¬ IsMarked marks m → FillsRightly game lists old new m → AreFilled game lists old marks → AreFilled game lists new marks
@@ -352,17 +357,31 @@ none_marked game lists t many sound = record {
     not_marked : (n : ℕ) → IsMarked (replicate many false) n → ⊥
     not_marked n marked = not_both marked (all_false many n)
 
--- The only position of a list.
-pub only_shift : (rules : Expression) (list : List ℕ) (p d : ℕ) → HasOnlyShift rules list → p ≡ get_or list 0 d → IsOnlyShift rules list p
-only_shift rules list p d only is = record {
-  one = only.one;
-  listed = same_item list 0 p there ∙ sym (same_item list 0 d there) ∙ sym is;
-  is = subst (IsShiftAt rules) (sym (same_item list 0 d there) ∙ sym is) only.is;
-}
-  where
-    there : 0 < length list
-    there = let one = only.one in omega (arith, one)
-
 -- What is so of each item is so of what the list contains.
 pub each_listed : (P : ℕ → Type 0) (xs : List ℕ) → ((i : ℕ) → i < length xs → P (get_or xs i 0)) → (p : ℕ) → Contains xs p → P p
 each_listed P xs each p there = All-contains P xs p (λ k d below. subst P (sym (same_item xs k d below)) (each k below)) there
+
+-- A position that is alone in a list and no shift, with the row of the vertex.
+pub one_placed : (game : AbstractGame) (lists : Lists) (old new : Table) (n v p : ℕ) (may_end : Bool) → v < old.vertices → IsSoundTable game lists old → IsOnly (list_at lists.shelf n) p → ¬ IsShiftAt game.rules p → may_end ≡ may_end_at lists.shelf n → Puts old new n v ((record { position = p; row = v * old.columns }) ∷ []) may_end → FillsOne game lists old new n v
+one_placed game lists old new n v p may_end below sound only other ends puts =
+    one_put game lists old old new n v ts may_end below (grows_none old) puts
+    (table_put game lists old new n v ts may_end below sound puts (adds.sound game list (may_end_at lists.shelf n) v (sound_none (IsLeapBy game list (may_end_at lists.shelf n) v) old.columns old.words.items) row) (λ is. ends_here game list (may_end_at lists.shelf n) v (subst IsTrue ends is)))
+    (record { ends = λ is. subst IsTrue (sym ends) is; told = λ k d there. subst (IsToldBy game lists old ts may_end v) (sym (is_only k d there)) (told_plain game lists old ts may_end v p other (adds.has v unit.has)) })
+  where
+    list : List ℕ
+    list = list_at lists.shelf n
+
+    ts : List Target
+    ts = (record { position = p; row = v * old.columns }) ∷ []
+
+    unit : IsUnit old.columns old.words.items v (v * old.columns)
+    unit = sound.laid_out.units v below
+
+    adds : AddsRow old.columns old.words.items old.words.items [] ts p (v * old.columns)
+    adds = adds_new old.columns old.words.items [] p (v * old.columns) unit.within (λ k d there. absurd (omega (arith, there))) (λ k there. absurd (omega (arith, there)))
+
+    is_only : (k d : ℕ) → k < length list → get_or list k d ≡ p
+    is_only k d there = only_item list p only.one only.listed k d there
+
+    row : IsRowOf (IsLeapBy game list (may_end_at lists.shelf n) v p) old.columns old.words.items (v * old.columns)
+    row = unit_row game list (may_end_at lists.shelf n) old.columns old.words.items v p (v * old.columns) unit (0, let one = only.one in omega (arith, one), only.listed) other

@@ -1,10 +1,10 @@
 //! A first pass over all nodes, each after those to which its shifts lead.
-ghost use Rattle.std.specs.Prelude.{◌≡◌, ◌≢◌, ◌<◌, length, false, Contains, IfOk, OnOk, IsTrue, slice_index_or};
+ghost use Rattle.std.specs.Prelude.{◌≡◌, ◌≢◌, ◌<◌, length, false, Contains, IfOk, OnOk, IfSome, IsTrue, slice_index_or};
 ghost use Rattle.rbg_rules.specs.Games.{IsGame};
 ghost use Rattle.rbg_leaps.specs.Entries.{IsWithin};
 ghost use Rattle.rbg_leaps.specs.Leaps.{IsShiftAt};
 ghost use Rattle.rbg_leaps.specs.internal.Shelves.{AreListsOf, list_at, may_end_at};
-ghost use Rattle.rbg_leaps.specs.internal.Steps.{HasOnlyShift, IsOnlyShift};
+ghost use Rattle.rbg_leaps.specs.internal.Steps.{IsOnly};
 ghost use Rattle.rbg_leaps.specs.internal.Tables.{IsSoundEntry, IsSoundTable, IsToldAt, FillsOne, FillsUpTo, FillsRightly, LeadsAway, LeadsToMarked, IsMarked, AreFilled};
 
 use crate::gathering::gather;
@@ -89,34 +89,86 @@ fn share_one(
     requires sound { IsSoundTable ground.now lists.now table.old }
     requires node { node < length lists.now.shelf.nodes.items }
     requires vertex { vertex < length ground.now.board.first }
-    requires shift { IsOnlyShift ground.now.rules (list_at lists.now.shelf node) position }
+    requires only { IsOnly (list_at lists.now.shelf node) position }
+    requires shift { IsShiftAt ground.now.rules position }
     ensures { FillsOne ground.now lists.now table.old table.new node vertex }
 {
     let entry = entry_behind(table, lists, ground, node, vertex, position);
     table.share(node, vertex, entry);
 }
 
-/// Whether a node's list has one position alone, and that is a shift.
-fn has_only_shift(lists: &Lists, ground: &Ground<'_>, node: usize) -> bool
-    ensures { IsTrue result → HasOnlyShift ground.now.rules (list_at lists.now.shelf node) }
+/// The position that a node's list has alone.
+fn only_of(lists: &Lists, node: usize) -> Option<Position>
+    ensures { IfSome result (IsOnly (list_at lists.now.shelf node)) }
 {
     let list = lists.shelf.list(node);
-    list.len() == 1 && ground.is_shift(list[0])
+    if list.len() == 1 { Some(list[0]) } else { None }
 }
 
 /// Fills the entries of a node from which one shift leads on: they share what is told behind it.
-fn share_node(table: &mut Table, lists: &Lists, ground: &Ground<'_>, node: usize)
+fn share_node(
+    table: &mut Table,
+    lists: &Lists,
+    ground: &Ground<'_>,
+    node: usize,
+    position: Position,
+)
     requires lawful { IsGame ground.now }
     requires lists { AreListsOf ground.now.rules lists.now }
     requires sound { IsSoundTable ground.now lists.now table.old }
     requires node { node < length lists.now.shelf.nodes.items }
-    requires shift { HasOnlyShift ground.now.rules (list_at lists.now.shelf node) }
+    requires only { IsOnly (list_at lists.now.shelf node) position }
+    requires shift { IsShiftAt ground.now.rules position }
     ensures { FillsUpTo ground.now lists.now table.old table.new node (length ground.now.board.first) }
 {
-    let position = lists.shelf.list(node)[0];
     for vertex in 0..ground.vertices() {
         share_one(table, lists, ground, node, vertex as Vertex, position);
     }
+}
+
+/// Puts the position that comes next alone at a node into the entry of a vertex.
+#[inline(always)]
+fn place_one(
+    table: &mut Table,
+    lists: &Lists,
+    ground: &Ground<'_>,
+    node: usize,
+    vertex: Vertex,
+    position: Position,
+) -> Result<(), Memory>
+    requires lawful { IsGame ground.now }
+    requires sound { IsSoundTable ground.now lists.now table.old }
+    requires node { node < length lists.now.shelf.nodes.items }
+    requires vertex { vertex < length ground.now.board.first }
+    requires only { IsOnly (list_at lists.now.shelf node) position }
+    requires plain { ¬ IsShiftAt ground.now.rules position }
+    ensures { OnOk result (FillsOne ground.now lists.now table.old table.new node vertex) }
+{
+    let row = vertex as usize * table.columns;
+    let target = Target { position, row };
+    table.put(node, vertex, &[target], lists.shelf.may_end(node))?;
+    Ok(())
+}
+
+/// Fills the entries of a node where one position alone comes next, which is no shift.
+fn place_node(
+    table: &mut Table,
+    lists: &Lists,
+    ground: &Ground<'_>,
+    node: usize,
+    position: Position,
+) -> Result<(), Memory>
+    requires lawful { IsGame ground.now }
+    requires sound { IsSoundTable ground.now lists.now table.old }
+    requires node { node < length lists.now.shelf.nodes.items }
+    requires only { IsOnly (list_at lists.now.shelf node) position }
+    requires plain { ¬ IsShiftAt ground.now.rules position }
+    ensures { OnOk result (FillsUpTo ground.now lists.now table.old table.new node (length ground.now.board.first)) }
+{
+    for vertex in 0..ground.vertices() {
+        place_one(table, lists, ground, node, vertex as Vertex, position)?;
+    }
+    Ok(())
 }
 
 /// Fills the entries of a node forwards over the vertices.
@@ -175,11 +227,14 @@ fn fill_once(
     requires node { node < length lists.now.shelf.nodes.items }
     ensures { OnOk result (FillsUpTo ground.now lists.now table.old table.new node (length ground.now.board.first)) }
 {
-    if has_only_shift(lists, ground, node) {
-        share_node(table, lists, ground, node);
+    let Some(position) = only_of(lists, node) else {
+        return fill_forwards(table, parts, lists, ground, node);
+    };
+    if ground.is_shift(position) {
+        share_node(table, lists, ground, node, position);
         return Ok(());
     }
-    fill_forwards(table, parts, lists, ground, node)?;
+    place_node(table, lists, ground, node, position)?;
     Ok(())
 }
 

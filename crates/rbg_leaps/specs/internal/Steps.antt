@@ -40,13 +40,7 @@ pub record IsLeapBy (game : AbstractGame) (list : List ℕ) (may_end : Bool) (v 
 pub record EndsBy (game : AbstractGame) (list : List ℕ) (may_end : Bool) (v : ℕ) : Type 0 where
   pub ends : (f : Start) → IsAnswerAt game.rules f list may_end → EndsAcross game f v
 
--- The list has this position alone, and that is a shift.
-pub record IsOnlyShift (rules : Expression) (list : List ℕ) (p : ℕ) : Type 0 where
+-- The list has this position alone.
+pub record IsOnly (list : List ℕ) (p : ℕ) : Type 0 where
   pub one : length list ≡ 1
   pub listed : slice_index_or list 0 p ≡ p
-  pub is : IsShiftAt rules p
-
--- The list has one position alone, and that is a shift.
-pub record HasOnlyShift (rules : Expression) (list : List ℕ) : Type 0 where
-  pub one : length list ≡ 1
-  pub is : IsShiftAt rules (slice_index_or list 0 0)

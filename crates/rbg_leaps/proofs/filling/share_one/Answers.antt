@@ -10,4 +10,4 @@ returns c =
     let inside : c.args.vertex < c.args.table.now.vertices = subst (λ (n : ℕ). c.args.vertex < n) (sym sound.laid_out.vertices) c.requires.vertex in
     one_shared c.args.ground.now c.args.lists.now c.args.table.now c.share.new.self c.args.node c.args.vertex c.args.position entry inside c.share.ensures
     (table_shared c.args.ground.now c.args.lists.now c.args.table.now c.share.new.self c.args.node c.args.vertex entry inside sound c.share.ensures c.entry_behind-entry.ensures.sound)
-    c.entry_behind-entry.ensures.within c.requires.shift c.entry_behind-entry.ensures.ends c.entry_behind-entry.ensures.told
+    c.entry_behind-entry.ensures.within c.requires.only c.requires.shift c.entry_behind-entry.ensures.ends c.entry_behind-entry.ensures.told
