@@ -152,11 +152,12 @@ fn blank(alloc: Global, lists: &Lists, ground: &Ground<'_>) -> Result<Table, Mem
 {
     let vertices = ground.vertices();
     let columns = (vertices + 63) / 64;
-    let Some(places) = lists.shelf.nodes.len().checked_mul(vertices) else {
+    let nodes = lists.shelf.nodes.len();
+    let Some(places) = nodes.checked_mul(vertices) else {
         return Err(AllocError);
     };
     let words = units(alloc, vertices, columns)?;
-    let table = Table::new(alloc, places, vertices, columns, words)?;
+    let table = Table::new(alloc, nodes, vertices, places, columns, words)?;
     Ok(table)
 }
 

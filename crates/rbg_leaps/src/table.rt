@@ -50,14 +50,35 @@ impl Table {
     ghost use Rattle.rbg_leaps.specs.Made.{entry_at, no_entry};
     ghost use Rattle.rbg_leaps.specs.internal.Tables.{targets_of, Puts, Shares, Grows, AddsRow};
 
-    /// With nothing told at so many places, each of a node and a vertex.
+    /// An empty entry for each node and each vertex. They are appended by nodes, since a large fill is slower than many small
+    /// ones.
+    fn empty_entries(
+        alloc: Global,
+        nodes: usize,
+        vertices: usize,
+        places: usize,
+    ) -> Result<Vec<Entry>, Memory>
+        requires { places ≡ nodes * vertices }
+        ensures { IfOk result (λ entries. entries.items ≡ replicate places no_entry) }
+    {
+        let one_node = vec![in alloc; Entry::NONE; vertices]?;
+        let mut entries = Vec::with_capacity(alloc, places)?;
+        for _ in 0..nodes {
+            entries.extend_from_slice(&one_node)?;
+        }
+        Ok(entries)
+    }
+
+    /// With nothing told at so many places, one for each node and each vertex.
     pub(crate) fn new(
         alloc: Global,
-        places: usize,
+        nodes: usize,
         vertices: usize,
+        places: usize,
         columns: usize,
         words: Vec<u64>,
     ) -> Result<Table, Memory>
+        requires { places ≡ nodes * vertices }
         ensures vertices { IfOk result (λ t. t.vertices ≡ vertices) }
         ensures columns { IfOk result (λ t. t.columns ≡ columns) }
         ensures entries { IfOk result (λ t. t.entries.items ≡ replicate places no_entry) }
@@ -66,7 +87,7 @@ impl Table {
         Ok(Table {
             vertices,
             columns,
-            entries: vec![in alloc; Entry::NONE; places]?,
+            entries: Table::empty_entries(alloc, nodes, vertices, places)?,
             targets: Vec::new(alloc),
             words,
         })

@@ -7,8 +7,8 @@ pub returns : goal.returns
 returns c =
     let t = c.in_ok-table.table in
     let n : ℕ = c.vertices-vertices.result in
-    let nodes : c.len.result ≡ length c.args.lists.now.shelf.nodes.items = c.len.ensures ∙ c.args.lists.now.shelf.nodes.ok.0 in
-    let many : c.in-Some.places ≡ c.len.result * n = search rules in
+    let nodes : c.len-nodes.result ≡ length c.args.lists.now.shelf.nodes.items = c.len-nodes.ensures ∙ c.args.lists.now.shelf.nodes.ok.0 in
+    let many : c.in-Some.places ≡ c.len-nodes.result * n = search rules in
     blank_table c.args.ground.now c.args.lists.now t c.in-Some.places
     (c.in_ok-table.ensures.vertices ∙ c.vertices-vertices.ensures.count)
     (c.in_ok-table.ensures.columns ∙ ap (λ (k : ℕ). (k + 63) / 64) c.vertices-vertices.ensures.count)
