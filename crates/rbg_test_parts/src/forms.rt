@@ -102,7 +102,7 @@ fn entries(alloc: Global, row: &str, rules: &str) -> Result<Option<usize>, Alloc
 }
 
 /// Rules, and how many entries the different lists of their positions have in all.
-const RULES: [(&str, usize); 23] = [
+const RULES: [(&str, usize); 29] = [
     ("->white {w} right [w] ->black", 5),
     ("->white ([w])* ->black", 3),
     ("->white (([w])* ([e])*)* ->black", 4),
@@ -141,6 +141,24 @@ const RULES: [(&str, usize); 23] = [
     ),
     ("->white {! ([w] + [e]) {}} ->black", 6),
     ("->white {! ([w])* {}} [w] ->black", 6),
+    ("->white [$ white = 5, black = white + 1] ->black", 4),
+    (
+        "->white {$ -9223372036854775807 - 1 < 0} [$ white = 7] ->black",
+        4,
+    ),
+    (
+        "->white {$ (-9223372036854775807 - 1) / -1 > 0} [$ white = 7] ->black",
+        4,
+    ),
+    (
+        "->white {$ 1/0 != 1} {$ 7/2*2 == 6} {$ (0-7)/2 == -3} [$ white = e*3] ->black",
+        6,
+    ),
+    ("->white {? ({e} [$ n = 1])* [$ n = 0]} [w] ->black", 7),
+    (
+        "->white right {? [w]* ([$ n = 1] + left) [w]} [b] ->black",
+        9,
+    ),
 ];
 
 #[test]
