@@ -82,7 +82,7 @@ hall:
 # The example tournament: each line of its jobs is a command, so whatever runs commands side by side can play it.
 tournament:
 	@test -x ./rbg || { echo 'make tournament needs ./rbg: run make build first'; exit 1; }
-	@cd clients && for file in ratings tournament tournament_match tournament_table; do python3 -m doctest $$file.py || exit 1; done
+	@cd clients && for file in ratings tournament tournament_match tournament_plan tournament_table; do python3 -m doctest $$file.py || exit 1; done
 	@folder=$$(mktemp -d)/example && python3 clients/tournament.py plan clients/example/plan.toml $$folder && \
 	{ if command -v parallel > /dev/null; then parallel -j 4 < $$folder/jobs.txt; \
 	  else tr '\n' '\0' < $$folder/jobs.txt | xargs -0 -P 4 -n 1 sh -c; fi; } && \

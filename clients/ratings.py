@@ -62,6 +62,21 @@ def ratings(score: Sequence[Sequence[float]]) -> list[tuple[float, float]]:
     return [(ELO * (one - mean), ELO * 1.96 * math.sqrt(spread)) for one, spread in zip(strengths, spreads)]
 
 
+def groups(score: Sequence[Sequence[float]]) -> list[list[int]]:
+    """The groups of programs that are tied together by matches: no program has met one of another group.
+
+    >>> groups([[0, 1, 0, 0], [0, 0, 0, 0], [0, 0, 0, 2], [0, 0, 1, 0]])
+    [[0, 1], [2, 3]]
+    """
+    group = list(range(len(score)))
+    for one, row in enumerate(score):
+        for other, taken in enumerate(row):
+            if taken and group[one] != group[other]:
+                old, new = max(group[one], group[other]), min(group[one], group[other])
+                group = [new if each == old else each for each in group]
+    return [[one for one, each in enumerate(group) if each == first] for first in sorted(set(group))]
+
+
 def likelihood(score: Sequence[Sequence[float]], strengths: list[float]) -> tuple[list[float], list[list[float]]]:
     """The slope of the logarithm of the likelihood, and the information: its second derivatives, negated."""
     size = len(score)

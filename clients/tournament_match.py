@@ -1,5 +1,7 @@
 """One match of a tournament: its files, its processes and its result."""
 
+import errno
+import fcntl
 import json
 import math
 import os
@@ -8,13 +10,12 @@ import signal
 import socket
 import subprocess
 import time
-from contextlib import nullcontext
+from contextlib import contextmanager, nullcontext
 from dataclasses import asdict, dataclass, field
 from pathlib import Path
-from typing import Callable, Optional
+from typing import Callable, Iterator, Optional
 
 TRIES = 5  # how many ports are tried for a match
-LISTENING, CONNECTED = "0A", "01"  # states of sockets
 
 
 class Fault(Exception):
@@ -50,15 +51,17 @@ class Plan:
         """The plan of a tournament's folder."""
         try:
             text = json.loads((folder / "plan.json").read_text())
+            matches = [Pairing(**pairing) for pairing in text.pop("matches")]
+            return Plan(**text, matches=matches)
         except FileNotFoundError:
             raise Fault(f"{folder} has no plan.json: begin with tournament.py plan") from None
-        matches = [Pairing(**pairing) for pairing in text.pop("matches")]
-        return Plan(**text, matches=matches)
+        except (ValueError, TypeError, KeyError, AttributeError) as error:
+            raise Fault(f"{folder / 'plan.json'} isn't a plan: {error}") from None
 
 
 def write_whole(file: Path, text: str) -> None:
     """Writes a file by a rename, so that it is never seen in part."""
-    part = file.with_name(f"{file.name}.{os.getpid()}.part")
+    part = file.with_name(f"{file.name}.{socket.gethostname()}.{os.getpid()}.part")
     part.write_text(text)
     os.replace(part, file)
 
@@ -86,25 +89,53 @@ class Files:
         self.log = stem.with_suffix(".log")
         self.result = stem.with_suffix(".json")
         self.page = stem.with_suffix(".html")
+        self.lock = stem.with_suffix(".lock")
         self.referee = stem.with_suffix(".referee.txt")
         self.seats = [stem.with_suffix(f".seat{seat}.txt") for seat in range(1, len(pairing.seats) + 1)]
 
 
+@contextmanager
+def alone(lock: Path) -> Iterator[None]:
+    """Sees to it that no other process plays the match meanwhile, on no machine that has the folder. The lock ends with
+    this process, however that ends. A file system that has no locks gives none."""
+    with lock.open("ab") as opened:
+        try:
+            fcntl.lockf(opened, fcntl.LOCK_EX | fcntl.LOCK_NB)
+        except OSError as error:
+            if error.errno in (errno.EACCES, errno.EAGAIN):
+                raise Fault(f"match {lock.stem} is being played already") from None
+        yield
+
+
 def has_begun(log: Path) -> bool:
     """Whether the log of a match has its first line. One without it tells nothing, and is taken away."""
-    if log.exists() and b"\n" not in log.read_bytes():
+    if not log.exists():
+        return False
+    with log.open("rb") as opened:
+        begun = opened.readline(100).endswith(b"\n")
+    if not begun:
         log.unlink()
-    return log.exists()
+    return begun
 
 
-def outcome_of(plan: Plan, files: Files) -> Optional[str]:
+def rbg_of(plan: Plan, *words: object, text: Optional[Path] = None) -> str:
+    """What a command of rbg prints. Its standard input is this file, or nothing."""
+    try:
+        with text.open("rb") if text else nullcontext(subprocess.DEVNULL) as given:
+            command = [plan.rbg, *map(str, words)]
+            done = subprocess.run(command, stdin=given, capture_output=True, text=True, errors="replace")
+    except OSError as error:
+        raise Fault(f"{plan.rbg}: {error.strerror}") from None
+    return done.stdout
+
+
+def outcome_of(plan: Plan, game: Path, record: Path) -> Optional[str]:
     """The outcome that a match's record tells, if there is one and `rbg replay` calls it good."""
-    if not files.record.exists():
+    if not record.exists() or rbg_of(plan, "replay", game, record) != "good\n":
         return None
-    replayed = subprocess.run([plan.rbg, "replay", str(files.game), str(files.record)], capture_output=True, text=True)
-    if replayed.stdout != "good\n":
-        return None
-    outcome = files.record.read_text().splitlines()[-1].split(" ", 1)[1]
+    lines = record.read_text().splitlines()
+    # in version 1 a record has no moments
+    outcome = lines[-1] if lines[0] == "rbg 1" else lines[-1].split(" ", 1)[1]
     return None if outcome == "-" else outcome
 
 
@@ -133,7 +164,7 @@ class Processes:
                 pass
             try:
                 os.killpg(process.pid, signal.SIGKILL)
-            except ProcessLookupError:
+            except (ProcessLookupError, PermissionError):
                 pass
             process.wait()
 
@@ -145,19 +176,20 @@ def free_port() -> int:
         return tried.getsockname()[1]
 
 
-def sockets(port: int, state: str) -> int:
-    """How many sockets of this machine have this local port and this state, as Linux lists them. A socket may be listed
-    more than once while others come and go, so each pair of addresses counts once.
+def seats_taken(told: str) -> set[int]:
+    """The seats that are taken, by what a referee has told. A line that isn't whole isn't heard.
 
-    >>> with socket.create_server(("127.0.0.1", 0)) as server:
-    ...     port = server.getsockname()[1]
-    ...     with socket.create_connection(("127.0.0.1", port)):
-    ...         sockets(port, LISTENING), sockets(port, CONNECTED)
-    (1, 1)
+    >>> seats_taken("listening on port 4000\\nseat 1 connected\\nseat 2 connected\\nseat 1 left\\nseat 1 conn")
+    {2}
     """
-    lines = Path("/proc/net/tcp").read_text().splitlines()[1:]
-    listed = {(local, remote) for _, local, remote, found, *_ in map(str.split, lines) if found == state}
-    return sum(local.endswith(f":{port:04X}") for local, _ in listed)
+    taken = set()
+    for line in told.splitlines(keepends=True):
+        match line.split(" "):
+            case ["seat", seat, "connected\n"]:
+                taken.add(int(seat))
+            case ["seat", seat, "left\n"]:
+                taken.discard(int(seat))
+    return taken
 
 
 def is_so(test: Callable[[], bool], seconds: float, *needed: subprocess.Popen) -> bool:
@@ -176,7 +208,8 @@ class Play:
     def __init__(self, plan: Plan, number: int, files: Files, result: Result):
         self.plan, self.number, self.files, self.result = plan, number, files, result
         self.processes = Processes()
-        self.part = files.record.with_name(f"{files.record.name}.{os.getpid()}.part")
+        self.part = files.record.with_name(f"{files.record.name}.{socket.gethostname()}.{os.getpid()}.part")
+        self.heard = 0  # how many bytes the referees before this one have told
         for text in (files.referee, *files.seats):
             text.write_bytes(b"")
 
@@ -195,24 +228,51 @@ class Play:
             has_begun(self.files.log)
             self.result.seconds = round(time.monotonic() - began, 2)
 
+    def told(self) -> str:
+        """What this referee has told on its standard error."""
+        return self.files.referee.read_bytes()[self.heard :].decode(errors="replace")
+
+    def printed(self) -> str:
+        """What this referee has printed."""
+        return self.part.read_text(errors="replace").strip()
+
+    def fault(self, status: int) -> str:
+        """Why a referee ended with this status: what it printed, and the last that it told."""
+        told = [line for line in self.told().splitlines() if line.startswith(("can't", "error"))]
+        return ": ".join([self.printed() or f"status {status}", *told[-1:]])
+
+    def start_referee(self, port: int) -> subprocess.Popen:
+        """Starts a referee at a port. A match that has a log goes on."""
+        plan = self.plan
+        words = [plan.rbg, "serve", str(self.files.game), "--port", str(port), "--turn", str(plan.turn)]
+        words += ["--refusals", str(plan.refusals), "--minutes", str(max(1, math.ceil(plan.minutes)))]
+        words += [f"--names={','.join(self.result.seats)}"]
+        words += ["--resume" if has_begun(self.files.log) else "--log", str(self.files.log)]
+        self.heard = self.files.referee.stat().st_size
+        return self.processes.start(words, plan.folder, self.files.referee, self.part)
+
     def listen(self) -> tuple[Optional[subprocess.Popen], int]:
         """A referee that listens, and its port. If another program takes the port before it, a new one is tried.
 
-        A match that has a log goes on. If it had ended, the referee has printed its record, with status 0.
+        If the match had ended, the referee has printed its record, with status 0.
         """
-        plan = self.plan
         for _ in range(TRIES):
             port = free_port()
-            words = [plan.rbg, "serve", str(self.files.game), "--port", str(port), "--turn", str(plan.turn)]
-            words += ["--refusals", str(plan.refusals), "--minutes", str(max(1, math.ceil(plan.minutes)))]
-            words += ["--names", ",".join(self.result.seats)]
-            words += ["--resume" if has_begun(self.files.log) else "--log", str(self.files.log)]
-            referee = self.processes.start(words, plan.folder, self.files.referee, self.part)
-            if is_so(lambda: sockets(port, LISTENING) == 1, plan.wait, referee) or referee.poll() == 0:
+            try:
+                referee = self.start_referee(port)
+            except OSError as error:
+                self.give_up(None, f"{self.plan.rbg} doesn't start: {error.strerror}")
+                return None, 0
+            listening = f"listening on port {port}\n"
+            if is_so(lambda: listening in self.told(), self.plan.wait, referee) or referee.poll() == 0:
                 return referee, port
-            if referee.poll() is None:
+            status = referee.poll()
+            if status is None:
+                self.give_up(None, f"the referee doesn't listen within {self.plan.wait:g} seconds")
                 break
-        self.result.reason = f"the referee doesn't listen: {self.part.read_text(errors='replace').strip()}"
+            self.give_up(None, f"the referee doesn't listen: {self.fault(status)}")
+            if "can't listen" not in self.told():
+                break
         return None, 0
 
     def seat_all(self, referee: subprocess.Popen, port: int) -> bool:
@@ -222,12 +282,15 @@ class Play:
             command = self.plan.programs[name].replace("{port}", str(port)).replace("{match}", str(self.number))
             try:
                 started.append(self.processes.start(shlex.split(command), self.plan.folder, text))
-            except OSError as error:
-                return self.give_up(seat, f"doesn't start: {error.strerror}")
-            if is_so(lambda: sockets(port, CONNECTED) == seat, self.plan.wait, referee, *started):
-                continue
+            except (OSError, ValueError, IndexError) as error:
+                return self.give_up(seat, f"doesn't start: {getattr(error, 'strerror', None) or error}")
+            wanted = set(range(1, seat + 1))
+            if is_so(lambda: seats_taken(self.told()) >= wanted, self.plan.wait, referee, *started):
+                if seats_taken(self.told()) == wanted:
+                    continue
+                return self.give_up(seat, "connected more than once")
             if referee.poll() is not None:
-                return self.give_up(None, "the referee ended before the match")
+                return self.give_up(None, f"the referee ended before the match: {self.fault(referee.poll())}")
             for other, program in enumerate(started, 1):
                 if program.poll() is not None:
                     return self.give_up(other, f"ended with status {program.returncode} before the match")
@@ -246,17 +309,28 @@ class Play:
             status = referee.wait(self.plan.minutes * 60)
         except subprocess.TimeoutExpired:
             status = None
-        answer = self.part.read_text(errors="replace").strip()
-        if status is None or answer == "rounds":
-            self.result.reason = f"not ended after {self.plan.minutes:g} minutes"
-            return
-        if status:
-            self.result.reason = f"the referee: {answer or status}"
-            return
-        os.replace(self.part, self.files.record)
-        self.result.outcome = outcome_of(self.plan, self.files)
+        if status == 0:
+            os.replace(self.part, self.files.record)
+            self.result.outcome = outcome_of(self.plan, self.files.game, self.files.record)
+            self.result.reason = None if self.result.outcome else "the record isn't good"
+        elif status is None or self.printed() == "rounds":
+            self.processes.end(5.0)
+            if not self.has_ended():
+                self.give_up(None, f"not ended after {self.plan.minutes:g} minutes")
+        else:
+            self.give_up(None, f"the referee: {self.fault(status)}")
+
+    def has_ended(self) -> bool:
+        """Whether the match has ended by its log, though not every program took its last messages. Then its record is
+        kept."""
+        self.part.unlink(missing_ok=True)
+        rbg_of(self.plan, "referee", self.files.game, "--record", self.part, text=self.files.log)
+        self.result.outcome = outcome_of(self.plan, self.files.game, self.part)
         if self.result.outcome is None:
-            self.result.reason = "the record isn't good"
+            return False
+        os.replace(self.part, self.files.record)
+        self.result.reason = None
+        return True
 
 
 def play_match(folder: Path, number: int) -> Result:
@@ -267,10 +341,11 @@ def play_match(folder: Path, number: int) -> Result:
     pairing = plan.matches[number - 1]
     files = Files(folder.resolve(), number, pairing)
     result = Result(pairing.seats, pairing.game)
-    known = outcome_of(plan, files)
-    if known is not None and files.result.exists():
-        result.outcome = known
-        return result
-    Play(plan, number, files, result).play()
-    write_whole(files.result, json.dumps(asdict(result), indent=1) + "\n")
+    with alone(files.lock):
+        known = outcome_of(plan, files.game, files.record)
+        if known is not None and files.result.exists():
+            result.outcome = known
+            return result
+        Play(plan, number, files, result).play()
+        write_whole(files.result, json.dumps(asdict(result), indent=1) + "\n")
     return result

@@ -8,8 +8,9 @@ from concurrent.futures import ThreadPoolExecutor
 from dataclasses import dataclass, field
 from pathlib import Path
 from typing import Optional
+from urllib.parse import quote
 
-from ratings import ratings
+from ratings import groups, ratings
 from tournament_match import Files, Pairing, Plan, Result, outcome_of, write_whole
 
 ENDS = ("E1", "E2", "E3", "E4")
@@ -71,7 +72,8 @@ def make_table(plan: Plan, results: list[Result]) -> Table:
                 standings[place[name]].ends[end] += 1
             standings[place[name]].absent += result.lost == seat
         reached = seat_scores(result, plan.heavy)
-        for seat, name in enumerate(result.seats if reached else ()):
+        # with one player there is nothing to compare
+        for seat, name in enumerate(result.seats if reached and len(reached) > 1 else ()):
             others = [index for index in range(len(reached)) if index != seat]
             taken = {result.seats[other]: compare(reached[seat], reached[other]) for other in others}
             line = standings[place[name]]
@@ -91,16 +93,28 @@ def results_of(plan: Plan, folder: Path) -> list[Result]:
 
     def result_of(number: int, pairing: Pairing) -> Result:
         files = Files(folder.resolve(), number, pairing)
-        result = Result(pairing.seats, pairing.game, reason="not played yet")
-        if files.result.exists():
-            result = Result(**json.loads(files.result.read_text()))
-        result.outcome = outcome_of(plan, files)
-        if result.outcome is None and result.reason is None:
-            result.reason = "the record isn't good"
+        outcome = outcome_of(plan, files.game, files.record)
+        if outcome is not None:
+            return Result(pairing.seats, pairing.game, outcome=outcome)
+        result = written_result(files.result, pairing)
+        result.reason = result.reason or "the record isn't good"
         return result
 
     with ThreadPoolExecutor(os.cpu_count()) as pool:
         return list(pool.map(result_of, range(1, len(plan.matches) + 1), plan.matches))
+
+
+def written_result(file: Path, pairing: Pairing) -> Result:
+    """What was written of a match that has no good record."""
+    result = Result(pairing.seats, pairing.game)
+    try:
+        written = json.loads(file.read_text())
+        result.lost, result.reason = written["lost"], written["reason"]
+    except FileNotFoundError:
+        result.reason = "not played yet"
+    except (ValueError, TypeError, KeyError):
+        result.reason = "its result can't be read"
+    return result
 
 
 HEADS = ["", "program", "rating", "95%", "points", "won", "drawn", "lost", *ENDS, "absent"]
@@ -128,6 +142,19 @@ def pair_rows(table: Table) -> list[list[str]]:
     return pairs
 
 
+def remarks(table: Table) -> list[str]:
+    """What the ratings can't tell."""
+    told = []
+    for line, taken, given in zip(table.standings, table.score, zip(*table.score)):
+        if any(taken) != any(given):
+            side, bound = ("won", "better") if any(taken) else ("lost", "worse")
+            told.append(f"{line.name} has {side} all: it may be far {bound} than its interval says")
+    tied = [", ".join(table.standings[one].name for one in group) for group in groups(table.score)]
+    if len(tied) > 1:
+        told.append(f"no match ties these together, so their ratings can't be compared: {' | '.join(tied)}")
+    return told
+
+
 def print_rows(rows: list[list[str]]) -> None:
     """Prints rows in columns, the program's name to the left and all else to the right."""
     widths = [max(len(cell) for cell in column) for column in zip(*rows)]
@@ -143,8 +170,9 @@ def print_table(plan: Plan, table: Table) -> None:
     print_rows([HEADS, *standing_rows(table)])
     print()
     print_rows([["program", *plan.programs], *pair_rows(table)])
+    print("\n".join(["", *remarks(table)]) if remarks(table) else "")
     missing = [(number, result) for number, result in enumerate(table.results, 1) if result.outcome is None]
-    print(f"\n{len(table.results) - len(missing)} of {len(table.results)} matches have a good record")
+    print(f"{len(table.results) - len(missing)} of {len(table.results)} matches have a good record")
     for number, result in missing:
         print(f"match {number}, {result.game}, {' - '.join(result.seats)}: {result.reason}")
 
@@ -153,12 +181,20 @@ STYLE = """body{font:16px sans-serif;margin:2em}table{border-collapse:collapse;m
 td,th{border:1px solid #bbb;padding:.2em .6em;text-align:right}td.name,th.name{text-align:left}"""
 
 
+class Markup(str):
+    """A text that is markup already."""
+
+
 def html_table(rows: list[list[str]]) -> str:
-    """A table of a page. The first row is its head; cells that begin with `<` are markup already."""
+    """A table of a page. The first row is its head. All cells but those of markup are plain texts.
+
+    >>> html_table([["program"], ["<b>"], [Markup("<i>7</i>")]])
+    '<table><tr><th class="name">program</th></tr><tr><td class="name">&lt;b&gt;</td></tr><tr><td><i>7</i></td></tr></table>\\n'
+    """
 
     def line(row: list[str], tag: str) -> str:
-        cells = (cell if cell.startswith("<") else html.escape(cell) for cell in row)
-        kinds = ("" if cell[:1].isdigit() or cell[:1] in "±-" else ' class="name"' for cell in row)
+        cells = [cell if isinstance(cell, Markup) else html.escape(cell) for cell in row]
+        kinds = ["" if isinstance(cell, Markup) or cell[:1] in set("0123456789±-") else ' class="name"' for cell in row]
         return "<tr>" + "".join(f"<{tag}{kind}>{cell}</{tag}>" for cell, kind in zip(cells, kinds)) + "</tr>"
 
     return "<table>" + line(rows[0], "th") + "".join(line(row, "td") for row in rows[1:]) + "</table>\n"
@@ -182,9 +218,10 @@ def write_page(plan: Plan, folder: Path, table: Table, page: Path) -> None:
     rows = [["match", "game", "seats", "outcome"]]
     for number, (pairing, result) in enumerate(zip(plan.matches, table.results), 1):
         made = make_page(plan, Files(folder.resolve(), number, pairing)) if result.outcome else None
-        link = html.escape(os.path.relpath(made, page.resolve().parent)) if made else ""
-        shown = f'<a href="{link}">{number}</a>' if made else str(number)
+        link = html.escape(quote(os.path.relpath(made, page.resolve().parent))) if made else ""
+        shown = Markup(f'<a href="{link}">{number}</a>') if made else str(number)
         rows.append([shown, result.game, " - ".join(result.seats), result.outcome or result.reason or ""])
-    tables = [[HEADS, *standing_rows(table)], [["program", *plan.programs], *pair_rows(table)], rows]
+    tables = [[HEADS, *standing_rows(table)], [["program", *plan.programs], *pair_rows(table)]]
     head = f'<!DOCTYPE html>\n<html lang="en"><meta charset="utf-8"><title>Tournament</title><style>{STYLE}</style>\n'
-    write_whole(page, head + "".join(map(html_table, tables)) + "</html>\n")
+    notes = "".join(f"<p>{html.escape(remark)}</p>\n" for remark in remarks(table))
+    write_whole(page, head + "".join(map(html_table, tables)) + notes + html_table(rows) + "</html>\n")
