@@ -8,6 +8,9 @@ record play it again, with a log, and `rbg` is killed at a random moment, and on
 end the record has to be good and to have the moves and the outcome of the first match, and `rbg referee GAME < LOG` has
 to tell the same. A log that is cut at any of its bytes has to be refereed up to the cut, and to go on from there.
 
+Meanwhile the players of one more match send bytes without an end and no message: it has to last its minute, however many
+rounds have passed, and then goes on from its log. And what can't be opened has to be named on standard error.
+
 It needs nothing but Linux, Python 3.11 and the program rbg.
 """
 
@@ -18,12 +21,15 @@ import socket
 import subprocess
 import sys
 import tempfile
+import threading
 import time
 from pathlib import Path
 from typing import Optional
 
 CLIENT = Path(__file__).resolve().with_name("rbg_player.py")
 PATIENCE = 60  # seconds in which a match has to end
+ROUNDS = 600  # the rounds of the match that is to last a minute; they are over in 3 to 17 seconds
+PAUSE = 0.02  # seconds between two bytes, so that in a minute they are no message that is too long
 
 
 class Wrong(Exception):
@@ -132,6 +138,78 @@ class Match:
             raise Wrong("the log tells another match than the record")
 
 
+class Dripping:
+    """A match of one minute, whose players send bytes without an end and without a zero byte."""
+
+    def __init__(self, rbg: str, game: Path, folder: Path):
+        folder.mkdir()
+        self.match = Match(rbg, game, folder)
+        port = free_port()
+        words = ["--rounds", str(ROUNDS), "--minutes", "1", "--turn", "3600000", "--log", str(self.match.log)]
+        self.referee = subprocess.Popen(
+            [rbg, "serve", str(game), "--port", str(port), *words],
+            stdout=subprocess.PIPE, stderr=subprocess.PIPE, text=True,
+        )
+        Match.wait_for(self.referee, "listening")
+        for _ in range(2):
+            connection = socket.create_connection(("127.0.0.1", port))
+            threading.Thread(target=self.drip, args=(connection,), daemon=True).start()
+
+    @staticmethod
+    def drip(connection: socket.socket) -> None:
+        """Sends a byte again and again, until the connection is closed."""
+        try:
+            while True:
+                connection.sendall(b"x")
+                time.sleep(PAUSE)
+        except OSError:
+            pass
+
+    def check(self, record: str) -> int:
+        """It has lasted its minute, and ends as the record tells once its players say its moves. Returns how many rounds
+        have passed at least."""
+        output, told = self.referee.communicate(timeout=2 * PATIENCE)
+        if (self.referee.returncode, output) != (3, "rounds\n") or not told.endswith("not ended within 1 minute\n"):
+            raise Wrong(f"a match of one minute: status {self.referee.returncode}, {output}{told}")
+        events = [line.split(" ") for line in self.match.log.read_text().splitlines()[1:]]
+        rounds = sum(seat == "1" for _, seat, *_ in events)
+        if rounds <= ROUNDS or not 59_000 <= int(events[-1][2]) < 60_000:
+            raise Wrong(f"a match of one minute: {rounds} rounds, up to the moment {events[-1][2]}")
+        self.match.record.write_text(record)
+        again = self.match.play_again("--resume", str(self.match.log))
+        assert again is not None
+        self.match.check(again)
+        return rounds
+
+    def end(self) -> None:
+        Match.end(self.referee, [])
+
+
+def check_faults(match: Match) -> int:
+    """What can't be opened is named on standard error. Returns how many such faults were looked at."""
+    game, record, none = str(match.game), str(match.record), str(match.log.with_name("none"))
+    before = match.record.read_text()
+    with socket.create_server(("127.0.0.1", 0)) as server:
+        taken, free = str(server.getsockname()[1]), str(free_port())
+        faults = [
+            (["serve", game, "--port", taken], taken),
+            (["serve", none, "--port", free], none),
+            (["serve", game, "--port", free, "--log", record], record),
+            (["serve", game, "--port", free, "--log", none + "/log"], none + "/log"),
+            (["serve", game, "--port", free, "--resume", none], none),
+            (["hall", game, "--port", taken], taken),
+            (["play", "--port", free], free),
+            (["replay", game, none], none),
+        ]
+        for words, name in faults:
+            done = subprocess.run([match.rbg, *words], capture_output=True, text=True)
+            if (done.returncode, done.stdout) != (3, "device\n") or name not in done.stderr:
+                raise Wrong(f"{words}: status {done.returncode}, {done.stdout}{done.stderr}")
+    if match.record.read_text() != before:
+        raise Wrong("a file was written over by a log")
+    return len(faults)
+
+
 def crash_once(match: Match, chance: random.Random, longest: float) -> int:
     """Plays a match that is killed twice at most. Returns how often it was killed."""
     killed = 0
@@ -183,6 +261,34 @@ def cut_everywhere(match: Match) -> int:
     return len(whole)
 
 
+def crash(words: argparse.Namespace, folder: Path) -> tuple[str, int]:
+    """Plays, kills and compares all matches, and says how far it is. Returns the record of the first one, and how often
+    matches were killed."""
+    chance = random.Random(words.seed)
+    killed = 0
+    first = ""
+    for number in range(words.count):
+        game = words.games[number % len(words.games)]
+        match = Match(words.rbg, game, folder)
+        seeds = [str(chance.randrange(10**6)) for _ in range(2)]
+        whole = match.play([["--random", seed] for seed in seeds])
+        assert whole is not None
+        match.record.write_text(whole)
+        match.log.unlink(missing_ok=True)
+        again = match.play_again("--log", str(match.log))
+        assert again is not None
+        match.check(again)
+        longest = match.lasted
+        if number == 0:
+            print(f"{cut_everywhere(match)} cuts of a log were looked at", flush=True)
+            print(f"{check_faults(match)} faults name their file or port", flush=True)
+            first = whole
+        often = crash_once(match, chance, longest)
+        killed += often
+        print(f"match {number + 1} of {words.count}, {game.stem}: killed {often} times", flush=True)
+    return first, killed
+
+
 def main() -> int:
     parser = argparse.ArgumentParser(description=__doc__.splitlines()[0])
     parser.add_argument("games", type=Path, nargs="+", metavar="GAME")
@@ -190,30 +296,17 @@ def main() -> int:
     parser.add_argument("--count", type=int, default=50, help="how many matches are killed")
     parser.add_argument("--seed", type=int, default=1)
     words = parser.parse_args()
-    chance = random.Random(words.seed)
-    killed = 0
-    try:
-        with tempfile.TemporaryDirectory() as folder:
-            for number in range(words.count):
-                game = words.games[number % len(words.games)]
-                match = Match(words.rbg, game, Path(folder))
-                seeds = [str(chance.randrange(10**6)) for _ in range(2)]
-                whole = match.play([["--random", seed] for seed in seeds])
-                assert whole is not None
-                match.record.write_text(whole)
-                match.log.unlink(missing_ok=True)
-                again = match.play_again("--log", str(match.log))
-                assert again is not None
-                match.check(again)
-                longest = match.lasted
-                if number == 0:
-                    print(f"{cut_everywhere(match)} cuts of a log were looked at", flush=True)
-                often = crash_once(match, chance, longest)
-                killed += often
-                print(f"match {number + 1} of {words.count}, {game.stem}: killed {often} times", flush=True)
-    except Wrong as wrong:
-        print(f"wrong: {wrong}", file=sys.stderr)
-        return 1
+    with tempfile.TemporaryDirectory() as folder:
+        dripping = Dripping(words.rbg, words.games[0], Path(folder) / "dripping")
+        try:
+            first, killed = crash(words, Path(folder))
+            rounds = dripping.check(first)
+        except Wrong as wrong:
+            print(f"wrong: {wrong}", file=sys.stderr)
+            return 1
+        finally:
+            dripping.end()
+    print(f"a match of bytes without an end lasted its minute, at least {rounds} rounds, and went on from its log")
     print(f"{words.count} matches, killed {killed} times: each record is good, and its log tells the same match")
     return 0
 
