@@ -211,7 +211,9 @@ class Play:
         self.part = files.record.with_name(f"{files.record.name}.{socket.gethostname()}.{os.getpid()}.part")
         self.heard = 0  # how many bytes the referees before this one have told
         for text in (files.referee, *files.seats):
-            text.write_bytes(b"")
+            # what a job that was killed has left behind may still write to the old file
+            text.unlink(missing_ok=True)
+            text.touch()
 
     def play(self) -> None:
         """Plays the match, and fills in the result. A match that isn't played has a reason."""
