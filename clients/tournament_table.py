@@ -188,13 +188,14 @@ class Markup(str):
 def html_table(rows: list[list[str]]) -> str:
     """A table of a page. The first row is its head. All cells but those of markup are plain texts.
 
-    >>> html_table([["program"], ["<b>"], [Markup("<i>7</i>")]])
-    '<table><tr><th class="name">program</th></tr><tr><td class="name">&lt;b&gt;</td></tr><tr><td><i>7</i></td></tr></table>\\n'
+    >>> print(html_table([["x"], ["<b>"], [Markup("<i>7</i>")]]), end="")
+    <table><tr><th class="name">x</th></tr><tr><td class="name">&lt;b&gt;</td></tr><tr><td><i>7</i></td></tr></table>
     """
 
     def line(row: list[str], tag: str) -> str:
         cells = [cell if isinstance(cell, Markup) else html.escape(cell) for cell in row]
-        kinds = ["" if isinstance(cell, Markup) or cell[:1] in set("0123456789±-") else ' class="name"' for cell in row]
+        right = [isinstance(cell, Markup) or cell[:1] in set("0123456789±-") for cell in row]
+        kinds = ["" if each else ' class="name"' for each in right]
         return "<tr>" + "".join(f"<{tag}{kind}>{cell}</{tag}>" for cell, kind in zip(cells, kinds)) + "</tr>"
 
     return "<table>" + line(rows[0], "th") + "".join(line(row, "td") for row in rows[1:]) + "</table>\n"
