@@ -8,7 +8,7 @@ use rbg_state::SemiState;
 use std::alloc::Global;
 
 /// What questions leave to later ones: their buffers, and what they took up in all.
-#[derive(Debug, Drop)]
+#[derive(Debug)]
 pub struct Workspace {
     pub(crate) searches: SearchWorkspace,
     /// The copy of a semi-state on which a question is asked.
@@ -21,6 +21,20 @@ pub struct Workspace {
     pub(crate) buffer: Vec<Pair>,
     /// Lists of moves that are not in use.
     lists: Vec<MoveList>,
+}
+
+/// Written out, so that letting a workspace go is one call in the proofs of those who hold one, not a step for each part.
+impl Drop for Workspace {
+    fn drop(self) {
+        let Workspace {
+            searches: _,
+            asked: _,
+            front: _,
+            states: _,
+            buffer: _,
+            lists: _,
+        } = self;
+    }
 }
 
 impl Workspace {
