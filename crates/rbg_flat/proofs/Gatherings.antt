@@ -1,14 +1,11 @@
 -- How words are gathered.
-use Rattle.std.proofs.Common.{◌≡◌, ◌≢◌, ℕ, ◌+◌, ◌*◌, ◌/◌, ◌%◌, ◌^◌, ◌<◌, ◌≤◌, ◌⊎◌, inl, inr, List, [], ◌∷◌, ◌++◌, Bool, true, false, get_or, sym, ap, subst, ◌∙◌, append_assoc, arith}
+use Rattle.std.proofs.Common.{◌≡◌, ℕ, ◌+◌, ◌*◌, ◌/◌, ◌%◌, ◌^◌, ◌<◌, ◌≤◌, List, Bool, true, false, get_or, sym, ap, subst, ◌∙◌, arith}
 use Rattle.std.specs.Prelude.{count_ones}
 use Rattle.std.specs.Int.{bit_at}
-use Rattle.std.proofs.lemmas.List.{map-append}
-use Rattle.std.proofs.lemmas.Nat.Bits.{bit_at-lt}
-use native.Mathlib.Decide.{ℕ_discrete}
-use Rattle.rbg_flat.specs.internal.Gathering.{at_position, IsBitOf, PushesWord, Gathers}
+use Rattle.rbg_flat.specs.internal.Gathering.{IsBitOf, PushesWord, Gathers}
 use Rattle.rbg_flat.specs.internal.Places.{IsMetAt}
 use Rattle.rbg_flat.specs.internal.Sets.{SetsOfVertices}
-use Rattle.rbg_flat.proofs.Lists.{lists_push, lists_count}
+use Rattle.rbg_flat.proofs.Lists.{lists_count}
 use Rattle.rbg_flat.proofs.Ones.{counted}
 
 true_not_false : true ≡ false → ⊥

@@ -1,5 +1,5 @@
 -- Modifiers by words of 64 vertices.
-use Rattle.std.specs.Prelude.{◌≡◌, ℕ, zero, suc, ◌+◌, ◌*◌, ◌^◌, ◌/◌, ◌%◌, ◌<◌, List, [], ◌∷◌, ◌++◌, map, flat_map}
+use Rattle.std.specs.Prelude.{◌≡◌, ℕ, zero, suc, ◌+◌, ◌^◌, ◌/◌, ◌%◌, ◌<◌, List, [], ◌∷◌, ◌++◌, map, flat_map}
 use Rattle.std.specs.Int.{bit_at, trailing_zeros, w64}
 use Rattle.rbg_flat.specs.declared.found.Word.{Word}
 

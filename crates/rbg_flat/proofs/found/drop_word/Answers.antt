@@ -1,10 +1,8 @@
 -- A word is gone.
-use Rattle.std.proofs.Common.{◌≡◌, ◌<◌, ◌≤◌, ◌∙◌, ◌++◌, ◌∷◌, [], List, length, get_or, refl, sym, ap, subst, arith}
-use Rattle.std.specs.Prelude.{Some, slice_get}
+use Rattle.std.proofs.Common.{◌≡◌, ◌<◌, ◌≤◌, ◌++◌, length, subst, arith}
+use Rattle.std.specs.Prelude.{Some}
 use Rattle.std.specs.List.Sorted.{IsPermutation}
-use Rattle.std.proofs.lemmas.List.{length_push}
 use Rattle.std.proofs.lemmas.List.Elements.{All-set, All-pop}
-use Rattle.std.proofs.lemmas.Option.{get_or_from_slice_get}
 use Rattle.rbg_flat.specs.internal.Bits.{pairs_of, pairs_in, IsFilled}
 use Rattle.rbg_flat.specs.declared.found.Word.{Word}
 use Rattle.rbg_flat.proofs.Spellings.{dropped_inside, dropped_last, front_same, last_same}

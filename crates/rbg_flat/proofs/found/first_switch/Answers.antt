@@ -1,9 +1,9 @@
-use Rattle.std.proofs.Common.{◌≡◌, ◌⊎◌, ◌<◌, ◌≤◌, ℕ, List, Option, Some, None, Bool, true, false, take, get_or, length, inl, inr, sym, ap, subst, ◌∙◌}
-use Rattle.std.specs.Prelude.{All, IfSome, IsTrue, ◌↔◌, Contains}
+use Rattle.std.proofs.Common.{◌≡◌, ◌⊎◌, ◌<◌, ◌≤◌, ℕ, List, Option, Some, Bool, true, false, take, get_or, length, sym, subst, ◌∙◌}
+use Rattle.std.specs.Prelude.{All, IsTrue, ◌↔◌}
 use Rattle.std.proofs.lemmas.List.{take_all}
 use Rattle.std.proofs.lemmas.List.Elements.{All-contains}
 use Rattle.rbg_rules.specs.Expression.{Expression}
-use Rattle.rbg_rules.specs.Positions.{IsSwitchAt, positions_of}
+use Rattle.rbg_rules.specs.Positions.{positions_of}
 use Rattle.rbg_flat.specs.Order.{IsBefore}
 use Rattle.rbg_flat.specs.internal.Bits.{pairs_in, first_of, IsFilled}
 use Rattle.rbg_flat.specs.declared.found.Word.{Word}

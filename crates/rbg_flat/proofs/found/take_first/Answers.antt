@@ -1,11 +1,9 @@
 -- The first pair of a word is taken.
-use Rattle.std.proofs.Common.{◌≡◌, ◌≢◌, ℕ, ◌+◌, ◌<◌, ◌++◌, ◌∷◌, [], List, set, get_or, sym, ap, subst, ◌∙◌, arith}
-use Rattle.std.specs.Prelude.{Some, slice_get}
-use Rattle.std.specs.Int.{bit_at}
-use Rattle.std.specs.List.Sorted.{IsPermutation}
+use Rattle.std.proofs.Common.{◌≡◌, ℕ, ◌+◌, ◌∷◌, List, sym, ap, subst, ◌∙◌}
+use Rattle.std.specs.Prelude.{Some}
 use Rattle.std.proofs.lemmas.List.Elements.{All-set}
 use Rattle.std.proofs.lemmas.Option.{slice_get-get_or}
-use Rattle.rbg_flat.specs.internal.Bits.{pairs_of, pairs_in, IsFilled}
+use Rattle.rbg_flat.specs.internal.Bits.{pairs_of, IsFilled}
 use Rattle.rbg_flat.specs.declared.found.Word.{Word}
 use Rattle.rbg_flat.proofs.Spellings.{with_bits, pairs_first, pairs_none, taken_first, fewer_filled, word_gone}
 use Rattle.rbg_flat.proofs.found.take_first.Goals as goal

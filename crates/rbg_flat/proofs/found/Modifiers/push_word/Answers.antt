@@ -1,4 +1,4 @@
-use Rattle.std.proofs.Common.{◌<◌, arith}
+use Rattle.std.proofs.Common.{arith}
 use Rattle.rbg_flat.proofs.Spellings.{column_filled, pushed_filled, pushed_word}
 use Rattle.rbg_flat.proofs.found.Modifiers.push_word.Goals as goal
 
