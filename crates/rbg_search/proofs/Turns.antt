@@ -1,6 +1,6 @@
 -- Pairs that are taken one after another, in an order that isn't that of their list.
-use Rattle.std.proofs.Common.{◌≡◌, ◌≢◌, ℕ, suc, ◌+◌, ◌-◌, ◌<◌, ◌≤◌, List, [], ◌∷◌, ◌++◌, length, get_or, take, Bool, true, false, sym, ap, ◌∙◌, subst, append_assoc, append-nil, arith}
-use Rattle.std.specs.Prelude.{IsTrue, ◌↔◌, All, AllPairs, Contains}
+use Rattle.std.proofs.Common.{◌≡◌, ℕ, suc, ◌+◌, ◌-◌, ◌<◌, ◌≤◌, List, [], ◌∷◌, ◌++◌, length, get_or, take, Bool, true, false, sym, ap, ◌∙◌, subst, append_assoc, append-nil, arith}
+use Rattle.std.specs.Prelude.{IsTrue, ◌↔◌, All, Contains}
 use Rattle.std.specs.List.Sorted.{IsPermutation}
 use Rattle.std.proofs.Math.Seq.{get_or-append_seam, take-append_seam}
 use Rattle.std.proofs.lemmas.List.{length-append, take_more}
@@ -20,9 +20,8 @@ use Rattle.rbg_search.specs.Taken.{CountsPairs}
 use Rattle.rbg_search.specs.internal.Asked.{GoesBehind, IsCounted}
 use Rattle.rbg_search.specs.internal.Behind.{RunsBehindPair, SomeRunsBehind}
 use Rattle.rbg_search.specs.internal.Closure.{at_vertex}
-use Rattle.rbg_search.specs.internal.Taking.{RanBehind}
 use Rattle.rbg_search.proofs.CountedSteps.{BehindStep, one_behind, one_too_many}
-use Rattle.rbg_search.proofs.ForcingSteps.{BehindForced, one_forced}
+use Rattle.rbg_search.proofs.ForcingSteps.{one_forced}
 use Rattle.rbg_search.proofs.Orders.{still_differ}
 use Rattle.rbg_search.proofs.TakingSteps.{one_takes}
 

@@ -1,5 +1,5 @@
 -- The flat part of an opening: what is reached from a semi-state without a modifier.
-use Rattle.std.specs.Prelude.{◌≡◌, ◌≢◌, ℕ, ◌<◌, ◌⊎◌, ◌↔◌, List, [], ◌∷◌, ◌++◌, Contains, AllPairs, Bool, Decides}
+use Rattle.std.specs.Prelude.{◌≡◌, ◌≢◌, ℕ, ◌↔◌, List, [], ◌∷◌, ◌++◌, Contains, AllPairs, Bool, Decides}
 use Rattle.rbg_rules.specs.Positions.{IsModifierAt, HasNoModifier}
 use Rattle.rbg_rules.specs.Words.{Start, Follows}
 use Rattle.rbg_rules.specs.State.{AbstractGame, AbstractState}

@@ -1,4 +1,4 @@
-use Rattle.std.proofs.Common.{rules, ◌≡◌, ℕ, suc, ◌^◌, ◌<◌, ◌≤◌, List, length, get_or, take, Bool, sym, ap, ◌∙◌, subst, arith, [], ◌∷◌, ◌++◌, ◌-◌, refl, ◌+◌, false, true}
+use Rattle.std.proofs.Common.{rules, ◌≡◌, ℕ, suc, ◌^◌, ◌<◌, ◌≤◌, List, length, take, Bool, sym, ap, ◌∙◌, subst, arith, [], ◌∷◌, ◌++◌, ◌-◌, refl, ◌+◌, false, true}
 use Rattle.std.specs.Prelude.{IsTrue, IsOk, ◌↔◌, All, Some, slice_get, Contains, Err}
 use Rattle.rbg_rules.specs.Positions.{inside, IsPatternAt}
 use Rattle.rbg_rules.specs.Words.{Start, beginning, after}
