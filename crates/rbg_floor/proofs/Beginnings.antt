@@ -31,14 +31,14 @@ same_table : {a b : TableState} → Some a ≡ Some b → a ≡ b
 same_table is = cc
 
 -- a table hears nothing of a line that doesn't ask for it, or isn't there
-unasked_lacks : (tables table line : ℕ) (events : List AbstractHallEvent) → asks_for tables table line events ≡ false → Lacks line (own tables table events)
+pub unasked_lacks : (tables table line : ℕ) (events : List AbstractHallEvent) → asks_for tables table line events ≡ false → Lacks line (own tables table events)
 unasked_lacks tables table line events unasked =
     subst (Lacks line) (others_are_unheard tables table events)
     (own_lacks tables table line (concerning tables table events)
     (ap (λ sent. is_for table (first_request tables (cut message_limit (incomplete []) sent).items)) (dropped_sent tables table line events unasked events) ∙ nothing_asked tables table))
 
 -- a line on a seat was told this before the match began
-early_so : {start : AbstractTable} {heard : List OwnEvent} {seats : List (Option ℕ)} {playing : MatchState} {told : List Telling} (holds : HoldsTranscript start.game start.text start.config heard seats playing told) (index line : ℕ) → JoinsFirst line heard → slice_get seats index ≡ Some (Some line) → bytes_to line holds.early ≡ flat_map (early_refusal line) holds.before
+pub early_so : {start : AbstractTable} {heard : List OwnEvent} {seats : List (Option ℕ)} {playing : MatchState} {told : List Telling} (holds : HoldsTranscript start.game start.text start.config heard seats playing told) (index line : ℕ) → JoinsFirst line heard → slice_get seats index ≡ Some (Some line) → bytes_to line holds.early ≡ flat_map (early_refusal line) holds.before
 early_so {heard = heard} holds index line first there =
     let begins : JoinsFirst line (holds.before ++ joins holds.line holds.at ∷ []) =
     joins_before line (holds.before ++ joins holds.line holds.at ∷ []) holds.after
@@ -54,7 +54,7 @@ early_so {heard = heard} holds index line first there =
 
 module _ {starts : List AbstractTable} {events : List AbstractHallEvent} {state : HallState} {told : List Telling} (stands : Stands starts events state told) (index line : ℕ) where
   -- what a line has that asks for a table
-  told_there : asks_for (length starts) (1 + index) line events ≡ true → bytes_to line told ≡ bytes_to line (get_or stands.tolds index [])
+  pub told_there : asks_for (length starts) (1 + index) line events ≡ true → bytes_to line told ≡ bytes_to line (get_or stands.tolds index [])
   told_there asked =
       let within = ltb-true line lines_in_all (first_true (nat_lt line lines_in_all) (asks_in (length starts) (1 + index) line events) asked) in
       let asked_it = second_true (nat_lt line lines_in_all) (asks_in (length starts) (1 + index) line events) asked in

@@ -11,7 +11,6 @@ use Rattle.rbg_floor.specs.declared.line.Line.TheVariants.{Over}
 use Rattle.rbg_floor.specs.Events.{sends, ends, ticks}
 use Rattle.rbg_floor.specs.Halls.{EachHears, HearsEach, line_at, line_behind, refused_in}
 use Rattle.rbg_floor.specs.Halls as halls
-use Rattle.rbg_floor.specs.Hearing.{HallHears}
 use Rattle.rbg_floor.specs.Lines.{HallLine, over}
 use Rattle.rbg_floor.specs.Own.{heard_of_piece, heard_of_end}
 use Rattle.rbg_floor.specs.Ledgers.{EachBecomes, EachWrites, HallStops, HallWrites, KeptHearsEach}
@@ -35,7 +34,7 @@ pub all_states : {W : Type 0} {tells : W → List ℕ → Type 0} {heard : ℕ �
 all_states hearing.none = halls.none
 all_states (hearing.more each hear) = halls.more (each_state each) (all_states hear)
 
-pub all_write : {W : Type 0} {tells : W → List ℕ → Type 0} {heard : ℕ → List OwnEvent} {number : ℕ} {olds news : List (KeptState W)} {said : List (List Telling)} → EachKeptHears tells heard number olds news said → EachWrites tells heard number (states_of olds) (ledgers_of olds) (states_of news) (ledgers_of news)
+pub all_write : {W : Type 0} {tells : W → List ℕ → Type 0} {heard : ℕ → List OwnEvent} {number : ℕ} {olds news : List (KeptState W)} {said : List (List Telling)} → EachKeptHears tells heard number olds news said → EachWrites tells heard number (states_of olds) (ledgers_of olds) (states_of news) (ledgers_of news) said
 all_write hearing.none = ledgers.none
 all_write (hearing.more each hear) = ledgers.more each (all_write hear)
 
@@ -66,35 +65,35 @@ module _ {W : Type 0} (tells : W → List ℕ → Type 0) (tables : List (KeptSt
   none_ended = none_hear (λ (table : ℕ). heard_of_end table (line_at (lines_of lines) line) line at) 1 tables
       (λ index. ap (λ one. heard_of_end (1 + index) one line at) over_there)
 
-  pub past_sends : (bytes : List ℕ) → HallHears (hall_of tables lines) (sends line at bytes) (hall_of tables lines) queues queues
+  pub past_sends : (bytes : List ℕ) → HallWrites tells (hall_of tables lines) (ledgers_of tables) (sends line at bytes) (hall_of tables lines) (ledgers_of tables) queues queues
   past_sends bytes = record {
-    told = [];
-    steps = record {
-      by_tables = silence tables;
-      tables = all_states (none_sent bytes);
-      lines = sym (set_past (lines_of lines) line (line_behind (length (states_of tables)) (line_at (lines_of lines) line) bytes) there_none);
-      is_told = λ i. sym (ap (λ one. refused_in (length (states_of tables)) one line bytes) over_there) i ++ sym (nobody_tells tables) i;
+    hears = record {
+      told = [];
+      steps = record {
+        by_tables = silence tables;
+        tables = all_states (none_sent bytes);
+        lines = sym (set_past (lines_of lines) line (line_behind (length (states_of tables)) (line_at (lines_of lines) line) bytes) there_none);
+        is_told = λ i. sym (ap (λ one. refused_in (length (states_of tables)) one line bytes) over_there) i ++ sym (nobody_tells tables) i;
+      };
+      queued = sym (told_to-none queues);
     };
-    queued = sym (told_to-none queues);
+    each = all_write (none_sent bytes);
   }
 
-  pub past_sends_writes : (bytes : List ℕ) → HallWrites tells (hall_of tables lines) (ledgers_of tables) (sends line at bytes) (hall_of tables lines) (ledgers_of tables)
-  past_sends_writes bytes = record { each = all_write (none_sent bytes) }
-
-  pub past_ends : HallHears (hall_of tables lines) (ends line at) (hall_of tables lines) queues queues
+  pub past_ends : HallWrites tells (hall_of tables lines) (ledgers_of tables) (ends line at) (hall_of tables lines) (ledgers_of tables) queues queues
   past_ends = record {
-    told = [];
-    steps = record {
-      by_tables = silence tables;
-      tables = all_states none_ended;
-      lines = sym (set_past (lines_of lines) line over there_none);
-      is_told = sym (nobody_tells tables);
+    hears = record {
+      told = [];
+      steps = record {
+        by_tables = silence tables;
+        tables = all_states none_ended;
+        lines = sym (set_past (lines_of lines) line over there_none);
+        is_told = sym (nobody_tells tables);
+      };
+      queued = sym (told_to-none queues);
     };
-    queued = sym (told_to-none queues);
+    each = all_write none_ended;
   }
-
-  pub past_ends_writes : HallWrites tells (hall_of tables lines) (ledgers_of tables) (ends line at) (hall_of tables lines) (ledgers_of tables)
-  past_ends_writes = record { each = all_write none_ended }
 
 -- a line that is there
 module _ {W : Type 0} (tells : W → List ℕ → Type 0) (tables news : List (KeptState W)) (lines : List Line) (line at : ℕ) (one : Line) (within : line < length lines) (found : one ≡ get_or lines line one) (before after : List (List ℕ)) where
@@ -106,50 +105,50 @@ module _ {W : Type 0} (tells : W → List ℕ → Type 0) (tables news : List (K
       subst (λ (standing : HallLine). EachKeptHears tells (λ (table : ℕ). heard_of_piece (length (states_of tables)) table standing line at bytes) 1 tables news hears.told) stands_so
       (subst (λ (count : ℕ). EachKeptHears tells (λ (table : ℕ). heard_of_piece count table (line_of one) line at bytes) 1 tables news hears.told) (as_many tables) hears.tables)
 
-  pub line_sends : (bytes : List ℕ) (left next : Line) → PieceHeard tells tables (line_of one) line at bytes news (line_of next) before after → HallHears (hall_of tables lines) (sends line at bytes) (hall_of news (set (set lines line left) line next)) before after
+  pub line_sends : (bytes : List ℕ) (left next : Line) → PieceHeard tells tables (line_of one) line at bytes news (line_of next) before after → HallWrites tells (hall_of tables lines) (ledgers_of tables) (sends line at bytes) (hall_of news (set (set lines line left) line next)) (ledgers_of news) before after
   line_sends bytes left next hears = record {
-    told = refused_in (length (states_of tables)) (line_of one) line bytes ++ flat_map (λ one. one) hears.told;
-    steps = record {
-      by_tables = hears.told;
-      tables = all_states (has_sent bytes (line_of next) hears);
-      lines = ap lines_of (set_twice lines line left next) ∙ map-set line_of lines line next
-          ∙ ap (set (lines_of lines) line) (hears.stands ∙ ap (λ standing. line_behind (length tables) standing bytes) stands_so ∙ ap (λ (count : ℕ). line_behind count (line_at (lines_of lines) line) bytes) (as_many tables));
-      is_told = ap (λ standing. refused_in (length (states_of tables)) standing line bytes ++ flat_map (λ one. one) hears.told) stands_so;
+    hears = record {
+      told = refused_in (length (states_of tables)) (line_of one) line bytes ++ flat_map (λ one. one) hears.told;
+      steps = record {
+        by_tables = hears.told;
+        tables = all_states (has_sent bytes (line_of next) hears);
+        lines = ap lines_of (set_twice lines line left next) ∙ map-set line_of lines line next
+            ∙ ap (set (lines_of lines) line) (hears.stands ∙ ap (λ standing. line_behind (length tables) standing bytes) stands_so ∙ ap (λ (count : ℕ). line_behind count (line_at (lines_of lines) line) bytes) (as_many tables));
+        is_told = ap (λ standing. refused_in (length (states_of tables)) standing line bytes ++ flat_map (λ one. one) hears.told) stands_so;
+      };
+      queued = hears.queued ∙ ap (λ (count : ℕ). told_to before (refused_in count (line_of one) line bytes ++ flat_map (λ one. one) hears.told)) (as_many tables);
     };
-    queued = hears.queued ∙ ap (λ (count : ℕ). told_to before (refused_in count (line_of one) line bytes ++ flat_map (λ one. one) hears.told)) (as_many tables);
+    each = all_write (has_sent bytes (line_of next) hears);
   }
-
-  pub line_sends_writes : (bytes : List ℕ) (next : HallLine) (lefts : List Line) → PieceHeard tells tables (line_of one) line at bytes news next before after → HallWrites tells (hall_of tables lines) (ledgers_of tables) (sends line at bytes) (hall_of news lefts) (ledgers_of news)
-  line_sends_writes bytes next lefts hears = record { each = all_write (has_sent bytes next hears) }
 
   has_ended : (hears : TablesHear tells (λ (table : ℕ). heard_of_end table (line_of one) line at) tables news before after) → EachKeptHears tells (λ (table : ℕ). heard_of_end table (line_at (lines_of lines) line) line at) 1 tables news hears.told
   has_ended hears = subst (λ (standing : HallLine). EachKeptHears tells (λ (table : ℕ). heard_of_end table standing line at) 1 tables news hears.told) stands_so hears.tables
 
-  pub line_ends : (left : Line) → left ≡ Over → TablesHear tells (λ (table : ℕ). heard_of_end table (line_of one) line at) tables news before after → HallHears (hall_of tables lines) (ends line at) (hall_of news (set lines line left)) before after
+  pub line_ends : (left : Line) → left ≡ Over → TablesHear tells (λ (table : ℕ). heard_of_end table (line_of one) line at) tables news before after → HallWrites tells (hall_of tables lines) (ledgers_of tables) (ends line at) (hall_of news (set lines line left)) (ledgers_of news) before after
   line_ends left is hears = record {
-    told = flat_map (λ one. one) hears.told;
-    steps = record {
-      by_tables = hears.told;
-      tables = all_states (has_ended hears);
-      lines = map-set line_of lines line left ∙ ap (λ one. set (lines_of lines) line (line_of one)) is;
-      is_told = refl;
+    hears = record {
+      told = flat_map (λ one. one) hears.told;
+      steps = record {
+        by_tables = hears.told;
+        tables = all_states (has_ended hears);
+        lines = map-set line_of lines line left ∙ ap (λ one. set (lines_of lines) line (line_of one)) is;
+        is_told = refl;
+      };
+      queued = hears.queued;
     };
-    queued = hears.queued;
+    each = all_write (has_ended hears);
   }
 
-  pub line_ends_writes : (lefts : List Line) → TablesHear tells (λ (table : ℕ). heard_of_end table (line_of one) line at) tables news before after → HallWrites tells (hall_of tables lines) (ledgers_of tables) (ends line at) (hall_of news lefts) (ledgers_of news)
-  line_ends_writes lefts hears = record { each = all_write (has_ended hears) }
-
 -- the clock
-pub clock_ticks : {W : Type 0} (tells : W → List ℕ → Type 0) (tables news : List (KeptState W)) (lines : List Line) (at : ℕ) (before after : List (List ℕ)) → TablesHear tells (λ (table : ℕ). clock at ∷ []) tables news before after → HallHears (hall_of tables lines) (ticks at) (hall_of news lines) before after
+pub clock_ticks : {W : Type 0} (tells : W → List ℕ → Type 0) (tables news : List (KeptState W)) (lines : List Line) (at : ℕ) (before after : List (List ℕ)) → TablesHear tells (λ (table : ℕ). clock at ∷ []) tables news before after → HallWrites tells (hall_of tables lines) (ledgers_of tables) (ticks at) (hall_of news lines) (ledgers_of news) before after
 clock_ticks tells tables news lines at before after hears = record {
-  told = flat_map (λ one. one) hears.told;
-  steps = record { by_tables = hears.told; tables = all_states hears.tables; lines = refl; is_told = refl };
-  queued = hears.queued;
+  hears = record {
+    told = flat_map (λ one. one) hears.told;
+    steps = record { by_tables = hears.told; tables = all_states hears.tables; lines = refl; is_told = refl };
+    queued = hears.queued;
+  };
+  each = all_write hears.tables;
 }
-
-pub clock_ticks_writes : {W : Type 0} (tells : W → List ℕ → Type 0) (tables news : List (KeptState W)) (lines : List Line) (at : ℕ) (before after : List (List ℕ)) → TablesHear tells (λ (table : ℕ). clock at ∷ []) tables news before after → HallWrites tells (hall_of tables lines) (ledgers_of tables) (ticks at) (hall_of news lines) (ledgers_of news)
-clock_ticks_writes tells tables news lines at before after hears = record { each = all_write hears.tables }
 
 -- a line that was taken out of the list stood there
 pub found_by : (lines : List Line) (line : ℕ) (read one : Line) → read ≡ get_or lines line read → one ≡ get_or lines line read → one ≡ get_or lines line one

@@ -13,6 +13,7 @@ mod Pieces
 mod Requesting
 pub mod Running
 mod Same
+mod Sending
 pub mod Served
 mod Silence
 mod Taking

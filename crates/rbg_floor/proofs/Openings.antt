@@ -59,7 +59,7 @@ pub starts_new : (W : Type 0) (tables : List Table) → states_of (new_tables {W
 starts_new W [] = refl
 starts_new W (table ∷ tables) = ap (λ others. new_table table.game table.text.items table.config ∷ others) (starts_new W tables)
 
-pub ledgers_new : {W : Type 0} (tables : List Table) → ledgers_of (new_tables {W = W} tables) ≡ map (λ _. no_log) tables
+pub ledgers_new : {W : Type 0} (tables : List Table) → ledgers_of (new_tables {W = W} tables) ≡ map (λ _. no_log) (starts_of tables)
 ledgers_new [] = refl
 ledgers_new {W} (table ∷ tables) = ap (λ others. no_log ∷ others) (ledgers_new {W = W} tables)
 

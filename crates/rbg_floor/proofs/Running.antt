@@ -61,7 +61,7 @@ each_more {table = table} grows (one_more {start = start} {told = told} run runs
     (each_more grows runs each)
 
 -- nothing is told at first
-abbrev no_tolds : List AbstractTable → List (List Telling)
+abbrev pub no_tolds : List AbstractTable → List (List Telling)
 no_tolds [] = []
 no_tolds (start ∷ starts) = [] ∷ no_tolds starts
 
@@ -295,8 +295,13 @@ module _ {starts : List AbstractTable} {events : List AbstractHallEvent} {event 
   firsts_count : length steps.by_tables ≡ length stands.tolds
   firsts_count = (hears_count steps.tables).1 ∙ tables_count ∙ sym (runs_count stands.runs).1
 
+  pub own_on : (table : ℕ) → own (length starts) table (events ++ event ∷ []) ≡ own (length starts) table events ++ heard_of (length old.tables) table (line_at old.lines) event
+  own_on table =
+      own_more (length starts) table events event
+      ∙ ap (λ further. own (length starts) table events ++ further) (sym (heard_same (length old.tables) (length starts) table (line_at old.lines) (λ line. line_after (length starts) line events) event tables_count stands.lines))
+
   pub runs_on : EachRuns (λ table. own (length starts) table (events ++ event ∷ [])) 1 starts new.tables (joined stands.tolds steps.by_tables)
-  runs_on = each_more (λ table. own_more (length starts) table events event ∙ ap (λ further. own (length starts) table events ++ further) (sym (heard_same (length old.tables) (length starts) table (line_at old.lines) (λ line. line_after (length starts) line events) event tables_count stands.lines))) stands.runs steps.tables
+  runs_on = each_more own_on stands.runs steps.tables
 
   lines_on : (line : ℕ) → line_at new.lines line ≡ line_after (length starts) line (events ++ event ∷ [])
   lines_on line =
@@ -391,6 +396,10 @@ module _ {starts : List AbstractTable} {events : List AbstractHallEvent} {event 
     bytes = bytes_on;
   }
 
+  pub tolds_on : stands_on.tolds ≡ joined stands.tolds steps.by_tables
+  unfolding stands_on
+  tolds_on = refl
+
 -- a hall where nobody sits
 all_silent : (count line : ℕ) → line_at (replicate count (silent (incomplete []))) line ≡ (if nat_lt line count then silent (incomplete []) else over)
 all_silent count line = elim (cases_lt line count) [
@@ -415,6 +424,10 @@ stands_first starts = record {
   runs = first_runs (length starts) 1 starts;
   bytes = λ line within. ap (λ (items : List Item). refusal_for (length starts) items ++ told_by (no_tolds starts) line (first_request (length starts) items)) (sym (nothing_completed line));
 }
+
+pub tolds_first : (starts : List AbstractTable) → (stands_first starts).tolds ≡ no_tolds starts
+unfolding stands_first
+tolds_first starts = refl
 
 -- So does a hall behind each run.
 pub run_stands : {starts : List AbstractTable} {events : List AbstractHallEvent} {state : HallState} {told : List Telling} → HallRun starts events state told → Stands starts events state told

@@ -33,9 +33,9 @@ hearing_extends {before = before} hears = λ index within.
     (told_extends 0 before hears.told index within)
 
 -- what the step of a hall answers, as a call hears it
-pub stepped_so : {E W : Type 0} (told : W → List ℕ → Type 0) (old new : HeldHall W) (before after : List (List ℕ)) (result : Result (Unit {0}) E) (heard wanted : AbstractHallEvent) → heard ≡ wanted → new.failed ≡ is_err result → OnOk result (HallHears old.state heard new.state before after) → OnOk result (HallWrites told old.state old.ledgers heard new.state new.ledgers) → OnOk result (HallHears old.state wanted new.state before after × HallWrites told old.state old.ledgers wanted new.state new.ledgers × (new.failed ≡ false))
-stepped_so told old new before after (Ok done) heard wanted same failing hears writes = (subst (λ event. HallHears old.state event new.state before after) same hears, subst (λ event. HallWrites told old.state old.ledgers event new.state new.ledgers) same writes, failing)
-stepped_so told old new before after (Err error) heard wanted same failing hears writes = tt
+pub stepped_so : {E W : Type 0} (told : W → List ℕ → Type 0) (old new : HeldHall W) (before after : List (List ℕ)) (result : Result (Unit {0}) E) (heard wanted : AbstractHallEvent) → heard ≡ wanted → new.failed ≡ is_err result → OnOk result (HallWrites told old.state old.ledgers heard new.state new.ledgers before after) → OnOk result (HallWrites told old.state old.ledgers wanted new.state new.ledgers before after × (new.failed ≡ false))
+stepped_so told old new before after (Ok done) heard wanted same failing writes = (subst (λ event. HallWrites told old.state old.ledgers event new.state new.ledgers before after) same writes, failing)
+stepped_so told old new before after (Err error) heard wanted same failing writes = tt
 
 pub failed_so : {E W : Type 0} (told : W → List ℕ → Type 0) (old new : HeldHall W) (before after : List (List ℕ)) (result : Result (Unit {0}) E) → new.failed ≡ is_err result → OnErr result (after ≡ before) → OnErr result (HallStops told old.state.tables old.ledgers new.state.tables new.ledgers) → OnErr result ((after ≡ before) × ((new.failed ≡ true) × HallStops told old.state.tables old.ledgers new.state.tables new.ledgers))
 failed_so told old new before after (Ok done) failing kept stops = tt
@@ -57,7 +57,7 @@ pub handled_run : {W : Type 0} {told : W → List ℕ → Type 0} {starts : List
 handled_run run passing.nothing = run
 handled_run {starts = starts} {new = new} {queued = queued} run (passing.more {heard} handles now one may step) =
     subst (λ events. HasRun starts events new.state queued) (sym (map-append (λ (one : Heard). hall_event (event_of one)) heard (one ∷ [])))
-    (run_on (handled_run run handles) step.0)
+    (run_on (handled_run run handles) step.0.hears)
 
 allowed_so : {W : Type 0} {told : W → List ℕ → Type 0} {starts : List AbstractTable} {lines : ℕ} {old new : HeldHall W} {before queued : List (List ℕ)} {heard : List Heard} {since : List Intake} →
     IsNewHall starts old before →

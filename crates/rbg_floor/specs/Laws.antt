@@ -1,9 +1,10 @@
 -- Laws of a hall.
-use Rattle.std.specs.Prelude.{◌≡◌, ◌+◌, ◌==◌, ◌++◌, ℕ, true, List, [], Option, Some, Result, length, replicate, slice_get, slice_index_or, if◌then◌else◌}
+use Rattle.std.specs.Prelude.{◌≡◌, ◌+◌, ◌==◌, ◌++◌, ℕ, true, List, [], ◌∷◌, Option, Some, IsErrOf, Result, length, map, replicate, slice_get, slice_index_or, if◌then◌else◌}
 use Rattle.std.specs.List.{flat_map}
 use Rattle.rbg_wire.specs.declared.message.Reason.TheVariants.{OutOfTurn}
 use Rattle.rbg_wire.specs.Messages.{refusal_message, spelling}
 use Rattle.rbg_rules.specs.Positions.{IsNumbered}
+use Rattle.rbg_game.specs.Loading.{Loads}
 use Rattle.rbg_match.specs.Deliveries as deliveries
 use Rattle.rbg_match.specs.Matches.{MatchState}
 use Rattle.rbg_hall.specs.Laws.{ChooseAlike, HoldsTranscript}
@@ -11,17 +12,21 @@ use Rattle.rbg_hall.specs.Limits.{lines_in_all}
 use Rattle.rbg_hall.specs.Tables.{TableState, OwnEvent, clock, joins, arrives, says, leaves}
 use Rattle.rbg_hall.specs.Tellings.{Telling, bytes_to, told_to}
 use Rattle.rbg_serving.specs.declared.served.Served.{Served}
+use Rattle.rbg_ledger.specs.Kept.{Ledger, no_log}
+use Rattle.rbg_log.specs.Logs.{IsLog}
 use Rattle.rbg_serving.specs.declared.served.ServeError.{ServeError}
+use Rattle.rbg_serving.specs.declared.served.ServeError.TheVariants.{Memory}
 use Rattle.rbg_serving.specs.Serving.{Serves}
 use Rattle.rbg_serving.specs.Told.{Told}
 use Rattle.rbg_floor.specs.Allowed.{IsAllowed}
 use Rattle.rbg_floor.specs.Apart.{asks_for, concerning, IsExchanged}
 use Rattle.rbg_floor.specs.Events.{AbstractHallEvent}
 use Rattle.rbg_floor.specs.Failing.{HeldHall}
-use Rattle.rbg_floor.specs.Halls.{AbstractTable, HallState, HallRun}
+use Rattle.rbg_floor.specs.Halls.{AbstractTable, HallState, HallRun, new_hall}
+use Rattle.rbg_floor.specs.Ledgers.{HallWrites, given_to, log_at}
 use Rattle.rbg_floor.specs.Openings.{IsNewHall, MayBeTables}
 use Rattle.rbg_floor.specs.Own.{own}
-use Rattle.rbg_floor.specs.Serving.{IsServedHall, of_hall}
+use Rattle.rbg_floor.specs.Serving.{IsServedHall, hall_events, of_hall}
 
 -- Whatever a hall hears, each line has what it may have.
 abbrev pub RunIsAllowed : Type 0
@@ -105,6 +110,63 @@ BegunMatchesHoldTranscripts =
     slice_get state.tables index ≡ Some table →
     table.begun ≡ Some playing →
     HoldsMatch start (own (length starts) (index + 1) events) table.seats playing told
+
+-- From a hall where nobody sits, with no logs, these events in turn lead here, and these bytes are queued for its lines. In
+-- between tables may be given empty logs.
+pub data LoggedRun {W : Type 0} (told : W → List ℕ → Type 0) (starts : List AbstractTable) :
+    List AbstractHallEvent → HallState → List (Ledger W) → (queues : List (List ℕ)) → Type 0 where
+  none :
+      LoggedRun told starts [] (new_hall starts) (map (λ _. no_log) starts) (replicate lines_in_all [])
+  keeps : {events : List AbstractHallEvent} {state : HallState} {ledgers : List (Ledger W)} {queues : List (List ℕ)} →
+      LoggedRun told starts events state ledgers queues →
+      (table : ℕ) (log : W) →
+      told log [] →
+      LoggedRun told starts events state (given_to state.tables ledgers table log) queues
+  more : {events : List AbstractHallEvent} {event : AbstractHallEvent} {middle new : HallState} {was is : List (Ledger W)}
+      {before after : List (List ℕ)} →
+      LoggedRun told starts events middle was before →
+      HallWrites told middle was event new is before after →
+      LoggedRun told starts (events ++ event ∷ []) new is after
+
+-- The log of a match that has begun at a table, which heard these events. The match holds a transcript of them. The log is
+-- a script, and the match of that script stands where this match does. What is queued for a line on a seat is that its
+-- items before the beginning were out of turn, and then what the script's match sends to its seat, and nothing else.
+pub record LogSends {W : Type 0} (told : W → List ℕ → Type 0) (log : W) (start : AbstractTable) (heard : List OwnEvent)
+    (seats : List (Option ℕ)) (playing : MatchState) (queues : List (List ℕ)) : Type 0 where
+  pub by_table : List Telling
+  pub holds : HoldsTranscript start.game start.text start.config heard seats playing by_table
+  pub held : List ℕ
+  pub sent : List (List ℕ)
+  pub tells : told log held
+  pub is : IsLog start.text held playing sent
+  pub on_seats : (index line : ℕ) →
+      slice_get seats index ≡ Some (Some line) →
+      slice_index_or queues line [] ≡ flat_map (early_refusal line) holds.before ++ slice_index_or sent index []
+
+-- Whatever a hall hears, a log that is told of a match that has begun is a script, whose match sends what is queued for the
+-- lines on the seats.
+abbrev pub LogsSendWhatIsTold : {W : Type 0} → (told : W → List ℕ → Type 0) → Type 0
+LogsSendWhatIsTold {W} told =
+    (starts : List AbstractTable) (events : List AbstractHallEvent) (state : HallState) (ledgers : List (Ledger W))
+    (queues : List (List ℕ)) →
+    LoggedRun told starts events state ledgers queues →
+    (index : ℕ) (start : AbstractTable) (table : TableState) (playing : MatchState) (log : W) →
+    slice_get starts index ≡ Some start →
+    Loads start.text start.game →
+    slice_get state.tables index ≡ Some table →
+    table.begun ≡ Some playing →
+    log_at ledgers (index + 1) ≡ Some log →
+    LogSends told log start (own (length starts) (index + 1) events) table.seats playing queues
+
+-- A hall that is served has heard what was heard in the call behind what it heard before, unless memory ran out.
+abbrev pub ServedHallRunsOn : {W : Type 0} → (told : W → List ℕ → Type 0) → Type 0
+ServedHallRunsOn {W} told =
+    (starts : List AbstractTable) (events : List AbstractHallEvent) (rounds : ℕ) (before after : List Told)
+    (moments : List ℕ) (old new : HeldHall W) (queued_before queued : List (List ℕ)) (result : Result Served ServeError) →
+    LoggedRun told starts events old.state old.ledgers queued_before →
+    (serves : Serves (of_hall told) rounds before after moments old new queued_before queued result) →
+    (¬ IsErrOf result Memory) →
+    LoggedRun told starts (events ++ hall_events serves.heard) new.state new.ledgers queued
 
 -- What is queued for the lines of a new hall that was served may be queued for them after what was heard.
 abbrev pub ServedHallIsAllowed : {W : Type 0} → (told : W → List ℕ → Type 0) → Type 0

@@ -7,6 +7,7 @@ use Rattle.rbg_ledger.specs.Kept.{KeptFails, KeptHears, KeptState, Ledger, given
 use Rattle.rbg_ledger.specs.Ledgers.{HasLog}
 use Rattle.rbg_floor.specs.Events.{AbstractHallEvent}
 use Rattle.rbg_floor.specs.Halls.{HallState, line_at}
+use Rattle.rbg_floor.specs.Hearing.{HallHears}
 use Rattle.rbg_floor.specs.Own.{heard_of}
 
 -- The log is that of the match of the table of this number.
@@ -72,16 +73,17 @@ pub data Becomes {W : Type 0} (told : W → List ℕ → Type 0) (old : KeptStat
 abbrev pub kept : {W : Type 0} → TableState → Ledger W → KeptState W
 kept table ledger = record { table = table; ledger = ledger }
 
--- Each of the tables, from this number on, and its ledger hear what is the table's own.
+-- Each of the tables, from this number on, and its ledger hear what is the table's own, and it tells its lines something.
 pub data EachWrites {W : Type 0} (told : W → List ℕ → Type 0) (heard : (table : ℕ) → List OwnEvent) : (table : ℕ) →
-    (old : List TableState) → (was : List (Ledger W)) → (new : List TableState) → (is : List (Ledger W)) → Type 0 where
+    (old : List TableState) → (was : List (Ledger W)) → (new : List TableState) → (is : List (Ledger W)) →
+    (said : List (List Telling)) → Type 0 where
   none : {table : ℕ} →
-      EachWrites told heard table [] [] [] []
+      EachWrites told heard table [] [] [] [] []
   more : {table : ℕ} {old new : TableState} {was is : Ledger W} {olds news : List TableState} {wases ises : List (Ledger W)}
-      {said : List Telling} →
-      KeptHearsEach told (kept old was) (heard table) (kept new is) said →
-      EachWrites told heard (suc table) olds wases news ises →
-      EachWrites told heard table (old ∷ olds) (was ∷ wases) (new ∷ news) (is ∷ ises)
+      {first : List Telling} {next : List (List Telling)} →
+      KeptHearsEach told (kept old was) (heard table) (kept new is) first →
+      EachWrites told heard (suc table) olds wases news ises next →
+      EachWrites told heard table (old ∷ olds) (was ∷ wases) (new ∷ news) (is ∷ ises) (first ∷ next)
 
 -- Each of the tables and its ledger heard events, at the last of which something may have failed.
 pub data EachBecomes {W : Type 0} (told : W → List ℕ → Type 0) :
@@ -93,10 +95,13 @@ pub data EachBecomes {W : Type 0} (told : W → List ℕ → Type 0) :
       EachBecomes told olds wases news ises →
       EachBecomes told (old ∷ olds) (was ∷ wases) (new ∷ news) (is ∷ ises)
 
--- What an event changes in the ledgers of a hall: each table's own part of it is written before the match handles it.
+-- A hall and its ledgers hear an event: each table's own part of it is written before the match handles it. What the lines
+-- are told follows what each had.
 pub record HallWrites {W : Type 0} (told : W → List ℕ → Type 0) (old : HallState) (was : List (Ledger W)) (event : AbstractHallEvent)
-    (new : HallState) (is : List (Ledger W)) : Type 0 where
+    (new : HallState) (is : List (Ledger W)) (before after : List (List ℕ)) : Type 0 where
+  pub hears : HallHears old event new before after
   pub each : EachWrites told (λ table. heard_of (length old.tables) table (line_at old.lines) event) 1 old.tables was new.tables is
+      hears.steps.by_tables
 
 -- What is left where an event fails.
 pub record HallStops {W : Type 0} (told : W → List ℕ → Type 0) (old : List TableState) (was : List (Ledger W))

@@ -11,7 +11,6 @@ use Rattle.rbg_serving.specs.Passing.{Behaviour}
 use Rattle.rbg_floor.specs.Events.{AbstractHallEvent, sends, ends, ticks}
 use Rattle.rbg_floor.specs.Failing.{HeldHall}
 use Rattle.rbg_floor.specs.Halls.{AbstractTable, HallState, line_at}
-use Rattle.rbg_floor.specs.Hearing.{HallHears}
 use Rattle.rbg_floor.specs.Ledgers.{HallStops, HallWrites}
 use Rattle.rbg_floor.specs.Lines.{HallLine, silent, asks, over}
 use Rattle.rbg_floor.specs.Wholes.{IsOfHall}
@@ -54,8 +53,7 @@ MaySpeak hall line = SpeaksAs hall.tables line (line_at hall.lines line)
 abbrev pub of_hall : {W : Type 0} → (told : W → List ℕ → Type 0) → Behaviour (HeldHall W)
 of_hall told = record {
   steps = λ old event new before after.
-      HallHears old.state (hall_event event) new.state before after
-      × HallWrites told old.state old.ledgers (hall_event event) new.state new.ledgers
+      HallWrites told old.state old.ledgers (hall_event event) new.state new.ledgers before after
       × (new.failed ≡ false);
   lacks = λ old new. (new.failed ≡ true) × HallStops told old.state.tables old.ledgers new.state.tables new.ledgers;
   listens = λ hall seat. (¬ HaveAllEnded hall.state.tables) × MaySpeak hall.state (seat - 1);

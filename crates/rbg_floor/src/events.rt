@@ -2,7 +2,6 @@
 ghost use Rattle.std.specs.Prelude.{◌≡◌, length, OnErr, OnOk};
 ghost use Rattle.rbg_hall.specs.Undoing.{undone};
 ghost use Rattle.rbg_floor.specs.Events.{ends, event_of, sends};
-ghost use Rattle.rbg_floor.specs.Hearing.{HallHears};
 ghost use Rattle.rbg_floor.specs.Ledgers.{HallStops, HallWrites};
 ghost use Rattle.rbg_floor.specs.internal.Parts.{AreReady, hall_of, ledgers_of, states_of};
 
@@ -24,10 +23,8 @@ pub(crate) fn hear_event<W: Log>(
     marks: &mut Vec<Mark>,
 ) -> Result<(), Memory>
     requires { AreReady (length tables.old) lines.old }
-    ensures hears { OnOk result (HallHears (hall_of tables.old lines.old) (event_of event.entry)
-        (hall_of tables.new lines.new) out.old out.new) }
     ensures writes { OnOk result (HallWrites W.told (hall_of tables.old lines.old) (ledgers_of tables.old) (event_of event.entry)
-        (hall_of tables.new lines.new) (ledgers_of tables.new)) }
+        (hall_of tables.new lines.new) (ledgers_of tables.new) out.old out.new) }
     ensures stops { OnErr result (HallStops W.told (states_of tables.old) (ledgers_of tables.old)
         (states_of tables.new) (ledgers_of tables.new)) }
     ensures ready { AreReady (length tables.new) lines.new }
@@ -54,10 +51,8 @@ fn hear_line<W: Log>(
     marks: &mut Vec<Mark>,
 ) -> Result<(), Memory>
     requires { AreReady (length tables.old) lines.old }
-    ensures hears { OnOk result (HallHears (hall_of tables.old lines.old) (sends line at bytes.now)
-        (hall_of tables.new lines.new) out.old out.new) }
     ensures writes { OnOk result (HallWrites W.told (hall_of tables.old lines.old) (ledgers_of tables.old) (sends line at bytes.now)
-        (hall_of tables.new lines.new) (ledgers_of tables.new)) }
+        (hall_of tables.new lines.new) (ledgers_of tables.new) out.old out.new) }
     ensures stops { OnErr result (HallStops W.told (states_of tables.old) (ledgers_of tables.old)
         (states_of tables.new) (ledgers_of tables.new)) }
     ensures ready { AreReady (length tables.new) lines.new }
@@ -84,10 +79,8 @@ fn end_line<W: Log>(
     marks: &mut Vec<Mark>,
 ) -> Result<(), Memory>
     requires { AreReady (length tables.old) lines.old }
-    ensures hears { OnOk result (HallHears (hall_of tables.old lines.old) (ends line at)
-        (hall_of tables.new lines.new) out.old out.new) }
     ensures writes { OnOk result (HallWrites W.told (hall_of tables.old lines.old) (ledgers_of tables.old) (ends line at)
-        (hall_of tables.new lines.new) (ledgers_of tables.new)) }
+        (hall_of tables.new lines.new) (ledgers_of tables.new) out.old out.new) }
     ensures stops { OnErr result (HallStops W.told (states_of tables.old) (ledgers_of tables.old)
         (states_of tables.new) (ledgers_of tables.new)) }
     ensures ready { AreReady (length tables.new) lines.new }

@@ -69,7 +69,7 @@ impl<W: Log> Hall<W> {
     pub fn new(alloc: Global, tables: Vec<Table>) -> Result<(Hall<W>, HallOut), HallError>
         requires { AreLoaded tables.items }
         ensures made { IfOk result (λ made. IsNewHall (starts_of tables.items) made.0 made.1) }
-        ensures ledgers { IfOk result (λ made. made.0.ledgers ≡ map (λ _. no_log) tables.items) }
+        ensures ledgers { IfOk result (λ made. made.0.ledgers ≡ map (λ _. no_log) (starts_of tables.items)) }
         ensures refused { IfErr result (IsRefusedHall (starts_of tables.items)) }
     {
         if tables.is_empty() {
@@ -110,7 +110,7 @@ impl<W: Log> Hall<W> {
     pub fn step(&mut self, event: HallEvent<'_>, out: &mut HallOut) -> Result<(), Memory>
         ensures hears { OnOk result (HallHears self.old.state (event_of event.entry) self.new.state out.old out.new) }
         ensures writes { OnOk result (HallWrites W.told self.old.state self.old.ledgers (event_of event.entry)
-            self.new.state self.new.ledgers) }
+            self.new.state self.new.ledgers out.old out.new) }
         ensures kept { OnErr result (out.new ≡ out.old) }
         ensures stops { OnErr result (HallStops W.told self.old.state.tables self.old.ledgers
             self.new.state.tables self.new.ledgers) }

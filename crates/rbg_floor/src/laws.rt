@@ -1,7 +1,7 @@
 //! Laws of a hall. The contract of each function is a law; its body does nothing.
 ghost use Rattle.std.specs.Prelude.{◌≡◌};
 ghost use Rattle.rbg_floor.specs.Limits.{most_tables};
-ghost use Rattle.rbg_floor.specs.Laws.{BegunMatchesHoldTranscripts, LinesHaveTheSameBytes, OthersAreUnheard, RunIsAllowed, ServedHallIsAllowed, TablesAreApart};
+ghost use Rattle.rbg_floor.specs.Laws.{BegunMatchesHoldTranscripts, LinesHaveTheSameBytes, LogsSendWhatIsTold, OthersAreUnheard, RunIsAllowed, ServedHallIsAllowed, ServedHallRunsOn, TablesAreApart};
 
 use crate::TABLES;
 use rbg_log::Log;
@@ -35,6 +35,16 @@ pub fn lines_have_the_same_bytes()
 /// A match that has begun at a table is one of the rules, whatever the hall heard, and its lines are told what it says.
 pub fn begun_matches_hold_transcripts()
     ensures { BegunMatchesHoldTranscripts }
+{}
+
+/// Whatever a hall hears, the match of a log's script sends what is queued for the lines on the seats of its table.
+pub fn logs_send_what_is_told<W: Log>()
+    ensures { LogsSendWhatIsTold W.told }
+{}
+
+/// A hall that is served runs on, unless memory runs out: what is a law of its run holds behind the call too.
+pub fn served_hall_runs_on<W: Log>()
+    ensures { ServedHallRunsOn W.told }
 {}
 
 /// What is queued for the lines of a new hall that was served may be queued for them after what was heard.

@@ -285,6 +285,19 @@ module _ {game : AbstractGame} {text : List ℕ} {config : Config} {events : Lis
       by_cut (later rest is) line = absurd (no_more_waiting one.at one.before rest first_differ (runs_on one.gathers) one.waits one.takes (subst (λ all. RunsOn (new_table game text config) all other.gathering other.early) is (runs_on other.gathers)) other.waits)
       by_cut (earlier rest is) line = absurd (no_more_waiting other.at other.before rest first_differ (runs_on other.gathers) other.waits other.takes (subst (λ all. RunsOn (new_table game text config) all one.gathering one.early) is (runs_on one.gathers)) one.waits)
 
+-- what a table told before its match began, where all that it heard is cut in this way too
+pub same_early : {game : AbstractGame} {text : List ℕ} {config : Config} {events : List OwnEvent} {seats taken : List (Option ℕ)} {playing : MatchState} {told early : List Telling} {gathering : TableState} (one : HoldsTranscript game text config events seats playing told) (before : List OwnEvent) (line at : ℕ) (after : List OwnEvent) → events ≡ before ++ joins line at ∷ after → TableRun game text config before gathering early → gathering.begun ≡ None → TakesLast gathering line taken → early ≡ one.early
+same_early {game} {text} {config} {early = early} {gathering = gathering} one before line at after whole gathers waits takes =
+    by_cut (cut_twice one.before (joins one.line one.at) one.after before (joins line at) after (sym one.whole ∙ whole))
+  where
+    nobody : SeatsDiffer (new_table game text config).seats
+    nobody = no_seats (seats_of game)
+
+    by_cut : IsCutTwice one.before (joins one.line one.at) one.after before (joins line at) after → early ≡ one.early
+    by_cut (here same join rest) = (one_gathering nobody (runs_on gathers) (subst (λ all. RunsOn (new_table game text config) all one.gathering one.early) same (runs_on one.gathers)) waits one.waits).1
+    by_cut (later rest is) = absurd (no_more_waiting one.at one.before rest nobody (runs_on one.gathers) one.waits one.takes (subst (λ all. RunsOn (new_table game text config) all gathering early) is (runs_on gathers)) waits)
+    by_cut (earlier rest is) = absurd (no_more_waiting at before rest nobody (runs_on gathers) waits takes (subst (λ all. RunsOn (new_table game text config) all one.gathering one.early) is (runs_on one.gathers)) one.waits)
+
 -- where one table waits, the other does
 both_wait : {game : AbstractGame} {text : List ℕ} {config : Config} {events : List OwnEvent} {seats : List (Option ℕ)} {playing : MatchState} {told told' : List Telling} {state : TableState} → HoldsTranscript game text config events seats playing told → TableRun game text config events state told' → state.begun ≡ None → ⊥
 both_wait {game} {text} {config} {told' = told'} {state} one run waits =

@@ -61,7 +61,7 @@ pub record Kept (game : AbstractGame) (text : List ℕ) (config : Config) (event
   pub began : (playing : MatchState) → state.begun ≡ Some playing → Began game text config events state.seats playing told
 
 -- what a seat has, followed by the bytes of messages to it
-delivered_at : (seat : ℕ) (box : List (List ℕ)) (said : List Delivery) (index : ℕ) → index < length box → get_or (delivered_from seat box said) index [] ≡ get_or box index [] ++ bytes_for (seat + index) said
+pub delivered_at : (seat : ℕ) (box : List (List ℕ)) (said : List Delivery) (index : ℕ) → index < length box → get_or (delivered_from seat box said) index [] ≡ get_or box index [] ++ bytes_for (seat + index) said
 delivered_at seat [] said index within = absurd (omega arith)
 delivered_at seat (bytes ∷ box) said zero within = ap (λ one. bytes ++ bytes_for one said) number
   where
@@ -78,7 +78,7 @@ nothing_at zero i = refl
 nothing_at (suc n) zero = refl
 nothing_at (suc n) (suc i) = nothing_at n i
 
-from_nothing : (n index : ℕ) (said : List Delivery) → index < n → get_or (delivered (replicate n []) said) index [] ≡ bytes_for (1 + index) said
+pub from_nothing : (n index : ℕ) (said : List Delivery) → index < n → get_or (delivered (replicate n []) said) index [] ≡ bytes_for (1 + index) said
 from_nothing n index said within =
     delivered_at 1 (replicate n []) said index (subst (λ count. index < count) (sym (length-replicate {A = List ℕ} n [])) within)
     ∙ ap (λ had. had ++ bytes_for (1 + index) said) (nothing_at n index)

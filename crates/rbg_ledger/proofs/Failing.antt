@@ -1,5 +1,5 @@
 -- What is written when a table hears an event, and what a failure leaves.
-use Rattle.std.proofs.Common.{◌≡◌, ℕ, zero, suc, ◌+◌, Bool, List, [], ◌∷◌, ◌++◌, length, take, Option, Some, None, is_none, refl, sym, ap, ◌∙◌, subst, append_assoc}
+use Rattle.std.proofs.Common.{◌≡◌, ℕ, zero, suc, ◌+◌, ◌<◌, ◌^◌, Bool, List, [], ◌∷◌, ◌++◌, length, take, Option, Some, None, is_none, refl, sym, ap, ◌∙◌, subst, append_assoc}
 use Rattle.std.specs.Prelude.{IfErr, IsErrAnd, IsErrOf, OnErr, OnOk, Result, Ok, Err}
 use Rattle.std.proofs.Math.Seq.{take-append-add}
 use Rattle.std.proofs.lemmas.Option.{none-some}
@@ -25,14 +25,15 @@ use Rattle.rbg_ledger.proofs.Keeping.{first_so}
 appends_both : {W : Type 0} (told : W → List ℕ → Type 0) (first middle last : W) (one more : List ℕ) → Appends told first middle one → Appends told middle last more → Appends told first last (one ++ more)
 appends_both told first middle last one more before behind = λ held tells. subst (told last) (append_assoc held one more) (behind (held ++ one) (before held tells))
 
-pub written_so : {W E : Type 0} (told : W → List ℕ → Type 0) (first middle last : W) (old new : TableState) (event : OwnEvent) (waited : Bool) (config : Config) (at : ℕ) (result : Result (Unit {0}) E) → waited ≡ is_none old.begun → config ≡ old.config → at ≡ heard_at event → IsNotedIn told first middle old event → OnOk result (Appends told middle last (first_for waited new.begun config at)) → OnOk result (IsWritten told first last old event new)
-written_so told first middle last old new event waited config at (Ok done) waits_so config_so at_so noted appends = record {
+pub written_so : {W E : Type 0} (told : W → List ℕ → Type 0) (first middle last : W) (old new : TableState) (event : OwnEvent) (waited : Bool) (config : Config) (at : ℕ) (result : Result (Unit {0}) E) → waited ≡ is_none old.begun → config ≡ old.config → at ≡ heard_at event → at < 2 ^ 64 → IsNotedIn told first middle old event → OnOk result (Appends told middle last (first_for waited new.begun config at)) → OnOk result (IsWritten told first last old event new)
+written_so told first middle last old new event waited config at (Ok done) waits_so config_so at_so small noted appends = record {
+  moment = subst (λ (moment : ℕ). moment < 2 ^ 64) at_so small;
   lines = noted.lines;
   noted = noted.noted;
   spelled = noted.logs.spelled;
   appends = appends_both told first middle last (event_lines noted.lines) _ noted.logs.lines (first_so told middle last old new event waited config at waits_so config_so at_so appends);
 }
-written_so told first middle last old new event waited config at (Err error) waits_so config_so at_so noted appends = tt
+written_so told first middle last old new event waited config at (Err error) waits_so config_so at_so small noted appends = tt
 
 -- a front part of the first bytes is one of all of them
 fronts : (count : ℕ) (one more : List ℕ) → (all : ℕ) × (take all (one ++ more) ≡ take count one)

@@ -46,7 +46,7 @@ hands_same differ (laws.goes_not none) (laws.goes_not none') = refl
 hands_same differ laws.late laws.late = refl
 
 -- so it is known what is written of it
-noted_one : {table : TableState} {event : OwnEvent} {lines : List AbstractEvent} (one : AbstractEvent) → SeatsDiffer table.seats → Hands table.seats event (one ∷ []) → IsNoted table event lines → lines ≡ written_for table.begun one
+pub noted_one : {table : TableState} {event : OwnEvent} {lines : List AbstractEvent} (one : AbstractEvent) → SeatsDiffer table.seats → Hands table.seats event (one ∷ []) → IsNoted table event lines → lines ≡ written_for table.begun one
 noted_one {table} one differ hands (handed other others) = ap (written_for table.begun) (first other one (hands_same differ others hands))
   where
     first : (a b : AbstractEvent) → ◌≡◌ {A = List AbstractEvent} (a ∷ []) (b ∷ []) → a ≡ b
@@ -56,14 +56,14 @@ noted_one one differ hands (nothing others) = absurd (never one (hands_same diff
     never : (a : AbstractEvent) → ◌≡◌ {A = List AbstractEvent} [] (a ∷ []) → ⊥
     never a same = cc
 
-noted_none : {table : TableState} {event : OwnEvent} {lines : List AbstractEvent} → SeatsDiffer table.seats → Hands table.seats event [] → IsNoted table event lines → lines ≡ []
+pub noted_none : {table : TableState} {event : OwnEvent} {lines : List AbstractEvent} → SeatsDiffer table.seats → Hands table.seats event [] → IsNoted table event lines → lines ≡ []
 noted_none differ hands (handed other others) = absurd (never other (hands_same differ hands others))
   where
     never : (a : AbstractEvent) → ◌≡◌ {A = List AbstractEvent} [] (a ∷ []) → ⊥
     never a same = cc
 noted_none differ hands (nothing others) = refl
 
-noted_waiting : {table : TableState} {event : OwnEvent} {lines : List AbstractEvent} → table.begun ≡ None → IsNoted table event lines → lines ≡ []
+pub noted_waiting : {table : TableState} {event : OwnEvent} {lines : List AbstractEvent} → table.begun ≡ None → IsNoted table event lines → lines ≡ []
 noted_waiting none (handed one hands) = ap (λ begun. written_for begun one) none
 noted_waiting none (nothing hands) = refl
 

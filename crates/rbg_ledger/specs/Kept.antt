@@ -1,5 +1,5 @@
 -- A table with the log of its match, and what both become when the table hears an event.
-use Rattle.std.specs.Prelude.{◌≡◌, ℕ, Bool, true, false, ◌&&◌, List, [], ◌++◌, All, map, Option, Some, None, is_none, if◌then◌else◌}
+use Rattle.std.specs.Prelude.{◌≡◌, ◌<◌, ◌^◌, ℕ, Bool, true, false, ◌&&◌, List, [], ◌++◌, All, map, Option, Some, None, is_none, if◌then◌else◌}
 use Rattle.rbg_match.specs.declared.config.Config.{Config}
 use Rattle.rbg_match.specs.Inputs.{AbstractEvent}
 use Rattle.rbg_match.specs.Matches.{MatchState}
@@ -50,9 +50,10 @@ pub data Changes {W : Type 0} (So : (old new : W) → Type 0) : (old new : Optio
       So old new →
       Changes So (Some old) (Some new)
 
--- A table heard an event. What its match is handed was written before, and behind it the first line if the match has begun
--- with this event.
+-- A table heard an event, at a moment of 64 bits. What its match is handed was written before, and behind it the first
+-- line if the match has begun with this event.
 pub record IsWritten {W : Type 0} (told : W → List ℕ → Type 0) (first last : W) (old : TableState) (event : OwnEvent) (new : TableState) : Type 0 where
+  pub moment : heard_at event < 2 ^ 64
   pub lines : List AbstractEvent
   pub noted : IsNoted old event lines
   pub spelled : All EventHasSpelling (map scripted lines)

@@ -3,6 +3,7 @@
 #![tactic(auto)]
 
 mod kept_table;
+pub mod laws;
 mod noting;
 mod standing;
 

@@ -2,21 +2,15 @@ use Rattle.std.proofs.Common.{sym, subst}
 use Rattle.std.proofs.lemmas.Result.{on_err_weaker, on_ok_weaker}
 use Rattle.std.specs.Prelude.{OnOk}
 use Rattle.rbg_floor.specs.Events.{event_of}
-use Rattle.rbg_floor.specs.Hearing.{HallHears}
 use Rattle.rbg_floor.specs.Ledgers.{HallWrites}
 use Rattle.rbg_floor.specs.internal.Parts.{hall_of, ledgers_of}
-use Rattle.rbg_floor.proofs.Halls.{clock_ticks, clock_ticks_writes, hall_stops}
+use Rattle.rbg_floor.proofs.Halls.{clock_ticks, hall_stops}
 use Rattle.rbg_floor.proofs.events.hear_event.Goals as goal
-
-pub returns-in-Tick-clause-hears : goal.returns-in-Tick-clause-hears
-returns-in-Tick-clause-hears g c =
-    subst (λ event. OnOk c.tick.result (HallHears (hall_of c.args.tables.now c.args.lines.now) (event_of event) (hall_of c.tick.new.tables c.args.lines.now) c.args.out.now c.tick.new.out)) (sym c.in-Tick.is)
-    (on_ok_weaker c.tick.result (clock_ticks g.W.Log.told c.args.tables.now c.tick.new.tables c.args.lines.now c.in-Tick.at c.args.out.now c.tick.new.out) c.tick.ensures.hears)
 
 pub returns-in-Tick-clause-writes : goal.returns-in-Tick-clause-writes
 returns-in-Tick-clause-writes g c =
-    subst (λ event. OnOk c.tick.result (HallWrites g.W.Log.told (hall_of c.args.tables.now c.args.lines.now) (ledgers_of c.args.tables.now) (event_of event) (hall_of c.tick.new.tables c.args.lines.now) (ledgers_of c.tick.new.tables))) (sym c.in-Tick.is)
-    (on_ok_weaker c.tick.result (clock_ticks_writes g.W.Log.told c.args.tables.now c.tick.new.tables c.args.lines.now c.in-Tick.at c.args.out.now c.tick.new.out) c.tick.ensures.hears)
+    subst (λ event. OnOk c.tick.result (HallWrites g.W.Log.told (hall_of c.args.tables.now c.args.lines.now) (ledgers_of c.args.tables.now) (event_of event) (hall_of c.tick.new.tables c.args.lines.now) (ledgers_of c.tick.new.tables) c.args.out.now c.tick.new.out)) (sym c.in-Tick.is)
+    (on_ok_weaker c.tick.result (clock_ticks g.W.Log.told c.args.tables.now c.tick.new.tables c.args.lines.now c.in-Tick.at c.args.out.now c.tick.new.out) c.tick.ensures.hears)
 
 pub returns-in-Tick-clause-stops : goal.returns-in-Tick-clause-stops
 returns-in-Tick-clause-stops g c = on_err_weaker c.tick.result hall_stops c.tick.ensures.stops

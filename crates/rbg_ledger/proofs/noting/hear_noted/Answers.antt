@@ -1,9 +1,9 @@
--- What a failure leaves in the log.
+-- What is written, and what a failure leaves in the log.
 use Rattle.std.proofs.Common.{Err, ap, refl}
 use Rattle.rbg_hall.specs.Hearing.{input_of}
 use Rattle.rbg_log.specs.declared.keeping.WriteError.TheVariants.{Memory}
 use Rattle.rbg_ledger.specs.internal.Parts.{LeavesIn}
-use Rattle.rbg_ledger.proofs.Failing.{begin_fails, hearing_fails, note_fails, passed_on}
+use Rattle.rbg_ledger.proofs.Failing.{begin_fails, hearing_fails, note_fails, passed_on, written_so}
 use Rattle.rbg_ledger.proofs.noting.hear_noted.Goals as goal
 
 pub returns-in_err-note-clause-fails : goal.returns-in_err-note-clause-fails
@@ -23,3 +23,8 @@ pub returns-clause-fails : goal.returns-clause-fails
 returns-clause-fails g c =
     begin_fails g.W.Log.told c.args.log.now c.note.new.log c.begin.new.log c.args.table.now c.hear.new.self (input_of c.args.input) c.is_waiting-waited.result c.config-config.result c.moment_of.result c.begin.result
     c.is_waiting-waited.ensures c.config-config.ensures c.moment_of.ensures c.in_ok-note.ensures.ok c.begin.ensures.part c.begin.ensures.kept
+
+pub returns-clause-writes : goal.returns-clause-writes
+returns-clause-writes g c =
+    written_so g.W.Log.told c.args.log.now c.note.new.log c.begin.new.log c.args.table.now c.hear.new.self (input_of c.args.input) c.is_waiting-waited.result c.config-config.result c.moment_of.result c.begin.result
+    c.is_waiting-waited.ensures c.config-config.ensures c.moment_of.ensures c.moment_of.type_inv c.in_ok-note.ensures.ok c.begin.ensures.ok

@@ -3,7 +3,7 @@ use Rattle.rbg_floor.proofs.Served.{stepped_so, failed_so, works_so, as_many_so,
 use Rattle.rbg_floor.proofs.engine.HallEngine.handle.Goals as goal
 
 pub returns-clause-ok : goal.returns-clause-ok
-returns-clause-ok g c = stepped_so g.W.Log.told c.args.self.now c.step.new.self _ _ c.step.result _ _ c.hall_event.ensures c.step.ensures.failing c.step.ensures.hears c.step.ensures.writes
+returns-clause-ok g c = stepped_so g.W.Log.told c.args.self.now c.step.new.self _ _ c.step.result _ _ c.hall_event.ensures c.step.ensures.failing c.step.ensures.writes
 
 pub returns-clause-err : goal.returns-clause-err
 returns-clause-err g c = failed_so g.W.Log.told c.args.self.now c.step.new.self _ _ c.step.result c.step.ensures.failing c.step.ensures.kept c.step.ensures.stops
