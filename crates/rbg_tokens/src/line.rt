@@ -1,6 +1,6 @@
 //! The line of a text on which an offset is.
 ghost use Rattle.std.specs.Prelude.{◌≡◌, ◌≤◌, ◌+◌, ◌-◌, take, drop, length};
-ghost use Rattle.rbg_tokens.specs.Lines.{line_feeds, IsOneLine};
+ghost use Rattle.rbg_tokens.specs.Lines.{line_feeds, IsLineStart, IsOneLine};
 
 /// A line of a text.
 #[derive(Clone, Copy, Debug)]
@@ -21,6 +21,7 @@ impl<'a> TextLine<'a> {
 
         // No line feed is between the line's start and the offset.
         ensures start { result.start ≤ at }
+        ensures begins { IsLineStart (take at text.now) result.start }
         ensures one_line { IsOneLine (drop result.start (take at text.now)) }
     {
         let start = line_start(text, at);
@@ -45,6 +46,7 @@ pub fn count_line_feeds(bytes: &[u8]) -> usize
 fn line_start(text: &[u8], at: usize) -> usize
     requires { at ≤ length text.now }
     ensures before { result ≤ at }
+    ensures begins { IsLineStart (take at text.now) result }
     ensures one_line { IsOneLine (drop result (take at text.now)) }
 {
     match text[..at].iter().rposition(|byte| *byte == b'\n') {
