@@ -35,6 +35,7 @@ pub(crate) fn make_move_with(
     requires legal { IsLegal game.now place.now pairs.now }
     ensures to { IfOk result (Legal game.now place.now pairs.now) }
     ensures in_game { IfOk result (IsPlaceOf game.now) }
+    ensures tally { workspace.new.searches ≡ workspace.old.searches }
 {
     let mut state = workspace.copy_of(&place.state)?;
     let after = make_all(game, &mut state, place.after, pairs)?;

@@ -387,6 +387,7 @@ impl PlayedGame {
         requires legal { IsLegal self.now place.now pairs.now }
         ensures to { IfOk result (Legal self.now place.now pairs.now) }
         ensures in_game { IfOk result (IsPlaceOf self.now) }
+        ensures tally { workspace.new.searches ≡ workspace.old.searches }
     {
         make_move_with(&self.game, place, pairs, workspace)
     }
