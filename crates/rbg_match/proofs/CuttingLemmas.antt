@@ -1,5 +1,5 @@
 -- How a seat's stream is cut into pieces does not matter.
-use Rattle.std.proofs.Common.{◌≡◌, ℕ, zero, suc, ◌-◌, ◌<◌, Bool, true, false, List, [], ◌∷◌, ◌++◌, length, map, set, refl, sym, ap, ◌∙◌, subst, append_assoc, arith}
+use Rattle.std.proofs.Common.{◌≡◌, ℕ, zero, suc, ◌-◌, ◌<◌, ◌≤◌, Bool, true, false, List, [], ◌∷◌, ◌++◌, length, map, set, refl, sym, ap, ◌∙◌, subst, append_assoc, arith}
 use Rattle.std.specs.Prelude.{◌&&◌, nat_le, min, if◌then◌else◌}
 use Rattle.std.specs.List.{concat}
 use Rattle.std.proofs.lemmas.Bool.{and_parts, leb-true}
@@ -9,7 +9,6 @@ use Rattle.rbg_wire.specs.Streams.{Rest, incomplete, Cut, cut, after_items}
 use Rattle.rbg_wire.proofs.CutLemmas.{cut-append}
 use Rattle.rbg_rules.specs.State.{AbstractGame}
 use Rattle.rbg_match.specs.declared.config.Config.{Config}
-use Rattle.rbg_match.specs.Config.{IsWithinLimits}
 use Rattle.rbg_match.specs.Deliveries.{Delivery}
 use Rattle.rbg_match.specs.Handling.{AbstractInput, tick, sent}
 use Rattle.rbg_match.specs.Inputs.{AbstractEvent, piece, TimedInput, Streams, counted, has_seat, rest_of, cut_of, inputs_in, rests_after, inputs_at, timed_inputs_in, streams_after, streams_at_start, timed_inputs_of}
@@ -149,7 +148,7 @@ timed_inputs_of-append streams (event ∷ before) after =
     ap (λ next. timed_inputs_in streams event ++ next) (timed_inputs_of-append (streams_after streams event) before after)
     ∙ sym (append_assoc (timed_inputs_in streams event) (timed_inputs_of (streams_after streams event) before) (timed_inputs_of (streams_through (streams_after streams event) before) after))
 
-module _ (game : AbstractGame) (config : Config) (within : IsWithinLimits config) (streams : Streams) (play end : AbstractPlay) (said : List Delivery) where
+module _ (game : AbstractGame) (config : Config) (some : 1 ≤ config.turn_ms) (streams : Streams) (play end : AbstractPlay) (said : List Delivery) where
   -- the inputs that these events stand for are handled
   abbrev Handled : List AbstractEvent → Type 0
   Handled events = HandlesAll game config play (timed_inputs_of streams events) end said
@@ -174,14 +173,14 @@ module _ (game : AbstractGame) (config : Config) (within : IsWithinLimits config
     cut_once handles =
         let two = in_two in
         let whole : HandlesAll game config play (timed_inputs_of streams before ++ (inputs_at (counted here at) (two.input ∷ two.inputs) ++ two.rest)) end said = subst (λ (inputs : List TimedInput). HandlesAll game config play inputs end said) (whole_is two) handles in
-        let parts = each_to_all (tick_added game config within.turn_some (counted here at) (timed_inputs_of streams before) two.input two.inputs two.rest (all_to_each whole)) in
+        let parts = each_to_all (tick_added game config some (counted here at) (timed_inputs_of streams before) two.input two.inputs two.rest (all_to_each whole)) in
         subst (λ (inputs : List TimedInput). HandlesAll game config play inputs end said) (sym (parts_are two)) parts
 
     join_once : Handled (before ++ piece seat at a ∷ piece seat at b ∷ after) → Handled (before ++ piece seat at (a ++ b) ∷ after)
     join_once handles =
         let two = in_two in
         let parts : HandlesAll game config play (timed_inputs_of streams before ++ (inputs_at (counted here at) (two.input ∷ two.inputs) ++ tick_at (counted here at) ∷ two.rest)) end said = subst (λ (inputs : List TimedInput). HandlesAll game config play inputs end said) (parts_are two) handles in
-        let whole = each_to_all (tick_dropped game config within.turn_some (counted here at) (timed_inputs_of streams before) two.input two.inputs two.rest (all_to_each parts)) in
+        let whole = each_to_all (tick_dropped game config some (counted here at) (timed_inputs_of streams before) two.input two.inputs two.rest (all_to_each parts)) in
         subst (λ (inputs : List TimedInput). HandlesAll game config play inputs end said) (sym (whole_is two)) whole
 
   module _ (after : List AbstractEvent) (seat at : ℕ) where
@@ -204,14 +203,14 @@ module _ (game : AbstractGame) (config : Config) (within : IsWithinLimits config
         join_once before after seat at first (concat (second ∷ more)) (handled_as _ _ (one_before before (piece seat at (concat (second ∷ more)) ∷ after) (piece seat at first)) joined)
 
 pub cutting : Cutting
-cutting game text config now within before after seat at first others play said =
+cutting game text config now some before after seat at first others play said =
     let streams = streams_at_start (seats_of game) now in (
       λ whole. record {
         opened = whole.opened;
         opening = whole.opening;
         replies = whole.replies;
         opens = whole.opens;
-        goes_on = handled_as game config within streams whole.opened play whole.replies _ _ (sym (append_assoc before (map (piece seat at) (first ∷ others)) after)) (cut_all game config within streams whole.opened play whole.replies after seat at before first others whole.goes_on);
+        goes_on = handled_as game config some streams whole.opened play whole.replies _ _ (sym (append_assoc before (map (piece seat at) (first ∷ others)) after)) (cut_all game config some streams whole.opened play whole.replies after seat at before first others whole.goes_on);
         whole = whole.whole;
       },
       λ parts. record {
@@ -219,7 +218,7 @@ cutting game text config now within before after seat at first others play said 
         opening = parts.opening;
         replies = parts.replies;
         opens = parts.opens;
-        goes_on = join_all game config within streams parts.opened play parts.replies after seat at before first others (handled_as game config within streams parts.opened play parts.replies _ _ (append_assoc before (map (piece seat at) (first ∷ others)) after) parts.goes_on);
+        goes_on = join_all game config some streams parts.opened play parts.replies after seat at before first others (handled_as game config some streams parts.opened play parts.replies _ _ (append_assoc before (map (piece seat at) (first ∷ others)) after) parts.goes_on);
         whole = parts.whole;
       },
     )

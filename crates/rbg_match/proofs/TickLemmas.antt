@@ -90,14 +90,14 @@ module _ (game : AbstractGame) (config : Config) (some : 1 ≤ config.turn_ms) (
         subst (λ (inputs : List TimedInput). HandlesAll game config play inputs end said) (sym with_is) (each_to_all (tick_added game config some now (timed_inputs_of streams before) has.first has.others rest (all_to_each parts)))
 
 pub tick_behind : TickBehind
-tick_behind game text config now within before after event at early play said =
+tick_behind game text config now some before after event at early play said =
     let streams = streams_at_start (seats_of game) now in (
       λ one. record {
         opened = one.opened;
         opening = one.opening;
         replies = one.replies;
         opens = one.opens;
-        goes_on = drop_tick game config within.turn_some streams one.opened play one.replies before after event at early one.goes_on;
+        goes_on = drop_tick game config some streams one.opened play one.replies before after event at early one.goes_on;
         whole = one.whole;
       },
       λ one. record {
@@ -105,7 +105,7 @@ tick_behind game text config now within before after event at early play said =
         opening = one.opening;
         replies = one.replies;
         opens = one.opens;
-        goes_on = add_tick game config within.turn_some streams one.opened play one.replies before after event at early one.goes_on;
+        goes_on = add_tick game config some streams one.opened play one.replies before after event at early one.goes_on;
         whole = one.whole;
       },
     )
@@ -127,7 +127,7 @@ module _ (seats now at : ℕ) (after : List AbstractEvent) (early : at ≤ now) 
       ∙ ap (λ (one : Streams). tick_at (counted_first now) ∷ timed_inputs_of one after) start_again
 
 pub tick_at_start : TickAtStart
-tick_at_start game text config now within after at early play said =
+tick_at_start game text config now some after at early play said =
     let seats = seats_of game in
     let inputs = timed_inputs_of (streams_at_start seats now) after in
     let same = tick_first seats now at after early in (
@@ -136,7 +136,7 @@ tick_at_start game text config now within after at early play said =
         opening = one.opening;
         replies = one.replies;
         opens = one.opens;
-        goes_on = each_to_all (first_dropped game config within.turn_some (counted_first now) inputs (plays_on_settles config within.turn_some one.opens)
+        goes_on = each_to_all (first_dropped game config some (counted_first now) inputs (plays_on_settles config some one.opens)
             (all_to_each (subst (λ (inputs : List TimedInput). HandlesAll game config one.opened inputs play one.replies) same one.goes_on)));
         whole = one.whole;
       },
@@ -146,7 +146,7 @@ tick_at_start game text config now within after at early play said =
         replies = one.replies;
         opens = one.opens;
         goes_on = subst (λ (inputs : List TimedInput). HandlesAll game config one.opened inputs play one.replies) (sym same)
-            (each_to_all (first_added game config within.turn_some (counted_first now) inputs (plays_on_settles config within.turn_some one.opens) (all_to_each one.goes_on)));
+            (each_to_all (first_added game config some (counted_first now) inputs (plays_on_settles config some one.opens) (all_to_each one.goes_on)));
         whole = one.whole;
       },
     )

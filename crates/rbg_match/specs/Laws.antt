@@ -19,12 +19,12 @@ use Rattle.rbg_match.specs.PlayingOn.{seats_of}
 use Rattle.rbg_match.specs.Refereed.{IsRefereed}
 use Rattle.rbg_match.specs.Transcript.{HandlesAll, Transcript}
 
--- How a seat's stream is cut does not matter. A piece may be replaced by one or more pieces of the same seat and
--- moment, directly one after the other and with the same bytes joined: the transcripts stay the same.
+-- How a seat's stream is cut does not matter, where a turn lasts some time. A piece may be replaced by one or more pieces
+-- of the same seat and moment, directly one after the other and with the same bytes joined: the transcripts stay the same.
 abbrev pub Cutting : Type 0
 Cutting =
     (game : AbstractGame) (text : List ℕ) (config : Config) (now : ℕ) →
-    IsWithinLimits config →
+    1 ≤ config.turn_ms →
     (before after : List AbstractEvent) (seat at : ℕ) (first : List ℕ) (others : List (List ℕ)) →
     (play : AbstractPlay) (said : List Delivery) →
     Transcript game text config now (before ++ piece seat at (concat (first ∷ others)) ∷ after) play said
@@ -121,7 +121,7 @@ SteppedIsTranscript =
 abbrev pub TickBehind : Type 0
 TickBehind =
     (game : AbstractGame) (text : List ℕ) (config : Config) (now : ℕ) →
-    IsWithinLimits config →
+    1 ≤ config.turn_ms →
     (before after : List AbstractEvent) (event : AbstractEvent) (at : ℕ) →
     at ≤ moment_of event →
     (play : AbstractPlay) (said : List Delivery) →
@@ -132,7 +132,7 @@ TickBehind =
 abbrev pub TickAtStart : Type 0
 TickAtStart =
     (game : AbstractGame) (text : List ℕ) (config : Config) (now : ℕ) →
-    IsWithinLimits config →
+    1 ≤ config.turn_ms →
     (after : List AbstractEvent) (at : ℕ) →
     at ≤ now →
     (play : AbstractPlay) (said : List Delivery) →
