@@ -15,7 +15,7 @@ use rbg_game::{Game, load};
 use rbg_hosting::{HallService, serve_files};
 use rbg_keeping::{Serving, serve_match};
 use rbg_match::Match;
-use rbg_network::{Client, Network, connect_players, tell_who_gave_up};
+use rbg_network::{Client, ClientError, Network, News, connect_players, tell_who_gave_up};
 use rbg_player::Heard;
 use rbg_record::{write_record, write_record_1};
 use rbg_serving::{Clock, Line, serve};
@@ -114,7 +114,7 @@ pub fn play<N: Network>(
         Some(table) => Client::join(alloc, stream, table)?,
         None => Client::new(alloc, stream),
     };
-    play_on(alloc, network, &mut client, rounds)
+    play_on(alloc, network, &mut client, port, rounds)
 }
 
 /// Plays on a connection, and gives the match's last message.
@@ -122,9 +122,10 @@ fn play_on<N: Network>(
     alloc: Global,
     network: &mut N,
     client: &mut Client<N::Stream>,
+    port: u16,
     rounds: u64,
 ) -> Result<Vec<u8>, Fault> {
-    let outcome = play_rounds(network, client, rounds)?;
+    let outcome = play_rounds(network, client, port, rounds)?;
     Ok(outcome_line(alloc, &outcome)?)
 }
 
@@ -132,17 +133,29 @@ fn play_on<N: Network>(
 fn play_rounds<N: Network>(
     network: &mut N,
     client: &mut Client<N::Stream>,
+    port: u16,
     rounds: u64,
 ) -> Result<Outcome, Fault> {
     let mut told = false;
     for _ in 0..rounds {
-        let heard = client.patient_turn()?;
+        let heard = match client.patient_turn() {
+            Ok(heard) => heard,
+            Err(error) => return Err(lost(network, port, error)),
+        };
         told = told || tell_seat(network, client);
         if let Heard::Ended(outcome) = heard {
             return Ok(outcome);
         }
     }
     Err(Fault::Rounds)
+}
+
+/// The fault of a client. Where its connection failed, or ended before the match, this is told.
+fn lost<N: Network>(network: &mut N, port: u16, error: ClientError) -> Fault {
+    if matches!(error, ClientError::Device) {
+        network.tell(&News::Lost { port, error });
+    }
+    Fault::from(error)
 }
 
 /// Tells for which player the client plays. False if it isn't known.

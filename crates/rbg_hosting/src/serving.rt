@@ -50,7 +50,7 @@ pub fn serve_hall<N: Network>(
     let players = players_of(tables.as_slice());
     let (mut hall, mut out) = Hall::<N::Log>::new(alloc, tables)?;
     keep_logs(alloc, network, &mut hall, count, service)?;
-    let mut lines = accept_lines(alloc, network, port, players, service.hosting)?;
+    let mut lines = accept_lines(alloc, network, port, players, service)?;
     let mut clock = network.start_clock()?;
     run_hall(
         &mut hall,
@@ -129,15 +129,18 @@ fn accept_lines<N: Network>(
     network: &mut N,
     port: u16,
     players: usize,
-    hosting: Hosting,
+    service: HallService<'_>,
 ) -> Result<Vec<StreamLine<N::Stream>>, HallFault>
     ensures { IfOk result (λ lines. length lines.items ≤ lines_in_all) }
 {
     if players > LINES {
         return Err(HallFault::Hall);
     }
+    let hosting = service.hosting;
+    let rounds = service.rounds;
     let mut listener = network.listen(port)?;
     hosting.tell(network, &News::Listening { port });
+    hosting.tell(network, &News::MostRounds { rounds });
     // who connects has a line, and no seat yet: so this isn't told
     let silent = Hosting {
         wait: hosting.wait,

@@ -27,7 +27,7 @@ pub(crate) fn serve_text<N: Network>(
 {
     let game = load(alloc, text)?;
     let log = create_log(network, &serving.keeping)?;
-    let mut lines = accept_players(alloc, network, port, game.players(), serving.hosting)?;
+    let mut lines = accept_players(alloc, network, port, game.players(), serving)?;
     tell_names(network, serving);
     serving.hosting.tell(network, &News::Begins);
     serve_lines(

@@ -2,7 +2,7 @@
 ghost use Rattle.std.specs.Prelude.{◌≡◌, length, IfOk};
 
 use crate::{KeepingFault, Serving};
-use rbg_network::{Hosting, Network, News, StreamLine, gather};
+use rbg_network::{Network, News, StreamLine, gather};
 use std::alloc::Global;
 
 /// Waits until that many players have connected to the port. Their lines are in order of seats.
@@ -11,13 +11,24 @@ pub(crate) fn accept_players<N: Network>(
     network: &mut N,
     port: u16,
     players: usize,
-    hosting: Hosting,
+    serving: &Serving<'_>,
 ) -> Result<Vec<StreamLine<N::Stream>>, KeepingFault>
     ensures { IfOk result (λ lines. length lines.items ≡ players) }
 {
     let mut listener = network.listen(port)?;
-    hosting.tell(network, &News::Listening { port });
-    Ok(gather(alloc, network, &mut listener, players, hosting)?)
+    serving.hosting.tell(network, &News::Listening { port });
+    serving.hosting.tell(network, &most_of(serving));
+    Ok(gather(alloc, network, &mut listener, players, serving.hosting)?)
+}
+
+/// The news of how long a match may take.
+fn most_of(serving: &Serving<'_>) -> News<'static> {
+    match serving.keeping.minutes {
+        Some(minutes) => News::MostMinutes { minutes },
+        None => News::MostRounds {
+            rounds: serving.rounds,
+        },
+    }
 }
 
 /// Tells who sits where, as far as the organiser says.

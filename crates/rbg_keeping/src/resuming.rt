@@ -124,7 +124,7 @@ fn go_on<N: Network, W: Log>(
         IfOk result (λ played. IsPlayedMatch text played) }
 {
     let players = logged.played().players();
-    let mut lines = accept_players(alloc, network, port, players, serving.hosting)?;
+    let mut lines = accept_players(alloc, network, port, players, serving)?;
     tell_names(network, serving);
     serving.hosting.tell(network, &News::GoesOn);
     let mut outbox = outbox;

@@ -4,8 +4,10 @@
 
 mod client;
 mod gathering;
+pub mod laws;
 mod network;
 mod news;
+mod passing;
 mod stream_line;
 mod system_log;
 mod system_network;

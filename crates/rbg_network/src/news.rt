@@ -9,6 +9,10 @@ use std::fmt::{self, Formatter};
 pub enum News<'a> {
     /// Players can connect to this port.
     Listening { port: u16 },
+    /// The match may take that many rounds.
+    MostRounds { rounds: u64 },
+    /// The match may take that many minutes.
+    MostMinutes { minutes: u64 },
     /// A player has connected, and has this seat.
     Connected { seat: usize },
     /// The connection of this seat was closed before the match began. The seat is free again.
@@ -29,6 +33,8 @@ pub enum News<'a> {
     Sits { seat: usize, name: &'a str },
     /// The player of this process that has this seat gave up.
     GaveUp { seat: usize, error: ClientError },
+    /// The player of this process lost its connection to this port.
+    Lost { port: u16, error: ClientError },
     /// This process plays for this player.
     Plays { player: u64, name: &'a str },
 }
@@ -37,6 +43,12 @@ impl fmt::Display for News<'_> {
     fn fmt<W: fmt::Write>(&self, f: &mut Formatter<W>) -> fmt::Result {
         match self {
             News::Listening { port } => write!(f, "listening on port {port}"),
+            News::MostRounds { rounds } => {
+                write!(f, "a match may take {}", Count(*rounds, "round"))
+            }
+            News::MostMinutes { minutes } => {
+                write!(f, "a match may take {}", Count(*minutes, "minute"))
+            }
             News::Connected { seat } => write!(f, "seat {seat} connected"),
             News::Left { seat } => write!(f, "seat {seat} left"),
             News::Absent { seconds } => {
@@ -57,6 +69,7 @@ impl fmt::Display for News<'_> {
             }
             News::Sits { seat, name } => write!(f, "seat {seat} is {name}"),
             News::GaveUp { seat, error } => write!(f, "seat {seat} gave up: {error}"),
+            News::Lost { port, error } => write!(f, "port {port}: {error}"),
             News::Plays { player, name } => write!(f, "seat {player} plays {name}"),
         }
     }

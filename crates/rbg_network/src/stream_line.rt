@@ -1,8 +1,11 @@
 //! Lines over streams: one to a player elsewhere, and one with its player in this process.
-ghost use Rattle.std.specs.Prelude.{◌≡◌, ◌≤◌, ◌+◌, length, true, false};
+ghost use Rattle.std.specs.Prelude.{◌≡◌, ◌≤◌, ◌+◌, length, take, true, false};
+ghost use Rattle.rbg_serving.specs.Answers.{FitsPoll};
+ghost use Rattle.rbg_network.specs.Passing.{Gives, passed, begun_after};
 
 use crate::client::{Client, ClientError};
 use crate::network::is_nothing_yet;
+use crate::passing::Passing;
 use rbg_serving::{Line, Polled, Put};
 use std::alloc::{AllocError, Global};
 use std::io::{Read, Write};
@@ -10,12 +13,13 @@ use std::io::{Read, Write};
 /// The most bytes that are read at once before a match.
 const PIECE: usize = 4_096;
 
-/// A line over a stream.
+/// A line over a stream. Of a message that is too long it gives the first bytes and the zero byte alone.
 #[derive(Drop)]
 pub struct StreamLine<S: Read + Write + Drop> {
     stream: S,
     /// What came before the match began. It is given before anything else.
     early: Vec<u8>,
+    passing: Passing,
     failures: u64,
 }
 
@@ -25,6 +29,7 @@ impl<S: Read + Write + Drop> StreamLine<S> {
         StreamLine {
             stream,
             early: Vec::new(alloc),
+            passing: Passing::new(),
             failures: 0,
         }
     }
@@ -59,6 +64,22 @@ impl<S: Read + Write + Drop> StreamLine<S> {
         count
     }
 
+    /// Takes the first bytes of the buffer, so many of them, as the next ones of the stream, and gives those that are
+    /// passed on.
+    fn pass(&mut self, buffer: &mut [u8], count: usize) -> Polled
+        requires { count ≤ length buffer.old }
+        ensures gives { Gives result buffer.new (passed self.old.passing.begun (take count buffer.old)) }
+        ensures begun { self.new.passing.begun
+            ≡ begun_after self.old.passing.begun (take count buffer.old) }
+        ensures fits { FitsPoll result (length buffer.new) }
+        ensures failures { self.new.failures ≡ self.old.failures }
+    {
+        match self.passing.pass(buffer, count) {
+            0 => Polled::Nothing,
+            kept => Polled::Got(kept),
+        }
+    }
+
     /// Counts one more failure, if there is a number for it.
     fn count_failure(&mut self) -> bool
         ensures counted { result ≡ true → self.new.failures ≡ self.old.failures + 1 }
@@ -81,11 +102,12 @@ impl<S: Read + Write + Drop> Line for StreamLine<S> {
 
     fn poll(&mut self, buffer: &mut [u8]) -> Polled {
         if !self.early.is_empty() {
-            return Polled::Got(self.give_early(buffer));
+            let count = self.give_early(buffer);
+            return self.pass(buffer, count);
         }
         match self.stream.read(buffer) {
             Ok(0) => Polled::Ended,
-            Ok(count) => Polled::Got(count),
+            Ok(count) => self.pass(buffer, count),
             Err(error) if is_nothing_yet(&error) => Polled::Nothing,
             Err(_) if self.count_failure() => Polled::Failed,
             Err(_) => Polled::Ended,

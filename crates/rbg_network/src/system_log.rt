@@ -8,15 +8,21 @@ use std::io::{self, Write};
 #[derive(Drop)]
 pub struct SystemLog<'a> {
     rt: &'a HostRuntime,
+    name: String,
     file: File,
     /// Whether each write waits until the bytes are on the disk.
     sync: bool,
 }
 
 impl<'a> SystemLog<'a> {
-    /// A log in a file that was opened to write.
-    pub(crate) fn new(rt: &'a HostRuntime, file: File, sync: bool) -> SystemLog<'a> {
-        SystemLog { rt, file, sync }
+    /// A log in a file that was opened to write. By this name it is told of.
+    pub(crate) fn new(rt: &'a HostRuntime, name: String, file: File, sync: bool) -> SystemLog<'a> {
+        SystemLog {
+            rt,
+            name,
+            file,
+            sync,
+        }
     }
 
     fn write(&mut self, bytes: &[u8]) -> io::Result<()> {
@@ -35,7 +41,8 @@ impl Log for SystemLog<'_> {
         match self.write(bytes) {
             Ok(()) => Ok(()),
             Err(error) => {
-                let _said = eprintln!(self.rt; "can't write the log: {error}");
+                let name = self.name.as_str();
+                let _said = eprintln!(self.rt; "can't write the log {name}: {error}");
                 Err(LogFailure)
             }
         }

@@ -30,17 +30,21 @@ impl<'a> SystemNetwork<'a> {
         Ok(listener)
     }
 
-    /// The log in a file, if that could be opened.
+    /// The log of this name in a file, if that could be opened.
     fn begin_log(
         &self,
         name: &str,
+        path: &str,
         file: io::Result<File>,
         sync: bool,
     ) -> io::Result<SystemLog<'a>> {
         match file {
-            Ok(file) => Ok(SystemLog::new(self.rt, file, sync)),
+            Ok(file) => {
+                let name = String::from_str(self.rt.alloc(), name)?;
+                Ok(SystemLog::new(self.rt, name, file, sync))
+            }
             Err(error) => {
-                let _said = eprintln!(self.rt; "can't begin the log {name}: {error}");
+                let _said = eprintln!(self.rt; "can't begin the log {path}: {error}");
                 Err(error)
             }
         }
@@ -53,6 +57,8 @@ impl<'a> SystemNetwork<'a> {
             Err(error) => {
                 if is_nothing_yet(&error) {
                     thread::sleep(self.rt, Duration::from_millis(PATIENCE_MS));
+                } else {
+                    let _said = eprintln!(self.rt; "can't accept a connection: {error}");
                 }
                 Err(error)
             }
@@ -110,13 +116,13 @@ impl<'a> Network for SystemNetwork<'a> {
 
     fn create_log(&mut self, name: &str, sync: bool) -> io::Result<SystemLog<'a>> {
         let file = File::create_new(self.rt, name);
-        self.begin_log(name, file, sync)
+        self.begin_log(name, name, file, sync)
     }
 
     fn rewrite_log(&mut self, name: &str, sync: bool) -> io::Result<SystemLog<'a>> {
         let beside = format!(in self.rt.alloc(); "{name}.new")?;
         let file = File::create(self.rt, beside.as_str());
-        self.begin_log(beside.as_str(), file, sync)
+        self.begin_log(name, beside.as_str(), file, sync)
     }
 
     fn replace_log(&mut self, name: &str) -> io::Result<()> {

@@ -1,0 +1,3 @@
+-- Lines over connections.
+pub mod Passing
+pub mod Laws
