@@ -282,7 +282,7 @@ impl<'a, S: Steps> Search<'a, S> {
         Ok(Reached { pairs, ends })
     }
 
-    /// As `reach`, with the modifiers in no order, in a list that is lent. Returns whether a word may end with no more.
+    /// As `reach`, in no order and in a list that is lent. Returns whether a word may end with no modifier more.
     pub fn reach_pairs(
         &mut self,
         state: &mut SemiState,
