@@ -50,8 +50,8 @@ impl Table {
     ghost use Rattle.rbg_leaps.specs.Made.{entry_at, no_entry};
     ghost use Rattle.rbg_leaps.specs.internal.Tables.{targets_of, Puts, Shares, Grows, AddsRow};
 
-    /// An empty entry for each node and each vertex. They are appended by nodes, since a large fill is slower than many small
-    /// ones.
+    /// An empty entry for each node and each vertex, appended node by node: that takes fewer instructions than one large
+    /// fill.
     fn empty_entries(
         alloc: Global,
         nodes: usize,
