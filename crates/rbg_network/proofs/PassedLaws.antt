@@ -4,7 +4,7 @@ use Rattle.std.specs.Prelude.{zero, suc}
 use Rattle.std.proofs.lemmas.Bool.{cases_lt}
 use Rattle.std.proofs.lemmas.List.{length-append}
 use Rattle.rbg_match.specs.Limits.{message_limit}
-use Rattle.rbg_wire.specs.Streams.{Rest, incomplete, dropping, Cut, next_byte, after_items, cut, IsRest}
+use Rattle.rbg_wire.specs.Streams.{Rest, incomplete, dropping, next_byte, after_items, cut, IsRest}
 use Rattle.rbg_wire.proofs.CutLemmas.{cut-append, cut-none, next_kept, next_too_long, next_dropped}
 use Rattle.rbg_wire.proofs.LawLemmas.{rests}
 use Rattle.rbg_network.specs.Passing.{most_passed, passed, begun_after}

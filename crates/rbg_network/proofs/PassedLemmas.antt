@@ -1,13 +1,12 @@
 -- What is passed on, byte by byte.
-use Rattle.std.proofs.Common.{◌≡◌, ◌≢◌, ℕ, ◌+◌, ◌-◌, ◌<◌, ◌≤◌, true, false, List, [], ◌∷◌, ◌++◌, length, take, drop, slice_index, slice_set, ap, sym, ◌∙◌, refl, arith, append_assoc, inl, inr}
+use Rattle.std.proofs.Common.{◌≡◌, ◌≢◌, ℕ, ◌+◌, ◌-◌, ◌<◌, ◌≤◌, List, [], ◌∷◌, ◌++◌, length, take, drop, slice_index, slice_set, ap, sym, ◌∙◌, refl, arith, append_assoc, inl, inr}
 use Rattle.std.specs.Prelude.{◌==◌, map, zero, suc}
 use Rattle.std.specs.List.{slice_split, onto_first, join_with_byte}
 use Rattle.std.proofs.lemmas.Bool.{cases_lt}
-use Rattle.std.proofs.lemmas.Grind.{common_steps}
 use Rattle.std.proofs.Math.ListN.{get_or, set}
 use Rattle.std.proofs.Math.Seq.{take-nil, drop-cons, set-append_seam}
 use Rattle.std.proofs.lemmas.List.{take_more, get_or-drop, get_or-append_right}
-use Rattle.std.proofs.lemmas.List.Splits.{slice_split-cons_yes, slice_split-cons_no, length-slice_split}
+use Rattle.std.proofs.lemmas.List.Splits.{slice_split-cons_no, length-slice_split}
 use Rattle.rbg_wire.proofs.WordLemmas.{different_byte}
 use Rattle.rbg_network.specs.Passing.{most_passed, first_bytes, passed, last_length, begun_after}
 

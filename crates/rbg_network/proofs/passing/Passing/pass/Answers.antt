@@ -1,7 +1,7 @@
 -- A byte that is passed on is written behind the ones before it.
-use Rattle.std.proofs.Common.{◌≡◌, ℕ, ◌+◌, ◌<◌, List, [], ◌∷◌, ◌++◌, length, take, drop, slice_index, ap, sym, ◌∙◌, arith, append-nil}
+use Rattle.std.proofs.Common.{ℕ, ◌<◌, List, [], ◌∷◌, ◌++◌, length, take, drop, slice_index, ap, sym, ◌∙◌, arith, append-nil}
 use Rattle.std.proofs.lemmas.List.{length-append}
-use Rattle.rbg_network.specs.Passing.{passed, begun_after}
+use Rattle.rbg_network.specs.Passing.{passed}
 use Rattle.rbg_network.proofs.PassedLemmas.{byte_at, passed_more, begun_more, written_behind}
 use Rattle.rbg_network.proofs.passing.Passing.pass.Goals as goal
 use Rattle.rbg_network.proofs.passing.Passing.pass.Goals.{then-takes, else-takes}
