@@ -9,6 +9,7 @@ use Rattle.rbg_page.specs.Telling.{Told, IsTelling}
 use Rattle.rbg_page.specs.declared.error.PageError.{PageError}
 use Rattle.rbg_position.specs.Boards.{IsRewritten, HasNoBoard}
 use Rattle.rbg_position.specs.Positions.{first_place, game_at}
+use Rattle.rbg_position.specs.Sections.{IsSectionOf}
 use Rattle.rbg_position.specs.declared.error.PositionError.{PositionError}
 use Rattle.rbg_position.specs.declared.error.PositionError.TheVariants.{Record, Value, Turn, Keeper, Unsettled, Refused, Memory}
 
@@ -44,12 +45,15 @@ pub data BeginsOtherwise (game : AbstractGame) (place : AbstractPlace) : Positio
 
 -- Why there is no description of the place.
 --   no_board: the text has no section of a board.
---   refused: the text with another section of its board doesn't describe the game with the board as it stands.
+--   refused: the text with the section of its board as it stands doesn't describe the game with that board.
 --   otherwise: that game doesn't begin as play stands at the place.
 pub data IsUndescribed (text : List ℕ) (game : AbstractGame) (place : AbstractPlace) : PositionError → Type 0 where
   no_board : HasNoBoard text → IsUndescribed text game place Refused
   refused : {section new : List ℕ} →
-      IsRewritten text section new → ¬ Loads new (game_at game place) → IsUndescribed text game place Refused
+      IsSectionOf text game place.state.pieces section →
+      IsRewritten text section new →
+      ¬ Loads new (game_at game place) →
+      IsUndescribed text game place Refused
   otherwise : {error : PositionError} →
       BeginsOtherwise (game_at game place) place error → IsUndescribed text game place error
 
