@@ -4,7 +4,7 @@ use crate::sections::{cut, expanded, section_tokens};
 use rbg_game::Layout;
 use rbg_macro::SectionKind;
 use rbg_passages::{actions, push_action};
-use rbg_tokens::{TextLine, Token};
+use rbg_tokens::{TextLine, Token, Tokens};
 use std::alloc::{AllocError, Global};
 
 /// Adds a line for each position of the rules: its number, the line and the column of its action, and the action.
@@ -12,11 +12,31 @@ pub fn push_positions(alloc: Global, output: &mut Vec<u8>, text: &[u8]) -> Resul
     let Some(tokens) = cut(alloc, text)? else {
         return Ok(());
     };
-    let Some(source) = expanded(alloc, &tokens)? else {
+    push_positions_of(alloc, output, text, &tokens)
+}
+
+/// Adds a line for each position of the rules in the tokens of a text.
+fn push_positions_of(
+    alloc: Global,
+    output: &mut Vec<u8>,
+    text: &[u8],
+    tokens: &Tokens<'_>,
+) -> Result<(), AllocError> {
+    let Some(source) = expanded(alloc, tokens)? else {
         return Ok(());
     };
     let rules = section_tokens(alloc, &source, SectionKind::Rules)?;
-    let actions = actions(alloc, &rules)?;
+    push_actions(alloc, output, text, &rules)
+}
+
+/// Adds a line for each action of the rules.
+fn push_actions(
+    alloc: Global,
+    output: &mut Vec<u8>,
+    text: &[u8],
+    rules: &[Token<'_>],
+) -> Result<(), AllocError> {
+    let actions = actions(alloc, rules)?;
     for (index, action) in actions.iter().enumerate() {
         push_position(alloc, output, text, index.saturating_add(1), action)?;
     }
