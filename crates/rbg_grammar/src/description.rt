@@ -119,7 +119,7 @@ pub struct Bounded<'a> {
 }
 
 /// The board by its generator.
-#[derive(Debug, Drop)]
+#[derive(Debug)]
 pub enum Board<'a> {
     /// Rows of pieces from top to bottom.
     Rectangle {
@@ -134,6 +134,23 @@ pub enum Board<'a> {
     Graph {
         vertices: Vec<Vertex<'a>>,
     },
+}
+
+/// Written out, so that letting a board go is one call in the proofs of those who hold one, not a step for each part.
+impl Drop for Board<'_> {
+    fn drop(self) {
+        match self {
+            Board::Rectangle {
+                directions: _,
+                rows: _,
+            }
+            | Board::Hexagon {
+                directions: _,
+                rows: _,
+            }
+            | Board::Graph { vertices: _ } => {}
+        }
+    }
 }
 
 /// The names of the directions up, down, left and right.
