@@ -18,6 +18,7 @@ pub enum Expression<'a> {
 
 /// Written out, so that letting an expression go is one call in the proofs of those who hold one, not a step for each part.
 impl Drop for Expression<'_> {
+    #[cycle(letting_go)]
     fn drop(self) {
         match self {
             Expression::Number(_)
