@@ -42,10 +42,20 @@ pub(crate) struct SectionSpan {
 }
 
 /// The sections of a description in order of the text, with their macros expanded. They borrow the text.
-#[derive(Debug, Drop)]
+#[derive(Debug)]
 pub struct Source<'t> {
     tokens: TokenBuffer<'t>,
     sections: Vec<SectionSpan>,
+}
+
+/// Written out, so that letting a source go is one call in the proofs of those who hold one, not a step for each part.
+impl Drop for Source<'_> {
+    fn drop(self) {
+        let Source {
+            tokens: _,
+            sections: _,
+        } = self;
+    }
 }
 
 impl<'t> Model for Source<'t> {
