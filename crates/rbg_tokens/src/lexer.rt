@@ -15,7 +15,7 @@ use rbg_base::{is_name_part, is_name_start};
 use std::alloc::Global;
 
 /// What some bytes begin with, and its length.
-#[derive(Clone, Copy, Debug)]
+#[derive(Clone, Copy)]
 enum Part {
     /// A blank or a comment.
     Skipped(usize),

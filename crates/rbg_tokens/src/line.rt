@@ -3,7 +3,7 @@ ghost use Rattle.std.specs.Prelude.{◌≡◌, ◌≤◌, ◌+◌, ◌-◌, take
 ghost use Rattle.rbg_tokens.specs.Lines.{line_feeds, IsLineStart, IsOneLine};
 
 /// A line of a text.
-#[derive(Clone, Copy, Debug)]
+#[derive(Clone, Copy)]
 pub struct TextLine<'a> {
     /// Its number, from 1.
     pub number: usize,

@@ -169,7 +169,7 @@ impl TokenKind {
 
 /// A token: its kind, its bytes, and its offset in the text. The offset of a joined token is that of the first token
 /// that was joined into it.
-#[derive(Clone, Copy, Debug)]
+#[derive(Clone, Copy)]
 pub struct Token<'a> {
     pub kind: TokenKind,
     pub text: &'a [u8],
@@ -186,7 +186,7 @@ impl Token<'_> {
 }
 
 /// The tokens of a text, which they borrow.
-#[derive(Debug, Drop)]
+#[derive(Drop)]
 pub struct Tokens<'a> {
     tokens: Vec<Token<'a>>,
 }
