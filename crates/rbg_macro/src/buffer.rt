@@ -11,7 +11,7 @@ use std::alloc::Global;
 use std::marker::Model;
 
 /// A token whose bytes are in a buffer.
-#[derive(Clone, Copy, Debug)]
+#[derive(Clone, Copy)]
 pub(crate) struct Span {
     pub(crate) kind: TokenKind,
     pub(crate) start: usize,
@@ -20,17 +20,26 @@ pub(crate) struct Span {
 }
 
 /// A token that was kept: one of the text, or one that was joined, whose bytes are in the buffer.
-#[derive(Clone, Copy, Debug)]
+#[derive(Clone, Copy)]
 pub(crate) enum KeptToken<'t> {
     OfText(Token<'t>),
     Joined(Span),
 }
 
 /// The tokens that were kept. Only the bytes that were joined are copied.
-#[derive(Debug, Drop)]
 pub(crate) struct TokenBuffer<'t> {
     joined: Vec<u8>,
     tokens: Vec<KeptToken<'t>>,
+}
+
+/// Written out, so that letting a buffer go is one call in the proofs of those who hold one, not a step for each part.
+impl Drop for TokenBuffer<'_> {
+    fn drop(self) {
+        let TokenBuffer {
+            joined: _,
+            tokens: _,
+        } = self;
+    }
 }
 
 impl<'t> Model for TokenBuffer<'t> {

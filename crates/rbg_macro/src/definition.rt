@@ -4,7 +4,7 @@ ghost use Rattle.std.specs.Prelude.{IfErr, OnOk};
 ghost use Rattle.std.specs.List.{position_or_len};
 ghost use Rattle.rbg_macro.specs.internal.Defines.{defines_of, AddsDefined};
 ghost use Rattle.rbg_macro.specs.Definition.{expect, behind_equals, parameter_list, behind_name};
-ghost use Rattle.rbg_macro.specs.internal.Defines.{AddsParameter};
+ghost use Rattle.rbg_macro.specs.internal.Defines.{AddsParameter, IsTemplateBehind};
 ghost use Rattle.rbg_macro.specs.Definition.{section_named, first_at, defined, definitions_of, Part};
 ghost use Rattle.rbg_macro.specs.internal.Defines.{BeginsDefinition};
 ghost use Rattle.rbg_macro.specs.internal.Gives.{Gives};
@@ -21,7 +21,7 @@ use rbg_tokens::Token;
 use std::alloc::Global;
 
 /// A section with its own tokens.
-#[derive(Clone, Copy, Debug)]
+#[derive(Clone, Copy)]
 pub(crate) struct SectionBody<'t, 's> {
     pub(crate) kind: SectionKind,
     pub(crate) at: usize,
@@ -144,6 +144,19 @@ fn behind_name<'t, 's>(
     Ok((names, body))
 }
 
+/// The template of the macro whose name the tokens follow.
+fn read_template<'t>(
+    alloc: Global,
+    tokens: &[Token<'t>],
+    end: usize,
+) -> Result<Template<'t>, MacroError>
+    ensures ok { IfOk result (IsTemplateBehind end (map lexeme_of tokens.now)) }
+    ensures err { IfErr result (UnlessMemory (λ e. behind_name end (map lexeme_of tokens.now) ≡ Err e)) }
+{
+    let (parameters, body) = behind_name(alloc, tokens, end)?;
+    Ok(Template::new(alloc, &parameters, body)?)
+}
+
 /// The section of this name.
 fn section_named(name: &[u8]) -> Option<SectionKind>
     ensures { result ≡ section_named name.now }
@@ -196,8 +209,7 @@ fn define<'t, 's>(
     if definitions.macros.contains(name.text) {
         return Err(MacroError::Twice { at: name.at });
     }
-    let (parameters, body) = behind_name(alloc, behind, end)?;
-    let template = Template::new(alloc, &parameters, body)?;
+    let template = read_template(alloc, behind, end)?;
     definitions.macros.insert(name.text, template)?;
     Ok(())
 }

@@ -27,7 +27,7 @@ use rbg_tokens::Tokens;
 use std::alloc::Global;
 
 /// How far an expansion has come: how many tokens were read, and which were kept.
-#[derive(Debug, Drop)]
+#[derive(Drop)]
 struct ExpandedTokens<'t> {
     read: usize,
     kept: TokenBuffer<'t>,

@@ -23,7 +23,7 @@ use std::alloc::Global;
 use std::marker::Model;
 
 /// A token that stayed as it was, or one that was joined, whose bytes are in a buffer.
-#[derive(Clone, Copy, Debug)]
+#[derive(Clone, Copy)]
 pub(crate) enum JoinedToken<'t, 'j> {
     Single(ReadToken<'t, 'j>),
     /// With the number of the macro that it names.
@@ -31,10 +31,19 @@ pub(crate) enum JoinedToken<'t, 'j> {
 }
 
 /// A joined list, with the texts of its joined tokens.
-#[derive(Drop)]
 pub(crate) struct JoinedList<'t, 'j> {
     texts: Vec<u8>,
     tokens: Vec<JoinedToken<'t, 'j>>,
+}
+
+/// Written out, so that letting a list go is one call in the proofs of those who hold one, not a step for each part.
+impl Drop for JoinedList<'_, '_> {
+    fn drop(self) {
+        let JoinedList {
+            texts: _,
+            tokens: _,
+        } = self;
+    }
 }
 
 impl<'t, 'j> Model for JoinedList<'t, 'j> {

@@ -6,14 +6,14 @@ ghost use Rattle.rbg_tokens.specs.Token.{lexeme_of};
 use rbg_tokens::{Token, TokenKind};
 
 /// The bytes of a token. Those of the text are never copied, and those that were joined last as long as their list.
-#[derive(Clone, Copy, Debug)]
+#[derive(Clone, Copy)]
 pub(crate) enum Bytes<'t, 'j> {
     OfText(&'t [u8]),
     Joined(&'j [u8]),
 }
 
 /// A token that expansion reads.
-#[derive(Clone, Copy, Debug)]
+#[derive(Clone, Copy)]
 pub(crate) struct ReadToken<'t, 'j> {
     pub(crate) kind: TokenKind,
     pub(crate) bytes: Bytes<'t, 'j>,

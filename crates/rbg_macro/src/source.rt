@@ -33,7 +33,7 @@ impl fmt::Display for SectionKind {
 }
 
 /// Where the tokens of a section are in a list of tokens.
-#[derive(Clone, Copy, Debug)]
+#[derive(Clone, Copy)]
 pub(crate) struct SectionSpan {
     pub(crate) kind: SectionKind,
     pub(crate) at: usize,
@@ -42,10 +42,19 @@ pub(crate) struct SectionSpan {
 }
 
 /// The sections of a description in order of the text, with their macros expanded. They borrow the text.
-#[derive(Debug, Drop)]
 pub struct Source<'t> {
     tokens: TokenBuffer<'t>,
     sections: Vec<SectionSpan>,
+}
+
+/// Written out, so that letting a source go is one call in the proofs of those who hold one, not a step for each part.
+impl Drop for Source<'_> {
+    fn drop(self) {
+        let Source {
+            tokens: _,
+            sections: _,
+        } = self;
+    }
 }
 
 impl<'t> Model for Source<'t> {
@@ -62,7 +71,7 @@ impl<'t> Model for Source<'t> {
 }
 
 /// One section of a source.
-#[derive(Debug, Drop)]
+#[derive(Drop)]
 pub struct Section<'a> {
     tokens: &'a TokenBuffer<'a>,
     span: SectionSpan,

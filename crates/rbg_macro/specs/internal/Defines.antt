@@ -1,8 +1,11 @@
 -- Sections and macros as the code represents them while it reads definitions.
-use Rattle.std.specs.Prelude.{ℕ, ◌≡◌, IsTrue, List, [], ◌∷◌, ◌++◌, drop, map, Ok}
+use Rattle.std.specs.Prelude.{ℕ, ◌≡◌, IsTrue, List, [], ◌∷◌, ◌++◌, length, drop, map, Ok}
 use Rattle.rbg_macro.specs.declared.definition.Definitions.{Definitions as KeptDefinitions}
 use Rattle.rbg_macro.specs.declared.definition.SectionBody.{SectionBody}
-use Rattle.rbg_macro.specs.Definition.{Definitions, Defined, A_Section, A_Macro, Part, defined, is_new_name}
+use Rattle.rbg_macro.specs.declared.macros.Template.{Template}
+use Rattle.rbg_macro.specs.Definition.{Definitions, Defined, A_Section, A_Macro, Part, behind_name, defined, is_new_name}
+use Rattle.rbg_macro.specs.Macro.{body_of}
+use Rattle.rbg_macro.specs.internal.Template.{item_in}
 use Rattle.rbg_tokens.specs.Kinds.{is_hash}
 use Rattle.rbg_tokens.specs.Token.{Lexeme, lexeme_of}
 use Rattle.rbg_macro.specs.Sections.{SectionTokens}
@@ -30,6 +33,14 @@ pub record AddsParameter (earlier parameters : List (List ℕ)) (ts : List Lexem
   pub tokens : ts ≡ parameter ∷ next ∷ drop 2 ts
   pub new : IsTrue (is_new_name earlier parameter)
   pub added : parameters ≡ earlier ++ parameter.text ∷ []
+
+-- the parameters and the body behind a macro's name, as they are kept
+pub record IsTemplateBehind (end : ℕ) (ts : List Lexeme) (template : Template) : Type 0 where
+  pub parameters : List (List ℕ)
+  pub body : List Lexeme
+  pub behind : behind_name end ts ≡ Ok (parameters, body)
+  pub many : template.parameters ≡ length parameters
+  pub filled : map item_in template.body.items ≡ body_of parameters body
 
 -- the first token, if there is one, is a `#`
 abbrev pub BeginsDefinition : List Lexeme → Type 0
