@@ -8,7 +8,6 @@ use crate::rule::Rule;
 /// What the sections of a source spell, which it borrows.
 ///
 /// It has a player and a piece, and no sequence, sum or product of fewer than two parts.
-#[derive(Debug, Drop)]
 pub struct Description<'a> {
     pub(crate) players: Vec<Bounded<'a>>,
     pub(crate) variables: Vec<Bounded<'a>>,
@@ -18,8 +17,21 @@ pub struct Description<'a> {
     pub ghost whole: { IsWhole (spelt players variables pieces board rules) },
 }
 
+/// Written out, so that letting a description go is one call in the proofs of those who hold one, not a step for each part.
+impl Drop for Description<'_> {
+    fn drop(self) {
+        let Description {
+            players: _,
+            variables: _,
+            pieces: _,
+            board: _,
+            rules: _,
+        } = self;
+    }
+}
+
 /// The parts of a description, to be taken one by one.
-#[derive(Debug, Drop)]
+#[derive(Drop)]
 pub struct DescriptionParts<'a> {
     pub players: Vec<Bounded<'a>>,
     pub variables: Vec<Bounded<'a>>,
@@ -112,14 +124,13 @@ impl<'a> Description<'a> {
 }
 
 /// A player or a variable with the greatest value that it may have, as in `white(100)`.
-#[derive(Debug, Drop)]
+#[derive(Drop)]
 pub struct Bounded<'a> {
     pub name: Name<'a>,
     pub bound: Number,
 }
 
 /// The board by its generator.
-#[derive(Debug, Drop)]
 pub enum Board<'a> {
     /// Rows of pieces from top to bottom.
     Rectangle {
@@ -136,20 +147,37 @@ pub enum Board<'a> {
     },
 }
 
+/// Written out, so that letting a board go is one call in the proofs of those who hold one, not a step for each part.
+impl Drop for Board<'_> {
+    fn drop(self) {
+        match self {
+            Board::Rectangle {
+                directions: _,
+                rows: _,
+            }
+            | Board::Hexagon {
+                directions: _,
+                rows: _,
+            }
+            | Board::Graph { vertices: _ } => {}
+        }
+    }
+}
+
 /// The names of the directions up, down, left and right.
-#[derive(Debug, Drop)]
+#[derive(Drop)]
 pub struct RectangleDirections<'a> {
     pub names: [Name<'a>; 4],
 }
 
 /// The names of the directions north-west, north-east, east, south-east, south-west and west.
-#[derive(Debug, Drop)]
+#[derive(Drop)]
 pub struct HexagonDirections<'a> {
     pub names: [Name<'a>; 6],
 }
 
 /// A vertex of a graph with its first piece, as in `a[e]{right: b}`.
-#[derive(Debug, Drop)]
+#[derive(Drop)]
 pub struct Vertex<'a> {
     pub name: Name<'a>,
     pub piece: Name<'a>,
@@ -157,7 +185,7 @@ pub struct Vertex<'a> {
 }
 
 /// An edge to the vertex of that name, as `right: b`.
-#[derive(Debug, Drop)]
+#[derive(Drop)]
 pub struct Edge<'a> {
     pub direction: Name<'a>,
     pub target: Name<'a>,

@@ -3,7 +3,7 @@ ghost use Rattle.std.specs.Prelude.{IsTrue};
 ghost use Rattle.rbg_base.specs.Names.{is_name};
 
 /// A name of the language, whose bytes are borrowed, and the offset in the text where it stands.
-#[derive(Clone, Copy, Debug, PartialEq, Eq)]
+#[derive(Clone, Copy, PartialEq, Eq)]
 pub struct Name<'a> {
     pub text: &'a [u8],
     pub at: usize,
@@ -11,7 +11,7 @@ pub struct Name<'a> {
 }
 
 /// A number, and the offset in the text where it stands.
-#[derive(Clone, Copy, Debug, PartialEq, Eq)]
+#[derive(Clone, Copy, PartialEq, Eq)]
 pub struct Number {
     /// None if the number is 2^64 or more.
     pub value: Option<u64>,

@@ -6,7 +6,6 @@ use rbg_base::Relation;
 
 /// A regular expression over actions.
 #[cycle(rule)]
-#[derive(Debug, Drop)]
 pub enum Rule<'a> {
     Act(Action<'a>),
     /// A sequence of at least two parts, or an assignment list of at least two assignments.
@@ -16,9 +15,19 @@ pub enum Rule<'a> {
     Star(Box<Rule<'a>>),
 }
 
+/// Written out, so that letting a rule go is one call in the proofs of those who hold one, not a step for each part.
+impl Drop for Rule<'_> {
+    #[cycle(rule)]
+    fn drop(self) {
+        match self {
+            Rule::Act(_) | Rule::Then(_) | Rule::Or(_) | Rule::Star(_) => {}
+        }
+    }
+}
+
 /// An action of the rules.
 #[cycle(rule)]
-#[derive(Debug, Drop)]
+#[derive(Drop)]
 pub enum Action<'a> {
     /// `up`
     Shift(Name<'a>),
