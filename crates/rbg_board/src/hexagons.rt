@@ -15,7 +15,7 @@ use rbg_base::{Direction, Piece, Vertex};
 use std::alloc::Global;
 
 /// The directions north-west, north-east, east, south-east, south-west and west.
-#[derive(Clone, Copy, Debug)]
+#[derive(Clone, Copy)]
 struct HexagonShape {
     directions: [Direction; 6],
 }

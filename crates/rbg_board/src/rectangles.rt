@@ -13,7 +13,7 @@ use rbg_base::{Direction, Piece, Vertex};
 use std::alloc::Global;
 
 /// The directions up, down, left and right.
-#[derive(Clone, Copy, Debug)]
+#[derive(Clone, Copy)]
 struct RectangleShape {
     directions: [Direction; 4],
 }

@@ -13,7 +13,7 @@ use rbg_base::{Direction, Memory, Piece, Vertex};
 use std::alloc::Global;
 
 /// A cell with the lengths of the rows around it.
-#[derive(Clone, Copy, Debug)]
+#[derive(Clone, Copy)]
 pub(crate) struct Site {
     /// The vertex of the first cell of the cell's row.
     pub start: usize,

@@ -4,7 +4,7 @@ use rbg_base::{Piece, Variable};
 
 /// Operations of one rank form a list, so the depth of an expression is that of its brackets.
 #[cycle(arithmetic)]
-#[derive(Debug, Drop)]
+#[derive(Debug)]
 pub enum Arithmetic {
     Number(u64),
     Variable(Variable),
@@ -16,6 +16,20 @@ pub enum Arithmetic {
         first: Box<Arithmetic>,
         rest: Vec<Operation>,
     },
+}
+
+/// Written out, so that letting an expression go is one call in the proofs of those who hold one, not a step for each part.
+impl Drop for Arithmetic {
+    #[cycle(arithmetic)]
+    fn drop(self) {
+        match self {
+            Arithmetic::Number(_)
+            | Arithmetic::Variable(_)
+            | Arithmetic::PieceCount(_)
+            | Arithmetic::Negated(_)
+            | Arithmetic::Chain { first: _, rest: _ } => {}
+        }
+    }
 }
 
 /// What a chain does next with its value so far.

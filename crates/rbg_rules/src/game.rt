@@ -12,7 +12,7 @@ use rbg_board::Board;
 use std::marker::Model;
 
 /// The parts of a game: names in order of their numbers.
-#[derive(Debug, Drop)]
+#[derive(Drop)]
 pub struct Parts {
     pub players: Vec<String>,
     pub pieces: Vec<String>,
