@@ -3,7 +3,7 @@
 use crate::name_table::NameTable;
 
 /// The names that rules may use.
-#[derive(Debug, Drop)]
+#[derive(Drop)]
 pub struct NameTables<'a> {
     pub players: &'a NameTable,
     /// The players, and then the other variables.
