@@ -52,22 +52,29 @@ pub enum Expectation {
     End,
 }
 
+impl Expectation {
+    /// The name that it prints.
+    fn name(self) -> &'static str {
+        match self {
+            Expectation::Name => "Name",
+            Expectation::Number => "Number",
+            Expectation::Opening => "Opening",
+            Expectation::Closing => "Closing",
+            Expectation::Equals => "Equals",
+            Expectation::Comma => "Comma",
+            Expectation::Colon => "Colon",
+            Expectation::Item => "Item",
+            Expectation::Factor => "Factor",
+            Expectation::Relation => "Relation",
+            Expectation::Generator => "Generator",
+            Expectation::End => "End",
+        }
+    }
+}
+
 impl fmt::Display for Expectation {
     fn fmt<W: fmt::Write>(&self, f: &mut fmt::Formatter<W>) -> fmt::Result {
-        match self {
-            Expectation::Name => write!(f, "Name"),
-            Expectation::Number => write!(f, "Number"),
-            Expectation::Opening => write!(f, "Opening"),
-            Expectation::Closing => write!(f, "Closing"),
-            Expectation::Equals => write!(f, "Equals"),
-            Expectation::Comma => write!(f, "Comma"),
-            Expectation::Colon => write!(f, "Colon"),
-            Expectation::Item => write!(f, "Item"),
-            Expectation::Factor => write!(f, "Factor"),
-            Expectation::Relation => write!(f, "Relation"),
-            Expectation::Generator => write!(f, "Generator"),
-            Expectation::End => write!(f, "End"),
-        }
+        f.write_str(self.name())
     }
 }
 
