@@ -5,6 +5,7 @@ ghost use Rattle.rbg_grammar.specs.Formed.{IsWhole};
 ghost use Rattle.rbg_rules.specs.Games.{IsGame};
 ghost use Rattle.rbg_rules.specs.Positions.{positions_of};
 ghost use Rattle.rbg_rules.specs.State.{AbstractGame};
+ghost use Rattle.rbg_rules.specs.Texts.{texts};
 ghost use Rattle.rbg_rules.specs.Translation.{rules_of};
 ghost use Rattle.rbg_game.specs.Descriptions.{IsGameOf};
 ghost use Rattle.rbg_game.specs.Faults.{HasFault};
@@ -19,7 +20,7 @@ use crate::game_error::GameError;
 use boards::{NamedBoard, make_board};
 use names::{Things, number_things};
 use rbg_grammar::{Description, DescriptionParts};
-use rbg_numbering::{NameTables, number_rules};
+use rbg_numbering::{NameTable, NameTables, number_rules};
 use rbg_rules::{Game, Parts, Rules};
 use std::alloc::{AllocError, Global};
 
@@ -56,6 +57,34 @@ fn check_parts(alloc: Global, parts: &DescriptionParts<'_>) -> Result<Game, Game
     Ok(assemble(alloc, things, board, rules)?)
 }
 
+/// The names of a game, in order of their numbers.
+#[derive(Drop)]
+struct GameNames {
+    players: Vec<String>,
+    pieces: Vec<String>,
+    variables: Vec<String>,
+    directions: Vec<String>,
+}
+
+/// Copies of the names in the tables.
+fn copy_names(
+    alloc: Global,
+    things: &Things,
+    directions: &NameTable,
+) -> Result<GameNames, AllocError>
+    ensures players { IfOk result (λ names. texts names.players.items ≡ things.now.players) }
+    ensures pieces { IfOk result (λ names. texts names.pieces.items ≡ things.now.pieces) }
+    ensures variables { IfOk result (λ names. texts names.variables.items ≡ things.now.variables) }
+    ensures directions { IfOk result (λ names. texts names.directions.items ≡ directions.now) }
+{
+    Ok(GameNames {
+        players: things.players.to_names(alloc)?,
+        pieces: things.pieces.to_names(alloc)?,
+        variables: things.variables.to_names(alloc)?,
+        directions: directions.to_names(alloc)?,
+    })
+}
+
 /// The game of its parts.
 fn assemble(
     alloc: Global,
@@ -67,12 +96,13 @@ fn assemble(
     requires actions { length rules.actions.items ≡ length (positions_of (rules_of rules)) }
     ensures { IfOk result (λ game. game ≡ game_by_numbers things board (rules_of rules)) }
 {
+    let names = copy_names(alloc, &things, &board.directions)?;
     Ok(Game::new(Parts {
-        players: things.players.to_names(alloc)?,
-        pieces: things.pieces.to_names(alloc)?,
-        variables: things.variables.to_names(alloc)?,
+        players: names.players,
+        pieces: names.pieces,
+        variables: names.variables,
         bounds: things.bounds,
-        directions: board.directions.to_names(alloc)?,
+        directions: names.directions,
         board: board.board,
         rules,
     }))

@@ -20,7 +20,7 @@ use rbg_tokens::{Tokens, tokens};
 use std::alloc::Global;
 
 /// A game, and how its description writes its board.
-#[derive(Debug, Drop)]
+#[derive(Drop)]
 pub struct LoadedGame {
     pub game: Game,
     pub layout: Layout,

@@ -20,7 +20,7 @@ use rbg_rules::limits::MAX_PIECES;
 use std::alloc::Global;
 
 /// A board, and the names of its directions in order of their numbers.
-#[derive(Debug, Drop)]
+#[derive(Drop)]
 pub(crate) struct NamedBoard {
     pub(crate) directions: NameTable,
     pub(crate) board: Board,

@@ -16,7 +16,7 @@ use rbg_rules::limits::{MAX_BOUND, MAX_PIECES, MAX_PLAYERS, MAX_VARIABLES};
 use std::alloc::Global;
 
 /// The names of a description, and the bounds of its variables.
-#[derive(Debug, Drop)]
+#[derive(Drop)]
 pub(crate) struct Things {
     pub(crate) players: NameTable,
     /// The players, and then the other variables.
