@@ -23,7 +23,7 @@ pub(crate) struct Step {
 
 /// What an automaton answers of its positions, lent as slices. A loop that asks for many positions keeps it as a local,
 /// so that what it needs stays at hand.
-#[derive(Debug, Clone, Copy, Drop)]
+#[derive(Clone, Copy, Drop)]
 pub struct Lent<'a> {
     pub(crate) steps: &'a [Step],
     pub(crate) entries: &'a [Position],

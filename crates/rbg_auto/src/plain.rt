@@ -5,7 +5,7 @@ use crate::steps::{Expr, Glance, Steps};
 use rbg_base::Position;
 
 /// What comes after a position, and how the words of its inside begin.
-#[derive(Debug, Drop)]
+#[derive(Drop)]
 pub(crate) struct Place {
     pub(crate) next: Vec<Position>,
     pub(crate) may_end: bool,
@@ -15,7 +15,7 @@ pub(crate) struct Place {
 
 /// The steps of a game's rules, with lists of its own for each position. `Compact` answers the same in less memory, and
 /// also tells of actions at a glance. This form tells of none.
-#[derive(Debug, Drop)]
+#[derive(Drop)]
 pub struct Automaton {
     /// By position. Nothing is laid at position 0.
     pub(crate) places: Vec<Place>,

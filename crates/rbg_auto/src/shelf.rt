@@ -10,7 +10,7 @@ use std::collections::HashMap;
 
 /// Where the lists in the table are, by the hash of each. Of two lists with one hash only the later one is known, so the
 /// earlier one would be kept twice.
-#[derive(Debug, Drop)]
+#[derive(Drop)]
 pub(crate) struct Shelf {
     spans: HashMap<u64, Span>,
 }

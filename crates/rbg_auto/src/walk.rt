@@ -18,7 +18,7 @@ use std::alloc::Global;
 ///
 /// A list goes into the table when the first action asks for it. Positions behind which the rules go on in the same way
 /// share it from then on: `kept` says where it is.
-#[derive(Debug, Drop)]
+#[derive(Drop)]
 pub(crate) struct Walk {
     alloc: Global,
     pub(crate) table: Table,
