@@ -9,19 +9,10 @@ use rbg_rules::Rule;
 use std::alloc::Global;
 
 /// What may come directly after a part of the rules, and whether its words may end there.
+#[derive(Drop)]
 pub(crate) struct Rest {
     pub(crate) positions: Vec<Position>,
     pub(crate) may_end: bool,
-}
-
-/// Written out, so that letting a rest go is one call in the proofs of those who hold one, not a step for each part.
-impl Drop for Rest {
-    fn drop(self) {
-        let Rest {
-            positions: _,
-            may_end: _,
-        } = self;
-    }
 }
 
 /// What comes before a part, where the rest comes after it.
