@@ -3,7 +3,7 @@
 use rbg_base::{Direction, Piece, Player, Variable};
 
 /// A thing of a game that its rules may use.
-#[derive(Clone, Copy, Debug, PartialEq, Eq)]
+#[derive(Clone, Copy)]
 pub enum Thing {
     Player { player: Player },
     Piece { piece: Piece },

@@ -4,7 +4,7 @@ use crate::thing::Thing;
 use rbg_base::Position;
 
 /// What an author is warned of.
-#[derive(Clone, Copy, Debug, PartialEq, Eq)]
+#[derive(Clone, Copy)]
 pub enum Warning {
     /// At the position a number is assigned to a variable whose bound is smaller, so the assignment never runs.
     TooGreat { position: Position },
