@@ -19,7 +19,7 @@ pub(crate) fn open_bracket<'a>(tokens: &'a [Token<'a>]) -> Option<Token<'a>> {
 }
 
 /// What follows the name of a macro.
-#[derive(Clone, Copy, Debug)]
+#[derive(Clone, Copy)]
 pub(crate) enum CallForm {
     /// No `(`.
     NoParenthesis,

@@ -1,5 +1,6 @@
 //! Where a macro is called in a text.
 
+use crate::output::push_made;
 use rbg_tokens::{Symbol, Token, count_line_feeds};
 use std::alloc::{AllocError, Global};
 
@@ -66,14 +67,14 @@ fn is_joined(tokens: &[Token<'_>], index: usize) -> bool {
 
 /// Adds the line that lists the lines of calls, if there are any.
 pub fn push_calls(alloc: Global, output: &mut Vec<u8>, lines: &[usize]) -> Result<(), AllocError> {
-    let line = match lines {
+    let made = match lines {
         [] => return Ok(()),
-        [line] => format!(in alloc; "called on line {line}\n")?,
-        [first, second] => format!(in alloc; "called on lines {first} and {second}\n")?,
+        [line] => format!(in alloc; "called on line {line}\n"),
+        [first, second] => format!(in alloc; "called on lines {first} and {second}\n"),
         [first, second, rest @ ..] => {
             let count = rest.len();
-            format!(in alloc; "called on lines {first}, {second} and {count} more\n")?
+            format!(in alloc; "called on lines {first}, {second} and {count} more\n")
         }
     };
-    output.extend_from_slice(line.as_bytes())
+    push_made(output, made)
 }

@@ -6,6 +6,7 @@ use crate::exact::find_place;
 use crate::joined::{joined_text, push_joins};
 use crate::message::{Found, Message};
 use crate::origin::faulty_call;
+use crate::output::push_made;
 use crate::spot::{Spot, head_name};
 use rbg_console::Refusal;
 use rbg_game::LoadError;
@@ -26,38 +27,59 @@ pub fn explain(
     error: LoadError,
 ) -> Result<Vec<u8>, AllocError> {
     let mut output = Vec::new(alloc);
-    let has_mark = begins_with_mark(text, &error);
-    let cut = slice_of(tokens);
     match find_place(alloc, &error, text, tokens)? {
-        Some(at) => {
-            let joined = joined_text(alloc, &error, tokens, at)?;
-            let message = Message {
-                error,
-                spot: Spot::find(cut, at),
-                joined: joined.as_deref(),
-                has_mark,
-            };
-            push_place(alloc, &mut output, file, text, at, message)?;
-            if let Some(joined) = message.joined {
-                push_joins(alloc, &mut output, text, cut, at, joined)?;
-            }
-            push_notes(alloc, &mut output, text, cut, message)?;
-        }
+        Some(at) => push_refused(alloc, &mut output, file, text, tokens, error, at)?,
         None => {
             let message = Message {
                 error,
                 spot: None,
                 joined: None,
-                has_mark,
+                has_mark: begins_with_mark(text, &error),
             };
-            let line = format!(in alloc; "{file}: {message}\n")?;
-            output.extend_from_slice(line.as_bytes())?;
+            push_made(&mut output, format!(in alloc; "{file}: {message}\n"))?;
         }
     }
     let refusal = Refusal(error);
-    let line = format!(in alloc; "refused {refusal}\n")?;
-    output.extend_from_slice(line.as_bytes())?;
+    push_made(&mut output, format!(in alloc; "refused {refusal}\n"))?;
     Ok(output)
+}
+
+/// What is told of a text that is refused at an offset.
+fn push_refused(
+    alloc: Global,
+    output: &mut Vec<u8>,
+    file: &str,
+    text: &[u8],
+    tokens: Option<&Tokens<'_>>,
+    error: LoadError,
+    at: usize,
+) -> Result<(), AllocError> {
+    let joined = joined_text(alloc, &error, tokens, at)?;
+    let cut = slice_of(tokens);
+    let message = Message {
+        error,
+        spot: Spot::find(cut, at),
+        joined: joined.as_deref(),
+        has_mark: begins_with_mark(text, &error),
+    };
+    push_message(alloc, output, file, text, cut, at, message)
+}
+
+/// The place with the message, where its token is joined, and what else is told of it.
+fn push_message(
+    alloc: Global,
+    output: &mut Vec<u8>,
+    file: &str,
+    text: &[u8],
+    tokens: &[Token<'_>],
+    at: usize,
+    message: Message<'_>,
+) -> Result<(), AllocError> {
+    push_place(alloc, output, file, text, at, message)?;
+    if let Some(joined) = message.joined {
+        push_joins(alloc, output, text, tokens, at, joined)?;
+    }
+    push_notes(alloc, output, text, tokens, message)
 }
 
 fn slice_of<'a>(tokens: Option<&'a Tokens<'a>>) -> &'a [Token<'a>] {
@@ -87,8 +109,10 @@ fn push_place(
     let offset = at - line.start;
     let number = line.number;
     let column = offset.saturating_add(1);
-    let head = format!(in alloc; "{file}:{number}:{column}: {message}\n")?;
-    output.extend_from_slice(head.as_bytes())?;
+    push_made(
+        output,
+        format!(in alloc; "{file}:{number}:{column}: {message}\n"),
+    )?;
     let excerpt = Excerpt {
         number,
         bytes: line.bytes.strip_suffix(b"\r").unwrap_or(line.bytes),
@@ -112,17 +136,31 @@ fn push_notes(
     }
     if let Some(head) = enclosing_macro(&message) {
         let name = Found(Some(head));
-        let line = format!(in alloc; "in the body of the macro {name}\n")?;
-        output.extend_from_slice(line.as_bytes())?;
+        push_made(
+            output,
+            format!(in alloc; "in the body of the macro {name}\n"),
+        )?;
         push_call(alloc, output, text, tokens, head.text)?;
     }
-    if let Some(head) = defined_macro(&message, tokens) {
-        let number = TextLine::of(text, head.at.min(text.len())).number;
-        let name = Found(Some(head));
-        let line = format!(in alloc; "the macro {name} is defined on line {number}\n")?;
-        output.extend_from_slice(line.as_bytes())?;
+    match defined_macro(&message, tokens) {
+        Some(head) => push_definition(alloc, output, text, head),
+        None => Ok(()),
     }
-    Ok(())
+}
+
+/// The line that says on which line the macro is defined that has this name in its head.
+fn push_definition(
+    alloc: Global,
+    output: &mut Vec<u8>,
+    text: &[u8],
+    head: Token<'_>,
+) -> Result<(), AllocError> {
+    let number = TextLine::of(text, head.at.min(text.len())).number;
+    let name = Found(Some(head));
+    push_made(
+        output,
+        format!(in alloc; "the macro {name} is defined on line {number}\n"),
+    )
 }
 
 /// The line that says at which line and column the macro is called from whose body the fault comes, or else on which
@@ -142,8 +180,7 @@ fn push_call(
     let line = TextLine::of(text, at);
     let number = line.number;
     let column = (at - line.start).saturating_add(1);
-    let line = format!(in alloc; "called at {number}:{column}\n")?;
-    output.extend_from_slice(line.as_bytes())
+    push_made(output, format!(in alloc; "called at {number}:{column}\n"))
 }
 
 /// The line that says which bracket isn't closed.
@@ -157,8 +194,10 @@ fn push_bracket(
     let line = TextLine::of(text, at);
     let number = line.number;
     let column = (at - line.start).saturating_add(1);
-    let line = format!(in alloc; "the bracket opened at {number}:{column} isn't closed\n")?;
-    output.extend_from_slice(line.as_bytes())
+    push_made(
+        output,
+        format!(in alloc; "the bracket opened at {number}:{column} isn't closed\n"),
+    )
 }
 
 /// The bracket that isn't closed where a section ends too early, or where the arguments of a call don't end.

@@ -1,5 +1,6 @@
 //! Names and numbers that `~` has joined: the whole text of a refused one, and the `~` that joined it.
 
+use crate::output::push_made;
 use crate::sections::{cut, expanded};
 use rbg_game::{GameError, LoadError};
 use rbg_macro::{Section, SectionKind, Source};
@@ -159,8 +160,7 @@ fn push_join(
     let line = TextLine::of(text, at);
     let number = line.number;
     let column = (at - line.start).saturating_add(1);
-    let place = format!(in alloc; "{word} {number}:{column}")?;
-    output.extend_from_slice(place.as_bytes())
+    push_made(output, format!(in alloc; "{word} {number}:{column}"))
 }
 
 /// Whether this text isn't at an offset where a space stands in place of a `~`, which stands again afterwards.
@@ -185,15 +185,32 @@ fn put_byte(text: &mut Vec<u8>, at: usize, new: u8) {
 
 /// Whether a text can be expanded, and this one isn't at an offset of it.
 fn is_other_at(alloc: Global, text: &[u8], at: usize, joined: &[u8]) -> Result<bool, AllocError> {
-    let Some(tokens) = cut(alloc, text)? else {
-        return Ok(false);
-    };
-    match expanded(alloc, &tokens)? {
-        Some(source) => Ok(
-            !texts_at(alloc, &source, at)?
-                .iter()
-                .any(|text| *text == joined),
-        ),
+    match cut(alloc, text)? {
+        Some(tokens) => is_other_among(alloc, &tokens, at, joined),
         None => Ok(false),
     }
+}
+
+/// Whether the tokens of a text can be expanded, and this text isn't at an offset of them.
+fn is_other_among(
+    alloc: Global,
+    tokens: &Tokens<'_>,
+    at: usize,
+    joined: &[u8],
+) -> Result<bool, AllocError> {
+    match expanded(alloc, tokens)? {
+        Some(source) => is_other_in(alloc, &source, at, joined),
+        None => Ok(false),
+    }
+}
+
+/// Whether this text isn't at an offset of the expanded sections.
+fn is_other_in(
+    alloc: Global,
+    source: &Source<'_>,
+    at: usize,
+    joined: &[u8],
+) -> Result<bool, AllocError> {
+    let texts = texts_at(alloc, source, at)?;
+    Ok(!texts.iter().any(|text| *text == joined))
 }

@@ -11,6 +11,7 @@ mod joined;
 mod listed;
 mod message;
 mod origin;
+mod output;
 mod place;
 mod sections;
 mod spot;

@@ -1,10 +1,11 @@
 //! What a game's positions and vertices are: a line for each.
 
+use crate::output::push_made;
 use crate::sections::{cut, expanded, section_tokens};
 use rbg_game::Layout;
 use rbg_macro::SectionKind;
 use rbg_passages::{actions, push_action};
-use rbg_tokens::{TextLine, Token};
+use rbg_tokens::{TextLine, Token, Tokens};
 use std::alloc::{AllocError, Global};
 
 /// Adds a line for each position of the rules: its number, the line and the column of its action, and the action.
@@ -12,11 +13,31 @@ pub fn push_positions(alloc: Global, output: &mut Vec<u8>, text: &[u8]) -> Resul
     let Some(tokens) = cut(alloc, text)? else {
         return Ok(());
     };
-    let Some(source) = expanded(alloc, &tokens)? else {
+    push_positions_of(alloc, output, text, &tokens)
+}
+
+/// Adds a line for each position of the rules in the tokens of a text.
+fn push_positions_of(
+    alloc: Global,
+    output: &mut Vec<u8>,
+    text: &[u8],
+    tokens: &Tokens<'_>,
+) -> Result<(), AllocError> {
+    let Some(source) = expanded(alloc, tokens)? else {
         return Ok(());
     };
     let rules = section_tokens(alloc, &source, SectionKind::Rules)?;
-    let actions = actions(alloc, &rules)?;
+    push_actions(alloc, output, text, &rules)
+}
+
+/// Adds a line for each action of the rules.
+fn push_actions(
+    alloc: Global,
+    output: &mut Vec<u8>,
+    text: &[u8],
+    rules: &[Token<'_>],
+) -> Result<(), AllocError> {
+    let actions = actions(alloc, rules)?;
     for (index, action) in actions.iter().enumerate() {
         push_position(alloc, output, text, index.saturating_add(1), action)?;
     }
@@ -34,8 +55,10 @@ fn push_position(
     let line = TextLine::of(text, at);
     let number = line.number;
     let column = (at - line.start).saturating_add(1);
-    let head = format!(in alloc; "position {position} {number}:{column} ")?;
-    output.extend_from_slice(head.as_bytes())?;
+    push_made(
+        output,
+        format!(in alloc; "position {position} {number}:{column} "),
+    )?;
     push_action(output, action)?;
     output.push(b'\n')?;
     Ok(())
@@ -58,8 +81,10 @@ fn push_cells(alloc: Global, output: &mut Vec<u8>, rows: &[usize]) -> Result<(),
     let mut vertex = 0usize;
     for (row, length) in rows.iter().enumerate() {
         for cell in 0..*length {
-            let line = format!(in alloc; "vertex {vertex} row {row} cell {cell}\n")?;
-            output.extend_from_slice(line.as_bytes())?;
+            push_made(
+                output,
+                format!(in alloc; "vertex {vertex} row {row} cell {cell}\n"),
+            )?;
             vertex = vertex.saturating_add(1);
         }
     }
@@ -68,8 +93,7 @@ fn push_cells(alloc: Global, output: &mut Vec<u8>, rows: &[usize]) -> Result<(),
 
 fn push_names(alloc: Global, output: &mut Vec<u8>, names: &[Vec<u8>]) -> Result<(), AllocError> {
     for (vertex, name) in names.iter().enumerate() {
-        let head = format!(in alloc; "vertex {vertex} ")?;
-        output.extend_from_slice(head.as_bytes())?;
+        push_made(output, format!(in alloc; "vertex {vertex} "))?;
         output.extend_from_slice(name)?;
         output.push(b'\n')?;
     }

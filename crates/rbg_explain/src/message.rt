@@ -15,7 +15,7 @@ use std::fmt::{self, Formatter};
 use std::str;
 
 /// A refusal in words. Its text is one line without a line feed.
-#[derive(Clone, Copy, Debug)]
+#[derive(Clone, Copy)]
 pub struct Message<'a> {
     pub error: LoadError,
     /// What stands at the refusal's place.
@@ -50,7 +50,7 @@ impl<'a> Message<'a> {
 }
 
 /// A token's text between back quotes; of a long one the beginning.
-#[derive(Clone, Copy, Debug)]
+#[derive(Clone, Copy)]
 pub struct Found<'a>(pub Option<Token<'a>>);
 
 /// How many bytes of a token are written.
@@ -74,15 +74,14 @@ fn write_text<W: fmt::Write>(
     error: &TextError,
     has_mark: bool,
 ) -> fmt::Result {
-    match error {
-        TextError::TooLong => write!(f, "the text has more than {MAX_TEXT} bytes"),
-        TextError::ZeroByte => write!(f, "expected no zero byte in the text"),
-        TextError::BadByte { .. } if has_mark => {
-            write!(f, "expected a token, found a byte order mark")
-        }
-        TextError::BadByte { .. } => write!(f, "expected a token, found a byte that begins none"),
-        TextError::Memory => write!(f, "out of memory"),
-    }
+    let words = match error {
+        TextError::TooLong => return write!(f, "the text has more than {MAX_TEXT} bytes"),
+        TextError::ZeroByte => "expected no zero byte in the text",
+        TextError::BadByte { .. } if has_mark => "expected a token, found a byte order mark",
+        TextError::BadByte { .. } => "expected a token, found a byte that begins none",
+        TextError::Memory => "out of memory",
+    };
+    f.write_str(words)
 }
 
 fn write_macro<W: fmt::Write>(
@@ -157,28 +156,26 @@ fn write_head<W: fmt::Write>(
     found: &Found<'_>,
 ) -> fmt::Result {
     let Some(spot) = spot else {
-        return write!(f, "expected a definition");
+        return f.write_str("expected a definition");
     };
-    match spot.definition() {
-        _ if spot.starts_definition() => {
-            write!(
-                f,
-                "expected a whole head of a definition, found the end of the text"
-            )
-        }
-        [] => write!(f, "expected `#`, found {found}"),
-        [_] => write!(
-            f,
-            "expected the name of a section or a macro, found {found}"
-        ),
-        [_, _] => write!(f, "expected `=` or a macro's parameters, found {found}"),
+    if spot.starts_definition() {
+        return f.write_str("expected a whole head of a definition, found the end of the text");
+    }
+    let expected = head_words(spot.definition());
+    write!(f, "expected {expected}, found {found}")
+}
+
+/// What fits behind the first tokens of a definition's head.
+fn head_words(head: &[Token<'_>]) -> &'static str {
+    match head {
+        [] => "`#`",
+        [_] => "the name of a section or a macro",
+        [_, _] => "`=` or a macro's parameters",
         [.., last] if last.is(Symbol::OpenParenthesis) || last.is(Symbol::Semicolon) => {
-            write!(f, "expected the name of one more parameter, found {found}")
+            "the name of one more parameter"
         }
-        [.., last] if last.is(Symbol::CloseParenthesis) => {
-            write!(f, "expected `=`, found {found}")
-        }
-        _ => write!(f, "expected `;` or `)`, found {found}"),
+        [.., last] if last.is(Symbol::CloseParenthesis) => "`=`",
+        _ => "`;` or `)`",
     }
 }
 
@@ -301,18 +298,23 @@ fn write_board<W: fmt::Write>(
     error: &BoardError,
     found: &Found<'_>,
 ) -> fmt::Result {
-    match error {
-        BoardError::NoCell => write!(f, "expected a cell, found a board or a row without one"),
+    let (expected, again) = match error {
+        BoardError::SameDirection => ("another direction", " again"),
+        BoardError::UnknownVertex => ("the name of a vertex", ""),
+        BoardError::SameVertex => ("a new name of a vertex", " again"),
         BoardError::RowLength { row } => {
-            write!(
+            return write!(
                 f,
                 "row {row}, counted from 0, has a length that doesn't fit"
-            )
+            );
         }
-        BoardError::TooManyVertices => write!(f, "expected at most {MAX_VERTICES} vertices"),
-        BoardError::SameDirection => write!(f, "expected another direction, found {found} again"),
-        BoardError::UnknownVertex => write!(f, "expected the name of a vertex, found {found}"),
-        BoardError::SameVertex => write!(f, "expected a new name of a vertex, found {found} again"),
-        BoardError::Memory => write!(f, "out of memory"),
-    }
+        BoardError::TooManyVertices => {
+            return write!(f, "expected at most {MAX_VERTICES} vertices");
+        }
+        BoardError::NoCell => {
+            return f.write_str("expected a cell, found a board or a row without one");
+        }
+        BoardError::Memory => return f.write_str("out of memory"),
+    };
+    write!(f, "expected {expected}, found {found}{again}")
 }

@@ -3,14 +3,14 @@
 use crate::calls::calls_of;
 use crate::exact::find_place;
 use rbg_game::load_with_layout;
-use rbg_tokens::{Symbol, Token, tokens};
+use rbg_tokens::{Symbol, Token, Tokens, tokens};
 use std::alloc::{AllocError, Global};
 
 /// The most calls that are tried.
 const MOST_TRIED: usize = 100;
 
 /// A text in which one call of a macro calls a copy of it instead.
-#[derive(Debug, Drop)]
+#[derive(Drop)]
 struct Variant {
     bytes: Vec<u8>,
     /// Where the copy begins.
@@ -94,9 +94,18 @@ fn fault_of(alloc: Global, text: &[u8]) -> Result<Option<usize>, AllocError> {
     let Ok(tokens) = tokens(alloc, text) else {
         return Ok(None);
     };
-    match load_with_layout(alloc, &tokens) {
-        Ok(_) => Ok(None),
-        Err(error) if error.is_memory() => Err(AllocError),
-        Err(error) => find_place(alloc, &error, text, Some(&tokens)),
+    fault_among(alloc, text, &tokens)
+}
+
+/// The offset of the fault of a text that was cut into these tokens, if it has one.
+fn fault_among(
+    alloc: Global,
+    text: &[u8],
+    tokens: &Tokens<'_>,
+) -> Result<Option<usize>, AllocError> {
+    match load_with_layout(alloc, tokens).err() {
+        Some(error) if error.is_memory() => Err(AllocError),
+        Some(error) => find_place(alloc, &error, text, Some(tokens)),
+        None => Ok(None),
     }
 }

@@ -7,7 +7,7 @@ use rbg_tokens::{Symbol, Token, TokenKind};
 const SECTIONS: [&str; 5] = ["players", "pieces", "variables", "board", "rules"];
 
 /// A token of a text, and the text's tokens.
-#[derive(Clone, Copy, Debug)]
+#[derive(Clone, Copy)]
 pub struct Spot<'a> {
     pub token: Token<'a>,
     before: &'a [Token<'a>],
@@ -15,7 +15,7 @@ pub struct Spot<'a> {
 }
 
 /// What a name must be where it stands.
-#[derive(Clone, Copy, Debug, PartialEq, Eq)]
+#[derive(Clone, Copy)]
 pub enum Needed {
     Direction,
     Piece,
@@ -194,7 +194,7 @@ impl<'a> Spot<'a> {
                 if closed > 0 {
                     closed -= 1;
                 } else if !token.is(Symbol::OpenParenthesis) || self.follows_macro(tokens, index) {
-                    return &tokens[index..];
+                    return tokens.get(index..).unwrap_or(&[]);
                 }
             }
         }

@@ -2,6 +2,7 @@
 
 use crate::boards::nth_direction;
 use crate::calls::called_lines;
+use crate::output::push_made;
 use crate::sections::{cut, expanded, nth_name, section_tokens};
 use crate::spot::is_section;
 use rbg_game::Game;
@@ -40,7 +41,7 @@ fn push_lines(
 }
 
 /// A file and its text.
-#[derive(Clone, Copy, Debug)]
+#[derive(Clone, Copy)]
 struct Place<'a> {
     file: &'a str,
     text: &'a [u8],
@@ -61,8 +62,10 @@ fn push_line(
     let file = place.file;
     let [before, behind] = words;
     let name = str::from_utf8(token.text).unwrap_or("");
-    let line = format!(in alloc; "{file}:{number}:{column}: {before} `{name}`{behind}\n")?;
-    output.extend_from_slice(line.as_bytes())
+    push_made(
+        output,
+        format!(in alloc; "{file}:{number}:{column}: {before} `{name}`{behind}\n"),
+    )
 }
 
 fn push_warnings(
