@@ -5,7 +5,7 @@ ghost use Rattle.rbg_same.specs.internal.Marks.{kind_code, mark, relation_code};
 use rbg_base::{Memory, Relation};
 
 /// What a mark stands for. Those of arithmetic and of rules stand behind the marks of their parts.
-#[derive(Clone, Copy, Debug)]
+#[derive(Clone, Copy)]
 pub enum Kind {
     Number,
     Variable,
