@@ -15,7 +15,7 @@ const MAX_READS: u32 = 20_000_000;
 const CHUNK: usize = 65_536;
 
 /// What a reading gives.
-#[derive(Debug, Drop)]
+#[derive(Drop)]
 pub enum Input {
     /// All the bytes that there are.
     Whole(Vec<u8>),

@@ -11,7 +11,7 @@ use std::collections::BTreeMap;
 use std::io::{self, ErrorKind};
 
 /// Files in memory, by their names. A file that was created is among them once it is closed.
-#[derive(Debug, Drop)]
+#[derive(Drop)]
 pub struct MemoryFiles {
     files: BTreeMap<String, Vec<u8>>,
 }

@@ -3,7 +3,7 @@
 use std::fmt::{self, Formatter};
 
 /// What is told to whoever runs a program, beside the answer: one or more lines, without the last line feed.
-#[derive(Clone, Copy, Debug)]
+#[derive(Clone, Copy)]
 pub enum Note<'a> {
     /// Lines of what was read by this name end in CR LF.
     LineEnds { name: &'a str },

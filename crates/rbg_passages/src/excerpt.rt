@@ -11,7 +11,7 @@ const MOST_BEFORE: usize = 80;
 const MOST_AFTER: usize = 80;
 
 /// A part of a line: what stands at a place in it.
-#[derive(Clone, Copy, Debug)]
+#[derive(Clone, Copy)]
 pub struct Excerpt<'a> {
     /// The line's number.
     pub number: usize,

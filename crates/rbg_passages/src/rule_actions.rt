@@ -43,7 +43,7 @@ fn push_part<'a>(
 }
 
 /// What a token begins: an action, to which so many further tokens belong, or none.
-#[derive(Clone, Copy, Debug)]
+#[derive(Clone, Copy)]
 struct Part {
     is_action: bool,
     further: usize,
