@@ -82,7 +82,8 @@ impl Flat {
     {
         self.sets.clear();
         self.ends = false;
-        self.lead(game, &paths.leaps, state, origin, vertex);
+        // much of what comes first doesn't hold
+        self.lead(game, &paths.leaps, state, origin, vertex, true);
     }
 
     /// Goes on up to the next vertex that is to be asked about a pattern, and returns it with the pattern's position;
@@ -222,6 +223,7 @@ impl Flat {
         state: &SemiState,
         origin: Origin,
         vertex: Vertex,
+        narrows: bool,
     )
         requires lawful { IsGame game.now }
         requires fits { IsStateOf game.now state.now.state }
@@ -237,7 +239,7 @@ impl Flat {
         ensures on { AreOn game.now self.old.sets → AreOn game.now self.new.sets }
     {
         let (targets, ends) = leaps.leads(origin, vertex);
-        meet_targets(&mut self.sets, game, leaps, state, targets);
+        meet_targets(&mut self.sets, game, leaps, state, targets, narrows);
         self.ends |= ends;
     }
 
@@ -275,7 +277,7 @@ impl Flat {
     {
         // an action stands there
         let _action = game.action(position);
-        self.lead(game, leaps, state, Origin::After(position), vertex);
+        self.lead(game, leaps, state, Origin::After(position), vertex, false);
         self.sets
             .close_word(position, vertex as usize / 64, unit_word(vertex % 64));
     }
@@ -447,7 +449,7 @@ impl Flat {
         while rest != 0 {
             let bit = lowest(rest);
             let vertex = column as Vertex * 64 + bit;
-            self.lead(game, leaps, state, Origin::After(position), vertex);
+            self.lead(game, leaps, state, Origin::After(position), vertex, false);
             rest = without(rest, bit);
         }
     }

@@ -41,10 +41,34 @@ pub(crate) fn is_modifier(game: &Game, position: Position) -> bool
     modifies(game.action(position))
 }
 
-/// The bits of a word at whose vertices a position is to be looked at, where it is met: a pattern at each, a modifier at
-/// none, and another action where it may hold.
+/// The bits of a word at whose vertices what is no modifier is to be looked at: a pattern at each, and another action
+/// where it may hold.
 #[inline(always)]
-fn to_try(game: &Game, state: &SemiState, position: Position, column: usize, word: u64) -> u64
+fn may_lead(game: &Game, state: &SemiState, position: Position, column: usize, word: u64) -> u64
+    requires lawful { IsGame game.now }
+    requires fits { IsStateOf game.now state.now.state }
+    requires position { IsPositionIn game.now position }
+    ensures { (v : ℕ) → IsInWord position column word v position
+        → ToTryOn game.now state.now.state v position → bit_at result (v % 64) ≡ 1 }
+{
+    if game.is_pattern(position) {
+        word
+    } else {
+        may_hold(game, state, position, column, word)
+    }
+}
+
+/// The bits of a word at whose vertices a position is to be looked at, where it is met: a modifier at none, and another
+/// action at each, or where it may hold if `narrows` says so.
+#[inline(always)]
+fn to_try(
+    game: &Game,
+    state: &SemiState,
+    position: Position,
+    column: usize,
+    word: u64,
+    narrows: bool,
+) -> u64
     requires lawful { IsGame game.now }
     requires fits { IsStateOf game.now state.now.state }
     requires position { IsPositionIn game.now position }
@@ -53,15 +77,15 @@ fn to_try(game: &Game, state: &SemiState, position: Position, column: usize, wor
 {
     if is_modifier(game, position) {
         0
-    } else if game.is_pattern(position) {
-        word
+    } else if narrows {
+        may_lead(game, state, position, column, word)
     } else {
-        may_hold(game, state, position, column, word)
+        word
     }
 }
 
-/// Meets the vertices of a word at a position. What is new of them is to be looked at, unless it is seen that it doesn't
-/// hold.
+/// Meets the vertices of a word at a position. What is new of them is to be looked at, but not where a modifier stands,
+/// nor, if `narrows` says so, where it is seen that it doesn't hold.
 #[inline(always)]
 fn meet_at(
     sets: &mut Sets,
@@ -70,6 +94,7 @@ fn meet_at(
     position: Position,
     column: usize,
     word: u64,
+    narrows: bool,
 )
     requires lawful { IsGame game.now }
     requires fits { IsStateOf game.now state.now.state }
@@ -82,7 +107,7 @@ fn meet_at(
     if sets.knows(position, column, word) {
         return;
     }
-    let opens = to_try(game, state, position, column, word);
+    let opens = to_try(game, state, position, column, word, narrows);
     sets.meet_word(position, column, word, opens);
 }
 
@@ -95,6 +120,7 @@ fn meet_some(
     position: Position,
     column: usize,
     word: u64,
+    narrows: bool,
 )
     requires lawful { IsGame game.now }
     requires fits { IsStateOf game.now state.now.state }
@@ -105,13 +131,20 @@ fn meet_some(
         (ToTryOn game.now state.now.state) }
 {
     if word != 0 {
-        meet_at(sets, game, state, position, column, word);
+        meet_at(sets, game, state, position, column, word, narrows);
     }
 }
 
 /// Meets the vertices of a row at a position.
 #[inline(always)]
-fn meet_row(sets: &mut Sets, game: &Game, state: &SemiState, position: Position, row: &[u64])
+fn meet_row(
+    sets: &mut Sets,
+    game: &Game,
+    state: &SemiState,
+    position: Position,
+    row: &[u64],
+    narrows: bool,
+)
     requires lawful { IsGame game.now }
     requires fits { IsStateOf game.now state.now.state }
     requires sized { AreSizedFor game.now sets.old }
@@ -122,17 +155,24 @@ fn meet_row(sets: &mut Sets, game: &Game, state: &SemiState, position: Position,
 {
     // most boards have one word for each position
     if row.len() == 1 {
-        meet_at(sets, game, state, position, 0, row[0]);
+        meet_at(sets, game, state, position, 0, row[0], narrows);
         return;
     }
     for column in 0..row.len() {
-        meet_some(sets, game, state, position, column, row[column]);
+        meet_some(sets, game, state, position, column, row[column], narrows);
     }
 }
 
 /// Meets the row of a target.
 #[inline(always)]
-fn meet_target(sets: &mut Sets, game: &Game, leaps: &Leaps, state: &SemiState, target: &Target)
+fn meet_target(
+    sets: &mut Sets,
+    game: &Game,
+    leaps: &Leaps,
+    state: &SemiState,
+    target: &Target,
+    narrows: bool,
+)
     requires lawful { IsGame game.now }
     requires fits { IsStateOf game.now state.now.state }
     requires sized { AreSizedFor game.now sets.old }
@@ -140,7 +180,14 @@ fn meet_target(sets: &mut Sets, game: &Game, leaps: &Leaps, state: &SemiState, t
     ensures { Meets sets.old sets.new (IsInRow target.now.position (row_of leaps.now target.now))
         (ToTryOn game.now state.now.state) }
 {
-    meet_row(sets, game, state, target.position, leaps.row_of(target));
+    meet_row(
+        sets,
+        game,
+        state,
+        target.position,
+        leaps.row_of(target),
+        narrows,
+    );
 }
 
 /// Meets the rows of targets.
@@ -151,6 +198,7 @@ pub(crate) fn meet_targets(
     leaps: &Leaps,
     state: &SemiState,
     targets: &[Target],
+    narrows: bool,
 )
     requires lawful { IsGame game.now }
     requires fits { IsStateOf game.now state.now.state }
@@ -160,7 +208,7 @@ pub(crate) fn meet_targets(
         (ToTryOn game.now state.now.state) }
 {
     for target in targets {
-        meet_target(sets, game, leaps, state, target);
+        meet_target(sets, game, leaps, state, target, narrows);
     }
 }
 
@@ -183,6 +231,6 @@ pub(crate) fn meet_bits(
         (ToTryOn game.now state.now.state) }
 {
     for target in targets {
-        meet_at(sets, game, state, target.position, column, word);
+        meet_at(sets, game, state, target.position, column, word, false);
     }
 }
