@@ -1,15 +1,13 @@
 -- Where modifiers stand.
-use Rattle.std.proofs.Common.{◌≡◌, ℕ, true, false, inl, inr, refl, sym, ap, ◌∙◌}
+use Rattle.std.proofs.Common.{◌≡◌, ℕ, Bool, true, false, inl, inr, refl, sym, ap, ◌∙◌}
 use Rattle.std.specs.Prelude.{IsTrue, ◌↔◌}
+use mathlib.Core.Bool.{not}
 use Rattle.rbg_rules.specs.Expression.{AbstractAction, shift, off, switch, positive, negative, Expression}
 use Rattle.rbg_rules.specs.Positions.{HasAction, IsNumbered, IsModifierAt, IsPatternAt, is_modifier}
-use Rattle.rbg_rules.specs.State.{AbstractGame, AbstractState}
 use Rattle.rbg_rules.specs.Table.{Stands}
 use Rattle.rbg_rules.specs.declared.rule.Action.{Action}
 use Rattle.rbg_rules.specs.declared.rule.Action.TheVariants.{Shift, On, Off, Assign, Compare, Switch, Positive, Negative}
 use Rattle.rbg_rules.proofs.PositionLemmas.{one_stands}
-use Rattle.rbg_flat.specs.Chains.{Holds}
-use Rattle.rbg_flat.specs.internal.Leading.{ToTry}
 use Rattle.rbg_flat.specs.internal.Shown.{shows_modifier}
 
 true_not_false : true ≡ false → ⊥
@@ -35,19 +33,18 @@ stands_modifier rules numbered p (Switch n) stands = modifier_stands rules p (sw
 stands_modifier rules numbered p Positive (x, stands) = other_stands rules numbered p (positive x) stands refl
 stands_modifier rules numbered p Negative (x, stands) = other_stands rules numbered p (negative x) stands refl
 
+-- What is told of one thing is told of the other.
+pub opens_quiet : (b : Bool) (A : Type 0) → IsTrue b ↔ A → not b ≡ true → ¬ A
+opens_quiet true A is opens there = cc
+opens_quiet false A is opens there = true_not_false (sym (is.1 there))
+
+pub quiet_opens : (b : Bool) (A : Type 0) → IsTrue b ↔ A → ¬ A → not b ≡ true
+quiet_opens true A is quiet = absurd (quiet (is.0 refl))
+quiet_opens false A is quiet = refl
+
 -- A pattern is no modifier.
 pub pattern_opens : (rules : Expression) → IsNumbered rules → (p : ℕ) → IsPatternAt rules p → ¬ IsModifierAt rules p
 pattern_opens rules numbered p pattern m = elim pattern.stands [
   | inl stands ↦ true_not_false (sym m.modifies ∙ ap is_modifier (one_stands rules numbered p m.action (positive pattern.inside_it) m.stands stands))
   | inr stands ↦ true_not_false (sym m.modifies ∙ ap is_modifier (one_stands rules numbered p m.action (negative pattern.inside_it) m.stands stands))
 ]
-
--- A modifier is nowhere looked at.
-pub modifier_untried : (game : AbstractGame) → IsNumbered game.rules → (s : AbstractState) (v p : ℕ) → IsModifierAt game.rules p → ¬ ToTry game s v p
-modifier_untried game numbered s v p modifies (inl pattern) = pattern_opens game.rules numbered p pattern modifies
-modifier_untried game numbered s v p modifies (inr holds) = holds.quiet modifies
-
--- What is looked at and is no pattern holds.
-pub plain_holds : (game : AbstractGame) (s : AbstractState) (v p : ℕ) → ¬ IsPatternAt game.rules p → ToTry game s v p → Holds game s v p
-plain_holds game s v p plain (inl pattern) = absurd (plain pattern)
-plain_holds game s v p plain (inr holds) = holds

@@ -1,5 +1,5 @@
 -- How sets change where a word is met, and where bits are closed.
-use Rattle.std.proofs.Common.{◌≡◌, ℕ, ◌+◌, ◌-◌, ◌*◌, ◌/◌, ◌%◌, ◌<◌, ◌≤◌, ◌^◌, ◌⊎◌, inl, inr, List, [], ◌∷◌, ◌++◌, length, get_or, refl, sym, ap, subst, ◌∙◌, slice_set, arith}
+use Rattle.std.proofs.Common.{◌≡◌, ℕ, ◌+◌, ◌-◌, ◌*◌, ◌/◌, ◌%◌, ◌<◌, ◌≤◌, ◌^◌, ◌⊎◌, inl, inr, List, [], ◌∷◌, ◌++◌, Bool, true, false, length, get_or, refl, sym, ap, subst, ◌∙◌, slice_set, arith}
 use Rattle.std.specs.Prelude.{bit_or, bit_and, Contains}
 use Rattle.std.specs.Int.{bit_at, bit_not, w64}
 use Rattle.std.proofs.lemmas.Nat.Bits.{bit_at-zero}
@@ -35,16 +35,8 @@ at_least_one n some = elim (cases_lt n 1) [
   | inr one ↦ one
 ]
 
--- Where nothing of a word is new, all of it was met.
-pub known_word : (columns : ℕ) (marks : List ℕ) (place q c x n : ℕ) → place ≡ q * columns + c → c < columns → place < length marks → ((b : ℕ) → b < 64 → bit_at x b ≡ 1 → (bit_at (get_or marks place 0) b ≡ 1) ⊎ (bit_at n b ≡ 1)) → n ≡ 0 → (v p : ℕ) → IsInWord q c x v p → HasBitAt columns marks v p
-known_word columns marks place q c x n is below in_marks all none v p there = by_case (known_or_new columns marks place q c is below in_marks x n v p all there)
-  where
-    no_bit : (b : ℕ) → bit_at n b ≡ 1 → ⊥
-    no_bit b set = let zero_bit : bit_at n b ≡ 0 = ap (λ (k : ℕ). bit_at k b) none ∙ bit_at-zero b in omega (arith, set, zero_bit)
-
-    by_case : HasBitAt columns marks v p ⊎ IsInWord q c n v p → HasBitAt columns marks v p
-    by_case (inl was) = was
-    by_case (inr new) = absurd (no_bit (v % 64) new.set)
+false_not_true : false ≡ true → ⊥
+false_not_true e = cc
 
 -- A word x of the row of position q is met in column c; n is what is new of it.
 module _
@@ -63,18 +55,28 @@ module _
     abbrev marks_then : List ℕ
     marks_then = slice_set marks place (bit_or (get_or marks place 0) n)
 
+    abbrev pending_then : List ℕ
+    pending_then = slice_set pending place (bit_or (get_or pending place 0) n)
+
     -- Nothing of it is new.
-    pub meets_nothing : n ≡ 0 → (opens : ℕ) → MeetsWord old old q c x opens
+    pub meets_nothing : n ≡ 0 → (opens : Bool) → MeetsWord old old q c x opens
     meets_nothing none opens = record {
       size = refl;
       columns = refl;
       kept = λ v p has. has;
-      met = λ v p there. known_word columns marks place q c x n is below in_marks all none v p there;
+      met = λ v p there. known v p (known_or_new columns marks place q c is below in_marks x n v p all there);
       only = λ v p has. inl has;
       still = λ v p has. has;
       no_other = λ v p has. inl has;
       lighter = omega arith;
     }
+      where
+        no_bit : (b : ℕ) → bit_at n b ≡ 1 → ⊥
+        no_bit b set = let zero_bit : bit_at n b ≡ 0 = ap (λ (k : ℕ). bit_at k b) none ∙ bit_at-zero b in omega (arith, set, zero_bit)
+
+        known : (v p : ℕ) → HasBitAt columns marks v p ⊎ IsInWord q c n v p → HasBitAt columns marks v p
+        known v p (inl was) = was
+        known v p (inr new) = absurd (no_bit (v % 64) new.set)
 
     met_then : (v p : ℕ) → IsInWord q c x v p → HasBitAt columns marks_then v p
     met_then v p there = by_case (known_or_new columns marks place q c is below in_marks x n v p all there)
@@ -89,101 +91,82 @@ module _
         let put = sum_by-set (λ (m : ℕ). 2 ^ 64 - m) marks place (bit_or (get_or marks place 0) n) 0 in_marks in
         omega (arith, put, sum, fits)
 
-    touch_then : (touched' : List ℕ) → AreSetsByPlace old → Added touched touched' place → (v p : ℕ) → HasBitAt columns marks_then v p → Contains touched' (p * columns + v / 64)
-    touch_then touched' are touches v p has = by_case (added_to columns marks place q c is below in_marks n v p has)
+    pending_more : sum_by (λ (m : ℕ). m) pending_then ≤ sum_by (λ (m : ℕ). m) pending + n
+    pending_more =
+        let put = sum_by-set (λ (m : ℕ). m) pending place (bit_or (get_or pending place 0) n) 0 in_pending in
+        let most = or_at_most (get_or pending place 0) n in
+        omega (arith, put, most)
+
+    -- What is new is opened.
+    pub meets_open : (waiting' touched' : List ℕ) → ((b : ℕ) → bit_at n b ≡ 1 → bit_at (get_or marks place 0) b ≡ 0) → ¬ (n ≡ 0) → bit_or (get_or marks place 0) n ≡ get_or marks place 0 + n → get_or marks place 0 + n < 2 ^ 64 → Added waiting waiting' place → MeetsWord old (sets_of size columns marks_then pending_then waiting' touched') q c x true
+    meets_open waiting' touched' fresh some sum fits adds = record {
+      size = refl;
+      columns = refl;
+      kept = added_old columns marks place q c is below in_marks n;
+      met = met_then;
+      only = λ v p has. by_marks v p (added_to columns marks place q c is below in_marks n v p has);
+      still = added_old columns pending place q c is below in_pending n;
+      no_other = λ v p has. by_pending v p (added_to columns pending place q c is below in_pending n v p has);
+      lighter =
+          let less = marks_less sum fits in
+          let more = pending_more in
+          let one = one_longer waiting waiting' place adds in
+          let least = at_least_one n some in
+          omega (arith, less, more, one, least);
+    }
       where
-        by_case : HasBitAt columns marks v p ⊎ IsInWord q c n v p → Contains touched' (p * columns + v / 64)
-        by_case (inl was) = still_listed touched touched' place (p * columns + v / 64) touches (are.touches v p was)
-        by_case (inr new) = subst (λ (k : ℕ). Contains touched' k) (sym (of_word columns marks place q c is below in_marks n v p new)) (now_listed touched touched' place touches)
+        by_marks : (v p : ℕ) → HasBitAt columns marks v p ⊎ IsInWord q c n v p → HasBitAt columns marks v p ⊎ (IsInWord q c x v p × (true ≡ true → HasBitAt columns pending_then v p))
+        by_marks v p (inl was) = inl was
+        by_marks v p (inr new) = inr (new_in_word q c x n v p only new, λ _. added_new columns pending place q c is below in_pending n v p new)
 
-    -- The bits m of what is new are opened: those that are in o.
-    module _
-        (o m : ℕ)
-        (of_new : (b : ℕ) → bit_at m b ≡ 1 → bit_at n b ≡ 1)
-        (opened : (b : ℕ) → bit_at n b ≡ 1 → bit_at o b ≡ 1 → bit_at m b ≡ 1)
+        not_both : {k : ℕ} → k ≡ 0 → k ≡ 1 → ⊥
+        not_both none one = omega (arith, none, one)
+
+        unknown : (v p : ℕ) → IsInWord q c n v p → ¬ HasBitAt columns marks v p
+        unknown v p new has = not_both (fresh (v % 64) new.set) (sym (ap (λ (k : ℕ). bit_at (get_or marks k 0) (v % 64)) (of_word columns marks place q c is below in_marks n v p new)) ∙ has.set)
+
+        by_pending : (v p : ℕ) → HasBitAt columns pending v p ⊎ IsInWord q c n v p → HasBitAt columns pending v p ⊎ (IsInWord q c x v p × (true ≡ true) × (¬ HasBitAt columns marks v p))
+        by_pending v p (inl was) = inl was
+        by_pending v p (inr new) = inr (new_in_word q c x n v p only new, refl, unknown v p new)
+
+    -- What is new isn't opened.
+    pub meets_closed : (touched' : List ℕ) → bit_or (get_or marks place 0) n ≡ get_or marks place 0 + n → get_or marks place 0 + n < 2 ^ 64 → MeetsWord old (sets_of size columns marks_then pending waiting touched') q c x false
+    meets_closed touched' sum fits = record {
+      size = refl;
+      columns = refl;
+      kept = added_old columns marks place q c is below in_marks n;
+      met = met_then;
+      only = λ v p has. by_marks v p (added_to columns marks place q c is below in_marks n v p has);
+      still = λ v p has. has;
+      no_other = λ v p has. inl has;
+      lighter = let less = marks_less sum fits in omega (arith, less);
+    }
       where
-        abbrev pending_then : List ℕ
-        pending_then = slice_set pending place (bit_or (get_or pending place 0) m)
+        by_marks : (v p : ℕ) → HasBitAt columns marks v p ⊎ IsInWord q c n v p → HasBitAt columns marks v p ⊎ (IsInWord q c x v p × (false ≡ true → HasBitAt columns pending v p))
+        by_marks v p (inl was) = inl was
+        by_marks v p (inr new) = inr (new_in_word q c x n v p only new, λ e. absurd (false_not_true e))
 
-        pending_more : sum_by (λ (k : ℕ). k) pending_then ≤ sum_by (λ (k : ℕ). k) pending + m
-        pending_more =
-            let put = sum_by-set (λ (k : ℕ). k) pending place (bit_or (get_or pending place 0) m) 0 in_pending in
-            let most = or_at_most (get_or pending place 0) m in
-            omega (arith, put, most)
+    -- The lists still name the places of all words that have bits.
+    pub sets_open : AreSetsByPlace old → (waiting' touched' : List ℕ) → Added waiting waiting' place → Added touched touched' place → AreSetsByPlace (sets_of size columns marks_then pending_then waiting' touched')
+    sets_open are waiting' touched' waits touches = record {
+      marks = length-set marks place (bit_or (get_or marks place 0) n) ∙ are.marks;
+      pendings = length-set pending place (bit_or (get_or pending place 0) n) ∙ are.pendings;
+      under = λ v p has. by_under v p (added_to columns pending place q c is below in_pending n v p has);
+      waits = λ v p has. by_waits v p (added_to columns pending place q c is below in_pending n v p has);
+      touches = λ v p has. by_touches v p (added_to columns marks place q c is below in_marks n v p has);
+    }
+      where
+        by_under : (v p : ℕ) → HasBitAt columns pending v p ⊎ IsInWord q c n v p → HasBitAt columns marks_then v p
+        by_under v p (inl was) = added_old columns marks place q c is below in_marks n v p (are.under v p was)
+        by_under v p (inr new) = added_new columns marks place q c is below in_marks n v p new
 
-        pub meets_open : (waiting' touched' : List ℕ) → ((b : ℕ) → bit_at n b ≡ 1 → bit_at (get_or marks place 0) b ≡ 0) → m ≤ n → ¬ (n ≡ 0) → bit_or (get_or marks place 0) n ≡ get_or marks place 0 + n → get_or marks place 0 + n < 2 ^ 64 → Added waiting waiting' place → MeetsWord old (sets_of size columns marks_then pending_then waiting' touched') q c x o
-        meets_open waiting' touched' fresh few some sum fits adds = record {
-          size = refl;
-          columns = refl;
-          kept = added_old columns marks place q c is below in_marks n;
-          met = met_then;
-          only = λ v p has. by_marks v p (added_to columns marks place q c is below in_marks n v p has);
-          still = added_old columns pending place q c is below in_pending m;
-          no_other = λ v p has. by_pending v p (added_to columns pending place q c is below in_pending m v p has);
-          lighter =
-              let less = marks_less sum fits in
-              let more = pending_more in
-              let one = one_longer waiting waiting' place adds in
-              let least = at_least_one n some in
-              omega (arith, less, more, one, least, few);
-        }
-          where
-            in_open : (v p : ℕ) → IsInWord q c n v p → bit_at o (v % 64) ≡ 1 → IsInWord q c m v p
-            in_open v p new set = record { position = new.position; column = new.column; set = opened (v % 64) new.set set }
+        by_waits : (v p : ℕ) → HasBitAt columns pending v p ⊎ IsInWord q c n v p → Contains waiting' (p * columns + v / 64)
+        by_waits v p (inl was) = still_listed waiting waiting' place (p * columns + v / 64) waits (are.waits v p was)
+        by_waits v p (inr new) = subst (λ (k : ℕ). Contains waiting' k) (sym (of_word columns pending place q c is below in_pending n v p new)) (now_listed waiting waiting' place waits)
 
-            by_marks : (v p : ℕ) → HasBitAt columns marks v p ⊎ IsInWord q c n v p → HasBitAt columns marks v p ⊎ (IsInWord q c x v p × (bit_at o (v % 64) ≡ 1 → HasBitAt columns pending_then v p))
-            by_marks v p (inl was) = inl was
-            by_marks v p (inr new) = inr (new_in_word q c x n v p only new, λ set. added_new columns pending place q c is below in_pending m v p (in_open v p new set))
-
-            not_both : {k : ℕ} → k ≡ 0 → k ≡ 1 → ⊥
-            not_both none one = omega (arith, none, one)
-
-            unknown : (v p : ℕ) → IsInWord q c n v p → ¬ HasBitAt columns marks v p
-            unknown v p new has = not_both (fresh (v % 64) new.set) (sym (ap (λ (k : ℕ). bit_at (get_or marks k 0) (v % 64)) (of_word columns marks place q c is below in_marks n v p new)) ∙ has.set)
-
-            by_pending : (v p : ℕ) → HasBitAt columns pending v p ⊎ IsInWord q c m v p → HasBitAt columns pending v p ⊎ (IsInWord q c x v p × (¬ HasBitAt columns marks v p))
-            by_pending v p (inl was) = inl was
-            by_pending v p (inr new) =
-                let of_n = new_in_word q c n m v p of_new new in
-                inr (new_in_word q c x n v p only of_n, unknown v p of_n)
-
-        -- None of what is new is opened.
-        pub meets_closed : (touched' : List ℕ) → m ≡ 0 → bit_or (get_or marks place 0) n ≡ get_or marks place 0 + n → get_or marks place 0 + n < 2 ^ 64 → MeetsWord old (sets_of size columns marks_then pending waiting touched') q c x o
-        meets_closed touched' none sum fits = record {
-          size = refl;
-          columns = refl;
-          kept = added_old columns marks place q c is below in_marks n;
-          met = met_then;
-          only = λ v p has. by_marks v p (added_to columns marks place q c is below in_marks n v p has);
-          still = λ v p has. has;
-          no_other = λ v p has. inl has;
-          lighter = let less = marks_less sum fits in omega (arith, less);
-        }
-          where
-            no_bit : (b : ℕ) → bit_at m b ≡ 1 → ⊥
-            no_bit b set = let zero_bit : bit_at m b ≡ 0 = ap (λ (k : ℕ). bit_at k b) none ∙ bit_at-zero b in omega (arith, set, zero_bit)
-
-            by_marks : (v p : ℕ) → HasBitAt columns marks v p ⊎ IsInWord q c n v p → HasBitAt columns marks v p ⊎ (IsInWord q c x v p × (bit_at o (v % 64) ≡ 1 → HasBitAt columns pending v p))
-            by_marks v p (inl was) = inl was
-            by_marks v p (inr new) = inr (new_in_word q c x n v p only new, λ set. absurd (no_bit (v % 64) (opened (v % 64) new.set set)))
-
-        -- The lists still name the places of all words that have bits.
-        pub sets_open : AreSetsByPlace old → (waiting' touched' : List ℕ) → Added waiting waiting' place → Added touched touched' place → AreSetsByPlace (sets_of size columns marks_then pending_then waiting' touched')
-        sets_open are waiting' touched' waits touches = record {
-          marks = length-set marks place (bit_or (get_or marks place 0) n) ∙ are.marks;
-          pendings = length-set pending place (bit_or (get_or pending place 0) m) ∙ are.pendings;
-          under = λ v p has. by_under v p (added_to columns pending place q c is below in_pending m v p has);
-          waits = λ v p has. by_waits v p (added_to columns pending place q c is below in_pending m v p has);
-          touches = touch_then touched' are touches;
-        }
-          where
-            by_under : (v p : ℕ) → HasBitAt columns pending v p ⊎ IsInWord q c m v p → HasBitAt columns marks_then v p
-            by_under v p (inl was) = added_old columns marks place q c is below in_marks n v p (are.under v p was)
-            by_under v p (inr new) = added_new columns marks place q c is below in_marks n v p (new_in_word q c n m v p of_new new)
-
-            by_waits : (v p : ℕ) → HasBitAt columns pending v p ⊎ IsInWord q c m v p → Contains waiting' (p * columns + v / 64)
-            by_waits v p (inl was) = still_listed waiting waiting' place (p * columns + v / 64) waits (are.waits v p was)
-            by_waits v p (inr new) = subst (λ (k : ℕ). Contains waiting' k) (sym (of_word columns pending place q c is below in_pending m v p new)) (now_listed waiting waiting' place waits)
+        by_touches : (v p : ℕ) → HasBitAt columns marks v p ⊎ IsInWord q c n v p → Contains touched' (p * columns + v / 64)
+        by_touches v p (inl was) = still_listed touched touched' place (p * columns + v / 64) touches (are.touches v p was)
+        by_touches v p (inr new) = subst (λ (k : ℕ). Contains touched' k) (sym (of_word columns marks place q c is below in_marks n v p new)) (now_listed touched touched' place touches)
 
     pub sets_closed : AreSetsByPlace old → (touched' : List ℕ) → Added touched touched' place → AreSetsByPlace (sets_of size columns marks_then pending waiting touched')
     sets_closed are touched' touches = record {
@@ -191,8 +174,12 @@ module _
       pendings = are.pendings;
       under = λ v p has. added_old columns marks place q c is below in_marks n v p (are.under v p has);
       waits = are.waits;
-      touches = touch_then touched' are touches;
+      touches = λ v p has. by_touches v p (added_to columns marks place q c is below in_marks n v p has);
     }
+      where
+        by_touches : (v p : ℕ) → HasBitAt columns marks v p ⊎ IsInWord q c n v p → Contains touched' (p * columns + v / 64)
+        by_touches v p (inl was) = still_listed touched touched' place (p * columns + v / 64) touches (are.touches v p was)
+        by_touches v p (inr new) = subst (λ (k : ℕ). Contains touched' k) (sym (of_word columns marks place q c is below in_marks n v p new)) (now_listed touched touched' place touches)
 
 -- Bits x of a word of the row of position q are closed.
 module _

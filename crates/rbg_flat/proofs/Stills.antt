@@ -1,13 +1,13 @@
 -- Where no shift comes next, leaps stay where they begin.
-use Rattle.std.proofs.Common.{◌≡◌, ℕ, zero, suc, ◌||◌, ◌+◌, ◌*◌, ◌/◌, ◌%◌, ◌<◌, ◌≤◌, ◌⊎◌, inl, inr, List, [], ◌∷◌, ◌++◌, Bool, true, false, length, get_or, take, refl, sym, ap, subst, ◌∙◌, arith}
+use Rattle.std.proofs.Common.{◌≡◌, ℕ, zero, suc, ◌||◌, ◌+◌, ◌/◌, ◌%◌, ◌<◌, ◌≤◌, ◌⊎◌, inl, inr, List, [], ◌∷◌, ◌++◌, Bool, true, false, length, get_or, take, refl, sym, ap, subst, ◌∙◌, arith}
 use Rattle.std.specs.Prelude.{Contains, All, IsTrue, ◌↔◌}
 use Rattle.std.specs.Int.{bit_at}
 use Rattle.std.proofs.lemmas.List.{take_more}
 use Rattle.std.proofs.lemmas.List.Elements.{Contains-push, Contains-push_cases, Contains-append_left, Contains-get_or, All-contains}
 use Rattle.rbg_rules.specs.Expression.{AbstractAction, shift, on, off, assignment, comparison, switch, positive, negative, Expression}
 use Rattle.rbg_rules.specs.Games.{IsGame}
-use Rattle.rbg_rules.specs.Positions.{IsNumbered, HasAction, positions_of}
-use Rattle.rbg_rules.specs.State.{AbstractGame, AbstractState}
+use Rattle.rbg_rules.specs.Positions.{IsNumbered, HasAction, IsModifierAt, positions_of}
+use Rattle.rbg_rules.specs.State.{AbstractGame}
 use Rattle.rbg_rules.specs.Table.{Stands}
 use Rattle.rbg_rules.specs.Words.{after, Follows, Ends}
 use Rattle.rbg_rules.specs.declared.rule.Action.{Action}
@@ -20,7 +20,7 @@ use Rattle.rbg_leaps.specs.declared.table.Target.{Target}
 use Rattle.rbg_leaps.specs.Asked.{AreTargetsFrom}
 use Rattle.rbg_leaps.specs.Leaps.{IsShiftAt, IsLeap, EndsAcross, Leads, stay, go}
 use Rattle.rbg_flat.specs.Paths.{IsStill}
-use Rattle.rbg_flat.specs.internal.Leading.{IsAmongBits, IsOnBoard, IsPositionIn, LeadsFrom, EndsFrom, LearnsEnd, AreOn, ToTry, ToTryOn}
+use Rattle.rbg_flat.specs.internal.Leading.{IsAmongBits, IsOnBoard, IsPositionIn, LeadsFrom, EndsFrom, LearnsEnd, AreOn}
 use Rattle.rbg_flat.specs.internal.Sets.{SetsOfVertices, IsInWord, IsMarked, IsOpen, Meets}
 use Rattle.rbg_flat.specs.internal.Shown.{shows_shift}
 use Rattle.rbg_flat.proofs.Leaping.{within, leap_among}
@@ -113,11 +113,8 @@ module _ (game : AbstractGame) (numbered : IsNumbered game.rules) (q : ℕ) (sti
           };
         }
 
-    pub meets_still : (s : AbstractState) (old new : SetsOfVertices) → IsOnBoard game c word → Meets old new (IsAmongBits targets c word) (ToTryOn game s) → Meets old new (LeadsFrom game q c word) (ToTry game s)
-    meets_still s old new board meets = meets_same old new (IsAmongBits targets c word) (LeadsFrom game q c word) (ToTryOn game s) (ToTry game s) meets to_leads of_leads (λ u p among is. (on_board u among.there.column (board (u % 64) among.there.set), is))
-      where
-        on_board : (u : ℕ) → u / 64 ≡ c → c * 64 + u % 64 < length game.board.first → u < length game.board.first
-        on_board u column below = omega (arith, column, below)
+    pub meets_still : (old new : SetsOfVertices) → Meets old new (IsAmongBits targets c word) (λ p. ¬ IsModifierAt game.rules p) → Meets old new (LeadsFrom game q c word) (λ p. ¬ IsModifierAt game.rules p)
+    meets_still old new meets = meets_same old new (IsAmongBits targets c word) (LeadsFrom game q c word) (λ p. ¬ IsModifierAt game.rules p) (λ p. ¬ IsModifierAt game.rules p) meets to_leads of_leads (λ u p _ is. is) (λ u p _ is. is)
 
     pub targets_in : All (λ t. IsPositionIn game t.position) targets
     targets_in i d below =
@@ -139,17 +136,17 @@ module _ (game : AbstractGame) (numbered : IsNumbered game.rules) (q : ℕ) (sti
       by_case (inr end) = inr (record { vertex = vertex; there = there; ends = end })
 
 -- What is met so is on the board.
-pub still_on_board : (game : AbstractGame) → IsGame game → (q c word : ℕ) → IsStill game.rules q → IsOnBoard game c word → (Opens : (v p : ℕ) → Type 0) (old new : SetsOfVertices) → Meets old new (LeadsFrom game q c word) Opens → AreOn game old → AreOn game new
-still_on_board game lawful q c word still board Opens old new meets on_old = record {
+pub still_on_board : (game : AbstractGame) → IsGame game → (q c word : ℕ) → IsStill game.rules q → IsOnBoard game c word → (old new : SetsOfVertices) → Meets old new (LeadsFrom game q c word) (λ p. ¬ IsModifierAt game.rules p) → AreOn game old → AreOn game new
+still_on_board game lawful q c word still board old new meets on_old = record {
   vertex = λ v p has. vertex_of v p (meets.only v p has);
   from_one = λ v p has. first_of v p (meets.only v p has);
   there = λ v p has. last_of v p (meets.only v p has);
 }
   where
     Or : (v p : ℕ) → Type 0
-    Or v p = IsMarked old v p ⊎ (LeadsFrom game q c word v p × (Opens v p → IsOpen new v p))
+    Or v p = IsMarked old v p ⊎ (LeadsFrom game q c word v p × (¬ IsModifierAt game.rules p → IsOpen new v p))
 
-    vertex_of : (v p : ℕ) → IsMarked old v p ⊎ (LeadsFrom game q c word v p × (Opens v p → IsOpen new v p)) → v < length game.board.first
+    vertex_of : (v p : ℕ) → IsMarked old v p ⊎ (LeadsFrom game q c word v p × (¬ IsModifierAt game.rules p → IsOpen new v p)) → v < length game.board.first
     vertex_of v p (inl was) = on_old.vertex v p was
     vertex_of v p (inr (leads, _)) =
         let is = leap_stays game lawful.numbered q still leads.vertex p v leads.leap in
@@ -158,11 +155,11 @@ still_on_board game lawful q c word still board Opens old new meets on_old = rec
         let same = is.0 in
         omega (arith, below, column, same)
 
-    first_of : (v p : ℕ) → IsMarked old v p ⊎ (LeadsFrom game q c word v p × (Opens v p → IsOpen new v p)) → 0 < p
+    first_of : (v p : ℕ) → IsMarked old v p ⊎ (LeadsFrom game q c word v p × (¬ IsModifierAt game.rules p → IsOpen new v p)) → 0 < p
     first_of v p (inl was) = on_old.from_one v p was
     first_of v p (inr (leads, _)) = (within game lawful.numbered (after q) leads.leap.shifts p leads.leap.follows).0
 
-    last_of : (v p : ℕ) → IsMarked old v p ⊎ (LeadsFrom game q c word v p × (Opens v p → IsOpen new v p)) → p ≤ length (positions_of game.rules)
+    last_of : (v p : ℕ) → IsMarked old v p ⊎ (LeadsFrom game q c word v p × (¬ IsModifierAt game.rules p → IsOpen new v p)) → p ≤ length (positions_of game.rules)
     last_of v p (inl was) = on_old.there v p was
     last_of v p (inr (leads, _)) = (within game lawful.numbered (after q) leads.leap.shifts p leads.leap.follows).1
 
@@ -191,7 +188,7 @@ module _ (targets : List Target) (i : ℕ) (d : Target) (below : i < length targ
   bits_second : (v p : ℕ) → IsInWord t.position c word v p → IsAmongBits (take (i + 1) targets) c word v p
   bits_second v p bits = record { target = t; listed = subst (λ (ts : List Target). Contains ts t) (sym one_more) (Contains-push (take i targets) t); there = bits }
 
-  pub meets_bits_more : (old middle new : SetsOfVertices) (Opens : (v p : ℕ) → Type 0) → Meets old middle (IsAmongBits (take i targets) c word) Opens → Meets middle new (IsInWord t.position c word) Opens → Meets old new (IsAmongBits (take (i + 1) targets) c word) Opens
+  pub meets_bits_more : (old middle new : SetsOfVertices) (Opens : ℕ → Type 0) → Meets old middle (IsAmongBits (take i targets) c word) Opens → Meets middle new (IsInWord t.position c word) Opens → Meets old new (IsAmongBits (take (i + 1) targets) c word) Opens
   meets_bits_more old middle new Opens so_far bits =
       meets_both old middle new (IsAmongBits (take i targets) c word) (IsInWord t.position c word) (IsAmongBits (take (i + 1) targets) c word) Opens so_far bits bits_apart bits_first bits_second
 

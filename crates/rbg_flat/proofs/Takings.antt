@@ -15,7 +15,7 @@ use Rattle.rbg_rules.specs.Words.{Start, after}
 use Rattle.rbg_leaps.specs.Leaps.{IsShiftAt, IsLeap, EndsAcross}
 use Rattle.rbg_flat.specs.Chains.{Holds, IsMet, first, then, EndsMet}
 use Rattle.rbg_flat.specs.internal.Begun.{IsBegun, IsLedOn, Marks}
-use Rattle.rbg_flat.specs.internal.Leading.{LearnsEnd, ToTry}
+use Rattle.rbg_flat.specs.internal.Leading.{LearnsEnd}
 use Rattle.rbg_flat.specs.internal.Sets.{SetsOfVertices, IsMarked, IsOpen, IsInWord, Meets, ClosesWord, HasBitAt, weight}
 use Rattle.rbg_rules.specs.Actions.{Applies}
 use Rattle.rbg_flat.proofs.ChainLemmas.{QuietStep, shifts, holds, quiet_step}
@@ -23,29 +23,29 @@ use Rattle.rbg_flat.proofs.Steps.{marks_more, closes_more, learns_end}
 
 module _ (game : AbstractGame) (s : AbstractState) (f : Start) where
   -- Where nothing was marked, the first leaps begin.
-  pub begins : (old new : SetsOfVertices) (ends : Bool) → ((v p : ℕ) → ¬ IsMarked old v p) → Meets old new (λ v p. IsLeap game f s.vertex p v) (ToTry game s) → (EndsAcross game f s.vertex → ends ≡ true) → (ends ≡ true → EndsAcross game f s.vertex) → IsBegun game s f (IsMarked new) (IsOpen new) ends
+  pub begins : (old new : SetsOfVertices) (ends : Bool) → ((v p : ℕ) → ¬ IsMarked old v p) → Meets old new (λ v p. IsLeap game f s.vertex p v) (λ p. ¬ IsModifierAt game.rules p) → (EndsAcross game f s.vertex → ends ≡ true) → (ends ≡ true → EndsAcross game f s.vertex) → IsBegun game s f (IsMarked new) (IsOpen new) ends
   begins old new ends none meets all only = record {
     sound = λ v p has. first (leap_of v p (meets.only v p has)).0;
     begun = λ v p leap. meets.met v p leap;
-    closed = λ v q u p has closed holds leap. absurd (closed ((leap_of v q (meets.only v q has)).1 (inr holds)));
+    closed = λ v q u p has closed holds leap. absurd (closed ((leap_of v q (meets.only v q has)).1 holds.quiet));
     sound_end = λ is. inl (only is);
     begun_end = all;
-    closed_end = λ v q has closed holds end. absurd (closed ((leap_of v q (meets.only v q has)).1 (inr holds)));
+    closed_end = λ v q has closed holds end. absurd (closed ((leap_of v q (meets.only v q has)).1 holds.quiet));
   }
     where
-      leap_of : (v p : ℕ) → IsMarked old v p ⊎ (IsLeap game f s.vertex p v × (ToTry game s v p → IsOpen new v p)) → IsLeap game f s.vertex p v × (ToTry game s v p → IsOpen new v p)
+      leap_of : (v p : ℕ) → IsMarked old v p ⊎ (IsLeap game f s.vertex p v × (¬ IsModifierAt game.rules p → IsOpen new v p)) → IsLeap game f s.vertex p v × (¬ IsModifierAt game.rules p → IsOpen new v p)
       leap_of v p (inl was) = absurd (none v p was)
       leap_of v p (inr is) = is
 
   -- What is met and holds leads on.
-  pub leads_on : (old new : SetsOfVertices) (ends more : Bool) (v q : ℕ) → IsMet game s f v q → Holds game s v q → Meets old new (λ u p. IsLeap game (after q) v p u) (ToTry game s) → LearnsEnd ends more (EndsAcross game (after q) v) → IsBegun game s f (IsMarked old) (IsOpen old) ends → IsBegun game s f (IsMarked new) (IsOpen new) more × IsLedOn game v q (IsMarked new) more
+  pub leads_on : (old new : SetsOfVertices) (ends more : Bool) (v q : ℕ) → IsMet game s f v q → Holds game s v q → Meets old new (λ u p. IsLeap game (after q) v p u) (λ p. ¬ IsModifierAt game.rules p) → LearnsEnd ends more (EndsAcross game (after q) v) → IsBegun game s f (IsMarked old) (IsOpen old) ends → IsBegun game s f (IsMarked new) (IsOpen new) more × IsLedOn game v q (IsMarked new) more
   leads_on old new ends more v q here valid meets learns is =
       let marked = marks_more game s f (IsMarked old) (IsOpen old) (IsMarked new) (IsOpen new) ends is marks in
       (learns_end game s f (IsMarked new) (IsOpen new) ends more marked learns.kept sound, record { leaps = λ u p leap. meets.met u p leap; end = learns.all })
     where
-      by_new : (u p : ℕ) → IsMarked old u p ⊎ (IsLeap game (after q) v p u × (ToTry game s u p → IsOpen new u p)) → IsMarked old u p ⊎ (IsMet game s f u p × (Holds game s u p → IsOpen new u p))
+      by_new : (u p : ℕ) → IsMarked old u p ⊎ (IsLeap game (after q) v p u × (¬ IsModifierAt game.rules p → IsOpen new u p)) → IsMarked old u p ⊎ (IsMet game s f u p × (Holds game s u p → IsOpen new u p))
       by_new u p (inl was) = inl was
-      by_new u p (inr (leap, opens)) = inr (then here valid leap, λ there. opens (inr there))
+      by_new u p (inr (leap, opens)) = inr (then here valid leap, λ there. opens there.quiet)
 
       marks : Marks game s f (IsMarked old) (IsOpen old) (IsMarked new) (IsOpen new)
       marks = record { kept = meets.kept; only = λ u p has. by_new u p (meets.only u p has); still = meets.still }
@@ -97,7 +97,7 @@ goes_on rules p Positive (x, stands) = (positive x, stands)
 goes_on rules p Negative (x, stands) = (negative x, stands)
 
 -- The word that has one bit is closed behind what was led on.
-pub led_and_closed : (game : AbstractGame) (s : AbstractState) (f : Start) (old middle new : SetsOfVertices) (ends more : Bool) (v q word : ℕ) → IsMet game s f v q → Holds game s v q → Meets old middle (λ u p. IsLeap game (after q) v p u) (ToTry game s) → LearnsEnd ends more (EndsAcross game (after q) v) → ClosesWord middle new q (v / 64) word → ((b : ℕ) → bit_at word b ≡ 1 → b ≡ v % 64) → IsBegun game s f (IsMarked old) (IsOpen old) ends → IsBegun game s f (IsMarked new) (IsOpen new) more
+pub led_and_closed : (game : AbstractGame) (s : AbstractState) (f : Start) (old middle new : SetsOfVertices) (ends more : Bool) (v q word : ℕ) → IsMet game s f v q → Holds game s v q → Meets old middle (λ u p. IsLeap game (after q) v p u) (λ p. ¬ IsModifierAt game.rules p) → LearnsEnd ends more (EndsAcross game (after q) v) → ClosesWord middle new q (v / 64) word → ((b : ℕ) → bit_at word b ≡ 1 → b ≡ v % 64) → IsBegun game s f (IsMarked old) (IsOpen old) ends → IsBegun game s f (IsMarked new) (IsOpen new) more
 led_and_closed game s f old middle new ends more v q word here valid meets learns closing only is =
     let both = leads_on game s f old middle ends more v q here valid meets learns is in
     closes game s f middle new more q (v / 64) word closing (λ u there. inr (subst (λ (k : ℕ). IsLedOn game k q (IsMarked middle) more) (sym (same u there)) both.1)) (bit_decided middle.columns middle.pending) both.0
@@ -109,10 +109,10 @@ led_and_closed game s f old middle new ends more v q word here valid meets learn
         omega (arith, bits, columns)
 
 -- All begins at a vertex where nothing was met.
-pub begins_at : (game : AbstractGame) (s : AbstractState) (f : Start) (old new : SetsOfVertices) (ends : Bool) (vertex : ℕ) → s.vertex ≡ vertex → ((v p : ℕ) → ¬ IsMarked old v p) → Meets old new (λ v p. IsLeap game f vertex p v) (ToTry game s) → LearnsEnd false ends (EndsAcross game f vertex) → IsBegun game s f (IsMarked new) (IsOpen new) ends
+pub begins_at : (game : AbstractGame) (s : AbstractState) (f : Start) (old new : SetsOfVertices) (ends : Bool) (vertex : ℕ) → s.vertex ≡ vertex → ((v p : ℕ) → ¬ IsMarked old v p) → Meets old new (λ v p. IsLeap game f vertex p v) (λ p. ¬ IsModifierAt game.rules p) → LearnsEnd false ends (EndsAcross game f vertex) → IsBegun game s f (IsMarked new) (IsOpen new) ends
 begins_at game s f old new ends vertex same none meets learns =
     begins game s f old new ends none
-    (subst (λ (k : ℕ). Meets old new (λ v p. IsLeap game f k p v) (ToTry game s)) (sym same) meets)
+    (subst (λ (k : ℕ). Meets old new (λ v p. IsLeap game f k p v) (λ p. ¬ IsModifierAt game.rules p)) (sym same) meets)
     (λ end. learns.all (subst (λ (k : ℕ). EndsAcross game f k) same end))
     (λ told. subst (λ (k : ℕ). EndsAcross game f k) (sym same) (end_of (learns.only told)))
   where

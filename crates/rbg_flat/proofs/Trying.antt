@@ -9,7 +9,7 @@ use Rattle.rbg_rules.specs.Words.{Start, after}
 use Rattle.rbg_leaps.specs.Leaps.{IsLeap, EndsAcross}
 use Rattle.rbg_flat.specs.Chains.{Holds, IsMet, then, EndsMet}
 use Rattle.rbg_flat.specs.internal.Begun.{IsBegun}
-use Rattle.rbg_flat.specs.internal.Leading.{LearnsEnd, LeadsFrom, EndsFrom, AreOn, IsOnBoard, ToTry}
+use Rattle.rbg_flat.specs.internal.Leading.{LearnsEnd, LeadsFrom, EndsFrom, AreOn, IsOnBoard}
 use Rattle.rbg_flat.specs.internal.Passing.{Passes}
 use Rattle.rbg_flat.specs.internal.Sets.{SetsOfVertices, IsMarked, IsOpen, IsInWord, Meets, ClosesWord, HasBitAt}
 use Rattle.std.proofs.lemmas.Nat.Bits.{bit_at-zero}
@@ -40,8 +40,8 @@ no_vertex held q c v p none there =
     let set = there.set in
     omega (arith, clear, set)
 
-pub leads_nowhere : (game : AbstractGame) (s : AbstractState) (sets : SetsOfVertices) (held q c : ℕ) → held ≡ 0 → Meets sets sets (LeadsFrom game q c held) (ToTry game s)
-leads_nowhere game s sets held q c none = meets_none sets (LeadsFrom game q c held) (ToTry game s) (λ u p leads. no_vertex held q c leads.vertex q none leads.there)
+pub leads_nowhere : (game : AbstractGame) (sets : SetsOfVertices) (held q c : ℕ) → held ≡ 0 → Meets sets sets (LeadsFrom game q c held) (λ p. ¬ IsModifierAt game.rules p)
+leads_nowhere game sets held q c none = meets_none sets (LeadsFrom game q c held) (λ (p : ℕ). ¬ IsModifierAt game.rules p) (λ u p leads. no_vertex held q c leads.vertex q none leads.there)
 
 pub ends_nowhere : (game : AbstractGame) (ends : Bool) (held q c : ℕ) → held ≡ 0 → LearnsEnd ends ends (EndsFrom game q c held)
 ends_nowhere game ends held q c none = record {
@@ -55,7 +55,7 @@ module _
     (old middle new : SetsOfVertices) (ends more : Bool) (q c word held : ℕ)
     (closing : ClosesWord old middle q c word)
     (marked : (b : ℕ) → bit_at word b ≡ 1 → (b < 64) × IsMarked old (c * 64 + b) q)
-    (meets : Meets middle new (LeadsFrom game q c held) (ToTry game s))
+    (meets : Meets middle new (LeadsFrom game q c held) (λ p. ¬ IsModifierAt game.rules p))
     (learns : LearnsEnd ends more (EndsFrom game q c held))
     (within : (b : ℕ) → bit_at held b ≡ 1 → bit_at word b ≡ 1)
     (told : (b : ℕ) → b < 64 → bit_at word b ≡ 1 → (bit_at held b ≡ 1) ↔ Passes game s (c * 64 + b) q)
@@ -107,7 +107,7 @@ module _
       closed_end = λ v r has closed holds end. ends_there v r closed holds end (meets.only v r has);
     }
       where
-        sound : (v p : ℕ) → IsMarked middle v p ⊎ (LeadsFrom game q c held v p × (ToTry game s v p → IsOpen new v p)) → IsMet game s f v p
+        sound : (v p : ℕ) → IsMarked middle v p ⊎ (LeadsFrom game q c held v p × (¬ IsModifierAt game.rules p → IsOpen new v p)) → IsMet game s f v p
         sound v p (inl was) = is.sound v p (marked_before old middle q c word v p closing was)
         sound v p (inr (leads, _)) = met_leap v p leads
 
@@ -115,9 +115,9 @@ module _
         by_leaps v r u p holds leap (inl (was, not_open)) = meets.kept u p (marked_then old middle q c word u p closing (is.closed v r u p was not_open holds leap))
         by_leaps v r u p holds leap (inr (there, same)) = meets.met u p (record { vertex = v; there = there; leap = subst (λ (k : ℕ). IsLeap game (after k) v p u) same leap })
 
-        leaps : (v r u p : ℕ) → ¬ IsOpen new v r → Holds game s v r → IsLeap game (after r) v p u → IsMarked middle v r ⊎ (LeadsFrom game q c held v r × (ToTry game s v r → IsOpen new v r)) → IsMarked new u p
+        leaps : (v r u p : ℕ) → ¬ IsOpen new v r → Holds game s v r → IsLeap game (after r) v p u → IsMarked middle v r ⊎ (LeadsFrom game q c held v r × (¬ IsModifierAt game.rules r → IsOpen new v r)) → IsMarked new u p
         leaps v r u p closed holds leap (inl was) = by_leaps v r u p holds leap (by_old v r closed holds was)
-        leaps v r u p closed holds leap (inr (_, opens)) = absurd (closed (opens (inr holds)))
+        leaps v r u p closed holds leap (inr (_, opens)) = absurd (closed (opens holds.quiet))
 
         sound_end : (ends ≡ true) ⊎ EndsFrom game q c held → EndsMet game s f
         sound_end (inl was) = is.sound_end was
@@ -127,6 +127,6 @@ module _
         by_ends v r holds end (inl (was, not_open)) = learns.kept (is.closed_end v r was not_open holds end)
         by_ends v r holds end (inr (there, same)) = learns.all (record { vertex = v; there = there; ends = subst (λ (k : ℕ). EndsAcross game (after k) v) same end })
 
-        ends_there : (v r : ℕ) → ¬ IsOpen new v r → Holds game s v r → EndsAcross game (after r) v → IsMarked middle v r ⊎ (LeadsFrom game q c held v r × (ToTry game s v r → IsOpen new v r)) → more ≡ true
+        ends_there : (v r : ℕ) → ¬ IsOpen new v r → Holds game s v r → EndsAcross game (after r) v → IsMarked middle v r ⊎ (LeadsFrom game q c held v r × (¬ IsModifierAt game.rules r → IsOpen new v r)) → more ≡ true
         ends_there v r closed holds end (inl was) = by_ends v r holds end (by_old v r closed holds was)
-        ends_there v r closed holds end (inr (_, opens)) = absurd (closed (opens (inr holds)))
+        ends_there v r closed holds end (inr (_, opens)) = absurd (closed (opens holds.quiet))

@@ -3,6 +3,7 @@ use Rattle.std.proofs.Common.{◌≡◌, ◌≢◌, ℕ, ◌+◌, ◌*◌, ◌/�
 use Rattle.std.specs.Int.{bit_at}
 use Rattle.std.proofs.lemmas.Nat.Bits.{bit_at-zero, bit_at-lt}
 use native.Mathlib.Decide.{ℕ_discrete}
+use Rattle.rbg_rules.specs.Positions.{IsModifierAt}
 use Rattle.rbg_rules.specs.State.{AbstractGame}
 use Rattle.rbg_rules.specs.Words.{after}
 use Rattle.rbg_leaps.specs.Leaps.{IsLeap, EndsAcross}
@@ -19,7 +20,10 @@ clear_or_set n small clear = elim (ℕ_discrete n 0) [
   | no some ↦ absurd (clear (omega (arith, small, some)))
 ]
 
-module _ (game : AbstractGame) (Opens : (v p : ℕ) → Type 0) (q c word : ℕ) where
+module _ (game : AbstractGame) (q c word : ℕ) where
+  abbrev Opens : ℕ → Type 0
+  Opens p = ¬ IsModifierAt game.rules p
+
   -- All is left, so nothing was led on from.
   pub none_past : (u p : ℕ) → ¬ LeadsPast game q c word word u p
   none_past u p is = not_both is.past is.there.set
@@ -99,7 +103,7 @@ module _ (game : AbstractGame) (Opens : (v p : ℕ) → Type 0) (q c word : ℕ)
       meets_same old new (LeadsPast game q c word rest) (LeadsFrom game q c word) Opens Opens meets
       (λ u p is. record { vertex = is.vertex; there = is.there; leap = is.leap })
       (λ u p is. record { vertex = is.vertex; there = is.there; past = nothing rest (is.vertex % 64) none; leap = is.leap })
-      (λ u p _ is. is)
+      (λ u p _ is. is) (λ u p _ is. is)
 
   pub ends_all : (rest : ℕ) → rest ≡ 0 → (old new : Bool) → LearnsEnd old new (EndsPast game q c word rest) → LearnsEnd old new (EndsFrom game q c word)
   ends_all rest none old new learns = record {

@@ -2,7 +2,7 @@
 ghost use Rattle.std.specs.Prelude.{◌≡◌, ℕ, ◌+◌, ◌*◌, ◌/◌, ◌<◌, ◌≤◌, ◌↔◌, ◌⊎◌, ◌^◌, length, IfOk, IfSome, IfNone, OnOk, IsTrue, false};
 ghost use Rattle.rbg_rules.specs.Games.{IsGame};
 ghost use Rattle.rbg_rules.specs.Laws.{IsStart};
-ghost use Rattle.rbg_rules.specs.Positions.{IsNumbered, IsPatternAt, positions_of};
+ghost use Rattle.rbg_rules.specs.Positions.{IsModifierAt, IsNumbered, IsPatternAt, positions_of};
 ghost use Rattle.rbg_rules.specs.State.{AbstractGame, AbstractState, IsStateOf};
 ghost use Rattle.rbg_rules.specs.Words.{Start, after};
 ghost use Rattle.rbg_leaps.specs.Leaps.{IsLeap, EndsAcross};
@@ -14,7 +14,7 @@ ghost use Rattle.rbg_flat.specs.Paths.{ArePathsOf, IsStill};
 ghost use Rattle.rbg_flat.specs.Found.{AreFound, HasCandidates, most_candidates};
 ghost use Rattle.rbg_flat.specs.internal.Begun.{IsBegun};
 ghost use Rattle.rbg_flat.specs.internal.Sets.{Meets, IsInWord, IsMarked, IsOpen, IsLastOf, IsDone, KeepsDone, weight};
-ghost use Rattle.rbg_flat.specs.internal.Leading.{AreSizedFor, AreOn, IsOnBoard, LeadsFrom, EndsFrom, LearnsEnd, ToTry};
+ghost use Rattle.rbg_flat.specs.internal.Leading.{AreSizedFor, AreOn, IsOnBoard, LeadsFrom, EndsFrom, LearnsEnd};
 
 use crate::found::Modifiers;
 use crate::gathering::{gather_place, keeps};
@@ -59,31 +59,22 @@ impl Flat {
     }
 
     /// Begins anew, at a place in the rules and a vertex.
-    pub fn begin(
-        &mut self,
-        game: &Game,
-        paths: &Paths,
-        state: &SemiState,
-        origin: Origin,
-        vertex: Vertex,
-    )
+    pub fn begin(&mut self, game: &Game, paths: &Paths, origin: Origin, vertex: Vertex)
         requires lawful { IsGame game.now }
         requires paths { ArePathsOf game.now paths.now }
-        requires fits { IsStateOf game.now state.now.state }
         requires sized { AreSizedFor game.now self.old.sets }
         requires vertex { vertex < length game.now.board.first }
         requires stands { IsStart game.now.rules (start_of origin) }
         ensures sized { AreSizedFor game.now self.new.sets }
-        ensures begun { state.now.state.vertex ≡ vertex
-            → IsBegun game.now state.now.state (start_of origin) (IsMarked self.new.sets)
-            (IsOpen self.new.sets) self.new.ends }
+        ensures begun { (s : AbstractState) → s.vertex ≡ vertex
+            → IsBegun game.now s (start_of origin) (IsMarked self.new.sets) (IsOpen self.new.sets)
+            self.new.ends }
         ensures on { AreOn game.now self.new.sets }
-        ensures fresh { (v p : ℕ) → IsPatternAt game.now.rules p → ¬ IsDone self.new.sets v p }
+        ensures fresh { (v p : ℕ) → ¬ IsModifierAt game.now.rules p → ¬ IsDone self.new.sets v p }
     {
         self.sets.clear();
         self.ends = false;
-        // much of what comes first doesn't hold
-        self.lead(game, &paths.leaps, state, origin, vertex, true);
+        self.lead(game, &paths.leaps, origin, vertex);
     }
 
     /// Goes on up to the next vertex that is to be asked about a pattern, and returns it with the pattern's position;
@@ -134,14 +125,12 @@ impl Flat {
         &mut self,
         game: &Game,
         paths: &Paths,
-        state: &SemiState,
         vertex: Vertex,
         position: Position,
         valid: bool,
     )
         requires lawful { IsGame game.now }
         requires paths { ArePathsOf game.now paths.now }
-        requires fits { IsStateOf game.now state.now.state }
         requires sized { AreSizedFor game.now self.old.sets }
         requires vertex { vertex < length game.now.board.first }
         requires from_one { 0 < position }
@@ -149,12 +138,10 @@ impl Flat {
         requires marked { IsMarked self.old.sets vertex position }
         ensures sized { AreSizedFor game.now self.new.sets }
         ensures on { AreOn game.now self.old.sets → AreOn game.now self.new.sets }
-        ensures begun { (f : Start)
-            → IsTrue valid ↔ Holds game.now state.now.state vertex position
-            → IsBegun game.now state.now.state f (IsMarked self.old.sets) (IsOpen self.old.sets)
-            self.old.ends
-            → IsBegun game.now state.now.state f (IsMarked self.new.sets) (IsOpen self.new.sets)
-            self.new.ends }
+        ensures begun { (s : AbstractState) (f : Start)
+            → IsTrue valid ↔ Holds game.now s vertex position
+            → IsBegun game.now s f (IsMarked self.old.sets) (IsOpen self.old.sets) self.old.ends
+            → IsBegun game.now s f (IsMarked self.new.sets) (IsOpen self.new.sets) self.new.ends }
         ensures still_done { KeepsDone self.old.sets self.new.sets }
         ensures done { IsDone self.new.sets vertex position }
         ensures quiet { (v p : ℕ) → IsPatternAt game.now.rules p → IsDone self.new.sets v p
@@ -163,7 +150,7 @@ impl Flat {
             → weight self.new.sets < weight self.old.sets }
     {
         if valid {
-            self.lead_on(game, &paths.leaps, state, position, vertex);
+            self.lead_on(game, &paths.leaps, position, vertex);
         } else {
             self.drop_one(game, position, vertex);
         }
@@ -216,68 +203,49 @@ impl Flat {
 
     /// Leads on from a place in the rules and a vertex: meets where leaps lead from there.
     #[inline(always)]
-    fn lead(
-        &mut self,
-        game: &Game,
-        leaps: &Leaps,
-        state: &SemiState,
-        origin: Origin,
-        vertex: Vertex,
-        narrows: bool,
-    )
+    fn lead(&mut self, game: &Game, leaps: &Leaps, origin: Origin, vertex: Vertex)
         requires lawful { IsGame game.now }
-        requires fits { IsStateOf game.now state.now.state }
         requires leaps { AreLeapsOf game.now leaps.now }
         requires sized { AreSizedFor game.now self.old.sets }
         requires vertex { vertex < length game.now.board.first }
         requires stands { IsStart game.now.rules (start_of origin) }
         ensures met { Meets self.old.sets self.new.sets
             (λ v p. IsLeap game.now (start_of origin) vertex p v)
-            (ToTry game.now state.now.state) }
+            (λ p. ¬ IsModifierAt game.now.rules p) }
         ensures ends { LearnsEnd self.old.ends self.new.ends
             (EndsAcross game.now (start_of origin) vertex) }
         ensures on { AreOn game.now self.old.sets → AreOn game.now self.new.sets }
     {
         let (targets, ends) = leaps.leads(origin, vertex);
-        meet_targets(&mut self.sets, game, leaps, state, targets, narrows);
+        meet_targets(&mut self.sets, game, leaps, targets);
         self.ends |= ends;
     }
 
     /// Leads on from a position that holds at a vertex, which is no longer open then.
     #[inline(always)]
-    fn lead_on(
-        &mut self,
-        game: &Game,
-        leaps: &Leaps,
-        state: &SemiState,
-        position: Position,
-        vertex: Vertex,
-    )
+    fn lead_on(&mut self, game: &Game, leaps: &Leaps, position: Position, vertex: Vertex)
         requires lawful { IsGame game.now }
-        requires fits { IsStateOf game.now state.now.state }
         requires leaps { AreLeapsOf game.now leaps.now }
         requires sized { AreSizedFor game.now self.old.sets }
         requires vertex { vertex < length game.now.board.first }
         requires from_one { 0 < position }
         requires there { position ≤ length (positions_of game.now.rules) }
         ensures sized { AreSizedFor game.now self.new.sets }
-        ensures begun { (f : Start) → IsMet game.now state.now.state f vertex position
-            → Holds game.now state.now.state vertex position
-            → IsBegun game.now state.now.state f (IsMarked self.old.sets) (IsOpen self.old.sets)
-            self.old.ends
-            → IsBegun game.now state.now.state f (IsMarked self.new.sets) (IsOpen self.new.sets)
-            self.new.ends }
+        ensures begun { (s : AbstractState) (f : Start) → IsMet game.now s f vertex position
+            → Holds game.now s vertex position
+            → IsBegun game.now s f (IsMarked self.old.sets) (IsOpen self.old.sets) self.old.ends
+            → IsBegun game.now s f (IsMarked self.new.sets) (IsOpen self.new.sets) self.new.ends }
         ensures on { AreOn game.now self.old.sets → AreOn game.now self.new.sets }
         ensures still_done { KeepsDone self.old.sets self.new.sets }
         ensures done { IsMarked self.old.sets vertex position → IsDone self.new.sets vertex position }
-        ensures quiet { (v p : ℕ) → IsPatternAt game.now.rules p → IsDone self.new.sets v p
+        ensures quiet { (v p : ℕ) → ¬ IsModifierAt game.now.rules p → IsDone self.new.sets v p
             → ((v ≡ vertex) × (p ≡ position)) ⊎ IsDone self.old.sets v p }
         ensures less { IsOpen self.old.sets vertex position
             → weight self.new.sets < weight self.old.sets }
     {
         // an action stands there
         let _action = game.action(position);
-        self.lead(game, leaps, state, Origin::After(position), vertex, false);
+        self.lead(game, leaps, Origin::After(position), vertex);
         self.sets
             .close_word(position, vertex as usize / 64, unit_word(vertex % 64));
     }
@@ -296,7 +264,7 @@ impl Flat {
         ensures on { AreOn game.now self.old.sets → AreOn game.now self.new.sets }
         ensures still_done { KeepsDone self.old.sets self.new.sets }
         ensures done { IsMarked self.old.sets vertex position → IsDone self.new.sets vertex position }
-        ensures quiet { (v p : ℕ) → IsPatternAt game.now.rules p → IsDone self.new.sets v p
+        ensures quiet { (v p : ℕ) → ¬ IsModifierAt game.now.rules p → IsDone self.new.sets v p
             → ((v ≡ vertex) × (p ≡ position)) ⊎ IsDone self.old.sets v p }
         ensures less { IsOpen self.old.sets vertex position
             → weight self.new.sets < weight self.old.sets }
@@ -345,7 +313,7 @@ impl Flat {
         let held = held(game, state, position, column, word);
         self.sets.take_waiting(place, position, column, word);
         if held != 0 {
-            self.lead_word(game, paths, state, position, column, held);
+            self.lead_word(game, paths, position, column, held);
         }
     }
 
@@ -355,13 +323,11 @@ impl Flat {
         &mut self,
         game: &Game,
         paths: &Paths,
-        state: &SemiState,
         position: Position,
         column: usize,
         word: u64,
     )
         requires lawful { IsGame game.now }
-        requires fits { IsStateOf game.now state.now.state }
         requires paths { ArePathsOf game.now paths.now }
         requires sized { AreSizedFor game.now self.old.sets }
         requires board { IsOnBoard game.now column word }
@@ -370,14 +336,14 @@ impl Flat {
         requires there { position ≤ length (positions_of game.now.rules) }
         ensures sized { AreSizedFor game.now self.new.sets }
         ensures met { Meets self.old.sets self.new.sets (LeadsFrom game.now position column word)
-            (ToTry game.now state.now.state) }
+            (λ p. ¬ IsModifierAt game.now.rules p) }
         ensures ends { LearnsEnd self.old.ends self.new.ends
             (EndsFrom game.now position column word) }
         ensures on { AreOn game.now self.old.sets → AreOn game.now self.new.sets }
     {
         match first_still(paths, position, column, word) {
-            Some(vertex) => self.lead_still(game, paths, state, position, vertex, column, word),
-            None => self.lead_each(game, &paths.leaps, state, position, column, word),
+            Some(vertex) => self.lead_still(game, paths, position, vertex, column, word),
+            None => self.lead_each(game, &paths.leaps, position, column, word),
         }
     }
 
@@ -387,14 +353,12 @@ impl Flat {
         &mut self,
         game: &Game,
         paths: &Paths,
-        state: &SemiState,
         position: Position,
         vertex: Vertex,
         column: usize,
         word: u64,
     )
         requires lawful { IsGame game.now }
-        requires fits { IsStateOf game.now state.now.state }
         requires paths { ArePathsOf game.now paths.now }
         requires sized { AreSizedFor game.now self.old.sets }
         requires board { IsOnBoard game.now column word }
@@ -405,7 +369,7 @@ impl Flat {
         requires in_word { IsInWord position column word vertex position }
         ensures sized { AreSizedFor game.now self.new.sets }
         ensures met { Meets self.old.sets self.new.sets (LeadsFrom game.now position column word)
-            (ToTry game.now state.now.state) }
+            (λ p. ¬ IsModifierAt game.now.rules p) }
         ensures ends { LearnsEnd self.old.ends self.new.ends
             (EndsAcross game.now (after position) vertex) }
         ensures on { AreOn game.now self.old.sets → AreOn game.now self.new.sets }
@@ -414,7 +378,7 @@ impl Flat {
         let _action = game.action(position);
         let origin = Origin::After(position);
         let (targets, may_end) = paths.leaps.leads(origin, vertex);
-        meet_bits(&mut self.sets, game, state, targets, column, word);
+        meet_bits(&mut self.sets, game, targets, column, word);
         self.ends |= may_end;
     }
 
@@ -424,13 +388,11 @@ impl Flat {
         &mut self,
         game: &Game,
         leaps: &Leaps,
-        state: &SemiState,
         position: Position,
         column: usize,
         word: u64,
     )
         requires lawful { IsGame game.now }
-        requires fits { IsStateOf game.now state.now.state }
         requires leaps { AreLeapsOf game.now leaps.now }
         requires sized { AreSizedFor game.now self.old.sets }
         requires board { IsOnBoard game.now column word }
@@ -438,7 +400,7 @@ impl Flat {
         requires there { position ≤ length (positions_of game.now.rules) }
         ensures sized { AreSizedFor game.now self.new.sets }
         ensures met { Meets self.old.sets self.new.sets (LeadsFrom game.now position column word)
-            (ToTry game.now state.now.state) }
+            (λ p. ¬ IsModifierAt game.now.rules p) }
         ensures ends { LearnsEnd self.old.ends self.new.ends
             (EndsFrom game.now position column word) }
         ensures on { AreOn game.now self.old.sets → AreOn game.now self.new.sets }
@@ -449,7 +411,7 @@ impl Flat {
         while rest != 0 {
             let bit = lowest(rest);
             let vertex = column as Vertex * 64 + bit;
-            self.lead(game, leaps, state, Origin::After(position), vertex, false);
+            self.lead(game, leaps, Origin::After(position), vertex);
             rest = without(rest, bit);
         }
     }

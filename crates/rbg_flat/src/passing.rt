@@ -1,13 +1,11 @@
 //! At which vertices an action passes: it is no modifier, and valid there.
-ghost use Rattle.std.specs.Prelude.{◌≡◌, ◌<◌, ◌≤◌, ◌↔◌, ◌+◌, ◌*◌, ◌%◌, ℕ, length, IfSome, slice_get, Some, IsTrue};
+ghost use Rattle.std.specs.Prelude.{◌≡◌, ◌<◌, ◌≤◌, ◌↔◌, ◌+◌, ◌*◌, ℕ, length, IfSome, slice_get, Some, IsTrue};
 ghost use Rattle.std.specs.Int.{bit_at};
 ghost use Rattle.rbg_rules.specs.Games.{IsGame};
 ghost use Rattle.rbg_rules.specs.Positions.{IsPatternAt, positions_of};
 ghost use Rattle.rbg_rules.specs.State.{IsStateOf};
 ghost use Rattle.rbg_flat.specs.internal.Passing.{Passes, IsOneOf};
-ghost use Rattle.rbg_flat.specs.Chains.{Holds};
 ghost use Rattle.rbg_flat.specs.internal.Leading.{IsOnBoard};
-ghost use Rattle.rbg_flat.specs.internal.Sets.{IsInWord};
 
 use crate::words::{lowest, without};
 use rbg_base::{Piece, Position, Vertex};
@@ -39,31 +37,6 @@ pub(crate) fn held(
         }
     }
     passing(game, state, position, column, word)
-}
-
-/// The bits of a word at whose vertices the action at a position may hold: an on only where one of its pieces stands.
-#[inline(always)]
-pub(crate) fn may_hold(
-    game: &Game,
-    state: &SemiState,
-    position: Position,
-    column: usize,
-    word: u64,
-) -> u64
-    requires lawful { IsGame game.now }
-    requires fits { IsStateOf game.now state.now.state }
-    requires from_one { 0 < position }
-    requires there { position ≤ length (positions_of game.now.rules) }
-    ensures { (v : ℕ) → IsInWord position column word v position
-        → v < length game.now.board.first → Holds game.now state.now.state v position
-        → bit_at result (v % 64) ≡ 1 }
-{
-    if let Action::On { pieces } = game.action(position) {
-        if let Some(standing) = standing(state, pieces, column) {
-            return word & standing;
-        }
-    }
-    word
 }
 
 /// The word of the vertices on which one of these pieces stands, if each piece has a row.

@@ -1,7 +1,7 @@
 //! Sets of vertices for each position: what was met, and what of it is still to be looked at.
-ghost use Rattle.std.specs.Prelude.{◌≡◌, ℕ, ◌<◌, ◌≤◌, ◌+◌, ◌-◌, ◌/◌, ◌%◌, ◌↔◌, ◌*◌, ◌^◌, ◌⊎◌, [], length, take, slice_index, slice_set, bit_or, bit_and, Contains, IfOk, IfSome, IfNone, IsTrue};
+ghost use Rattle.std.specs.Prelude.{◌≡◌, ℕ, ◌<◌, ◌≤◌, ◌+◌, ◌-◌, ◌/◌, ◌%◌, ◌↔◌, ◌*◌, ◌^◌, ◌⊎◌, [], length, take, slice_index, slice_set, bit_or, bit_and, Contains, IfOk, IfSome, IfNone, true};
 ghost use Rattle.std.specs.Int.{bit_at, bit_not, w64};
-ghost use Rattle.rbg_flat.specs.internal.Sets.{MeetsWord, IsInWord, ClosesWord, IsMarked, IsOpen, IsLastOf, weight};
+ghost use Rattle.rbg_flat.specs.internal.Sets.{MeetsWord, Meets, IsInRow, ClosesWord, IsMarked, IsOpen, IsLastOf, weight};
 ghost use Rattle.rbg_flat.specs.internal.Places.{ForgetsPlace, IsClosedAt};
 
 use crate::places::Places;
@@ -167,21 +167,9 @@ impl Sets {
         position as usize * self.columns + column
     }
 
-    /// Whether all bits of a word of the row of a position were met before.
+    /// Meets the bits of a word of the row of a position. What is new of them is to be looked at where `opens` tells so.
     #[inline(always)]
-    pub(crate) fn knows(&self, position: Position, column: usize, word: u64) -> bool
-        requires position { position < self.now.size }
-        requires column { column < self.now.columns }
-        ensures { IsTrue result → (v p : ℕ) → IsInWord position column word v p
-            → IsMarked self.now v p }
-    {
-        let place = self.place(position, column);
-        new_of(word, self.marks[place]) == 0
-    }
-
-    /// Meets the bits of a word of the row of a position. What is new of them is to be looked at where `opens` has a bit.
-    #[inline(always)]
-    pub(crate) fn meet_word(&mut self, position: Position, column: usize, word: u64, opens: u64)
+    pub(crate) fn meet_word(&mut self, position: Position, column: usize, word: u64, opens: bool)
         requires position { position < self.old.size }
         requires column { column < self.old.columns }
         ensures { MeetsWord self.old self.new position column word opens }
@@ -193,10 +181,38 @@ impl Sets {
         }
         add_word(&mut self.marks, place, new);
         self.touched.add(place);
-        let open = common(new, opens);
-        if open != 0 {
-            add_word(&mut self.pending, place, open);
+        if opens {
+            add_word(&mut self.pending, place, new);
             self.waiting.add(place);
+        }
+    }
+
+    /// Meets the vertices of a row at a position. What is new of them is to be looked at where `opens` tells so.
+    #[inline(always)]
+    pub(crate) fn meet_row(&mut self, position: Position, row: &[u64], opens: bool)
+        requires position { position < self.old.size }
+        requires row { length row.now ≤ self.old.columns }
+        ensures { Meets self.old self.new (IsInRow position row.now) (λ _. opens ≡ true) }
+    {
+        // most boards have one word for each position
+        if row.len() == 1 {
+            self.meet_word(position, 0, row[0], opens);
+            return;
+        }
+        for column in 0..row.len() {
+            self.meet_some(position, column, row[column], opens);
+        }
+    }
+
+    /// The same as `meet_word`, quick where the word has no bits.
+    #[inline(always)]
+    fn meet_some(&mut self, position: Position, column: usize, word: u64, opens: bool)
+        requires position { position < self.old.size }
+        requires column { column < self.old.columns }
+        ensures { MeetsWord self.old self.new position column word opens }
+    {
+        if word != 0 {
+            self.meet_word(position, column, word, opens);
         }
     }
 
@@ -298,16 +314,6 @@ fn new_of(word: u64, known: u64) -> u64
     ensures fits { known + result < 2 ^ 64 }
 {
     word & !known
-}
-
-/// The bits that two words have in common.
-#[inline(always)]
-fn common(word: u64, other: u64) -> u64
-    ensures only { (b : ℕ) → bit_at result b ≡ 1 → bit_at word b ≡ 1 }
-    ensures both { (b : ℕ) → bit_at word b ≡ 1 → bit_at other b ≡ 1 → bit_at result b ≡ 1 }
-    ensures less { result ≤ word }
-{
-    word & other
 }
 
 /// Sets the bits of a word.

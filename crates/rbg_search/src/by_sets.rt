@@ -50,21 +50,19 @@ impl<'a, S: Steps> Search<'a, S> {
     pub(crate) fn begun_by_sets(
         &mut self,
         paths: &Paths,
-        state: &SemiState,
         origin: Origin,
         vertex: Vertex,
     ) -> Result<Box<SetFlat>, Over>
         requires paths { ArePathsOf self.old.game paths.now }
-        requires fits { IsStateOf self.old.game state.now.state }
         requires there { vertex < length self.old.game.board.first }
         requires stands { IsStart self.old.game.rules (start_of origin) }
         ensures kept { self.new ≡ self.old }
         ensures begins { IfOk result (λ flat.
-            BeginsBySets self.old.game state.now.state (start_of origin) vertex flat.value) }
+            BeginsBySets self.old.game (start_of origin) vertex flat.value) }
         ensures memory { IfErr result (λ over. over ≡ Over.Memory) }
     {
         let mut flat = self.unused_sets()?;
-        flat.begin(self.rules.game(), paths, state, leap_origin(origin), vertex);
+        flat.begin(self.rules.game(), paths, leap_origin(origin), vertex);
         Ok(flat)
     }
 
@@ -92,19 +90,17 @@ impl<'a, S: Steps> Search<'a, S> {
         &self,
         paths: &Paths,
         flat: &mut Box<SetFlat>,
-        state: &SemiState,
         vertex: Vertex,
         position: Position,
         valid: bool,
     )
         requires paths { ArePathsOf self.now.game paths.now }
-        requires fits { IsStateOf self.now.game state.now.state }
         requires sets { HasSetsFor self.now.game flat.old.value }
         requires next { IsToBeAsked self.now.game flat.old.value vertex position }
-        ensures takes { TakesBySets self.now.game state.now.state flat.old.value flat.new.value
-            vertex position valid }
+        ensures takes { TakesBySets self.now.game flat.old.value flat.new.value vertex position
+            valid }
     {
-        flat.take(self.rules.game(), paths, state, vertex, position, valid);
+        flat.take(self.rules.game(), paths, vertex, position, valid);
     }
 
     /// Hands out what a flat part found, in the list that is lent, and keeps the rest for further use. Returns whether a

@@ -1,15 +1,14 @@
 -- Sets that are led on by leaps.
 use Rattle.std.specs.Prelude.{◌≡◌, ◌⊎◌, ◌+◌, ◌*◌, ◌%◌, ◌<◌, ◌≤◌, ℕ, List, length, Bool, true, Contains}
 use Rattle.std.specs.Int.{bit_at}
-use Rattle.rbg_rules.specs.Positions.{IsPatternAt, positions_of}
-use Rattle.rbg_rules.specs.State.{AbstractGame, AbstractState}
+use Rattle.rbg_rules.specs.Positions.{positions_of}
+use Rattle.rbg_rules.specs.State.{AbstractGame}
 use Rattle.rbg_rules.specs.Words.{after}
 use Rattle.rbg_leaps.specs.declared.asking.Leaps.{Leaps}
 use Rattle.rbg_leaps.specs.declared.table.Target.{Target}
 use Rattle.rbg_leaps.specs.Asked.{row_of, HasRow}
 use Rattle.rbg_leaps.specs.Leaps.{IsLeap, EndsAcross}
 use Rattle.rbg_leaps.specs.Limits.{row_words}
-use Rattle.rbg_flat.specs.Chains.{Holds}
 use Rattle.rbg_flat.specs.internal.Sets.{SetsOfVertices, IsInRow, IsInWord, IsMarked}
 
 -- The sets have a row for each position of the game, and a bit in it for each vertex.
@@ -35,14 +34,6 @@ pub record IsAmong (leaps : Leaps) (targets : List Target) (v p : ℕ) : Type 0 
   pub target : Target
   pub listed : Contains targets target
   pub row : IsInRow target.position (row_of leaps target) v p
-
--- What is met at a vertex is to be looked at: a pattern, or another action that holds there.
-abbrev pub ToTry : AbstractGame → AbstractState → (v p : ℕ) → Type 0
-ToTry game s v p = IsPatternAt game.rules p ⊎ Holds game s v p
-
--- The same on the board.
-abbrev pub ToTryOn : AbstractGame → AbstractState → (v p : ℕ) → Type 0
-ToTryOn game s v p = (v < length game.board.first) × ToTry game s v p
 
 -- It was learned whether something ends.
 pub record LearnsEnd (old new : Bool) (Ends : Type 0) : Type 0 where

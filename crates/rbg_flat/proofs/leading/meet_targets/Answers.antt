@@ -1,8 +1,9 @@
-use Rattle.std.proofs.Common.{List, subst}
+use Rattle.std.proofs.Common.{ℕ, List, subst}
 use Rattle.std.proofs.lemmas.List.{take_all}
+use Rattle.rbg_rules.specs.Positions.{IsModifierAt}
 use Rattle.rbg_leaps.specs.declared.table.Target.{Target}
 use Rattle.rbg_flat.specs.internal.Sets.{Meets}
-use Rattle.rbg_flat.specs.internal.Leading.{IsAmong, ToTryOn}
+use Rattle.rbg_flat.specs.internal.Leading.{IsAmong}
 use Rattle.rbg_flat.proofs.Leadings.{meets_target_more}
 use Rattle.rbg_flat.proofs.leading.meet_targets.Goals as goal
 
@@ -12,9 +13,9 @@ meet_target-requires-clause-target c = c.requires.targets c.loop-target.target-i
 pub loop-target-preserved : goal.loop-target-preserved
 loop-target-preserved c =
     meets_target_more c.args.leaps.now c.args.targets.now c.loop-target.target-index (record { position = 0; row = 0 }) c.loop-target-test.true
-    c.args.sets.now c.loop-target.sets c.meet_target.new.sets (ToTryOn c.args.game.now c.args.state.now.state) c.loop-target.invariant c.meet_target.ensures
+    c.args.sets.now c.loop-target.sets c.meet_target.new.sets (λ (p : ℕ). ¬ IsModifierAt c.args.game.now.rules p) c.loop-target.invariant c.meet_target.ensures
 
 pub returns : goal.returns
 returns c =
-    subst (λ (ts : List Target). Meets c.args.sets.now c.loop-target.sets (IsAmong c.args.leaps.now ts) (ToTryOn c.args.game.now c.args.state.now.state))
+    subst (λ (ts : List Target). Meets c.args.sets.now c.loop-target.sets (IsAmong c.args.leaps.now ts) (λ (p : ℕ). ¬ IsModifierAt c.args.game.now.rules p))
     (take_all c.loop-target.target-index c.args.targets.now c.loop-target-test.false) c.loop-target.invariant

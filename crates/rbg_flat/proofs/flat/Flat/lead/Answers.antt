@@ -1,8 +1,9 @@
 use Rattle.std.proofs.Common.{ℕ}
+use Rattle.rbg_rules.specs.Positions.{IsModifierAt}
 use Rattle.rbg_leaps.specs.Leaps.{IsLeap}
 use Rattle.rbg_leaps.specs.Origin.{start_of}
-use Rattle.rbg_flat.specs.internal.Leading.{IsAmong, ToTry, ToTryOn}
-use Rattle.rbg_flat.proofs.Leaping.{targets_for, among_leap, leap_among, still_on, leads_on_board}
+use Rattle.rbg_flat.specs.internal.Leading.{IsAmong}
+use Rattle.rbg_flat.proofs.Leaping.{targets_for, among_leap, leap_among, still_on}
 use Rattle.rbg_flat.proofs.Meetings.{meets_same}
 use Rattle.rbg_flat.proofs.flat.Flat.lead.Goals as goal
 
@@ -16,25 +17,21 @@ returns-clause-met c =
     let are = c.leads-ends.ensures.from c.args.game.now c.requires.leaps c.requires.vertex c.requires.stands in
     meets_same c.args.self.now.sets c.meet_targets.new.sets (IsAmong c.args.leaps.now c.leads-ends.result.0.now)
     (λ (v p : ℕ). IsLeap c.args.game.now (start_of c.args.origin) c.args.vertex p v)
-    (ToTryOn c.args.game.now c.args.state.now.state) (ToTry c.args.game.now c.args.state.now.state)
+    (λ (p : ℕ). ¬ IsModifierAt c.args.game.now.rules p) (λ (p : ℕ). ¬ IsModifierAt c.args.game.now.rules p)
     c.meet_targets.ensures
     (among_leap c.args.game.now c.requires.lawful.numbered (start_of c.args.origin) c.args.vertex c.args.leaps.now c.leads-ends.result.0.now are)
     (leap_among c.args.game.now c.requires.lawful.numbered (start_of c.args.origin) c.args.vertex c.args.leaps.now c.leads-ends.result.0.now are)
-    (λ v p among is.
-    let leap = among_leap c.args.game.now c.requires.lawful.numbered (start_of c.args.origin) c.args.vertex c.args.leaps.now c.leads-ends.result.0.now are v p among in
-    (leads_on_board c.args.game.now c.requires.lawful.board c.args.vertex leap.shifts v c.requires.vertex leap.leads, is))
+    (λ v p _ is. is) (λ v p _ is. is)
 
 pub returns-clause-on : goal.returns-clause-on
 returns-clause-on c = λ on.
     let are = c.leads-ends.ensures.from c.args.game.now c.requires.leaps c.requires.vertex c.requires.stands in
-    still_on c.args.game.now c.requires.lawful (start_of c.args.origin) c.args.vertex (ToTry c.args.game.now c.args.state.now.state)
+    still_on c.args.game.now c.requires.lawful (start_of c.args.origin) c.args.vertex (λ (p : ℕ). ¬ IsModifierAt c.args.game.now.rules p)
     c.args.self.now.sets c.meet_targets.new.sets c.requires.vertex
     (meets_same c.args.self.now.sets c.meet_targets.new.sets (IsAmong c.args.leaps.now c.leads-ends.result.0.now)
     (λ (v p : ℕ). IsLeap c.args.game.now (start_of c.args.origin) c.args.vertex p v)
-    (ToTryOn c.args.game.now c.args.state.now.state) (ToTry c.args.game.now c.args.state.now.state)
+    (λ (p : ℕ). ¬ IsModifierAt c.args.game.now.rules p) (λ (p : ℕ). ¬ IsModifierAt c.args.game.now.rules p)
     c.meet_targets.ensures
     (among_leap c.args.game.now c.requires.lawful.numbered (start_of c.args.origin) c.args.vertex c.args.leaps.now c.leads-ends.result.0.now are)
     (leap_among c.args.game.now c.requires.lawful.numbered (start_of c.args.origin) c.args.vertex c.args.leaps.now c.leads-ends.result.0.now are)
-    (λ v p among is.
-    let leap = among_leap c.args.game.now c.requires.lawful.numbered (start_of c.args.origin) c.args.vertex c.args.leaps.now c.leads-ends.result.0.now are v p among in
-    (leads_on_board c.args.game.now c.requires.lawful.board c.args.vertex leap.shifts v c.requires.vertex leap.leads, is))) on
+    (λ v p _ is. is) (λ v p _ is. is)) on

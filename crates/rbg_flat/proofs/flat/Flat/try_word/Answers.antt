@@ -1,6 +1,7 @@
-use Rattle.std.proofs.Common.{◌≡◌, ℕ, ◌/◌, inl, subst}
-use Rattle.rbg_rules.specs.Positions.{IsPatternAt}
-use Rattle.rbg_flat.specs.internal.Leading.{LeadsFrom, ToTry}
+use Rattle.std.proofs.Common.{◌≡◌, ℕ, ◌/◌, subst}
+use Rattle.rbg_rules.specs.Positions.{IsModifierAt, IsPatternAt}
+use Rattle.rbg_flat.proofs.ModifierLemmas.{pattern_opens}
+use Rattle.rbg_flat.specs.internal.Leading.{LeadsFrom}
 use Rattle.rbg_flat.specs.internal.Sets.{IsInWord}
 use Rattle.rbg_flat.proofs.Leaping.{same_on}
 use Rattle.rbg_flat.proofs.Trying.{word_done, board_bits, leads_nowhere, ends_nowhere}
@@ -39,7 +40,7 @@ pub returns-then-held-ne0-clause-quiet : goal.returns-then-held-ne0-clause-quiet
 returns-then-held-ne0-clause-quiet c = λ v p pattern done.
     let apart : ¬ IsInWord c.args.position (c.args.vertex / 64) c.open_at-word.result v p = λ there. c.requires.plain (subst (λ (k : ℕ). IsPatternAt c.args.game.now.rules k) there.position pattern) in
     closes_quiet c.args.self.now.sets c.take_waiting.new.self c.args.position (c.args.vertex / 64) c.open_at-word.result c.take_waiting.ensures.closes v p apart
-    (meets_quiet c.take_waiting.new.self c.lead_word.new.self.sets (LeadsFrom c.args.game.now c.args.position (c.args.vertex / 64) c.held-held.result) (ToTry c.args.game.now c.args.state.now.state) c.lead_word.ensures.met v p (inl pattern) done)
+    (meets_quiet c.take_waiting.new.self c.lead_word.new.self.sets (LeadsFrom c.args.game.now c.args.position (c.args.vertex / 64) c.held-held.result) (λ (k : ℕ). ¬ IsModifierAt c.args.game.now.rules k) c.lead_word.ensures.met v p (pattern_opens c.args.game.now.rules c.requires.lawful.numbered p pattern) done)
 
 pub returns-else-held-ne0-clause-begun : goal.returns-else-held-ne0-clause-begun
 returns-else-held-ne0-clause-begun c = λ f is.
@@ -48,7 +49,7 @@ returns-else-held-ne0-clause-begun c = λ f is.
     c.args.self.now.sets c.take_waiting.new.self c.take_waiting.new.self c.args.self.now.ends c.args.self.now.ends
     c.args.position (c.args.vertex / 64) c.open_at-word.result c.held-held.result
     c.take_waiting.ensures.closes c.open_at-word.ensures.there
-    (leads_nowhere c.args.game.now c.args.state.now.state c.take_waiting.new.self c.held-held.result c.args.position (c.args.vertex / 64) none)
+    (leads_nowhere c.args.game.now c.take_waiting.new.self c.held-held.result c.args.position (c.args.vertex / 64) none)
     (ends_nowhere c.args.game.now c.args.self.now.ends c.held-held.result c.args.position (c.args.vertex / 64) none)
     c.held-held.ensures.within c.held-held.ensures.told is
 

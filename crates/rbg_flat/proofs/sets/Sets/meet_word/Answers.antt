@@ -23,14 +23,14 @@ invariant_of-self c =
     let read : c.index.result.now ≡ get_or marks place 0 = get_or_read marks place c.index.result.now in_marks c.index.ensures 0 in
     let n : ℕ = c.new_of-new.result in
     let all : (b : ℕ) → b < 64 → bit_at c.args.word b ≡ 1 → (bit_at (get_or marks place 0) b ≡ 1) ⊎ (bit_at n b ≡ 1) = subst (λ (k : ℕ). (b : ℕ) → b < 64 → bit_at c.args.word b ≡ 1 → (bit_at k b ≡ 1) ⊎ (bit_at n b ≡ 1)) read c.new_of-new.ensures.all in
-    rw (c.add_word.ensures, c.add_word-then-open-ne0.ensures) (
-      sets_open size columns marks pending waiting touched place q column c.args.word n is below in_marks in_pending c.new_of-new.ensures.only all c.args.opens c.common-open.result c.common-open.ensures.only c.common-open.ensures.both c.self.invariant.0 c.add-then-open-ne0.new.self.positions c.add.new.self.positions c.add-then-open-ne0.ensures.added c.add.ensures.added,
-      c.add-then-open-ne0.ensures.size ∙ c.self.invariant.1,
+    rw (c.add_word.ensures, c.add_word-then-opens.ensures) (
+      sets_open size columns marks pending waiting touched place q column c.args.word n is below in_marks in_pending c.new_of-new.ensures.only all c.self.invariant.0 c.add-then-opens.new.self.positions c.add.new.self.positions c.add-then-opens.ensures.added c.add.ensures.added,
+      c.add-then-opens.ensures.size ∙ c.self.invariant.1,
       c.add.ensures.size ∙ c.self.invariant.2,
     )
 
-pub invariant_of-self-else-open-ne0 : goal.invariant_of-self-else-open-ne0
-invariant_of-self-else-open-ne0 c =
+pub invariant_of-self-else-opens : goal.invariant_of-self-else-opens
+invariant_of-self-else-opens c =
     let size : ℕ = c.self.inside.size in
     let columns : ℕ = c.self.inside.columns in
     let marks : List ℕ = c.self.inside.marks.items in
@@ -53,8 +53,8 @@ invariant_of-self-else-open-ne0 c =
       c.add.ensures.size ∙ c.self.invariant.2,
     )
 
-pub returns-then-open-ne0 : goal.returns-then-open-ne0
-returns-then-open-ne0 c =
+pub returns-then-opens : goal.returns-then-opens
+returns-then-opens c =
     let size : ℕ = c.self.inside.size in
     let columns : ℕ = c.self.inside.columns in
     let marks : List ℕ = c.self.inside.marks.items in
@@ -74,10 +74,10 @@ returns-then-open-ne0 c =
     let sum : bit_or (get_or marks place 0) n ≡ get_or marks place 0 + n = subst (λ (k : ℕ). bit_or k n ≡ k + n) read c.new_of-new.ensures.sum in
     let fits : get_or marks place 0 + n < 2 ^ 64 = subst (λ (k : ℕ). k + n < 2 ^ 64) read c.new_of-new.ensures.fits in
     let fresh : (b : ℕ) → bit_at n b ≡ 1 → bit_at (get_or marks place 0) b ≡ 0 = subst (λ (k : ℕ). (b : ℕ) → bit_at n b ≡ 1 → bit_at k b ≡ 0) read c.new_of-new.ensures.fresh in
-    rw (← c.self.view_is, c.add_word.ensures, c.add_word-then-open-ne0.ensures) (meets_open size columns marks pending waiting touched place q column c.args.word n is below in_marks in_pending c.new_of-new.ensures.only all c.args.opens c.common-open.result c.common-open.ensures.only c.common-open.ensures.both c.add-then-open-ne0.new.self.positions c.add.new.self.positions fresh c.common-open.ensures.less c.if-new-eq0.false sum fits c.add-then-open-ne0.ensures.added)
+    rw (← c.self.view_is, c.add_word.ensures, c.add_word-then-opens.ensures, c.if-opens.true) (meets_open size columns marks pending waiting touched place q column c.args.word n is below in_marks in_pending c.new_of-new.ensures.only all c.add-then-opens.new.self.positions c.add.new.self.positions fresh c.if-new-eq0.false sum fits c.add-then-opens.ensures.added)
 
-pub returns-else-open-ne0 : goal.returns-else-open-ne0
-returns-else-open-ne0 c =
+pub returns-else-opens : goal.returns-else-opens
+returns-else-opens c =
     let size : ℕ = c.self.inside.size in
     let columns : ℕ = c.self.inside.columns in
     let marks : List ℕ = c.self.inside.marks.items in
@@ -96,4 +96,4 @@ returns-else-open-ne0 c =
     let all : (b : ℕ) → b < 64 → bit_at c.args.word b ≡ 1 → (bit_at (get_or marks place 0) b ≡ 1) ⊎ (bit_at n b ≡ 1) = subst (λ (k : ℕ). (b : ℕ) → b < 64 → bit_at c.args.word b ≡ 1 → (bit_at k b ≡ 1) ⊎ (bit_at n b ≡ 1)) read c.new_of-new.ensures.all in
     let sum : bit_or (get_or marks place 0) n ≡ get_or marks place 0 + n = subst (λ (k : ℕ). bit_or k n ≡ k + n) read c.new_of-new.ensures.sum in
     let fits : get_or marks place 0 + n < 2 ^ 64 = subst (λ (k : ℕ). k + n < 2 ^ 64) read c.new_of-new.ensures.fits in
-    rw (← c.self.view_is, c.add_word.ensures) (meets_closed size columns marks pending waiting touched place q column c.args.word n is below in_marks in_pending c.new_of-new.ensures.only all c.args.opens c.common-open.result c.common-open.ensures.only c.common-open.ensures.both c.add.new.self.positions c.if-open-ne0.false sum fits)
+    rw (← c.self.view_is, c.add_word.ensures, c.if-opens.false) (meets_closed size columns marks pending waiting touched place q column c.args.word n is below in_marks in_pending c.new_of-new.ensures.only all c.add.new.self.positions sum fits)

@@ -1,0 +1,26 @@
+use Rattle.std.proofs.Common.{◌≡◌, ℕ, ◌<◌, List, [], true, sym, subst, arith}
+use Rattle.std.proofs.lemmas.List.{take_all}
+use Rattle.rbg_flat.specs.internal.Sets.{IsInRow, Meets}
+use Rattle.rbg_flat.proofs.Meetings.{meets_none, empty_row, meets_more, meets_only}
+use Rattle.rbg_flat.proofs.sets.Sets.meet_row.Goals as goal
+
+pub returns-then-row-eq1 : goal.returns-then-row-eq1
+returns-then-row-eq1 c = meets_only c.args.self.now c.meet_word.new.self c.args.position c.args.row.now c.args.opens c.if-row-eq1.true c.meet_word.ensures
+
+pub loop-column-init : goal.loop-column-init
+loop-column-init c = meets_none c.args.self.now (IsInRow c.args.position []) (λ _. c.args.opens ≡ true) (empty_row c.args.position)
+
+pub meet_some-requires-clause-position : goal.meet_some-requires-clause-position
+meet_some-requires-clause-position c = subst (λ (k : ℕ). c.args.position < k) (sym c.loop-column.invariant.size) c.requires.position
+
+pub meet_some-requires-clause-column : goal.meet_some-requires-clause-column
+meet_some-requires-clause-column c =
+    let below = c.loop-column-test.true in
+    let wide = c.requires.row in
+    subst (λ (k : ℕ). c.loop-column.column < k) (sym c.loop-column.invariant.columns) (omega (arith, below, wide))
+
+pub loop-column-preserved : goal.loop-column-preserved
+loop-column-preserved c = meets_more c.args.self.now c.loop-column.self c.meet_some.new.self c.args.position c.args.row.now c.loop-column.column c.args.opens c.loop-column-test.true c.loop-column.invariant c.meet_some.ensures
+
+pub returns : goal.returns
+returns c = subst (λ (row : List ℕ). Meets c.args.self.now c.loop-column.self (IsInRow c.args.position row) (λ _. c.args.opens ≡ true)) (take_all c.loop-column.column c.args.row.now c.loop-column-test.false) c.loop-column.invariant
