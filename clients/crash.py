@@ -9,13 +9,15 @@ end the record has to be good and to have the moves and the outcome of the first
 to tell the same. A log that is cut at any of its bytes has to be refereed up to the cut, and to go on from there.
 
 Meanwhile the players of one more match send bytes without an end and no message: it has to last its minute, however many
-rounds have passed, and then goes on from its log. And what can't be opened has to be named on standard error.
+rounds have passed, and then goes on from its log. And what can't be opened or written has to be named on standard error.
 
 It needs nothing but Linux, Python 3.11 and the program rbg.
 """
 
 import argparse
+import contextlib
 import random
+import resource
 import signal
 import socket
 import subprocess
@@ -29,6 +31,8 @@ from typing import Optional
 CLIENT = Path(__file__).resolve().with_name("rbg_player.py")
 PATIENCE = 60  # seconds in which a match has to end
 ROUNDS = 600  # the rounds of the match that is to last a minute; they are over in 3 to 17 seconds
+LOG_ROOM = 100  # the bytes of a file that gets no longer; a log has more after one long message
+FILES_ROOM = 5  # the open files of a process that can accept one connection: three streams, its listener and this one
 PAUSE = 0.02  # seconds between two bytes, so that in a minute they are no message that is too long
 
 
@@ -210,6 +214,45 @@ def check_faults(match: Match) -> int:
     return len(faults)
 
 
+def fail_at(match: Match, limit: int, room: int, *words: str) -> str:
+    """What standard error tells last of a match in which the system gives the referee no more than this of something, and
+    each player says a long message."""
+    port = free_port()
+    referee = subprocess.Popen(
+        [match.rbg, "serve", str(match.game), "--port", str(port), *words],
+        stdout=subprocess.PIPE, stderr=subprocess.PIPE, text=True,
+        restore_signals=False, preexec_fn=lambda: resource.setrlimit(limit, (room, room)),
+    )
+    with contextlib.ExitStack() as connections:
+        try:
+            Match.wait_for(referee, "listening")
+            with contextlib.suppress(OSError):  # the referee may have ended
+                for _ in range(2):
+                    connection = connections.enter_context(socket.create_connection(("127.0.0.1", port)))
+                    connection.sendall(b"x" * LOG_ROOM + b"\0")
+            output, told = referee.communicate(timeout=PATIENCE)
+        finally:
+            Match.end(referee, [])
+    if (referee.returncode, output) != (3, "device\n"):
+        raise Wrong(f"where something can't be had: status {referee.returncode}, {output}{told}")
+    return told
+
+
+def check_failures(match: Match) -> int:
+    """A log that can't be written is named on standard error, and so is a connection that can't be accepted. Returns how
+    many such failures were looked at."""
+    log = match.log.with_name("full.log")
+    told = fail_at(match, resource.RLIMIT_FSIZE, LOG_ROOM, "--log", str(log))
+    if f"can't write the log {log}: " not in told:
+        raise Wrong(f"a log that can't be written: {told}")
+    if len(log.read_bytes()) > LOG_ROOM or not log.read_bytes().startswith(b"config "):
+        raise Wrong("a log that can't be written is longer than it may be, or doesn't begin as a log")
+    told = fail_at(match, resource.RLIMIT_NOFILE, FILES_ROOM)
+    if "can't accept a connection: " not in told:
+        raise Wrong(f"a connection that can't be accepted: {told}")
+    return 2
+
+
 def crash_once(match: Match, chance: random.Random, longest: float) -> int:
     """Plays a match that is killed twice at most. Returns how often it was killed."""
     killed = 0
@@ -282,6 +325,7 @@ def crash(words: argparse.Namespace, folder: Path) -> tuple[str, int]:
         if number == 0:
             print(f"{cut_everywhere(match)} cuts of a log were looked at", flush=True)
             print(f"{check_faults(match)} faults name their file or port", flush=True)
+            print(f"{check_failures(match)} failures in a match tell what can't be written or accepted", flush=True)
             first = whole
         often = crash_once(match, chance, longest)
         killed += often

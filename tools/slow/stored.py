@@ -21,7 +21,7 @@ class Case:
         self.made = None  # the file that is shown too
         self.last = None
         self.author = False
-        self.fails = False  # its input fails or has no end, or its output fails
+        self.fails = False  # its input fails or has no end, its output fails, or there is no memory for a file
 
     def covered(self):
         if self.author or self.fails:
@@ -98,7 +98,7 @@ def read_cases(lines):
             case.last = int(name)
         elif word == b"author":
             case.author = True
-        elif word in (b"input", b"output"):
+        elif word in (b"input", b"output", b"no"):
             case.fails = True
         else:
             target = bytearray()  # a stream of a connection

@@ -13,7 +13,7 @@ use std::alloc::{AllocError, Global};
 use std::io::Read;
 
 /// Why not all is read.
-#[derive(Clone, Copy, Debug, PartialEq, Eq)]
+#[derive(Clone, Copy)]
 pub(crate) enum Unread {
     /// A file or standard input can't be read.
     Device,

@@ -12,7 +12,7 @@ use rbg_script::{Script, read_script};
 use std::alloc::{AllocError, Global};
 
 /// What is printed of a match, and its record of version 2.
-#[derive(Debug, Drop)]
+#[derive(Drop)]
 pub struct Recorded {
     pub lines: Vec<u8>,
     pub told: Vec<u8>,

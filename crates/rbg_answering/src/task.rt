@@ -1,7 +1,7 @@
 //! What is asked for: a command with the names of its files, or with what was read of them.
 
 /// A command.
-#[derive(Clone, Copy, Debug, PartialEq, Eq)]
+#[derive(Clone, Copy)]
 pub enum Command {
     /// To print how many of each thing the game has.
     Check,
@@ -16,7 +16,7 @@ pub enum Command {
 }
 
 /// A command with the names of the files that it asks for. The script of `Referee` is on standard input.
-#[derive(Clone, Copy, Debug)]
+#[derive(Clone, Copy)]
 pub enum FileTask<'a> {
     Check { file: &'a str },
     Referee { file: &'a str },
@@ -27,7 +27,7 @@ pub enum FileTask<'a> {
 
 /// A command with what was read for it: of a description at most `MAX_TEXT` bytes, and of a script or a record at most
 /// `MAX_INPUT`. None where there are more.
-#[derive(Debug, Drop)]
+#[derive(Drop)]
 pub struct Task {
     pub command: Command,
     pub description: Option<Vec<u8>>,

@@ -6,7 +6,7 @@ use rbg_base::Move;
 pub const MAX_COUNT: u64 = 1_000_000;
 
 /// A question, or an order, to a session.
-#[derive(Clone, Debug, Drop, PartialEq, Eq)]
+#[derive(Drop)]
 pub enum Question {
     /// `moves` or `moves <max>`: the legal moves, or at most so many of them.
     Moves { max: Option<u64> },

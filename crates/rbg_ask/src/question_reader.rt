@@ -12,7 +12,7 @@ use rbg_base::{Move, number_of_decimal};
 use rbg_wire::{after_text, cut_at, read_pairs};
 
 /// With what matches by chance begin, and how many they are.
-#[derive(Clone, Copy, Debug)]
+#[derive(Clone, Copy)]
 struct Chance {
     seed: u64,
     count: u64,

@@ -4,7 +4,7 @@ use rbg_base::Memory as OutOfMemory;
 use rbg_moves::{Over, Unsettled};
 
 /// Why a question has no answer. The session is as before.
-#[derive(Clone, Copy, Debug, PartialEq, Eq)]
+#[derive(Clone, Copy)]
 pub enum Refusal {
     /// `long`: the line has more than 4,096 bytes.
     Long,

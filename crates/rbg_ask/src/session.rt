@@ -31,7 +31,6 @@ use std::mem::replace;
 pub const MAX_LINE: usize = 4096;
 
 /// The places that play has reached, from the start on. Contracts see the game, the last place and those before it.
-#[derive(Debug)]
 pub struct Session {
     alloc: Global,
     game: PlayedGame,

@@ -5,7 +5,7 @@ use rbg_base::Player;
 use rbg_rules::limits::MAX_PLAYERS;
 
 /// How play stands at a place.
-#[derive(Clone, Debug, Drop, PartialEq, Eq)]
+#[derive(Drop)]
 pub enum Standing {
     /// `player <number>`: the player has a legal move.
     ToMove { player: Player },

@@ -9,7 +9,7 @@ use rbg_base::Memory;
 use rbg_rules::limits::MAX_PLAYERS;
 
 /// How a match that was played by chance ended.
-#[derive(Clone, Debug, Drop, PartialEq, Eq)]
+#[derive(Drop)]
 pub enum Ending {
     /// `<scores>`: nobody has a legal move. The players have these scores, in order.
     Finished { scores: ArrayVec<u64, MAX_PLAYERS> },
@@ -18,7 +18,7 @@ pub enum Ending {
 }
 
 /// A match that was played by chance.
-#[derive(Clone, Debug, Drop, PartialEq, Eq)]
+#[derive(Drop)]
 pub(crate) struct Played {
     /// How it ended.
     pub(crate) ending: Ending,
@@ -27,7 +27,7 @@ pub(crate) struct Played {
 }
 
 /// How many matches ended in one way.
-#[derive(Clone, Debug, Drop, PartialEq, Eq)]
+#[derive(Drop)]
 pub struct Tally {
     /// How they ended.
     pub ending: Ending,

@@ -9,7 +9,7 @@ use rbg_game::LoadedGame;
 use std::alloc::{AllocError, Global};
 
 /// What `explain` lists besides the names.
-#[derive(Clone, Copy, Debug)]
+#[derive(Clone, Copy)]
 pub(crate) struct Lists {
     pub(crate) vertices: bool,
     pub(crate) positions: bool,

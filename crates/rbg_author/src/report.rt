@@ -4,7 +4,7 @@ use rbg_console::{Files, Status, WordsError, write_text, write_words};
 use std::io::Write;
 
 /// What the program prints, and its status.
-#[derive(Debug, Drop)]
+#[derive(Drop)]
 pub struct Report {
     pub text: Vec<u8>,
     pub status: Status,

@@ -59,9 +59,15 @@ pub struct Case<'a> {
     pub made: Option<String>,
     /// Whether what its logs hold is shown too.
     pub logs: bool,
+    /// Whether what its connections were sent is shown too.
+    pub sent: bool,
     pub words: Vec<String>,
     pub files: Vec<Text<'a>>,
+    /// The files for which there is no memory.
+    pub lacking: Vec<&'a [u8]>,
     pub streams: Vec<Stream>,
+    /// What each of its clocks tells, one after the other.
+    pub moments: Vec<u64>,
     pub input: Vec<u8>,
     pub behind: Behind,
     /// Whether what is printed can't be written.
@@ -130,6 +136,12 @@ impl<'a> Reader<'a> {
         if let Some(name) = line.strip_prefix(b"made ") {
             return self.show_made(alloc, name);
         }
+        if let Some(name) = line.strip_prefix(b"no memory for ") {
+            return self.refuse_file(name);
+        }
+        if let Some(moments) = line.strip_prefix(b"clock ") {
+            return self.add_moments(moments);
+        }
         if let Some(is_read) = self.read_option(line) {
             return Ok(is_read);
         }
@@ -162,6 +174,9 @@ impl<'a> Reader<'a> {
         if line == b"logs".as_slice() {
             return Some(self.show_logs());
         }
+        if line == b"sent".as_slice() {
+            return Some(self.show_sent());
+        }
         if line == b"output fails".as_slice() {
             return Some(self.close_output());
         }
@@ -183,9 +198,12 @@ impl<'a> Reader<'a> {
             news: false,
             made: None,
             logs: false,
+            sent: false,
             words: Vec::new(alloc),
             files: Vec::new(alloc),
+            lacking: Vec::new(alloc),
             streams: Vec::new(alloc),
+            moments: Vec::new(alloc),
             input: Vec::new(alloc),
             behind: Behind::End,
             output_fails: false,
@@ -251,6 +269,17 @@ impl<'a> Reader<'a> {
         }
     }
 
+    /// What the connections of the case were sent is shown.
+    fn show_sent(&mut self) -> bool {
+        match self.cases.last_mut() {
+            Some(case) => {
+                case.sent = true;
+                true
+            }
+            None => false,
+        }
+    }
+
     /// What the case's standard input gives behind its bytes.
     fn change_input(&mut self, word: &[u8]) -> bool {
         let behind = match word {
@@ -276,6 +305,31 @@ impl<'a> Reader<'a> {
             }
             None => false,
         }
+    }
+
+    /// There is no memory for the file of this name.
+    fn refuse_file(&mut self, name: &'a [u8]) -> Result<bool, AllocError> {
+        match self.cases.last_mut() {
+            Some(case) => {
+                case.lacking.push(name)?;
+                Ok(true)
+            }
+            None => Ok(false),
+        }
+    }
+
+    /// The clocks of the case tell these moments, which have single spaces between them.
+    fn add_moments(&mut self, moments: &[u8]) -> Result<bool, AllocError> {
+        let Some(case) = self.cases.last_mut() else {
+            return Ok(false);
+        };
+        for moment in moments.split(|byte| *byte == b' ') {
+            match read_moment(moment) {
+                Some(moment) => case.moments.push(moment)?,
+                None => return Ok(false),
+            }
+        }
+        Ok(true)
     }
 
     fn add_words(&mut self, alloc: Global, words: &[u8]) -> Result<bool, AllocError> {
@@ -341,5 +395,9 @@ impl<'a> Reader<'a> {
 }
 
 fn read_count(digits: &[u8]) -> Option<usize> {
+    str::from_utf8(digits).ok()?.parse().ok()
+}
+
+fn read_moment(digits: &[u8]) -> Option<u64> {
     str::from_utf8(digits).ok()?.parse().ok()
 }

@@ -9,12 +9,15 @@
 //! | `author` | the case runs `rbg_author`, else it runs `rbg` |
 //! | `news` | what the case tells on standard error is shown too, each line behind `news: ` |
 //! | `logs` | what the logs of the case hold is shown too, each line behind `log: `; a new log is full at 1,000 bytes |
+//! | `sent` | what each connection of the case was sent is shown too, each line behind `sent NUMBER: `; a zero byte, which ends a line too, is shown as `\0` |
+//! | `clock MOMENT ..` | each clock of the case tells these moments, with single spaces between them, and then the last one again and again; without this line it tells 0 |
 //! | `last COUNT` | of what the case prints only this many lines are shown, the last ones |
 //! | `input endless` | behind its bytes the case's standard input gives zero bytes without end |
 //! | `input fails` | behind its bytes the case's standard input fails |
 //! | `output fails` | what the case prints can't be written |
 //! | `made NAME` | the bytes of a file that the case has made are shown too, behind a line `made NAME` |
 //! | `file NAME` | a file of the case begins; what follows is its bytes |
+//! | `no memory for NAME` | where the case reads this file, memory is refused |
 //! | `stream` | what comes over a connection of the case begins; what follows is its bytes, and then nothing comes |
 //! | `stream that ends` | the same, but behind its bytes the stream ends |
 //! | `text NAME` | a text begins, which later lines can use; what follows is its bytes |
@@ -48,6 +51,8 @@ use std::process::ExitCode;
 struct CaseFiles<'a> {
     alloc: Global,
     files: &'a [Text<'a>],
+    /// The files for which there is no memory.
+    lacking: &'a [&'a [u8]],
     made: &'a mut MemoryFiles,
     /// What was told, each line behind `news: `.
     told: Vec<u8>,
@@ -67,6 +72,13 @@ impl Files for CaseFiles<'_> {
     type NewFile = Vec<u8>;
 
     fn read_file(&mut self, alloc: Global, name: &str, limit: usize) -> Result<Input, AllocError> {
+        if self
+            .lacking
+            .iter()
+            .any(|lacking| *lacking == name.as_bytes())
+        {
+            return Err(AllocError);
+        }
         match self.bytes_of(name) {
             Some(bytes) => read_bytes(alloc, bytes, limit),
             None => Ok(Input::Device),
@@ -116,42 +128,85 @@ fn run_program(
     output: &mut CaseOutput,
     told: &mut Vec<u8>,
 ) -> Result<Status, AllocError> {
-    let words = case.words.as_slice();
     let mut files = CaseFiles {
         alloc,
         files: case.files.as_slice(),
+        lacking: case.lacking.as_slice(),
         made,
         told: Vec::new(alloc),
     };
-    let mut input = CaseInput {
-        bytes: case.input.as_slice(),
-        behind: case.behind,
-    };
     let status = match case.program {
-        Program::Rbg => {
-            let mut network = MemoryNetwork::new(alloc, case.streams.as_slice(), files.files);
-            let status = rbg_program::run(
-                alloc,
-                words,
-                &mut files,
-                &mut network,
-                &mut input,
-                output,
-            );
-            if case.news {
-                told.extend_from_slice(network.told())?;
-            }
-            if case.logs {
-                network.add_logs(told)?;
-            }
-            status
-        }
-        Program::RbgAuthor => rbg_author::run(alloc, words, &mut files, &mut input, output),
+        Program::Rbg => run_rbg(alloc, case, &mut files, output, told)?,
+        Program::RbgAuthor => run_author(alloc, case, &mut files, output),
     };
     if case.news {
         told.extend_from_slice(files.told.as_slice())?;
     }
     Ok(status)
+}
+
+/// What comes over a case's standard input.
+fn input_of<'a>(case: &'a Case<'_>) -> CaseInput<'a> {
+    CaseInput {
+        bytes: case.input.as_slice(),
+        behind: case.behind,
+    }
+}
+
+/// Runs `rbg` on a network in memory. Returns its status.
+fn run_rbg(
+    alloc: Global,
+    case: &Case<'_>,
+    files: &mut CaseFiles<'_>,
+    output: &mut CaseOutput,
+    told: &mut Vec<u8>,
+) -> Result<Status, AllocError> {
+    let mut network = MemoryNetwork::new(
+        alloc,
+        case.streams.as_slice(),
+        case.files.as_slice(),
+        case.moments.as_slice(),
+    );
+    let mut input = input_of(case);
+    let status = rbg_program::run(
+        alloc,
+        case.words.as_slice(),
+        files,
+        &mut network,
+        &mut input,
+        output,
+    );
+    add_told(case, &network, told)?;
+    Ok(status)
+}
+
+/// Adds what is to be shown of a case's network.
+fn add_told(
+    case: &Case<'_>,
+    network: &MemoryNetwork<'_>,
+    told: &mut Vec<u8>,
+) -> Result<(), AllocError> {
+    if case.news {
+        told.extend_from_slice(network.told())?;
+    }
+    if case.logs {
+        network.add_logs(told)?;
+    }
+    if case.sent {
+        network.add_sent(told)?;
+    }
+    Ok(())
+}
+
+/// Runs `rbg_author`. Returns its status.
+fn run_author(
+    alloc: Global,
+    case: &Case<'_>,
+    files: &mut CaseFiles<'_>,
+    output: &mut CaseOutput,
+) -> Status {
+    let mut input = input_of(case);
+    rbg_author::run(alloc, case.words.as_slice(), files, &mut input, output)
 }
 
 /// Adds the bytes of a file that was made, if there is one of this name.

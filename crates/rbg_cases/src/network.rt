@@ -1,4 +1,4 @@
-//! A network in memory. Its clock stands still, and a stream never waits.
+//! A network in memory. A stream never waits.
 
 use crate::cases::{Stream, Text};
 use rbg_program::{Clock, Log, LogFailure, Network, News};
@@ -34,11 +34,21 @@ pub struct MemoryNetwork<'a> {
     files: &'a [Text<'a>],
     /// The logs, in the order in which they were begun.
     logs: Vec<Channel>,
+    /// What the streams of the case were sent, in the order in which they were connected.
+    sent: Vec<Channel>,
+    /// What each clock tells, one after the other.
+    moments: &'a [u64],
 }
 
 impl<'a> MemoryNetwork<'a> {
-    /// The network of a case: where nothing listens, each connection gives the next of these streams.
-    pub fn new(alloc: Global, streams: &'a [Stream], files: &'a [Text<'a>]) -> MemoryNetwork<'a> {
+    /// The network of a case: where nothing listens, each connection gives the next of these streams, and each clock tells
+    /// these moments.
+    pub fn new(
+        alloc: Global,
+        streams: &'a [Stream],
+        files: &'a [Text<'a>],
+        moments: &'a [u64],
+    ) -> MemoryNetwork<'a> {
         MemoryNetwork {
             alloc,
             streams,
@@ -47,6 +57,8 @@ impl<'a> MemoryNetwork<'a> {
             told: Vec::new(alloc),
             files,
             logs: Vec::new(alloc),
+            sent: Vec::new(alloc),
+            moments,
         }
     }
 
@@ -62,6 +74,23 @@ impl<'a> MemoryNetwork<'a> {
                 for line in bytes.as_slice().split_inclusive(|byte| *byte == b'\n') {
                     output.extend_from_slice(b"log: ")?;
                     output.extend_from_slice(line)?;
+                }
+            }
+        }
+        Ok(())
+    }
+
+    /// Appends what each connection was sent, each line behind `sent` and its number.
+    pub fn add_sent(&self, output: &mut Vec<u8>) -> Result<(), AllocError> {
+        for (index, channel) in self.sent.iter().enumerate() {
+            if let Ok(bytes) = channel.try_borrow() {
+                let number = index.saturating_add(1);
+                let head = format!(in self.alloc; "sent {number}: ")?;
+                for line in bytes
+                    .as_slice()
+                    .split_inclusive(|byte| matches!(byte, 0 | b'\n'))
+                {
+                    push_sent(head.as_bytes(), line, output)?;
                 }
             }
         }
@@ -86,11 +115,25 @@ impl<'a> MemoryNetwork<'a> {
         };
         self.streams = others;
         let incoming = RefCell::new(stream.bytes.clone()?);
+        let outgoing = self.new_channel()?;
+        self.sent.push(outgoing.clone()?)?;
         Ok(MemoryStream {
             incoming: Rc::new(self.alloc, incoming)?,
-            outgoing: self.new_channel()?,
+            outgoing,
             stays_open: !stream.ends,
         })
+    }
+}
+
+/// Appends a line behind its head. A zero byte is spelt `\0`, and ends a line too.
+fn push_sent(head: &[u8], line: &[u8], output: &mut Vec<u8>) -> Result<(), AllocError> {
+    output.extend_from_slice(head)?;
+    match line.strip_suffix(b"\0".as_slice()) {
+        Some(text) => {
+            output.extend_from_slice(text)?;
+            output.extend_from_slice(b"\\0\n")
+        }
+        None => output.extend_from_slice(line),
     }
 }
 
@@ -99,7 +142,7 @@ impl<'a> Network for MemoryNetwork<'a> {
 
     type Listener = u16;
 
-    type Clock = StandingClock;
+    type Clock = CaseClock<'a>;
 
     type Log = MemoryLog;
 
@@ -137,8 +180,11 @@ impl<'a> Network for MemoryNetwork<'a> {
         })
     }
 
-    fn start_clock(&mut self) -> io::Result<StandingClock> {
-        Ok(StandingClock)
+    fn start_clock(&mut self) -> io::Result<CaseClock<'a>> {
+        Ok(CaseClock {
+            moments: self.moments,
+            last: 0,
+        })
     }
 
     fn create_log(&mut self, name: &str, _sync: bool) -> io::Result<MemoryLog> {
@@ -226,14 +272,22 @@ impl Log for MemoryLog {
     }
 }
 
-/// A clock that always says 0.
+/// A clock that tells the moments of a case, and then the last of them again and again, or 0 if there is none.
 #[derive(Clone, Copy, Debug)]
-pub struct StandingClock;
+pub struct CaseClock<'a> {
+    /// What it has not told yet.
+    moments: &'a [u64],
+    last: u64,
+}
 
-impl Clock for StandingClock {
+impl Clock for CaseClock<'_> {
     ghost told = { λ _ _. Unit {0} };
 
     fn now(&mut self) -> u64 {
-        0
+        if let Some((moment, others)) = self.moments.split_first() {
+            self.moments = others;
+            self.last = *moment;
+        }
+        self.last
     }
 }

@@ -12,7 +12,7 @@ use std::io::{ErrorKind, Read, Write};
 const CHUNK: usize = 4096;
 
 /// What a part of the input leaves to do.
-#[derive(Clone, Copy, Debug, PartialEq, Eq)]
+#[derive(Clone, Copy, PartialEq, Eq)]
 enum Next {
     /// To read on.
     Read,

@@ -19,7 +19,7 @@ const USUAL_REFUSALS: u32 = 3;
 const USUAL_ROUNDS: u64 = 100_000;
 
 /// How a match is served.
-#[derive(Clone, Copy, Debug)]
+#[derive(Clone, Copy)]
 pub struct Service {
     pub config: Config,
     /// The most rounds.
@@ -27,7 +27,7 @@ pub struct Service {
 }
 
 /// What the program is asked to do.
-#[derive(Debug, Drop)]
+#[derive(Drop)]
 pub enum Task<'a> {
     /// A command on files: `check`, `referee` with a file, `replay`, `migrate`, or `moves` with a record.
     Files(FileTask<'a>),

@@ -1,7 +1,7 @@
 //! What a hall hears.
 
 /// What a hall hears. Lines are numbered from 0, and moments are in milliseconds. A line above the last does nothing.
-#[derive(Clone, Copy, Debug)]
+#[derive(Clone, Copy)]
 pub enum HallEvent<'a> {
     /// The next bytes of a line have come.
     Piece { line: u64, at: u64, bytes: &'a [u8] },

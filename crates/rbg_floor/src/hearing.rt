@@ -18,7 +18,7 @@ use rbg_log::Log;
 use rbg_wire::{Inbox, Reason};
 
 /// What the first message of a line asks for.
-#[derive(Clone, Copy, Debug)]
+#[derive(Clone, Copy)]
 pub(crate) enum First {
     /// It has not come.
     Nothing,

@@ -3,7 +3,7 @@
 use rbg_wire::Inbox;
 
 /// What stands of a line. Of a line that is over nothing is kept.
-#[derive(Debug, Drop)]
+#[derive(Drop)]
 pub(crate) enum Line {
     /// No message of it has come.
     Silent(Inbox),

@@ -4,7 +4,7 @@ use rbg_match::Config;
 use rbg_rules::Game;
 
 /// A game, its text and the config of the match at a table.
-#[derive(Debug, Drop)]
+#[derive(Drop)]
 pub struct Table {
     pub game: Game,
     pub text: Vec<u8>,

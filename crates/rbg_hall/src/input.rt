@@ -3,7 +3,7 @@
 use rbg_wire::Took;
 
 /// What a table hears. Lines are numbered from 0, and moments are in milliseconds.
-#[derive(Clone, Copy, Debug)]
+#[derive(Clone, Copy)]
 pub enum TableInput<'a> {
     /// The clock shows a moment.
     Clock { at: u64 },

@@ -14,14 +14,14 @@ use std::marker::Model;
 pub const LINES: usize = 128;
 
 /// How long the queue of a line was.
-#[derive(Clone, Copy, Debug)]
+#[derive(Clone, Copy)]
 pub struct Mark {
     pub line: usize,
     pub len: usize,
 }
 
 /// The bytes that were queued for each line. Lines are numbered from 0. Contracts see the list of the lines' bytes.
-#[derive(Debug, Drop)]
+#[derive(Drop)]
 pub struct HallOut {
     queues: Vec<Vec<u8>>,
 }

@@ -16,7 +16,7 @@ use std::alloc::Global;
 use std::marker::Model;
 
 /// A match that has begun. Contracts see the match.
-#[derive(Debug, Drop)]
+#[derive(Drop)]
 pub(crate) struct Running {
     playing: Match,
     /// What the match says to its seats in one step. Between steps nothing is in it.

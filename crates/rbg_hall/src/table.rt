@@ -27,7 +27,7 @@ use std::mem::replace;
 pub const MESSAGE_LIMIT: usize = 4096;
 
 /// How far a table is.
-#[derive(Debug, Drop)]
+#[derive(Drop)]
 pub(crate) enum Phase {
     /// Its match has not begun.
     Waiting(Game),
@@ -39,7 +39,6 @@ pub(crate) enum Phase {
 
 /// A table of a hall: its seats, and its match once all of them are taken. Contracts see its state. What it hears is all
 /// or nothing for the caller, who takes back what a refusal left in the queues, and asks the table no more.
-#[derive(Debug)]
 pub struct HallTable {
     text: Vec<u8>,
     config: Config,

@@ -21,7 +21,7 @@ use std::alloc::{AllocError, Global};
 use std::io::{Read, Write};
 
 /// How the matches are served.
-#[derive(Clone, Copy, Debug)]
+#[derive(Clone, Copy)]
 pub struct HallService<'a> {
     pub config: Config,
     /// The most rounds.

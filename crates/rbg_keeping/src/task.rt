@@ -4,7 +4,7 @@ use rbg_match::Config;
 use rbg_network::Hosting;
 
 /// What is kept of a match, and how long it may take.
-#[derive(Clone, Copy, Debug)]
+#[derive(Clone, Copy)]
 pub struct Keeping<'a> {
     /// The new file for the log.
     pub log: Option<&'a str>,
@@ -19,7 +19,7 @@ pub struct Keeping<'a> {
 }
 
 /// How a match between players at a port is served.
-#[derive(Clone, Copy, Debug)]
+#[derive(Clone, Copy)]
 pub struct Serving<'a> {
     pub config: Config,
     /// The most rounds.

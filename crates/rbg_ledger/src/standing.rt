@@ -1,7 +1,7 @@
 //! How things stand with a table and its log.
 
 /// How things stand with a table and its log. Once something has failed, the table hears nothing.
-#[derive(Clone, Copy, Debug, PartialEq, Eq)]
+#[derive(Clone, Copy)]
 pub enum Standing {
     /// All that the table heard was written and handled.
     Works,

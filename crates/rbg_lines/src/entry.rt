@@ -4,7 +4,7 @@ use rbg_base::Move;
 use rbg_wire::Outcome;
 
 /// An entry of a record: a move that was made, or how the record ends.
-#[derive(Clone, Debug, Drop, PartialEq, Eq)]
+#[derive(Drop)]
 pub enum Entry {
     /// `<player> <pairs>`: the player made this move. The keeper is player 0.
     Move { player: u64, pairs: Move },
@@ -13,7 +13,7 @@ pub enum Entry {
 }
 
 /// An entry with its moment.
-#[derive(Clone, Debug, Drop, PartialEq, Eq)]
+#[derive(Drop)]
 pub struct Timed {
     /// The moment in milliseconds.
     pub at: u64,

@@ -1,7 +1,7 @@
 //! What the first lines of a record tell.
 
 /// The version of a record.
-#[derive(Clone, Copy, Debug, PartialEq, Eq)]
+#[derive(Clone, Copy)]
 pub enum Version {
     /// `rbg 1`: moves and the outcome.
     One,
@@ -10,7 +10,7 @@ pub enum Version {
 }
 
 /// `start <turn> <now>`: how a match was begun.
-#[derive(Clone, Copy, Debug, PartialEq, Eq)]
+#[derive(Clone, Copy)]
 pub struct Start {
     /// The time for a turn, in milliseconds.
     pub turn_ms: u64,

@@ -15,7 +15,7 @@ use rbg_record::{Fault, Reached, read_line};
 use std::alloc::Global;
 
 /// The first line of a record that doesn't lead on, numbered from 1, and why. Where memory ran out it may be any line.
-#[derive(Clone, Copy, Debug, PartialEq, Eq)]
+#[derive(Clone, Copy)]
 pub struct Misfit {
     pub line: usize,
     pub fault: Fault,

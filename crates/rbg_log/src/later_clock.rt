@@ -4,7 +4,7 @@ ghost use Rattle.std.specs.Prelude.{◌≡◌};
 use rbg_serving::Clock;
 
 /// A clock whose moments are later than those of another one by so much.
-#[derive(Debug, Drop)]
+#[derive(Drop)]
 pub struct LaterClock<C: Clock + Drop> {
     clock: C,
     since: u64,

@@ -6,7 +6,7 @@ use crate::Log;
 use rbg_match::Match;
 
 /// Why no more events are handled.
-#[derive(Clone, Copy, Debug, PartialEq, Eq)]
+#[derive(Clone, Copy)]
 pub enum Stop {
     /// The log failed.
     Log,

@@ -6,7 +6,7 @@ use crate::{Log, LogFailure};
 use std::alloc::{AllocError, Global};
 
 /// A log in memory. It fails, and takes nothing, where it would hold more than it can.
-#[derive(Debug, Drop)]
+#[derive(Drop)]
 pub struct MemoryLog {
     bytes: Vec<u8>,
     /// How many bytes it can hold.

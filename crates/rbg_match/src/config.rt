@@ -10,7 +10,7 @@ pub const LATEST_MOMENT: u64 = u64::MAX - MAX_TURN_MS;
 pub const MAX_REFUSALS: u32 = 100;
 
 /// The time for a turn, and how many refused messages a seat is allowed.
-#[derive(Clone, Copy, Debug, PartialEq, Eq)]
+#[derive(Clone, Copy, PartialEq, Eq)]
 pub struct Config {
     /// The time for a turn, in milliseconds: 1 to `MAX_TURN_MS`.
     pub turn_ms: u64,

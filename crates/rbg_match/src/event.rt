@@ -2,7 +2,7 @@
 
 /// A piece of a seat's stream, the end of a stream, or a moment of the clock. Seats are numbered from 1. Moments are in
 /// milliseconds.
-#[derive(Clone, Copy, Debug, PartialEq, Eq)]
+#[derive(Clone, Copy, PartialEq, Eq)]
 pub enum Event<'a> {
     /// The next bytes of a seat's stream have arrived.
     Piece { seat: u64, at: u64, bytes: &'a [u8] },

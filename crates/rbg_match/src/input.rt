@@ -3,7 +3,7 @@
 use rbg_wire::Took;
 
 /// An input of a match. Seats are numbered from 1.
-#[derive(Clone, Copy, Debug)]
+#[derive(Clone, Copy)]
 pub(crate) enum Input<'a> {
     /// A moment of the clock alone.
     Tick,

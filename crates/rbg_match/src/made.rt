@@ -4,7 +4,7 @@ use rbg_base::Player;
 use rbg_moves::Move;
 
 /// A move that was made.
-#[derive(Debug, Drop, PartialEq, Eq)]
+#[derive(Drop)]
 pub struct Made {
     /// Who made it: the players are numbered from 1, and the keeper is 0.
     pub player: Player,

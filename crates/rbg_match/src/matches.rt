@@ -19,7 +19,6 @@ use std::alloc::Global;
 use std::marker::Model;
 
 /// A match of a game.
-#[derive(Debug)]
 pub struct Match {
     /// Its moment is the greatest counted one. Once the match has ended it stays the moment of the end.
     referee: Referee,

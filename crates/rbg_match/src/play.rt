@@ -7,7 +7,7 @@ use rbg_wire::Outcome;
 use std::mem::replace;
 
 /// The state of play. Contracts see it by `play_of`.
-#[derive(Debug, Drop)]
+#[derive(Drop)]
 pub(crate) struct Play {
     pub(crate) place: Place,
     /// The moment when the turn began.

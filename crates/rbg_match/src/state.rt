@@ -10,7 +10,7 @@ use std::marker::Model;
 use std::mem::swap;
 
 /// The referee of a match: what it judges by, how play stands, and what it has to say.
-#[derive(Debug, Drop)]
+#[derive(Drop)]
 pub(crate) struct Referee {
     pub(crate) game: PlayedGame,
     pub(crate) config: Config,

@@ -16,7 +16,7 @@ use rbg_moves::{MAX_KEEPER_MOVES, Move, Over, Place, PlayedGame};
 use rbg_wire::{Message, Outcome, Scores};
 
 /// What one step of play was.
-#[derive(Clone, Copy, Debug, PartialEq, Eq)]
+#[derive(Clone, Copy)]
 pub(crate) enum Progress {
     /// The keeper has moved, so play goes on.
     KeeperMoved,

@@ -23,7 +23,7 @@ pub enum GatherError {
 }
 
 /// How an organiser wants players to be waited for.
-#[derive(Clone, Copy, Debug)]
+#[derive(Clone, Copy)]
 pub struct Hosting {
     /// In how many seconds all have to come, if there is a bound.
     pub wait: Option<u64>,

@@ -5,7 +5,7 @@ use rbg_wire::Outcome;
 use std::fmt::{self, Formatter};
 
 /// What an organiser is told, apart from the program's answer. Its text is a line without its end.
-#[derive(Clone, Copy, Debug)]
+#[derive(Clone, Copy)]
 pub enum News<'a> {
     /// Players can connect to this port.
     Listening { port: u16 },
@@ -76,7 +76,7 @@ impl fmt::Display for News<'_> {
 }
 
 /// So many of something with this name.
-#[derive(Clone, Copy, Debug)]
+#[derive(Clone, Copy)]
 struct Count(u64, &'static str);
 
 impl fmt::Display for Count {

@@ -12,7 +12,7 @@ use crate::extent::Extent;
 use rbg_moves::{MoveList, Place, PlayedGame, Workspace};
 
 /// How many sequences of moves there are.
-#[derive(Clone, Copy, Debug, PartialEq, Eq)]
+#[derive(Clone, Copy)]
 pub struct Counts {
     /// The sequences.
     pub sequences: u64,

@@ -7,7 +7,7 @@ use rbg_base::Memory as OutOfMemory;
 use rbg_moves::{Over, Unsettled};
 
 /// Why sequences of moves were not counted.
-#[derive(Clone, Copy, Debug, PartialEq, Eq)]
+#[derive(Clone, Copy, Debug)]
 pub enum CountError {
     /// A question at one of the places is above the limits.
     Heavy,

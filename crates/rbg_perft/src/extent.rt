@@ -3,7 +3,7 @@ ghost use Rattle.std.specs.Prelude.{◌≡◌, false};
 ghost use Rattle.rbg_perft.specs.declared.extent.Extent.TheVariants.{Moves};
 
 /// What is asked behind the last move of a sequence.
-#[derive(Clone, Copy, Debug, PartialEq, Eq)]
+#[derive(Clone, Copy)]
 pub enum Extent {
     /// Whether play is finished there: the move is made, and so are the keeper's behind it.
     Ends,

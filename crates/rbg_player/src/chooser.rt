@@ -10,7 +10,7 @@ pub trait Chooser {
 }
 
 /// Chooses the first move.
-#[derive(Clone, Copy, Debug, Default, PartialEq, Eq)]
+#[derive(Clone, Copy)]
 pub struct FirstChooser;
 
 impl Chooser for FirstChooser {

@@ -3,7 +3,7 @@
 use rbg_wire::Outcome;
 
 /// Whether play goes on, as far as the player has heard.
-#[derive(Clone, Copy, Debug, PartialEq, Eq)]
+#[derive(Clone, Copy, PartialEq, Eq)]
 pub enum Heard {
     /// The player hasn't heard the end of play.
     Going,

@@ -17,7 +17,6 @@ use std::marker::Model;
 pub const MAX_MESSAGE_BYTES: usize = 262_145;
 
 /// A player of a match. It hears the stream of its seat, and says its moves.
-#[derive(Debug)]
 pub struct Player {
     alloc: Global,
     inbox: Inbox,

@@ -19,7 +19,6 @@ use std::marker::Model;
 pub const MAX_CHOICES: usize = 64;
 
 /// A seat in a game. Contracts see the number of its player, the game and the place that play has reached.
-#[derive(Debug)]
 pub(crate) struct Seat {
     player: u64,
     game: PlayedGame,

@@ -14,7 +14,7 @@ use std::alloc::Global;
 use std::mem;
 
 /// Where a player stands. Contracts see it by `stage_of`.
-#[derive(Debug, Drop)]
+#[derive(Drop)]
 pub(crate) enum Stage {
     /// The player waits for `W`.
     Unnamed,

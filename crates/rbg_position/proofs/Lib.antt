@@ -1,4 +1,12 @@
 -- Lemmas, by topic.
+pub mod Boards
+pub mod BracketedNames
+pub mod Definitions
 pub mod Faults
+pub mod Missing
 pub mod Narrow
+pub mod Sections
+pub mod Spaces
 pub mod Tokens
+pub mod VertexNames
+pub mod WrittenBoards

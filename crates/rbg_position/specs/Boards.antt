@@ -37,9 +37,3 @@ pub record IsRewritten (text section new : List ℕ) : Type 0 where
   pub at_first : slice_get tokens start ≡ Some first
   pub at_last : slice_get tokens (end - 1) ≡ Some last
   pub is : new ≡ take first.at text ++ section ++ drop (last.at + length last.text) text
-
--- No `#board` stands in the text.
-pub record HasNoBoard (text : List ℕ) : Type 0 where
-  pub tokens : List Lexeme
-  pub cut : HasTokens text tokens
-  pub none : (at : ℕ) → ¬ BeginsBoard tokens at

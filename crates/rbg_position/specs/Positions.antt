@@ -7,6 +7,7 @@ use Rattle.rbg_game.specs.Loading.{Loads}
 use Rattle.rbg_page.specs.Telling.{Told, IsTelling}
 use Rattle.rbg_same.specs.Same.{game_with}
 use Rattle.rbg_position.specs.Boards.{IsRewritten}
+use Rattle.rbg_position.specs.Sections.{IsSectionOf}
 
 -- where play begins
 abbrev pub first_place : AbstractGame → AbstractPlace
@@ -28,11 +29,15 @@ pub record BeginsAs (game : AbstractGame) (place : AbstractPlace) : Type 0 where
 abbrev pub game_at : AbstractGame → AbstractPlace → AbstractGame
 game_at game place = game_with game place.state.pieces
 
--- The new text is the old one with another section of its board. It describes the game with the board as it stands at
--- the place, which begins as play stands there.
-pub record IsDescription (text : List ℕ) (game : AbstractGame) (place : AbstractPlace) (new : List ℕ) : Type 0 where
+-- The new text is the old one with the section of its board as it stands at the place.
+pub record IsTextAt (text : List ℕ) (game : AbstractGame) (place : AbstractPlace) (new : List ℕ) : Type 0 where
   pub section : List ℕ
+  pub is_section : IsSectionOf text game place.state.pieces section
   pub rewritten : IsRewritten text section new
+
+-- This new text describes the game with the board as it stands at the place, which begins as play stands there.
+pub record IsDescription (text : List ℕ) (game : AbstractGame) (place : AbstractPlace) (new : List ℕ) : Type 0 where
+  pub is_text : IsTextAt text game place new
   pub loads : Loads new (game_at game place)
   pub begins : BeginsAs (game_at game place) place
 

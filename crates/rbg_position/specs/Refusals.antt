@@ -3,12 +3,12 @@ use Rattle.std.specs.Prelude.{◌≡◌, ◌≢◌, ℕ, List, slice_get, Some}
 use Rattle.rbg_rules.specs.State.{AbstractGame}
 use Rattle.rbg_rules.specs.Moves.{AbstractPlace}
 use Rattle.rbg_moves.specs.Settling.{Settles, MeetsHeavy, IsEndless}
-use Rattle.rbg_game.specs.Loading.{Loads}
+use Rattle.rbg_game.specs.Loading.{Loads, IsMemory, IsRefused as IsRefusedText}
+use Rattle.rbg_game.specs.declared.error.LoadError.{LoadError}
 use Rattle.rbg_page.specs.Pages.{IsRefused}
 use Rattle.rbg_page.specs.Telling.{Told, IsTelling}
 use Rattle.rbg_page.specs.declared.error.PageError.{PageError}
-use Rattle.rbg_position.specs.Boards.{IsRewritten, HasNoBoard}
-use Rattle.rbg_position.specs.Positions.{first_place, game_at}
+use Rattle.rbg_position.specs.Positions.{first_place, game_at, IsTextAt}
 use Rattle.rbg_position.specs.declared.error.PositionError.{PositionError}
 use Rattle.rbg_position.specs.declared.error.PositionError.TheVariants.{Record, Value, Turn, Keeper, Unsettled, Refused, Memory}
 
@@ -43,13 +43,16 @@ pub data BeginsOtherwise (game : AbstractGame) (place : AbstractPlace) : Positio
   unsettled : {error : PositionError} → IsUnsettled game (first_place game) error → BeginsOtherwise game place error
 
 -- Why there is no description of the place.
---   no_board: the text has no section of a board.
---   refused: the text with another section of its board doesn't describe the game with the board as it stands.
+--   refused: the text with the section of its board as it stands there has a fault, and is no game's.
+--   other_game: it is another game's than that with the board as it stands there.
 --   otherwise: that game doesn't begin as play stands at the place.
 pub data IsUndescribed (text : List ℕ) (game : AbstractGame) (place : AbstractPlace) : PositionError → Type 0 where
-  no_board : HasNoBoard text → IsUndescribed text game place Refused
-  refused : {section new : List ℕ} →
-      IsRewritten text section new → ¬ Loads new (game_at game place) → IsUndescribed text game place Refused
+  refused : {new : List ℕ} {fault : LoadError} →
+      IsTextAt text game place new →
+      IsRefusedText new fault → ¬ IsMemory fault → IsUndescribed text game place Refused
+  other_game : {new : List ℕ} {other : AbstractGame} →
+      IsTextAt text game place new →
+      Loads new other → other ≢ game_at game place → IsUndescribed text game place Refused
   otherwise : {error : PositionError} →
       BeginsOtherwise (game_at game place) place error → IsUndescribed text game place error
 

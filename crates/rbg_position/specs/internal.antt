@@ -1,2 +1,4 @@
 -- Definitions that only this crate's own proofs and private contracts use.
+pub mod Missing
 pub mod Texts
+pub mod Walking

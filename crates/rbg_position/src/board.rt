@@ -1,9 +1,26 @@
 //! The section of a board, written with other pieces on its vertices.
+ghost use Rattle.std.specs.Prelude.{◌≡◌, ◌<◌, ◌&&◌, ◌++◌, List, [], IfOk, IfSome, IsSomeAnd, OnOk, Some, codes, if◌then◌else◌, length, slice_get, slice_index_or};
+ghost use Rattle.rbg_grammar.specs.Sections.{same_kind};
+ghost use Rattle.rbg_grammar.specs.Spells.{HasSection};
+ghost use Rattle.rbg_macro.specs.Expansion.{HasSections};
+ghost use Rattle.rbg_macro.specs.declared.source.SectionKind.TheVariants.{Board};
+ghost use Rattle.rbg_tokens.specs.Kinds.{is_name_kind};
+ghost use Rattle.rbg_tokens.specs.Token.{Lexeme};
+ghost use Rattle.rbg_position.specs.Sections.{ExpandsBoard, name_of, section_text, space_between};
+ghost use Rattle.rbg_position.specs.internal.Walking.{
+  IsSectionAt,
+  begins_line,
+  ends_row,
+  ends_vertex,
+  is_inside_behind,
+  is_spaced,
+  opens_row,
+};
 
 use rbg_base::{Memory, Piece};
-use rbg_macro::{MacroError, Section, SectionKind, Source, expand};
+use rbg_macro::{Section, SectionKind, Source, expand};
 use rbg_rules::Game;
-use rbg_tokens::{Symbol, Token, Tokens};
+use rbg_tokens::{Symbol, TokenKind, Tokens};
 use std::alloc::Global;
 
 /// The section of the board, in which these pieces stand on the vertices. Its macros are expanded.
@@ -12,15 +29,25 @@ pub(crate) fn board_section(
     tokens: &Tokens<'_>,
     game: &Game,
     pieces: &[Piece],
-) -> Result<Vec<u8>, Memory> {
+) -> Result<Vec<u8>, Memory>
+    ensures { (ts : List Lexeme) → ExpandsBoard tokens.now ts → IfOk result (λ section.
+        section.items ≡ codes "#board = " ++ section_text game.now pieces.now ts) }
+{
+    let source = expanded(alloc, tokens)?;
     let mut out = Vec::new(alloc);
     out.extend_from_slice(b"#board = ")?;
-    match expand(alloc, tokens) {
-        Ok(source) => put_board(&source, game, pieces, &mut out)?,
-        Err(MacroError::Memory) => return Err(Memory),
-        Err(_) => {}
-    }
+    put_board(&source, game, pieces, &mut out)?;
     Ok(out)
+}
+
+/// The sections of a text that is a game's: only memory can be lacking.
+fn expanded<'t>(alloc: Global, tokens: &Tokens<'t>) -> Result<Source<'t>, Memory>
+    ensures { IfOk result (HasSections tokens.now) }
+{
+    match expand(alloc, tokens) {
+        Ok(source) => Ok(source),
+        Err(_) => Err(Memory),
+    }
 }
 
 fn put_board(
@@ -28,14 +55,34 @@ fn put_board(
     game: &Game,
     pieces: &[Piece],
     out: &mut Vec<u8>,
-) -> Result<(), Memory> {
+) -> Result<(), Memory>
+    ensures { (ts : List Lexeme) → HasSection source.now Board ts → OnOk result (out.new.items
+        ≡ out.old.items ++ section_text game.now pieces.now ts) }
+{
+    match find_board(source) {
+        Some(index) => put_section(&source.section(index), game, pieces, out),
+        None => Ok(()),
+    }
+}
+
+/// The index of the first section of a board.
+fn find_board(source: &Source<'_>) -> Option<usize>
+    ensures found { (ts : List Lexeme) → HasSection source.now Board ts
+        → IsSomeAnd result (IsSectionAt source.now ts) }
+    ensures within { IfSome result (λ index. index < length source.now) }
+{
     for index in 0..source.len() {
-        let section = source.section(index);
-        if section.kind() == SectionKind::Board {
-            return put_section(&section, game, pieces, out);
+        if is_board(source.section(index).kind()) {
+            return Some(index);
         }
     }
-    Ok(())
+    None
+}
+
+fn is_board(kind: SectionKind) -> bool
+    ensures { result ≡ same_kind kind Board }
+{
+    matches!(kind, SectionKind::Board)
 }
 
 /// Appends the tokens of the section. The names between `[` and `]` are those of the pieces, in order of the vertices.
@@ -44,48 +91,140 @@ fn put_section(
     game: &Game,
     pieces: &[Piece],
     out: &mut Vec<u8>,
-) -> Result<(), Memory> {
+) -> Result<(), Memory>
+    ensures { OnOk result (out.new.items
+        ≡ out.old.items ++ section_text game.now pieces.now section.now.tokens) }
+{
     let mut vertex = 0usize;
     let mut is_inside = false;
     let mut last = None;
     for index in 0..section.len() {
         let token = section.token(index);
-        put_space(last, &token, out)?;
-        if is_inside && token.kind.is_name() {
-            put_piece(game, pieces.get(vertex), out)?;
-            vertex = vertex.saturating_add(1);
-        } else {
-            out.extend_from_slice(token.text)?;
+        let is_piece = is_piece_name(is_inside, token.kind);
+        put_space(last, token.kind, out)?;
+        put_word(is_piece, game, pieces, vertex, token.text, out)?;
+        if is_piece {
+            vertex += 1;
         }
-        is_inside = !token.is(Symbol::CloseBracket) && (is_inside || token.is(Symbol::OpenBracket));
-        last = Some(token);
+        is_inside = is_inside_behind(is_inside, token.kind);
+        last = Some(token.kind);
     }
     Ok(())
 }
 
-/// Appends the name of a piece.
-fn put_piece(game: &Game, piece: Option<&Piece>, out: &mut Vec<u8>) -> Result<(), Memory> {
-    if let Some(piece) = piece {
-        if (*piece as usize) < game.pieces() {
-            out.extend_from_slice(game.piece_name(*piece).as_bytes())?;
-        }
-    }
-    Ok(())
+/// Whether a token is the name of a piece: a name in brackets.
+fn is_piece_name(is_inside: bool, kind: TokenKind) -> bool
+    ensures { result ≡ is_inside && is_name_kind kind }
+{
+    is_inside && kind.is_name()
 }
 
-/// Appends what stands between two tokens: a space behind a `,` and a `:`, and a new line before a row and behind a
-/// vertex of a graph.
-fn put_space(last: Option<Token<'_>>, next: &Token<'_>, out: &mut Vec<u8>) -> Result<(), Memory> {
-    let Some(last) = last else {
-        return Ok(());
-    };
-    let begins_row = last.is(Symbol::Comma) || last.is(Symbol::CloseBracket);
-    if next.is(Symbol::OpenBracket) && begins_row
-        || last.is(Symbol::CloseBrace) && next.kind.is_name()
-    {
-        out.extend_from_slice(b"\n    ")?;
-    } else if last.is(Symbol::Comma) || last.is(Symbol::Colon) {
-        out.push(b' ')?;
+/// Appends the text of a token, or the name of the piece on a vertex in its place.
+fn put_word(
+    is_piece: bool,
+    game: &Game,
+    pieces: &[Piece],
+    vertex: usize,
+    text: &[u8],
+    out: &mut Vec<u8>,
+) -> Result<(), Memory>
+    ensures { OnOk result (out.new.items ≡ out.old.items
+        ++ (if is_piece then name_of game.now (slice_get pieces.now vertex) else text.now)) }
+{
+    if is_piece {
+        put_piece(game, pieces, vertex, out)
+    } else {
+        out.extend_from_slice(text)
     }
-    Ok(())
+}
+
+/// Appends the name of the piece on a vertex.
+fn put_piece(game: &Game, pieces: &[Piece], vertex: usize, out: &mut Vec<u8>) -> Result<(), Memory>
+    ensures { OnOk result (out.new.items
+        ≡ out.old.items ++ name_of game.now (slice_get pieces.now vertex)) }
+{
+    match pieces.get(vertex) {
+        Some(piece) => out.extend_from_slice(piece_name(game, *piece)),
+        None => Ok(()),
+    }
+}
+
+/// The name of a piece.
+fn piece_name(game: &Game, piece: Piece) -> &[u8]
+    ensures { result.now ≡ slice_index_or game.now.pieces piece [] }
+{
+    if (piece as usize) < game.pieces() {
+        game.piece_name(piece).as_bytes()
+    } else {
+        &[]
+    }
+}
+
+/// Whether what stands behind a token is in brackets, where the token itself is or isn't.
+fn is_inside_behind(is_inside: bool, kind: TokenKind) -> bool
+    ensures { result ≡ is_inside_behind is_inside kind }
+{
+    match kind {
+        TokenKind::Symbol(Symbol::OpenBracket) => true,
+        TokenKind::Symbol(Symbol::CloseBracket) => false,
+        _ => is_inside,
+    }
+}
+
+/// Appends what stands between two tokens.
+#[tactic(auto, unfolding(crate::specs::Sections::space_between))]
+fn put_space(last: Option<TokenKind>, next: TokenKind, out: &mut Vec<u8>) -> Result<(), Memory>
+    ensures { OnOk result (out.new.items ≡ out.old.items ++ space_between last next) }
+{
+    match last {
+        Some(last) => out.extend_from_slice(space_between(last, next)),
+        None => Ok(()),
+    }
+}
+
+/// What stands between two tokens: a space behind a `,` and a `:`, and a new line before a row and behind a vertex of a
+/// graph.
+fn space_between(last: TokenKind, next: TokenKind) -> &'static [u8]
+    ensures { result.now ≡ space_between (Some last) next }
+{
+    if begins_line(last, next) {
+        b"\n    "
+    } else if is_spaced(last) {
+        b" "
+    } else {
+        b""
+    }
+}
+
+fn begins_line(last: TokenKind, next: TokenKind) -> bool
+    ensures { result ≡ begins_line last next }
+{
+    ends_row(last) && opens_row(next) || ends_vertex(last) && next.is_name()
+}
+
+fn opens_row(kind: TokenKind) -> bool
+    ensures { result ≡ opens_row kind }
+{
+    matches!(kind, TokenKind::Symbol(Symbol::OpenBracket))
+}
+
+fn ends_row(kind: TokenKind) -> bool
+    ensures { result ≡ ends_row kind }
+{
+    matches!(
+        kind,
+        TokenKind::Symbol(Symbol::Comma | Symbol::CloseBracket)
+    )
+}
+
+fn ends_vertex(kind: TokenKind) -> bool
+    ensures { result ≡ ends_vertex kind }
+{
+    matches!(kind, TokenKind::Symbol(Symbol::CloseBrace))
+}
+
+fn is_spaced(kind: TokenKind) -> bool
+    ensures { result ≡ is_spaced kind }
+{
+    matches!(kind, TokenKind::Symbol(Symbol::Comma | Symbol::Colon))
 }

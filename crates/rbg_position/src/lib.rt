@@ -5,6 +5,8 @@ mod beginning;
 mod board;
 mod comparing;
 mod error;
+pub mod examples;
+pub mod laws;
 mod making;
 mod rewriting;
 

@@ -3,7 +3,8 @@ ghost use Rattle.std.specs.Prelude.{◌≡◌, ◌↔◌, ◌+◌, ◌<◌, ◌�
 ghost use Rattle.rbg_tokens.specs.Kinds.{is_hash};
 ghost use Rattle.rbg_tokens.specs.Text.{HasTokens};
 ghost use Rattle.rbg_tokens.specs.Token.{lexeme_of};
-ghost use Rattle.rbg_position.specs.Boards.{BeginsBoard, HasNoBoard, IsBoardSection, IsRewritten};
+ghost use Rattle.rbg_position.specs.Boards.{BeginsBoard, IsBoardSection, IsRewritten};
+ghost use Rattle.rbg_position.specs.internal.Missing.{HasNoBoard};
 
 use rbg_base::Memory;
 use rbg_tokens::{Token, TokenKind, Tokens};

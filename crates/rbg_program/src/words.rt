@@ -9,7 +9,7 @@ use rbg_answering::FileTask;
 use rbg_recording::RecordTask;
 
 /// What the words ask for.
-#[derive(Clone, Copy, Debug)]
+#[derive(Clone, Copy)]
 pub enum Asked<'a> {
     /// A match whose description and script are on standard input.
     Input,

@@ -1,7 +1,7 @@
 //! What is told of a record that was read whole.
 
 /// What is told of a record that was read whole. Lines are numbered from 1.
-#[derive(Clone, Copy, Debug, PartialEq, Eq)]
+#[derive(Clone, Copy)]
 pub enum Checked {
     /// The record is right.
     Good,

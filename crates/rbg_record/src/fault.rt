@@ -8,7 +8,7 @@ use rbg_base::Memory;
 use rbg_moves::Over as OverLimits;
 
 /// Why a line of a record does not lead on.
-#[derive(Clone, Copy, Debug, PartialEq, Eq)]
+#[derive(Clone, Copy)]
 pub enum Fault {
     /// It is not of the form.
     Form,

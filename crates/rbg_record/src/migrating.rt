@@ -20,7 +20,7 @@ use rbg_rules::Game;
 use std::alloc::Global;
 
 /// Where one is in a record of version 1.
-#[derive(Clone, Copy, Debug, PartialEq, Eq)]
+#[derive(Clone, Copy)]
 enum Part {
     /// The version comes next.
     Version,

@@ -8,7 +8,7 @@ use rbg_lines::Version;
 use rbg_moves::Place;
 
 /// Where the moves so far lead.
-#[derive(Debug, Drop)]
+#[derive(Drop)]
 pub struct Standing {
     /// The version of the record.
     pub version: Version,
@@ -20,7 +20,7 @@ pub struct Standing {
 }
 
 /// What the lines so far lead to.
-#[derive(Debug, Drop)]
+#[derive(Drop)]
 pub enum Reached {
     /// The version comes next.
     Version,

@@ -1,7 +1,7 @@
 //! What is asked for.
 
 /// A match to be refereed, and the file for its record.
-#[derive(Clone, Copy, Debug)]
+#[derive(Clone, Copy)]
 pub struct RecordTask<'a> {
     /// The file of the description. Without it standard input holds the description, a line `%%` and the script.
     pub description: Option<&'a str>,

@@ -11,7 +11,7 @@ use rbg_game::LoadError;
 use std::alloc::{AllocError, Global};
 
 /// A text that is printed, and the status with which the program ends.
-#[derive(Debug, Drop)]
+#[derive(Drop)]
 pub struct Answer {
     pub text: Vec<u8>,
     pub status: Status,

@@ -9,6 +9,7 @@
 
 mod drawings;
 mod games;
+mod halls;
 mod limits;
 mod matches;
 mod players;
@@ -37,6 +38,7 @@ fn run_named<W: Write>(alloc: Global, name: &str, output: &mut W) -> Result<bool
         texts::run(alloc, name, output)?
             || searches::run(alloc, name, output)?
             || matches::run(alloc, name, output)?
+            || halls::run(alloc, name, output)?
             || records::run(alloc, name, output)?
             || players::run(alloc, name, output)?
             || drawings::run(alloc, name, output)?,

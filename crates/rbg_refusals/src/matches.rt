@@ -234,24 +234,41 @@ fn tell_referee<W: Write>(alloc: Global, output: &mut W) -> io::Result<()> {
     }
 }
 
-/// The lines of the two seats: seat 1 moves, and the second put of seat 2 fails.
-fn two_lines(alloc: Global) -> Result<[MemoryLine; 2], Stop> {
+/// The line of seat 1, which moves.
+fn moving_line(alloc: Global) -> Result<MemoryLine, Stop> {
     let mut gives = Vec::with_capacity(alloc, 1)?;
     gives.push(Give::Bytes(Vec::from_slice(alloc, WHITE)?))?;
-    let mut takes = Vec::with_capacity(alloc, 2)?;
-    takes.push(Take::UpTo(ROOM))?;
-    takes.push(Take::Fail)?;
-    Ok([
-        MemoryLine::new(alloc, gives, Vec::new(alloc), ROOM)?,
-        MemoryLine::new(alloc, Vec::new(alloc), takes, ROOM)?,
-    ])
+    Ok(MemoryLine::new(alloc, gives, Vec::new(alloc), ROOM)?)
+}
+
+/// The line of seat 2, whose second put fails.
+fn failing_line(alloc: Global) -> Result<MemoryLine, Stop> {
+    let takes = Vec::from_slice(alloc, &[Take::UpTo(ROOM), Take::Fail])?;
+    Ok(MemoryLine::new(alloc, Vec::new(alloc), takes, ROOM)?)
+}
+
+/// The lines of the two seats.
+fn two_lines(alloc: Global) -> Result<[MemoryLine; 2], Stop> {
+    let first = moving_line(alloc)?;
+    Ok([first, failing_line(alloc)?])
 }
 
 /// Serves the small game over lines in memory.
 fn serve_lines<W: Write>(alloc: Global, output: &mut W) -> Result<(), Stop> {
-    let mut lines = two_lines(alloc)?;
     let (mut opened, mut outbox) = new_match(alloc)?;
-    serve_over(alloc, &mut lines, &mut opened, &mut outbox, output)
+    serve_match(alloc, &mut opened, &mut outbox, output)
+}
+
+fn serve_match<W: Write>(
+    alloc: Global,
+    opened: &mut Match,
+    outbox: &mut Outbox,
+    output: &mut W,
+) -> Result<(), Stop>
+    requires { length outbox.old ≡ seats_of opened.old.game }
+{
+    let mut lines = two_lines(alloc)?;
+    serve_over(alloc, &mut lines, opened, outbox, output)
 }
 
 fn serve_over<W: Write>(

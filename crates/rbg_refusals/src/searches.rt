@@ -37,6 +37,15 @@ const BUDGET: Budget = Budget {
 /// Where the pattern stands that is asked alone.
 const ASKED: Position = 3;
 
+/// A question at the start of the walk.
+#[derive(Clone, Copy, Debug)]
+enum Question {
+    /// What is reached.
+    Reach,
+    /// Whether the pattern is valid.
+    Pattern,
+}
+
 /// Makes the run of a name, if it is one of these, and tells whether it is.
 pub fn run<W: Write>(alloc: Global, name: &str, output: &mut W) -> Result<bool, Stop> {
     match name {
@@ -46,8 +55,8 @@ pub fn run<W: Write>(alloc: Global, name: &str, output: &mut W) -> Result<bool, 
         "find-pattern" => find(alloc, PATTERN, output)?,
         "try-pattern" => try_pairs(alloc, PATTERN, &PATTERN_MOVE, output)?,
         "list-pattern" => list(alloc, PATTERN, output)?,
-        "reach" => reach(alloc, output)?,
-        "pattern" => pattern(alloc, output)?,
+        "reach" => ask(alloc, Question::Reach, output)?,
+        "pattern" => ask(alloc, Question::Pattern, output)?,
         "count" => count(alloc, output)?,
         _ => return Ok(false),
     }
@@ -198,12 +207,36 @@ fn tell_listed<W: Write>(listed: &Listed, output: &mut W) -> io::Result<()> {
     writeln!(output, "cut {}", listed.cut)
 }
 
-/// Asks what is reached from the start.
-fn reach<W: Write>(alloc: Global, output: &mut W) -> Result<(), Stop> {
+/// Asks a question at the start of the walk.
+fn ask<W: Write>(alloc: Global, question: Question, output: &mut W) -> Result<(), Stop> {
     let game = load(alloc, WALK)?;
-    let steps = compact(alloc, &game)?;
-    let mut place = Place::start(alloc, &game)?;
-    reach_from(alloc, &game, &steps, &mut place.state, output)
+    ask_in(alloc, &game, question, output)
+}
+
+fn ask_in<W: Write>(
+    alloc: Global,
+    game: &Game,
+    question: Question,
+    output: &mut W,
+) -> Result<(), Stop> {
+    let steps = compact(alloc, game)?;
+    ask_by(alloc, game, &steps, question, output)
+}
+
+fn ask_by<W: Write>(
+    alloc: Global,
+    game: &Game,
+    steps: &Compact,
+    question: Question,
+    output: &mut W,
+) -> Result<(), Stop>
+    requires { ⟦<Compact as Steps>⟧.of_rules steps.now game.now.rules }
+{
+    let mut place = Place::start(alloc, game)?;
+    match question {
+        Question::Reach => reach_from(alloc, game, steps, &mut place.state, output),
+        Question::Pattern => ask_pattern(alloc, game, steps, &mut place.state, output),
+    }
 }
 
 /// Asks what is reached, and compares the semi-state that is lent with a copy taken before.
@@ -240,14 +273,6 @@ fn tell_reached<W: Write>(reached: &Reached, output: &mut W) -> io::Result<()> {
         writeln!(output, "reached {vertex} {position}")?;
     }
     writeln!(output, "ends {}", reached.ends)
-}
-
-/// Asks a pattern at the start.
-fn pattern<W: Write>(alloc: Global, output: &mut W) -> Result<(), Stop> {
-    let game = load(alloc, WALK)?;
-    let steps = compact(alloc, &game)?;
-    let mut place = Place::start(alloc, &game)?;
-    ask_pattern(alloc, &game, &steps, &mut place.state, output)
 }
 
 /// Asks a pattern, and compares the semi-state that is lent with a copy taken before.

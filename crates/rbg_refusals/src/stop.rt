@@ -1,6 +1,7 @@
 //! Why a run tells no more.
 
 use rbg_base::Memory;
+use rbg_floor::HallError;
 use rbg_game::LoadError;
 use rbg_match::MatchError;
 use rbg_moves::Over;
@@ -61,6 +62,15 @@ impl From<MatchError> for Stop {
         match error {
             MatchError::Memory => Stop::Setup,
             MatchError::Config => Stop::Wrong,
+        }
+    }
+}
+
+impl From<HallError> for Stop {
+    fn from(error: HallError) -> Stop {
+        match error {
+            HallError::Memory => Stop::Setup,
+            HallError::Tables | HallError::Config { .. } => Stop::Wrong,
         }
     }
 }

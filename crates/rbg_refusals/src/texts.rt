@@ -5,7 +5,7 @@ use crate::limits::{chain, doubled};
 use crate::stop::Stop;
 use crate::telling::{tell_memory, tell_numbers};
 use rbg_auto::{Expr, Steps, compact, compile};
-use rbg_base::Position;
+use rbg_base::{Memory, Position};
 use rbg_game::{Game, load};
 use rbg_macro::{MacroError, Source, expand};
 use rbg_tokens::{TextError, Tokens, tokens};
@@ -119,23 +119,27 @@ fn tell_sections<W: Write>(source: &Source<'_>, output: &mut W) -> io::Result<()
 /// Makes the plain form of an automaton, and tells it.
 fn tell_compile<W: Write>(alloc: Global, output: &mut W) -> Result<(), Stop> {
     let game = load(alloc, WALK)?;
-    let positions = game.positions() as Position;
-    match compile(alloc, &game) {
-        Ok(automaton) => tell_steps(&automaton, positions, output)?,
-        Err(_) => tell_memory(output)?,
-    }
-    Ok(())
+    let made = compile(alloc, &game);
+    Ok(tell_form(&made, game.positions() as Position, output)?)
 }
 
 /// Makes the compact form of an automaton, and tells it.
 fn tell_compact<W: Write>(alloc: Global, output: &mut W) -> Result<(), Stop> {
     let game = load(alloc, WALK)?;
-    let positions = game.positions() as Position;
-    match compact(alloc, &game) {
-        Ok(automaton) => tell_steps(&automaton, positions, output)?,
-        Err(_) => tell_memory(output)?,
+    let made = compact(alloc, &game);
+    Ok(tell_form(&made, game.positions() as Position, output)?)
+}
+
+/// Tells a form of an automaton, if it was made.
+fn tell_form<S: Steps, W: Write>(
+    made: &Result<S, Memory>,
+    last: Position,
+    output: &mut W,
+) -> io::Result<()> {
+    match made {
+        Ok(automaton) => tell_steps(automaton, last, output),
+        Err(_) => tell_memory(output),
     }
-    Ok(())
 }
 
 /// What comes first, and what comes next behind each position to the last.

@@ -7,7 +7,7 @@ pub(crate) const MAX_TURN_MS: u64 = 3_600_000;
 pub(crate) const MAX_REFUSALS: u64 = 100;
 
 /// `config <turn> <refusals> <now>`: how a match begins.
-#[derive(Clone, Copy, Debug, PartialEq, Eq)]
+#[derive(Clone, Copy, PartialEq, Eq)]
 pub struct ScriptConfig {
     /// The time for a turn, in milliseconds: 1 to 3,600,000.
     pub turn_ms: u64,

@@ -1,7 +1,7 @@
 //! The events of a script.
 
 /// An `m` line: a message that a seat says.
-#[derive(Clone, Copy, Debug)]
+#[derive(Clone, Copy)]
 pub struct Message<'a> {
     pub seat: u64,
     /// The moment in milliseconds.
@@ -11,7 +11,7 @@ pub struct Message<'a> {
 }
 
 /// An event of a match.
-#[derive(Debug, Drop)]
+#[derive(Drop)]
 pub enum ScriptEvent {
     /// The next bytes of a seat's stream have arrived.
     Piece { seat: u64, at: u64, bytes: Vec<u8> },

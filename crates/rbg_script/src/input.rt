@@ -8,7 +8,7 @@ use rbg_wire::cut_at;
 const MARK: &[u8] = b"%%";
 
 /// A description and a script.
-#[derive(Clone, Copy, Debug)]
+#[derive(Clone, Copy)]
 pub struct TwoTexts<'a> {
     pub description: &'a [u8],
     pub script: &'a [u8],

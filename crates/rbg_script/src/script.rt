@@ -13,7 +13,7 @@ use rbg_wire::cut_at;
 use std::alloc::Global;
 
 /// A script: the config, and the events in order.
-#[derive(Debug, Drop)]
+#[derive(Drop)]
 pub struct Script {
     pub config: ScriptConfig,
     pub events: Vec<ScriptEvent>,

@@ -3,7 +3,7 @@
 use rbg_lines::Version;
 
 /// What comes next in a record.
-#[derive(Clone, Copy, Debug, PartialEq, Eq)]
+#[derive(Clone, Copy)]
 pub(crate) enum Part {
     Version,
     /// The players, in version 2.

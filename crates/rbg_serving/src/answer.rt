@@ -1,7 +1,7 @@
 //! What a line answers.
 
 /// What a line answers when it is polled.
-#[derive(Clone, Copy, Debug, PartialEq, Eq)]
+#[derive(Clone, Copy, PartialEq, Eq)]
 pub enum Polled {
     /// That many bytes came. They stand at the start of the buffer.
     Got(usize),
@@ -14,7 +14,7 @@ pub enum Polled {
 }
 
 /// What a line answers when bytes are put to it.
-#[derive(Clone, Copy, Debug, PartialEq, Eq)]
+#[derive(Clone, Copy, PartialEq, Eq)]
 pub enum Put {
     /// The line took that many of the first bytes.
     Took(usize),

@@ -8,7 +8,7 @@ use crate::{Line, Polled, Put};
 
 /// A line that fails once, at its call of that number, and passes every other call on. Polls and puts are calls, and are
 /// numbered from 1.
-#[derive(Debug, Drop)]
+#[derive(Drop)]
 pub struct Faulty<L> {
     line: L,
     /// The number of the call that fails. 0 if there is none.

@@ -1,7 +1,7 @@
 //! What a line over memory gives and takes.
 
 /// What a line over memory gives at a poll.
-#[derive(Debug, Drop)]
+#[derive(Drop)]
 pub enum Give {
     /// These bytes. What doesn't fit the buffer is given at the next poll.
     Bytes(Vec<u8>),
@@ -14,7 +14,7 @@ pub enum Give {
 }
 
 /// What a line over memory takes at a put.
-#[derive(Clone, Copy, Debug, PartialEq, Eq)]
+#[derive(Clone, Copy)]
 pub enum Take {
     /// That many bytes at most.
     UpTo(usize),

@@ -5,7 +5,7 @@ ghost use Rattle.rbg_serving.specs.ListClocks.{HasTold};
 use crate::Clock;
 
 /// A clock that tells the moments of a list, then the last of them again and again. The moment is 0 if there is none.
-#[derive(Debug, Drop)]
+#[derive(Drop)]
 pub struct ListClock {
     moments: Vec<u64>,
     /// How many of the moments were told.

@@ -10,7 +10,7 @@ use std::alloc::Global;
 mod calls;
 
 /// A line over memory.
-#[derive(Debug, Drop)]
+#[derive(Drop)]
 pub struct MemoryLine {
     gives: Vec<Give>,
     /// How many of `gives` were given whole.

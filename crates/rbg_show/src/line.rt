@@ -20,7 +20,7 @@ use rbg_wire::{Outcome, after_text};
 use std::alloc::Global;
 
 /// How a record ends.
-#[derive(Clone, Copy, Debug, PartialEq, Eq)]
+#[derive(Clone, Copy)]
 pub(crate) struct RecordEnd {
     /// None where the match is still in play.
     pub outcome: Option<Outcome>,

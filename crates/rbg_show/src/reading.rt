@@ -11,7 +11,7 @@ use rbg_wire::{after_text, cut_at, read_pairs};
 use std::alloc::{AllocError, Global};
 
 /// What stands before the pairs of a move.
-#[derive(Clone, Copy, Debug, PartialEq, Eq)]
+#[derive(Clone, Copy)]
 pub(crate) enum Lead {
     Nothing,
     Player,
@@ -31,7 +31,7 @@ impl Lead {
 }
 
 /// A move as a line may mean it.
-#[derive(Debug, Drop)]
+#[derive(Drop)]
 pub(crate) struct Reading {
     /// The player who makes it, where the line says who.
     pub player: Option<u64>,

@@ -24,7 +24,7 @@ const HEAVY: &[u8] = b"a question is above the limits\n";
 const TIRED: &[u8] = b"the keeper made 1,000 moves in a row\n";
 
 /// What is shown of a list of moves.
-#[derive(Debug, Drop)]
+#[derive(Drop)]
 pub struct Shown {
     pub text: Vec<u8>,
     /// Whether each move of the list is legal, and no question was given up.

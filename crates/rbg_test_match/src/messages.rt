@@ -1,5 +1,5 @@
 //! Messages: which texts spell one, and how it is written.
-use rbg_base::MAX_PAIRS;
+use rbg_base::{MAX_PAIRS, Move};
 use rbg_wire::{
     MAX_SCORES, Message, Outcome, Reason, Scores, WireError, read_message, read_move, read_number,
     read_outcome, read_pairs, write_message, write_number, write_outcome, write_pairs,
@@ -109,18 +109,37 @@ fn each_message_is_read_and_written(rt: HostRuntime) -> Result<(), Fail> {
     Ok(())
 }
 
+fn is_no_message(text: &[u8]) -> bool {
+    matches!(read_message(text), Err(WireError::Malformed))
+}
+
+fn is_no_move(text: &[u8]) -> bool {
+    matches!(read_move(text), Err(WireError::Malformed))
+}
+
 #[test]
 fn other_texts_are_no_messages(rt: HostRuntime) {
     for text in NO_MESSAGES {
-        assert_eq!(rt; read_message(text), Err(WireError::Malformed), "{text:?}");
+        assert!(rt; is_no_message(text), "{text:?}");
     }
     for text in NO_MOVES {
-        assert_eq!(rt; read_move(text), Err(WireError::Malformed), "{text:?}");
-        assert_eq!(rt; read_message(text), Err(WireError::Malformed), "{text:?}");
+        assert!(rt; is_no_move(text) && is_no_message(text), "{text:?}");
     }
     for first in 0..=u8::MAX {
-        assert_eq!(rt; read_move(&[first]), Err(WireError::Malformed));
+        assert!(rt; is_no_move(&[first]));
     }
+}
+
+/// Whether the text is the message of the move.
+fn is_message_of(text: &[u8], played: &Move) -> bool {
+    let read = read_message(text);
+    matches!(&read, Ok(Message::Moved { pairs }) if pairs == played)
+}
+
+/// Whether the text is the message of a move that has too many pairs.
+fn has_too_many_pairs(text: &[u8]) -> bool {
+    matches!(read_move(text), Err(WireError::TooManyPairs))
+        && matches!(read_message(text), Err(WireError::TooManyPairs))
 }
 
 #[test]
@@ -131,14 +150,13 @@ fn pairs_are_read_whole_before_they_are_counted(rt: HostRuntime) -> Result<(), F
     }
     let longest = read_move(&text)?;
     assert_eq!(rt; longest.len(), MAX_PAIRS);
-    assert_eq!(rt; read_message(&text)?, Message::Moved { pairs: longest });
+    assert!(rt; is_message_of(&text, &longest));
     text.extend_from_slice(b" 0 3")?;
-    assert_eq!(rt; read_move(&text), Err(WireError::TooManyPairs));
-    assert_eq!(rt; read_message(&text), Err(WireError::TooManyPairs));
+    assert!(rt; has_too_many_pairs(&text));
     text.extend_from_slice(b" 0")?;
-    assert_eq!(rt; read_move(&text), Err(WireError::Malformed));
+    assert!(rt; is_no_move(&text));
     text.extend_from_slice(b" x")?;
-    assert_eq!(rt; read_message(&text), Err(WireError::Malformed));
+    assert!(rt; is_no_message(&text));
     Ok(())
 }
 

@@ -164,32 +164,57 @@ fn is_written_and_read(alloc: Global, event: Event<'_>, line: &[u8]) -> Result<b
     Ok(written == line && matches!(&read, Some(found) if lent(found) == event))
 }
 
-#[test]
-fn each_event_is_written_and_read(rt: HostRuntime) -> Result<(), Fail> {
-    for (event, line) in EVENTS {
-        assert!(rt; is_written_and_read(rt.alloc(), event, line)?, "{event:?}");
-    }
-    let mut bytes = Vec::new(rt.alloc());
-    let mut line = Vec::from_slice(rt.alloc(), b"p 3 1 ")?;
+/// Each byte 100 times.
+fn all_bytes(alloc: Global) -> Result<Vec<u8>, AllocError> {
+    let mut bytes = Vec::new(alloc);
     for _ in 0..100 {
         for byte in 0..=u8::MAX {
             bytes.push(byte)?;
         }
+    }
+    Ok(bytes)
+}
+
+/// The line of a piece of all these bytes.
+fn line_of_all(alloc: Global) -> Result<Vec<u8>, AllocError> {
+    let mut line = Vec::from_slice(alloc, b"p 3 1 ")?;
+    for _ in 0..100 {
         line.extend_from_slice(DIGITS)?;
     }
     line.push(b'\n')?;
+    Ok(line)
+}
+
+/// Whether a long line is written and read.
+fn is_long_written_and_read(alloc: Global) -> Result<bool, Fail> {
+    let bytes = all_bytes(alloc)?;
+    let line = line_of_all(alloc)?;
     let long = Event::Piece {
         seat: 3,
         at: 1,
         bytes: &bytes,
     };
-    assert!(rt; is_written_and_read(rt.alloc(), long, &line)?);
+    is_written_and_read(alloc, long, &line)
+}
+
+/// Whether what a line says is written by this line.
+fn is_written_as(alloc: Global, text: &[u8], line: &[u8]) -> Result<bool, Fail> {
+    let Some(event) = read_event(alloc, text)? else {
+        return Ok(false);
+    };
+    let mut out = Vec::new(alloc);
+    write_event(&event, &mut out)?;
+    Ok(out.as_slice() == line)
+}
+
+#[test]
+fn each_event_is_written_and_read(rt: HostRuntime) -> Result<(), Fail> {
+    for (event, line) in EVENTS {
+        assert!(rt; is_written_and_read(rt.alloc(), event, line)?, "{line:?}");
+    }
+    assert!(rt; is_long_written_and_read(rt.alloc())?);
     for (text, line) in SPELLINGS {
-        let mut out = Vec::new(rt.alloc());
-        if let Some(event) = read_event(rt.alloc(), text)? {
-            write_event(&event, &mut out)?;
-        }
-        assert_eq!(rt; out.as_slice(), line);
+        assert!(rt; is_written_as(rt.alloc(), text, line)?, "{line:?}");
     }
     Ok(())
 }
@@ -203,23 +228,47 @@ fn is_script_of(script: &Script, config: ScriptConfig) -> bool {
     same
 }
 
+/// Whether the line is read as this config, or as none if it doesn't fit.
+fn is_config_read(line: &[u8], config: ScriptConfig, fits: bool) -> bool {
+    let read = read_config(&line[..line.len().saturating_sub(1)]);
+    read == if fits { Some(config) } else { None }
+}
+
+/// Appends the lines of all events.
+fn write_all_events(alloc: Global, out: &mut Vec<u8>) -> Result<(), Fail> {
+    for (event, _) in EVENTS {
+        write_event(&script_event(alloc, event)?, out)?;
+    }
+    Ok(())
+}
+
+/// Whether the text is read as the script of this config and all events, or is refused if the config doesn't fit.
+fn is_script_read(alloc: Global, text: &[u8], config: ScriptConfig, fits: bool) -> bool {
+    match read_script(alloc, text) {
+        Ok(script) => fits && is_script_of(&script, config),
+        Err(_) => !fits,
+    }
+}
+
+/// Whether a config is written by this line, and the script that begins with it is written and read.
+fn is_first_line(
+    alloc: Global,
+    config: ScriptConfig,
+    line: &[u8],
+    fits: bool,
+) -> Result<bool, Fail> {
+    let mut out = Vec::new(alloc);
+    write_config(config, &mut out)?;
+    let written = out.as_slice() == line && is_config_read(line, config, fits);
+    write_all_events(alloc, &mut out)?;
+    Ok(written && is_script_read(alloc, &out, config, fits))
+}
+
 /// Each config is the first line of a script of all the events.
 #[test]
 fn each_script_is_written_and_read(rt: HostRuntime) -> Result<(), Fail> {
     for (config, line, fits) in CONFIGS {
-        let mut out = Vec::new(rt.alloc());
-        write_config(config, &mut out)?;
-        assert_eq!(rt; out.as_slice(), line);
-        let read = read_config(&line[..line.len().saturating_sub(1)]);
-        assert_eq!(rt; read, if fits { Some(config) } else { None });
-        for (event, _) in EVENTS {
-            write_event(&script_event(rt.alloc(), event)?, &mut out)?;
-        }
-        let script = read_script(rt.alloc(), &out);
-        assert!(rt; script.is_ok() == fits, "{config:?}");
-        if let Ok(script) = &script {
-            assert!(rt; is_script_of(script, config), "{config:?}");
-        }
+        assert!(rt; is_first_line(rt.alloc(), config, line, fits)?, "{line:?}");
     }
     Ok(())
 }

@@ -55,23 +55,44 @@ fn a_stream_is_heard_alike_however_it_is_cut(rt: HostRuntime) -> Result<(), Fail
     Ok(())
 }
 
+/// Whether the next item is this message.
+fn takes(inbox: &mut Inbox, message: &[u8]) -> bool {
+    let took = inbox.take();
+    matches!(&took, Some(Took::Message(text)) if *text == message)
+}
+
+/// Whether a message of as many bytes as there may be is taken once its end has come.
+fn takes_the_longest(inbox: &mut Inbox, longest: &[u8]) -> Result<bool, Fail> {
+    inbox.feed(longest)?;
+    let waits = inbox.take().is_none();
+    inbox.feed(&[0])?;
+    Ok(waits && takes(inbox, longest))
+}
+
+/// Whether one byte more is too many, which is told once.
+fn drops_a_longer_one(inbox: &mut Inbox, longest: &[u8]) -> Result<bool, Fail> {
+    inbox.feed(longest)?;
+    inbox.feed(b"x")?;
+    let told = matches!(inbox.take(), Some(Took::TooLong)) && inbox.take().is_none();
+    inbox.feed(b"xx")?;
+    Ok(told && inbox.take().is_none())
+}
+
+/// Whether the message behind a longer one is heard.
+fn hears_the_next(alloc: Global, inbox: &mut Inbox) -> Result<bool, Fail> {
+    inbox.feed(b"\0M0 3\0\0")?;
+    let mut heard = Vec::new(alloc);
+    hear(inbox, &mut heard)?;
+    Ok(heard.as_slice() == b"M0 3||".as_slice())
+}
+
 #[test]
 fn a_message_has_at_most_the_limit(rt: HostRuntime) -> Result<(), Fail> {
-    let mut inbox = Inbox::new(rt.alloc(), 4096);
     let longest = vec![in rt.alloc(); b'x'; 4096]?;
-    inbox.feed(&longest)?;
-    assert_eq!(rt; inbox.take(), None);
-    inbox.feed(&[0])?;
-    assert_eq!(rt; inbox.take(), Some(Took::Message(&longest)));
-    inbox.feed(&longest)?;
-    inbox.feed(b"x")?;
-    assert_eq!(rt; inbox.take(), Some(Took::TooLong));
-    assert_eq!(rt; inbox.take(), None);
-    inbox.feed(b"xx")?;
-    assert_eq!(rt; inbox.take(), None);
-    inbox.feed(b"\0M0 3\0\0")?;
-    let mut heard = Vec::new(rt.alloc());
-    hear(&mut inbox, &mut heard)?;
-    assert_eq!(rt; heard.as_slice(), b"M0 3||".as_slice());
+    let mut inbox = Inbox::new(rt.alloc(), 4096);
+    let right = takes_the_longest(&mut inbox, &longest)?
+        && drops_a_longer_one(&mut inbox, &longest)?
+        && hears_the_next(rt.alloc(), &mut inbox)?;
+    assert!(rt; right);
     Ok(())
 }

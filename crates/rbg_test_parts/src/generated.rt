@@ -4,7 +4,7 @@ use rbg_rules::Rule;
 use std::alloc::{AllocError, Global};
 
 /// Numbers that look random, from a start that is given, and the positions that were handed out.
-#[derive(Debug, Drop)]
+#[derive(Drop)]
 pub(crate) struct Generator {
     state: u64,
     /// The last position that was handed out.

@@ -58,14 +58,41 @@ fn are_found(
     requires { IsPlaceOf game.now place.now }
 {
     let mut workspace = Workspace::new(alloc);
-    let found = game.find_pairs(place, &mut workspace)?;
-    let same = matches!(&found, Some(pairs) if are_pairs(pairs, wanted));
-    if let Some(pairs) = found {
-        workspace.keep_pairs(pairs);
-    }
+    Ok(
+        is_found(game, place, wanted, &mut workspace)?
+            && is_found_on(game, place, wanted, &mut workspace)?,
+    )
+}
+
+/// Whether the question answers these pairs, which are then kept.
+fn is_found(
+    game: &PlayedGame,
+    place: &Place,
+    wanted: &[(Vertex, Position)],
+    workspace: &mut Workspace,
+) -> Result<bool, Fail>
+    requires { IsPlaceOf game.now place.now }
+{
+    let Some(pairs) = game.find_pairs(place, workspace)? else {
+        return Ok(false);
+    };
+    let same = are_pairs(&pairs, wanted);
+    workspace.keep_pairs(pairs);
+    Ok(same)
+}
+
+/// Whether the question on a place that is lent answers these pairs, and the place is given back.
+fn is_found_on(
+    game: &PlayedGame,
+    place: &Place,
+    wanted: &[(Vertex, Position)],
+    workspace: &mut Workspace,
+) -> Result<bool, Fail>
+    requires { IsPlaceOf game.now place.now }
+{
     let mut lent = copy_of(place)?;
-    let found = game.find_pairs_on(&mut lent, &mut workspace)?;
-    Ok(same && lent == *place && matches!(&found, Some(pairs) if are_pairs(pairs, wanted)))
+    let found = game.find_pairs_on(&mut lent, workspace)?;
+    Ok(lent == *place && matches!(&found, Some(pairs) if are_pairs(pairs, wanted)))
 }
 
 /// Whether the lists of moves, at most one of them, have these pairs alone.
@@ -115,11 +142,48 @@ fn is_made(
     requires legal { IsLegal game.now place.now pairs.now }
 {
     let mut workspace = Workspace::new(alloc);
-    let with = game.make_move_with(place, pairs, &mut workspace)?;
-    let into = game.make_move_into(place, pairs, workspace.spare())?;
-    let mut on = copy_of(place)?;
-    game.make_move_on(&mut on, pairs)?;
-    Ok(with == *to && into == *to && on == *to)
+    Ok(
+        is_made_with(game, place, pairs, to, &mut workspace)?
+            && is_made_into(game, place, pairs, to, &mut workspace)?
+            && is_made_on(game, place, pairs, to)?,
+    )
+}
+
+fn is_made_with(
+    game: &PlayedGame,
+    place: &Place,
+    pairs: &[Pair],
+    to: &Place,
+    workspace: &mut Workspace,
+) -> Result<bool, Fail>
+    requires place { IsPlaceOf game.now place.now }
+    requires legal { IsLegal game.now place.now pairs.now }
+{
+    let made = game.make_move_with(place, pairs, workspace)?;
+    Ok(made == *to)
+}
+
+fn is_made_into(
+    game: &PlayedGame,
+    place: &Place,
+    pairs: &[Pair],
+    to: &Place,
+    workspace: &mut Workspace,
+) -> Result<bool, Fail>
+    requires place { IsPlaceOf game.now place.now }
+    requires legal { IsLegal game.now place.now pairs.now }
+{
+    let made = game.make_move_into(place, pairs, workspace.spare())?;
+    Ok(made == *to)
+}
+
+fn is_made_on(game: &PlayedGame, place: &Place, pairs: &[Pair], to: &Place) -> Result<bool, Fail>
+    requires place { IsPlaceOf game.now place.now }
+    requires legal { IsLegal game.now place.now pairs.now }
+{
+    let mut made = copy_of(place)?;
+    game.make_move_on(&mut made, pairs)?;
+    Ok(made == *to)
 }
 
 /// The place after the only legal move, which has these pairs, whichever calls find it and make it.
@@ -137,13 +201,30 @@ fn after_only(
         panic!(rt; "no move is found");
     };
     let to = game.make_move(place, &found)?;
-    let pairs = found.as_slice();
-    assert!(rt; are_pairs(pairs, wanted));
-    assert!(rt; are_found(alloc, game, place, wanted)?);
-    assert!(rt; are_listed(alloc, game, place, wanted)?);
-    assert!(rt; is_tried(alloc, game, place, &found, &to)?);
-    assert!(rt; is_made(alloc, game, place, pairs, &to)?);
+    assert!(rt; are_pairs(found.as_slice(), wanted));
+    let right = leads_to(alloc, game, place, wanted, &found, &to)?;
+    assert!(rt; right);
     Ok(to)
+}
+
+/// Whether all calls find the move of these pairs, and it leads to the place.
+fn leads_to(
+    alloc: Global,
+    game: &PlayedGame,
+    place: &Place,
+    wanted: &[(Vertex, Position)],
+    found: &Move,
+    to: &Place,
+) -> Result<bool, Fail>
+    requires place { IsPlaceOf game.now place.now }
+    requires legal { IsLegal game.now place.now found.now }
+{
+    Ok(
+        are_found(alloc, game, place, wanted)?
+            && are_listed(alloc, game, place, wanted)?
+            && is_tried(alloc, game, place, found, to)?
+            && is_made(alloc, game, place, found.as_slice(), to)?,
+    )
 }
 
 /// Whether no legal move is found.
@@ -208,38 +289,80 @@ fn stands(
         && game.scores(place).as_slice() == scores.as_slice()
 }
 
-/// Follows the moves of white and of black from the place where white is to move.
-fn follow_players(
+/// Whether no call finds a move at a place where play has ended.
+fn is_ended(alloc: Global, game: &PlayedGame, ended: &Place) -> Result<bool, Fail>
+    requires { IsPlaceOf game.now ended.now }
+{
+    Ok(
+        stands(game, ended, (0, 1, Some(9)), [100, 0])
+            && finds_nothing(alloc, game, ended)?
+            && finds_nothing_on(alloc, game, ended)?
+            && lists_nothing(alloc, game, ended)?
+            && settles(alloc, game, ended, ended)?,
+    )
+}
+
+/// Follows black's move from the place where black is to move.
+fn follow_black(
     rt: &impl Abort,
     alloc: Global,
     game: &PlayedGame,
-    opened: &Place,
+    scored: &Place,
 ) -> Result<(), Fail>
-    requires { IsPlaceOf game.now opened.now }
+    requires { IsPlaceOf game.now scored.now }
 {
-    let scored = after_only(rt, alloc, game, opened, MOVES[1])?;
-    assert!(rt; stands(game, &scored, (2, 0, Some(5)), [100, 0]));
-    let ended = after_only(rt, alloc, game, &scored, MOVES[2])?;
-    assert!(rt; stands(game, &ended, (0, 1, Some(9)), [100, 0]));
-    assert!(rt; finds_nothing(alloc, game, &ended)?);
-    assert!(rt; finds_nothing_on(alloc, game, &ended)?);
-    assert!(rt; lists_nothing(alloc, game, &ended)?);
-    assert!(rt; settles(alloc, game, &ended, &ended)?);
+    assert!(rt; stands(game, scored, (2, 0, Some(5)), [100, 0]));
+    let ended = after_only(rt, alloc, game, scored, MOVES[2])?;
+    let right = is_ended(alloc, game, &ended)?;
+    assert!(rt; right);
     Ok(())
+}
+
+/// Whether white is to move at this place, to which the keeper's move from the start leads.
+fn is_opened(alloc: Global, game: &PlayedGame, start: &Place, opened: &Place) -> Result<bool, Fail>
+    requires start { IsPlaceOf game.now start.now }
+    requires opened { IsPlaceOf game.now opened.now }
+{
+    Ok(
+        stands(game, opened, (1, 0, Some(1)), [0, 0])
+            && is_refused(alloc, game, opened, 0, 3)?
+            && settles(alloc, game, start, opened)?
+            && settles(alloc, game, opened, opened)?,
+    )
+}
+
+/// The place where white is to move, behind the keeper's move from the start.
+fn after_keeper(
+    rt: &impl Abort,
+    alloc: Global,
+    game: &PlayedGame,
+    start: &Place,
+) -> Result<Place, Fail>
+    requires { IsPlaceOf game.now start.now }
+    ensures { IfOk result (IsPlaceOf game.now) }
+{
+    assert!(rt; stands(game, start, (0, 0, None), [0, 0]));
+    assert!(rt; is_refused(alloc, game, start, 1, 1)?);
+    assert!(rt; is_refused(alloc, game, start, 0, 10)?);
+    let opened = after_only(rt, alloc, game, start, MOVES[0])?;
+    let right = is_opened(alloc, game, start, &opened)?;
+    assert!(rt; right);
+    Ok(opened)
+}
+
+/// The place where black is to move, behind the moves of the keeper and of white.
+fn after_white(rt: &impl Abort, alloc: Global, game: &PlayedGame) -> Result<Place, Fail>
+    ensures { IfOk result (IsPlaceOf game.now) }
+{
+    let start = game.start()?;
+    let opened = after_keeper(rt, alloc, game, &start)?;
+    after_only(rt, alloc, game, &opened, MOVES[1])
 }
 
 /// Follows the match from its start.
 fn follow(rt: &impl Abort, alloc: Global, game: &PlayedGame) -> Result<(), Fail> {
-    let start = game.start()?;
-    assert!(rt; stands(game, &start, (0, 0, None), [0, 0]));
-    assert!(rt; is_refused(alloc, game, &start, 1, 1)?);
-    assert!(rt; is_refused(alloc, game, &start, 0, 10)?);
-    let opened = after_only(rt, alloc, game, &start, MOVES[0])?;
-    assert!(rt; stands(game, &opened, (1, 0, Some(1)), [0, 0]));
-    assert!(rt; is_refused(alloc, game, &opened, 0, 3)?);
-    assert!(rt; settles(alloc, game, &start, &opened)?);
-    assert!(rt; settles(alloc, game, &opened, &opened)?);
-    follow_players(rt, alloc, game, &opened)
+    let scored = after_white(rt, alloc, game)?;
+    follow_black(rt, alloc, game, &scored)
 }
 
 #[test]

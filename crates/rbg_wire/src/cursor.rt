@@ -8,7 +8,7 @@ ghost use Rattle.rbg_wire.specs.Cursors.{IsCursorOf, IsEnd, IsWithin, unread, fo
 use crate::bytes::first_place;
 
 /// How much of a buffer is read.
-#[derive(Clone, Copy, Debug)]
+#[derive(Clone, Copy)]
 pub(crate) struct Cursor {
     // The index of the first byte that is not taken.
     pub(crate) start: usize,

@@ -9,7 +9,7 @@ use std::alloc::Global;
 use std::marker::Model;
 
 /// An item of a stream.
-#[derive(Clone, Copy, Debug, PartialEq, Eq)]
+#[derive(Clone, Copy, PartialEq, Eq)]
 pub enum Took<'a> {
     /// A message, without its zero byte.
     Message(&'a [u8]),
@@ -19,7 +19,7 @@ pub enum Took<'a> {
 
 /// The bytes of one stream, from which the messages are taken in order. Contracts see the limit, the items that are
 /// complete and not taken yet, and the rest.
-#[derive(Debug, Drop)]
+#[derive(Drop)]
 pub struct Inbox {
     limit: usize,
     bytes: Vec<u8>,

@@ -5,7 +5,7 @@ use crate::Outcome;
 use rbg_base::Move;
 
 /// Why a seat's message is refused.
-#[derive(Clone, Copy, Debug, PartialEq, Eq)]
+#[derive(Clone, Copy)]
 pub enum Reason {
     /// 1: the message is too long, or is not the message of a move.
     Unreadable,
@@ -37,7 +37,7 @@ impl Reason {
 }
 
 /// A message. It borrows its name and its text.
-#[derive(Clone, Debug, Drop, PartialEq, Eq)]
+#[derive(Drop)]
 pub enum Message<'a> {
     /// `W<number> <name>`: the player of the seat, by number and name. A name is a letter or `_`, followed by letters,
     /// digits or `_`.

@@ -6,7 +6,7 @@ ghost use Rattle.rbg_wire.specs.Words.{space, words_of, words_left};
 use crate::bytes::cut_at;
 
 /// The words of a text, borrowed from it. A text without a space is one word.
-#[derive(Clone, Debug, Drop)]
+#[derive(Drop)]
 pub struct Words<'a> {
     // The text after the words that were returned, or None after the last one.
     left: Option<&'a [u8]>,

@@ -1,17 +1,19 @@
 -- Why a new text is no description.
-use Rattle.std.specs.Prelude.{ℕ, List}
+use Rattle.std.specs.Prelude.{◌≢◌, ℕ, List}
 use Rattle.rbg_rules.specs.State.{AbstractGame}
 use Rattle.rbg_rules.specs.Moves.{AbstractPlace}
 use Rattle.rbg_moves.specs.declared.unsettled.Unsettled.{Unsettled as Why}
 use Rattle.rbg_moves.specs.declared.unsettled.Unsettled.TheVariants as whys
-use Rattle.rbg_game.specs.Loading.{Loads}
+use Rattle.rbg_game.specs.Loading.{Loads, IsMemory, IsRefused}
+use Rattle.rbg_game.specs.declared.error.LoadError.{LoadError}
 use Rattle.rbg_position.specs.Refusals.{BeginsOtherwise}
 use Rattle.rbg_position.specs.declared.error.PositionError.{PositionError}
 use Rattle.rbg_position.specs.declared.error.PositionError.TheVariants.{Unsettled, Refused, Memory}
 
--- The text is no description of the game, or memory ran out.
+-- The text has a fault and is no game's, or it is another game's, or memory ran out.
 pub data IsNoText (text : List ℕ) (game : AbstractGame) : PositionError → Type 0 where
-  refused : ¬ Loads text game → IsNoText text game Refused
+  refused : {fault : LoadError} → IsRefused text fault → ¬ IsMemory fault → IsNoText text game Refused
+  other_game : {other : AbstractGame} → Loads text other → other ≢ game → IsNoText text game Refused
   no_memory : IsNoText text game Memory
 
 -- It is none, or the game begins otherwise than play stands at the place.

@@ -1,19 +1,16 @@
--- A text describes one game at most.
-use Rattle.std.proofs.Common.{◌≡◌, ℕ, List, Bool, false, IsTrue, sym, subst, ◌∙◌}
+-- The other game is the wanted one, or it isn't.
+use Rattle.std.proofs.Common.{◌≡◌, ◌≢◌, ℕ, List, Bool, false, IsTrue, sym, subst, ◌∙◌}
 use Rattle.std.proofs.lemmas.Bool.{false≢true}
 use Rattle.rbg_rules.specs.State.{AbstractGame}
-use Rattle.rbg_game.specs.Loading.{Loads}
-use Rattle.rbg_game.proofs.OneGame.{one_game_law}
 use Rattle.rbg_same.specs.Same.{IsNarrow, game_with}
 use Rattle.rbg_position.specs.declared.error.PositionError.TheVariants.{Memory}
-use Rattle.rbg_position.specs.internal.Texts.IsNoText.{refused, no_memory}
+use Rattle.rbg_position.specs.internal.Texts.IsNoText.{other_game, no_memory}
 use Rattle.rbg_position.proofs.Faults.{passed_on}
 use Rattle.rbg_position.proofs.making.judge.Goals as goal
 
-other_game : (new : List ℕ) (other game lent : AbstractGame) (pieces standing : List ℕ) (is : Bool) → lent ≡ game → pieces ≡ standing → IsNarrow game.board → Loads new other → is ≡ false
-    → (IsNarrow lent.board → other ≡ game_with lent pieces → IsTrue is) → Loads new (game_with game standing) → ⊥
-other_game new other game lent pieces standing is same stand narrow loads none whole wanted =
-    let one : other ≡ game_with game standing = one_game_law new other (game_with game standing) loads wanted in
+differs : (other game lent : AbstractGame) (pieces standing : List ℕ) (is : Bool) → lent ≡ game → pieces ≡ standing → IsNarrow game.board → is ≡ false
+    → (IsNarrow lent.board → other ≡ game_with lent pieces → IsTrue is) → other ≢ game_with game standing
+differs other game lent pieces standing is same stand narrow none whole one =
     let lent_one : other ≡ game_with lent pieces = one ∙ (λ i. game_with (sym same i) (sym stand i)) in
     false≢true (sym none ∙ whole (subst (λ g. IsNarrow g.board) (sym same) narrow) lent_one)
 
@@ -22,4 +19,4 @@ returns-in_err-is_game_with-clause-apart c = λ new loads. passed_on c.from_resi
 
 pub returns-else-branch-clause-apart : goal.returns-else-branch-clause-apart
 returns-else-branch-clause-apart c = λ new loads.
-    refused (other_game new c.args.other.now c.args.game.now c.as_game.result.now c.pieces_of.result.now c.args.place.now.state.pieces _ c.as_game.ensures.game c.pieces_of.ensures c.requires.narrow loads c.if-branch.false c.in_ok-is_game_with.ensures.whole)
+    other_game loads (differs c.args.other.now c.args.game.now c.as_game.result.now c.pieces_of.result.now c.args.place.now.state.pieces _ c.as_game.ensures.game c.pieces_of.ensures c.requires.narrow c.if-branch.false c.in_ok-is_game_with.ensures.whole)

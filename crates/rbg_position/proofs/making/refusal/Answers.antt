@@ -7,4 +7,4 @@ pub returns-then-is_memory : goal.returns-then-is_memory
 returns-then-is_memory c = λ text game r. no_memory
 
 pub returns-else-is_memory : goal.returns-else-is_memory
-returns-else-is_memory c = λ text game r. refused (r.no_game (λ m. false≢true (c.if-is_memory.ensures.1 m)) game)
+returns-else-is_memory c = λ text game r. refused r (λ m. false≢true (c.if-is_memory.ensures.1 m))

@@ -1,0 +1,11 @@
+-- A text without a board.
+use Rattle.std.specs.Prelude.{ℕ, List}
+use Rattle.rbg_tokens.specs.Text.{HasTokens}
+use Rattle.rbg_tokens.specs.Token.{Lexeme}
+use Rattle.rbg_position.specs.Boards.{BeginsBoard}
+
+-- No `#board` stands in the text.
+pub record HasNoBoard (text : List ℕ) : Type 0 where
+  pub tokens : List Lexeme
+  pub cut : HasTokens text tokens
+  pub none : (at : ℕ) → ¬ BeginsBoard tokens at

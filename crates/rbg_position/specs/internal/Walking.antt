@@ -1,0 +1,46 @@
+-- How the section of a board is written from its first token to its last.
+use Rattle.std.specs.Prelude.{◌≡◌, ℕ, ◌&&◌, ◌||◌, Bool, true, false, List, Some, slice_get}
+use Rattle.rbg_macro.specs.Sections.{SectionTokens}
+use Rattle.rbg_tokens.specs.Kinds.{is_name_kind}
+use Rattle.rbg_tokens.specs.Token.{Lexeme}
+use Rattle.rbg_tokens.specs.declared.token.Symbol.TheVariants.{OpenBracket, CloseBracket, CloseBrace, Comma, Colon}
+use Rattle.rbg_tokens.specs.declared.token.TokenKind.{TokenKind}
+use Rattle.rbg_tokens.specs.declared.token.TokenKind.TheVariants.{Symbol}
+
+-- whether what stands behind a token is in brackets, where the token itself is or isn't
+abbrev pub is_inside_behind : (inside : Bool) → TokenKind → Bool
+is_inside_behind inside (Symbol OpenBracket) = true
+is_inside_behind inside (Symbol CloseBracket) = false
+is_inside_behind inside _ = inside
+
+-- what a row begins with
+abbrev pub opens_row : TokenKind → Bool
+opens_row (Symbol OpenBracket) = true
+opens_row _ = false
+
+-- what stands before a row: another one, or the comma behind it
+abbrev pub ends_row : TokenKind → Bool
+ends_row (Symbol Comma) = true
+ends_row (Symbol CloseBracket) = true
+ends_row _ = false
+
+-- what a vertex of a graph ends with
+abbrev pub ends_vertex : TokenKind → Bool
+ends_vertex (Symbol CloseBrace) = true
+ends_vertex _ = false
+
+-- what has a space behind it
+abbrev pub is_spaced : TokenKind → Bool
+is_spaced (Symbol Comma) = true
+is_spaced (Symbol Colon) = true
+is_spaced _ = false
+
+-- whether a row or a vertex of a graph begins between two tokens
+abbrev pub begins_line : (last next : TokenKind) → Bool
+begins_line last next = (ends_row last && opens_row next) || (ends_vertex last && is_name_kind next)
+
+-- A section with these tokens has this index.
+pub record IsSectionAt (sections : List SectionTokens) (ts : List Lexeme) (index : ℕ) : Type 0 where
+  pub section : SectionTokens
+  pub at : slice_get sections index ≡ Some section
+  pub tokens : section.tokens ≡ ts
