@@ -49,12 +49,13 @@ const ROOM: usize = 1000;
 
 /// Makes the run of a name, if it is one of these, and tells whether it is.
 pub fn run<W: Write>(alloc: Global, name: &str, output: &mut W) -> Result<bool, Stop> {
-    match name {
-        "hall" => make(alloc, output)?,
-        "hall-begin" => step(alloc, &[STRANGER, FIRST], SECOND, output)?,
-        "hall-step" => step(alloc, &[STRANGER, FIRST, SECOND], MOVE, output)?,
+    let told = match name {
+        "hall" => make(alloc, output),
+        "hall-begin" => step(alloc, &[STRANGER, FIRST], SECOND, output),
+        "hall-step" => step(alloc, &[STRANGER, FIRST, SECOND], MOVE, output),
         _ => return Ok(false),
-    }
+    };
+    told?;
     Ok(true)
 }
 

@@ -44,15 +44,16 @@ const ROUNDS: u64 = 100;
 
 /// Makes the run of a name, if it is one of these, and tells whether it is.
 pub fn run<W: Write>(alloc: Global, name: &str, output: &mut W) -> Result<bool, Stop> {
-    match name {
-        "feed" => feed(alloc, output)?,
-        "write-message" => write(alloc, output)?,
-        "open" => open(alloc, output)?,
-        "step" => step(alloc, output)?,
-        "referee" => tell_referee(alloc, output)?,
-        "serve" => serve_lines(alloc, output)?,
+    let told = match name {
+        "feed" => feed(alloc, output),
+        "write-message" => write(alloc, output),
+        "open" => open(alloc, output),
+        "step" => step(alloc, output),
+        "referee" => referee_all(alloc, output),
+        "serve" => serve_lines(alloc, output),
         _ => return Ok(false),
-    }
+    };
+    told?;
     Ok(true)
 }
 
@@ -222,6 +223,10 @@ fn play_both(played: &mut Match, outbox: &mut Outbox) -> Result<(), Memory>
 }
 
 /// Referees the small game.
+fn referee_all<W: Write>(alloc: Global, output: &mut W) -> Result<(), Stop> {
+    Ok(tell_referee(alloc, output)?)
+}
+
 fn tell_referee<W: Write>(alloc: Global, output: &mut W) -> io::Result<()> {
     match referee(alloc, GAME, CONFIG, 0, &EVENTS) {
         Ok(outbox) => tell_outbox(&outbox, output),

@@ -37,18 +37,19 @@ const NO_END: &[u8] = b"rbg 1\n0 0 1\n";
 
 /// Makes the run of a name, if it is one of these, and tells whether it is.
 pub fn run<W: Write>(alloc: Global, name: &str, output: &mut W) -> Result<bool, Stop> {
-    match name {
-        "write-record" => write(alloc, output)?,
-        "write-record-1" => write_1(alloc, output)?,
-        "check-record-timed" => check(alloc, TIMED, output)?,
-        "check-record-plain" => check(alloc, PLAIN, output)?,
-        "check-record-going" => check(alloc, GOING, output)?,
-        "check-record-not-legal" => check(alloc, NOT_LEGAL, output)?,
-        "check-record-not-finished" => check(alloc, NOT_FINISHED, output)?,
-        "check-record-no-end" => check(alloc, NO_END, output)?,
-        "migrate" => migrate_plain(alloc, output)?,
+    let told = match name {
+        "write-record" => write(alloc, output),
+        "write-record-1" => write_1(alloc, output),
+        "check-record-timed" => check(alloc, TIMED, output),
+        "check-record-plain" => check(alloc, PLAIN, output),
+        "check-record-going" => check(alloc, GOING, output),
+        "check-record-not-legal" => check(alloc, NOT_LEGAL, output),
+        "check-record-not-finished" => check(alloc, NOT_FINISHED, output),
+        "check-record-no-end" => check(alloc, NO_END, output),
+        "migrate" => migrate_plain(alloc, output),
         _ => return Ok(false),
-    }
+    };
+    told?;
     Ok(true)
 }
 

@@ -48,18 +48,19 @@ enum Question {
 
 /// Makes the run of a name, if it is one of these, and tells whether it is.
 pub fn run<W: Write>(alloc: Global, name: &str, output: &mut W) -> Result<bool, Stop> {
-    match name {
-        "find-star" => find(alloc, STAR, output)?,
-        "try-star" => try_pairs(alloc, STAR, &STAR_MOVE, output)?,
-        "list-star" => list(alloc, STAR, output)?,
-        "find-pattern" => find(alloc, PATTERN, output)?,
-        "try-pattern" => try_pairs(alloc, PATTERN, &PATTERN_MOVE, output)?,
-        "list-pattern" => list(alloc, PATTERN, output)?,
-        "reach" => ask(alloc, Question::Reach, output)?,
-        "pattern" => ask(alloc, Question::Pattern, output)?,
-        "count" => count(alloc, output)?,
+    let told = match name {
+        "find-star" => find(alloc, STAR, output),
+        "try-star" => try_pairs(alloc, STAR, &STAR_MOVE, output),
+        "list-star" => list(alloc, STAR, output),
+        "find-pattern" => find(alloc, PATTERN, output),
+        "try-pattern" => try_pairs(alloc, PATTERN, &PATTERN_MOVE, output),
+        "list-pattern" => list(alloc, PATTERN, output),
+        "reach" => ask(alloc, Question::Reach, output),
+        "pattern" => ask(alloc, Question::Pattern, output),
+        "count" => count(alloc, output),
         _ => return Ok(false),
-    }
+    };
+    told?;
     Ok(true)
 }
 
@@ -171,9 +172,13 @@ fn move_of(pairs: &[(u32, Position)]) -> Result<Move, Stop> {
 
 /// Who is to move at a place, where, and what stands on the board.
 fn tell_place<W: Write>(place: &Place, output: &mut W) -> io::Result<()> {
-    writeln!(output, "player {}", place.state.player())?;
-    writeln!(output, "vertex {}", place.state.vertex())?;
-    writeln!(output, "after {:?}", place.after)?;
+    writeln!(
+        output,
+        "player {}\nvertex {}\nafter {:?}",
+        place.state.player(),
+        place.state.vertex(),
+        place.after
+    )?;
     for piece in place.state.pieces() {
         writeln!(output, "piece {piece}")?;
     }

@@ -29,25 +29,30 @@ const SHOWN: usize = 4;
 
 /// Makes the run of a name, if it is one of these, and tells whether it is.
 pub fn run<W: Write>(alloc: Global, name: &str, output: &mut W) -> Result<bool, Stop> {
-    match name {
-        "load" => tell_load(alloc, GAME, output)?,
-        "load-macros" => tell_load(alloc, MACROS, output)?,
-        "expand-names" => tell_expand(alloc, NAMES, output)?,
-        "expand-arguments" => tell_expand(alloc, ARGUMENTS, output)?,
-        "expand-deepest" => tell_built(alloc, chain(alloc, 64), output)?,
-        "expand-too-deep" => tell_built(alloc, chain(alloc, 65), output)?,
-        "expand-most-kept" => tell_built(alloc, doubled(alloc, WORDS, 15), output)?,
-        "expand-too-many-kept" => tell_built(alloc, doubled(alloc, WORDS, 16), output)?,
-        "expand-most-read" => tell_built(alloc, doubled(alloc, NOTHING, 17), output)?,
-        "expand-too-many-read" => tell_built(alloc, doubled(alloc, NOTHING, 18), output)?,
-        "compile" => tell_compile(alloc, output)?,
-        "compact" => tell_compact(alloc, output)?,
+    let told = match name {
+        "load" => load_text(alloc, GAME, output),
+        "load-macros" => load_text(alloc, MACROS, output),
+        "expand-names" => tell_expand(alloc, NAMES, output),
+        "expand-arguments" => tell_expand(alloc, ARGUMENTS, output),
+        "expand-deepest" => tell_built(alloc, chain(alloc, 64), output),
+        "expand-too-deep" => tell_built(alloc, chain(alloc, 65), output),
+        "expand-most-kept" => tell_built(alloc, doubled(alloc, WORDS, 15), output),
+        "expand-too-many-kept" => tell_built(alloc, doubled(alloc, WORDS, 16), output),
+        "expand-most-read" => tell_built(alloc, doubled(alloc, NOTHING, 17), output),
+        "expand-too-many-read" => tell_built(alloc, doubled(alloc, NOTHING, 18), output),
+        "compile" => tell_compile(alloc, output),
+        "compact" => tell_compact(alloc, output),
         _ => return Ok(false),
-    }
+    };
+    told?;
     Ok(true)
 }
 
 /// Loads a text, and tells its game.
+fn load_text<W: Write>(alloc: Global, text: &[u8], output: &mut W) -> Result<(), Stop> {
+    Ok(tell_load(alloc, text, output)?)
+}
+
 fn tell_load<W: Write>(alloc: Global, text: &[u8], output: &mut W) -> io::Result<()> {
     match load(alloc, text) {
         Ok(game) => tell_game(&game, output),
@@ -63,10 +68,14 @@ fn tell_load<W: Write>(alloc: Global, text: &[u8], output: &mut W) -> io::Result
 /// How much a game has of everything, its board and its actions.
 fn tell_game<W: Write>(game: &Game, output: &mut W) -> io::Result<()> {
     let board = game.board();
-    writeln!(output, "players {}", game.players())?;
-    writeln!(output, "pieces {}", game.pieces())?;
-    writeln!(output, "variables {}", game.variables())?;
-    writeln!(output, "directions {}", game.directions())?;
+    writeln!(
+        output,
+        "players {}\npieces {}\nvariables {}\ndirections {}",
+        game.players(),
+        game.pieces(),
+        game.variables(),
+        game.directions()
+    )?;
     for vertex in 0..board.len() {
         writeln!(output, "vertex {}", board.piece_at_start(vertex as u32))?;
     }
