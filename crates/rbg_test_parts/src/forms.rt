@@ -72,10 +72,13 @@ fn lends_all<S: Steps>(automaton: &S, game: &Game) -> bool
     same
 }
 
+/// Macros of texts with long rules: what they are given, nine times and ten times.
+const MACROS: &str = "\n#nine(x) = x x x x x x x x x\n#ten(x) = x x x x x x x x x x";
+
 /// The game on this row with these rules, if there is one.
 fn game_on(alloc: Global, row: &str, rules: &str) -> Result<Option<Game>, AllocError> {
     let text = format!(in alloc;
-        "#players = white(100), black(100)\n#pieces = e, w, b\n#variables = n(3)\n#board = rectangle(up,down,left,right,{row})\n#rules = {rules}"
+        "#players = white(100), black(100)\n#pieces = e, w, b\n#variables = n(3)\n#board = rectangle(up,down,left,right,{row})\n#rules = {rules}{MACROS}"
     )?;
     Ok(load(alloc, text.as_bytes()).ok())
 }
@@ -102,7 +105,7 @@ fn entries(alloc: Global, row: &str, rules: &str) -> Result<Option<usize>, Alloc
 }
 
 /// Rules, and how many entries the different lists of their positions have in all.
-const RULES: [(&str, usize); 29] = [
+const RULES: [(&str, usize); 43] = [
     ("->white {w} right [w] ->black", 5),
     ("->white ([w])* ->black", 3),
     ("->white (([w])* ([e])*)* ->black", 4),
@@ -158,6 +161,53 @@ const RULES: [(&str, usize); 29] = [
     (
         "->white right {? [w]* ([$ n = 1] + left) [w]} [b] ->black",
         9,
+    ),
+    ("->white ten(ten([w] [w])) ->black", 202),
+    (
+        "->white ten(ten([w])) nine(ten([w])) nine([w]) ->black",
+        201,
+    ),
+    ("ten(ten(ten(->>)))", 1000),
+    (
+        "nine(ten(ten(->>))) nine(ten(->>)) nine(->>) ->white [w] ->black",
+        1002,
+    ),
+    ("ten(ten(ten(ten(up up))))", 20000),
+    (
+        "->white ([w] nine(ten(ten(+ [w]))) nine(ten(+ [w])) nine(+ [w])) ->black",
+        1002,
+    ),
+    (
+        "->white ([w] ->black ten(+ ->black + ->black + ->black + ->black + ->black + ->black) nine(+ ->black)) {}",
+        73,
+    ),
+    (
+        "->white ten(([w] + [e])) ([w] + [e]) ([w] + [e]) ([w] + [e]) ([w] + [e]) ([w] + [e]) {}",
+        32,
+    ),
+    (
+        "->white ([w] nine(ten(+ [w] + [w] + [w]))) ([w] nine(ten(+ [w] + [w] + [w] + [w])) + [w] + [w] + [w] + [w] + [w] + [w] + [w]) {}",
+        641,
+    ),
+    (
+        "->white {! ten(([w] + [e])) ([w] + [e]) ([w] + [e]) ([w] + [e]) ([w] + [e]) ([w] + [e]) {}} [w] ->black",
+        35,
+    ),
+    (
+        "->white {! ten(([w] + [e])) {}} {! ten(([w] + [e])) {}} [w] ->black",
+        47,
+    ),
+    (
+        "->white {? {e} nine(([$ n = 1] + [$ n = 2]) ([$ n = 1] + [$ n = 2])) {b} + [$ n = 0]} [w] ->black",
+        43,
+    ),
+    (
+        "->white ({e} ten(([e] + [w])) ->black + ([$ n = 1])* {})",
+        27,
+    ),
+    (
+        "->white right (([$ n = 1])* {} + left ten(([e] + [w])) ->black)",
+        28,
     ),
 ];
 
