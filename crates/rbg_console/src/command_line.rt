@@ -8,7 +8,7 @@ use crate::note::Note;
 use crate::output::write_text;
 use crate::status::Status;
 use clap::error::ErrorKind;
-use clap::{Arg, ArgMatches, Command};
+use clap::{ArgMatches, Command};
 use std::alloc::{AllocError, Global};
 use std::io::Write;
 use thiserror::Error;
@@ -24,11 +24,6 @@ pub enum WordsError {
     Wrong(String),
     #[error("memory")]
     Memory(#[from(alloc)] AllocError),
-}
-
-/// The argument `FILE`, a file's name.
-pub fn file_argument<'a>(alloc: Global, help: &'a str) -> Arg<'a> {
-    Arg::new(alloc, "FILE").help(help)
 }
 
 /// Reads words, without the program's name, as those of the command.

@@ -13,7 +13,7 @@ mod refusal;
 mod status;
 mod system;
 
-pub use command_line::{WordsError, file_argument, match_words, write_words};
+pub use command_line::{WordsError, match_words, write_words};
 pub use counts::count_line;
 pub use files::{Files, fill_file, read_bytes};
 pub use input::{Input, MAX_INPUT, read_input};
