@@ -1,6 +1,6 @@
 -- What stands at a place of sets, and how it is cleared.
-use Rattle.std.proofs.Common.{◌≡◌, ℕ, zero, suc, ◌+◌, ◌-◌, ◌*◌, ◌/◌, ◌%◌, ◌<◌, ◌⊎◌, inl, inr, List, length, get_or, take, refl, sym, ap, ◌∙◌, slice_set, arith}
-use Rattle.std.specs.Prelude.{Contains}
+use Rattle.std.proofs.Common.{◌≡◌, ◌≢◌, ℕ, zero, suc, ◌+◌, ◌-◌, ◌*◌, ◌/◌, ◌%◌, ◌<◌, ◌⊎◌, inl, inr, List, length, get_or, take, refl, sym, ap, subst, ◌∙◌, slice_set, arith}
+use Rattle.std.specs.Prelude.{Contains, ◌↔◌}
 use Rattle.std.specs.Int.{bit_at}
 use Rattle.std.specs.List.{sum_by}
 use Rattle.std.proofs.Math.Nat.{mul_comm, div-add-mod, div-lt_iff_lt-mul}
@@ -26,6 +26,14 @@ module _ (places : List ℕ) (place : ℕ) (last : IsLastOf places place) where
       let long = length-take-le (length places - 1) places (omega (arith, some)) in
       (i, omega (arith, before, long), get_or-take (length places - 1) places i p before ∙ is)
 
+  pub from_rest : (p : ℕ) → Contains (take (length places - 1) places) p → Contains places p
+  from_rest p (i, within, is) =
+      let some = last.some in
+      let long = length-take-le (length places - 1) places (omega (arith, some)) in
+      let below : i < length places = omega (arith, within, long) in
+      let read : get_or places i 0 ≡ p = sym (get_or-take (length places - 1) places i 0 (omega (arith, within, long))) ∙ get_or_default (take (length places - 1) places) i 0 p within ∙ is in
+      (i, below, get_or_default places i p 0 below ∙ read)
+
   pub one_less : length (take (length places - 1) places) + 1 ≡ length places
   one_less =
       let some = last.some in
@@ -39,7 +47,7 @@ sets_closed_at size columns marks pending waiting touched place last none are = 
   pendings = are.pendings;
   under = are.under;
   waits = λ v p has. among_rest waiting place last (p * columns + v / 64) (λ same. none v p same has) (are.waits v p has);
-  touches = are.touches;
+  touched = are.touched;
 }
 
 -- The word at a place is cleared.
@@ -59,6 +67,13 @@ module _ (columns : ℕ) (words : List ℕ) (place : ℕ) (within : place < leng
   pub still_elsewhere : (v p : ℕ) → ¬ (p * columns + v / 64 ≡ place) → HasBitAt columns words v p → HasBitAt columns (slice_set words place 0) v p
   still_elsewhere v p other has = record { column = has.column; set = ap (λ (k : ℕ). bit_at k (v % 64)) (get_or-set_other words place (p * columns + v / 64) 0 0 other) ∙ has.set }
 
+-- A word that has a bit is not 0.
+pub marked_some : (columns : ℕ) (words : List ℕ) (v p : ℕ) → HasBitAt columns words v p → get_or words (p * columns + v / 64) 0 ≢ 0
+marked_some columns words v p has none =
+    let clear : bit_at (get_or words (p * columns + v / 64) 0) (v % 64) ≡ 0 = ap (λ (n : ℕ). bit_at n (v % 64)) none ∙ bit_at-zero (v % 64) in
+    let set = has.set in
+    omega (arith, clear, set)
+
 module _
     (size columns : ℕ) (marks pending waiting touched : List ℕ) (place : ℕ)
     (in_marks : place < length marks)
@@ -74,14 +89,27 @@ module _
     closed = slice_set pending place 0
 
     -- What was met at the place that was touched last is forgotten.
-    pub sets_forgotten : IsLastOf touched place → AreSetsByPlace old → AreSetsByPlace (sets_of size columns unmarked closed waiting (take (length touched - 1) touched))
-    sets_forgotten last are = record {
+    pub sets_forgotten : IsLastOf touched place → ¬ Contains (take (length touched - 1) touched) place → AreSetsByPlace old → AreSetsByPlace (sets_of size columns unmarked closed waiting (take (length touched - 1) touched))
+    sets_forgotten last gone are = record {
       marks = length-set marks place 0 ∙ are.marks;
       pendings = length-set pending place 0 ∙ are.pendings;
       under = λ v p has. let was = was_elsewhere columns pending place in_pending v p has in still_elsewhere columns marks place in_marks v p was.1 (are.under v p was.0);
       waits = λ v p has. are.waits v p (was_elsewhere columns pending place in_pending v p has).0;
-      touches = λ v p has. let was = was_elsewhere columns marks place in_marks v p has in among_rest touched place last (p * columns + v / 64) was.1 (are.touches v p was.0);
+      touched = told;
     }
+      where
+        told : (x : ℕ) → Contains (take (length touched - 1) touched) x ↔ (get_or unmarked x 0 ≢ 0)
+        told x = elim (ℕ_discrete x place) [
+          | yes same ↦ (
+            λ there. absurd (gone (subst (λ (k : ℕ). Contains (take (length touched - 1) touched) k) same there)),
+            λ some. absurd (some (ap (λ (k : ℕ). get_or unmarked k 0) same ∙ get_or-set_same marks place 0 0 in_marks)),
+          )
+          | no other ↦
+              let kept = get_or-set_other marks place x 0 0 other in (
+                λ there none. (are.touched x).0 (from_rest touched place last x there) (sym kept ∙ none),
+                λ some. among_rest touched place last x other ((are.touched x).1 (λ none. some (kept ∙ none))),
+              )
+        ]
 
     pub forgets : (touched' : List ℕ) → ForgetsPlace old (sets_of size columns unmarked closed waiting touched') place
     forgets touched' = record {
@@ -97,7 +125,7 @@ module _
       pendings = length-set pending place 0 ∙ are.pendings;
       under = λ v p has. are.under v p (was_elsewhere columns pending place in_pending v p has).0;
       waits = λ v p has. let was = was_elsewhere columns pending place in_pending v p has in among_rest waiting place last (p * columns + v / 64) was.1 (are.waits v p was.0);
-      touches = are.touches;
+      touched = are.touched;
     }
 
     module _ (q c : ℕ) (is : place ≡ q * columns + c) (below : c < columns) (last : IsLastOf waiting place) where

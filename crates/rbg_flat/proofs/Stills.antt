@@ -1,8 +1,10 @@
 -- Where no shift comes next, leaps stay where they begin.
 use Rattle.std.proofs.Common.{◌≡◌, ℕ, zero, suc, ◌||◌, ◌+◌, ◌/◌, ◌%◌, ◌<◌, ◌≤◌, ◌⊎◌, inl, inr, List, [], ◌∷◌, ◌++◌, Bool, true, false, length, get_or, take, refl, sym, ap, subst, ◌∙◌, arith}
-use Rattle.std.specs.Prelude.{Contains, All, IsTrue, ◌↔◌}
+use Rattle.std.specs.Prelude.{Contains, All, IsTrue, ◌↔◌, slice_get, Some}
 use Rattle.std.specs.Int.{bit_at}
-use Rattle.std.proofs.lemmas.List.{take_more}
+use Rattle.std.proofs.lemmas.Bool.{cases_lt}
+use Rattle.std.proofs.lemmas.Option.{slice_get-get_or, slice_get_within, get_or_from_slice_get}
+use Rattle.std.proofs.lemmas.List.{take_more, length_push, get_or_push}
 use Rattle.std.proofs.lemmas.List.Elements.{Contains-push, Contains-push_cases, Contains-append_left, Contains-get_or, All-contains}
 use Rattle.rbg_rules.specs.Expression.{AbstractAction, shift, on, off, assignment, comparison, switch, positive, negative, Expression}
 use Rattle.rbg_rules.specs.Games.{IsGame}
@@ -19,7 +21,9 @@ use Rattle.rbg_leaps.specs.declared.asking.Leaps.{Leaps}
 use Rattle.rbg_leaps.specs.declared.table.Target.{Target}
 use Rattle.rbg_leaps.specs.Asked.{AreTargetsFrom}
 use Rattle.rbg_leaps.specs.Leaps.{IsShiftAt, IsLeap, EndsAcross, Leads, stay, go}
-use Rattle.rbg_flat.specs.Paths.{IsStill}
+use Rattle.rbg_base.proofs.CallerLemmas.{slice_get-append_left}
+use Rattle.rbg_flat.specs.declared.paths.Facts.{Facts}
+use Rattle.rbg_flat.specs.Paths.{IsStill, AreFacts}
 use Rattle.rbg_flat.specs.internal.Leading.{IsAmongBits, IsOnBoard, IsPositionIn, LeadsFrom, EndsFrom, LearnsEnd, AreOn}
 use Rattle.rbg_flat.specs.internal.Sets.{SetsOfVertices, IsInWord, IsMarked, IsOpen, Meets}
 use Rattle.rbg_flat.specs.internal.Shown.{shows_shift}
@@ -198,23 +202,22 @@ none_among_bits c word v p among = no_index among.listed.0 among.listed.1
     no_index : (k : ℕ) → k < 0 → ⊥
     no_index k h = omega (arith, h)
 
-get_push : (xs : List Bool) (b : Bool) (p : ℕ) → get_or (xs ++ b ∷ []) p false ≡ true → (get_or xs p false ≡ true) ⊎ ((p ≡ length xs) × (b ≡ true))
-get_push [] b zero e = inr (refl, e)
-get_push [] b (suc p) e = inl e
-get_push (x ∷ xs) b zero e = inl e
-get_push (x ∷ xs) b (suc p) e = by_case (get_push xs b p e)
+-- The facts of one position more are told.
+pub told_more : (game : AbstractGame) (xs ys : List Facts) (told : Facts) (last : ℕ) → ys ≡ xs ++ told ∷ [] → length xs ≡ last → ((p : ℕ) (f : Facts) → slice_get xs p ≡ Some f → AreFacts game p f) → AreFacts game last told → (p : ℕ) (f : Facts) → slice_get ys p ≡ Some f → AreFacts game p f
+told_more game xs ys told last grown size so_far here p f is = elim (cases_lt p (length xs)) [
+  | inl below ↦
+      let was : slice_get xs p ≡ Some (get_or xs p f) = slice_get-get_or xs p f below in
+      so_far p f (was ∙ sym (slice_get-append_left xs (told ∷ []) p (get_or xs p f) was) ∙ read)
+  | inr far ↦
+      let within = slice_get_within (xs ++ told ∷ []) p f read in
+      let long = length_push xs told in
+      let at : length xs ≡ p = omega (arith, far, within, long) in
+      let same : told ≡ f = sym (get_or_push xs told f p at) ∙ get_or_from_slice_get (xs ++ told ∷ []) p f f read in
+      subst (λ (x : Facts). AreFacts game p x) same (subst (λ (k : ℕ). AreFacts game k told) (sym size ∙ at) here)
+]
   where
-    by_case : (get_or xs p false ≡ true) ⊎ ((p ≡ length xs) × (b ≡ true)) → (get_or (x ∷ xs) (suc p) false ≡ true) ⊎ ((suc p ≡ length (x ∷ xs)) × (b ≡ true))
-    by_case (inl there) = inl there
-    by_case (inr (same, told)) = inr (omega (arith, same), told)
-
--- One position more is told of.
-pub told_more : (game : AbstractGame) (xs ys : List Bool) (b : Bool) (last : ℕ) → ys ≡ xs ++ b ∷ [] → length xs ≡ last → ((p : ℕ) → get_or xs p false ≡ true → IsStill game.rules p) → (b ≡ true → IsStill game.rules last) → (p : ℕ) → get_or ys p false ≡ true → IsStill game.rules p
-told_more game xs ys b last grown size so_far here p is = by_case (get_push xs b p (subst (λ (zs : List Bool). get_or zs p false ≡ true) grown is))
-  where
-    by_case : (get_or xs p false ≡ true) ⊎ ((p ≡ length xs) × (b ≡ true)) → IsStill game.rules p
-    by_case (inl there) = so_far p there
-    by_case (inr (same, told)) = subst (λ (k : ℕ). IsStill game.rules k) (sym (same ∙ size)) (here told)
+    read : slice_get (xs ++ told ∷ []) p ≡ Some f
+    read = subst (λ (zs : List Facts). slice_get zs p ≡ Some f) grown is
 
 -- Whether a word may end was told of one thing more.
 pub learns_or : (old told : Bool) (Ends : Type 0) → IsTrue told ↔ Ends → LearnsEnd old (old || told) Ends

@@ -6,7 +6,6 @@ ghost use Rattle.rbg_rules.specs.Positions.{IsModifierAt, IsNumbered, IsPatternA
 ghost use Rattle.rbg_rules.specs.State.{AbstractGame, AbstractState, IsStateOf};
 ghost use Rattle.rbg_rules.specs.Words.{Start, after};
 ghost use Rattle.rbg_leaps.specs.Leaps.{IsLeap, EndsAcross};
-ghost use Rattle.rbg_leaps.specs.Made.{AreLeapsOf};
 ghost use Rattle.rbg_leaps.specs.Origin.{start_of};
 ghost use Rattle.rbg_flat.specs.Candidates.{MayEnd};
 ghost use Rattle.rbg_flat.specs.Chains.{Holds, IsMet};
@@ -24,7 +23,7 @@ use crate::paths::Paths;
 use crate::sets::Sets;
 use crate::words::{lowest, unit_word, without};
 use rbg_base::{Memory, Position, Vertex};
-use rbg_leaps::{Leaps, Origin};
+use rbg_leaps::Origin;
 use rbg_rules::Game;
 use rbg_state::SemiState;
 use std::alloc::Global;
@@ -74,7 +73,7 @@ impl Flat {
     {
         self.sets.clear();
         self.ends = false;
-        self.lead(game, &paths.leaps, origin, vertex);
+        self.lead(game, paths, origin, vertex);
     }
 
     /// Goes on up to the next vertex that is to be asked about a pattern, and returns it with the pattern's position;
@@ -110,7 +109,7 @@ impl Flat {
                 None => self.sets.wait_no_more(place),
                 Some(vertex) => {
                     let position = self.sets.position_at(place);
-                    if is_pattern(game, &self.sets, vertex, position) {
+                    if is_pattern(game, paths, &self.sets, vertex, position) {
                         return Some((vertex, position));
                     }
                     self.try_word(game, paths, state, place, position, vertex);
@@ -150,7 +149,7 @@ impl Flat {
             → weight self.new.sets < weight self.old.sets }
     {
         if valid {
-            self.lead_on(game, &paths.leaps, position, vertex);
+            self.lead_on(game, paths, position, vertex);
         } else {
             self.drop_one(game, position, vertex);
         }
@@ -170,10 +169,12 @@ impl Flat {
     pub fn finish(
         &mut self,
         game: &Game,
+        paths: &Paths,
         state: &SemiState,
         found: &mut Modifiers,
     ) -> Result<usize, Memory>
         requires lawful { IsGame game.now }
+        requires paths { ArePathsOf game.now paths.now }
         requires fits { IsStateOf game.now state.now.state }
         requires sized { AreSizedFor game.now self.old.sets }
         requires on { AreOn game.now self.old.sets }
@@ -194,7 +195,7 @@ impl Flat {
         let mut many = 0;
         while let Some(place) = self.sets.last_touched() {
             let position = self.sets.position_at(place);
-            let keeps = keeps(game, state, position);
+            let keeps = keeps(game, paths, state, position);
             many += gather_place(found, &self.sets, place, position, keeps)?;
             self.sets.forget(place);
         }
@@ -203,9 +204,9 @@ impl Flat {
 
     /// Leads on from a place in the rules and a vertex: meets where leaps lead from there.
     #[inline(always)]
-    fn lead(&mut self, game: &Game, leaps: &Leaps, origin: Origin, vertex: Vertex)
+    fn lead(&mut self, game: &Game, paths: &Paths, origin: Origin, vertex: Vertex)
         requires lawful { IsGame game.now }
-        requires leaps { AreLeapsOf game.now leaps.now }
+        requires paths { ArePathsOf game.now paths.now }
         requires sized { AreSizedFor game.now self.old.sets }
         requires vertex { vertex < length game.now.board.first }
         requires stands { IsStart game.now.rules (start_of origin) }
@@ -216,16 +217,16 @@ impl Flat {
             (EndsAcross game.now (start_of origin) vertex) }
         ensures on { AreOn game.now self.old.sets → AreOn game.now self.new.sets }
     {
-        let (targets, ends) = leaps.leads(origin, vertex);
-        meet_targets(&mut self.sets, game, leaps, targets);
+        let (targets, ends) = paths.leaps.leads(origin, vertex);
+        meet_targets(&mut self.sets, game, paths, targets);
         self.ends |= ends;
     }
 
     /// Leads on from a position that holds at a vertex, which is no longer open then.
     #[inline(always)]
-    fn lead_on(&mut self, game: &Game, leaps: &Leaps, position: Position, vertex: Vertex)
+    fn lead_on(&mut self, game: &Game, paths: &Paths, position: Position, vertex: Vertex)
         requires lawful { IsGame game.now }
-        requires leaps { AreLeapsOf game.now leaps.now }
+        requires paths { ArePathsOf game.now paths.now }
         requires sized { AreSizedFor game.now self.old.sets }
         requires vertex { vertex < length game.now.board.first }
         requires from_one { 0 < position }
@@ -245,7 +246,7 @@ impl Flat {
     {
         // an action stands there
         let _action = game.action(position);
-        self.lead(game, leaps, Origin::After(position), vertex);
+        self.lead(game, paths, Origin::After(position), vertex);
         self.sets
             .close_word(position, vertex as usize / 64, unit_word(vertex % 64));
     }
@@ -341,9 +342,9 @@ impl Flat {
             (EndsFrom game.now position column word) }
         ensures on { AreOn game.now self.old.sets → AreOn game.now self.new.sets }
     {
-        match first_still(paths, position, column, word) {
+        match first_still(game, paths, position, column, word) {
             Some(vertex) => self.lead_still(game, paths, position, vertex, column, word),
-            None => self.lead_each(game, &paths.leaps, position, column, word),
+            None => self.lead_each(game, paths, position, column, word),
         }
     }
 
@@ -378,7 +379,7 @@ impl Flat {
         let _action = game.action(position);
         let origin = Origin::After(position);
         let (targets, may_end) = paths.leaps.leads(origin, vertex);
-        meet_bits(&mut self.sets, game, targets, column, word);
+        meet_bits(&mut self.sets, game, paths, targets, column, word);
         self.ends |= may_end;
     }
 
@@ -387,13 +388,13 @@ impl Flat {
     fn lead_each(
         &mut self,
         game: &Game,
-        leaps: &Leaps,
+        paths: &Paths,
         position: Position,
         column: usize,
         word: u64,
     )
         requires lawful { IsGame game.now }
-        requires leaps { AreLeapsOf game.now leaps.now }
+        requires paths { ArePathsOf game.now paths.now }
         requires sized { AreSizedFor game.now self.old.sets }
         requires board { IsOnBoard game.now column word }
         requires from_one { 0 < position }
@@ -411,7 +412,7 @@ impl Flat {
         while rest != 0 {
             let bit = lowest(rest);
             let vertex = column as Vertex * 64 + bit;
-            self.lead(game, leaps, Origin::After(position), vertex);
+            self.lead(game, paths, Origin::After(position), vertex);
             rest = without(rest, bit);
         }
     }
@@ -419,23 +420,31 @@ impl Flat {
 
 /// Whether a pattern stands at a position that is open at a vertex.
 #[inline(always)]
-fn is_pattern(game: &Game, sets: &Sets, vertex: Vertex, position: Position) -> bool
+fn is_pattern(game: &Game, paths: &Paths, sets: &Sets, vertex: Vertex, position: Position) -> bool
+    requires paths { ArePathsOf game.now paths.now }
     requires on { AreOn game.now sets.now }
     requires marked { IsMarked sets.now vertex position }
     ensures { IsTrue result ↔ IsPatternAt game.now.rules position }
 {
-    game.is_pattern(position)
+    paths.is_pattern(game, position)
 }
 
 /// The first vertex of a word, where no shift comes next behind a position.
 #[inline(always)]
-fn first_still(paths: &Paths, position: Position, column: usize, word: u64) -> Option<Vertex>
-    requires { column < 2 ^ 25 }
-    ensures still { IfSome result (λ _. (game : AbstractGame) → ArePathsOf game paths.now
-        → IsStill game.rules position) }
+fn first_still(
+    game: &Game,
+    paths: &Paths,
+    position: Position,
+    column: usize,
+    word: u64,
+) -> Option<Vertex>
+    requires paths { ArePathsOf game.now paths.now }
+    requires there { position ≤ length (positions_of game.now.rules) }
+    requires narrow { column < 2 ^ 25 }
+    ensures still { IfSome result (λ _. IsStill game.now.rules position) }
     ensures there { IfSome result (λ v. IsInWord position column word v position) }
 {
-    if word != 0 && paths.is_still(position) {
+    if word != 0 && paths.is_still(game, position) {
         Some(column as Vertex * 64 + lowest(word))
     } else {
         None

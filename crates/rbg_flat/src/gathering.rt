@@ -3,11 +3,12 @@ ghost use Rattle.std.specs.Prelude.{◌≡◌, ◌≢◌, ◌↔◌, ℕ, ◌+�
 ghost use Rattle.rbg_rules.specs.Games.{IsGame};
 ghost use Rattle.rbg_rules.specs.Positions.{positions_of};
 ghost use Rattle.rbg_rules.specs.State.{IsStateOf};
+ghost use Rattle.rbg_flat.specs.Paths.{ArePathsOf};
 ghost use Rattle.rbg_flat.specs.internal.Places.{IsMetAt};
 ghost use Rattle.rbg_flat.specs.internal.Gathering.{IsBitOf, PushesWord, Gathers, Keeps};
 
 use crate::found::Modifiers;
-use crate::leading::is_modifier;
+use crate::paths::Paths;
 use crate::sets::Sets;
 use rbg_base::{Memory, Position};
 use rbg_rules::Game;
@@ -16,13 +17,14 @@ use rbg_state::{SemiState, Trial};
 /// Whether a modifier stands at a position that is valid: where it is valid at one vertex, it is at each. No action
 /// stands at position 0.
 #[inline(always)]
-pub(crate) fn keeps(game: &Game, state: &SemiState, position: Position) -> bool
+pub(crate) fn keeps(game: &Game, paths: &Paths, state: &SemiState, position: Position) -> bool
     requires lawful { IsGame game.now }
+    requires paths { ArePathsOf game.now paths.now }
     requires fits { IsStateOf game.now state.now.state }
     requires there { position ≤ length (positions_of game.now.rules) }
     ensures { 0 < position → IsTrue result ↔ Keeps game.now state.now.state position }
 {
-    position != 0 && is_modifier(game, position) && is_kept(game, state, position)
+    position != 0 && paths.is_modifier(game, position) && is_kept(game, state, position)
 }
 
 /// The same where an action stands.
@@ -62,9 +64,22 @@ fn gather_word(
     }
 }
 
-/// How many bits of a word are set.
+/// How many bits of a word are set. Most words have one, which is seen at once.
 #[inline(always)]
 fn count(word: u64) -> usize
+    ensures ones { result ≡ count_ones word }
+    ensures few { result ≤ 64 }
+{
+    if word.count_ones() == 1 {
+        1
+    } else {
+        count_all(word)
+    }
+}
+
+/// The same, for a word with more bits. It isn't put in line, since the compiler would join both again.
+#[inline(never)]
+fn count_all(word: u64) -> usize
     ensures ones { result ≡ count_ones word }
     ensures few { result ≤ 64 }
 {

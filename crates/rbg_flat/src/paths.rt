@@ -1,13 +1,13 @@
-//! The leaps of a game, and behind which positions none begins with a shift.
-ghost use Rattle.std.specs.Prelude.{◌≡◌, ℕ, ◌+◌, ◌≤◌, ◌<◌, ◌↔◌, All, length, take, slice_index_or, true, false, IfOk, IfSome, IfNone, IsTrue};
+//! The leaps of a game, and what flat parts need to know of each position.
+ghost use Rattle.std.specs.Prelude.{◌≡◌, ℕ, ◌+◌, ◌≤◌, ◌<◌, ◌↔◌, All, Some, length, take, slice_get, true, IfOk, IfSome, IfNone, IsTrue};
 ghost use Rattle.rbg_rules.specs.Games.{IsGame};
-ghost use Rattle.rbg_rules.specs.Positions.{positions_of};
+ghost use Rattle.rbg_rules.specs.Positions.{IsModifierAt, IsPatternAt, positions_of};
 ghost use Rattle.rbg_rules.specs.State.{AbstractGame};
 ghost use Rattle.rbg_leaps.specs.Leaps.{IsShiftAt};
 ghost use Rattle.rbg_leaps.specs.Limits.{IsTooLarge};
-ghost use Rattle.rbg_flat.specs.Paths.{ArePathsOf, IsStill};
+ghost use Rattle.rbg_flat.specs.Paths.{AreFacts, ArePathsOf, IsStill};
 ghost use Rattle.rbg_flat.specs.internal.Leading.{IsPositionIn};
-ghost use Rattle.rbg_flat.specs.internal.Shown.{shows_shift};
+ghost use Rattle.rbg_flat.specs.internal.Shown.{shows_modifier, shows_shift};
 
 use rbg_auto::Steps;
 use rbg_base::{Memory, Position};
@@ -15,17 +15,28 @@ use rbg_leaps::{Leaps, leaps};
 use rbg_rules::{Action, Game};
 use std::alloc::Global;
 
-/// The leaps of a game, with what is told of each position: whether no shift comes next behind it.
+/// What flat parts need to know of a position.
+#[derive(Debug, Clone, Copy, Drop)]
+pub(crate) struct Facts {
+    /// Whether no shift comes next behind it.
+    pub(crate) still: bool,
+    /// Whether a modifier stands there.
+    pub(crate) modifier: bool,
+    /// Whether a pattern stands there.
+    pub(crate) pattern: bool,
+}
+
+/// The leaps of a game, with the facts of each position, from 0 on.
 #[derive(Debug)]
 pub struct Paths {
     pub(crate) leaps: Leaps,
-    pub(crate) still: Vec<bool>,
+    pub(crate) facts: Vec<Facts>,
 }
 
 /// Written out, so that letting them go is one call in the proofs of those who hold them, not a step for each part.
 impl Drop for Paths {
     fn drop(self) {
-        let Paths { leaps: _, still: _ } = self;
+        let Paths { leaps: _, facts: _ } = self;
     }
 }
 
@@ -39,32 +50,83 @@ impl Paths {
         let Some(leaps) = leaps(alloc, game, steps)? else {
             return Ok(None);
         };
-        let still = still_positions(alloc, game, steps)?;
-        Ok(Some(Paths { leaps, still }))
+        let facts = all_facts(alloc, game, steps)?;
+        Ok(Some(Paths { leaps, facts }))
     }
 
-    /// Whether it is told that no shift comes next behind a position.
+    /// The facts of a position.
     #[inline(always)]
-    pub(crate) fn is_still(&self, position: Position) -> bool
-        ensures { IsTrue result → slice_index_or self.now.still.items position false ≡ true }
+    fn facts(&self, position: Position) -> Facts
+        requires { position < length self.now.facts.items }
+        ensures { slice_get self.now.facts.items position ≡ Some result }
     {
-        let index = position as usize;
-        index < self.still.len() && self.still[index]
+        self.facts[position as usize]
+    }
+
+    /// Whether no shift comes next behind a position, as far as that is told.
+    #[inline(always)]
+    pub(crate) fn is_still(&self, game: &Game, position: Position) -> bool
+        requires paths { ArePathsOf game.now self.now }
+        requires there { position ≤ length (positions_of game.now.rules) }
+        ensures { IsTrue result → IsStill game.now.rules position }
+    {
+        self.facts(position).still
+    }
+
+    /// Whether a modifier stands at a position.
+    #[inline(always)]
+    pub(crate) fn is_modifier(&self, game: &Game, position: Position) -> bool
+        requires paths { ArePathsOf game.now self.now }
+        requires from_one { 0 < position }
+        requires there { position ≤ length (positions_of game.now.rules) }
+        ensures { IsTrue result ↔ IsModifierAt game.now.rules position }
+    {
+        self.facts(position).modifier
+    }
+
+    /// Whether a pattern stands at a position.
+    #[inline(always)]
+    pub(crate) fn is_pattern(&self, game: &Game, position: Position) -> bool
+        requires paths { ArePathsOf game.now self.now }
+        requires from_one { 0 < position }
+        requires there { position ≤ length (positions_of game.now.rules) }
+        ensures { IsTrue result ↔ IsPatternAt game.now.rules position }
+    {
+        self.facts(position).pattern
     }
 }
 
-/// Of each position, from 0 on, whether no shift comes next behind it.
-fn still_positions<S: Steps>(alloc: Global, game: &Game, steps: &S) -> Result<Vec<bool>, Memory>
+/// The facts of each position, from 0 on.
+fn all_facts<S: Steps>(alloc: Global, game: &Game, steps: &S) -> Result<Vec<Facts>, Memory>
     requires { S.of_rules steps.now game.now.rules }
-    ensures { IfOk result (λ still. (p : ℕ) → slice_index_or still.items p false ≡ true
-        → IsStill game.now.rules p) }
+    ensures all { IfOk result (λ facts.
+        length facts.items ≡ length (positions_of game.now.rules) + 1) }
+    ensures told { IfOk result (λ facts. (p : ℕ) (told : Facts)
+        → slice_get facts.items p ≡ Some told → AreFacts game.now p told) }
 {
     let count = game.positions() + 1;
-    let mut still = Vec::with_capacity(alloc, count)?;
+    let mut facts = Vec::with_capacity(alloc, count)?;
     for index in 0..count {
-        still.push(no_shift(game, steps.next(index as Position)))?;
+        let position = index as Position;
+        facts.push(facts_at(game, position, steps.next(position)))?;
     }
-    Ok(still)
+    Ok(facts)
+}
+
+/// The facts of a position, behind which these come next.
+fn facts_at(game: &Game, position: Position, next: &[Position]) -> Facts
+    requires lawful { IsGame game.now }
+    requires there { position ≤ length (positions_of game.now.rules) }
+    requires within { All (IsPositionIn game.now) next.now }
+    ensures still { IsTrue result.still → All (λ q. ¬ IsShiftAt game.now.rules q) next.now }
+    ensures modifier { 0 < position → IsTrue result.modifier ↔ IsModifierAt game.now.rules position }
+    ensures pattern { 0 < position → IsTrue result.pattern ↔ IsPatternAt game.now.rules position }
+{
+    Facts {
+        still: no_shift(game, next),
+        modifier: position != 0 && is_modifier(game, position),
+        pattern: position != 0 && game.is_pattern(position),
+    }
 }
 
 /// Whether no shift stands at these positions.
@@ -101,6 +163,30 @@ fn shifts(action: &Action) -> bool
         | Action::Assign { .. }
         | Action::Compare { .. }
         | Action::Switch { .. }
+        | Action::Positive
+        | Action::Negative => false,
+    }
+}
+
+/// Whether a modifier stands at a position.
+fn is_modifier(game: &Game, position: Position) -> bool
+    requires lawful { IsGame game.now }
+    requires from_one { 0 < position }
+    requires there { position ≤ length (positions_of game.now.rules) }
+    ensures { IsTrue result ↔ IsModifierAt game.now.rules position }
+{
+    modifies(game.action(position))
+}
+
+/// Whether the action is a modifier.
+fn modifies(action: &Action) -> bool
+    ensures { result ≡ shows_modifier action.now }
+{
+    match action {
+        Action::Off { .. } | Action::Assign { .. } | Action::Switch { .. } => true,
+        Action::Shift { .. }
+        | Action::On { .. }
+        | Action::Compare { .. }
         | Action::Positive
         | Action::Negative => false,
     }

@@ -4,7 +4,7 @@ ghost use Rattle.std.specs.Int.{bit_at, bit_not, w64};
 ghost use Rattle.rbg_flat.specs.internal.Sets.{MeetsWord, Meets, IsInRow, ClosesWord, IsMarked, IsOpen, IsLastOf, weight};
 ghost use Rattle.rbg_flat.specs.internal.Places.{ForgetsPlace, IsClosedAt};
 
-use crate::places::Places;
+use crate::places::{Places, Touched};
 use crate::words::lowest;
 use rbg_base::{Memory, Position, Vertex};
 use std::alloc::Global;
@@ -23,7 +23,7 @@ pub(crate) struct Sets {
     /// The places of the words in which something is open, and maybe others.
     waiting: Places,
     /// The places of the words in which something was met.
-    touched: Places,
+    touched: Touched,
 }
 
 impl Model for Sets {
@@ -62,7 +62,7 @@ impl Sets {
             marks: vec![in alloc; 0; size * columns]?,
             pending: vec![in alloc; 0; size * columns]?,
             waiting: Places::new(alloc, size * columns)?,
-            touched: Places::new(alloc, size * columns)?,
+            touched: Touched::new(alloc, size * columns)?,
         })
     }
 
@@ -175,12 +175,13 @@ impl Sets {
         ensures { MeetsWord self.old self.new position column word opens }
     {
         let place = self.place(position, column);
-        let new = new_of(word, self.marks[place]);
+        let known = self.marks[place];
+        let new = new_of(word, known);
         if new == 0 {
             return;
         }
         add_word(&mut self.marks, place, new);
-        self.touched.add(place);
+        self.touched.add(place, known);
         if opens {
             add_word(&mut self.pending, place, new);
             self.waiting.add(place);

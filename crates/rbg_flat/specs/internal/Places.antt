@@ -1,14 +1,15 @@
 -- Words of sets by their place: position * columns + column.
-use Rattle.std.specs.Prelude.{◌≡◌, ℕ, ◌+◌, ◌*◌, ◌/◌, length, Contains}
+use Rattle.std.specs.Prelude.{◌≡◌, ◌≢◌, ◌↔◌, ℕ, ◌+◌, ◌*◌, ◌/◌, length, slice_index, Contains}
 use Rattle.rbg_flat.specs.internal.Sets.{SetsOfVertices, IsMarked, IsOpen}
 
--- There is a row for each position, and the lists name the places of all words that have bits.
+-- There is a row for each position. What waits are the places of all words that have open bits, and maybe others; what was
+-- touched are the places of just the words that have marks.
 pub record AreSetsByPlace (sets : SetsOfVertices) : Type 0 where
   pub marks : length sets.marks ≡ sets.size * sets.columns
   pub pendings : length sets.pending ≡ sets.size * sets.columns
   pub under : (v p : ℕ) → IsOpen sets v p → IsMarked sets v p
   pub waits : (v p : ℕ) → IsOpen sets v p → Contains sets.waiting (p * sets.columns + v / 64)
-  pub touches : (v p : ℕ) → IsMarked sets v p → Contains sets.touched (p * sets.columns + v / 64)
+  pub touched : (place : ℕ) → Contains sets.touched place ↔ (slice_index sets.marks place ≢ 0)
 
 -- Nothing is open at a place.
 abbrev pub IsClosedAt : SetsOfVertices → ℕ → Type 0

@@ -16,6 +16,12 @@ pub record AreListed (room : List ℕ) (many : ℕ) (inside : List Bool) : Type 
   pub different : AllPairs (λ p q. p ≢ q) (take many room)
   pub told : (p : ℕ) → IsTrue (slice_index_or inside p false) ↔ Contains (take many room) p
 
+-- The first `many` of the room are positions below its length, each once.
+pub record AreApart (room : List ℕ) (many : ℕ) : Type 0 where
+  pub within : many ≤ length room
+  pub below : All (λ p. p < length room) (take many room)
+  pub different : AllPairs (λ p q. p ≢ q) (take many room)
+
 -- The position is the last of the list.
 pub record IsLastOf (positions : List ℕ) (p : ℕ) : Type 0 where
   pub some : 0 < length positions
@@ -24,7 +30,8 @@ pub record IsLastOf (positions : List ℕ) (p : ℕ) : Type 0 where
 -- Rows of vertices by position: so many words for each of so many positions.
 --   marks: what was met
 --   pending: what of it is still to be looked at
---   waiting, touched: the places of the words that have something open, or something marked, and maybe others
+--   waiting: the places of the words that have something open, and maybe others
+--   touched: the places of the words that have something marked
 pub record SetsOfVertices : Type 0 where
   pub size : ℕ
   pub columns : ℕ
@@ -53,14 +60,6 @@ IsOpen sets = HasBitAt sets.columns sets.pending
 abbrev pub sets_of : (size columns : ℕ) → (marks pending waiting touched : List ℕ) → SetsOfVertices
 sets_of size columns marks pending waiting touched =
     record { size = size; columns = columns; marks = marks; pending = pending; waiting = waiting; touched = touched }
-
--- There is a row for each position, and the lists name all positions that have bits.
-pub record AreSets (sets : SetsOfVertices) : Type 0 where
-  pub marks : length sets.marks ≡ sets.size * sets.columns
-  pub pendings : length sets.pending ≡ sets.size * sets.columns
-  pub under : (v p : ℕ) → IsOpen sets v p → IsMarked sets v p
-  pub waits : (v p : ℕ) → IsOpen sets v p → Contains sets.waiting p
-  pub touches : (v p : ℕ) → IsMarked sets v p → Contains sets.touched p
 
 -- How much is left to be done: each bit that is met or closed takes something off, and so does each position that no
 -- longer waits.

@@ -10,7 +10,7 @@ use Rattle.rbg_flat.proofs.leading.meet_target.Goals as goal
 pub returns : goal.returns
 returns c =
     let p : ℕ = c.args.target.now.position in
-    let row : List ℕ = row_of c.args.leaps.now c.args.target.now in
+    let row : List ℕ = row_of c.args.paths.now.leaps c.args.target.now in
     let meets = subst (λ (xs : List ℕ). Meets c.args.sets.now c.meet_row.new.self (IsInRow p xs) (λ _. not c.is_modifier-opens.result ≡ true)) c.row_of.ensures c.meet_row.ensures in
     meets_same c.args.sets.now c.meet_row.new.self (IsInRow p row) (IsInRow p row)
     (λ _. not c.is_modifier-opens.result ≡ true) (λ (q : ℕ). ¬ IsModifierAt c.args.game.now.rules q) meets

@@ -12,10 +12,10 @@ meet_target-requires-clause-target c = c.requires.targets c.loop-target.target-i
 
 pub loop-target-preserved : goal.loop-target-preserved
 loop-target-preserved c =
-    meets_target_more c.args.leaps.now c.args.targets.now c.loop-target.target-index (record { position = 0; row = 0 }) c.loop-target-test.true
+    meets_target_more c.args.paths.now.leaps c.args.targets.now c.loop-target.target-index (record { position = 0; row = 0 }) c.loop-target-test.true
     c.args.sets.now c.loop-target.sets c.meet_target.new.sets (λ (p : ℕ). ¬ IsModifierAt c.args.game.now.rules p) c.loop-target.invariant c.meet_target.ensures
 
 pub returns : goal.returns
 returns c =
-    subst (λ (ts : List Target). Meets c.args.sets.now c.loop-target.sets (IsAmong c.args.leaps.now ts) (λ (p : ℕ). ¬ IsModifierAt c.args.game.now.rules p))
+    subst (λ (ts : List Target). Meets c.args.sets.now c.loop-target.sets (IsAmong c.args.paths.now.leaps ts) (λ (p : ℕ). ¬ IsModifierAt c.args.game.now.rules p))
     (take_all c.loop-target.target-index c.args.targets.now c.loop-target-test.false) c.loop-target.invariant

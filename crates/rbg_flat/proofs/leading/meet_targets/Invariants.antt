@@ -6,4 +6,4 @@ use Rattle.rbg_flat.specs.internal.Leading.{IsAmong}
 use Rattle.rbg_flat.proofs.leading.meet_targets.Given as goal
 
 abbrev pub invariant-loop-target : goal.invariant-loop-target
-invariant-loop-target l = Meets l.fn.sets l.sets (IsAmong l.leaps (take l.target-index l.targets)) (λ (p : ℕ). ¬ IsModifierAt l.game.rules p)
+invariant-loop-target l = Meets l.fn.sets l.sets (IsAmong l.paths.leaps (take l.target-index l.targets)) (λ (p : ℕ). ¬ IsModifierAt l.game.rules p)

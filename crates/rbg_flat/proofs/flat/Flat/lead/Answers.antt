@@ -9,29 +9,29 @@ use Rattle.rbg_flat.proofs.flat.Flat.lead.Goals as goal
 
 pub meet_targets-requires-clause-targets : goal.meet_targets-requires-clause-targets
 meet_targets-requires-clause-targets c =
-    targets_for c.args.game.now c.requires.lawful.numbered (start_of c.args.origin) c.args.vertex c.args.leaps.now c.leads-ends.result.0.now
-    (c.leads-ends.ensures.from c.args.game.now c.requires.leaps c.requires.vertex c.requires.stands)
+    targets_for c.args.game.now c.requires.lawful.numbered (start_of c.args.origin) c.args.vertex c.args.paths.now.leaps c.leads-ends.result.0.now
+    (c.leads-ends.ensures.from c.args.game.now c.requires.paths.leaps c.requires.vertex c.requires.stands)
 
 pub returns-clause-met : goal.returns-clause-met
 returns-clause-met c =
-    let are = c.leads-ends.ensures.from c.args.game.now c.requires.leaps c.requires.vertex c.requires.stands in
-    meets_same c.args.self.now.sets c.meet_targets.new.sets (IsAmong c.args.leaps.now c.leads-ends.result.0.now)
+    let are = c.leads-ends.ensures.from c.args.game.now c.requires.paths.leaps c.requires.vertex c.requires.stands in
+    meets_same c.args.self.now.sets c.meet_targets.new.sets (IsAmong c.args.paths.now.leaps c.leads-ends.result.0.now)
     (λ (v p : ℕ). IsLeap c.args.game.now (start_of c.args.origin) c.args.vertex p v)
     (λ (p : ℕ). ¬ IsModifierAt c.args.game.now.rules p) (λ (p : ℕ). ¬ IsModifierAt c.args.game.now.rules p)
     c.meet_targets.ensures
-    (among_leap c.args.game.now c.requires.lawful.numbered (start_of c.args.origin) c.args.vertex c.args.leaps.now c.leads-ends.result.0.now are)
-    (leap_among c.args.game.now c.requires.lawful.numbered (start_of c.args.origin) c.args.vertex c.args.leaps.now c.leads-ends.result.0.now are)
+    (among_leap c.args.game.now c.requires.lawful.numbered (start_of c.args.origin) c.args.vertex c.args.paths.now.leaps c.leads-ends.result.0.now are)
+    (leap_among c.args.game.now c.requires.lawful.numbered (start_of c.args.origin) c.args.vertex c.args.paths.now.leaps c.leads-ends.result.0.now are)
     (λ v p _ is. is) (λ v p _ is. is)
 
 pub returns-clause-on : goal.returns-clause-on
 returns-clause-on c = λ on.
-    let are = c.leads-ends.ensures.from c.args.game.now c.requires.leaps c.requires.vertex c.requires.stands in
+    let are = c.leads-ends.ensures.from c.args.game.now c.requires.paths.leaps c.requires.vertex c.requires.stands in
     still_on c.args.game.now c.requires.lawful (start_of c.args.origin) c.args.vertex (λ (p : ℕ). ¬ IsModifierAt c.args.game.now.rules p)
     c.args.self.now.sets c.meet_targets.new.sets c.requires.vertex
-    (meets_same c.args.self.now.sets c.meet_targets.new.sets (IsAmong c.args.leaps.now c.leads-ends.result.0.now)
+    (meets_same c.args.self.now.sets c.meet_targets.new.sets (IsAmong c.args.paths.now.leaps c.leads-ends.result.0.now)
     (λ (v p : ℕ). IsLeap c.args.game.now (start_of c.args.origin) c.args.vertex p v)
     (λ (p : ℕ). ¬ IsModifierAt c.args.game.now.rules p) (λ (p : ℕ). ¬ IsModifierAt c.args.game.now.rules p)
     c.meet_targets.ensures
-    (among_leap c.args.game.now c.requires.lawful.numbered (start_of c.args.origin) c.args.vertex c.args.leaps.now c.leads-ends.result.0.now are)
-    (leap_among c.args.game.now c.requires.lawful.numbered (start_of c.args.origin) c.args.vertex c.args.leaps.now c.leads-ends.result.0.now are)
+    (among_leap c.args.game.now c.requires.lawful.numbered (start_of c.args.origin) c.args.vertex c.args.paths.now.leaps c.leads-ends.result.0.now are)
+    (leap_among c.args.game.now c.requires.lawful.numbered (start_of c.args.origin) c.args.vertex c.args.paths.now.leaps c.leads-ends.result.0.now are)
     (λ v p _ is. is) (λ v p _ is. is)) on

@@ -24,7 +24,7 @@ invariant_of-self c =
     let n : ℕ = c.new_of-new.result in
     let all : (b : ℕ) → b < 64 → bit_at c.args.word b ≡ 1 → (bit_at (get_or marks place 0) b ≡ 1) ⊎ (bit_at n b ≡ 1) = subst (λ (k : ℕ). (b : ℕ) → b < 64 → bit_at c.args.word b ≡ 1 → (bit_at k b ≡ 1) ⊎ (bit_at n b ≡ 1)) read c.new_of-new.ensures.all in
     rw (c.add_word.ensures, c.add_word-then-opens.ensures) (
-      sets_open size columns marks pending waiting touched place q column c.args.word n is below in_marks in_pending c.new_of-new.ensures.only all c.self.invariant.0 c.add-then-opens.new.self.positions c.add.new.self.positions c.add-then-opens.ensures.added c.add.ensures.added,
+      sets_open size columns marks pending waiting touched place q column c.args.word n is below in_marks in_pending c.new_of-new.ensures.only all c.self.invariant.0 c.if-new-eq0.false sum c.add-then-opens.new.self.positions c.add.new.self.positions c.add-then-opens.ensures.added c.add.ensures.added,
       c.add-then-opens.ensures.size ∙ c.self.invariant.1,
       c.add.ensures.size ∙ c.self.invariant.2,
     )
@@ -48,7 +48,7 @@ invariant_of-self-else-opens c =
     let n : ℕ = c.new_of-new.result in
     let all : (b : ℕ) → b < 64 → bit_at c.args.word b ≡ 1 → (bit_at (get_or marks place 0) b ≡ 1) ⊎ (bit_at n b ≡ 1) = subst (λ (k : ℕ). (b : ℕ) → b < 64 → bit_at c.args.word b ≡ 1 → (bit_at k b ≡ 1) ⊎ (bit_at n b ≡ 1)) read c.new_of-new.ensures.all in
     rw c.add_word.ensures (
-      sets_closed size columns marks pending waiting touched place q column c.args.word n is below in_marks in_pending c.new_of-new.ensures.only all c.self.invariant.0 c.add.new.self.positions c.add.ensures.added,
+      sets_closed size columns marks pending waiting touched place q column c.args.word n is below in_marks in_pending c.new_of-new.ensures.only all c.self.invariant.0 c.if-new-eq0.false sum c.add.new.self.positions c.add.ensures.added,
       c.self.invariant.1,
       c.add.ensures.size ∙ c.self.invariant.2,
     )

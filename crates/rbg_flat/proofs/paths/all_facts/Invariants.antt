@@ -1,0 +1,12 @@
+-- What is told so far is right.
+use Rattle.std.proofs.Common.{◌≡◌, ℕ, length}
+use Rattle.std.specs.Prelude.{slice_get, Some}
+use Rattle.rbg_flat.specs.declared.paths.Facts.{Facts}
+use Rattle.rbg_flat.specs.Paths.{AreFacts}
+use Rattle.rbg_flat.proofs.paths.all_facts.Given as goal
+
+abbrev pub invariant-loop-index : goal.invariant-loop-index
+invariant-loop-index g l = record {
+  size : length l.facts.items ≡ l.index;
+  told : (p : ℕ) (told : Facts) → slice_get l.facts.items p ≡ Some told → AreFacts l.game p told;
+}
