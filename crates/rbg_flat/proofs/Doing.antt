@@ -1,5 +1,5 @@
 -- What was looked at stays so, and what else is looked at.
-use Rattle.std.proofs.Common.{◌≡◌, ℕ, ◌/◌, ◌%◌, ◌⊎◌, inl, inr, refl, arith}
+use Rattle.std.proofs.Common.{◌≡◌, ℕ, ◌/◌, ◌%◌, ◌⊎◌, inl, inr, arith}
 use Rattle.std.specs.Int.{bit_at}
 use native.Mathlib.Decide.{ℕ_discrete}
 use Rattle.rbg_flat.specs.internal.Sets.{SetsOfVertices, IsMarked, IsOpen, IsInWord, Meets, ClosesWord, IsDone, KeepsDone}
@@ -35,6 +35,10 @@ closes_quiet old new q c word closing v p other done = record { marked = marked_
     by_case (inl still) = done.closed still
     by_case (inr there) = other there
 
+-- What is marked in a word that was closed was looked at.
+pub closed_in : (old new : SetsOfVertices) (q c word : ℕ) → ClosesWord old new q c word → (v : ℕ) → IsInWord q c word v q → IsMarked old v q → IsDone new v q
+closed_in old new q c word closing v there marked = record { marked = marked_then old new q c word v q closing marked; closed = closing.gone v q there }
+
 -- A word with one bit is that of one vertex.
 module _ (q vertex word : ℕ) (only : (b : ℕ) → bit_at word b ≡ 1 → b ≡ vertex % 64) where
   this_one : (v p : ℕ) → IsInWord q (vertex / 64) word v p → (v ≡ vertex) × (p ≡ q)
@@ -43,7 +47,7 @@ module _ (q vertex word : ℕ) (only : (b : ℕ) → bit_at word b ≡ 1 → b �
       let columns = there.column in
       (omega (arith, bits, columns), there.position)
 
-  this_or_not : (v p : ℕ) → ((v ≡ vertex) × (p ≡ q)) ⊎ (¬ IsInWord q (vertex / 64) word v p)
+  pub this_or_not : (v p : ℕ) → ((v ≡ vertex) × (p ≡ q)) ⊎ (¬ IsInWord q (vertex / 64) word v p)
   this_or_not v p = elim (ℕ_discrete v vertex) [
     | no other ↦ inr (λ there. other (this_one v p there).0)
     | yes same ↦ elim (ℕ_discrete p q) [
@@ -51,21 +55,3 @@ module _ (q vertex word : ℕ) (only : (b : ℕ) → bit_at word b ≡ 1 → b �
       | yes at ↦ inl (same, at)
     ]
   ]
-
-  pub quiet_but_one : (old new : SetsOfVertices) → ClosesWord old new q (vertex / 64) word → (v p : ℕ) → IsDone new v p → ((v ≡ vertex) × (p ≡ q)) ⊎ IsDone old v p
-  quiet_but_one old new closing v p done = by_case (this_or_not v p)
-    where
-      by_case : ((v ≡ vertex) × (p ≡ q)) ⊎ (¬ IsInWord q (vertex / 64) word v p) → ((v ≡ vertex) × (p ≡ q)) ⊎ IsDone old v p
-      by_case (inl this) = inl this
-      by_case (inr other) = inr (closes_quiet old new q (vertex / 64) word closing v p other done)
-
-  pub closed_one : (old new : SetsOfVertices) → bit_at word (vertex % 64) ≡ 1 → ClosesWord old new q (vertex / 64) word → IsMarked old vertex q → IsDone new vertex q
-  closed_one old new set closing marked = record {
-    marked = marked_then old new q (vertex / 64) word vertex q closing marked;
-    closed = closing.gone vertex q (record { position = refl; column = refl; set = set });
-  }
-
--- The same behind what was met.
-pub quiet_behind : (old middle new : SetsOfVertices) (In : (v p : ℕ) → Type 0) (Opens : ℕ → Type 0) → Meets old middle In Opens → (v p : ℕ) → Opens p → (A : Type 0) → A ⊎ IsDone middle v p → A ⊎ IsDone old v p
-quiet_behind old middle new In Opens meets v p opens A (inl this) = inl this
-quiet_behind old middle new In Opens meets v p opens A (inr done) = inr (meets_quiet old middle In Opens meets v p opens done)

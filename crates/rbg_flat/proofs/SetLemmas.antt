@@ -1,50 +1,15 @@
 -- How sets change where a word is met, and where bits are closed.
-use Rattle.std.proofs.Common.{◌≡◌, ◌≢◌, ℕ, ◌+◌, ◌-◌, ◌*◌, ◌/◌, ◌%◌, ◌<◌, ◌≤◌, ◌^◌, ◌⊎◌, inl, inr, List, [], ◌∷◌, ◌++◌, Bool, true, false, length, get_or, refl, sym, ap, subst, ◌∙◌, slice_set, arith}
-use Rattle.std.specs.Prelude.{bit_or, bit_and, Contains, ◌↔◌}
+use Rattle.std.proofs.Common.{◌≡◌, ℕ, ◌+◌, ◌-◌, ◌*◌, ◌%◌, ◌<◌, ◌≤◌, ◌^◌, ◌⊎◌, inl, inr, List, Bool, true, false, length, get_or, refl, sym, ap, ◌∙◌, slice_set, arith}
+use Rattle.std.specs.Prelude.{bit_or, bit_and}
 use Rattle.std.specs.Int.{bit_at, bit_not, w64}
 use Rattle.std.proofs.lemmas.Nat.Bits.{bit_at-zero}
-use Rattle.std.proofs.lemmas.List.{length-set, length_push, get_or-set_same, get_or-set_other}
-use Rattle.std.proofs.lemmas.Bool.{cases_lt}
+use Rattle.std.proofs.lemmas.List.{length-set}
 use Rattle.std.proofs.lemmas.Nat.{and_le_l}
 use Rattle.std.proofs.lemmas.List.Sums.{sum_by-set}
 use Rattle.std.specs.List.{sum_by}
-use native.Mathlib.Decide.{ℕ_discrete}
-use Rattle.std.proofs.lemmas.List.Elements.{Contains-push, Contains-push_cases, Contains-append_left}
 use Rattle.rbg_flat.specs.internal.Sets.{SetsOfVertices, sets_of, HasBitAt, IsInWord, MeetsWord, ClosesWord}
 use Rattle.rbg_flat.specs.internal.Places.{AreSetsByPlace}
 use Rattle.rbg_flat.proofs.WordLemmas.{added_to, added_old, added_new, taken_of, taken_gone, taken_left, known_or_new, new_in_word, or_at_most, less_left, of_word}
-
--- What a list has after a place was added.
-abbrev pub Added : (old new : List ℕ) → ℕ → Type 0
-Added old new p = (Contains old p × (new ≡ old)) ⊎ ((¬ Contains old p) × (new ≡ old ++ p ∷ []))
-
-pub still_listed : (old new : List ℕ) (p x : ℕ) → Added old new p → Contains old x → Contains new x
-still_listed old new p x (inl same) there = subst (λ (xs : List ℕ). Contains xs x) (sym same.1) there
-still_listed old new p x (inr more) there = subst (λ (xs : List ℕ). Contains xs x) (sym more.1) (Contains-append_left old (p ∷ []) x there)
-
-pub now_listed : (old new : List ℕ) (p : ℕ) → Added old new p → Contains new p
-now_listed old new p (inl same) = subst (λ (xs : List ℕ). Contains xs p) (sym same.1) same.0
-now_listed old new p (inr more) = subst (λ (xs : List ℕ). Contains xs p) (sym more.1) (Contains-push old p)
-
-was_listed : (old new : List ℕ) (p x : ℕ) → x ≢ p → Added old new p → Contains new x → Contains old x
-was_listed old new p x other (inl same) there = subst (λ (xs : List ℕ). Contains xs x) same.1 there
-was_listed old new p x other (inr more) there = elim (Contains-push_cases old p x (subst (λ (xs : List ℕ). Contains xs x) more.1 there)) [
-  | inl was ↦ was
-  | inr same ↦ absurd (other (sym same))
-]
-
-no_part : (m n : ℕ) → m + n ≡ 0 → n ≡ 0
-no_part m n none = omega (arith, none)
-
-one_longer : (old new : List ℕ) (p : ℕ) → Added old new p → length new ≤ length old + 1
-one_longer old new p (inl same) = let long = ap length same.1 in omega (arith, long)
-one_longer old new p (inr more) = let long = ap length more.1 ∙ length_push old p in omega (arith, long)
-
-at_least_one : (n : ℕ) → ¬ (n ≡ 0) → 1 ≤ n
-at_least_one n some = elim (cases_lt n 1) [
-  | inl none ↦ absurd (some (omega (arith, none)))
-  | inr one ↦ one
-]
 
 false_not_true : false ≡ true → ⊥
 false_not_true e = cc
@@ -109,8 +74,8 @@ module _
         omega (arith, put, most)
 
     -- What is new is opened.
-    pub meets_open : (waiting' touched' : List ℕ) → ((b : ℕ) → bit_at n b ≡ 1 → bit_at (get_or marks place 0) b ≡ 0) → ¬ (n ≡ 0) → bit_or (get_or marks place 0) n ≡ get_or marks place 0 + n → get_or marks place 0 + n < 2 ^ 64 → Added waiting waiting' place → MeetsWord old (sets_of size columns marks_then pending_then waiting' touched') q c x true
-    meets_open waiting' touched' fresh some sum fits adds = record {
+    pub meets_open : (waiting' touched' : List ℕ) → ((b : ℕ) → bit_at n b ≡ 1 → bit_at (get_or marks place 0) b ≡ 0) → bit_or (get_or marks place 0) n ≡ get_or marks place 0 + n → get_or marks place 0 + n < 2 ^ 64 → MeetsWord old (sets_of size columns marks_then pending_then waiting' touched') q c x true
+    meets_open waiting' touched' fresh sum fits = record {
       size = refl;
       columns = refl;
       kept = added_old columns marks place q c is below in_marks n;
@@ -121,9 +86,7 @@ module _
       lighter =
           let less = marks_less sum fits in
           let more = pending_more in
-          let one = one_longer waiting waiting' place adds in
-          let least = at_least_one n some in
-          omega (arith, less, more, one, least);
+          omega (arith, less, more);
     }
       where
         by_marks : (v p : ℕ) → HasBitAt columns marks v p ⊎ IsInWord q c n v p → HasBitAt columns marks v p ⊎ (IsInWord q c x v p × (true ≡ true → HasBitAt columns pending_then v p))
@@ -157,45 +120,25 @@ module _
         by_marks v p (inl was) = inl was
         by_marks v p (inr new) = inr (new_in_word q c x n v p only new, λ e. absurd (false_not_true e))
 
-    -- The lists still name the places of all words that have bits.
-    -- Just the places of words with marks are touched, also then.
-    touched_then : AreSetsByPlace old → ¬ (n ≡ 0) → bit_or (get_or marks place 0) n ≡ get_or marks place 0 + n → (touched' : List ℕ) → Added touched touched' place → (x : ℕ) → Contains touched' x ↔ (get_or marks_then x 0 ≢ 0)
-    touched_then are some sum touched' adds x = elim (ℕ_discrete x place) [
-      | yes same ↦ (
-        λ _ none. some (no_part (get_or marks place 0) n (sym sum ∙ sym (get_or-set_same marks place (bit_or (get_or marks place 0) n) 0 in_marks) ∙ sym (ap (λ (k : ℕ). get_or marks_then k 0) same) ∙ none)),
-        λ _. subst (λ (k : ℕ). Contains touched' k) (sym same) (now_listed touched touched' place adds),
-      )
-      | no other ↦
-          let kept = get_or-set_other marks place x (bit_or (get_or marks place 0) n) 0 other in (
-            λ there none. (are.touched x).0 (was_listed touched touched' place x other adds there) (sym kept ∙ none),
-            λ some_then. still_listed touched touched' place x adds ((are.touched x).1 (λ none. some_then (kept ∙ none))),
-          )
-    ]
-
-    pub sets_open : AreSetsByPlace old → ¬ (n ≡ 0) → bit_or (get_or marks place 0) n ≡ get_or marks place 0 + n → (waiting' touched' : List ℕ) → Added waiting waiting' place → Added touched touched' place → AreSetsByPlace (sets_of size columns marks_then pending_then waiting' touched')
-    sets_open are some sum waiting' touched' waits touches = record {
+    -- What is open is still marked.
+    pub sets_open : AreSetsByPlace old → (waiting' touched' : List ℕ) → AreSetsByPlace (sets_of size columns marks_then pending_then waiting' touched')
+    sets_open are waiting' touched' = record {
       marks = length-set marks place (bit_or (get_or marks place 0) n) ∙ are.marks;
       pendings = length-set pending place (bit_or (get_or pending place 0) n) ∙ are.pendings;
+      small = are.small;
       under = λ v p has. by_under v p (added_to columns pending place q c is below in_pending n v p has);
-      waits = λ v p has. by_waits v p (added_to columns pending place q c is below in_pending n v p has);
-      touched = touched_then are some sum touched' touches;
     }
       where
         by_under : (v p : ℕ) → HasBitAt columns pending v p ⊎ IsInWord q c n v p → HasBitAt columns marks_then v p
         by_under v p (inl was) = added_old columns marks place q c is below in_marks n v p (are.under v p was)
         by_under v p (inr new) = added_new columns marks place q c is below in_marks n v p new
 
-        by_waits : (v p : ℕ) → HasBitAt columns pending v p ⊎ IsInWord q c n v p → Contains waiting' (p * columns + v / 64)
-        by_waits v p (inl was) = still_listed waiting waiting' place (p * columns + v / 64) waits (are.waits v p was)
-        by_waits v p (inr new) = subst (λ (k : ℕ). Contains waiting' k) (sym (of_word columns pending place q c is below in_pending n v p new)) (now_listed waiting waiting' place waits)
-
-    pub sets_closed : AreSetsByPlace old → ¬ (n ≡ 0) → bit_or (get_or marks place 0) n ≡ get_or marks place 0 + n → (touched' : List ℕ) → Added touched touched' place → AreSetsByPlace (sets_of size columns marks_then pending waiting touched')
-    sets_closed are some sum touched' touches = record {
+    pub sets_closed : AreSetsByPlace old → (touched' : List ℕ) → AreSetsByPlace (sets_of size columns marks_then pending waiting touched')
+    sets_closed are touched' = record {
       marks = length-set marks place (bit_or (get_or marks place 0) n) ∙ are.marks;
       pendings = are.pendings;
+      small = are.small;
       under = λ v p has. added_old columns marks place q c is below in_marks n v p (are.under v p has);
-      waits = are.waits;
-      touched = touched_then are some sum touched' touches;
     }
 
 -- Bits x of a word of the row of position q are closed.
@@ -210,8 +153,8 @@ module _
     abbrev pending_less : List ℕ
     pending_less = slice_set pending place (bit_and (get_or pending place 0) (bit_not w64 x))
 
-    pub closes_word : ClosesWord (sets_of size columns marks pending waiting touched) (sets_of size columns marks pending_less waiting touched) q c x
-    closes_word = record {
+    pub closes_word : (waiting' : List ℕ) → ClosesWord (sets_of size columns marks pending waiting touched) (sets_of size columns marks pending_less waiting' touched) q c x
+    closes_word waiting' = record {
       size = refl;
       columns = refl;
       marks = refl;
@@ -230,11 +173,10 @@ module _
         sum_put : sum_by (λ (m : ℕ). m) pending_less + get_or pending place 0 ≡ sum_by (λ (m : ℕ). m) pending + bit_and (get_or pending place 0) (bit_not w64 x)
         sum_put = sum_by-set (λ (m : ℕ). m) pending place (bit_and (get_or pending place 0) (bit_not w64 x)) 0 in_pending
 
-    pub sets_less : AreSetsByPlace (sets_of size columns marks pending waiting touched) → AreSetsByPlace (sets_of size columns marks pending_less waiting touched)
-    sets_less are = record {
+    pub sets_less : (waiting' : List ℕ) → AreSetsByPlace (sets_of size columns marks pending waiting touched) → AreSetsByPlace (sets_of size columns marks pending_less waiting' touched)
+    sets_less waiting' are = record {
       marks = are.marks;
       pendings = length-set pending place (bit_and (get_or pending place 0) (bit_not w64 x)) ∙ are.pendings;
+      small = are.small;
       under = λ v p has. are.under v p (taken_of columns pending place q c is below in_pending x v p has);
-      waits = λ v p has. are.waits v p (taken_of columns pending place q c is below in_pending x v p has);
-      touched = are.touched;
     }

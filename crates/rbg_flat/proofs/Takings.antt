@@ -1,6 +1,9 @@
 -- How a flat part that is being found goes on by the sets that hold it.
 use Rattle.std.proofs.Common.{◌≡◌, ℕ, ◌+◌, ◌*◌, ◌/◌, ◌%◌, ◌<◌, ◌≤◌, ◌⊎◌, inl, inr, List, Bool, true, false, get_or, refl, sym, subst, arith}
 use Rattle.std.specs.Int.{bit_at}
+use Rattle.std.specs.Prelude.{IsTrue, ◌↔◌}
+use Rattle.std.proofs.lemmas.Nat.Bits.{bit_at-zero}
+use Rattle.rbg_flat.specs.internal.Passing.{Passes}
 use native.Mathlib.Decide.{ℕ_discrete}
 use Rattle.rbg_rules.specs.Expression.{shift, on, off, assignment, comparison, switch, positive, negative, Expression}
 use Rattle.rbg_rules.specs.Laws.{IsStart}
@@ -153,8 +156,24 @@ invalid_not game s v p none is = none (record s { vertex = v }) is.applies
 pub modifier_not : (game : AbstractGame) (s : AbstractState) (v p : ℕ) → IsModifierAt game.rules p → ¬ Holds game s v p
 modifier_not game s v p modifies is = is.quiet modifies
 
--- One bit less is open.
-pub bit_less : (old middle new : SetsOfVertices) (v q word : ℕ) → weight middle ≤ weight old → IsOpen middle v q → ClosesWord middle new q (v / 64) word → bit_at word (v % 64) ≡ 1 → weight new < weight old
-bit_less old middle new v q word lighter is closing set =
-    let less = closing.less v is (record { position = refl; column = refl; set = set }) in
-    omega (arith, less, lighter)
+-- Behind a word that was closed, less is left to be done, whatever is led on from.
+pub lead_less : (old middle new : SetsOfVertices) (q c word : ℕ) → ClosesWord old middle q c word → weight new ≤ weight middle → (v : ℕ) → IsOpen old v q → IsInWord q c word v q → weight new < weight old
+lead_less old middle new q c word closing lighter v is there = let less = closing.less v is there in omega (arith, less, lighter)
+
+true_not_false : true ≡ false → ⊥
+true_not_false e = cc
+
+-- A bit of a word is held where what was asked is so.
+pub held_by : (valid : Bool) (held word b : ℕ) (A : Type 0) → IsTrue valid ↔ A → (valid ≡ true → held ≡ word) → (valid ≡ false → held ≡ 0) → bit_at word b ≡ 1 → (bit_at held b ≡ 1) ↔ A
+held_by true held word b A told whole none set = (λ _. told.0 refl, λ _. subst (λ (k : ℕ). bit_at k b ≡ 1) (sym (whole refl)) set)
+held_by false held word b A told whole none set = (
+  λ has. let clear : bit_at held b ≡ 0 = subst (λ (k : ℕ). bit_at k b ≡ 0) (sym (none refl)) (bit_at-zero b) in absurd (omega (arith, has, clear)),
+  λ is. absurd (true_not_false (sym (told.1 is))),
+)
+
+-- What was met passes where it holds.
+pub holds_passes : (game : AbstractGame) → IsNumbered game.rules → (s : AbstractState) (f : Start) (v p u : ℕ) (A : Type 0) → IsMet game s f v p → u ≡ v → A ↔ Holds game s v p → A ↔ Passes game s u p
+holds_passes game numbered s f v p u A met same told = subst (λ (w : ℕ). A ↔ Passes game s w p) (sym same) (
+  λ is. let holds = told.0 is in record { to = v; quiet = holds.quiet; applies = holds.applies },
+  λ passes. told.1 (tried_holds game numbered s f v p passes.to met passes.quiet passes.applies),
+)

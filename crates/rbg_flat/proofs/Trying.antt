@@ -1,5 +1,5 @@
 -- A word of vertices is taken from what is open, and led on from where the action holds.
-use Rattle.std.proofs.Common.{◌≡◌, ℕ, ◌+◌, ◌*◌, ◌%◌, ◌<◌, ◌⊎◌, inl, inr, List, Bool, true, refl, sym, ap, subst, ◌∙◌, arith}
+use Rattle.std.proofs.Common.{◌≡◌, ℕ, ◌+◌, ◌*◌, ◌/◌, ◌%◌, ◌<◌, ◌⊎◌, inl, inr, List, Bool, true, get_or, refl, sym, ap, subst, ◌∙◌, arith}
 use Rattle.std.specs.Prelude.{◌↔◌}
 use Rattle.std.specs.Int.{bit_at}
 use Rattle.rbg_rules.specs.Positions.{IsModifierAt, IsNumbered}
@@ -32,6 +32,14 @@ marked_bits sets q c word marked v there = subst (λ (u : ℕ). IsMarked sets u 
 
 pub board_bits : (game : AbstractGame) (sets : SetsOfVertices) (q c word : ℕ) → AreOn game sets → ((b : ℕ) → bit_at word b ≡ 1 → (b < 64) × IsMarked sets (c * 64 + b) q) → IsOnBoard game c word
 board_bits game sets q c word on marked = λ b set. on.vertex (c * 64 + b) q (marked b set).1
+
+-- A vertex that is open is in the word of all that is open there.
+pub in_open : (sets : SetsOfVertices) (place q c word v : ℕ) → place ≡ q * sets.columns + c → v / 64 ≡ c → word ≡ get_or sets.pending place 0 → IsOpen sets v q → IsInWord q c word v q
+in_open sets place q c word v at column is there = record {
+  position = refl;
+  column = column;
+  set = ap (λ (k : ℕ). bit_at k (v % 64)) (is ∙ ap (λ (k : ℕ). get_or sets.pending k 0) (at ∙ ap (λ (k : ℕ). q * sets.columns + k) (sym column))) ∙ there.set;
+}
 
 -- An empty word has no vertices, and leads nowhere.
 pub no_vertex : (held q c v p : ℕ) → held ≡ 0 → ¬ IsInWord q c held v p

@@ -1,5 +1,6 @@
 -- Definitions that the crate's own proofs use.
 pub mod Sets
+pub mod Table
 pub mod Places
 pub mod Begun
 pub mod Shown

@@ -8,11 +8,13 @@ ghost use Rattle.rbg_rules.specs.Words.{Start, after};
 ghost use Rattle.rbg_leaps.specs.Leaps.{IsLeap, EndsAcross};
 ghost use Rattle.rbg_leaps.specs.Origin.{start_of};
 ghost use Rattle.rbg_flat.specs.Candidates.{MayEnd};
-ghost use Rattle.rbg_flat.specs.Chains.{Holds, IsMet};
+ghost use Rattle.rbg_flat.specs.Chains.{Holds};
 ghost use Rattle.rbg_flat.specs.Paths.{ArePathsOf, IsStill};
 ghost use Rattle.rbg_flat.specs.Found.{AreFound, HasCandidates, most_candidates};
 ghost use Rattle.rbg_flat.specs.internal.Begun.{IsBegun};
-ghost use Rattle.rbg_flat.specs.internal.Sets.{Meets, IsInWord, IsMarked, IsOpen, IsLastOf, IsDone, KeepsDone, weight};
+ghost use Rattle.rbg_flat.specs.internal.Passing.{Passes};
+ghost use Rattle.rbg_flat.specs.internal.Sets.{Meets, IsInWord, IsMarked, IsOpen, IsLastOf, IsDone, KeepsDone, WaitsLast, weight};
+ghost use Rattle.std.specs.Int.{bit_at};
 ghost use Rattle.rbg_flat.specs.internal.Leading.{AreSizedFor, AreOn, IsOnBoard, LeadsFrom, EndsFrom, LearnsEnd};
 
 use crate::found::Modifiers;
@@ -77,7 +79,7 @@ impl Flat {
     }
 
     /// Goes on up to the next vertex that is to be asked about a pattern, and returns it with the pattern's position;
-    /// none where nothing is left to be looked at. Each turn takes one word, or one place off those that wait.
+    /// none where nothing is left to be looked at. Each turn takes one word.
     pub fn advance(
         &mut self,
         game: &Game,
@@ -98,6 +100,7 @@ impl Flat {
             self.new.ends }
         ensures asked { IfSome result (λ pair. IsOpen self.new.sets pair.0 pair.1
             × IsMarked self.new.sets pair.0 pair.1 × IsPatternAt game.now.rules pair.1) }
+        ensures last { IfSome result (λ pair. WaitsLast self.new.sets pair.0 pair.1) }
         ensures still_done { KeepsDone self.old.sets self.new.sets }
         ensures quiet { (v p : ℕ) → IsPatternAt game.now.rules p → IsDone self.new.sets v p
             → IsDone self.old.sets v p }
@@ -105,21 +108,18 @@ impl Flat {
         ensures lighter { weight self.new.sets ≤ weight self.old.sets }
     {
         while let Some(place) = self.sets.waiting() {
-            match self.sets.first_open(place) {
-                None => self.sets.wait_no_more(place),
-                Some(vertex) => {
-                    let position = self.sets.position_at(place);
-                    if is_pattern(game, paths, &self.sets, vertex, position) {
-                        return Some((vertex, position));
-                    }
-                    self.try_word(game, paths, state, place, position, vertex);
-                }
+            let position = self.sets.position_at(place);
+            let vertex = self.sets.first_open(place);
+            if is_pattern(game, paths, &self.sets, vertex, position) {
+                return Some((vertex, position));
             }
+            let column = self.sets.column_at(place);
+            self.try_word(game, paths, state, place, position, column, vertex);
         }
         None
     }
 
-    /// Takes a vertex that was asked about the pattern at a position, which is valid there or isn't.
+    /// Takes the vertex that `advance` returned, at which the pattern at the position is valid or isn't.
     pub fn take(
         &mut self,
         game: &Game,
@@ -135,6 +135,7 @@ impl Flat {
         requires from_one { 0 < position }
         requires there { position ≤ length (positions_of game.now.rules) }
         requires marked { IsMarked self.old.sets vertex position }
+        requires last { WaitsLast self.old.sets vertex position }
         ensures sized { AreSizedFor game.now self.new.sets }
         ensures on { AreOn game.now self.old.sets → AreOn game.now self.new.sets }
         ensures begun { (s : AbstractState) (f : Start)
@@ -148,11 +149,11 @@ impl Flat {
         ensures less { IsOpen self.old.sets vertex position
             → weight self.new.sets < weight self.old.sets }
     {
-        if valid {
-            self.lead_on(game, paths, position, vertex);
-        } else {
-            self.drop_one(game, position, vertex);
-        }
+        let column = vertex as usize / 64;
+        let word = unit_word(vertex % 64);
+        let held = if valid { word } else { 0 };
+        let place = self.sets.place(position, column);
+        self.take_word(game, paths, place, position, column, word, held);
     }
 
     /// Whether a word may end with no modifier more, once nothing is left to be looked at.
@@ -222,58 +223,6 @@ impl Flat {
         self.ends |= ends;
     }
 
-    /// Leads on from a position that holds at a vertex, which is no longer open then.
-    #[inline(always)]
-    fn lead_on(&mut self, game: &Game, paths: &Paths, position: Position, vertex: Vertex)
-        requires lawful { IsGame game.now }
-        requires paths { ArePathsOf game.now paths.now }
-        requires sized { AreSizedFor game.now self.old.sets }
-        requires vertex { vertex < length game.now.board.first }
-        requires from_one { 0 < position }
-        requires there { position ≤ length (positions_of game.now.rules) }
-        ensures sized { AreSizedFor game.now self.new.sets }
-        ensures begun { (s : AbstractState) (f : Start) → IsMet game.now s f vertex position
-            → Holds game.now s vertex position
-            → IsBegun game.now s f (IsMarked self.old.sets) (IsOpen self.old.sets) self.old.ends
-            → IsBegun game.now s f (IsMarked self.new.sets) (IsOpen self.new.sets) self.new.ends }
-        ensures on { AreOn game.now self.old.sets → AreOn game.now self.new.sets }
-        ensures still_done { KeepsDone self.old.sets self.new.sets }
-        ensures done { IsMarked self.old.sets vertex position → IsDone self.new.sets vertex position }
-        ensures quiet { (v p : ℕ) → ¬ IsModifierAt game.now.rules p → IsDone self.new.sets v p
-            → ((v ≡ vertex) × (p ≡ position)) ⊎ IsDone self.old.sets v p }
-        ensures less { IsOpen self.old.sets vertex position
-            → weight self.new.sets < weight self.old.sets }
-    {
-        // an action stands there
-        let _action = game.action(position);
-        self.lead(game, paths, Origin::After(position), vertex);
-        self.sets
-            .close_word(position, vertex as usize / 64, unit_word(vertex % 64));
-    }
-
-    /// A position that doesn't hold at a vertex is no longer open there.
-    #[inline(always)]
-    fn drop_one(&mut self, game: &Game, position: Position, vertex: Vertex)
-        requires lawful { IsGame game.now }
-        requires sized { AreSizedFor game.now self.old.sets }
-        requires vertex { vertex < length game.now.board.first }
-        requires there { position ≤ length (positions_of game.now.rules) }
-        ensures sized { AreSizedFor game.now self.new.sets }
-        ensures begun { (s : AbstractState) (f : Start) → ¬ Holds game.now s vertex position
-            → IsBegun game.now s f (IsMarked self.old.sets) (IsOpen self.old.sets) self.old.ends
-            → IsBegun game.now s f (IsMarked self.new.sets) (IsOpen self.new.sets) self.new.ends }
-        ensures on { AreOn game.now self.old.sets → AreOn game.now self.new.sets }
-        ensures still_done { KeepsDone self.old.sets self.new.sets }
-        ensures done { IsMarked self.old.sets vertex position → IsDone self.new.sets vertex position }
-        ensures quiet { (v p : ℕ) → ¬ IsModifierAt game.now.rules p → IsDone self.new.sets v p
-            → ((v ≡ vertex) × (p ≡ position)) ⊎ IsDone self.old.sets v p }
-        ensures less { IsOpen self.old.sets vertex position
-            → weight self.new.sets < weight self.old.sets }
-    {
-        self.sets
-            .close_word(position, vertex as usize / 64, unit_word(vertex % 64));
-    }
-
     /// Tries a position at all vertices that are open at the latest waiting place, of which one is given, and leads on
     /// from those at which it holds. No pattern stands at the position.
     #[inline(always)]
@@ -284,6 +233,7 @@ impl Flat {
         state: &SemiState,
         place: usize,
         position: Position,
+        column: usize,
         vertex: Vertex,
     )
         requires lawful { IsGame game.now }
@@ -293,7 +243,9 @@ impl Flat {
         requires on { AreOn game.now self.old.sets }
         requires place { place < length self.old.sets.marks }
         requires last { IsLastOf self.old.sets.waiting place }
-        requires at { place ≡ position * self.old.sets.columns + vertex / 64 }
+        requires at { place ≡ position * self.old.sets.columns + column }
+        requires column { vertex / 64 ≡ column }
+        requires below { column < self.old.sets.columns }
         requires open { IsOpen self.old.sets vertex position }
         requires marked { IsMarked self.old.sets vertex position }
         requires plain { ¬ IsPatternAt game.now.rules position }
@@ -309,10 +261,55 @@ impl Flat {
             → IsDone self.old.sets v p }
         ensures less { weight self.new.sets < weight self.old.sets }
     {
-        let column = vertex as usize / 64;
         let word = self.sets.open_at(place, position, column);
         let held = held(game, state, position, column, word);
-        self.sets.take_waiting(place, position, column, word);
+        self.take_word(game, paths, place, position, column, word, held);
+    }
+
+    /// Takes the bits of a word off what is open at the latest waiting place, and leads on from those at which the
+    /// position holds.
+    #[inline(always)]
+    fn take_word(
+        &mut self,
+        game: &Game,
+        paths: &Paths,
+        place: usize,
+        position: Position,
+        column: usize,
+        word: u64,
+        held: u64,
+    )
+        requires lawful { IsGame game.now }
+        requires paths { ArePathsOf game.now paths.now }
+        requires sized { AreSizedFor game.now self.old.sets }
+        requires place { place < length self.old.sets.marks }
+        requires last { IsLastOf self.old.sets.waiting place }
+        requires at { place ≡ position * self.old.sets.columns + column }
+        requires column { column < self.old.sets.columns }
+        requires from_one { 0 < position }
+        requires there { position ≤ length (positions_of game.now.rules) }
+        requires board { IsOnBoard game.now column word }
+        requires marked { (b : ℕ) → bit_at word b ≡ 1
+            → (b < 64) × IsMarked self.old.sets (column * 64 + b) position }
+        requires within { (b : ℕ) → bit_at held b ≡ 1 → bit_at word b ≡ 1 }
+        ensures sized { AreSizedFor game.now self.new.sets }
+        ensures begun { (s : AbstractState) (f : Start)
+            → ((b : ℕ) → b < 64 → bit_at word b ≡ 1
+            → (bit_at held b ≡ 1) ↔ Passes game.now s (column * 64 + b) position)
+            → IsBegun game.now s f (IsMarked self.old.sets) (IsOpen self.old.sets) self.old.ends
+            → IsBegun game.now s f (IsMarked self.new.sets) (IsOpen self.new.sets) self.new.ends }
+        ensures on { AreOn game.now self.old.sets → AreOn game.now self.new.sets }
+        ensures still_done { KeepsDone self.old.sets self.new.sets }
+        ensures done { (v : ℕ) → IsInWord position column word v position
+            → IsDone self.new.sets v position }
+        ensures quiet { (v p : ℕ) → ¬ IsModifierAt game.now.rules p
+            → ¬ IsInWord position column word v p → IsDone self.new.sets v p
+            → IsDone self.old.sets v p }
+        ensures less { (v : ℕ) → IsOpen self.old.sets v position
+            → IsInWord position column word v position
+            → weight self.new.sets < weight self.old.sets }
+    {
+        self.sets.close_word(place, position, column, word);
         if held != 0 {
             self.lead_word(game, paths, position, column, held);
         }

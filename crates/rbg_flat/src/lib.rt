@@ -8,8 +8,8 @@ pub mod laws;
 mod leading;
 mod passing;
 mod paths;
-mod places;
 mod sets;
+mod table;
 mod words;
 
 pub use flat::Flat;

@@ -1,10 +1,10 @@
 //! Sets of vertices for each position: what was met, and what of it is still to be looked at.
-ghost use Rattle.std.specs.Prelude.{◌≡◌, ℕ, ◌<◌, ◌≤◌, ◌+◌, ◌-◌, ◌/◌, ◌%◌, ◌↔◌, ◌*◌, ◌^◌, ◌⊎◌, [], length, take, slice_index, slice_set, bit_or, bit_and, Contains, IfOk, IfSome, IfNone, true};
-ghost use Rattle.std.specs.Int.{bit_at, bit_not, w64};
-ghost use Rattle.rbg_flat.specs.internal.Sets.{MeetsWord, Meets, IsInRow, ClosesWord, IsMarked, IsOpen, IsLastOf, weight};
-ghost use Rattle.rbg_flat.specs.internal.Places.{ForgetsPlace, IsClosedAt};
+ghost use Rattle.std.specs.Prelude.{◌≡◌, ◌≢◌, ℕ, ◌<◌, ◌≤◌, ◌+◌, ◌/◌, ◌%◌, ◌*◌, ◌^◌, ◌⊎◌, length, slice_index, bit_or, IfOk, IfSome, IfNone, true};
+ghost use Rattle.std.specs.Int.{bit_at};
+ghost use Rattle.rbg_flat.specs.internal.Sets.{MeetsWord, Meets, IsInRow, ClosesWord, IsMarked, IsOpen, IsLastOf};
+ghost use Rattle.rbg_flat.specs.internal.Places.{ForgetsPlace};
 
-use crate::places::{Places, Touched};
+use crate::table::BitTable;
 use crate::words::lowest;
 use rbg_base::{Memory, Position, Vertex};
 use std::alloc::Global;
@@ -17,13 +17,9 @@ pub(crate) struct Sets {
     /// How many words a row has.
     columns: usize,
     /// What was met.
-    marks: Vec<u64>,
+    marks: BitTable,
     /// What of it is still to be looked at.
-    pending: Vec<u64>,
-    /// The places of the words in which something is open, and maybe others.
-    waiting: Places,
-    /// The places of the words in which something was met.
-    touched: Touched,
+    pending: BitTable,
 }
 
 impl Model for Sets {
@@ -34,18 +30,17 @@ impl Model for Sets {
     ghost view = { λ s. record {
       size = s.size;
       columns = s.columns;
-      marks = s.marks.items;
-      pending = s.pending.items;
-      waiting = s.waiting.positions;
-      touched = s.touched.positions;
+      marks = s.marks.words;
+      pending = s.pending.words;
+      waiting = s.pending.listed;
+      touched = s.marks.listed;
     } };
 
-    ghost use Rattle.std.specs.Prelude.{◌≡◌, ◌*◌};
     ghost use Rattle.rbg_flat.specs.internal.Sets.{sets_of};
     ghost use Rattle.rbg_flat.specs.internal.Places.{AreSetsByPlace};
 
-    ghost invariant = { λ s. AreSetsByPlace (sets_of s.size s.columns s.marks.items s.pending.items s.waiting.positions s.touched.positions)
-        × (s.waiting.size ≡ s.size * s.columns) × (s.touched.size ≡ s.size * s.columns) };
+    ghost invariant = { λ s. AreSetsByPlace
+        (sets_of s.size s.columns s.marks.words s.pending.words s.pending.listed s.marks.listed) };
 }
 
 impl Sets {
@@ -54,15 +49,12 @@ impl Sets {
         requires { size * columns < 2 ^ 64 }
         ensures size { IfOk result (λ sets. sets.size ≡ size) }
         ensures columns { IfOk result (λ sets. sets.columns ≡ columns) }
-        ensures none { IfOk result (λ sets. sets.touched ≡ []) }
     {
         Ok(Sets {
             size,
             columns,
-            marks: vec![in alloc; 0; size * columns]?,
-            pending: vec![in alloc; 0; size * columns]?,
-            waiting: Places::new(alloc, size * columns)?,
-            touched: Touched::new(alloc, size * columns)?,
+            marks: BitTable::new(alloc, size * columns)?,
+            pending: BitTable::new(alloc, size * columns)?,
         })
     }
 
@@ -72,24 +64,23 @@ impl Sets {
         ensures columns { self.new.columns ≡ self.old.columns }
         ensures none { (v p : ℕ) → ¬ IsMarked self.new v p }
     {
-        while let Some(place) = self.touched.last() {
-            self.forget(place);
-        }
+        self.pending.clear();
+        self.marks.clear();
     }
 
-    /// Forgets what was met at the place that was touched last.
+    /// Forgets what was met at the place that was touched last. Nothing is open any more.
     #[inline(always)]
     pub(crate) fn forget(&mut self, place: usize)
         requires place { place < length self.old.marks }
         requires last { IsLastOf self.old.touched place }
+        requires closed { (v p : ℕ) → ¬ IsOpen self.old v p }
         ensures size { self.new.size ≡ self.old.size }
         ensures columns { self.new.columns ≡ self.old.columns }
+        ensures pending { self.new.pending ≡ self.old.pending }
         ensures forgets { ForgetsPlace self.old self.new place }
-        ensures touched { self.new.touched ≡ take (length self.old.touched - 1) self.old.touched }
+        ensures fewer { length self.new.touched < length self.old.touched }
     {
-        self.touched.take_last();
-        clear_word(&mut self.marks, place);
-        clear_word(&mut self.pending, place);
+        self.marks.clear_last(place);
     }
 
     /// Below which size the positions are.
@@ -142,7 +133,7 @@ impl Sets {
         requires place { place < length self.now.marks }
         ensures { result ≡ slice_index self.now.marks place }
     {
-        self.marks[place]
+        self.marks.word(place)
     }
 
     /// The place that was touched last; none where nothing is met.
@@ -152,12 +143,12 @@ impl Sets {
         ensures last { IfSome result (λ p. IsLastOf self.now.touched p) }
         ensures none { IfNone result ((v p : ℕ) → ¬ IsMarked self.now v p) }
     {
-        self.touched.last()
+        self.marks.last()
     }
 
     /// Where a word of the row of a position is.
     #[inline(always)]
-    fn place(&self, position: Position, column: usize) -> usize
+    pub(crate) fn place(&self, position: Position, column: usize) -> usize
         requires position { position < self.now.size }
         requires column { column < self.now.columns }
         ensures place { result ≡ position * self.now.columns + column }
@@ -175,16 +166,13 @@ impl Sets {
         ensures { MeetsWord self.old self.new position column word opens }
     {
         let place = self.place(position, column);
-        let known = self.marks[place];
-        let new = new_of(word, known);
+        let new = new_of(word, self.marks.word(place));
         if new == 0 {
             return;
         }
-        add_word(&mut self.marks, place, new);
-        self.touched.add(place, known);
+        self.marks.add(place, new);
         if opens {
-            add_word(&mut self.pending, place, new);
-            self.waiting.add(place);
+            self.pending.add(place, new);
         }
     }
 
@@ -217,15 +205,16 @@ impl Sets {
         }
     }
 
-    /// These bits of a word of the row of a position are no longer open.
+    /// These bits of the word at the latest waiting place are no longer open.
     #[inline(always)]
-    pub(crate) fn close_word(&mut self, position: Position, column: usize, word: u64)
-        requires position { position < self.old.size }
+    pub(crate) fn close_word(&mut self, place: usize, position: Position, column: usize, word: u64)
+        requires place { place < length self.old.marks }
+        requires last { IsLastOf self.old.waiting place }
+        requires at { place ≡ position * self.old.columns + column }
         requires column { column < self.old.columns }
         ensures { ClosesWord self.old self.new position column word }
     {
-        let place = self.place(position, column);
-        take_word(&mut self.pending, place, word);
+        self.pending.take_bits(place, word);
     }
 
     /// What is open in the word of the row of a position, which is at a place.
@@ -238,69 +227,32 @@ impl Sets {
         ensures there { (b : ℕ) → bit_at result b ≡ 1
             → (b < 64) × IsMarked self.now (column * 64 + b) position }
     {
-        word_at(&self.pending, place)
-    }
-
-    /// Takes all that is open at the latest waiting place, which waits no more.
-    #[inline(always)]
-    pub(crate) fn take_waiting(
-        &mut self,
-        place: usize,
-        position: Position,
-        column: usize,
-        word: u64,
-    )
-        requires place { place < length self.old.marks }
-        requires last { IsLastOf self.old.waiting place }
-        requires at { place ≡ position * self.old.columns + column }
-        requires column { column < self.old.columns }
-        requires word { word ≡ slice_index self.old.pending place }
-        ensures closes { ClosesWord self.old self.new position column word }
-        ensures less { weight self.new < weight self.old }
-    {
-        self.waiting.take_last();
-        clear_word(&mut self.pending, place);
+        self.pending.word(place)
     }
 
     /// The first vertex that is open at a place.
     #[inline(always)]
-    pub(crate) fn first_open(&self, place: usize) -> Option<Vertex>
+    pub(crate) fn first_open(&self, place: usize) -> Vertex
         requires place { place < length self.now.marks }
+        requires some { slice_index self.now.pending place ≢ 0 }
         requires narrow { self.now.columns < 2 ^ 16 }
-        ensures some { IfSome result (λ v. IsOpen self.now v (place / self.now.columns)) }
-        ensures marked { IfSome result (λ v. IsMarked self.now v (place / self.now.columns)) }
-        ensures at { IfSome result (λ v.
-            place ≡ place / self.now.columns * self.now.columns + v / 64) }
-        ensures none { IfNone result (IsClosedAt self.now place) }
+        ensures open { IsOpen self.now result (place / self.now.columns) }
+        ensures marked { IsMarked self.now result (place / self.now.columns) }
+        ensures column { result / 64 ≡ place % self.now.columns }
+        ensures at { place ≡ place / self.now.columns * self.now.columns + result / 64 }
     {
-        let word = self.pending[place];
-        if word == 0 {
-            return None;
-        }
-        Some(self.column_at(place) as Vertex * 64 + lowest(word))
+        self.column_at(place) as Vertex * 64 + lowest(self.pending.word(place))
     }
 
-    /// Nothing is open any more at the latest waiting place.
-    pub(crate) fn wait_no_more(&mut self, place: usize)
-        requires last { IsLastOf self.old.waiting place }
-        requires none { IsClosedAt self.old place }
-        ensures size { self.new.size ≡ self.old.size }
-        ensures columns { self.new.columns ≡ self.old.columns }
-        ensures marks { self.new.marks ≡ self.old.marks }
-        ensures pending { self.new.pending ≡ self.old.pending }
-        ensures lighter { weight self.new < weight self.old }
-    {
-        self.waiting.take_last();
-    }
-
-    /// The latest place at which something may be open.
+    /// The latest place at which something is open.
     #[inline(always)]
     pub(crate) fn waiting(&self) -> Option<usize>
         ensures below { IfSome result (λ p. p < length self.now.marks) }
         ensures last { IfSome result (λ p. IsLastOf self.now.waiting p) }
+        ensures some { IfSome result (λ p. slice_index self.now.pending p ≢ 0) }
         ensures none { IfNone result ((v p : ℕ) → ¬ IsOpen self.now v p) }
     {
-        self.waiting.last()
+        self.pending.last()
     }
 }
 
@@ -315,42 +267,4 @@ fn new_of(word: u64, known: u64) -> u64
     ensures fits { known + result < 2 ^ 64 }
 {
     word & !known
-}
-
-/// Sets the bits of a word.
-#[inline(always)]
-fn add_word(words: &mut Vec<u64>, place: usize, word: u64)
-    requires { place < length words.old.items }
-    ensures { words.new.items
-        ≡ slice_set words.old.items place (bit_or (slice_index words.old.items place) word) }
-{
-    words[place] |= word;
-}
-
-/// Clears the bits of a word.
-#[inline(always)]
-fn take_word(words: &mut Vec<u64>, place: usize, word: u64)
-    requires { place < length words.old.items }
-    ensures { words.new.items
-        ≡ slice_set words.old.items place (bit_and (slice_index words.old.items place) (bit_not w64 word)) }
-{
-    words[place] &= !word;
-}
-
-/// The word at a place.
-#[inline(always)]
-fn word_at(words: &Vec<u64>, place: usize) -> u64
-    requires { place < length words.now.items }
-    ensures { result ≡ slice_index words.now.items place }
-{
-    words[place]
-}
-
-/// Clears a word.
-#[inline(always)]
-fn clear_word(words: &mut Vec<u64>, place: usize)
-    requires { place < length words.old.items }
-    ensures { words.new.items ≡ slice_set words.old.items place 0 }
-{
-    words[place] = 0;
 }

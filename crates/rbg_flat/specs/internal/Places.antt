@@ -1,19 +1,13 @@
 -- Words of sets by their place: position * columns + column.
-use Rattle.std.specs.Prelude.{◌≡◌, ◌≢◌, ◌↔◌, ℕ, ◌+◌, ◌*◌, ◌/◌, length, slice_index, Contains}
+use Rattle.std.specs.Prelude.{◌≡◌, ℕ, ◌+◌, ◌*◌, ◌/◌, ◌^◌, ◌<◌, length}
 use Rattle.rbg_flat.specs.internal.Sets.{SetsOfVertices, IsMarked, IsOpen}
 
--- There is a row for each position. What waits are the places of all words that have open bits, and maybe others; what was
--- touched are the places of just the words that have marks.
+-- There is a row for each position, and what is open is marked.
 pub record AreSetsByPlace (sets : SetsOfVertices) : Type 0 where
   pub marks : length sets.marks ≡ sets.size * sets.columns
   pub pendings : length sets.pending ≡ sets.size * sets.columns
+  pub small : sets.size * sets.columns < 2 ^ 64
   pub under : (v p : ℕ) → IsOpen sets v p → IsMarked sets v p
-  pub waits : (v p : ℕ) → IsOpen sets v p → Contains sets.waiting (p * sets.columns + v / 64)
-  pub touched : (place : ℕ) → Contains sets.touched place ↔ (slice_index sets.marks place ≢ 0)
-
--- Nothing is open at a place.
-abbrev pub IsClosedAt : SetsOfVertices → ℕ → Type 0
-IsClosedAt sets place = (v p : ℕ) → p * sets.columns + v / 64 ≡ place → ¬ IsOpen sets v p
 
 -- What was met at a place is forgotten, and nothing else.
 pub record ForgetsPlace (old new : SetsOfVertices) (place : ℕ) : Type 0 where

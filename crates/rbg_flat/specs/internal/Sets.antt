@@ -1,26 +1,7 @@
--- Sets of vertices for each position, as rows of bits, and lists of positions in which each stands once.
-use Rattle.std.specs.Prelude.{◌≡◌, ◌≢◌, ◌↔◌, ◌⊎◌, ℕ, ◌+◌, ◌-◌, ◌*◌, ◌^◌, ◌/◌, ◌%◌, ◌<◌, ◌≤◌, List, length, slice_index, slice_index_or, true, false, Bool, take, All, AllPairs, Contains, IsTrue}
+-- Sets of vertices for each position, as rows of bits.
+use Rattle.std.specs.Prelude.{◌≡◌, ◌⊎◌, ℕ, ◌+◌, ◌-◌, ◌*◌, ◌^◌, ◌/◌, ◌%◌, ◌<◌, ◌≤◌, List, length, slice_index, true, Bool}
 use Rattle.std.specs.Int.{bit_at}
 use Rattle.std.specs.List.{sum_by}
-
--- Positions below a size, each once.
-pub record Listed : Type 0 where
-  pub size : ℕ
-  pub positions : List ℕ
-
--- The first `many` of the room are the positions of which `inside` tells that they are there, each once.
-pub record AreListed (room : List ℕ) (many : ℕ) (inside : List Bool) : Type 0 where
-  pub within : many ≤ length room
-  pub same : length inside ≡ length room
-  pub below : All (λ p. p < length room) (take many room)
-  pub different : AllPairs (λ p q. p ≢ q) (take many room)
-  pub told : (p : ℕ) → IsTrue (slice_index_or inside p false) ↔ Contains (take many room) p
-
--- The first `many` of the room are positions below its length, each once.
-pub record AreApart (room : List ℕ) (many : ℕ) : Type 0 where
-  pub within : many ≤ length room
-  pub below : All (λ p. p < length room) (take many room)
-  pub different : AllPairs (λ p q. p ≢ q) (take many room)
 
 -- The position is the last of the list.
 pub record IsLastOf (positions : List ℕ) (p : ℕ) : Type 0 where
@@ -30,8 +11,7 @@ pub record IsLastOf (positions : List ℕ) (p : ℕ) : Type 0 where
 -- Rows of vertices by position: so many words for each of so many positions.
 --   marks: what was met
 --   pending: what of it is still to be looked at
---   waiting: the places of the words that have something open, and maybe others
---   touched: the places of the words that have something marked
+--   waiting, touched: the places of the words that have something open, or something marked
 pub record SetsOfVertices : Type 0 where
   pub size : ℕ
   pub columns : ℕ
@@ -61,10 +41,9 @@ abbrev pub sets_of : (size columns : ℕ) → (marks pending waiting touched : L
 sets_of size columns marks pending waiting touched =
     record { size = size; columns = columns; marks = marks; pending = pending; waiting = waiting; touched = touched }
 
--- How much is left to be done: each bit that is met or closed takes something off, and so does each position that no
--- longer waits.
+-- How much is left to be done: each bit that is met or closed takes something off.
 abbrev pub weight : SetsOfVertices → ℕ
-weight sets = 4 * sum_by (λ m. 2 ^ 64 - m) sets.marks + 2 * sum_by (λ m. m) sets.pending + length sets.waiting
+weight sets = 2 * sum_by (λ m. 2 ^ 64 - m) sets.marks + sum_by (λ m. m) sets.pending
 
 -- A word of a row was met: its bits are marked, and what is new of it is open where that is wanted.
 pub record MeetsWord (old new : SetsOfVertices) (position column word : ℕ) (opens : Bool) : Type 0 where
@@ -111,6 +90,10 @@ pub record IsInRow (q : ℕ) (row : List ℕ) (v p : ℕ) : Type 0 where
   pub position : p ≡ q
   pub set : bit_at (slice_index row (v / 64)) (v % 64) ≡ 1
 
+-- The word of the vertex in the row of the position is the latest that waits.
+abbrev pub WaitsLast : SetsOfVertices → (v p : ℕ) → Type 0
+WaitsLast sets v p = IsLastOf sets.waiting (p * sets.columns + v / 64)
+
 -- It is marked and no longer open: it was looked at.
 pub record IsDone (sets : SetsOfVertices) (v p : ℕ) : Type 0 where
   pub marked : IsMarked sets v p
@@ -119,9 +102,3 @@ pub record IsDone (sets : SetsOfVertices) (v p : ℕ) : Type 0 where
 -- What was looked at stays so.
 abbrev pub KeepsDone : (old new : SetsOfVertices) → Type 0
 KeepsDone old new = (v p : ℕ) → IsDone old v p → IsDone new v p
-
--- What was met at the position is forgotten, and nothing else.
-pub record Forgets (old new : SetsOfVertices) (q : ℕ) : Type 0 where
-  pub gone : (v : ℕ) → ¬ IsMarked new v q
-  pub only : (v p : ℕ) → IsMarked new v p → IsMarked old v p
-  pub still : (v p : ℕ) → p ≢ q → IsMarked old v p → IsMarked new v p

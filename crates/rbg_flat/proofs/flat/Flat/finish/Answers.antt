@@ -1,5 +1,6 @@
 use Rattle.std.proofs.Common.{◌∙◌, ℕ, List, refl, sym, subst}
 use Rattle.rbg_flat.specs.internal.Gathering.{Gathered}
+use Rattle.rbg_flat.specs.internal.Sets.{HasBitAt}
 use Rattle.rbg_flat.proofs.Finishings.{gathered_none, gathered_more, count_fits, are_found, has_candidates, few_gathered}
 use Rattle.rbg_flat.proofs.flat.Flat.finish.Goals as goal
 
@@ -9,6 +10,7 @@ loop-place-init c =
     record {
       sized = c.requires.sized;
       ends = refl;
+      closed = c.requires.done;
       gathered = subst (λ (found : List (ℕ × ℕ)). Gathered c.args.game.now c.args.state.now.state sets sets found 0) (sym c.clear.ensures) (gathered_none c.args.game.now c.requires.lawful c.args.state.now.state sets c.requires.on);
     }
 
@@ -23,6 +25,7 @@ loop-place-preserved c =
     record {
       sized = record { size = c.forget.ensures.size ∙ is.sized.size; columns = c.forget.ensures.columns ∙ is.sized.columns };
       ends = is.ends;
+      closed = λ v p has. is.closed v p (subst (λ (k : ℕ). HasBitAt k c.loop-place.self.sets.pending v p) c.forget.ensures.columns (subst (λ (words : List ℕ). HasBitAt c.forget.new.self.columns words v p) c.forget.ensures.pending has));
       gathered = gathered_more c.args.game.now c.requires.lawful c.args.state.now.state c.args.self.now.sets c.requires.on
           c.loop-place.self.sets c.forget.new.self c.loop-place.found c.gather_place.new.found c.loop-place.many c.in_ok-many.field-0 _ c.in-Some.place c.position_at-position.result c.keeps-keeps.result
           c.position_at-position.ensures.is is.gathered c.in_ok-many.ensures c.forget.ensures.forgets c.keeps-keeps.ensures;

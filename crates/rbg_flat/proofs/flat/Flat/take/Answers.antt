@@ -1,20 +1,35 @@
-use Rattle.std.proofs.Common.{◌≡◌, true, false, sym, ◌∙◌}
+use Rattle.std.proofs.Common.{◌≡◌, ℕ, ◌+◌, ◌*◌, ◌/◌, inl, inr, true, false, refl, sym, ◌∙◌, arith}
+use Rattle.rbg_flat.specs.internal.Passing.{Passes}
 use Rattle.rbg_flat.proofs.ModifierLemmas.{pattern_opens}
+use Rattle.rbg_flat.proofs.Doing.{this_or_not}
+use Rattle.rbg_flat.proofs.Takings.{held_by, holds_passes}
+use Rattle.rbg_flat.proofs.flat.Flat.take.Goals.{then-valid, else-valid}
 use Rattle.rbg_flat.proofs.flat.Flat.take.Goals as goal
 
-false_not_true : false ≡ true → ⊥
-false_not_true e = cc
+true_not_false : true ≡ false → ⊥
+true_not_false e = cc
 
-pub returns-then-valid-clause-begun : goal.returns-then-valid-clause-begun
-returns-then-valid-clause-begun c = λ s f told is.
-    c.lead_on.ensures.begun s f (is.sound c.args.vertex c.args.position c.requires.marked) (told.0 c.if-valid.true) is
+pub returns-clause-begun : goal.returns-clause-begun
+returns-clause-begun c = λ s f told is.
+    let vertex : ℕ = c.args.vertex in
+    let p : ℕ = c.args.position in
+    let word : ℕ = c.unit_word-word.result in
+    let whole : c.args.valid ≡ true → c.if-valid.held ≡ word = λ e. elim c.if-valid.branch [ then-valid w ↦ w.held-is | else-valid w ↦ absurd (true_not_false (sym e ∙ w.if-valid.false)) ] in
+    let none : c.args.valid ≡ false → c.if-valid.held ≡ 0 = λ e. elim c.if-valid.branch [ then-valid w ↦ absurd (true_not_false (sym w.if-valid.true ∙ e)) | else-valid w ↦ w.held-is ] in
+    c.take_word.ensures.begun s f
+    (λ b small set.
+    let bit = c.unit_word-word.ensures.only b set in
+    let same : vertex / 64 * 64 + b ≡ vertex = omega (arith, bit) in
+    held_by c.args.valid c.if-valid.held word b (Passes c.args.game.now s (vertex / 64 * 64 + b) p)
+    (holds_passes c.args.game.now c.requires.lawful.numbered s f vertex p (vertex / 64 * 64 + b) (c.args.valid ≡ true) (is.sound vertex p c.requires.marked) same told)
+    whole none set)
+    is
 
-pub returns-else-valid-clause-begun : goal.returns-else-valid-clause-begun
-returns-else-valid-clause-begun c = λ s f told is.
-    c.drop_one.ensures.begun s f (λ holds. false_not_true (sym c.if-valid.false ∙ told.1 holds)) is
+pub returns-clause-done : goal.returns-clause-done
+returns-clause-done c = c.take_word.ensures.done c.args.vertex (record { position = refl; column = refl; set = c.unit_word-word.ensures.set })
 
-pub returns-then-valid-clause-quiet : goal.returns-then-valid-clause-quiet
-returns-then-valid-clause-quiet c = λ v p pattern done. c.lead_on.ensures.quiet v p (pattern_opens c.args.game.now.rules c.requires.lawful.numbered p pattern) done
-
-pub returns-else-valid-clause-quiet : goal.returns-else-valid-clause-quiet
-returns-else-valid-clause-quiet c = λ v p pattern done. c.drop_one.ensures.quiet v p (pattern_opens c.args.game.now.rules c.requires.lawful.numbered p pattern) done
+pub returns-clause-quiet : goal.returns-clause-quiet
+returns-clause-quiet c = λ v p pattern done. elim (this_or_not c.args.position c.args.vertex c.unit_word-word.result c.unit_word-word.ensures.only v p) [
+  | inl this ↦ inl this
+  | inr other ↦ inr (c.take_word.ensures.quiet v p (pattern_opens c.args.game.now.rules c.requires.lawful.numbered p pattern) other done)
+]

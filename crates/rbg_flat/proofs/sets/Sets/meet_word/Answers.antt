@@ -1,7 +1,6 @@
-use Rattle.std.proofs.Common.{◌≡◌, ℕ, ◌+◌, ◌*◌, ◌<◌, ◌⊎◌, List, length, get_or, ◌∙◌, subst}
+use Rattle.std.proofs.Common.{◌≡◌, ℕ, ◌+◌, ◌*◌, ◌<◌, ◌⊎◌, List, length, get_or, subst}
 use Rattle.std.specs.Int.{bit_at}
 use Rattle.std.specs.Prelude.{bit_or, ◌^◌}
-use Rattle.std.proofs.lemmas.List.{get_or_read}
 use Rattle.rbg_flat.proofs.SetLemmas.{meets_open, meets_closed, sets_open, sets_closed}
 use Rattle.rbg_flat.proofs.sets.Sets.meet_word.Goals as goal
 
@@ -9,10 +8,10 @@ pub invariant_of-self : goal.invariant_of-self
 invariant_of-self c =
     let size : ℕ = c.self.inside.size in
     let columns : ℕ = c.self.inside.columns in
-    let marks : List ℕ = c.self.inside.marks.items in
-    let pending : List ℕ = c.self.inside.pending.items in
-    let waiting : List ℕ = c.self.inside.waiting.positions in
-    let touched : List ℕ = c.self.inside.touched.positions in
+    let marks : List ℕ = c.self.inside.marks.words in
+    let pending : List ℕ = c.self.inside.pending.words in
+    let waiting : List ℕ = c.self.inside.pending.listed in
+    let touched : List ℕ = c.self.inside.marks.listed in
     let place : ℕ = c.place-place.result in
     let q : ℕ = c.args.position in
     let column : ℕ = c.args.column in
@@ -20,23 +19,20 @@ invariant_of-self c =
     let below : column < columns = rw (← c.self.view_is) at c.requires.column in
     let in_marks : place < length marks = rw (← c.self.view_is) at c.place-place.ensures.marks in
     let in_pending : place < length pending = rw (← c.self.view_is) at c.place-place.ensures.pending in
-    let read : c.index.result.now ≡ get_or marks place 0 = get_or_read marks place c.index.result.now in_marks c.index.ensures 0 in
+    let read : c.word.result ≡ get_or marks place 0 = c.word.ensures in
     let n : ℕ = c.new_of-new.result in
     let all : (b : ℕ) → b < 64 → bit_at c.args.word b ≡ 1 → (bit_at (get_or marks place 0) b ≡ 1) ⊎ (bit_at n b ≡ 1) = subst (λ (k : ℕ). (b : ℕ) → b < 64 → bit_at c.args.word b ≡ 1 → (bit_at k b ≡ 1) ⊎ (bit_at n b ≡ 1)) read c.new_of-new.ensures.all in
-    rw (c.add_word.ensures, c.add_word-then-opens.ensures) (
-      sets_open size columns marks pending waiting touched place q column c.args.word n is below in_marks in_pending c.new_of-new.ensures.only all c.self.invariant.0 c.if-new-eq0.false sum c.add-then-opens.new.self.positions c.add.new.self.positions c.add-then-opens.ensures.added c.add.ensures.added,
-      c.add-then-opens.ensures.size ∙ c.self.invariant.1,
-      c.add.ensures.size ∙ c.self.invariant.2,
-    )
+    rw (c.add.ensures, c.add-then-opens.ensures) (
+    sets_open size columns marks pending waiting touched place q column c.args.word n is below in_marks in_pending c.new_of-new.ensures.only all c.self.invariant c.add-then-opens.new.self.listed c.add.new.self.listed)
 
 pub invariant_of-self-else-opens : goal.invariant_of-self-else-opens
 invariant_of-self-else-opens c =
     let size : ℕ = c.self.inside.size in
     let columns : ℕ = c.self.inside.columns in
-    let marks : List ℕ = c.self.inside.marks.items in
-    let pending : List ℕ = c.self.inside.pending.items in
-    let waiting : List ℕ = c.self.inside.waiting.positions in
-    let touched : List ℕ = c.self.inside.touched.positions in
+    let marks : List ℕ = c.self.inside.marks.words in
+    let pending : List ℕ = c.self.inside.pending.words in
+    let waiting : List ℕ = c.self.inside.pending.listed in
+    let touched : List ℕ = c.self.inside.marks.listed in
     let place : ℕ = c.place-place.result in
     let q : ℕ = c.args.position in
     let column : ℕ = c.args.column in
@@ -44,23 +40,19 @@ invariant_of-self-else-opens c =
     let below : column < columns = rw (← c.self.view_is) at c.requires.column in
     let in_marks : place < length marks = rw (← c.self.view_is) at c.place-place.ensures.marks in
     let in_pending : place < length pending = rw (← c.self.view_is) at c.place-place.ensures.pending in
-    let read : c.index.result.now ≡ get_or marks place 0 = get_or_read marks place c.index.result.now in_marks c.index.ensures 0 in
+    let read : c.word.result ≡ get_or marks place 0 = c.word.ensures in
     let n : ℕ = c.new_of-new.result in
     let all : (b : ℕ) → b < 64 → bit_at c.args.word b ≡ 1 → (bit_at (get_or marks place 0) b ≡ 1) ⊎ (bit_at n b ≡ 1) = subst (λ (k : ℕ). (b : ℕ) → b < 64 → bit_at c.args.word b ≡ 1 → (bit_at k b ≡ 1) ⊎ (bit_at n b ≡ 1)) read c.new_of-new.ensures.all in
-    rw c.add_word.ensures (
-      sets_closed size columns marks pending waiting touched place q column c.args.word n is below in_marks in_pending c.new_of-new.ensures.only all c.self.invariant.0 c.if-new-eq0.false sum c.add.new.self.positions c.add.ensures.added,
-      c.self.invariant.1,
-      c.add.ensures.size ∙ c.self.invariant.2,
-    )
+    rw c.add.ensures (sets_closed size columns marks pending waiting touched place q column c.args.word n is below in_marks in_pending c.new_of-new.ensures.only all c.self.invariant c.add.new.self.listed)
 
 pub returns-then-opens : goal.returns-then-opens
 returns-then-opens c =
     let size : ℕ = c.self.inside.size in
     let columns : ℕ = c.self.inside.columns in
-    let marks : List ℕ = c.self.inside.marks.items in
-    let pending : List ℕ = c.self.inside.pending.items in
-    let waiting : List ℕ = c.self.inside.waiting.positions in
-    let touched : List ℕ = c.self.inside.touched.positions in
+    let marks : List ℕ = c.self.inside.marks.words in
+    let pending : List ℕ = c.self.inside.pending.words in
+    let waiting : List ℕ = c.self.inside.pending.listed in
+    let touched : List ℕ = c.self.inside.marks.listed in
     let place : ℕ = c.place-place.result in
     let q : ℕ = c.args.position in
     let column : ℕ = c.args.column in
@@ -68,22 +60,22 @@ returns-then-opens c =
     let below : column < columns = rw (← c.self.view_is) at c.requires.column in
     let in_marks : place < length marks = rw (← c.self.view_is) at c.place-place.ensures.marks in
     let in_pending : place < length pending = rw (← c.self.view_is) at c.place-place.ensures.pending in
-    let read : c.index.result.now ≡ get_or marks place 0 = get_or_read marks place c.index.result.now in_marks c.index.ensures 0 in
+    let read : c.word.result ≡ get_or marks place 0 = c.word.ensures in
     let n : ℕ = c.new_of-new.result in
     let all : (b : ℕ) → b < 64 → bit_at c.args.word b ≡ 1 → (bit_at (get_or marks place 0) b ≡ 1) ⊎ (bit_at n b ≡ 1) = subst (λ (k : ℕ). (b : ℕ) → b < 64 → bit_at c.args.word b ≡ 1 → (bit_at k b ≡ 1) ⊎ (bit_at n b ≡ 1)) read c.new_of-new.ensures.all in
     let sum : bit_or (get_or marks place 0) n ≡ get_or marks place 0 + n = subst (λ (k : ℕ). bit_or k n ≡ k + n) read c.new_of-new.ensures.sum in
     let fits : get_or marks place 0 + n < 2 ^ 64 = subst (λ (k : ℕ). k + n < 2 ^ 64) read c.new_of-new.ensures.fits in
     let fresh : (b : ℕ) → bit_at n b ≡ 1 → bit_at (get_or marks place 0) b ≡ 0 = subst (λ (k : ℕ). (b : ℕ) → bit_at n b ≡ 1 → bit_at k b ≡ 0) read c.new_of-new.ensures.fresh in
-    rw (← c.self.view_is, c.add_word.ensures, c.add_word-then-opens.ensures, c.if-opens.true) (meets_open size columns marks pending waiting touched place q column c.args.word n is below in_marks in_pending c.new_of-new.ensures.only all c.add-then-opens.new.self.positions c.add.new.self.positions fresh c.if-new-eq0.false sum fits c.add-then-opens.ensures.added)
+    rw (← c.self.view_is, c.add.ensures, c.add-then-opens.ensures, c.if-opens.true) (meets_open size columns marks pending waiting touched place q column c.args.word n is below in_marks in_pending c.new_of-new.ensures.only all c.add-then-opens.new.self.listed c.add.new.self.listed fresh sum fits)
 
 pub returns-else-opens : goal.returns-else-opens
 returns-else-opens c =
     let size : ℕ = c.self.inside.size in
     let columns : ℕ = c.self.inside.columns in
-    let marks : List ℕ = c.self.inside.marks.items in
-    let pending : List ℕ = c.self.inside.pending.items in
-    let waiting : List ℕ = c.self.inside.waiting.positions in
-    let touched : List ℕ = c.self.inside.touched.positions in
+    let marks : List ℕ = c.self.inside.marks.words in
+    let pending : List ℕ = c.self.inside.pending.words in
+    let waiting : List ℕ = c.self.inside.pending.listed in
+    let touched : List ℕ = c.self.inside.marks.listed in
     let place : ℕ = c.place-place.result in
     let q : ℕ = c.args.position in
     let column : ℕ = c.args.column in
@@ -91,9 +83,9 @@ returns-else-opens c =
     let below : column < columns = rw (← c.self.view_is) at c.requires.column in
     let in_marks : place < length marks = rw (← c.self.view_is) at c.place-place.ensures.marks in
     let in_pending : place < length pending = rw (← c.self.view_is) at c.place-place.ensures.pending in
-    let read : c.index.result.now ≡ get_or marks place 0 = get_or_read marks place c.index.result.now in_marks c.index.ensures 0 in
+    let read : c.word.result ≡ get_or marks place 0 = c.word.ensures in
     let n : ℕ = c.new_of-new.result in
     let all : (b : ℕ) → b < 64 → bit_at c.args.word b ≡ 1 → (bit_at (get_or marks place 0) b ≡ 1) ⊎ (bit_at n b ≡ 1) = subst (λ (k : ℕ). (b : ℕ) → b < 64 → bit_at c.args.word b ≡ 1 → (bit_at k b ≡ 1) ⊎ (bit_at n b ≡ 1)) read c.new_of-new.ensures.all in
     let sum : bit_or (get_or marks place 0) n ≡ get_or marks place 0 + n = subst (λ (k : ℕ). bit_or k n ≡ k + n) read c.new_of-new.ensures.sum in
     let fits : get_or marks place 0 + n < 2 ^ 64 = subst (λ (k : ℕ). k + n < 2 ^ 64) read c.new_of-new.ensures.fits in
-    rw (← c.self.view_is, c.add_word.ensures, c.if-opens.false) (meets_closed size columns marks pending waiting touched place q column c.args.word n is below in_marks in_pending c.new_of-new.ensures.only all c.add.new.self.positions sum fits)
+    rw (← c.self.view_is, c.add.ensures, c.if-opens.false) (meets_closed size columns marks pending waiting touched place q column c.args.word n is below in_marks in_pending c.new_of-new.ensures.only all c.add.new.self.listed sum fits)

@@ -1,4 +1,4 @@
-use Rattle.std.proofs.Common.{◌≡◌, ℕ, ◌+◌, ◌*◌, ◌<◌, ◌^◌, List, length, get_or, sym, ◌∙◌, ap, subst, inl, inr, arith}
+use Rattle.std.proofs.Common.{◌≡◌, ℕ, ◌+◌, ◌*◌, ◌<◌, ◌^◌, List, get_or, sym, ◌∙◌, ap, inl, inr, arith}
 use Rattle.std.specs.Int.{bit_at}
 use Rattle.std.proofs.lemmas.Bool.{cases_lt}
 use Rattle.std.proofs.lemmas.Nat.Bits.{bit_at_above}
@@ -16,17 +16,15 @@ pub returns-clause-there : goal.returns-clause-there
 returns-clause-there c = λ b set.
     let size : ℕ = c.self.inside.size in
     let columns : ℕ = c.self.inside.columns in
-    let marks : List ℕ = c.self.inside.marks.items in
-    let pending : List ℕ = c.self.inside.pending.items in
-    let waiting : List ℕ = c.self.inside.waiting.positions in
-    let touched : List ℕ = c.self.inside.touched.positions in
+    let marks : List ℕ = c.self.inside.marks.words in
+    let pending : List ℕ = c.self.inside.pending.words in
+    let waiting : List ℕ = c.self.inside.pending.listed in
+    let touched : List ℕ = c.self.inside.marks.listed in
     let q : ℕ = c.args.position in
     let column : ℕ = c.args.column in
     let is : c.args.place ≡ q * columns + column = rw (← c.self.view_is) at c.requires.at in
     let below : column < columns = rw (← c.self.view_is) at c.requires.column in
-    let in_marks : c.args.place < length marks = rw (← c.self.view_is) at c.requires.place in
-    let in_pending : c.args.place < length pending = subst (λ (k : ℕ). c.args.place < k) (c.self.invariant.0.marks ∙ sym c.self.invariant.0.pendings) in_marks in
-    let read : c.word_at.result ≡ get_or pending c.args.place 0 = c.word_at.ensures in
-    let small = small_bit c.word_at.result b c.word_at.type_inv set in
-    let there : HasBitAt columns marks (column * 64 + b) q = taken_there size columns marks pending waiting touched c.args.place in_marks in_pending q column is below c.self.invariant.0 b small (sym (ap (λ (k : ℕ). bit_at k b) read) ∙ set) in
+    let read : c.word.result ≡ get_or pending c.args.place 0 = c.word.ensures in
+    let small = small_bit c.word.result b c.word.type_inv set in
+    let there : HasBitAt columns marks (column * 64 + b) q = taken_there size columns marks pending waiting touched c.args.place q column is below c.self.invariant b small (sym (ap (λ (k : ℕ). bit_at k b) read) ∙ set) in
     (small, rw (← c.self.view_is) there)
