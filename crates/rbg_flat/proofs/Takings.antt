@@ -16,13 +16,12 @@ use Rattle.rbg_rules.specs.Positions.{IsModifierAt, IsNumbered}
 use Rattle.rbg_rules.specs.State.{AbstractGame, AbstractState}
 use Rattle.rbg_rules.specs.Words.{Start, after}
 use Rattle.rbg_leaps.specs.Leaps.{IsShiftAt, IsLeap, EndsAcross}
-use Rattle.rbg_flat.specs.Chains.{Holds, IsMet, first, then, EndsMet}
-use Rattle.rbg_flat.specs.internal.Begun.{IsBegun, IsLedOn, Marks}
+use Rattle.rbg_flat.specs.Chains.{Holds, IsMet, first, then}
+use Rattle.rbg_flat.specs.internal.Begun.{IsBegun}
 use Rattle.rbg_flat.specs.internal.Leading.{LearnsEnd}
 use Rattle.rbg_flat.specs.internal.Sets.{SetsOfVertices, IsMarked, IsOpen, IsInWord, Meets, ClosesWord, HasBitAt, weight}
 use Rattle.rbg_rules.specs.Actions.{Applies}
 use Rattle.rbg_flat.proofs.ChainLemmas.{QuietStep, shifts, holds, quiet_step}
-use Rattle.rbg_flat.proofs.Steps.{marks_more, closes_more, learns_end}
 
 module _ (game : AbstractGame) (s : AbstractState) (f : Start) where
   -- Where nothing was marked, the first leaps begin.
@@ -39,41 +38,6 @@ module _ (game : AbstractGame) (s : AbstractState) (f : Start) where
       leap_of : (v p : ℕ) → IsMarked old v p ⊎ (IsLeap game f s.vertex p v × (¬ IsModifierAt game.rules p → IsOpen new v p)) → IsLeap game f s.vertex p v × (¬ IsModifierAt game.rules p → IsOpen new v p)
       leap_of v p (inl was) = absurd (none v p was)
       leap_of v p (inr is) = is
-
-  -- What is met and holds leads on.
-  pub leads_on : (old new : SetsOfVertices) (ends more : Bool) (v q : ℕ) → IsMet game s f v q → Holds game s v q → Meets old new (λ u p. IsLeap game (after q) v p u) (λ p. ¬ IsModifierAt game.rules p) → LearnsEnd ends more (EndsAcross game (after q) v) → IsBegun game s f (IsMarked old) (IsOpen old) ends → IsBegun game s f (IsMarked new) (IsOpen new) more × IsLedOn game v q (IsMarked new) more
-  leads_on old new ends more v q here valid meets learns is =
-      let marked = marks_more game s f (IsMarked old) (IsOpen old) (IsMarked new) (IsOpen new) ends is marks in
-      (learns_end game s f (IsMarked new) (IsOpen new) ends more marked learns.kept sound, record { leaps = λ u p leap. meets.met u p leap; end = learns.all })
-    where
-      by_new : (u p : ℕ) → IsMarked old u p ⊎ (IsLeap game (after q) v p u × (¬ IsModifierAt game.rules p → IsOpen new u p)) → IsMarked old u p ⊎ (IsMet game s f u p × (Holds game s u p → IsOpen new u p))
-      by_new u p (inl was) = inl was
-      by_new u p (inr (leap, opens)) = inr (then here valid leap, λ there. opens there.quiet)
-
-      marks : Marks game s f (IsMarked old) (IsOpen old) (IsMarked new) (IsOpen new)
-      marks = record { kept = meets.kept; only = λ u p has. by_new u p (meets.only u p has); still = meets.still }
-
-      by_end : (ends ≡ true) ⊎ EndsAcross game (after q) v → EndsMet game s f
-      by_end (inl was) = is.sound_end was
-      by_end (inr end) = inr (record { vertex = v; position = q; met = here; holds = valid; ends = end })
-
-      sound : more ≡ true → EndsMet game s f
-      sound told = by_end (learns.only told)
-
-  -- Bits of a word are closed that hold nowhere, or are led on from.
-  pub closes : (old new : SetsOfVertices) (ends : Bool) (q c word : ℕ) → ClosesWord old new q c word → ((v : ℕ) → IsInWord q c word v q → ¬ Holds game s v q ⊎ IsLedOn game v q (IsMarked old) ends) → ((v p : ℕ) → IsOpen old v p ⊎ ¬ IsOpen old v p) → IsBegun game s f (IsMarked old) (IsOpen old) ends → IsBegun game s f (IsMarked new) (IsOpen new) ends
-  closes old new ends q c word closing done decided is =
-      same_marks
-      (closes_more game s f (IsMarked old) (IsOpen old) (IsOpen new) ends decided is (record { done = λ v p was closed. by_word v p closed (closing.still v p was) }))
-    where
-      by_word : (v p : ℕ) → ¬ IsOpen new v p → IsOpen new v p ⊎ IsInWord q c word v p → ¬ Holds game s v p ⊎ IsLedOn game v p (IsMarked old) ends
-      by_word v p closed (inl still) = absurd (closed still)
-      by_word v p closed (inr there) = subst (λ (k : ℕ). ¬ Holds game s v k ⊎ IsLedOn game v k (IsMarked old) ends) (sym there.position) (done v (subst (λ (k : ℕ). IsInWord q c word v k) there.position there))
-
-      same_marks : IsBegun game s f (HasBitAt old.columns old.marks) (IsOpen new) ends → IsBegun game s f (HasBitAt new.columns new.marks) (IsOpen new) ends
-      same_marks begun =
-          subst (λ (marks : List ℕ). IsBegun game s f (HasBitAt new.columns marks) (IsOpen new) ends) (sym closing.marks)
-          (subst (λ (k : ℕ). IsBegun game s f (HasBitAt k old.marks) (IsOpen new) ends) (sym closing.columns) begun)
 
 -- Whether a bit is set is decided.
 pub bit_decided : (columns : ℕ) (words : List ℕ) (v p : ℕ) → HasBitAt columns words v p ⊎ ¬ HasBitAt columns words v p
@@ -99,18 +63,6 @@ goes_on rules p (Switch n) stands = (switch n, stands)
 goes_on rules p Positive (x, stands) = (positive x, stands)
 goes_on rules p Negative (x, stands) = (negative x, stands)
 
--- The word that has one bit is closed behind what was led on.
-pub led_and_closed : (game : AbstractGame) (s : AbstractState) (f : Start) (old middle new : SetsOfVertices) (ends more : Bool) (v q word : ℕ) → IsMet game s f v q → Holds game s v q → Meets old middle (λ u p. IsLeap game (after q) v p u) (λ p. ¬ IsModifierAt game.rules p) → LearnsEnd ends more (EndsAcross game (after q) v) → ClosesWord middle new q (v / 64) word → ((b : ℕ) → bit_at word b ≡ 1 → b ≡ v % 64) → IsBegun game s f (IsMarked old) (IsOpen old) ends → IsBegun game s f (IsMarked new) (IsOpen new) more
-led_and_closed game s f old middle new ends more v q word here valid meets learns closing only is =
-    let both = leads_on game s f old middle ends more v q here valid meets learns is in
-    closes game s f middle new more q (v / 64) word closing (λ u there. inr (subst (λ (k : ℕ). IsLedOn game k q (IsMarked middle) more) (sym (same u there)) both.1)) (bit_decided middle.columns middle.pending) both.0
-  where
-    same : (u : ℕ) → IsInWord q (v / 64) word u q → u ≡ v
-    same u there =
-        let bits = only (u % 64) there.set in
-        let columns = there.column in
-        omega (arith, bits, columns)
-
 -- All begins at a vertex where nothing was met.
 pub begins_at : (game : AbstractGame) (s : AbstractState) (f : Start) (old new : SetsOfVertices) (ends : Bool) (vertex : ℕ) → s.vertex ≡ vertex → ((v p : ℕ) → ¬ IsMarked old v p) → Meets old new (λ v p. IsLeap game f vertex p v) (λ p. ¬ IsModifierAt game.rules p) → LearnsEnd false ends (EndsAcross game f vertex) → IsBegun game s f (IsMarked new) (IsOpen new) ends
 begins_at game s f old new ends vertex same none meets learns =
@@ -126,17 +78,6 @@ begins_at game s f old new ends vertex same none meets learns =
     end_of (inl no_end) = absurd (false_not_true no_end)
     end_of (inr end) = end
 
--- A bit that doesn't hold is closed.
-pub dropped : (game : AbstractGame) (s : AbstractState) (f : Start) (old new : SetsOfVertices) (ends : Bool) (v q word : ℕ) → ¬ Holds game s v q → ClosesWord old new q (v / 64) word → ((b : ℕ) → bit_at word b ≡ 1 → b ≡ v % 64) → IsBegun game s f (IsMarked old) (IsOpen old) ends → IsBegun game s f (IsMarked new) (IsOpen new) ends
-dropped game s f old new ends v q word never closing only is =
-    closes game s f old new ends q (v / 64) word closing (λ u there. inl (subst (λ (k : ℕ). ¬ Holds game s k q) (sym (same u there)) never)) (bit_decided old.columns old.pending) is
-  where
-    same : (u : ℕ) → IsInWord q (v / 64) word u q → u ≡ v
-    same u there =
-        let bits = only (u % 64) there.set in
-        let columns = there.column in
-        omega (arith, bits, columns)
-
 -- What is met is no shift.
 pub met_plain : (game : AbstractGame) (s : AbstractState) (f : Start) (v p : ℕ) → IsMet game s f v p → ¬ IsShiftAt game.rules p
 met_plain game s f v p (first leap) = leap.plain
@@ -149,12 +90,6 @@ tried_holds game numbered s f v p u here quiet applies = by_step (quiet_step gam
     by_step : QuietStep game p (record s { vertex = v }) (record s { vertex = u }) → Holds game s v p
     by_step (shifts d w stands leads is) = absurd (met_plain game s f v p here (record { direction = d; stands = stands }))
     by_step (holds plain is) = record { quiet = quiet; plain = plain; applies = subst (λ (t : AbstractState). Applies game p (record s { vertex = v }) t) is applies }
-
-pub invalid_not : (game : AbstractGame) (s : AbstractState) (v p : ℕ) → ((t : AbstractState) → ¬ Applies game p (record s { vertex = v }) t) → ¬ Holds game s v p
-invalid_not game s v p none is = none (record s { vertex = v }) is.applies
-
-pub modifier_not : (game : AbstractGame) (s : AbstractState) (v p : ℕ) → IsModifierAt game.rules p → ¬ Holds game s v p
-modifier_not game s v p modifies is = is.quiet modifies
 
 -- Behind a word that was closed, less is left to be done, whatever is led on from.
 pub lead_less : (old middle new : SetsOfVertices) (q c word : ℕ) → ClosesWord old middle q c word → weight new ≤ weight middle → (v : ℕ) → IsOpen old v q → IsInWord q c word v q → weight new < weight old

@@ -1,5 +1,5 @@
 -- A flat part that is being found: what is marked, and what of it is still to be looked at.
-use Rattle.std.specs.Prelude.{◌≡◌, ◌⊎◌, ℕ, Bool, true}
+use Rattle.std.specs.Prelude.{◌≡◌, ℕ, Bool, true}
 use Rattle.rbg_rules.specs.Words.{Start, after}
 use Rattle.rbg_rules.specs.State.{AbstractGame, AbstractState}
 use Rattle.rbg_leaps.specs.Leaps.{IsLeap, EndsAcross}
@@ -26,27 +26,3 @@ pub record IsBegun
     pub begun_end : EndsAcross game f s.vertex → ends ≡ true
     pub closed_end :
         (v q : ℕ) → Marked v q → ¬ Open v q → Holds game s v q → EndsAcross game (after q) v → ends ≡ true
-
--- All leaps from behind a position at a vertex are marked, and `ends` tells whether a word may end there.
-pub record IsLedOn
-    (game : AbstractGame) (v q : ℕ) (Marked : Pairs) (ends : Bool)
-    : Type 0
-  where
-    pub leaps : (u p : ℕ) → IsLeap game (after q) v p u → Marked u p
-    pub end : EndsAcross game (after q) v → ends ≡ true
-
--- More is marked: what is new is met, and is open if it holds. What was open stays so.
-pub record Marks
-    (game : AbstractGame) (s : AbstractState) (f : Start) (Marked Open Marked' Open' : Pairs)
-    : Type 0
-  where
-    pub kept : (v p : ℕ) → Marked v p → Marked' v p
-    pub only : (v p : ℕ) → Marked' v p → Marked v p ⊎ (IsMet game s f v p × (Holds game s v p → Open' v p))
-    pub still : (v p : ℕ) → Open v p → Open' v p
-
--- Less is open: what no longer is holds nowhere, or is led on from.
-pub record Closes
-    (game : AbstractGame) (s : AbstractState) (Marked Open Open' : Pairs) (ends : Bool)
-    : Type 0
-  where
-    pub done : (v q : ℕ) → Open v q → ¬ Open' v q → ¬ Holds game s v q ⊎ IsLedOn game v q Marked ends
