@@ -107,10 +107,12 @@ impl<'a, S: Steps> Search<'a, S> {
     /// word may end with no modifier more.
     pub(crate) fn finish_by_sets(
         &mut self,
+        paths: &Paths,
         flat: Box<SetFlat>,
         state: &SemiState,
         pairs: &mut Modifiers,
     ) -> Result<bool, Over>
+        requires paths { ArePathsOf self.old.game paths.now }
         requires fits { IsStateOf self.old.game state.now.state }
         requires sets { HasSetsFor self.old.game flat.value }
         requires whole { IsWhole flat.value }
@@ -128,7 +130,7 @@ impl<'a, S: Steps> Search<'a, S> {
     {
         let mut flat = flat;
         let ends = flat.ends();
-        let many = flat.finish(self.rules.game(), state, pairs)?;
+        let many = flat.finish(self.rules.game(), paths, state, pairs)?;
         self.count_pairs(many);
         // where there is no memory, it is let go
         let _kept = self.sets.push(flat);

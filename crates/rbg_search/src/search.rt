@@ -628,7 +628,7 @@ impl<'a, S: Steps> Search<'a, S> {
             let valid = self.ask(state, vertex, position, nested)?;
             self.take_by_sets(paths, &mut flat, vertex, position, valid);
         }
-        let ends = self.finish_by_sets(flat, state, pairs)?;
+        let ends = self.finish_by_sets(paths, flat, state, pairs)?;
         Ok(ends)
     }
 

@@ -10,7 +10,7 @@ use Rattle.rbg_state.specs.History.{History}
 use Rattle.rbg_flat.specs.declared.flat.Flat.{Flat}
 use Rattle.rbg_flat.specs.internal.Begun.{IsBegun}
 use Rattle.rbg_flat.specs.internal.Leading.{AreSizedFor, AreOn}
-use Rattle.rbg_flat.specs.internal.Sets.{IsMarked, IsOpen, IsDone, weight}
+use Rattle.rbg_flat.specs.internal.Sets.{IsMarked, IsOpen, IsDone, WaitsLast, weight}
 use Rattle.rbg_search.specs.Searching.{Searching}
 use Rattle.rbg_search.specs.Taken.{CountsPairs}
 use Rattle.rbg_search.specs.internal.Asked.{CountsAsked}
@@ -56,6 +56,7 @@ pub record IsToBeAsked (game : AbstractGame) (flat : Flat) (v p : ℕ) : Type 0 
   pub vertex : v < length game.board.first
   pub marked : IsMarked flat.sets v p
   pub is_open : IsOpen flat.sets v p
+  pub last : WaitsLast flat.sets v p
 
 -- It was asked, and the pattern is valid there or isn't.
 pub record TakesBySets (game : AbstractGame) (old new : Flat) (v p : ℕ) (valid : Bool) : Type 0 where

@@ -1062,6 +1062,9 @@ sets_part-returns-in_err-valid-clause-taken g t c =
     (asked_pairs h k s l f flat is c.in-Some.vertex c.in-Some.position next c.ask.new.self.opened c.ask.new.self.taken (IsOk c.ask.result) c.ask.ensures.taken)
     (not_ok c.from_residual-in_err-valid.result c.in_err-valid.field-0.0 c.from_residual-in_err-valid.ensures.1)
 
+pub sets_part-finish_by_sets-requires-clause-paths : goal.sets_part-finish_by_sets-requires-clause-paths
+sets_part-finish_by_sets-requires-clause-paths g t c = onward_rules (λ x. ArePathsOf x c.args.paths.now) c.args.self.now c.loop-vertex.self c.loop-vertex.invariant.kept c.requires.paths
+
 pub sets_part-finish_by_sets-requires-clause-fits : goal.sets_part-finish_by_sets-requires-clause-fits
 sets_part-finish_by_sets-requires-clause-fits g t c =
     onward IsStateOf c.args.self.now c.loop-vertex.self c.args.state.now c.loop-vertex.state c.loop-vertex.invariant.kept c.loop-vertex.invariant.given_back c.requires.fits
