@@ -122,6 +122,7 @@ impl Parts {
     }
 
     /// Makes a change, and returns the change that takes it back.
+    #[inline(always)]
     pub(crate) fn set(&mut self, change: Change) -> Change
         requires { IsChangeWithin (length self.old.pieces) (length self.old.values) change }
         ensures set { self.new ≡ set change self.old }

@@ -197,6 +197,7 @@ impl SemiState {
     }
 
     /// Takes the latest change back.
+    #[inline(always)]
     fn undo(&mut self)
         requires { 0 < length self.old.past }
         ensures states { states_of self.new ≡ self.old.past }
@@ -207,6 +208,7 @@ impl SemiState {
     }
 
     /// Makes a change, and writes it to the list.
+    #[inline(always)]
     fn change(&mut self, change: Change)
         requires room { 0 < self.old.room }
         requires within { IsChangeWithin (length self.old.state.pieces)
