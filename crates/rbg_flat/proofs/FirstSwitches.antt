@@ -1,11 +1,11 @@
 -- The first switch among modifiers that are kept by words.
-use Rattle.std.proofs.Common.{◌≡◌, ◌⊎◌, ◌<◌, ◌+◌, ℕ, List, Option, Some, None, All, Contains, take, length, get_or, IfSome, IfNone, inl, inr, sym, subst}
+use Rattle.std.proofs.Common.{◌≡◌, ◌⊎◌, ◌<◌, ◌+◌, ℕ, List, Option, Some, None, All, Contains, take, length, get_or, IfSome, IfNone, inl, inr, sym, ap, subst, arith}
 use Rattle.std.proofs.lemmas.List.{take_more}
 use Rattle.std.proofs.lemmas.List.Elements.{All-push, All-weaker, All-contains, All-contains_itself, Contains-get_or, Contains-push_cases}
 use Rattle.rbg_rules.specs.Expression.{Expression}
 use Rattle.rbg_rules.specs.Positions.{IsSwitchAt}
 use Rattle.rbg_flat.specs.Order.{IsBefore}
-use Rattle.rbg_flat.specs.internal.Bits.{pairs_in, first_of, IsFilled}
+use Rattle.rbg_flat.specs.internal.Bits.{pairs_in, first_of, first_at, IsFilled}
 use Rattle.rbg_flat.specs.declared.found.Word.{Word}
 use Rattle.rbg_flat.proofs.Spellings.{in_flat, of_flat, first_there, first_least, position_of, not_sooner}
 
@@ -88,3 +88,35 @@ module _ (rules : Expression) (words : List Word) (filled : All IsFilled words) 
 pub at_end : (rules : Expression) (words : List Word) (filled : All IsFilled words) (known : Option (ℕ × ℕ)) → IsLeastSoFar rules (pairs_in words) words known → IfSome known (Contains (pairs_in words)) × IfSome known (λ q. IsSwitchAt rules q.1) × IfSome known (λ q. (x : ℕ × ℕ) → Contains (pairs_in words) x → IsSwitchAt rules x.1 → ¬ IsBefore x q) × IfNone known (All (λ (q : ℕ × ℕ). ¬ IsSwitchAt rules q.1) (pairs_in words))
 at_end rules words filled None is = (tt, tt, tt, none_of_pairs rules words filled is.1)
 at_end rules words filled (Some q) is = (is.0.there, is.0.switches, least_of_pairs rules words filled q is.0, tt)
+
+-- The first pair of the word at a known place.
+abbrev pub told : List Word → Option ℕ → Option (ℕ × ℕ)
+told words None = None
+told words (Some k) = Some (first_at words k)
+
+pub if_told : (P : ℕ × ℕ → Type 0) (words : List Word) (known : Option ℕ) → IfSome known (λ k. P (first_at words k)) → IfSome (told words known) P
+if_told P words None is = tt
+if_told P words (Some k) is = is
+
+pub told_some : (P : ℕ × ℕ → Type 0) (words : List Word) (known : Option ℕ) → IfSome (told words known) P → IfSome known (λ k. P (first_at words k))
+told_some P words None is = tt
+told_some P words (Some k) is = is
+
+pub told_none : (P : Type 0) (words : List Word) (known : Option ℕ) → IfNone (told words known) P → IfNone known P
+told_none P words None is = is
+told_none P words (Some k) is = tt
+
+pub told_either : (words : List Word) (known : Option ℕ) (k r : ℕ) → (r ≡ k) ⊎ (known ≡ Some r) → (first_at words r ≡ first_at words k) ⊎ (told words known ≡ Some (first_at words r))
+told_either words known k r (inl same) = inl (ap (first_at words) same)
+told_either words known k r (inr same) = inr (ap (told words) same)
+
+pub either_below : (n : ℕ) (known : Option ℕ) (k r : ℕ) → k < n → IfSome known (λ j. j < n) → (r ≡ k) ⊎ (known ≡ Some r) → r < n
+either_below n known k r under below (inl same) = omega (arith, under, same)
+either_below n None k r under below (inr same) = absurd cc
+either_below n (Some j) k r under below (inr same) = let one : j ≡ r = cc in subst (λ (i : ℕ). i < n) one below
+
+-- What is so of the first pair of the word at a place is so of the pair that was taken there.
+pub taken_at : (P : List (ℕ × ℕ) → ℕ × ℕ → Type 0) (words lent : List Word) (pairs : List (ℕ × ℕ)) (k : ℕ) (q : ℕ × ℕ) → lent ≡ words → pairs_in words ≡ pairs → P (pairs_in lent) (first_at lent k) → q ≡ first_at words k → P pairs q
+taken_at P words lent pairs k q same is first taken =
+    subst (λ (ps : List (ℕ × ℕ)). P ps q) is
+    (subst (P (pairs_in words)) (sym taken) (subst (λ (ws : List Word). P (pairs_in ws) (first_at ws k)) same first))

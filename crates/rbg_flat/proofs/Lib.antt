@@ -19,6 +19,7 @@ pub mod Ones
 pub mod Spellings
 pub mod Switches
 pub mod FirstSwitches
+pub mod Having
 pub mod Gatherings
 pub mod Finishings
 pub mod Stills

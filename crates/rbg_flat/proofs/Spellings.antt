@@ -112,11 +112,16 @@ pair_of w x there =
 pub position_of : (w : Word) (x : ℕ × ℕ) → Contains (pairs_of w) x → w.position ≡ x.1
 position_of w x there = ap (λ (q : ℕ × ℕ). q.1) (pair_of w x there).is
 
-pub first_there : (w : Word) → IsFilled w → Contains (pairs_of w) (first_of w)
+-- A bit of a word is one of its pairs.
+pub pair_there : (w : Word) (bit : ℕ) → bit < 64 → bit_at w.bits bit ≡ 1 → Contains (pairs_of w) (w.base + bit, w.position)
 unfolding pairs_of
+pair_there w bit below set_there =
+    of_map (λ (b : ℕ). (w.base + b, w.position)) (bits 64 w.bits) bit (((bits_list 64 w.bits).all bit).1 (below, set_there))
+
+pub first_there : (w : Word) → IsFilled w → Contains (pairs_of w) (first_of w)
 first_there w filled =
     let lowest = bit_at-trailing_zeros w64 w.bits filled.some filled.small in
-    of_map (λ (b : ℕ). (w.base + b, w.position)) (bits 64 w.bits) (trailing_zeros w64 w.bits) (((bits_list 64 w.bits).all (trailing_zeros w64 w.bits)).1 (lowest.0, lowest.1))
+    pair_there w (trailing_zeros w64 w.bits) lowest.0 lowest.1
 
 not_both : {n : ℕ} → n ≡ 0 → n ≡ 1 → ⊥
 not_both none one = omega (arith, none, one)

@@ -1,11 +1,12 @@
 //! The modifiers that a flat part finds, by words of 64 vertices.
-ghost use Rattle.std.specs.Prelude.{◌≡◌, ℕ, ◌<◌, ◌≤◌, ◌^◌, ◌↔◌, ◌⊎◌, [], ◌∷◌, ◌++◌, length, slice_get, Some, All, Contains, IfSome, IfNone, OnOk, IsTrue};
+ghost use Rattle.std.specs.Prelude.{◌≡◌, ℕ, ◌<◌, ◌≤◌, ◌^◌, ◌↔◌, ◌⊎◌, [], ◌∷◌, ◌++◌, length, slice_get, Some, All, Contains, IfSome, IfNone, OnOk, IsTrue, Decides};
+ghost use Rattle.std.specs.Int.{bit_at};
 ghost use Rattle.std.specs.List.Sorted.{IsPermutation};
 ghost use Rattle.rbg_rules.specs.Games.{IsGame};
 ghost use Rattle.rbg_rules.specs.Positions.{IsSwitchAt, positions_of};
 ghost use Rattle.rbg_flat.specs.Order.{IsBefore, IsLeast};
 ghost use Rattle.rbg_flat.specs.internal.Shown.{shows_switch};
-ghost use Rattle.rbg_flat.specs.internal.Bits.{pairs_of, pairs_in, first_of, IsFilled};
+ghost use Rattle.rbg_flat.specs.internal.Bits.{pairs_of, pairs_in, first_of, first_at, IsFilled};
 ghost use Rattle.rbg_flat.specs.internal.Gathering.{PushesWord};
 ghost use Rattle.rbg_flat.specs.declared.found.Word.{Word};
 
@@ -118,18 +119,29 @@ impl Modifiers {
         }
     }
 
-    /// The least of them that is a switch, by vertex and then by position.
-    pub fn least_switch(&self, game: &Game) -> Option<(Vertex, Position)>
+    /// Takes the least of those that are switches, by vertex and then by position; none where there are none.
+    pub fn take_switch(&mut self, game: &Game) -> Option<(Vertex, Position)>
         requires lawful { IsGame game.now }
         requires within { All (λ pair. (0 < pair.1) × (pair.1 ≤ length (positions_of game.now.rules)))
-            self.now }
-        ensures there { IfSome result (Contains self.now) }
+            self.old }
+        ensures permutation { IfSome result (λ pair. IsPermutation self.old (pair ∷ self.new)) }
         ensures switches { IfSome result (λ pair. IsSwitchAt game.now.rules pair.1) }
-        ensures least { IfSome result (λ pair. (x : ℕ × ℕ) → Contains self.now x
+        ensures least { IfSome result (λ pair. (x : ℕ × ℕ) → Contains self.old x
             → IsSwitchAt game.now.rules x.1 → ¬ IsBefore x pair) }
-        ensures none { IfNone result (All (λ pair. ¬ IsSwitchAt game.now.rules pair.1) self.now) }
+        ensures kept { IfNone result (self.new ≡ self.old) }
+        ensures none { IfNone result (All (λ pair. ¬ IsSwitchAt game.now.rules pair.1) self.old) }
     {
-        first_switch(&self.words, game)
+        match switch_word(&self.words, game) {
+            None => None,
+            Some(index) => Some(take_first(&mut self.words, index)),
+        }
+    }
+
+    /// Whether a pair is one of them.
+    pub fn contains(&self, vertex: Vertex, position: Position) -> bool
+        ensures { Decides result (Contains self.now (vertex, position)) }
+    {
+        has_pair(&self.words, vertex, position)
     }
 
     /// Writes them out one by one, in place of what the list held.
@@ -162,8 +174,7 @@ fn is_before(vertex: Vertex, position: Position, other: Vertex, behind: Position
 #[inline(always)]
 fn least_word(words: &[Word]) -> Option<usize>
     requires { All IsFilled words.now }
-    ensures least { IfSome result (λ k. (w : Word) → slice_get words.now k ≡ Some w
-        → IsLeast (pairs_in words.now) (first_of w)) }
+    ensures least { IfSome result (λ k. IsLeast (pairs_in words.now) (first_at words.now k)) }
     ensures below { IfSome result (λ k. k < length words.now) }
     ensures none { IfNone result (words.now ≡ []) }
 {
@@ -190,7 +201,7 @@ fn least_word(words: &[Word]) -> Option<usize>
 fn take_first(words: &mut Vec<Word>, index: usize) -> (Vertex, Position)
     requires filled { All IsFilled words.old.items }
     requires index { index < length words.old.items }
-    ensures first { (w : Word) → slice_get words.old.items index ≡ Some w → result ≡ first_of w }
+    ensures first { result ≡ first_at words.old.items index }
     ensures permutation { IsPermutation (pairs_in words.old.items)
         (result ∷ pairs_in words.new.items) }
     ensures filled { All IsFilled words.new.items }
@@ -226,43 +237,58 @@ fn drop_word(words: &mut Vec<Word>, index: usize)
     }
 }
 
-/// The least pair that is a switch.
-fn first_switch(words: &[Word], game: &Game) -> Option<(Vertex, Position)>
+/// Which word has the least pair that is a switch; none where no word has one.
+fn switch_word(words: &[Word], game: &Game) -> Option<usize>
     requires lawful { IsGame game.now }
     requires filled { All IsFilled words.now }
     requires within { All (λ pair. (0 < pair.1) × (pair.1 ≤ length (positions_of game.now.rules)))
         (pairs_in words.now) }
-    ensures there { IfSome result (Contains (pairs_in words.now)) }
-    ensures switches { IfSome result (λ pair. IsSwitchAt game.now.rules pair.1) }
-    ensures least { IfSome result (λ pair. (x : ℕ × ℕ) → Contains (pairs_in words.now) x
-        → IsSwitchAt game.now.rules x.1 → ¬ IsBefore x pair) }
+    ensures below { IfSome result (λ k. k < length words.now) }
+    ensures switches { IfSome result (λ k. IsSwitchAt game.now.rules (first_at words.now k).1) }
+    ensures least { IfSome result (λ k. (x : ℕ × ℕ) → Contains (pairs_in words.now) x
+        → IsSwitchAt game.now.rules x.1 → ¬ IsBefore x (first_at words.now k)) }
     ensures none { IfNone result
         (All (λ pair. ¬ IsSwitchAt game.now.rules pair.1) (pairs_in words.now)) }
 {
     let mut least = None;
-    for word in words {
-        if is_switch(game, word.position) {
-            least = Some(lesser(least, first_vertex(*word), word.position));
+    for index in 0..words.len() {
+        if is_switch(game, words[index].position) {
+            least = Some(sooner(words, least, index));
         }
     }
     least
 }
 
-/// The lesser of two pairs, where there are two.
+/// Which of two words has the lesser pair, where there are two.
 #[inline(always)]
-fn lesser(
-    known: Option<(Vertex, Position)>,
-    vertex: Vertex,
-    position: Position,
-) -> (Vertex, Position)
-    ensures either { (result ≡ (vertex, position)) ⊎ (known ≡ Some result) }
-    ensures new { ¬ IsBefore (vertex, position) result }
-    ensures known { IfSome known (λ pair. ¬ IsBefore pair result) }
+fn sooner(words: &[Word], known: Option<usize>, index: usize) -> usize
+    requires filled { All IsFilled words.now }
+    requires known { IfSome known (λ k. k < length words.now) }
+    requires index { index < length words.now }
+    ensures either { (result ≡ index) ⊎ (known ≡ Some result) }
+    ensures new { ¬ IsBefore (first_at words.now index) (first_at words.now result) }
+    ensures known { IfSome known (λ k.
+        ¬ IsBefore (first_at words.now k) (first_at words.now result)) }
 {
     match known {
-        Some((other, behind)) if !is_before(vertex, position, other, behind) => (other, behind),
-        _ => (vertex, position),
+        Some(other) if !goes_before(words[index], words[other]) => other,
+        _ => index,
     }
+}
+
+/// Whether the least pair of a word stands before that of another one.
+#[inline(always)]
+fn goes_before(word: Word, other: Word) -> bool
+    requires word { IsFilled word }
+    requires other { IsFilled other }
+    ensures { IsTrue result ↔ IsBefore (first_of word) (first_of other) }
+{
+    is_before(
+        first_vertex(word),
+        word.position,
+        first_vertex(other),
+        other.position,
+    )
 }
 
 /// Whether a switch stands at a position.
@@ -281,6 +307,37 @@ fn switches(action: &Action) -> bool
     ensures { result ≡ shows_switch action.now }
 {
     matches!(action, Action::Switch { .. })
+}
+
+/// Whether a pair is one of those of the words.
+fn has_pair(words: &[Word], vertex: Vertex, position: Position) -> bool
+    ensures { Decides result (Contains (pairs_in words.now) (vertex, position)) }
+{
+    for word in words {
+        if word_has(*word, vertex, position) {
+            return true;
+        }
+    }
+    false
+}
+
+/// Whether a pair is one of those of a word.
+#[inline(always)]
+fn word_has(word: Word, vertex: Vertex, position: Position) -> bool
+    ensures { Decides result (Contains (pairs_of word) (vertex, position)) }
+{
+    if word.position != position || vertex < word.base {
+        return false;
+    }
+    has_bit(word.bits, vertex - word.base)
+}
+
+/// Whether a word has a bit at a place, and it is set.
+#[inline(always)]
+fn has_bit(word: u64, bit: u32) -> bool
+    ensures { Decides result ((bit < 64) × (bit_at word bit ≡ 1)) }
+{
+    bit < 64 && word >> bit & 1 == 1
 }
 
 /// Writes the pairs of words behind what the list held.

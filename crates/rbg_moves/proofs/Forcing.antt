@@ -1,7 +1,7 @@
 -- Which openings are forced of the questions about moves, and that they were taken up.
 use Rattle.std.proofs.Common.{◌≡◌, ◌≢◌, ℕ, suc, ◌+◌, ◌-◌, ◌<◌, ◌≤◌, List, [], ◌∷◌, ◌++◌, length, get_or, take, Bool, true, false, refl, sym, ap, subst, inl, inr, arith}
 use Rattle.std.specs.Prelude.{All, Contains, Some}
-use Rattle.std.proofs.lemmas.List.Elements.{All-head}
+use Rattle.std.proofs.lemmas.List.Elements.{All-head, All-contains}
 use Rattle.rbg_rules.specs.Positions.{IsNumbered, IsSwitchAt}
 use Rattle.rbg_rules.specs.Words.{Start, after}
 use Rattle.rbg_rules.specs.State.{AbstractGame, AbstractState}
@@ -14,7 +14,7 @@ use Rattle.rbg_rules.specs.Questions.{Question, try_move, find_move, list_moves,
 use Rattle.rbg_rules.proofs.MoveLemmas.{Applies_one}
 use Rattle.rbg_search.specs.Flat.{IsNext, IsFlatPart}
 use Rattle.rbg_search.specs.Forced.{CountsForced, TakesBehind}
-use Rattle.rbg_search.proofs.Forcing.{ForcesOn, all_counted, none_deep, takes_none, takes_more, takes_on, takes_by, forced_at_once, forced_behind}
+use Rattle.rbg_search.proofs.Forcing.{ForcesOn, all_counted, none_deep, takes_none, takes_more, takes_on, forced_at_once, forced_behind}
 use Rattle.rbg_moves.specs.Limits.{FitsLimits}
 use Rattle.rbg_moves.specs.internal.Stepping.{standing_at, place_behind}
 use Rattle.rbg_moves.proofs.Steps.{legal_on}
@@ -91,12 +91,28 @@ module _ (game : AbstractGame) (numbered : IsNumbered game.rules) where
       so_far_more question s f xs k later a b c left most under (subst (λ (r : ℕ × ℕ). Applies game r.1 (standing_at s r.0) later) (sym is) applies) more_left taken
       (subst (λ (r : ℕ × ℕ). CountsForced game false question later (after r.1) b c (left - 1) most) (sym is) more)
 
-  pub so_far_skipped : (question : Question) (s : AbstractState) (f : Start) (xs : List (ℕ × ℕ)) (k : ℕ) (a b left most : ℕ) → k < length xs → IsSwitchAt game.rules (get_or xs k (0, 0)).1 → TakenSoFar game question s f (take k xs) a b left most → TakenSoFar game question s f (take (k + 1) xs) a b left most
-  so_far_skipped question s f xs k a b left most under switches taken = record {
+  pub so_far_one : (question : Question) (s : AbstractState) (f : Start) (done : List (ℕ × ℕ)) (q : ℕ × ℕ) (later : AbstractState) (a b c left most : ℕ) → Applies game q.1 (standing_at s q.0) later → 1 < left → TakenSoFar game question s f done a b left most → CountsForced game false question later (after q.1) b c (left - 1) most → TakenSoFar game question s f (done ++ q ∷ []) a c left most
+  so_far_one question s f done q later a b c left most applies more_left taken more = record {
     middle = taken.middle;
     at_once = taken.at_once;
-    behind_it = takes_by game numbered false question s xs k (0, 0) taken.middle b left most under switches taken.behind_it;
+    behind_it = takes_more game numbered false question s done q.0 q.1 later taken.middle b c left most applies more_left taken.behind_it more;
   }
+
+  -- Nothing is forced behind switches.
+  pub so_far_switches : (question : Question) (s : AbstractState) (f : Start) (done : List (ℕ × ℕ)) (a b left most : ℕ) → All (λ (q : ℕ × ℕ). IsSwitchAt game.rules q.1) done → CountsForced game false reach s f a b left most → TakenSoFar game question s f done a b left most
+  so_far_switches question s f done a b left most switching counts = record {
+    middle = b;
+    at_once = counts;
+    behind_it = record {
+      openings = [];
+      all = λ v p later o there plain applies forced. absurd (plain (switches_at (v, p) there));
+      fits = omega arith;
+      few = λ v p later o there plain applies forced. absurd (plain (switches_at (v, p) there));
+    };
+  }
+    where
+      switches_at : (q : ℕ × ℕ) → Contains done q → IsSwitchAt game.rules q.1
+      switches_at q there = All-contains (λ (x : ℕ × ℕ). IsSwitchAt game.rules x.1) done q switching there
 
   -- ---- some move is looked for
 

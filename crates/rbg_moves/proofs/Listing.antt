@@ -1,9 +1,9 @@
 -- How the legal moves of a place are gathered by their first pairs.
-use Rattle.std.proofs.Common.{◌≡◌, ℕ, ◌+◌, ◌<◌, ◌≤◌, ◌⊎◌, List, [], ◌∷◌, ◌++◌, length, take, drop, get_or, add-one, Bool, true, false, refl, sym, ap, ◌∙◌, subst, inl, inr, arith}
-use Rattle.std.specs.Prelude.{Contains, ◌↔◌}
-use Rattle.std.proofs.Math.Seq.{take-suc, take-length}
-use Rattle.std.proofs.lemmas.List.{take-append-drop}
-use Rattle.std.proofs.lemmas.List.Elements.{Contains-append_left, Contains-push, Contains-push_cases}
+use Rattle.std.proofs.Common.{◌≡◌, ℕ, ◌<◌, ◌≤◌, ◌⊎◌, List, [], ◌∷◌, ◌++◌, length, Bool, true, false, refl, sym, ap, subst, inl, inr, arith}
+use Rattle.std.specs.Prelude.{◌≢◌, All, AllPairs, Contains, ◌↔◌}
+use Rattle.std.proofs.lemmas.List.Elements.{All-contains, All-contains_itself, All-weaker, Contains-append_left, Contains-append_right, Contains-append_cases, Contains-push, Contains-push_cases}
+use Rattle.std.specs.List.Sorted.{IsPermutation}
+use Rattle.std.proofs.lemmas.List.Sorted.{IsPermutation-sym, Contains-permutation}
 use Rattle.rbg_rules.specs.Positions.{IsNumbered, IsSwitchAt}
 use Rattle.rbg_rules.specs.State.{AbstractGame, AbstractState}
 use Rattle.rbg_rules.specs.Actions.{Applies}
@@ -11,6 +11,8 @@ use Rattle.rbg_rules.specs.Moves.{AbstractPlace, stand_of, Legal, IsLegal}
 use Rattle.rbg_rules.proofs.MoveLemmas.{Applies_one}
 use Rattle.rbg_search.specs.Flat.{IsNext, IsFlatPart}
 use Rattle.rbg_search.proofs.Meetings.{met_once}
+use Rattle.rbg_search.proofs.Orders.{still_differ}
+use Rattle.rbg_search.proofs.Turns.{turned, turn_under, turn_at, turn_front}
 use Rattle.rbg_moves.specs.internal.Gathering.{Gathers, IsBehind, IsLegalBy, IsSwitchAmong, IsSwitchOr, ListsSwitches}
 use Rattle.rbg_moves.proofs.Gathering.{gathers_none, gathers_one, gathers_full, gathers_both, gathers_as, gathers_more}
 use Rattle.rbg_moves.specs.internal.Stepping.{standing_at, place_behind}
@@ -92,31 +94,20 @@ cut_switch game numbered place pairs ends part done q within there new switches 
       ],
     )
 
--- A pair that is no switch adds none.
-skip_other : (game : AbstractGame) (place : AbstractPlace) (done : List (ℕ × ℕ)) (q : ℕ × ℕ) → ¬ IsSwitchAt game.rules q.1 → (front : List (ℕ × ℕ)) (max : ℕ) (old now : List (List (ℕ × ℕ))) → Gathers (IsLegalBy game place (IsSwitchAmong game.rules done)) front max old now false → Gathers (IsLegalBy game place (IsSwitchAmong game.rules (done ++ q ∷ []))) front max old now false
-skip_other game place done q plain front max old now so_far =
-    gathers_as (IsLegalBy game place (IsSwitchAmong game.rules done)) (IsLegalBy game place (IsSwitchAmong game.rules (done ++ q ∷ []))) front max old now false
-    (λ ps. (legal_as game place (IsSwitchAmong game.rules done) (IsSwitchAmong game.rules (done ++ q ∷ [])) wider ps, legal_as game place (IsSwitchAmong game.rules (done ++ q ∷ [])) (IsSwitchAmong game.rules done) narrower ps))
-    so_far
-  where
-    wider : (x : ℕ × ℕ) → IsSwitchAmong game.rules done x → IsSwitchAmong game.rules (done ++ q ∷ []) x
-    wider x taken = (taken.0, Contains-append_left done (q ∷ []) x taken.1)
+-- Of the pairs some were taken, one is taken now, and the others are left.
+new_of : (pairs done left : List (ℕ × ℕ)) (q : ℕ × ℕ) → IsPermutation pairs (turned done left q) → AllPairs (λ a b. a ≢ b) pairs → ¬ Contains done q
+new_of pairs done left q moves different =
+    subst (λ (ds : List (ℕ × ℕ)). ¬ Contains ds q) (turn_front done left q)
+    (met_once (turned done left q) (length done) q (still_differ pairs (turned done left q) moves different) (turn_under done left q) (turn_at done left q q))
 
-    narrower : (x : ℕ × ℕ) → IsSwitchAmong game.rules (done ++ q ∷ []) x → IsSwitchAmong game.rules done x
-    narrower x taken = (
-      taken.0,
-      elim (Contains-push_cases done q x taken.1) [
-        | inl before ↦ before
-        | inr same ↦ absurd (plain (subst (λ (y : ℕ × ℕ). IsSwitchAt game.rules y.1) (sym same) taken.0))
-      ],
-    )
+taken_there : (pairs done left : List (ℕ × ℕ)) (q : ℕ × ℕ) → IsPermutation pairs (turned done left q) → (x : ℕ × ℕ) → Contains (turned done left q) x → Contains pairs x
+taken_there pairs done left q moves x there = Contains-permutation (turned done left q) pairs x (IsPermutation-sym pairs (turned done left q) moves) there
 
--- The pairs up to the k-th, and one more.
-one_more : (pairs : List (ℕ × ℕ)) (k : ℕ) (q : ℕ × ℕ) → k < length pairs → get_or pairs k q ≡ q → take (k + 1) pairs ≡ take k pairs ++ q ∷ []
-one_more pairs k q under is = ap (λ (n : ℕ). take n pairs) (add-one k) ∙ take-suc pairs k q under ∙ ap (λ (x : ℕ × ℕ). take k pairs ++ x ∷ []) is
+there_of : (pairs done left : List (ℕ × ℕ)) (q : ℕ × ℕ) → IsPermutation pairs (turned done left q) → Contains pairs q
+there_of pairs done left q moves = taken_there pairs done left q moves q (length done, turn_under done left q, turn_at done left q q)
 
-up_to : (pairs : List (ℕ × ℕ)) (k : ℕ) (x : ℕ × ℕ) → Contains (take k pairs) x → Contains pairs x
-up_to pairs k x there = subst (λ (xs : List (ℕ × ℕ)). Contains xs x) (take-append-drop k pairs) (Contains-append_left (take k pairs) (drop k pairs) x there)
+done_of : (pairs done left : List (ℕ × ℕ)) (q : ℕ × ℕ) → IsPermutation pairs (turned done left q) → (x : ℕ × ℕ) → Contains done x → Contains pairs x
+done_of pairs done left q moves x there = taken_there pairs done left q moves x (Contains-append_left done (q ∷ left) x there)
 
 pub lists_none : (game : AbstractGame) (pairs front : List (ℕ × ℕ)) (max : ℕ) (old : List (List (ℕ × ℕ))) → length old ≤ max → ListsSwitches game pairs [] front max old old false
 lists_none game pairs front max old few = record {
@@ -127,24 +118,42 @@ lists_none game pairs front max old few = record {
     none place [] h = h.begins
     none place (q ∷ qs) h = no_pair q h.begins.1
 
-pub lists_more : (game : AbstractGame) → IsNumbered game.rules → (pairs front : List (ℕ × ℕ)) (max : ℕ) (old now : List (List (ℕ × ℕ))) (k : ℕ) (q : ℕ × ℕ) → k < length pairs → get_or pairs k q ≡ q → IsSwitchAt game.rules q.1 → length now < max → ListsSwitches game pairs (take k pairs) front max old now false → ListsSwitches game pairs (take (k + 1) pairs) front max old (now ++ (front ++ q ∷ []) ∷ []) false
-lists_more game numbered pairs front max old now k q under is switches room so_far = record {
-  lists = λ place ends part.
-      subst (λ (done : List (ℕ × ℕ)). Gathers (IsLegalBy game place (IsSwitchAmong game.rules done)) front max old (now ++ (front ++ q ∷ []) ∷ []) false) (sym (one_more pairs k q under is))
-      (add_switch game numbered place pairs ends part (take k pairs) q (k, under, is) (met_once pairs k q part.different under is) switches front max old now room (so_far.lists place ends part));
+pub lists_more : (game : AbstractGame) → IsNumbered game.rules → (pairs front : List (ℕ × ℕ)) (max : ℕ) (old now : List (List (ℕ × ℕ))) (done left : List (ℕ × ℕ)) (q : ℕ × ℕ) → IsPermutation pairs (turned done left q) → IsSwitchAt game.rules q.1 → length now < max → ListsSwitches game pairs done front max old now false → ListsSwitches game pairs (done ++ q ∷ []) front max old (now ++ (front ++ q ∷ []) ∷ []) false
+lists_more game numbered pairs front max old now done left q moves switches room so_far = record {
+  lists = λ place ends part. add_switch game numbered place pairs ends part done q (there_of pairs done left q moves) (new_of pairs done left q moves part.different) switches front max old now room (so_far.lists place ends part);
 }
 
-pub lists_skip : (game : AbstractGame) (pairs front : List (ℕ × ℕ)) (max : ℕ) (old now : List (List (ℕ × ℕ))) (k : ℕ) (q : ℕ × ℕ) → k < length pairs → get_or pairs k q ≡ q → ¬ IsSwitchAt game.rules q.1 → ListsSwitches game pairs (take k pairs) front max old now false → ListsSwitches game pairs (take (k + 1) pairs) front max old now false
-lists_skip game pairs front max old now k q under is plain so_far = record {
-  lists = λ place ends part.
-      subst (λ (done : List (ℕ × ℕ)). Gathers (IsLegalBy game place (IsSwitchAmong game.rules done)) front max old now false) (sym (one_more pairs k q under is))
-      (skip_other game place (take k pairs) q plain front max old now (so_far.lists place ends part));
+pub lists_cut : (game : AbstractGame) → IsNumbered game.rules → (pairs front : List (ℕ × ℕ)) (max : ℕ) (old now : List (List (ℕ × ℕ))) (done left : List (ℕ × ℕ)) (q : ℕ × ℕ) → IsPermutation pairs (turned done left q) → IsSwitchAt game.rules q.1 → length now ≡ max → ListsSwitches game pairs done front max old now false → ListsSwitches game pairs pairs front max old now true
+lists_cut game numbered pairs front max old now done left q moves switches full so_far = record {
+  lists = λ place ends part. cut_switch game numbered place pairs ends part done q (done_of pairs done left q moves) (there_of pairs done left q moves) (new_of pairs done left q moves part.different) switches front max old now full (so_far.lists place ends part);
 }
 
-pub lists_cut : (game : AbstractGame) → IsNumbered game.rules → (pairs front : List (ℕ × ℕ)) (max : ℕ) (old now : List (List (ℕ × ℕ))) (k : ℕ) (q : ℕ × ℕ) → k < length pairs → get_or pairs k q ≡ q → IsSwitchAt game.rules q.1 → length now ≡ max → ListsSwitches game pairs (take k pairs) front max old now false → ListsSwitches game pairs pairs front max old now true
-lists_cut game numbered pairs front max old now k q under is switches full so_far = record {
-  lists = λ place ends part. cut_switch game numbered place pairs ends part (take k pairs) q (up_to pairs k) (k, under, is) (met_once pairs k q part.different under is) switches front max old now full (so_far.lists place ends part);
+-- What is so of all pairs is so of those that are left.
+pub left_over : (P : ℕ × ℕ → Type 0) (pairs done left : List (ℕ × ℕ)) → IsPermutation pairs (done ++ left) → All P pairs → All P left
+left_over P pairs done left moves all =
+    All-weaker (Contains left) P
+    (λ q there. All-contains P pairs q all (Contains-permutation (done ++ left) pairs q (IsPermutation-sym pairs (done ++ left) moves) (Contains-append_right done left q there))) left (All-contains_itself left)
+
+-- All switches were taken.
+pub lists_all : (game : AbstractGame) (pairs front : List (ℕ × ℕ)) (max : ℕ) (old now : List (List (ℕ × ℕ))) (done left : List (ℕ × ℕ)) → IsPermutation pairs (done ++ left) → All (λ (q : ℕ × ℕ). ¬ IsSwitchAt game.rules q.1) left → ListsSwitches game pairs done front max old now false → ListsSwitches game pairs pairs front max old now false
+lists_all game pairs front max old now done left moves plain so_far = record {
+  lists = λ place ends part.
+      gathers_as (IsLegalBy game place (IsSwitchAmong game.rules done)) (IsLegalBy game place (IsSwitchAmong game.rules pairs)) front max old now false
+      (λ ps. (legal_as game place (IsSwitchAmong game.rules done) (IsSwitchAmong game.rules pairs) wider ps, legal_as game place (IsSwitchAmong game.rules pairs) (IsSwitchAmong game.rules done) narrower ps))
+      (so_far.lists place ends part);
 }
+  where
+    wider : (x : ℕ × ℕ) → IsSwitchAmong game.rules done x → IsSwitchAmong game.rules pairs x
+    wider x taken = (taken.0, Contains-permutation (done ++ left) pairs x (IsPermutation-sym pairs (done ++ left) moves) (Contains-append_left done left x taken.1))
+
+    narrower : (x : ℕ × ℕ) → IsSwitchAmong game.rules pairs x → IsSwitchAmong game.rules done x
+    narrower x taken = (
+      taken.0,
+      elim (Contains-append_cases done left x (Contains-permutation pairs (done ++ left) x moves taken.1)) [
+        | inl before ↦ before
+        | inr later ↦ absurd (All-contains (λ (q : ℕ × ℕ). ¬ IsSwitchAt game.rules q.1) left x plain later taken.0)
+      ],
+    )
 
 pub switches_cut : (game : AbstractGame) (place : AbstractPlace) (pairs : List (ℕ × ℕ)) (ends : Bool) → Part game place pairs ends → (front : List (ℕ × ℕ)) (max : ℕ) (old now : List (List (ℕ × ℕ))) → ListsSwitches game pairs pairs front max old now true → Gathers (IsLegal game place) front max old now true
 switches_cut game place pairs ends part front max old now so_far = gathers_more (IsLegalBy game place (IsSwitchAmong game.rules pairs)) (IsLegal game place) front max old now (λ ps h. h.legal) (so_far.lists place ends part)
@@ -154,39 +163,19 @@ first_there : (game : AbstractGame) → IsNumbered game.rules → (place : Abstr
 first_there game numbered place pairs ends part (v, p) qs (to, legal) = (part.next v p).1 (legal_cut game numbered place v p qs to legal).next
 
 -- After the switches come the moves behind the other pairs.
-pub others_begin : (game : AbstractGame) → IsNumbered game.rules → (place : AbstractPlace) (pairs : List (ℕ × ℕ)) (ends : Bool) → Part game place pairs ends → (front : List (ℕ × ℕ)) (max : ℕ) (old now : List (List (ℕ × ℕ))) → ListsSwitches game pairs pairs front max old now false → Gathers (IsLegalBy game place (IsSwitchOr game.rules [])) front max old now false
-others_begin game numbered place pairs ends part front max old now so_far =
-    gathers_as (IsLegalBy game place (IsSwitchAmong game.rules pairs)) (IsLegalBy game place (IsSwitchOr game.rules [])) front max old now false
-    (λ ps. (legal_as game place (IsSwitchAmong game.rules pairs) (IsSwitchOr game.rules []) (λ x taken. inl taken.0) ps, from ps))
+pub others_begin : (game : AbstractGame) → IsNumbered game.rules → (place : AbstractPlace) (pairs : List (ℕ × ℕ)) (ends : Bool) → Part game place pairs ends → (done front : List (ℕ × ℕ)) (max : ℕ) (old now : List (List (ℕ × ℕ))) → All (λ (q : ℕ × ℕ). IsSwitchAt game.rules q.1) done → ListsSwitches game pairs pairs front max old now false → Gathers (IsLegalBy game place (IsSwitchOr game.rules done)) front max old now false
+others_begin game numbered place pairs ends part done front max old now switching so_far =
+    gathers_as (IsLegalBy game place (IsSwitchAmong game.rules pairs)) (IsLegalBy game place (IsSwitchOr game.rules done)) front max old now false
+    (λ ps. (legal_as game place (IsSwitchAmong game.rules pairs) (IsSwitchOr game.rules done) (λ x taken. inl taken.0) ps, from ps))
     (so_far.lists place ends part)
   where
-    from : (ps : List (ℕ × ℕ)) → IsLegalBy game place (IsSwitchOr game.rules []) ps → IsLegalBy game place (IsSwitchAmong game.rules pairs) ps
+    switches_at : (q : ℕ × ℕ) → IsSwitchOr game.rules done q → IsSwitchAt game.rules q.1
+    switches_at q (inl switches) = switches
+    switches_at q (inr there) = All-contains (λ (x : ℕ × ℕ). IsSwitchAt game.rules x.1) done q switching there
+
+    from : (ps : List (ℕ × ℕ)) → IsLegalBy game place (IsSwitchOr game.rules done) ps → IsLegalBy game place (IsSwitchAmong game.rules pairs) ps
     from [] h = absurd h.begins
-    from (q ∷ qs) h = elim h.begins [
-      | inl switches ↦ record { legal = h.legal; begins = (switches, first_there game numbered place pairs ends part q qs h.legal) }
-      | inr there ↦ absurd (no_pair q there)
-    ]
-
-pub others_skip : (game : AbstractGame) (place : AbstractPlace) (pairs front : List (ℕ × ℕ)) (max : ℕ) (old now : List (List (ℕ × ℕ))) (k : ℕ) (q : ℕ × ℕ) → k < length pairs → get_or pairs k q ≡ q → IsSwitchAt game.rules q.1 → Gathers (IsLegalBy game place (IsSwitchOr game.rules (take k pairs))) front max old now false → Gathers (IsLegalBy game place (IsSwitchOr game.rules (take (k + 1) pairs))) front max old now false
-others_skip game place pairs front max old now k q under is switches so_far =
-    subst (λ (done : List (ℕ × ℕ)). Gathers (IsLegalBy game place (IsSwitchOr game.rules done)) front max old now false) (sym (one_more pairs k q under is))
-    (gathers_as (IsLegalBy game place (IsSwitchOr game.rules done)) (IsLegalBy game place (IsSwitchOr game.rules (done ++ q ∷ []))) front max old now false
-    (λ ps. (legal_as game place (IsSwitchOr game.rules done) (IsSwitchOr game.rules (done ++ q ∷ [])) wider ps, legal_as game place (IsSwitchOr game.rules (done ++ q ∷ [])) (IsSwitchOr game.rules done) narrower ps))
-    so_far)
-  where
-    done : List (ℕ × ℕ)
-    done = take k pairs
-
-    wider : (x : ℕ × ℕ) → IsSwitchOr game.rules done x → IsSwitchOr game.rules (done ++ q ∷ []) x
-    wider x (inl switches) = inl switches
-    wider x (inr there) = inr (Contains-append_left done (q ∷ []) x there)
-
-    narrower : (x : ℕ × ℕ) → IsSwitchOr game.rules (done ++ q ∷ []) x → IsSwitchOr game.rules done x
-    narrower x (inl switches) = inl switches
-    narrower x (inr there) = elim (Contains-push_cases done q x there) [
-      | inl before ↦ inr before
-      | inr same ↦ inl (subst (λ (y : ℕ × ℕ). IsSwitchAt game.rules y.1) same switches)
-    ]
+    from (q ∷ qs) h = record { legal = h.legal; begins = (switches_at q h.begins, first_there game numbered place pairs ends part q qs h.legal) }
 
 -- What is legal behind a pair that is no switch is what is legal behind its modifier.
 behind_legal : (game : AbstractGame) → IsNumbered game.rules → (place : AbstractPlace) (q : ℕ × ℕ) (later : AbstractState) → ¬ IsSwitchAt game.rules q.1 → Applies game q.1 (standing_at place.state q.0) later → (qs : List (ℕ × ℕ)) → IsLegal game place (q ∷ qs) → IsLegal game (place_behind later q.1) qs
@@ -198,19 +187,12 @@ behind_legal game numbered place (v, p) later plain applied qs (to, legal) =
     by_onward here same (ended switches _ _) = absurd (plain switches)
     by_onward here same (going _ legal) = (to, subst (λ (s : AbstractState). Legal game (place_behind s p) qs to) same legal)
 
-pub others_more : (game : AbstractGame) → IsNumbered game.rules → (place : AbstractPlace) (pairs : List (ℕ × ℕ)) (ends : Bool) → Part game place pairs ends → (front : List (ℕ × ℕ)) (max : ℕ) (old now new : List (List (ℕ × ℕ))) (cut : Bool) (k : ℕ) (q : ℕ × ℕ) (later : AbstractState) → k < length pairs → get_or pairs k q ≡ q → ¬ IsSwitchAt game.rules q.1 → Applies game q.1 (standing_at place.state q.0) later → Gathers (IsLegalBy game place (IsSwitchOr game.rules (take k pairs))) front max old now false → Gathers (IsBehind q (IsLegal game (place_behind later q.1))) front max now new cut → Gathers (IsLegalBy game place (IsSwitchOr game.rules (take (k + 1) pairs))) front max old new cut
-others_more game numbered place pairs ends part front max old now new cut k q later under is plain applied so_far behind =
-    subst (λ (done : List (ℕ × ℕ)). Gathers (IsLegalBy game place (IsSwitchOr game.rules done)) front max old new cut) (sym (one_more pairs k q under is))
-    (gathers_as (λ ps. IsLegalBy game place (IsSwitchOr game.rules done) ps ⊎ IsBehind q (IsLegal game (place_behind later q.1)) ps) (IsLegalBy game place (IsSwitchOr game.rules (done ++ q ∷ []))) front max old new cut
+pub others_more : (game : AbstractGame) → IsNumbered game.rules → (place : AbstractPlace) (done front : List (ℕ × ℕ)) (max : ℕ) (old now new : List (List (ℕ × ℕ))) (cut : Bool) (q : ℕ × ℕ) (later : AbstractState) → IsNext game place.state (stand_of place.last) q.0 q.1 → ¬ Contains done q → ¬ IsSwitchAt game.rules q.1 → Applies game q.1 (standing_at place.state q.0) later → Gathers (IsLegalBy game place (IsSwitchOr game.rules done)) front max old now false → Gathers (IsBehind q (IsLegal game (place_behind later q.1))) front max now new cut → Gathers (IsLegalBy game place (IsSwitchOr game.rules (done ++ q ∷ []))) front max old new cut
+others_more game numbered place done front max old now new cut q later next fresh plain applied so_far behind =
+    gathers_as (λ ps. IsLegalBy game place (IsSwitchOr game.rules done) ps ⊎ IsBehind q (IsLegal game (place_behind later q.1)) ps) (IsLegalBy game place (IsSwitchOr game.rules (done ++ q ∷ []))) front max old new cut
     (λ ps. (to ps, from ps))
-    (gathers_both (IsLegalBy game place (IsSwitchOr game.rules done)) (IsBehind q (IsLegal game (place_behind later q.1))) front max old now new cut so_far behind apart))
+    (gathers_both (IsLegalBy game place (IsSwitchOr game.rules done)) (IsBehind q (IsLegal game (place_behind later q.1))) front max old now new cut so_far behind apart)
   where
-    done : List (ℕ × ℕ)
-    done = take k pairs
-
-    next : IsNext game place.state (stand_of place.last) q.0 q.1
-    next = (part.next q.0 q.1).0 (k, under, is)
-
     wider : (x : ℕ × ℕ) → IsSwitchOr game.rules done x → IsSwitchOr game.rules (done ++ q ∷ []) x
     wider x (inl switches) = inl switches
     wider x (inr there) = inr (Contains-append_left done (q ∷ []) x there)
@@ -242,17 +224,17 @@ others_more game numbered place pairs ends part front max old now new cut k q la
     apart : (ps : List (ℕ × ℕ)) → IsLegalBy game place (IsSwitchOr game.rules done) ps → IsBehind q (IsLegal game (place_behind later q.1)) ps → ⊥
     apart ps h behind = elim (subst (IsLegalBy game place (IsSwitchOr game.rules done)) behind.is h).begins [
       | inl switches ↦ plain switches
-      | inr there ↦ met_once pairs k q part.different under is there
+      | inr there ↦ fresh there
     ]
 
 pub others_cut : (game : AbstractGame) (place : AbstractPlace) (done : List (ℕ × ℕ)) (front : List (ℕ × ℕ)) (max : ℕ) (old now : List (List (ℕ × ℕ))) → Gathers (IsLegalBy game place (IsSwitchOr game.rules done)) front max old now true → Gathers (IsLegal game place) front max old now true
 others_cut game place done front max old now so_far = gathers_more (IsLegalBy game place (IsSwitchOr game.rules done)) (IsLegal game place) front max old now (λ ps h. h.legal) so_far
 
-pub others_end : (game : AbstractGame) → IsNumbered game.rules → (place : AbstractPlace) (pairs : List (ℕ × ℕ)) (ends : Bool) → Part game place pairs ends → (front : List (ℕ × ℕ)) (max : ℕ) (old now : List (List (ℕ × ℕ))) → Gathers (IsLegalBy game place (IsSwitchOr game.rules (take (length pairs) pairs))) front max old now false → Gathers (IsLegal game place) front max old now false
+pub others_end : (game : AbstractGame) → IsNumbered game.rules → (place : AbstractPlace) (pairs : List (ℕ × ℕ)) (ends : Bool) → Part game place pairs ends → (front : List (ℕ × ℕ)) (max : ℕ) (old now : List (List (ℕ × ℕ))) → Gathers (IsLegalBy game place (IsSwitchOr game.rules pairs)) front max old now false → Gathers (IsLegal game place) front max old now false
 others_end game numbered place pairs ends part front max old now so_far =
     gathers_as (IsLegalBy game place (IsSwitchOr game.rules pairs)) (IsLegal game place) front max old now false
     (λ ps. ((λ h. h.legal), from ps))
-    (subst (λ (done : List (ℕ × ℕ)). Gathers (IsLegalBy game place (IsSwitchOr game.rules done)) front max old now false) (take-length pairs) so_far)
+    so_far
   where
     from : (ps : List (ℕ × ℕ)) → IsLegal game place ps → IsLegalBy game place (IsSwitchOr game.rules pairs) ps
     from [] (to, legal) = absurd (legal_some game numbered place to legal)

@@ -22,7 +22,7 @@ ghost use Rattle.rbg_moves.specs.Tallying.{IsTallied};
 ghost use Rattle.rbg_moves.specs.internal.Stepping.{standing_at, place_behind, IsValidAt, GoesOnByMove, GoesOnBehind};
 
 use crate::asking::{budget_is_kept, game_is_accepted, join, move_of, origin_after, search_in};
-use crate::least::least_switch;
+use crate::least::take_switch;
 use crate::place::Place;
 use crate::stepping::apply_at;
 use crate::workspace::Workspace;
@@ -288,7 +288,7 @@ fn find<S: Steps>(
     let game = search.game();
     let mut pairs = search.take_list();
     search.reach_into(state, origin_after(after), &mut pairs)?;
-    if let Some(last) = least_switch(game, &pairs) {
+    if let Some(last) = take_switch(game, &mut pairs) {
         join(whole, front, last)?;
         search.keep_list(pairs);
         return Ok(true);

@@ -1,19 +1,17 @@
 //! The legal moves of a place.
-ghost use Rattle.std.specs.Prelude.{◌≡◌, ◌≢◌, ◌⊎◌, ℕ, ◌+◌, ◌-◌, ◌<◌, ◌≤◌, [], ◌∷◌, ◌++◌, length, All, AllPairs, IfOk, OnOk, OnErr, IfSome, IsOk, Err, Some, Bool};
+ghost use Rattle.std.specs.Prelude.{◌≡◌, ◌≢◌, ◌⊎◌, ℕ, ◌+◌, ◌-◌, ◌<◌, ◌≤◌, [], ◌∷◌, ◌++◌, length, All, AllPairs, IfOk, OnOk, OnErr, IfSome, Err, false};
 ghost use Rattle.std.specs.List.Sorted.{IsPermutation};
 ghost use Rattle.rbg_base.specs.Move.{most_pairs};
 ghost use Rattle.rbg_rules.specs.State.{AbstractState, IsStateOf};
 ghost use Rattle.rbg_rules.specs.Words.{after};
 ghost use Rattle.rbg_rules.specs.Actions.{Applies};
 ghost use Rattle.rbg_rules.specs.Moves.{stand_of, IsLegal};
-ghost use Rattle.rbg_rules.specs.Laws.{IsStart};
-ghost use Rattle.rbg_rules.specs.Questions.{reach, list_moves as listing_moves, IsDeep};
+ghost use Rattle.rbg_rules.specs.Questions.{list_moves as listing_moves};
 ghost use Rattle.rbg_rules.specs.Games.{IsGame};
 ghost use Rattle.rbg_rules.specs.Places.{IsPlaceOf};
 ghost use Rattle.rbg_rules.specs.Heavy.{IsTooHard};
 ghost use Rattle.rbg_flat.specs.Paths.{ArePathsOf};
-ghost use Rattle.rbg_search.specs.Start.{start_of, IsPositionOf};
-ghost use Rattle.rbg_search.specs.Flat.{IsFlatPart};
+ghost use Rattle.rbg_search.specs.Start.{IsPositionOf};
 ghost use Rattle.rbg_search.specs.Counting.{CountsOpenings, IsOverBudget};
 ghost use Rattle.rbg_search.specs.Passing.{IsTooDeep};
 ghost use Rattle.rbg_search.specs.Forced.{CountsForced};
@@ -21,18 +19,19 @@ ghost use Rattle.rbg_search.specs.Taken.{CountsPairs};
 ghost use Rattle.rbg_moves.specs.Limits.{IsDeepAt, IsWideAt, FitsLimits};
 ghost use Rattle.rbg_moves.specs.Listing.{IsGathered, IsListed, IsMoveBefore};
 ghost use Rattle.rbg_moves.specs.Tallying.{IsTallied};
-ghost use Rattle.rbg_moves.specs.internal.Gathering.{Gathers, GathersBehind, ListsSwitches};
+ghost use Rattle.rbg_moves.specs.internal.Gathering.{Gathers, GathersBehind, ListsSwitches, LeavesOthers};
 ghost use Rattle.rbg_moves.specs.internal.Stepping.{standing_at, IsValidAt};
 
-use crate::asking::{budget_is_kept, is_switch, move_of, origin_after, search_in};
+use crate::asking::{budget_is_kept, move_of, origin_after, search_in};
+use crate::least::take_switch;
 use crate::place::Place;
 use crate::stepping::apply_at;
 use crate::workspace::Workspace;
 use rbg_auto::Steps;
-use rbg_base::{MAX_PAIRS, Memory, Move, MoveList, Pair, Position, Vertex};
-use rbg_flat::Paths;
+use rbg_base::{MAX_PAIRS, Memory, Move, MoveList, Pair, Position};
+use rbg_flat::{Modifiers, Paths};
 use rbg_rules::Game;
-use rbg_search::{Origin, Over, Search};
+use rbg_search::{Over, Search};
 use rbg_state::SemiState;
 use std::alloc::Global;
 
@@ -100,7 +99,7 @@ pub(crate) fn list_moves_with<S: Steps>(
     ensures wide { result ≡ Err Over.Wide → IsWideAt game.now listing_moves place.now }
     ensures fits { IfOk result (λ listed. FitsLimits game.now listed.cut listing_moves place.now) }
 {
-    let gathered = gather(alloc, game, steps, paths, place, max, true, workspace)?;
+    let gathered = gather_moves_with(alloc, game, steps, paths, place, max, workspace)?;
     let mut moves = moves_of(alloc, &gathered.moves)?;
     let cut = gathered.cut;
     workspace.keep_moves(gathered.moves);
@@ -109,7 +108,8 @@ pub(crate) fn list_moves_with<S: Steps>(
 }
 
 /// As `list_moves_with`, but the moves stand in the order in which they were found, in a list that
-/// `Workspace::keep_moves` takes back.
+/// `Workspace::keep_moves` takes back: first those of one switch, then those behind each other modifier, both by vertex
+/// and then by position.
 pub(crate) fn gather_moves_with<S: Steps>(
     alloc: Global,
     game: &Game,
@@ -135,43 +135,8 @@ pub(crate) fn gather_moves_with<S: Steps>(
         workspace.old.searches workspace.new.searches) }
     ensures untallied { OnErr result (workspace.new.searches ≡ workspace.old.searches) }
 {
-    let found = gather(alloc, game, steps, paths, place, max, false, workspace)?;
-    Ok(found)
-}
-
-/// The legal moves of a place. The actions that come next are taken in order, or as they are found.
-fn gather<S: Steps>(
-    alloc: Global,
-    game: &Game,
-    steps: &S,
-    paths: Option<&Paths>,
-    place: &Place,
-    max: usize,
-    in_order: bool,
-    workspace: &mut Workspace,
-) -> Result<Gathered, Over>
-    requires steps { S.of_rules steps.now game.now.rules }
-    requires paths { IfSome paths (λ told. ArePathsOf game.now told.now) }
-    requires place { IsPlaceOf game.now place.now }
-    requires some { 0 < max }
-    ensures gathered { IfOk result (λ gathered.
-        IsGathered game.now place.now max gathered.moves gathered.cut) }
-    ensures heavy { (result ≡ Err Over.Deep) ⊎ (result ≡ Err Over.Wide)
-        → IsTooHard game.now listing_moves place.now }
-    ensures deep { result ≡ Err Over.Deep → IsDeepAt game.now listing_moves place.now }
-    ensures wide { result ≡ Err Over.Wide → IsWideAt game.now listing_moves place.now }
-    ensures fits { IfOk result (λ gathered.
-        FitsLimits game.now gathered.cut listing_moves place.now) }
-    ensures tally { OnOk result (IsTallied game.now listing_moves place.now
-        workspace.old.searches workspace.new.searches) }
-    ensures untallied { OnErr result (workspace.new.searches ≡ workspace.old.searches) }
-{
     let moves = workspace.take_moves();
-    let mut found = Found {
-        moves,
-        max,
-        in_order,
-    };
+    let mut found = Found { moves, max };
     workspace.asked.copy_from(&place.state)?;
     workspace.front.clear();
     let mut search = search_in(alloc, game, steps, paths, &mut workspace.searches);
@@ -214,84 +179,35 @@ struct Found {
     moves: MoveList,
     /// How many they may be.
     max: usize,
-    /// Whether the actions that come next are taken in order.
-    in_order: bool,
 }
 
 impl Found {
-    /// Adds the moves of one switch behind these modifiers. Tells whether there is one more than there may be.
+    /// Takes the switches out of these modifiers, and adds the move of each behind the front. Tells whether there is one
+    /// more than there may be.
     fn add_switches(
         &mut self,
         game: &Game,
-        pairs: &[(Vertex, Position)],
+        pairs: &mut Modifiers,
         front: &[Pair],
     ) -> Result<bool, Over>
         requires lawful { IsGame game.now }
-        requires within { All (λ pair. IsPositionOf game.now.rules pair.1) pairs.now }
+        requires within { All (λ pair. IsPositionOf game.now.rules pair.1) pairs.old }
         requires short { length front.now < most_pairs }
         requires few { length self.old.moves ≤ self.old.max }
         ensures max { self.new.max ≡ self.old.max }
-        ensures lists { IfOk result (λ cut. ListsSwitches game.now pairs.now pairs.now
+        ensures lists { IfOk result (λ cut. ListsSwitches game.now pairs.old pairs.old
             front.now self.old.max self.old.moves self.new.moves cut) }
+        ensures others { IfOk result (λ cut. cut ≡ false
+            → LeavesOthers game.now.rules pairs.old pairs.new) }
         ensures over { (over : Over) → result ≡ Err over → over ≡ Over.Memory }
     {
-        for pair in pairs {
-            let (vertex, position) = *pair;
-            if is_switch(game, position) {
-                if self.moves.len() == self.max {
-                    return Ok(true);
-                }
-                self.moves.push(front, Pair { vertex, position })?;
+        while let Some(pair) = take_switch(game, pairs) {
+            if self.moves.len() == self.max {
+                return Ok(true);
             }
+            self.moves.push(front, pair)?;
         }
         Ok(false)
-    }
-}
-
-/// What is reached without a modifier, in a list that is lent, and whether a word may end with no modifier more. The
-/// pairs stand in order where that is wanted.
-fn reach_next<S: Steps>(
-    search: &mut Search<'_, S>,
-    state: &mut SemiState,
-    origin: Origin,
-    in_order: bool,
-    pairs: &mut Vec<(Vertex, Position)>,
-) -> Result<bool, Over>
-    requires fits { IsStateOf search.old.game state.old.state }
-    requires stands { IsStart search.old.game.rules (start_of origin) }
-    ensures kept { search.new ≡ record search.old { opened = search.new.opened; taken = search.new.taken } }
-    ensures given_back { state.new ≡ record state.old { room = state.new.room } }
-    ensures room { state.old.room ≤ state.new.room }
-    ensures enough { OnOk result (2 ≤ state.new.room) }
-    ensures reached { IfOk result (λ ends.
-        IsFlatPart search.old.game state.old.state (start_of origin) pairs.new.items ends) }
-    ensures within { OnOk result (All (λ pair.
-        (pair.0 < length search.old.game.board.first) × IsPositionOf search.old.game.rules pair.1)
-        pairs.new.items) }
-    ensures counted { CountsOpenings search.old.game reach state.old.state (start_of origin)
-        search.old.opened search.new.opened }
-    ensures paired { CountsPairs search.old.game reach state.old.state (start_of origin)
-        search.old.opened search.new.opened search.old.taken search.new.taken (IsOk result) }
-    ensures deep { result ≡ Err Over.Deep
-        → IsDeep search.old.game reach state.old.state (start_of origin) search.old.modifiers }
-    ensures wide { result ≡ Err Over.Wide
-        → IsOverBudget search.old.game reach state.old.state (start_of origin) search.old.opened
-        search.old.openings }
-    ensures forced { OnOk result ((cut : Bool) (left : ℕ)
-        → CountsForced search.old.game cut reach state.old.state (start_of origin)
-        search.old.opened search.new.opened left search.old.modifiers) }
-{
-    let ends = search.reach_pairs(state, origin, pairs)?;
-    put_in_order(pairs, in_order);
-    Ok(ends)
-}
-
-/// Sorts pairs where that is wanted.
-fn put_in_order(pairs: &mut Vec<(Vertex, Position)>, in_order: bool)
-    ensures { IsPermutation pairs.old.items pairs.new.items }
-{
-    if in_order {
-        pairs.sort_unstable();
     }
 }
 
@@ -332,29 +248,20 @@ fn list<S: Steps>(
         (most_pairs - length front.old.items) search.old.modifiers) }
 {
     let game = search.game();
-    let mut pairs = search.take_pairs();
-    reach_next(
-        search,
-        state,
-        origin_after(after),
-        found.in_order,
-        &mut pairs,
-    )?;
-    if found.add_switches(game, &pairs, front)? {
+    let mut pairs = search.take_list();
+    search.reach_into(state, origin_after(after), &mut pairs)?;
+    if found.add_switches(game, &mut pairs, front)? {
         return Ok(true);
     }
-    for pair in &pairs {
-        let (vertex, position) = *pair;
-        if !is_switch(game, position) {
-            if front.len() + 1 == MAX_PAIRS {
-                return Err(Over::Deep);
-            }
-            if list_behind(search, state, front, found, Pair { vertex, position })? {
-                return Ok(true);
-            }
+    while let Some((vertex, position)) = pairs.take_least() {
+        if front.len() + 1 == MAX_PAIRS {
+            return Err(Over::Deep);
+        }
+        if list_behind(search, state, front, found, Pair { vertex, position })? {
+            return Ok(true);
         }
     }
-    search.keep_pairs(pairs);
+    search.keep_list(pairs);
     Ok(false)
 }
 

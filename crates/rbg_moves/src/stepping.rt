@@ -1,5 +1,5 @@
 //! One modifier of a move.
-ghost use Rattle.std.specs.Prelude.{◌≡◌, ℕ, ◌≤◌, not, IsTrue, Decides, Contains, IfOk, OnOk, Err, false};
+ghost use Rattle.std.specs.Prelude.{◌≡◌, ℕ, ◌≤◌, not, IsTrue, IfOk, OnOk, Err, false};
 ghost use Rattle.rbg_rules.specs.State.{IsStateOf};
 ghost use Rattle.rbg_rules.specs.Actions.{Applies};
 ghost use Rattle.rbg_rules.specs.Moves.{stand_of};
@@ -16,7 +16,7 @@ ghost use Rattle.rbg_moves.specs.internal.Stepping.{standing_at, place_behind, I
 
 use crate::asking::origin_after;
 use rbg_auto::Steps;
-use rbg_base::{Pair, Position, Vertex};
+use rbg_base::{Pair, Position};
 use rbg_rules::Game;
 use rbg_search::{Over, Search};
 use rbg_state::SemiState;
@@ -68,19 +68,12 @@ pub(crate) fn take<S: Steps>(
         search.old.opened search.new.opened left search.old.modifiers) }
 {
     let game = search.game();
-    let mut pairs = search.take_pairs();
-    search.reach_pairs(state, origin_after(after), &mut pairs)?;
-    let comes_next = has_pair(&pairs, pair);
-    search.keep_pairs(pairs);
+    let mut pairs = search.take_list();
+    search.reach_into(state, origin_after(after), &mut pairs)?;
+    let comes_next = pairs.contains(pair.vertex, pair.position);
+    search.keep_list(pairs);
     if comes_next {
         apply_at(game, state, pair);
     }
     Ok(comes_next)
-}
-
-/// Whether the pair is one of these.
-fn has_pair(pairs: &[(Vertex, Position)], pair: Pair) -> bool
-    ensures { Decides result (Contains pairs.now pair) }
-{
-    pairs.contains(&(pair.vertex, pair.position))
 }

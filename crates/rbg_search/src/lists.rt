@@ -3,7 +3,6 @@ ghost use Rattle.std.specs.Prelude.{◌≡◌};
 
 use crate::search::Search;
 use rbg_auto::Steps;
-use rbg_base::{Position, Vertex};
 use rbg_flat::Modifiers;
 
 impl<'a, S: Steps> Search<'a, S> {
@@ -23,23 +22,5 @@ impl<'a, S: Steps> Search<'a, S> {
     {
         // where there is no memory, it is let go
         let _kept = self.lists.push(list);
-    }
-
-    /// The same for `reach_pairs`.
-    pub fn take_pairs(&mut self) -> Vec<(Vertex, Position)>
-        ensures { self.new ≡ self.old }
-    {
-        match self.pair_lists.pop() {
-            Some(pairs) => pairs,
-            None => Vec::new(self.alloc),
-        }
-    }
-
-    /// Keeps a list of pairs that is no longer needed.
-    pub fn keep_pairs(&mut self, pairs: Vec<(Vertex, Position)>)
-        ensures { self.new ≡ self.old }
-    {
-        // where there is no memory, it is let go
-        let _kept = self.pair_lists.push(pairs);
     }
 }

@@ -78,8 +78,6 @@ pub struct Search<'a, S: Steps> {
     pub(crate) sets: Vec<Box<SetFlat>>,
     /// Lists of modifiers that are not in use.
     pub(crate) lists: Vec<Modifiers>,
-    /// Lists of pairs that are not in use.
-    pub(crate) pair_lists: Vec<Vec<(Vertex, Position)>>,
 }
 
 impl<'a, S: Steps> Model for Search<'a, S> {
@@ -150,7 +148,6 @@ impl<'a, S: Steps> Search<'a, S> {
             flats: Vec::new(alloc),
             sets: Vec::new(alloc),
             lists: Vec::new(alloc),
-            pair_lists: Vec::new(alloc),
         }
     }
 
@@ -197,7 +194,6 @@ impl<'a, S: Steps> Search<'a, S> {
         let sets = replace(&mut workspace.sets, Vec::new(alloc));
         search.sets = fitting_sets(alloc, game, sets);
         search.lists = replace(&mut workspace.lists, Vec::new(alloc));
-        search.pair_lists = replace(&mut workspace.pair_lists, Vec::new(alloc));
         search
     }
 
@@ -213,7 +209,6 @@ impl<'a, S: Steps> Search<'a, S> {
         workspace.flats = self.flats;
         workspace.sets = self.sets;
         workspace.lists = self.lists;
-        workspace.pair_lists = self.pair_lists;
     }
 
     /// The game that is searched.
@@ -276,57 +271,16 @@ impl<'a, S: Steps> Search<'a, S> {
         ensures taken { CountsPairs self.old.game reach state.old.state (start_of origin)
             self.old.opened self.new.opened self.old.taken self.new.taken (IsOk result) }
     {
-        let mut pairs = self.take_pairs();
-        let ends = self.reach_pairs(state, origin, &mut pairs)?;
+        let mut found = self.take_list();
+        let ends = self.reach_into(state, origin, &mut found)?;
+        let mut pairs = Vec::new(self.alloc);
+        found.write_to(&mut pairs)?;
+        self.keep_list(found);
         sort(&mut pairs);
         Ok(Reached { pairs, ends })
     }
 
-    /// As `reach`, in no order and in a list that is lent. Returns whether a word may end with no modifier more.
-    pub fn reach_pairs(
-        &mut self,
-        state: &mut SemiState,
-        origin: Origin,
-        pairs: &mut Vec<(Vertex, Position)>,
-    ) -> Result<bool, Over>
-        requires fits { IsStateOf self.old.game state.old.state }
-        requires stands { IsStart self.old.game.rules (start_of origin) }
-        ensures kept { self.new ≡ record self.old { opened = self.new.opened; taken = self.new.taken } }
-        ensures given_back { state.new ≡ record state.old { room = state.new.room } }
-        ensures room { state.old.room ≤ state.new.room }
-        ensures enough { OnOk result (2 ≤ state.new.room) }
-        ensures reached { IfOk result (λ ends.
-            IsFlatPart self.old.game state.old.state (start_of origin) pairs.new.items ends) }
-        ensures within { OnOk result (All (λ pair.
-            (pair.0 < length self.old.game.board.first) × IsPositionOf self.old.game.rules pair.1)
-            pairs.new.items) }
-        ensures counted { CountsOpenings self.old.game reach state.old.state (start_of origin)
-            self.old.opened self.new.opened }
-        ensures deep { result ≡ Err Over.Deep
-            → IsDeep self.old.game reach state.old.state (start_of origin) self.old.modifiers }
-        ensures wide { result ≡ Err Over.Wide
-            → IsOverBudget self.old.game reach state.old.state (start_of origin) self.old.opened
-            self.old.openings }
-        ensures forced { OnOk result ((cut : Bool) (left : ℕ)
-            → CountsForced self.old.game cut reach state.old.state (start_of origin)
-            self.old.opened self.new.opened left self.old.modifiers) }
-        ensures all_forced { OnOk result ((cut : Bool)
-            → CountsAllForced self.old.game cut reach state.old.state (start_of origin)
-            self.old.opened self.new.opened) }
-        ensures not_deep { OnOk result ((cut : Bool)
-            → ¬ IsForcedDeep self.old.game cut reach state.old.state (start_of origin)
-            self.old.modifiers) }
-        ensures taken { CountsPairs self.old.game reach state.old.state (start_of origin)
-            self.old.opened self.new.opened self.old.taken self.new.taken (IsOk result) }
-    {
-        let mut found = self.take_list();
-        let ends = self.reach_into(state, origin, &mut found)?;
-        found.write_to(pairs)?;
-        self.keep_list(found);
-        Ok(ends)
-    }
-
-    /// The same with the modifiers by words, from which the least is taken first.
+    /// As `reach`, with the modifiers by words, in a list that is lent. Returns whether a word may end with no modifier more.
     #[inline(always)]
     pub fn reach_into(
         &mut self,

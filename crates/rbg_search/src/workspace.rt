@@ -2,7 +2,6 @@
 ghost use Rattle.std.specs.Prelude.{◌≡◌};
 
 use crate::flat::Flat;
-use rbg_base::{Position, Vertex};
 use rbg_flat::{Flat as SetFlat, Modifiers};
 use std::alloc::Global;
 use std::marker::Model;
@@ -16,8 +15,6 @@ pub struct Workspace {
     pub(crate) sets: Vec<Box<SetFlat>>,
     /// Lists of modifiers that are not in use.
     pub(crate) lists: Vec<Modifiers>,
-    /// Lists of pairs that are not in use.
-    pub(crate) pair_lists: Vec<Vec<(Vertex, Position)>>,
     pub(crate) openings: u64,
     pub(crate) pairs: u64,
 }
@@ -39,7 +36,6 @@ impl Workspace {
             flats: Vec::new(alloc),
             sets: Vec::new(alloc),
             lists: Vec::new(alloc),
-            pair_lists: Vec::new(alloc),
             openings: 0,
             pairs: 0,
         }

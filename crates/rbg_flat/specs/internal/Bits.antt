@@ -1,5 +1,5 @@
 -- Modifiers by words of 64 vertices.
-use Rattle.std.specs.Prelude.{◌≡◌, ℕ, zero, suc, ◌+◌, ◌^◌, ◌/◌, ◌%◌, ◌<◌, List, [], ◌∷◌, ◌++◌, map, flat_map}
+use Rattle.std.specs.Prelude.{◌≡◌, ℕ, zero, suc, ◌+◌, ◌^◌, ◌/◌, ◌%◌, ◌<◌, List, [], ◌∷◌, ◌++◌, map, flat_map, get_or}
 use Rattle.std.specs.Int.{bit_at, trailing_zeros, w64}
 use Rattle.rbg_flat.specs.declared.found.Word.{Word}
 
@@ -26,6 +26,10 @@ pairs_in words = flat_map pairs_of words
 -- the first pair of a word
 abbrev pub first_of : Word → ℕ × ℕ
 first_of word = (word.base + trailing_zeros w64 word.bits, word.position)
+
+-- the first pair of the word at a place
+abbrev pub first_at : List Word → ℕ → ℕ × ℕ
+first_at words k = first_of (get_or words k (record { base = 0; position = 0; bits = 0 }))
 
 -- The word has a bit, and each of its vertices is a number of 32 bits.
 pub record IsFilled (word : Word) : Type 0 where

@@ -1,5 +1,6 @@
 -- Moves that are gathered in one list, part by part.
 use Rattle.std.specs.Prelude.{◌≡◌, ◌≢◌, ℕ, ◌≤◌, ◌⊎◌, List, [], ◌∷◌, ◌++◌, length, map, All, AllPairs, Contains, Bool, true, false}
+use Rattle.std.specs.List.Sorted.{IsPermutation}
 use Rattle.rbg_rules.specs.Expression.{Expression}
 use Rattle.rbg_rules.specs.Positions.{IsSwitchAt}
 use Rattle.rbg_rules.specs.State.{AbstractGame, AbstractState}
@@ -65,6 +66,13 @@ pub record ListsSwitches
         (place : AbstractPlace) (ends : Bool) →
         IsFlatPart game place.state (stand_of place.last) pairs ends →
         Gathers (IsLegalBy game place (IsSwitchAmong game.rules done)) front max old new cut
+
+-- The switches among the pairs were taken, and the others are left.
+pub record LeavesOthers (rules : Expression) (old new : List (ℕ × ℕ)) : Type 0 where
+  pub switches : List (ℕ × ℕ)
+  pub moves : IsPermutation old (switches ++ new)
+  pub switching : All (λ q. IsSwitchAt rules q.1) switches
+  pub plain : All (λ q. ¬ IsSwitchAt rules q.1) new
 
 -- The new list is the old one with the moves that go on behind the modifier q, wherever it leads.
 pub record GathersBehind

@@ -1,14 +1,13 @@
 -- None of the words so far has a pair before the least.
 use Rattle.std.proofs.Common.{◌≡◌, ◌<◌, take, length, Contains}
-use Rattle.std.specs.Prelude.{Some, slice_get}
 use Rattle.rbg_flat.specs.Order.{IsBefore}
-use Rattle.rbg_flat.specs.internal.Bits.{first_of}
+use Rattle.rbg_flat.specs.internal.Bits.{first_of, first_at}
 use Rattle.rbg_flat.specs.declared.found.Word.{Word}
 use Rattle.rbg_flat.proofs.found.least_word.Given as goal
 
 abbrev pub invariant-loop-index : goal.invariant-loop-index
 invariant-loop-index l = record {
   below : l.least < length l.words;
-  there : (w : Word) → slice_get l.words l.least ≡ Some w → first_of w ≡ (l.vertex, l.position);
+  there : first_at l.words l.least ≡ (l.vertex, l.position);
   least : (w : Word) → Contains (take l.index l.words) w → ¬ IsBefore (first_of w) (l.vertex, l.position);
 }

@@ -21,7 +21,8 @@ use Rattle.rbg_search.specs.Searching.{Searching}
 use Rattle.rbg_search.specs.Start.{start_of}
 use Rattle.rbg_search.specs.Flat.{IsFlatPart}
 use Rattle.rbg_search.proofs.Kept.{kept_since}
-use Rattle.rbg_search.proofs.Turns.{turn_fewer, turned, turn_front, turn_more, turn_rest, none_left}
+use Rattle.std.proofs.lemmas.List.Sorted.{IsPermutation-refl}
+use Rattle.rbg_search.proofs.Turns.{turn_fewer, turn_there, turned, turn_front, turn_more, turn_rest, none_left}
 use Rattle.rbg_search.proofs.CallerLemmas.{find_begins, counts_begin, counts_reached, counts_end, over_begin, deep_begin}
 use Rattle.rbg_moves.specs.internal.Stepping.{standing_at, place_behind, IsValidAt}
 use Rattle.rbg_moves.proofs.Steps.{place_start, place_after, next_applies, next_there, next_from, legal_end, none_found, valid_next}
@@ -71,7 +72,7 @@ find-returns-in-Some-clause-found g t c _ =
     let numbered = c.game-game.ensures.lawful.numbered in
     let items = c.reach_into.new.pairs in
     let last = c.in-Some.last in
-    let next = next_from game s f (start_of c.origin_after.result) items items c.in_ok-reach_into.field-0 last (subst (λ (x : Searching). IsFlatPart x.game s (start_of c.origin_after.result) items c.in_ok-reach_into.field-0) c.take_list-pairs.ensures c.in_ok-reach_into.ensures.reached) c.origin_after.ensures refl c.in-Some.ensures.there in
+    let next = next_from game s f (start_of c.origin_after.result) items items c.in_ok-reach_into.field-0 last (subst (λ (x : Searching). IsFlatPart x.game s (start_of c.origin_after.result) items c.in_ok-reach_into.field-0) c.take_list-pairs.ensures c.in_ok-reach_into.ensures.reached) c.origin_after.ensures refl (turn_there items [] items c.take_switch.new.pairs last (IsPermutation-refl items) c.in-Some.ensures.permutation) in
     let switches : IsSwitchAt game.rules last.1 = subst (λ (h : AbstractGame). IsSwitchAt h.rules last.1) c.game-game.ensures.game c.in-Some.ensures.switches in
     record {
       pairs = last ∷ [];
@@ -95,10 +96,12 @@ find-loop-vertex-init g t c =
     let f = stand_of c.args.after in
     let numbered = c.game-game.ensures.lawful.numbered in
     let items = c.reach_into.new.pairs in
+    let others = c.take_switch.new.pairs in
+    let kept : others ≡ items = c.in_default.ensures.kept in
     record {
       done = [];
-      part = record { ends = c.in_ok-reach_into.field-0; part = part_of game s f (start_of c.origin_after.result) items items c.in_ok-reach_into.field-0 (subst (λ (x : Searching). IsFlatPart x.game s (start_of c.origin_after.result) items c.in_ok-reach_into.field-0) c.take_list-pairs.ensures c.in_ok-reach_into.ensures.reached) c.origin_after.ensures refl };
-      plain = plain_of game c.game-game.result.now items items items c.game-game.ensures.game refl refl c.in_default.ensures.none;
+      part = record { ends = c.in_ok-reach_into.field-0; part = part_of game s f (start_of c.origin_after.result) others items c.in_ok-reach_into.field-0 (subst (λ (x : Searching). IsFlatPart x.game s (start_of c.origin_after.result) items c.in_ok-reach_into.field-0) c.take_list-pairs.ensures c.in_ok-reach_into.ensures.reached) c.origin_after.ensures kept };
+      plain = plain_of game c.game-game.result.now others items items c.game-game.ensures.game refl kept c.in_default.ensures.none;
       search = kept_since c.args.search.now c.take_list-pairs.new.self c.reach_into.new.self c.take_list-pairs.ensures c.reach_into.ensures.kept;
       state = c.reach_into.ensures.given_back;
       room = c.reach_into.ensures.room;
@@ -388,7 +391,7 @@ find-returns-in-Some-clause-forced g t c =
     let left = most_pairs - length c.args.front.now.items in
     let most = c.args.search.now.modifiers in
     let place : AbstractPlace = record { state = s; last = c.args.after } in
-    let next = next_from game s f (start_of c.origin_after.result) items items c.in_ok-reach_into.field-0 last (subst (λ (x : Searching). IsFlatPart x.game s (start_of c.origin_after.result) items c.in_ok-reach_into.field-0) c.take_list-pairs.ensures c.in_ok-reach_into.ensures.reached) c.origin_after.ensures refl c.in-Some.ensures.there in
+    let next = next_from game s f (start_of c.origin_after.result) items items c.in_ok-reach_into.field-0 last (subst (λ (x : Searching). IsFlatPart x.game s (start_of c.origin_after.result) items c.in_ok-reach_into.field-0) c.take_list-pairs.ensures c.in_ok-reach_into.ensures.reached) c.origin_after.ensures refl (turn_there items [] items c.take_switch.new.pairs last (IsPermutation-refl items) c.in-Some.ensures.permutation) in
     let switches : IsSwitchAt game.rules last.1 = subst (λ (h : AbstractGame). IsSwitchAt h.rules last.1) c.game-game.ensures.game c.in-Some.ensures.switches in
     let legal = legal_end game numbered place last.0 last.1 next.later next switches (next_applies game numbered s f last.0 last.1 next) in
     subst (λ (x : Searching). CountsForced game false find_move s f c.args.search.now.opened x.opened left most) (sym c.keep_list.ensures)

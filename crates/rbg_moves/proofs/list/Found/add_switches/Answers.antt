@@ -1,63 +1,72 @@
 -- The moves of one switch.
-use Rattle.std.proofs.Common.{◌≡◌, ℕ, ◌+◌, ◌<◌, List, ◌∷◌, [], ◌++◌, length, take, get_or, refl, sym, ap, ◌∙◌, subst, arith, false, true, length-append}
-use Rattle.std.proofs.lemmas.List.{get_or_default}
+use Rattle.std.proofs.Common.{◌≡◌, ℕ, ◌+◌, ◌<◌, List, ◌∷◌, [], ◌++◌, length, false, refl, sym, ap, subst, ◌∙◌, arith, length-append}
+use Rattle.std.specs.Prelude.{All}
+use Rattle.std.specs.List.Sorted.{IsPermutation}
+use Rattle.std.proofs.lemmas.List.Elements.{All-nil, All-push}
+use Rattle.std.proofs.lemmas.List.Sorted.{IsPermutation-refl}
+use Rattle.rbg_rules.specs.Positions.{IsSwitchAt}
+use Rattle.rbg_search.specs.Start.{IsPositionOf}
+use Rattle.rbg_search.proofs.Turns.{turn_moves, turn_after, turn_fewer}
 use Rattle.rbg_moves.specs.internal.Gathering.{ListsSwitches}
-use Rattle.rbg_moves.proofs.Listing.{lists_none, lists_more, lists_skip, lists_cut}
+use Rattle.rbg_moves.proofs.Listing.{lists_none, lists_more, lists_cut, lists_all, left_over}
 use Rattle.rbg_moves.proofs.list.Found.add_switches.Goals as goal
-use Rattle.rbg_moves.proofs.list.Found.add_switches.Goals.{then-is_switch+else-len-self+in_ok-push, else-is_switch}
-
-true_not_false : true ≡ false → ⊥
-true_not_false e = cc
 
 pub loop-pair-init : goal.loop-pair-init
 loop-pair-init c = record {
+  taken = [];
+  moves = IsPermutation-refl c.args.pairs.now;
+  switching = All-nil (λ (q : ℕ × ℕ). IsSwitchAt c.args.game.now.rules q.1);
   max = refl;
   few = c.requires.few;
   lists = lists_none c.args.game.now c.args.pairs.now c.args.front.now c.args.self.now.max c.args.self.now.moves c.requires.few;
 }
 
+pub take_switch-requires-clause-within : goal.take_switch-requires-clause-within
+take_switch-requires-clause-within c =
+    left_over (λ (q : ℕ × ℕ). IsPositionOf c.args.game.now.rules q.1) c.args.pairs.now c.loop-pair.invariant.taken c.loop-pair.pairs c.loop-pair.invariant.moves c.requires.within
+
+pub loop-pair-smaller : goal.loop-pair-smaller
+loop-pair-smaller c = turn_fewer c.loop-pair.pairs c.take_switch.new.pairs c.in-Some.pair c.in-Some.ensures.permutation
+
 pub returns-then-len-self-clause-lists : goal.returns-then-len-self-clause-lists
 returns-then-len-self-clause-lists c =
-    let pairs = c.args.pairs.now in
-    let k = c.loop-pair.pair-index in
-    let q : ℕ × ℕ = get_or pairs k (0, 0) in
+    let is = c.loop-pair.invariant in
     let now = c.loop-pair.self.moves in
-    let full : length now ≡ c.args.self.now.max = sym c.len.ensures.count ∙ c.if-len-self.true ∙ c.loop-pair.invariant.max in
-    lists_cut c.args.game.now c.requires.lawful.numbered pairs c.args.front.now c.args.self.now.max c.args.self.now.moves now k q c.loop-pair-test.true
-    (get_or_default pairs k q (0, 0) c.loop-pair-test.true) (c.if-is_switch.ensures.0 refl) full c.loop-pair.invariant.lists
+    let full : length now ≡ c.args.self.now.max = sym c.len.ensures.count ∙ c.if-len-self.true ∙ is.max in
+    let moves = turn_moves c.args.pairs.now is.taken c.loop-pair.pairs c.take_switch.new.pairs c.in-Some.pair is.moves c.in-Some.ensures.permutation in
+    lists_cut c.args.game.now c.requires.lawful.numbered c.args.pairs.now c.args.front.now c.args.self.now.max c.args.self.now.moves now is.taken c.take_switch.new.pairs c.in-Some.pair moves c.in-Some.ensures.switches full is.lists
 
 pub loop-pair-preserved : goal.loop-pair-preserved
-loop-pair-preserved c = elim c.if-is_switch.branch [
-  | then-is_switch+else-len-self+in_ok-push w ↦
-      let pairs = c.args.pairs.now in
-      let k = c.loop-pair.pair-index in
-      let q : ℕ × ℕ = get_or pairs k (0, 0) in
-      let now = c.loop-pair.self.moves in
-      let few = c.loop-pair.invariant.few in
-      let room : length now < c.args.self.now.max = omega (arith, few, w.if-len-self.false, w.len.ensures.count, c.loop-pair.invariant.max) in
-      let new : List (List (ℕ × ℕ)) = c.if-is_switch.self.moves in
-      let grown : c.if-is_switch.self.moves ≡ now ++ (c.args.front.now ++ q ∷ []) ∷ [] = rw w.self-is w.in_ok-push.ensures in
-      let lists = lists_more c.args.game.now c.requires.lawful.numbered pairs c.args.front.now c.args.self.now.max c.args.self.now.moves now k q c.loop-pair-test.true
-      (get_or_default pairs k q (0, 0) c.loop-pair-test.true) (w.if-is_switch.ensures.0 refl) room c.loop-pair.invariant.lists in
-      record {
-        max = rw w.self-is c.loop-pair.invariant.max;
-        few = rw w.self-is (
-            let size : length w.push.new.self ≡ length now + 1 = ap (λ (xs : List (List (ℕ × ℕ))). length xs) w.in_ok-push.ensures ∙ length-append now ((c.args.front.now ++ q ∷ []) ∷ []) in
-            omega (arith, size, room, c.loop-pair.invariant.max)
-            );
-        lists = subst (λ (xs : List (List (ℕ × ℕ))). ListsSwitches c.args.game.now pairs (take (k + 1) pairs) c.args.front.now c.args.self.now.max c.args.self.now.moves xs false) (sym grown) lists;
-      }
-  | else-is_switch w ↦
-      let pairs = c.args.pairs.now in
-      let k = c.loop-pair.pair-index in
-      let q : ℕ × ℕ = get_or pairs k (0, 0) in
-      let h = w.self-is in
-      let i = w.if-is_switch.false in
-      let j = w.if-is_switch.ensures in
-      rw w.self-is (record {
-        max = c.loop-pair.invariant.max;
-        few = c.loop-pair.invariant.few;
-        lists = lists_skip c.args.game.now pairs c.args.front.now c.args.self.now.max c.args.self.now.moves c.loop-pair.self.moves k q c.loop-pair-test.true
-            (get_or_default pairs k q (0, 0) c.loop-pair-test.true) (λ switches. true_not_false (sym (w.if-is_switch.ensures.1 switches))) c.loop-pair.invariant.lists;
-      })
-]
+loop-pair-preserved c =
+    let is = c.loop-pair.invariant in
+    let q : ℕ × ℕ = c.in-Some.pair in
+    let now = c.loop-pair.self.moves in
+    let few = is.few in
+    let room : length now < c.args.self.now.max = omega (arith, few, c.if-len-self.false, c.len.ensures.count, is.max) in
+    let moves = turn_moves c.args.pairs.now is.taken c.loop-pair.pairs c.take_switch.new.pairs q is.moves c.in-Some.ensures.permutation in
+    let grown = c.in_ok-push.ensures in
+    let size : length c.push.new.self ≡ length now + 1 = ap (λ (xs : List (List (ℕ × ℕ))). length xs) grown ∙ length-append now ((c.args.front.now ++ q ∷ []) ∷ []) in
+    record {
+      taken = is.taken ++ q ∷ [];
+      moves = turn_after c.args.pairs.now is.taken c.loop-pair.pairs c.take_switch.new.pairs q is.moves c.in-Some.ensures.permutation;
+      switching = All-push (λ (r : ℕ × ℕ). IsSwitchAt c.args.game.now.rules r.1) is.taken q is.switching c.in-Some.ensures.switches;
+      max = is.max;
+      few = omega (arith, size, room, is.max);
+      lists = subst (λ (xs : List (List (ℕ × ℕ))). ListsSwitches c.args.game.now c.args.pairs.now (is.taken ++ q ∷ []) c.args.front.now c.args.self.now.max c.args.self.now.moves xs false) (sym grown)
+          (lists_more c.args.game.now c.requires.lawful.numbered c.args.pairs.now c.args.front.now c.args.self.now.max c.args.self.now.moves now is.taken c.take_switch.new.pairs q moves c.in-Some.ensures.switches room is.lists);
+    }
+
+pub returns-clause-lists : goal.returns-clause-lists
+returns-clause-lists c =
+    let is = c.loop-pair.invariant in
+    lists_all c.args.game.now c.args.pairs.now c.args.front.now c.args.self.now.max c.args.self.now.moves c.loop-pair.self.moves is.taken c.loop-pair.pairs is.moves c.in_default.ensures.none is.lists
+
+pub returns-clause-others : goal.returns-clause-others
+returns-clause-others c _ =
+    let is = c.loop-pair.invariant in
+    record {
+      switches = is.taken;
+      moves = subst (λ (ps : List (ℕ × ℕ)). IsPermutation c.args.pairs.now (is.taken ++ ps)) (sym c.in_default.ensures.kept) is.moves;
+      switching = is.switching;
+      plain = subst (All (λ (q : ℕ × ℕ). ¬ IsSwitchAt c.args.game.now.rules q.1)) (sym c.in_default.ensures.kept) c.in_default.ensures.none;
+    }

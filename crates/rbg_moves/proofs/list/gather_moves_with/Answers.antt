@@ -15,7 +15,7 @@ use Rattle.rbg_moves.proofs.Outcome.{gathered, gathered_at}
 use Rattle.rbg_moves.specs.Tallying.{IsTallied}
 use Rattle.rbg_moves.proofs.Results.{on_err}
 use Rattle.rbg_moves.proofs.Tallies.{tallied}
-use Rattle.rbg_moves.proofs.list.gather.Goals as goal
+use Rattle.rbg_moves.proofs.list.gather_moves_with.Goals as goal
 
 deep_of : (g : AbstractGame) → IsNumbered g.rules → (s : AbstractState) (f : Start) (items : List (ℕ × ℕ)) (most : ℕ) → items ≡ [] → most ≡ most_modifiers → IsTooDeep g list_moves s f (200 - length items) most → IsDeep g list_moves s f most
 deep_of g numbered s f items most none limit deep =
