@@ -64,22 +64,9 @@ fn gather_word(
     }
 }
 
-/// How many bits of a word are set. Most words have one, which is seen at once.
+/// How many bits of a word are set.
 #[inline(always)]
 fn count(word: u64) -> usize
-    ensures ones { result ≡ count_ones word }
-    ensures few { result ≤ 64 }
-{
-    if word.count_ones() == 1 {
-        1
-    } else {
-        count_all(word)
-    }
-}
-
-/// The same, for a word with more bits. It isn't put in line, since the compiler would join both again.
-#[inline(never)]
-fn count_all(word: u64) -> usize
     ensures ones { result ≡ count_ones word }
     ensures few { result ≤ 64 }
 {
