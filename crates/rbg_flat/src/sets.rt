@@ -158,6 +158,19 @@ impl Sets {
         position as usize * self.columns + column
     }
 
+    /// Where the row of a position is, where each row has one word.
+    #[inline(always)]
+    fn narrow_place(&self, position: Position) -> usize
+        requires position { position < self.now.size }
+        requires one { self.now.columns ≡ 1 }
+        ensures place { result ≡ position * self.now.columns + 0 }
+        ensures marks { result < length self.now.marks }
+    {
+        // there are as many words as positions
+        let _columns = self.columns;
+        position as usize
+    }
+
     /// Meets the bits of a word of the row of a position. What is new of them is to be looked at where `opens` tells so.
     #[inline(always)]
     pub(crate) fn meet_word(&mut self, position: Position, column: usize, word: u64, opens: bool)
@@ -166,6 +179,17 @@ impl Sets {
         ensures { MeetsWord self.old self.new position column word opens }
     {
         let place = self.place(position, column);
+        self.meet_at(place, position, column, word, opens);
+    }
+
+    /// The same where the place of the word is known.
+    #[inline(always)]
+    fn meet_at(&mut self, place: usize, position: Position, column: usize, word: u64, opens: bool)
+        requires place { place < length self.old.marks }
+        requires at { place ≡ position * self.old.columns + column }
+        requires column { column < self.old.columns }
+        ensures { MeetsWord self.old self.new position column word opens }
+    {
         let new = new_of(word, self.marks.word(place));
         if new == 0 {
             return;
@@ -176,6 +200,19 @@ impl Sets {
         }
     }
 
+    /// Meets the vertices of a row at a position, where each row has one word. What is new of them is to be looked at
+    /// where `opens` tells so.
+    #[inline(always)]
+    pub(crate) fn meet_narrow(&mut self, position: Position, row: &[u64], opens: bool)
+        requires position { position < self.old.size }
+        requires one { self.old.columns ≡ 1 }
+        requires row { length row.now ≡ 1 }
+        ensures { Meets self.old self.new (IsInRow position row.now) (λ _. opens ≡ true) }
+    {
+        let place = self.narrow_place(position);
+        self.meet_at(place, position, 0, row[0], opens);
+    }
+
     /// Meets the vertices of a row at a position. What is new of them is to be looked at where `opens` tells so.
     #[inline(always)]
     pub(crate) fn meet_row(&mut self, position: Position, row: &[u64], opens: bool)
@@ -183,11 +220,6 @@ impl Sets {
         requires row { length row.now ≤ self.old.columns }
         ensures { Meets self.old self.new (IsInRow position row.now) (λ _. opens ≡ true) }
     {
-        // most boards have one word for each position
-        if row.len() == 1 {
-            self.meet_word(position, 0, row[0], opens);
-            return;
-        }
         for column in 0..row.len() {
             self.meet_some(position, column, row[column], opens);
         }

@@ -60,12 +60,11 @@ impl BitTable {
         ensures { self.new.words
             ≡ slice_set self.old.words place (bit_or (slice_index self.old.words place) bits) }
     {
-        if self.words[place] == 0 {
+        let known = self.words[place];
+        self.words[place] = known | bits;
+        if known == 0 {
             self.room[self.listed] = place;
             self.listed += 1;
-            self.words[place] |= bits;
-        } else {
-            self.words[place] |= bits;
         }
     }
 

@@ -1,11 +1,8 @@
 use Rattle.std.proofs.Common.{◌≡◌, ℕ, ◌<◌, List, [], true, sym, subst, arith}
 use Rattle.std.proofs.lemmas.List.{take_all}
 use Rattle.rbg_flat.specs.internal.Sets.{IsInRow, Meets}
-use Rattle.rbg_flat.proofs.Meetings.{meets_none, empty_row, meets_more, meets_only}
+use Rattle.rbg_flat.proofs.Meetings.{meets_none, empty_row, meets_more}
 use Rattle.rbg_flat.proofs.sets.Sets.meet_row.Goals as goal
-
-pub returns-then-row-eq1 : goal.returns-then-row-eq1
-returns-then-row-eq1 c = meets_only c.args.self.now c.meet_word.new.self c.args.position c.args.row.now c.args.opens c.if-row-eq1.true c.meet_word.ensures
 
 pub loop-column-init : goal.loop-column-init
 loop-column-init c = meets_none c.args.self.now (IsInRow c.args.position []) (λ _. c.args.opens ≡ true) (empty_row c.args.position)

@@ -1,8 +1,8 @@
-use Rattle.std.proofs.Common.{◌≡◌, ℕ, ◌+◌, ◌*◌, ◌<◌, ◌⊎◌, List, length, get_or, subst}
+use Rattle.std.proofs.Common.{◌≡◌, ℕ, ◌+◌, ◌*◌, ◌<◌, ◌⊎◌, List, length, get_or, sym, ◌∙◌, subst}
 use Rattle.std.specs.Int.{bit_at}
 use Rattle.std.specs.Prelude.{bit_or, ◌^◌}
 use Rattle.rbg_flat.proofs.SetLemmas.{meets_open, meets_closed, sets_open, sets_closed}
-use Rattle.rbg_flat.proofs.sets.Sets.meet_word.Goals as goal
+use Rattle.rbg_flat.proofs.sets.Sets.meet_at.Goals as goal
 
 pub invariant_of-self : goal.invariant_of-self
 invariant_of-self c =
@@ -12,13 +12,13 @@ invariant_of-self c =
     let pending : List ℕ = c.self.inside.pending.words in
     let waiting : List ℕ = c.self.inside.pending.listed in
     let touched : List ℕ = c.self.inside.marks.listed in
-    let place : ℕ = c.place-place.result in
+    let place : ℕ = c.args.place in
     let q : ℕ = c.args.position in
     let column : ℕ = c.args.column in
-    let is : place ≡ q * columns + column = rw (← c.self.view_is) at c.place-place.ensures.place in
+    let is : place ≡ q * columns + column = rw (← c.self.view_is) at c.requires.at in
     let below : column < columns = rw (← c.self.view_is) at c.requires.column in
-    let in_marks : place < length marks = rw (← c.self.view_is) at c.place-place.ensures.marks in
-    let in_pending : place < length pending = rw (← c.self.view_is) at c.place-place.ensures.pending in
+    let in_marks : place < length marks = rw (← c.self.view_is) at c.requires.place in
+    let in_pending : place < length pending = subst (λ (k : ℕ). place < k) (c.self.invariant.marks ∙ sym c.self.invariant.pendings) in_marks in
     let read : c.word.result ≡ get_or marks place 0 = c.word.ensures in
     let n : ℕ = c.new_of-new.result in
     let all : (b : ℕ) → b < 64 → bit_at c.args.word b ≡ 1 → (bit_at (get_or marks place 0) b ≡ 1) ⊎ (bit_at n b ≡ 1) = subst (λ (k : ℕ). (b : ℕ) → b < 64 → bit_at c.args.word b ≡ 1 → (bit_at k b ≡ 1) ⊎ (bit_at n b ≡ 1)) read c.new_of-new.ensures.all in
@@ -33,13 +33,13 @@ invariant_of-self-else-opens c =
     let pending : List ℕ = c.self.inside.pending.words in
     let waiting : List ℕ = c.self.inside.pending.listed in
     let touched : List ℕ = c.self.inside.marks.listed in
-    let place : ℕ = c.place-place.result in
+    let place : ℕ = c.args.place in
     let q : ℕ = c.args.position in
     let column : ℕ = c.args.column in
-    let is : place ≡ q * columns + column = rw (← c.self.view_is) at c.place-place.ensures.place in
+    let is : place ≡ q * columns + column = rw (← c.self.view_is) at c.requires.at in
     let below : column < columns = rw (← c.self.view_is) at c.requires.column in
-    let in_marks : place < length marks = rw (← c.self.view_is) at c.place-place.ensures.marks in
-    let in_pending : place < length pending = rw (← c.self.view_is) at c.place-place.ensures.pending in
+    let in_marks : place < length marks = rw (← c.self.view_is) at c.requires.place in
+    let in_pending : place < length pending = subst (λ (k : ℕ). place < k) (c.self.invariant.marks ∙ sym c.self.invariant.pendings) in_marks in
     let read : c.word.result ≡ get_or marks place 0 = c.word.ensures in
     let n : ℕ = c.new_of-new.result in
     let all : (b : ℕ) → b < 64 → bit_at c.args.word b ≡ 1 → (bit_at (get_or marks place 0) b ≡ 1) ⊎ (bit_at n b ≡ 1) = subst (λ (k : ℕ). (b : ℕ) → b < 64 → bit_at c.args.word b ≡ 1 → (bit_at k b ≡ 1) ⊎ (bit_at n b ≡ 1)) read c.new_of-new.ensures.all in
@@ -53,13 +53,13 @@ returns-then-opens c =
     let pending : List ℕ = c.self.inside.pending.words in
     let waiting : List ℕ = c.self.inside.pending.listed in
     let touched : List ℕ = c.self.inside.marks.listed in
-    let place : ℕ = c.place-place.result in
+    let place : ℕ = c.args.place in
     let q : ℕ = c.args.position in
     let column : ℕ = c.args.column in
-    let is : place ≡ q * columns + column = rw (← c.self.view_is) at c.place-place.ensures.place in
+    let is : place ≡ q * columns + column = rw (← c.self.view_is) at c.requires.at in
     let below : column < columns = rw (← c.self.view_is) at c.requires.column in
-    let in_marks : place < length marks = rw (← c.self.view_is) at c.place-place.ensures.marks in
-    let in_pending : place < length pending = rw (← c.self.view_is) at c.place-place.ensures.pending in
+    let in_marks : place < length marks = rw (← c.self.view_is) at c.requires.place in
+    let in_pending : place < length pending = subst (λ (k : ℕ). place < k) (c.self.invariant.marks ∙ sym c.self.invariant.pendings) in_marks in
     let read : c.word.result ≡ get_or marks place 0 = c.word.ensures in
     let n : ℕ = c.new_of-new.result in
     let all : (b : ℕ) → b < 64 → bit_at c.args.word b ≡ 1 → (bit_at (get_or marks place 0) b ≡ 1) ⊎ (bit_at n b ≡ 1) = subst (λ (k : ℕ). (b : ℕ) → b < 64 → bit_at c.args.word b ≡ 1 → (bit_at k b ≡ 1) ⊎ (bit_at n b ≡ 1)) read c.new_of-new.ensures.all in
@@ -76,13 +76,13 @@ returns-else-opens c =
     let pending : List ℕ = c.self.inside.pending.words in
     let waiting : List ℕ = c.self.inside.pending.listed in
     let touched : List ℕ = c.self.inside.marks.listed in
-    let place : ℕ = c.place-place.result in
+    let place : ℕ = c.args.place in
     let q : ℕ = c.args.position in
     let column : ℕ = c.args.column in
-    let is : place ≡ q * columns + column = rw (← c.self.view_is) at c.place-place.ensures.place in
+    let is : place ≡ q * columns + column = rw (← c.self.view_is) at c.requires.at in
     let below : column < columns = rw (← c.self.view_is) at c.requires.column in
-    let in_marks : place < length marks = rw (← c.self.view_is) at c.place-place.ensures.marks in
-    let in_pending : place < length pending = rw (← c.self.view_is) at c.place-place.ensures.pending in
+    let in_marks : place < length marks = rw (← c.self.view_is) at c.requires.place in
+    let in_pending : place < length pending = subst (λ (k : ℕ). place < k) (c.self.invariant.marks ∙ sym c.self.invariant.pendings) in_marks in
     let read : c.word.result ≡ get_or marks place 0 = c.word.ensures in
     let n : ℕ = c.new_of-new.result in
     let all : (b : ℕ) → b < 64 → bit_at c.args.word b ≡ 1 → (bit_at (get_or marks place 0) b ≡ 1) ⊎ (bit_at n b ≡ 1) = subst (λ (k : ℕ). (b : ℕ) → b < 64 → bit_at c.args.word b ≡ 1 → (bit_at k b ≡ 1) ⊎ (bit_at n b ≡ 1)) read c.new_of-new.ensures.all in
