@@ -60,13 +60,6 @@ forced_as game game' cut question later f a b left left' most most' same fewer l
     (subst (λ (n : ℕ). CountsForced game cut question later f a b n most') fewer
     (subst (λ (g : AbstractGame). CountsForced g cut question later f a b left' most') same counts))
 
--- .. behind a modifier, wherever it leads.
-pub behind_forced : (game game' : AbstractGame) (s s' later : AbstractState) (v p : ℕ) (cut : Bool) (question : Question) (a b left left' most most' : ℕ) → game' ≡ game → s' ≡ s → left' ≡ left → most' ≡ most → Applies game p (standing_at s v) later → ((t : AbstractState) → Applies game' p (standing_at s' v) t → CountsForced game' cut question t (after p) a b left' most') → CountsForced game cut question later (after p) a b left most
-behind_forced game game' s s' later v p cut question a b left left' most most' same there fewer limit applies behind_it =
-    let there' : Applies game p (standing_at s' v) later = subst (λ (u : AbstractState). Applies game p (standing_at u v) later) (sym there) applies in
-    let here : Applies game' p (standing_at s' v) later = subst (λ (g : AbstractGame). Applies g p (standing_at s' v) later) (sym same) there' in
-    forced_as game game' cut question later (after p) a b left left' most most' same fewer limit (behind_it later here)
-
 -- ---- while the modifiers that come next are taken in turn
 
 -- What is forced with no modifier was taken up, and what is forced behind the pairs that are done.
