@@ -1,5 +1,5 @@
 -- Which openings are forced of the questions about moves, and that they were taken up.
-use Rattle.std.proofs.Common.{◌≡◌, ◌≢◌, ℕ, suc, ◌+◌, ◌-◌, ◌<◌, ◌≤◌, List, [], ◌∷◌, ◌++◌, length, get_or, take, Bool, true, false, refl, sym, ap, subst, inl, inr, arith}
+use Rattle.std.proofs.Common.{◌≡◌, ◌≢◌, ℕ, suc, ◌-◌, ◌<◌, ◌≤◌, List, [], ◌∷◌, ◌++◌, length, Bool, true, false, refl, sym, ap, subst, inl, inr, arith}
 use Rattle.std.specs.Prelude.{All, Contains, Some}
 use Rattle.std.proofs.lemmas.List.Elements.{All-head, All-contains}
 use Rattle.rbg_rules.specs.Positions.{IsNumbered, IsSwitchAt}
@@ -14,7 +14,7 @@ use Rattle.rbg_rules.specs.Questions.{Question, try_move, find_move, list_moves,
 use Rattle.rbg_rules.proofs.MoveLemmas.{Applies_one}
 use Rattle.rbg_search.specs.Flat.{IsNext, IsFlatPart}
 use Rattle.rbg_search.specs.Forced.{CountsForced, TakesBehind}
-use Rattle.rbg_search.proofs.Forcing.{ForcesOn, all_counted, none_deep, takes_none, takes_more, takes_on, forced_at_once, forced_behind}
+use Rattle.rbg_search.proofs.Forcing.{ForcesOn, all_counted, none_deep, takes_none, takes_more, forced_at_once, forced_behind}
 use Rattle.rbg_moves.specs.Limits.{FitsLimits}
 use Rattle.rbg_moves.specs.internal.Stepping.{standing_at, place_behind}
 use Rattle.rbg_moves.proofs.Steps.{legal_on}
@@ -53,20 +53,6 @@ counts_uncut game cut question s f a b left most counts = record {
   few = λ o forced. counts.few o (uncut game cut question s f o forced);
 }
 
--- The same of an equal game and equal limits.
-pub forced_as : (game game' : AbstractGame) (cut : Bool) (question : Question) (later : AbstractState) (f : Start) (a b left left' most most' : ℕ) → game' ≡ game → left' ≡ left → most' ≡ most → CountsForced game' cut question later f a b left' most' → CountsForced game cut question later f a b left most
-forced_as game game' cut question later f a b left left' most most' same fewer limit counts =
-    subst (λ (n : ℕ). CountsForced game cut question later f a b left n) limit
-    (subst (λ (n : ℕ). CountsForced game cut question later f a b n most') fewer
-    (subst (λ (g : AbstractGame). CountsForced g cut question later f a b left' most') same counts))
-
--- .. behind a modifier, wherever it leads.
-pub behind_forced : (game game' : AbstractGame) (s s' later : AbstractState) (v p : ℕ) (cut : Bool) (question : Question) (a b left left' most most' : ℕ) → game' ≡ game → s' ≡ s → left' ≡ left → most' ≡ most → Applies game p (standing_at s v) later → ((t : AbstractState) → Applies game' p (standing_at s' v) t → CountsForced game' cut question t (after p) a b left' most') → CountsForced game cut question later (after p) a b left most
-behind_forced game game' s s' later v p cut question a b left left' most most' same there fewer limit applies behind_it =
-    let there' : Applies game p (standing_at s' v) later = subst (λ (u : AbstractState). Applies game p (standing_at u v) later) (sym there) applies in
-    let here : Applies game' p (standing_at s' v) later = subst (λ (g : AbstractGame). Applies g p (standing_at s' v) later) (sym same) there' in
-    forced_as game game' cut question later (after p) a b left left' most most' same fewer limit (behind_it later here)
-
 -- ---- while the modifiers that come next are taken in turn
 
 -- What is forced with no modifier was taken up, and what is forced behind the pairs that are done.
@@ -76,20 +62,8 @@ pub record TakenSoFar (game : AbstractGame) (question : Question) (s : AbstractS
   pub behind_it : TakesBehind game false question s done middle b left most
 
 module _ (game : AbstractGame) (numbered : IsNumbered game.rules) where
-  pub so_far_begin : (question : Question) (s : AbstractState) (f : Start) (a b left most : ℕ) → CountsForced game false reach s f a b left most → TakenSoFar game question s f [] a b left most
-  so_far_begin question s f a b left most counts = record { middle = b; at_once = counts; behind_it = takes_none game numbered false question s b b left most (omega arith) }
-
-  pub so_far_more : (question : Question) (s : AbstractState) (f : Start) (xs : List (ℕ × ℕ)) (k : ℕ) (later : AbstractState) (a b c left most : ℕ) → k < length xs → Applies game (get_or xs k (0, 0)).1 (standing_at s (get_or xs k (0, 0)).0) later → 1 < left → TakenSoFar game question s f (take k xs) a b left most → CountsForced game false question later (after (get_or xs k (0, 0)).1) b c (left - 1) most → TakenSoFar game question s f (take (k + 1) xs) a c left most
-  so_far_more question s f xs k later a b c left most under applies more_left taken more = record {
-    middle = taken.middle;
-    at_once = taken.at_once;
-    behind_it = takes_on game numbered false question s xs k (0, 0) later taken.middle b c left most under applies more_left taken.behind_it more;
-  }
-
-  pub so_far_with : (question : Question) (s : AbstractState) (f : Start) (xs : List (ℕ × ℕ)) (k : ℕ) (q : ℕ × ℕ) (later : AbstractState) (a b c left most : ℕ) → get_or xs k (0, 0) ≡ q → k < length xs → Applies game q.1 (standing_at s q.0) later → 1 < left → TakenSoFar game question s f (take k xs) a b left most → CountsForced game false question later (after q.1) b c (left - 1) most → TakenSoFar game question s f (take (k + 1) xs) a c left most
-  so_far_with question s f xs k q later a b c left most is under applies more_left taken more =
-      so_far_more question s f xs k later a b c left most under (subst (λ (r : ℕ × ℕ). Applies game r.1 (standing_at s r.0) later) (sym is) applies) more_left taken
-      (subst (λ (r : ℕ × ℕ). CountsForced game false question later (after r.1) b c (left - 1) most) (sym is) more)
+  pub so_far_none : (question : Question) (s : AbstractState) (f : Start) (a b left most : ℕ) → CountsForced game false reach s f a b left most → TakenSoFar game question s f [] a b left most
+  so_far_none question s f a b left most counts = record { middle = b; at_once = counts; behind_it = takes_none game numbered false question s b b left most (omega arith) }
 
   pub so_far_one : (question : Question) (s : AbstractState) (f : Start) (done : List (ℕ × ℕ)) (q : ℕ × ℕ) (later : AbstractState) (a b c left most : ℕ) → Applies game q.1 (standing_at s q.0) later → 1 < left → TakenSoFar game question s f done a b left most → CountsForced game false question later (after q.1) b c (left - 1) most → TakenSoFar game question s f (done ++ q ∷ []) a c left most
   so_far_one question s f done q later a b c left most applies more_left taken more = record {

@@ -1,178 +1,257 @@
--- One more modifier of those that come next, behind which moves were listed.
-use Rattle.std.proofs.Common.{◌≡◌, ℕ, suc, ◌-◌, ◌<◌, ◌≤◌, List, [], ◌∷◌, ◌++◌, length, Bool, false, refl, sym, subst, arith}
+-- The modifiers that come next are taken in turn, and a question is asked behind each.
+use Rattle.std.proofs.Common.{◌≡◌, ◌≢◌, ℕ, suc, ◌-◌, ◌<◌, ◌≤◌, List, [], ◌∷◌, ◌++◌, length, Bool, false, refl, sym, ap, subst, arith}
 use Rattle.std.specs.Prelude.{All, Contains}
 use Rattle.std.specs.List.Sorted.{IsPermutation}
-use Rattle.std.proofs.lemmas.List.Sorted.{All-permutation, IsPermutation-append_right}
+use Rattle.std.proofs.lemmas.List.Sorted.{All-permutation, IsPermutation-append_right, IsPermutation-refl}
 use Rattle.std.proofs.lemmas.List.Elements.{All-head, All-tail}
 use Rattle.rbg_rules.specs.Positions.{IsNumbered, IsSwitchAt}
 use Rattle.rbg_rules.specs.Words.{Start, after}
 use Rattle.rbg_rules.specs.State.{AbstractGame, AbstractState, IsStateOf}
 use Rattle.rbg_rules.specs.Actions.{Applies}
 use Rattle.rbg_rules.specs.Games.{IsGame}
-use Rattle.rbg_rules.specs.Moves.{AbstractPlace, stand_of, IsLegal}
-use Rattle.rbg_rules.specs.Questions.{list_moves, try_move, reach, IsDeep}
+use Rattle.rbg_rules.specs.Moves.{AbstractPlace, stand_of, IsLegal, Finished}
+use Rattle.rbg_rules.specs.Questions.{Question, find_move, list_moves, try_move, reach, GoesTo, IsDeep}
 use Rattle.rbg_rules.proofs.MoveLemmas.{Applies_one}
 use Rattle.rbg_search.specs.Flat.{IsNext, IsFlatPart}
 use Rattle.rbg_search.specs.Counting.{CountsOpenings, IsOverBudget}
 use Rattle.rbg_search.specs.Forced.{CountsForced}
+use Rattle.rbg_search.specs.Passing.{Passes, finding, listing, GoesOn, CountsUpTo, IsTooDeep, from_here, somewhere}
+use Rattle.rbg_search.specs.Searching.{Searching}
 use Rattle.rbg_search.specs.Taken.{CountsPairs}
-use Rattle.rbg_search.specs.Passing.{listing, GoesOn, CountsUpTo, IsTooDeep, from_here, somewhere}
-use Rattle.rbg_search.proofs.CallerLemmas.{list_begins, counts_begin, counts_more, counts_end, over_begin, over_more, deep_begin, deep_more, row_one}
+use Rattle.rbg_search.proofs.CallerLemmas.{no_switch_found, counts_begin, counts_weaker, counts_more, counts_end, over_begin, over_more, deep_begin, deep_more, row_one}
 use Rattle.rbg_search.proofs.Meetings.{met_once}
 use Rattle.rbg_search.proofs.Orders.{flat_permuted}
 use Rattle.rbg_search.proofs.Turns.{turned, turn_under, turn_at, turn_front, turn_rest}
+use Rattle.rbg_moves.specs.internal.Asking.{IsAnswered, IsGivenUp}
 use Rattle.rbg_moves.specs.internal.Gathering.{Gathers, IsBehind, IsLegalBy, IsSwitchOr, ListsSwitches, GathersBehind}
-use Rattle.rbg_moves.specs.internal.Stepping.{standing_at, place_behind, IsValidAt}
+use Rattle.rbg_moves.specs.internal.Stepping.{standing_at, place_behind, Behind, IsValidAt, GoesOnByMove, GoesOnBehind}
 use Rattle.rbg_moves.proofs.Steps.{next_applies, next_there, valid_next}
-use Rattle.rbg_moves.proofs.Listing.{others_more}
+use Rattle.rbg_moves.proofs.Listing.{others_more, left_over}
 use Rattle.rbg_moves.proofs.Forcing.{TakenSoFar, so_far_one}
-use Rattle.rbg_moves.proofs.Seeking.{IsWhole}
-use Rattle.rbg_moves.proofs.Tallies.{more_takes}
+use Rattle.rbg_moves.proofs.Seeking.{IsWhole, behind_found, behind_as, applied_back}
+use Rattle.rbg_moves.proofs.Tallies.{begin_takes, more_takes}
 
--- Of the modifiers that come next some were taken, this one is taken now, and the others are left; the game and the
--- semi-state are equal to those of the question.
-pub record AtTurn (game game' : AbstractGame) (place : AbstractPlace) (s' : AbstractState) (done left : List (ℕ × ℕ)) (q : ℕ × ℕ) : Type 0 where
-  pub lawful : IsGame game
-  pub same : game' ≡ game
-  pub same_state : s' ≡ place.state
-  pub ends : Bool
-  pub part : IsFlatPart game place.state (stand_of place.last) (turned done left q) ends
-  pub plain : ¬ IsSwitchAt game.rules q.1
-  pub others : All (λ (r : ℕ × ℕ). ¬ IsSwitchAt game.rules r.1) left
+-- ---- what was counted so far
 
-pub turn_of : (game game' : AbstractGame) (place : AbstractPlace) (s' : AbstractState) (done old left : List (ℕ × ℕ)) (q : ℕ × ℕ) → IsGame game → game' ≡ game → s' ≡ place.state → IsWhole game place.state (stand_of place.last) (done ++ old) → All (λ (r : ℕ × ℕ). ¬ IsSwitchAt game.rules r.1) old → IsPermutation old (q ∷ left) → AtTurn game game' place s' done left q
-turn_of game game' place s' done old left q lawful same same_state whole plain taken =
-    let Plain : ℕ × ℕ → Type 0 = λ r. ¬ IsSwitchAt game.rules r.1 in
-    let both : All Plain (q ∷ left) = All-permutation Plain old (q ∷ left) taken plain in
+-- The openings and pairs that were counted are those of the question without a modifier and behind those that are done.
+pub record IsSoFar (old now : Searching) (question : Question) (s : AbstractState) (f : Start) (done : List (ℕ × ℕ)) : Type 0 where
+  pub counted : CountsUpTo old.game question s f done old.opened now.opened
+  pub paired : CountsPairs old.game question s f old.opened now.opened old.taken now.taken (Unit {0})
+
+pub so_far_begin : (old lent now : Searching) (question : Question) (s : AbstractState) (f f' : Start) (A : Type 0) → IsNumbered old.game.rules → GoesTo old.game question s f [] → lent ≡ old → f' ≡ f → CountsOpenings lent.game reach s f' lent.opened now.opened → CountsPairs lent.game reach s f' lent.opened now.opened lent.taken now.taken A → A → (done : List (ℕ × ℕ)) → IsSoFar old now question s f done
+so_far_begin old lent now question s f f' A numbered goes same start counted paired answered done =
+    let here : CountsOpenings old.game reach s f old.opened now.opened =
+    subst (λ (h : Start). CountsOpenings old.game reach s h old.opened now.opened) start
+    (subst (λ (x : Searching). CountsOpenings x.game reach s f' x.opened now.opened) same counted) in
     record {
-      lawful = lawful;
-      same = same;
-      same_state = same_state;
-      ends = whole.ends;
-      part = flat_permuted game place.state (stand_of place.last) (done ++ old) (turned done left q) whole.ends (IsPermutation-append_right done old (q ∷ left) taken) whole.part;
-      plain = All-head Plain q left both;
-      others = All-tail Plain q left both;
+      counted = counts_weaker old.game numbered (counts_begin old.game numbered goes here) done;
+      paired = begin_takes old lent now question s f f' A same start paired answered;
     }
 
-module _ {game game' : AbstractGame} {place : AbstractPlace} {s' : AbstractState} {done left : List (ℕ × ℕ)} {q : ℕ × ℕ} (turn : AtTurn game game' place s' done left q) where
-  next : IsNext game place.state (stand_of place.last) q.0 q.1
-  next = (turn.part.next q.0 q.1).0 (length done, turn_under done left q, turn_at done left q q)
+pub forced_begin : (old lent now : Searching) (s : AbstractState) (f f' : Start) (left : ℕ) → lent ≡ old → f' ≡ f → CountsForced lent.game false reach s f' lent.opened now.opened left lent.modifiers → CountsForced old.game false reach s f old.opened now.opened left old.modifiers
+forced_begin old lent now s f f' left same start forced =
+    subst (λ (h : Start). CountsForced old.game false reach s h old.opened now.opened left old.modifiers) start
+    (subst (λ (x : Searching). CountsForced x.game false reach s f' x.opened now.opened left x.modifiers) same forced)
+
+pub so_far_answers : (old now : Searching) (cut : Bool) (question : Question) (s : AbstractState) (f : Start) (done : List (ℕ × ℕ)) (left : ℕ) → IsNumbered old.game.rules → IsSoFar old now question s f done → CountsForced old.game cut question s f old.opened now.opened left old.modifiers → IsAnswered old now cut question s f left
+so_far_answers old now cut question s f done left numbered so_far forced = record {
+  counted = counts_end old.game numbered so_far.counted;
+  paired = so_far.paired;
+  forced = forced;
+}
+
+-- ---- why a question was given up
+
+-- What is reached without a modifier was given up.
+pub reach_given_up : (old lent : Searching) (question : Question) (s : AbstractState) (f f' : Start) (left : ℕ) (D W : Type 0) → IsNumbered old.game.rules → GoesTo old.game question s f [] → lent ≡ old → f' ≡ f → (D → IsDeep lent.game reach s f' lent.modifiers) → (W → IsOverBudget lent.game reach s f' lent.opened lent.openings) → IsGivenUp old question s f left D W
+reach_given_up old lent question s f f' left D W numbered goes same start deep wide = record {
+  deep = λ d.
+      somewhere (deep_begin old.game numbered goes
+      (subst (λ (h : Start). IsDeep old.game reach s h old.modifiers) start (subst (λ (x : Searching). IsDeep x.game reach s f' x.modifiers) same (deep d))));
+  wide = λ w.
+      over_begin old.game numbered goes
+      (subst (λ (h : Start). IsOverBudget old.game reach s h old.opened old.openings) start (subst (λ (x : Searching). IsOverBudget x.game reach s f' x.opened x.openings) same (wide w)));
+}
+
+-- ---- one of the modifiers is taken
+
+-- Of the modifiers that come next some were taken, this one is taken now, and the others are left. The search and the
+-- semi-state are those of the question, but for what was counted.
+pub record AtTurn (question : Question) (old now : Searching) (place : AbstractPlace) (s' : AbstractState) (done others : List (ℕ × ℕ)) (q : ℕ × ℕ) : Type 0 where
+  pub lawful : IsGame old.game
+  pub kept : now ≡ record old { opened = now.opened; taken = now.taken }
+  pub there : s' ≡ place.state
+  pub ends : Bool
+  pub part : IsFlatPart old.game place.state (stand_of place.last) (turned done others q) ends
+  pub plain : ¬ IsSwitchAt old.game.rules q.1
+  pub passes : Passes old.game place.state (stand_of place.last) q.0 q.1 question question
+  pub untried : question ≢ try_move []
+
+turn_of : (question : Question) (old now : Searching) (place : AbstractPlace) (s' : AbstractState) (done pairs others : List (ℕ × ℕ)) (q : ℕ × ℕ) → IsGame old.game → now ≡ (record old { opened = now.opened; taken = now.taken }) → s' ≡ place.state → IsWhole old.game place.state (stand_of place.last) (done ++ pairs) → ¬ IsSwitchAt old.game.rules q.1 → IsPermutation pairs (q ∷ others) → Passes old.game place.state (stand_of place.last) q.0 q.1 question question → question ≢ try_move [] → AtTurn question old now place s' done others q
+turn_of question old now place s' done pairs others q lawful kept there whole plain taken passes untried = record {
+  lawful = lawful;
+  kept = kept;
+  there = there;
+  ends = whole.ends;
+  part = flat_permuted old.game place.state (stand_of place.last) (done ++ pairs) (turned done others q) whole.ends (IsPermutation-append_right done pairs (q ∷ others) taken) whole.part;
+  plain = plain;
+  passes = passes;
+  untried = untried;
+}
+
+abbrev Plain : AbstractGame → List (ℕ × ℕ) → Type 0
+Plain game pairs = All (λ (r : ℕ × ℕ). ¬ IsSwitchAt game.rules r.1) pairs
+
+both_plain : (game : AbstractGame) (pairs others : List (ℕ × ℕ)) (q : ℕ × ℕ) → Plain game pairs → IsPermutation pairs (q ∷ others) → Plain game (q ∷ others)
+both_plain game pairs others q plain taken = All-permutation (λ (r : ℕ × ℕ). ¬ IsSwitchAt game.rules r.1) pairs (q ∷ others) taken plain
+
+pub others_plain : (game : AbstractGame) (pairs others : List (ℕ × ℕ)) (q : ℕ × ℕ) → Plain game pairs → IsPermutation pairs (q ∷ others) → Plain game others
+others_plain game pairs others q plain taken = All-tail (λ (r : ℕ × ℕ). ¬ IsSwitchAt game.rules r.1) q others (both_plain game pairs others q plain taken)
+
+pub turn_plain : (game : AbstractGame) (done pairs others : List (ℕ × ℕ)) (q : ℕ × ℕ) → Plain game (done ++ pairs) → IsPermutation pairs (q ∷ others) → Plain game ((done ++ q ∷ []) ++ others)
+turn_plain game done pairs others q plain taken =
+    subst (All (λ (r : ℕ × ℕ). ¬ IsSwitchAt game.rules r.1)) (sym (turn_rest done others q))
+    (All-permutation (λ (r : ℕ × ℕ). ¬ IsSwitchAt game.rules r.1) (done ++ pairs) (turned done others q) (IsPermutation-append_right done pairs (q ∷ others) taken) plain)
+
+first_plain : (game : AbstractGame) (pairs others : List (ℕ × ℕ)) (q : ℕ × ℕ) → Plain game pairs → IsPermutation pairs (q ∷ others) → ¬ IsSwitchAt game.rules q.1
+first_plain game pairs others q plain taken = All-head (λ (r : ℕ × ℕ). ¬ IsSwitchAt game.rules r.1) q others (both_plain game pairs others q plain taken)
+
+pub list_turn : (old now : Searching) (place : AbstractPlace) (s' : AbstractState) (done pairs others : List (ℕ × ℕ)) (q : ℕ × ℕ) → IsGame old.game → now ≡ (record old { opened = now.opened; taken = now.taken }) → s' ≡ place.state → IsWhole old.game place.state (stand_of place.last) (done ++ pairs) → Plain old.game pairs → IsPermutation pairs (q ∷ others) → AtTurn list_moves old now place s' done others q
+list_turn old now place s' done pairs others q lawful kept there whole plain taken =
+    turn_of list_moves old now place s' done pairs others q lawful kept there whole (first_plain old.game pairs others q plain taken) taken listing untried
+  where
+    untried : list_moves ≡ try_move [] → ⊥
+    untried e = cc
+
+-- Where no switch comes next, the question for a move goes on.
+pub find_turn : (old now : Searching) (place : AbstractPlace) (s' : AbstractState) (done pairs others : List (ℕ × ℕ)) (q : ℕ × ℕ) → IsGame old.game → now ≡ (record old { opened = now.opened; taken = now.taken }) → s' ≡ place.state → IsWhole old.game place.state (stand_of place.last) (done ++ pairs) → Plain old.game (done ++ pairs) → IsPermutation pairs (q ∷ others) → AtTurn find_move old now place s' done others q
+find_turn old now place s' done pairs others q lawful kept there whole plain taken =
+    turn_of find_move old now place s' done pairs others q lawful kept there whole
+    (first_plain old.game pairs others q (left_over (λ (r : ℕ × ℕ). ¬ IsSwitchAt old.game.rules r.1) (done ++ pairs) done pairs (IsPermutation-refl (done ++ pairs)) plain) taken) taken
+    (finding (no_switch_found old.game lawful.numbered whole.part plain)) untried
+  where
+    untried : find_move ≡ try_move [] → ⊥
+    untried e = cc
+
+module _ {question : Question} {old now : Searching} {place : AbstractPlace} {s' : AbstractState} {done others : List (ℕ × ℕ)} {q : ℕ × ℕ} (turn : AtTurn question old now place s' done others q) where
+  pub turn_next : IsNext old.game place.state (stand_of place.last) q.0 q.1
+  turn_next = (turn.part.next q.0 q.1).0 (length done, turn_under done others q, turn_at done others q q)
 
   fresh : ¬ Contains done q
-  fresh = subst (λ (ds : List (ℕ × ℕ)). ¬ Contains ds q) (turn_front done left q) (met_once (turned done left q) (length done) q turn.part.different (turn_under done left q) (turn_at done left q q))
+  fresh = subst (λ (ds : List (ℕ × ℕ)). ¬ Contains ds q) (turn_front done others q) (met_once (turned done others q) (length done) q turn.part.different (turn_under done others q) (turn_at done others q q))
 
-  goes_on : GoesOn game list_moves place.state (stand_of place.last) q.0 q.1 list_moves next.later
+  goes_on : GoesOn old.game question place.state (stand_of place.last) q.0 q.1 question turn_next.later
   goes_on = record {
-    next = next;
-    applies = next_applies game turn.lawful.numbered place.state (stand_of place.last) q.0 q.1 next;
+    next = turn_next;
+    applies = next_applies old.game turn.lawful.numbered place.state (stand_of place.last) q.0 q.1 turn_next;
     plain = turn.plain;
-    passes = listing;
+    passes = turn.passes;
   }
 
+  abbrev here : Searching
+  here = record old { opened = now.opened; taken = now.taken }
+
+  same : now.game ≡ old.game
+  same = ap (λ (x : Searching). x.game) turn.kept
+
   -- What is so behind the modifier, wherever it leads, is so behind the one that comes next.
-  at_later : (F : AbstractGame → AbstractState → Type 0) → ((later : AbstractState) → Applies game' q.1 (standing_at s' q.0) later → F game' later) → F game next.later
-  at_later F behind =
-      let there : Applies game q.1 (standing_at s' q.0) next.later = subst (λ (s : AbstractState). Applies game q.1 (standing_at s q.0) next.later) (sym turn.same_state) goes_on.applies in
-      let here : Applies game' q.1 (standing_at s' q.0) next.later = subst (λ (g : AbstractGame). Applies g q.1 (standing_at s' q.0) next.later) (sym turn.same) there in
-      subst (λ (g : AbstractGame). F g next.later) turn.same (behind next.later here)
+  at_later : (Is : Searching → AbstractState → Type 0) → Behind now.game s' q (Is now) → Is here turn_next.later
+  at_later Is behind =
+      subst (λ (x : Searching). Is x turn_next.later) turn.kept
+      (behind turn_next.later (applied_back old.game now.game place.state s' turn_next.later q.0 q.1 same turn.there goes_on.applies))
 
-  pub turn_whole : IsWhole game place.state (stand_of place.last) ((done ++ q ∷ []) ++ left)
-  turn_whole = record { ends = turn.ends; part = subst (λ (ps : List (ℕ × ℕ)). IsFlatPart game place.state (stand_of place.last) ps turn.ends) (sym (turn_rest done left q)) turn.part }
+  pub turn_whole : IsWhole old.game place.state (stand_of place.last) ((done ++ q ∷ []) ++ others)
+  turn_whole = record { ends = turn.ends; part = subst (λ (ps : List (ℕ × ℕ)). IsFlatPart old.game place.state (stand_of place.last) ps turn.ends) (sym (turn_rest done others q)) turn.part }
 
-  pub turn_fits : IsStateOf game place.state → IsStateOf game' s'
-  turn_fits fits = subst (λ (g : AbstractGame). IsStateOf g s') (sym turn.same) (subst (λ (s : AbstractState). IsStateOf game s) (sym turn.same_state) fits)
+  pub turn_fits : IsStateOf old.game place.state → IsStateOf now.game s'
+  turn_fits fits = subst (λ (g : AbstractGame). IsStateOf g s') (sym same) (subst (λ (s : AbstractState). IsStateOf old.game s) (sym turn.there) fits)
 
-  pub turn_valid : IsStateOf game place.state → IsValidAt game' s' q.0 q.1
+  pub turn_valid : IsStateOf old.game place.state → IsValidAt now.game s' q.0 q.1
   turn_valid fits =
       let f = stand_of place.last in
-      let valid : IsValidAt game place.state q.0 q.1 = valid_next game turn.lawful.numbered place.state f q.0 q.1 (next_there game turn.lawful place.state f q.0 q.1 fits next) next in
-      subst (λ (g : AbstractGame). IsValidAt g s' q.0 q.1) (sym turn.same) (subst (λ (s : AbstractState). IsValidAt game s q.0 q.1) (sym turn.same_state) valid)
+      let valid : IsValidAt old.game place.state q.0 q.1 = valid_next old.game turn.lawful.numbered place.state f q.0 q.1 (next_there old.game turn.lawful place.state f q.0 q.1 fits turn_next) turn_next in
+      subst (λ (g : AbstractGame). IsValidAt g s' q.0 q.1) (sym same) (subst (λ (s : AbstractState). IsValidAt old.game s q.0 q.1) (sym turn.there) valid)
 
-  pub turn_gathered : (front front' : List (ℕ × ℕ)) (max max' : ℕ) (old now new : List (List (ℕ × ℕ))) (cut told : Bool) → front' ≡ front → max' ≡ max → told ≡ cut → Gathers (IsLegalBy game place (IsSwitchOr game.rules done)) front max old now false → GathersBehind game' s' q front' max' now new told → Gathers (IsLegalBy game place (IsSwitchOr game.rules (done ++ q ∷ []))) front max old new cut
-  turn_gathered front front' max max' old now new cut told same_front same_max same_cut so_far behind =
-      let behind' : GathersBehind game' s' q front max now new cut =
-      subst (λ (b : Bool). GathersBehind game' s' q front max now new b) same_cut
-      (subst (λ (xs : List (ℕ × ℕ)). GathersBehind game' s' q xs max now new told) same_front
-      (subst (λ (n : ℕ). GathersBehind game' s' q front' n now new told) same_max behind)) in
-      others_more game turn.lawful.numbered place done front max old now new cut q next.later next fresh turn.plain goes_on.applies so_far
-      (at_later (λ g later. Gathers (IsBehind q (IsLegal g (place_behind later q.1))) front max now new cut) behind'.gathers)
+  pub turn_so_far : (new : Searching) (cut : Bool) (left : ℕ) → IsSoFar old now question place.state (stand_of place.last) done → Behind now.game s' q (λ later. IsAnswered now new cut question later (after q.1) left) → IsSoFar old new question place.state (stand_of place.last) (done ++ q ∷ [])
+  turn_so_far new cut left so_far behind =
+      let more = at_later (λ x later. IsAnswered x new cut question later (after q.1) left) behind in
+      record {
+        counted = counts_more old.game turn.lawful.numbered so_far.counted fresh goes_on more.counted;
+        paired = more_takes old.game old.game question question place.state turn_next.later (stand_of place.last) q.0 q.1 old.opened now.opened new.opened old.taken now.taken new.taken refl goes_on so_far.paired more.paired;
+      }
 
-  pub turn_counted : (a b c : ℕ) → CountsUpTo game list_moves place.state (stand_of place.last) done a b → ((later : AbstractState) → Applies game' q.1 (standing_at s' q.0) later → CountsOpenings game' list_moves later (after q.1) b c) → CountsUpTo game list_moves place.state (stand_of place.last) (done ++ q ∷ []) a c
-  turn_counted a b c so_far behind =
-      counts_more game turn.lawful.numbered so_far fresh goes_on (at_later (λ g later. CountsOpenings g list_moves later (after q.1) b c) behind)
+  pub turn_grows : (new : Searching) (cut : Bool) (left : ℕ) → Behind now.game s' q (λ later. IsAnswered now new cut question later (after q.1) left) → now.opened ≤ new.opened
+  turn_grows new cut left behind = let more = at_later (λ x later. IsAnswered x new cut question later (after q.1) left) behind in omega (arith, more.forced.fits)
 
-  pub turn_paired : (a b c t u w : ℕ) → CountsPairs game list_moves place.state (stand_of place.last) a b t u (Unit {0}) → ((later : AbstractState) → Applies game' q.1 (standing_at s' q.0) later → CountsPairs game' list_moves later (after q.1) b c u w (Unit {0})) → CountsPairs game list_moves place.state (stand_of place.last) a c t w (Unit {0})
-  turn_paired a b c t u w so_far behind =
-      more_takes game game list_moves list_moves place.state next.later (stand_of place.last) q.0 q.1 a b c t u w refl goes_on so_far
-      (at_later (λ g later. CountsPairs g list_moves later (after q.1) b c u w (Unit {0})) behind)
+  pub turn_forced : (new : Searching) (cut : Bool) (left less : ℕ) → cut ≡ false → less ≡ left - 1 → 1 < left → TakenSoFar old.game question place.state (stand_of place.last) done old.opened now.opened left old.modifiers → Behind now.game s' q (λ later. IsAnswered now new cut question later (after q.1) less) → TakenSoFar old.game question place.state (stand_of place.last) (done ++ q ∷ []) old.opened new.opened left old.modifiers
+  turn_forced new cut left less uncut fewer more_left so_far behind =
+      let more = at_later (λ x later. IsAnswered x new cut question later (after q.1) less) behind in
+      so_far_one old.game turn.lawful.numbered question place.state (stand_of place.last) done q turn_next.later old.opened now.opened new.opened left old.modifiers goes_on.applies more_left so_far
+      (subst (λ (n : ℕ). CountsForced old.game false question turn_next.later (after q.1) now.opened new.opened n old.modifiers) fewer
+      (subst (λ (b : Bool). CountsForced old.game b question turn_next.later (after q.1) now.opened new.opened less old.modifiers) uncut more.forced))
 
-  pub turn_wide : (a b most most' : ℕ) → most' ≡ most → CountsUpTo game list_moves place.state (stand_of place.last) done a b → ((later : AbstractState) → Applies game' q.1 (standing_at s' q.0) later → IsOverBudget game' list_moves later (after q.1) b most') → IsOverBudget game list_moves place.state (stand_of place.last) a most
-  turn_wide a b most most' same_most so_far behind =
-      over_more game turn.lawful.numbered so_far fresh goes_on
-      (subst (λ (m : ℕ). IsOverBudget game list_moves next.later (after q.1) b m) same_most
-      (at_later (λ g later. IsOverBudget g list_moves later (after q.1) b most') behind))
-
-  pub turn_deep : (left_over left' most most' : ℕ) → suc left' ≡ left_over → most' ≡ most → ((later : AbstractState) → Applies game' q.1 (standing_at s' q.0) later → IsTooDeep game' list_moves later (after q.1) left' most') → IsTooDeep game list_moves place.state (stand_of place.last) left_over most
-  turn_deep left_over left' most most' one_more same_most behind =
-      let deep : IsTooDeep game list_moves next.later (after q.1) left' most =
-      subst (λ (m : ℕ). IsTooDeep game list_moves next.later (after q.1) left' m) same_most
-      (at_later (λ g later. IsTooDeep g list_moves later (after q.1) left' most') behind) in
-      subst (λ (n : ℕ). IsTooDeep game list_moves place.state (stand_of place.last) n most) one_more
-      (deep_more game turn.lawful.numbered goes_on deep)
-
-  not_tried : list_moves ≡ try_move [] → ⊥
-  not_tried e = cc
+  pub turn_given_up : (left less : ℕ) (D W : Type 0) → suc less ≡ left → IsSoFar old now question place.state (stand_of place.last) done → Behind now.game s' q (λ later. IsGivenUp now question later (after q.1) less D W) → IsGivenUp old question place.state (stand_of place.last) left D W
+  turn_given_up left less D W one_more so_far behind =
+      let more = at_later (λ x later. IsGivenUp x question later (after q.1) less D W) behind in
+      record {
+        deep = λ d. subst (λ (n : ℕ). IsTooDeep old.game question place.state (stand_of place.last) n old.modifiers) one_more (deep_more old.game turn.lawful.numbered goes_on (more.deep d));
+        wide = λ w. over_more old.game turn.lawful.numbered so_far.counted fresh goes_on (more.wide w);
+      }
 
   -- One more is too many.
-  pub turn_too_many : (left_over most : ℕ) → left_over ≡ 1 → IsTooDeep game list_moves place.state (stand_of place.last) left_over most
-  turn_too_many left_over most one =
-      subst (λ (n : ℕ). IsTooDeep game list_moves place.state (stand_of place.last) n most) (sym one)
-      (from_here (row_one game turn.lawful.numbered turn.lawful.no_empty_sum goes_on not_tried))
+  pub turn_too_many : (left : ℕ) (D W : Type 0) → left ≡ 1 → ¬ W → IsGivenUp old question place.state (stand_of place.last) left D W
+  turn_too_many left D W one wide = record {
+    deep = λ _.
+        subst (λ (n : ℕ). IsTooDeep old.game question place.state (stand_of place.last) n old.modifiers) (sym one)
+        (from_here (row_one old.game turn.lawful.numbered turn.lawful.no_empty_sum goes_on turn.untried));
+    wide = λ w. absurd (wide w);
+  }
 
-  -- What was taken up behind it, where the answer is cut or isn't.
-  pub turn_grows : (b c left' most' : ℕ) (cut : Bool) → ((later : AbstractState) → Applies game' q.1 (standing_at s' q.0) later → CountsForced game' cut list_moves later (after q.1) b c left' most') → b ≤ c
-  turn_grows b c left' most' cut behind = let more = at_later (λ g later. CountsForced g cut list_moves later (after q.1) b c left' most') behind in omega (arith, more.fits)
+  pub turn_gathered : (front front' : List (ℕ × ℕ)) (max max' : ℕ) (kept met new : List (List (ℕ × ℕ))) (cut told : Bool) → front' ≡ front → max' ≡ max → told ≡ cut → Gathers (IsLegalBy old.game place (IsSwitchOr old.game.rules done)) front max kept met false → GathersBehind now.game s' q front' max' met new told → Gathers (IsLegalBy old.game place (IsSwitchOr old.game.rules (done ++ q ∷ []))) front max kept new cut
+  turn_gathered front front' max max' kept met new cut told same_front same_max same_cut so_far behind =
+      let behind' : GathersBehind now.game s' q front max met new cut =
+      subst (λ (b : Bool). GathersBehind now.game s' q front max met new b) same_cut
+      (subst (λ (ps : List (ℕ × ℕ)). GathersBehind now.game s' q ps max met new told) same_front
+      (subst (λ (n : ℕ). GathersBehind now.game s' q front' n met new told) same_max behind)) in
+      others_more old.game turn.lawful.numbered place done front max kept met new cut q turn_next.later turn_next fresh turn.plain goes_on.applies so_far
+      (at_later (λ x later. Gathers (IsBehind q (IsLegal x.game (place_behind later q.1))) front max met new cut) behind'.gathers)
 
-  pub turn_forced : (a b c left_over left' most most' : ℕ) (told : Bool) → told ≡ false → left' ≡ left_over - 1 → most' ≡ most → 1 < left_over → TakenSoFar game list_moves place.state (stand_of place.last) done a b left_over most → ((later : AbstractState) → Applies game' q.1 (standing_at s' q.0) later → CountsForced game' told list_moves later (after q.1) b c left' most') → TakenSoFar game list_moves place.state (stand_of place.last) (done ++ q ∷ []) a c left_over most
-  turn_forced a b c left_over left' most most' told uncut fewer same_most more_left so_far behind =
-      let later = next.later in
-      so_far_one game turn.lawful.numbered list_moves place.state (stand_of place.last) done q later a b c left_over most goes_on.applies more_left so_far
-      (subst (λ (n : ℕ). CountsForced game false list_moves later (after q.1) b c (left_over - 1) n) same_most
-      (subst (λ (n : ℕ). CountsForced game false list_moves later (after q.1) b c n most') fewer
-      (subst (λ (x : Bool). CountsForced game x list_moves later (after q.1) b c left' most') uncut
-      (at_later (λ g t. CountsForced g told list_moves t (after q.1) b c left' most') behind))))
+  -- A move behind the modifier.
+  pub turn_found : (front front' whole : List (ℕ × ℕ)) → front' ≡ front → GoesOnBehind now.game s' q.0 q.1 front' whole → GoesOnByMove old.game place front whole
+  turn_found front front' whole same_front found =
+      behind_found old.game turn.lawful.numbered place q.0 q.1 front whole turn_next turn.plain
+      (behind_as old.game now.game place.state s' q.0 q.1 front front' whole same turn.there same_front found)
 
--- The same in other words.
-pub part_as : (game : AbstractGame) (s : AbstractState) (f f' : Start) (xs ys : List (ℕ × ℕ)) (ends : Bool) → f ≡ f' → ys ≡ xs → IsFlatPart game s f xs ends → IsFlatPart game s f' ys ends
-part_as game s f f' xs ys ends same same_pairs part =
-    subst (λ (g : Start). IsFlatPart game s g ys ends) same
-    (subst (λ (zs : List (ℕ × ℕ)). IsFlatPart game s f zs ends) (sym same_pairs) part)
+  pub turn_finished : Behind now.game s' q (λ later. Finished now.game (place_behind later q.1)) → Behind old.game place.state q (λ later. Finished old.game (place_behind later q.1))
+  turn_finished none later applied =
+      subst (λ (g : AbstractGame). Finished g (place_behind later q.1)) same (none later (applied_back old.game now.game place.state s' later q.0 q.1 same turn.there applied))
 
-pub switches_as : (game game' : AbstractGame) (xs ys front front' : List (ℕ × ℕ)) (max : ℕ) (old new : List (List (ℕ × ℕ))) (cut cut' : Bool) → game ≡ game' → xs ≡ ys → front ≡ front' → cut ≡ cut' → ListsSwitches game xs xs front max old new cut → ListsSwitches game' ys ys front' max old new cut'
-switches_as game game' xs ys front front' max old new cut cut' same same_pairs same_front same_cut lists =
-    subst (λ (b : Bool). ListsSwitches game' ys ys front' max old new b) same_cut
-    (subst (λ (zs : List (ℕ × ℕ)). ListsSwitches game' ys ys zs max old new cut) same_front
-    (subst (λ (zs : List (ℕ × ℕ)). ListsSwitches game' zs zs front max old new cut) same_pairs
-    (subst (λ (g : AbstractGame). ListsSwitches g xs xs front max old new cut) same lists)))
+-- ---- the same in other words
 
--- What was counted where no modifier was taken.
-pub reach_deep : (game : AbstractGame) → IsNumbered game.rules → (s : AbstractState) (f f' : Start) (left most : ℕ) → f ≡ f' → IsDeep game reach s f most → IsTooDeep game list_moves s f' left most
-reach_deep game numbered s f f' left most same deep =
-    subst (λ (g : Start). IsTooDeep game list_moves s g left most) same (somewhere (deep_begin game numbered (list_begins game s f) deep))
+pub part_as : (old lent : Searching) (s : AbstractState) (f f' : Start) (xs ys : List (ℕ × ℕ)) (ends : Bool) → lent ≡ old → f' ≡ f → xs ≡ ys → IsFlatPart lent.game s f' xs ends → IsFlatPart old.game s f ys ends
+part_as old lent s f f' xs ys ends same start same_pairs part =
+    subst (λ (zs : List (ℕ × ℕ)). IsFlatPart old.game s f zs ends) same_pairs
+    (subst (λ (g : Start). IsFlatPart old.game s g xs ends) start
+    (subst (λ (x : Searching). IsFlatPart x.game s f' xs ends) same part))
 
-pub reach_wide : (game : AbstractGame) → IsNumbered game.rules → (s : AbstractState) (f f' : Start) (a most : ℕ) → f ≡ f' → IsOverBudget game reach s f a most → IsOverBudget game list_moves s f' a most
-reach_wide game numbered s f f' a most same wide =
-    subst (λ (g : Start). IsOverBudget game list_moves s g a most) same (over_begin game numbered (list_begins game s f) wide)
+pub switches_as : (game game' : AbstractGame) (pairs front front' : List (ℕ × ℕ)) (max : ℕ) (old new : List (List (ℕ × ℕ))) (cut cut' : Bool) → game ≡ game' → front ≡ front' → cut ≡ cut' → ListsSwitches game pairs pairs front max old new cut → ListsSwitches game' pairs pairs front' max old new cut'
+switches_as game game' pairs front front' max old new cut cut' same same_front same_cut lists =
+    subst (λ (b : Bool). ListsSwitches game' pairs pairs front' max old new b) same_cut
+    (subst (λ (zs : List (ℕ × ℕ)). ListsSwitches game' pairs pairs zs max old new cut) same_front
+    (subst (λ (g : AbstractGame). ListsSwitches g pairs pairs front max old new cut) same lists))
 
-pub reach_counts : (game : AbstractGame) → IsNumbered game.rules → (s : AbstractState) (f f' : Start) (a b : ℕ) → f ≡ f' → CountsOpenings game reach s f a b → CountsUpTo game list_moves s f' [] a b
-reach_counts game numbered s f f' a b same counted =
-    subst (λ (g : Start). CountsUpTo game list_moves s g [] a b) same (counts_begin game numbered (list_begins game s f) counted)
-
-pub reach_counted : (game : AbstractGame) → IsNumbered game.rules → (s : AbstractState) (f f' : Start) (a b : ℕ) → f ≡ f' → CountsOpenings game reach s f a b → CountsOpenings game list_moves s f' a b
-reach_counted game numbered s f f' a b same counted = counts_end game numbered (reach_counts game numbered s f f' a b same counted)
-
--- What holds where the program stands holds where the modifier leads.
-pub made : (F : AbstractState → ℕ → Type 0) (game game' : AbstractGame) → IsNumbered game.rules → (s here later : AbstractState) (q : ℕ × ℕ) (p : ℕ) → game' ≡ game → p ≡ q.1 → Applies game' q.1 (standing_at s q.0) here → Applies game q.1 (standing_at s q.0) later → F here p → F later q.1
-made F game game' numbered s here later q p same same_position applied applied' holds =
+-- What holds where the program stands holds wherever the modifier leads.
+pub made : (Is : AbstractState → ℕ → Type 0) (game game' : AbstractGame) → IsNumbered game.rules → (s here : AbstractState) (q : ℕ × ℕ) (p : ℕ) → game' ≡ game → p ≡ q.1 → Applies game' q.1 (standing_at s q.0) here → Is here p → Behind game s q (λ later. Is later q.1)
+made Is game game' numbered s here q p same same_position applied holds later applied' =
     let here' : Applies game q.1 (standing_at s q.0) here = subst (λ (g : AbstractGame). Applies g q.1 (standing_at s q.0) here) same applied in
-    subst (λ (x : AbstractState). F x q.1) (Applies_one game numbered q.1 here' applied') (subst (λ (n : ℕ). F here n) same_position holds)
+    subst (λ (x : AbstractState). Is x q.1) (Applies_one game numbered q.1 here' applied') (subst (λ (n : ℕ). Is here n) same_position holds)
+
+pub made_answered : (old new : Searching) (cut : Bool) (question : Question) (game' : AbstractGame) (s here : AbstractState) (q : ℕ × ℕ) (p left less : ℕ) → IsNumbered old.game.rules → game' ≡ old.game → p ≡ q.1 → less ≡ left → Applies game' q.1 (standing_at s q.0) here → IsAnswered old new cut question here (after p) less → Behind old.game s q (λ later. IsAnswered old new cut question later (after q.1) left)
+made_answered old new cut question game' s here q p left less numbered same same_position same_left applied answered =
+    made (λ t n. IsAnswered old new cut question t (after n) left) old.game game' numbered s here q p same same_position applied
+    (subst (λ (n : ℕ). IsAnswered old new cut question here (after p) n) same_left answered)
+
+pub made_given_up : (old : Searching) (question : Question) (game' : AbstractGame) (s here : AbstractState) (q : ℕ × ℕ) (p left less : ℕ) (D W : Type 0) → IsNumbered old.game.rules → game' ≡ old.game → p ≡ q.1 → less ≡ left → Applies game' q.1 (standing_at s q.0) here → IsGivenUp old question here (after p) less D W → Behind old.game s q (λ later. IsGivenUp old question later (after q.1) left D W)
+made_given_up old question game' s here q p left less D W numbered same same_position same_left applied given_up =
+    made (λ t n. IsGivenUp old question t (after n) left D W) old.game game' numbered s here q p same same_position applied
+    (subst (λ (n : ℕ). IsGivenUp old question here (after p) n D W) same_left given_up)

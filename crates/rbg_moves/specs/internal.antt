@@ -1,4 +1,5 @@
 -- What only the proofs and the private contracts of this crate cite.
+pub mod Asking
 pub mod Gathering
 pub mod Shown
 pub mod Stepping

@@ -1,10 +1,9 @@
 //! Some legal move, where there is one.
 ghost use Rattle.std.specs.Prelude.{◌≡◌, ◌⊎◌, ◌+◌, ◌-◌, ◌<◌, ◌≤◌, length, All, Contains, IfOk, IfSome, IfNone, IsTrue, not, OnOk, OnErr, Err, Bool, false};
 ghost use Rattle.rbg_base.specs.Move.{most_pairs, IsMoveLength};
-ghost use Rattle.rbg_rules.specs.State.{AbstractState, IsStateOf};
+ghost use Rattle.rbg_rules.specs.State.{IsStateOf};
 ghost use Rattle.rbg_rules.specs.Positions.{IsSwitchAt};
 ghost use Rattle.rbg_rules.specs.Words.{after};
-ghost use Rattle.rbg_rules.specs.Actions.{Applies};
 ghost use Rattle.rbg_rules.specs.Moves.{stand_of, IsLegal, Finished};
 ghost use Rattle.rbg_rules.specs.Questions.{find_move};
 ghost use Rattle.rbg_rules.specs.Games.{IsGame};
@@ -12,14 +11,11 @@ ghost use Rattle.rbg_rules.specs.Places.{IsPlaceOf};
 ghost use Rattle.rbg_rules.specs.Heavy.{IsHeavyToFind};
 ghost use Rattle.rbg_flat.specs.Paths.{ArePathsOf};
 ghost use Rattle.rbg_search.specs.Start.{IsPositionOf};
-ghost use Rattle.rbg_search.specs.Counting.{CountsOpenings, IsOverBudget};
-ghost use Rattle.rbg_search.specs.Passing.{IsTooDeep};
-ghost use Rattle.rbg_search.specs.Forced.{CountsForced};
-ghost use Rattle.rbg_search.specs.Taken.{CountsPairs};
 ghost use Rattle.rbg_state.specs.History.{IsAfter};
 ghost use Rattle.rbg_moves.specs.Limits.{IsDeepAt, IsWideAt, FitsLimits};
 ghost use Rattle.rbg_moves.specs.Tallying.{IsTallied};
-ghost use Rattle.rbg_moves.specs.internal.Stepping.{standing_at, place_behind, IsValidAt, GoesOnByMove, GoesOnBehind};
+ghost use Rattle.rbg_moves.specs.internal.Asking.{IsAnswered, IsGivenUp};
+ghost use Rattle.rbg_moves.specs.internal.Stepping.{place_behind, Behind, IsValidAt, GoesOnByMove, GoesOnBehind};
 
 use crate::asking::{budget_is_kept, game_is_accepted, join, move_of, origin_after, search_in};
 use crate::least::take_switch;
@@ -27,7 +23,7 @@ use crate::place::Place;
 use crate::stepping::apply_at;
 use crate::workspace::Workspace;
 use rbg_auto::Steps;
-use rbg_base::{MAX_PAIRS, Move, Pair, Position, Vertex};
+use rbg_base::{MAX_PAIRS, Move, Pair, Position};
 use rbg_flat::Paths;
 use rbg_rules::Game;
 use rbg_search::{Over, Search, Workspace as SearchWorkspace};
@@ -270,20 +266,10 @@ fn find<S: Steps>(
     ensures length { IfOk result (λ found. IsTrue found → IsMoveLength (length whole.new.items)) }
     ensures none { IfOk result (λ found. IsTrue (not found) → Finished search.old.game
         (record { state = state.old.state; last = after })) }
-    ensures counted { OnOk result (CountsOpenings search.old.game find_move state.old.state
-        (stand_of after) search.old.opened search.new.opened) }
-    ensures paired { OnOk result (CountsPairs search.old.game find_move state.old.state
-        (stand_of after) search.old.opened search.new.opened
-        search.old.taken search.new.taken (Unit {0})) }
-    ensures deep { result ≡ Err Over.Deep
-        → IsTooDeep search.old.game find_move state.old.state (stand_of after)
-        (most_pairs - length front.old.items) search.old.modifiers }
-    ensures wide { result ≡ Err Over.Wide
-        → IsOverBudget search.old.game find_move state.old.state (stand_of after)
-        search.old.opened search.old.openings }
-    ensures forced { OnOk result (CountsForced search.old.game false find_move state.old.state
-        (stand_of after) search.old.opened search.new.opened
-        (most_pairs - length front.old.items) search.old.modifiers) }
+    ensures answered { OnOk result (IsAnswered search.old search.new false find_move
+        state.old.state (stand_of after) (most_pairs - length front.old.items)) }
+    ensures given_up { IsGivenUp search.old find_move state.old.state (stand_of after)
+        (most_pairs - length front.old.items) (result ≡ Err Over.Deep) (result ≡ Err Over.Wide) }
 {
     let game = search.game();
     let mut pairs = search.take_list();
@@ -297,7 +283,7 @@ fn find<S: Steps>(
         if front.len() + 1 == MAX_PAIRS {
             return Err(Over::Deep);
         }
-        let found = find_behind(search, state, front, whole, game, vertex, position)?;
+        let found = find_behind(search, state, front, whole, Pair { vertex, position })?;
         if found {
             search.keep_list(pairs);
             return Ok(true);
@@ -315,14 +301,10 @@ fn find_behind<S: Steps>(
     state: &mut SemiState,
     front: &mut Vec<Pair>,
     whole: &mut Vec<Pair>,
-    game: &Game,
-    vertex: Vertex,
-    position: Position,
+    pair: Pair,
 ) -> Result<bool, Over>
-    requires game { game.now ≡ search.old.game }
-    requires lawful { IsGame game.now }
-    requires fits { IsStateOf game.now state.old.state }
-    requires valid { IsValidAt game.now state.old.state vertex position }
+    requires fits { IsStateOf search.old.game state.old.state }
+    requires valid { IsValidAt search.old.game state.old.state pair.0 pair.1 }
     requires room { 2 ≤ state.old.room }
     requires short { length front.old.items + 1 < most_pairs }
     ensures search { search.new ≡ record search.old { opened = search.new.opened; taken = search.new.taken } }
@@ -330,39 +312,25 @@ fn find_behind<S: Steps>(
     ensures room { OnOk result (state.old.room ≤ state.new.room) }
     ensures after { OnErr result (IsAfter state.old state.new) }
     ensures front { OnOk result (front.new.items ≡ front.old.items) }
-    ensures found { IfOk result (λ found. IsTrue found → GoesOnBehind game.now state.old.state
-        vertex position front.old.items whole.new.items) }
+    ensures found { IfOk result (λ found. IsTrue found → GoesOnBehind search.old.game
+        state.old.state pair.0 pair.1 front.old.items whole.new.items) }
     ensures length { IfOk result (λ found. IsTrue found → IsMoveLength (length whole.new.items)) }
-    ensures none { IfOk result (λ found. IsTrue (not found) → (later : AbstractState)
-        → Applies game.now position (standing_at state.old.state vertex) later
-        → Finished game.now (place_behind later position)) }
-    ensures counted { OnOk result ((later : AbstractState)
-        → Applies game.now position (standing_at state.old.state vertex) later
-        → CountsOpenings game.now find_move later (after position)
-        search.old.opened search.new.opened) }
-    ensures paired { OnOk result ((later : AbstractState)
-        → Applies game.now position (standing_at state.old.state vertex) later
-        → CountsPairs game.now find_move later (after position)
-        search.old.opened search.new.opened search.old.taken search.new.taken (Unit {0})) }
-    ensures deep { result ≡ Err Over.Deep → (later : AbstractState)
-        → Applies game.now position (standing_at state.old.state vertex) later
-        → IsTooDeep game.now find_move later (after position)
-        (most_pairs - (length front.old.items + 1)) search.old.modifiers }
-    ensures wide { result ≡ Err Over.Wide → (later : AbstractState)
-        → Applies game.now position (standing_at state.old.state vertex) later
-        → IsOverBudget game.now find_move later (after position)
-        search.old.opened search.old.openings }
-    ensures forced { OnOk result ((later : AbstractState)
-        → Applies game.now position (standing_at state.old.state vertex) later
-        → CountsForced game.now false find_move later (after position)
-        search.old.opened search.new.opened
-        (most_pairs - (length front.old.items + 1)) search.old.modifiers) }
+    ensures none { IfOk result (λ found. IsTrue (not found)
+        → Behind search.old.game state.old.state pair (λ later.
+        Finished search.old.game (place_behind later pair.1))) }
+    ensures answered { OnOk result (Behind search.old.game state.old.state pair (λ later.
+        IsAnswered search.old search.new false find_move later (after pair.1)
+        (most_pairs - (length front.old.items + 1)))) }
+    ensures given_up { Behind search.old.game state.old.state pair (λ later.
+        IsGivenUp search.old find_move later (after pair.1)
+        (most_pairs - (length front.old.items + 1))
+        (result ≡ Err Over.Deep) (result ≡ Err Over.Wide)) }
 {
+    let game = search.game();
     let mark = state.mark();
-    let pair = Pair { vertex, position };
     apply_at(game, state, pair);
     front.push(pair)?;
-    let found = find(search, state, front, whole, Some(position))?;
+    let found = find(search, state, front, whole, Some(pair.position))?;
     front.pop();
     state.undo_to(mark);
     Ok(found)

@@ -2,9 +2,8 @@
 ghost use Rattle.std.specs.Prelude.{◌≡◌, ◌≢◌, ◌⊎◌, ℕ, ◌+◌, ◌-◌, ◌<◌, ◌≤◌, [], ◌∷◌, ◌++◌, length, All, AllPairs, IfOk, OnOk, OnErr, IfSome, Err, false};
 ghost use Rattle.std.specs.List.Sorted.{IsPermutation};
 ghost use Rattle.rbg_base.specs.Move.{most_pairs};
-ghost use Rattle.rbg_rules.specs.State.{AbstractState, IsStateOf};
+ghost use Rattle.rbg_rules.specs.State.{IsStateOf};
 ghost use Rattle.rbg_rules.specs.Words.{after};
-ghost use Rattle.rbg_rules.specs.Actions.{Applies};
 ghost use Rattle.rbg_rules.specs.Moves.{stand_of, IsLegal};
 ghost use Rattle.rbg_rules.specs.Questions.{list_moves as listing_moves};
 ghost use Rattle.rbg_rules.specs.Games.{IsGame};
@@ -12,15 +11,12 @@ ghost use Rattle.rbg_rules.specs.Places.{IsPlaceOf};
 ghost use Rattle.rbg_rules.specs.Heavy.{IsTooHard};
 ghost use Rattle.rbg_flat.specs.Paths.{ArePathsOf};
 ghost use Rattle.rbg_search.specs.Start.{IsPositionOf};
-ghost use Rattle.rbg_search.specs.Counting.{CountsOpenings, IsOverBudget};
-ghost use Rattle.rbg_search.specs.Passing.{IsTooDeep};
-ghost use Rattle.rbg_search.specs.Forced.{CountsForced};
-ghost use Rattle.rbg_search.specs.Taken.{CountsPairs};
 ghost use Rattle.rbg_moves.specs.Limits.{IsDeepAt, IsWideAt, FitsLimits};
 ghost use Rattle.rbg_moves.specs.Listing.{IsGathered, IsListed, IsMoveBefore};
 ghost use Rattle.rbg_moves.specs.Tallying.{IsTallied};
+ghost use Rattle.rbg_moves.specs.internal.Asking.{IsAnswered, IsGivenUp};
 ghost use Rattle.rbg_moves.specs.internal.Gathering.{Gathers, GathersBehind, ListsSwitches, LeavesOthers};
-ghost use Rattle.rbg_moves.specs.internal.Stepping.{standing_at, IsValidAt};
+ghost use Rattle.rbg_moves.specs.internal.Stepping.{Behind, IsValidAt};
 
 use crate::asking::{budget_is_kept, move_of, origin_after, search_in};
 use crate::least::take_switch;
@@ -232,20 +228,10 @@ fn list<S: Steps>(
     ensures gathered { IfOk result (λ cut.
         Gathers (IsLegal search.old.game (record { state = state.old.state; last = after }))
         front.old.items found.old.max found.old.moves found.new.moves cut) }
-    ensures counted { OnOk result (CountsOpenings search.old.game listing_moves state.old.state
-        (stand_of after) search.old.opened search.new.opened) }
-    ensures paired { OnOk result (CountsPairs search.old.game listing_moves state.old.state
-        (stand_of after) search.old.opened search.new.opened
-        search.old.taken search.new.taken (Unit {0})) }
-    ensures deep { result ≡ Err Over.Deep
-        → IsTooDeep search.old.game listing_moves state.old.state (stand_of after)
-        (most_pairs - length front.old.items) search.old.modifiers }
-    ensures wide { result ≡ Err Over.Wide
-        → IsOverBudget search.old.game listing_moves state.old.state (stand_of after)
-        search.old.opened search.old.openings }
-    ensures forced { IfOk result (λ cut. CountsForced search.old.game cut listing_moves
-        state.old.state (stand_of after) search.old.opened search.new.opened
-        (most_pairs - length front.old.items) search.old.modifiers) }
+    ensures answered { IfOk result (λ cut. IsAnswered search.old search.new cut listing_moves
+        state.old.state (stand_of after) (most_pairs - length front.old.items)) }
+    ensures given_up { IsGivenUp search.old listing_moves state.old.state (stand_of after)
+        (most_pairs - length front.old.items) (result ≡ Err Over.Deep) (result ≡ Err Over.Wide) }
 {
     let game = search.game();
     let mut pairs = search.take_list();
@@ -287,27 +273,13 @@ fn list_behind<S: Steps>(
     ensures gathered { IfOk result (λ cut. GathersBehind search.old.game state.old.state pair
         front.old.items found.old.max found.old.moves found.new.moves cut) }
     ensures few { OnOk result (length found.new.moves ≤ found.old.max) }
-    ensures counted { OnOk result ((later : AbstractState)
-        → Applies search.old.game pair.1 (standing_at state.old.state pair.0) later
-        → CountsOpenings search.old.game listing_moves later (after pair.1)
-        search.old.opened search.new.opened) }
-    ensures paired { OnOk result ((later : AbstractState)
-        → Applies search.old.game pair.1 (standing_at state.old.state pair.0) later
-        → CountsPairs search.old.game listing_moves later (after pair.1)
-        search.old.opened search.new.opened search.old.taken search.new.taken (Unit {0})) }
-    ensures deep { result ≡ Err Over.Deep → (later : AbstractState)
-        → Applies search.old.game pair.1 (standing_at state.old.state pair.0) later
-        → IsTooDeep search.old.game listing_moves later (after pair.1)
-        (most_pairs - (length front.old.items + 1)) search.old.modifiers }
-    ensures wide { result ≡ Err Over.Wide → (later : AbstractState)
-        → Applies search.old.game pair.1 (standing_at state.old.state pair.0) later
-        → IsOverBudget search.old.game listing_moves later (after pair.1)
-        search.old.opened search.old.openings }
-    ensures forced { IfOk result (λ cut. (later : AbstractState)
-        → Applies search.old.game pair.1 (standing_at state.old.state pair.0) later
-        → CountsForced search.old.game cut listing_moves later (after pair.1)
-        search.old.opened search.new.opened
-        (most_pairs - (length front.old.items + 1)) search.old.modifiers) }
+    ensures answered { IfOk result (λ cut. Behind search.old.game state.old.state pair (λ later.
+        IsAnswered search.old search.new cut listing_moves later (after pair.1)
+        (most_pairs - (length front.old.items + 1)))) }
+    ensures given_up { Behind search.old.game state.old.state pair (λ later.
+        IsGivenUp search.old listing_moves later (after pair.1)
+        (most_pairs - (length front.old.items + 1))
+        (result ≡ Err Over.Deep) (result ≡ Err Over.Wide)) }
 {
     let game = search.game();
     let mark = state.mark();

@@ -131,11 +131,6 @@ module _ (game : AbstractGame) (numbered : IsNumbered game.rules) where
       let one_more : take (k + 1) xs ≡ take k xs ++ (v, p) ∷ [] = take_more xs k (v, p) under ∙ ap (λ (x : ℕ × ℕ). take k xs ++ x ∷ []) is in
       subst (λ (done : List (ℕ × ℕ)). CountsUpTo game question s f done a c) (sym one_more) (counts_more counts (fresh xs k (v, p) different under is) on more)
 
-  pub counts_skipped : {question : Question} {s : AbstractState} {f : Start} {a b : ℕ} (xs : List (ℕ × ℕ)) (k : ℕ) → CountsUpTo game question s f (take k xs) a b → k < length xs → CountsUpTo game question s f (take (k + 1) xs) a b
-  counts_skipped {question} {s} {f} {a} {b} xs k counts under =
-      let x : ℕ × ℕ = get_or xs k (0, 0) in
-      subst (λ (done : List (ℕ × ℕ)). CountsUpTo game question s f done a b) (sym (take_more xs k (0, 0) under)) (counts_weaker counts (x ∷ []))
-
   -- In the end they are openings of the question.
   pub counts_end : {question : Question} {s : AbstractState} {f : Start} {done : List (ℕ × ℕ)} {a b : ℕ} → CountsUpTo game question s f done a b → CountsOpenings game question s f a b
   counts_end {question} {s} {f} {done} {a} {b} counts = record { added = length counts.openings; sum = counts.sum; openings = has_counted game question s f done a b counts }

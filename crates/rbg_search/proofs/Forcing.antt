@@ -350,33 +350,12 @@ module _ (game : AbstractGame) (numbered : IsNumbered game.rules) where
           let same = length-map more.openings (λ (o : List Item). modifier_at v p ∷ o) in
           omega (arith, both, same, takes.fits, more.fits)
 
-  -- A switch was passed over.
-  pub takes_skipped : (cut : Bool) (question : Question) (s : AbstractState) (done : List (ℕ × ℕ)) (v p : ℕ) (a b left most : ℕ) → IsSwitchAt game.rules p → TakesBehind game cut question s done a b left most → TakesBehind game cut question s (done ++ (v, p) ∷ []) a b left most
-  takes_skipped cut question s done v p a b left most switches takes = record {
-    openings = takes.openings;
-    all = λ w q later o there plain applied forced. elim (Contains-push_cases done (v, p) (w, q) there) [
-      | inl earlier ↦ takes.all w q later o earlier plain applied forced
-      | inr same ↦ absurd (plain (subst (λ (x : ℕ × ℕ). IsSwitchAt game.rules x.1) same switches))
-    ];
-    fits = takes.fits;
-    few = λ w q later o there plain applied forced. elim (Contains-push_cases done (v, p) (w, q) there) [
-      | inl earlier ↦ takes.few w q later o earlier plain applied forced
-      | inr same ↦ absurd (plain (subst (λ (x : ℕ × ℕ). IsSwitchAt game.rules x.1) same switches))
-    ];
-  }
-
   -- The same where the modifiers that are done are the first ones of a list.
   pub takes_on : (cut : Bool) (question : Question) (s : AbstractState) (xs : List (ℕ × ℕ)) (k : ℕ) (d : ℕ × ℕ) (later : AbstractState) (a b c left most : ℕ) → k < length xs → Applies game (get_or xs k d).1 (at_vertex s (get_or xs k d).0) later → 1 < left → TakesBehind game cut question s (take k xs) a b left most → CountsForced game cut question later (after (get_or xs k d).1) b c (left - 1) most → TakesBehind game cut question s (take (k + 1) xs) a c left most
   takes_on cut question s xs k d later a b c left most under applies more_left takes more =
       let x : ℕ × ℕ = get_or xs k d in
       subst (λ (done : List (ℕ × ℕ)). TakesBehind game cut question s done a c left most) (sym (take_more xs k d under))
       (takes_more cut question s (take k xs) x.0 x.1 later a b c left most applies more_left takes more)
-
-  pub takes_by : (cut : Bool) (question : Question) (s : AbstractState) (xs : List (ℕ × ℕ)) (k : ℕ) (d : ℕ × ℕ) (a b left most : ℕ) → k < length xs → IsSwitchAt game.rules (get_or xs k d).1 → TakesBehind game cut question s (take k xs) a b left most → TakesBehind game cut question s (take (k + 1) xs) a b left most
-  takes_by cut question s xs k d a b left most under switches takes =
-      let x : ℕ × ℕ = get_or xs k d in
-      subst (λ (done : List (ℕ × ℕ)). TakesBehind game cut question s done a b left most) (sym (take_more xs k d under))
-      (takes_skipped cut question s (take k xs) x.0 x.1 a b left most switches takes)
 
   -- ---- a question, from its flat part and what is behind it
 

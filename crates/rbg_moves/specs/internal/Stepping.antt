@@ -15,6 +15,10 @@ standing_at s v = record s { vertex = v }
 abbrev pub place_behind : AbstractState → ℕ → AbstractPlace
 place_behind later p = record { state = later; last = Some p }
 
+-- What is so of each semi-state to which the modifier of the pair q leads.
+abbrev pub Behind : AbstractGame → AbstractState → ℕ × ℕ → (AbstractState → Type 0) → Type 0
+Behind game s q Is = (later : AbstractState) → Applies game q.1 (standing_at s q.0) later → Is later
+
 -- The modifier at position p is valid at vertex v.
 pub record IsValidAt (game : AbstractGame) (s : AbstractState) (v p : ℕ) : Type 0 where
   pub there : v < length game.board.first

@@ -1,15 +1,12 @@
 -- How far the recursion goes, and what the loop over the pairs keeps.
 use Rattle.std.proofs.Common.{◌≡◌, ◌≤◌, ◌-◌, ◌*◌, ◌++◌, ℕ, List, All, length}
 use Rattle.rbg_base.specs.Move.{most_pairs}
-use Rattle.rbg_rules.specs.State.{AbstractState}
-use Rattle.rbg_rules.specs.Actions.{Applies}
 use Rattle.rbg_rules.specs.Moves.{stand_of, Finished}
 use Rattle.rbg_rules.specs.Questions.{find_move}
 use Rattle.rbg_rules.specs.Positions.{IsSwitchAt}
-use Rattle.rbg_search.specs.Passing.{CountsUpTo}
-use Rattle.rbg_search.specs.Taken.{CountsPairs}
-use Rattle.rbg_moves.specs.internal.Stepping.{standing_at, place_behind}
+use Rattle.rbg_moves.specs.internal.Stepping.{place_behind, Behind}
 use Rattle.rbg_moves.proofs.Forcing.{TakenSoFar}
+use Rattle.rbg_moves.proofs.Further.{IsSoFar}
 use Rattle.rbg_moves.proofs.Seeking.{IsWhole}
 use Rattle.rbg_moves.proofs.finding.+finding.Given as goal
 
@@ -29,9 +26,8 @@ invariant-find-loop-vertex g l = record {
   room : l.fn.state.room ≤ l.state.room;
   enough : 2 ≤ l.state.room;
   front : l.front.items ≡ l.fn.front.items;
-  nothing : All (λ (q : ℕ × ℕ). (later : AbstractState) → Applies l.fn.search.game q.1 (standing_at l.fn.state.state q.0) later → Finished l.fn.search.game (place_behind later q.1)) done;
-  counted : CountsUpTo l.fn.search.game find_move l.fn.state.state (stand_of l.fn.after) done l.fn.search.opened l.search.opened;
-  paired : CountsPairs l.fn.search.game find_move l.fn.state.state (stand_of l.fn.after) l.fn.search.opened l.search.opened l.fn.search.taken l.search.taken (Unit {0});
+  nothing : All (λ (q : ℕ × ℕ). Behind l.fn.search.game l.fn.state.state q (λ later. Finished l.fn.search.game (place_behind later q.1))) done;
+  so_far : IsSoFar l.fn.search l.search find_move l.fn.state.state (stand_of l.fn.after) done;
   forced : TakenSoFar l.fn.search.game find_move l.fn.state.state (stand_of l.fn.after) done l.fn.search.opened l.search.opened (most_pairs - length l.fn.front.items) l.fn.search.modifiers;
 }
 

@@ -55,14 +55,14 @@ returns-in_err-found-clause-deep x c e =
     let f = stand_of place.last in
     let numbered : IsNumbered asked.game.rules = subst (λ (y : AbstractGame). IsNumbered y.rules) (sym c.search_in-search.ensures.game) c.game_is_accepted.ensures.numbered in
     deep_from c.args.game.now find_move place asked.game s f asked.modifiers c.search_in-search.ensures.game refl refl c.search_in-search.ensures.modifiers
-    (deep_of asked.game numbered s f c.clear.new.self.items asked.modifiers c.clear.ensures.items c.search_in-search.ensures.modifiers (c.find-found.ensures.deep (search rules)))
+    (deep_of asked.game numbered s f c.clear.new.self.items asked.modifiers c.clear.ensures.items c.search_in-search.ensures.modifiers (c.find-found.ensures.given_up.deep (search rules)))
 
 pub returns-in_err-found-clause-wide : goal.returns-in_err-found-clause-wide
 returns-in_err-found-clause-wide x c e =
     let asked = c.search_in-search.result in
     let place : AbstractPlace = record { state = c.args.state.now.state; last = c.args.after } in
     wide_from c.args.game.now c.game_is_accepted.ensures.numbered find_move place asked.game place.state (stand_of place.last) asked.opened asked.openings
-    c.search_in-search.ensures.game refl refl c.search_in-search.ensures.opened c.search_in-search.ensures.openings (c.find-found.ensures.wide (search rules))
+    c.search_in-search.ensures.game refl refl c.search_in-search.ensures.opened c.search_in-search.ensures.openings (c.find-found.ensures.given_up.wide (search rules))
 
 -- An answer fits the limits, since what is forced was taken up within the budget.
 fits_of :
@@ -87,13 +87,13 @@ pub returns-clause-fits : goal.returns-clause-fits
 returns-clause-fits x c = λ cut.
     let place : AbstractPlace = record { state = c.args.state.now.state; last = c.args.after } in
     let asked = c.search_in-search in
-    fits_of c.args.game.now place asked.result c.find-found.new.search c.clear.new.self.items cut asked.ensures.game asked.ensures.opened asked.ensures.openings asked.ensures.modifiers c.find-found.ensures.search c.budget_is_kept.ensures c.clear.ensures.items c.in_ok-found.ensures.forced
+    fits_of c.args.game.now place asked.result c.find-found.new.search c.clear.new.self.items cut asked.ensures.game asked.ensures.opened asked.ensures.openings asked.ensures.modifiers c.find-found.ensures.search c.budget_is_kept.ensures c.clear.ensures.items c.in_ok-found.ensures.answered.forced
 
 pub returns-then-not-found-clause-fits : goal.returns-then-not-found-clause-fits
 returns-then-not-found-clause-fits x c = λ cut.
     let place : AbstractPlace = record { state = c.args.state.now.state; last = c.args.after } in
     let asked = c.search_in-search in
-    fits_of c.args.game.now place asked.result c.find-found.new.search c.clear.new.self.items cut asked.ensures.game asked.ensures.opened asked.ensures.openings asked.ensures.modifiers c.find-found.ensures.search c.budget_is_kept.ensures c.clear.ensures.items c.in_ok-found.ensures.forced
+    fits_of c.args.game.now place asked.result c.find-found.new.search c.clear.new.self.items cut asked.ensures.game asked.ensures.opened asked.ensures.openings asked.ensures.modifiers c.find-found.ensures.search c.budget_is_kept.ensures c.clear.ensures.items c.in_ok-found.ensures.answered.forced
 
 -- What was changed can be taken back, whether there is an answer or none.
 after_find : (r : Result Bool Over) (h k : History) → OnOk r (k ≡ record h { room = k.room }) → OnErr r (IsAfter h k) → IsAfter h k
@@ -121,13 +121,13 @@ pub returns-then-not-found-clause-tally : goal.returns-then-not-found-clause-tal
 returns-then-not-found-clause-tally x c =
     let place : AbstractPlace = record { state = c.args.state.now.state; last = c.args.after } in
     let asked = c.search_in-search in
-    tallied c.args.game.now find_move place asked.result c.find-found.new.search c.args.searches.now c.search_in-search.new.workspace c.leave.new.workspace asked.ensures.game asked.ensures.opened asked.ensures.taken asked.ensures.tally c.find-found.ensures.search c.in_ok-found.ensures.counted c.in_ok-found.ensures.paired c.leave.ensures.openings c.leave.ensures.pairs
+    tallied c.args.game.now find_move place asked.result c.find-found.new.search c.args.searches.now c.search_in-search.new.workspace c.leave.new.workspace asked.ensures.game asked.ensures.opened asked.ensures.taken asked.ensures.tally c.find-found.ensures.search c.in_ok-found.ensures.answered.counted c.in_ok-found.ensures.answered.paired c.leave.ensures.openings c.leave.ensures.pairs
 
 pub returns-clause-tally : goal.returns-clause-tally
 returns-clause-tally x c =
     let place : AbstractPlace = record { state = c.args.state.now.state; last = c.args.after } in
     let asked = c.search_in-search in
-    tallied c.args.game.now find_move place asked.result c.find-found.new.search c.args.searches.now c.search_in-search.new.workspace c.leave.new.workspace asked.ensures.game asked.ensures.opened asked.ensures.taken asked.ensures.tally c.find-found.ensures.search c.in_ok-found.ensures.counted c.in_ok-found.ensures.paired c.leave.ensures.openings c.leave.ensures.pairs
+    tallied c.args.game.now find_move place asked.result c.find-found.new.search c.args.searches.now c.search_in-search.new.workspace c.leave.new.workspace asked.ensures.game asked.ensures.opened asked.ensures.taken asked.ensures.tally c.find-found.ensures.search c.in_ok-found.ensures.answered.counted c.in_ok-found.ensures.answered.paired c.leave.ensures.openings c.leave.ensures.pairs
 
 pub returns-in_err-found-clause-untallied : goal.returns-in_err-found-clause-untallied
 returns-in_err-found-clause-untallied x c = on_err _ _ c.search_in-search.ensures.tally

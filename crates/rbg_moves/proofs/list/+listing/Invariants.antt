@@ -4,10 +4,9 @@ use Rattle.rbg_base.specs.Move.{most_pairs}
 use Rattle.rbg_rules.specs.Moves.{stand_of}
 use Rattle.rbg_rules.specs.Positions.{IsSwitchAt}
 use Rattle.rbg_rules.specs.Questions.{list_moves}
-use Rattle.rbg_search.specs.Passing.{CountsUpTo}
-use Rattle.rbg_search.specs.Taken.{CountsPairs}
 use Rattle.rbg_moves.specs.internal.Gathering.{Gathers, IsLegalBy, IsSwitchOr}
 use Rattle.rbg_moves.proofs.Forcing.{TakenSoFar}
+use Rattle.rbg_moves.proofs.Further.{IsSoFar}
 use Rattle.rbg_moves.proofs.Seeking.{IsWhole}
 use Rattle.rbg_moves.proofs.list.+listing.Given as goal
 
@@ -30,8 +29,7 @@ invariant-list-loop-vertex g l = record {
   max : l.found.max ≡ l.fn.found.max;
   few : length l.found.moves ≤ l.found.max;
   gathered : Gathers (IsLegalBy l.fn.search.game (record { state = l.fn.state.state; last = l.fn.after }) (IsSwitchOr l.fn.search.game.rules done)) l.fn.front.items l.fn.found.max l.fn.found.moves l.found.moves false;
-  counted : CountsUpTo l.fn.search.game list_moves l.fn.state.state (stand_of l.fn.after) done l.fn.search.opened l.search.opened;
-  paired : CountsPairs l.fn.search.game list_moves l.fn.state.state (stand_of l.fn.after) l.fn.search.opened l.search.opened l.fn.search.taken l.search.taken (Unit {0});
+  so_far : IsSoFar l.fn.search l.search list_moves l.fn.state.state (stand_of l.fn.after) done;
   forced : TakenSoFar l.fn.search.game list_moves l.fn.state.state (stand_of l.fn.after) done l.fn.search.opened l.search.opened (most_pairs - length l.fn.front.items) l.fn.search.modifiers;
 }
 

@@ -30,7 +30,7 @@ returns-in_err-cut-clause-deep g c e =
     let state : s ≡ c.args.place.now.state = c.in_ok-copy_from.ensures.state ∙ ap (λ (y : AbstractPlace). y.state) c.place.view_is in
     let start : f ≡ stand_of c.args.place.now.last = ap (λ (y : AbstractPlace). stand_of y.last) c.place.view_is in
     deep_from c.args.game.now list_moves c.args.place.now asked.game s f asked.modifiers c.search_in-search.ensures.game state start c.search_in-search.ensures.modifiers
-    (deep_of asked.game c.list.ensures.lawful.numbered s f c.clear.new.self.items asked.modifiers c.clear.ensures.items c.search_in-search.ensures.modifiers (c.list.ensures.deep (search rules)))
+    (deep_of asked.game c.list.ensures.lawful.numbered s f c.clear.new.self.items asked.modifiers c.clear.ensures.items c.search_in-search.ensures.modifiers (c.list.ensures.given_up.deep (search rules)))
 
 pub returns-in_err-cut-clause-wide : goal.returns-in_err-cut-clause-wide
 returns-in_err-cut-clause-wide g c e =
@@ -41,7 +41,7 @@ returns-in_err-cut-clause-wide g c e =
     let start : f ≡ stand_of c.args.place.now.last = ap (λ (y : AbstractPlace). stand_of y.last) c.place.view_is in
     let numbered : IsNumbered c.args.game.now.rules = subst (λ (y : AbstractGame). IsNumbered y.rules) c.search_in-search.ensures.game c.list.ensures.lawful.numbered in
     wide_from c.args.game.now numbered list_moves c.args.place.now asked.game s f asked.opened asked.openings
-    c.search_in-search.ensures.game state start c.search_in-search.ensures.opened c.search_in-search.ensures.openings (c.list.ensures.wide (search rules))
+    c.search_in-search.ensures.game state start c.search_in-search.ensures.opened c.search_in-search.ensures.openings (c.list.ensures.given_up.wide (search rules))
 
 pub returns-in_err-cut-clause-heavy : goal.returns-in_err-cut-clause-heavy
 returns-in_err-cut-clause-heavy g c h = elim h [
@@ -71,7 +71,7 @@ returns-clause-fits g c =
     let budget : new.openings ≡ most_openings = ap (λ (y : Searching). y.openings) c.list.ensures.search ∙ c.search_in-search.ensures.openings in
     let none : length c.clear.new.self.items ≡ 0 = ap (λ (ps : List (ℕ × ℕ)). length ps) c.clear.ensures.items in
     fits_at game asked.game c.args.place.now s f c.in_ok-cut.cut list_moves asked.opened new.opened left asked.modifiers new.openings
-    c.search_in-search.ensures.game state start c.search_in-search.ensures.opened c.budget_is_kept.ensures budget (omega (arith, none)) c.search_in-search.ensures.modifiers c.in_ok-cut.ensures.forced
+    c.search_in-search.ensures.game state start c.search_in-search.ensures.opened c.budget_is_kept.ensures budget (omega (arith, none)) c.search_in-search.ensures.modifiers c.in_ok-cut.ensures.answered.forced
 
 pub returns-in_err-copy_from-clause-untallied : goal.returns-in_err-copy_from-clause-untallied
 returns-in_err-copy_from-clause-untallied g c = on_err _ _ c.take_moves-moves.ensures.tally
@@ -87,4 +87,4 @@ returns-clause-tally g c =
     let same_place : here ≡ place = ap (λ (s : AbstractState). let x : AbstractPlace = record { state = s; last = c.place.inside.after } in x) c.in_ok-copy_from.ensures.state ∙ c.place.view_is in
     let asked = c.search_in-search in
     subst (λ (p : AbstractPlace). IsTallied game list_moves p c.args.workspace.now.searches c.leave.new.workspace) same_place
-    (tallied game list_moves here asked.result c.list.new.search c.args.workspace.now.searches c.search_in-search.new.workspace c.leave.new.workspace asked.ensures.game asked.ensures.opened asked.ensures.taken (asked.ensures.tally ∙ c.take_moves-moves.ensures.tally) c.list.ensures.search c.in_ok-cut.ensures.counted c.in_ok-cut.ensures.paired c.leave.ensures.openings c.leave.ensures.pairs)
+    (tallied game list_moves here asked.result c.list.new.search c.args.workspace.now.searches c.search_in-search.new.workspace c.leave.new.workspace asked.ensures.game asked.ensures.opened asked.ensures.taken (asked.ensures.tally ∙ c.take_moves-moves.ensures.tally) c.list.ensures.search c.in_ok-cut.ensures.answered.counted c.in_ok-cut.ensures.answered.paired c.leave.ensures.openings c.leave.ensures.pairs)

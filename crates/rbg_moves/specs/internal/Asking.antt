@@ -1,0 +1,29 @@
+-- What a search takes up for a question about moves.
+use Rattle.std.specs.Prelude.{ℕ, Bool}
+use Rattle.rbg_rules.specs.State.{AbstractState}
+use Rattle.rbg_rules.specs.Words.{Start}
+use Rattle.rbg_rules.specs.Questions.{Question}
+use Rattle.rbg_search.specs.Counting.{CountsOpenings, IsOverBudget}
+use Rattle.rbg_search.specs.Forced.{CountsForced}
+use Rattle.rbg_search.specs.Passing.{IsTooDeep}
+use Rattle.rbg_search.specs.Searching.{Searching}
+use Rattle.rbg_search.specs.Taken.{CountsPairs}
+
+-- The question was answered: the openings and pairs that were counted meanwhile are its own, and all openings that are
+-- forced were taken up. Each of these has few modifiers in a row, fewer than `left` at its beginning.
+pub record IsAnswered
+    (old new : Searching) (cut : Bool) (question : Question) (s : AbstractState) (f : Start) (left : ℕ)
+    : Type 0
+  where
+    pub counted : CountsOpenings old.game question s f old.opened new.opened
+    pub paired : CountsPairs old.game question s f old.opened new.opened old.taken new.taken (Unit {0})
+    pub forced : CountsForced old.game cut question s f old.opened new.opened left old.modifiers
+
+-- Where the question was given up as deep or wide, it is: an opening begins with `left` modifiers in a row or has too
+-- many in a row, or there are more openings than may be taken up.
+pub record IsGivenUp
+    (old : Searching) (question : Question) (s : AbstractState) (f : Start) (left : ℕ) (Deep Wide : Type 0)
+    : Type 0
+  where
+    pub deep : Deep → IsTooDeep old.game question s f left old.modifiers
+    pub wide : Wide → IsOverBudget old.game question s f old.opened old.openings
