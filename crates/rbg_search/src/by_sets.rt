@@ -42,8 +42,17 @@ impl<'a, S: Steps> Search<'a, S> {
     {
         match self.sets.pop() {
             Some(flat) => Ok(flat),
-            None => Ok(Box::new(self.alloc, SetFlat::new(self.alloc, self.rules.game())?)?),
+            None => self.new_sets(),
         }
+    }
+
+    /// A new flat part by sets. It isn't put in line, since it is rare and needs much of the stack.
+    #[inline(never)]
+    fn new_sets(&self) -> Result<Box<SetFlat>, Over>
+        ensures sized { IfOk result (λ flat. AreSizedFor self.now.game flat.value.sets) }
+        ensures memory { IfErr result (λ over. over ≡ Over.Memory) }
+    {
+        Ok(Box::new(self.alloc, SetFlat::new(self.alloc, self.rules.game())?)?)
     }
 
     /// A flat part by sets that is begun at a vertex.
