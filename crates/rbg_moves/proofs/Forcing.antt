@@ -13,11 +13,12 @@ use Rattle.rbg_rules.specs.Limits.{most_openings, most_modifiers}
 use Rattle.rbg_rules.specs.Questions.{Question, try_move, find_move, list_moves, reach, pattern, Item, IsMove, AnswersBehind, GoesTo, IsForcedTo, Forced, at, behind, IsForcedDeep}
 use Rattle.rbg_rules.proofs.MoveLemmas.{Applies_one}
 use Rattle.rbg_search.specs.Flat.{IsNext, IsFlatPart}
-use Rattle.rbg_search.specs.Forced.{CountsAllForced, CountsForced, TakesBehind}
+use Rattle.rbg_search.specs.Forced.{CountsForced, TakesBehind}
 use Rattle.rbg_search.proofs.Forcing.{ForcesOn, all_counted, none_deep, takes_none, takes_more, takes_on, takes_by, forced_at_once, forced_behind}
 use Rattle.rbg_moves.specs.Limits.{FitsLimits}
 use Rattle.rbg_moves.specs.internal.Stepping.{standing_at, place_behind}
 use Rattle.rbg_moves.proofs.Steps.{legal_on}
+use Rattle.rbg_search.specs.Forced.{CountsAllForced}
 
 -- ---- a move is a legal list of pairs
 
