@@ -121,7 +121,7 @@ impl Match {
     }
 
     /// Handles an event. Its messages go to the outbox, which must have the match's seats. After an `Err` the match has
-    /// failed, and each further call returns `Err`.
+    /// failed, and each further call returns `Err`. Its game, its config and the moment at which it began never change.
     pub fn step(&mut self, event: Event<'_>, outbox: &mut Outbox) -> Result<(), Memory>
         requires { length outbox.old ≡ seats_of self.old.game }
         ensures ok { OnOk result (Steps self.old (event_of event.entry) self.new outbox.old
