@@ -249,10 +249,12 @@ illegal_fits game cut place qs illegal = fits_none game cut (try_move qs) place 
 
 -- .. so any count counts it.
 pub illegal_counts : (game : AbstractGame) (cut : Bool) (place : AbstractPlace) (qs : List (ℕ × ℕ)) (old new : ℕ) → ((to : AbstractPlace) → ¬ Legal game place qs to) → old ≤ new → CountsAllForced game cut (try_move qs) place.state (stand_of place.last) old new
-illegal_counts game cut place qs old new illegal grows = λ many has. none_many has.openings has.forced many has.count
+illegal_counts game cut place qs old new illegal grows = λ many has.
+    let none : many ≡ 0 = none_many has.openings has.forced many has.count in
+    omega (arith, none, grows)
   where
-    none_many : (os : List (List Item)) → All (Forced game cut (try_move qs) place.state (stand_of place.last)) os → (many : ℕ) → length os ≡ many → old + many ≤ new
-    none_many [] forced many count = omega (arith, count, grows)
+    none_many : (os : List (List Item)) → All (Forced game cut (try_move qs) place.state (stand_of place.last)) os → (many : ℕ) → length os ≡ many → many ≡ 0
+    none_many [] forced many count = omega (arith, count)
     none_many (o ∷ os) forced many count =
         let legal = move_legal game place qs (try_forces game cut place.state (stand_of place.last) qs o (All-head (Forced game cut (try_move qs) place.state (stand_of place.last)) o os forced)) in
         absurd (illegal legal.0 legal.1)
