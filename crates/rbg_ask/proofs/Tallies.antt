@@ -38,13 +38,14 @@ all_parts P (f ∷ front) x later h =
     (All-cons P f front (All-head P f (front ++ x ∷ later) h) rest.0, rest.1, rest.2)
 
 one_match : (game : AbstractGame) (from : AbstractPlace) (scores : Option (List ℕ)) (moves : List (List (ℕ × ℕ))) → Ends game from moves scores → AreMatches game from (record { scores = scores; matches = 1; moves = length moves })
-one_match game from scores moves ends = record { matches = moves ∷ []; ended = All-cons (λ m. Ends game from m scores) moves [] ends (All-nil (λ m. Ends game from m scores)); many = refl; moved = sym (moves_one moves) }
+one_match game from scores moves ends = record { matches = moves ∷ []; ended = All-cons (λ m. Ends game from m scores) moves [] ends (All-nil (λ m. Ends game from m scores)); many = refl; some = omega arith; moved = sym (moves_one moves) }
 
 more_matches : (game : AbstractGame) (from : AbstractPlace) (scores : Option (List ℕ)) (many made : ℕ) (moves : List (List (ℕ × ℕ))) → AreMatches game from (record { scores = scores; matches = many; moves = made }) → Ends game from moves scores → AreMatches game from (record { scores = scores; matches = many + 1; moves = made + length moves })
 more_matches game from scores many made moves are ends = record {
   matches = are.matches ++ moves ∷ [];
   ended = All-append (λ m. Ends game from m scores) are.matches (moves ∷ []) are.ended (All-cons (λ m. Ends game from m scores) moves [] ends (All-nil (λ m. Ends game from m scores)));
   many = ap (λ n. n + 1) are.many ∙ sym (length-append are.matches (moves ∷ []));
+  some = omega arith;
   moved = omega (arith, are.moved, moves_one moves, sum_by-append (λ (m : List (List (ℕ × ℕ))). length m) are.matches (moves ∷ []));
 }
 

@@ -1,5 +1,5 @@
 -- What a session answers to a question, and why it refuses one.
-use Rattle.std.specs.Prelude.{◌≡◌, ℕ, ◌+◌, ◌<◌, List, [], ◌∷◌, ◌++◌, length, take, Bool, false, Option, Some, None}
+use Rattle.std.specs.Prelude.{◌≡◌, ℕ, ◌+◌, ◌<◌, ◌≤◌, List, [], ◌∷◌, ◌++◌, length, take, Bool, false, Option, Some, None}
 use Rattle.rbg_rules.specs.State.{AbstractGame}
 use Rattle.rbg_rules.specs.Moves.{AbstractPlace, Legal, Finished}
 use Rattle.rbg_rules.specs.Questions.{list_moves}
@@ -135,13 +135,14 @@ pub record AnswersIn
 
 -- Why a session refuses a line.
 --   too_long: it has more than 4,096 bytes.
---   no_question: it is no question.
+--   no_question: it is not too long, and no question.
 --   refused: it is a question that is refused.
 pub data IsLineRefused (session : AbstractSession) (line : List ℕ) : Refusal → Type 0 where
   too_long :
       longest_line < length line →
       IsLineRefused session line Long
   no_question :
+      length line ≤ longest_line →
       ((question : Question) → ¬ SpellsQuestion line question) →
       IsLineRefused session line Form
   refused : {question : Question} {refusal : Refusal} →

@@ -55,11 +55,12 @@ counted_by tally = record { scores = scores_of tally.ending; matches = tally.mat
 abbrev pub moves_in : List (List (List (ℕ × ℕ))) → ℕ
 moves_in = sum_by (λ moves. length moves)
 
--- There are so many matches from the place that end so, and they have so many moves.
+-- There are so many matches from the place that end so, at least one, and they have so many moves.
 pub record AreMatches (game : AbstractGame) (from : AbstractPlace) (counted : Counted) : Type 0 where
   pub matches : List (List (List (ℕ × ℕ)))
   pub ended : All (λ moves. Ends game from moves counted.scores) matches
   pub many : counted.matches ≡ length matches
+  pub some : 0 < counted.matches
   pub moved : counted.moves ≡ moves_in matches
 
 -- So many matches from the place are counted: those of one ending together.

@@ -1,5 +1,5 @@
 -- What is told of the files that a program reads: the bytes of each, where those are known.
-use Rattle.std.specs.Prelude.{◌≡◌, ◌≢◌, ℕ, ◌<◌, ◌≤◌, List, length, IfSome}
+use Rattle.std.specs.Prelude.{◌≡◌, ◌≢◌, ℕ, ◌<◌, ◌≤◌, List, length, IfSome, Some, None}
 use Rattle.std.specs.declared.option.Option.{Option}
 use Rattle.rbg_console.specs.declared.input.Input.{Input}
 use Rattle.rbg_console.specs.declared.input.Input.TheVariants.{Whole, TooLong, Device}
@@ -17,6 +17,17 @@ abbrev pub IsFileReading : (limit : ℕ) → (known : Option (List ℕ)) → Inp
 IsFileReading limit known (Whole read) = (length read.items ≤ limit) × MayBe known read.items
 IsFileReading limit known TooLong = (bytes : List ℕ) × (limit < length bytes) × MayBe known bytes
 IsFileReading limit known Device = Unit {0}
+
+-- What a reading within a limit tells of bytes in memory: they are read whole, or they are more than the limit.
+abbrev pub IsMemoryReading : (limit : ℕ) → (bytes : List ℕ) → Input → Type 0
+IsMemoryReading limit bytes (Whole read) = (length bytes ≤ limit) × (read.items ≡ bytes)
+IsMemoryReading limit bytes TooLong = limit < length bytes
+IsMemoryReading limit bytes Device = ⊥
+
+-- The same of a file in memory. One that isn't there can't be read.
+abbrev pub IsMemoryFileReading : (limit : ℕ) → (held : Option (List ℕ)) → Input → Type 0
+IsMemoryFileReading limit (Some bytes) input = IsMemoryReading limit bytes input
+IsMemoryFileReading limit None input = input ≡ Device
 
 -- no file has other bytes than before
 abbrev pub KeepsFiles : (old new : KnownFiles) → Type 0

@@ -1,9 +1,9 @@
 //! Files that a program reads and creates by their names.
-ghost use Rattle.std.specs.Prelude.{◌≡◌, ℕ, List, [], IfOk, OnOk, None, Some};
+ghost use Rattle.std.specs.Prelude.{◌≡◌, ℕ, List, [], IfOk, OnErr, OnOk, None, Some};
 ghost use Rattle.std.specs.declared.option.Option.{Option};
-ghost use Rattle.rbg_console.specs.Files.{IsFileReading, KeepsFiles, KeepsOthers};
+ghost use Rattle.rbg_console.specs.Files.{IsFileReading, IsMemoryReading, KeepsFiles, KeepsOthers};
 
-use crate::input::{Input, read_input};
+use crate::input::Input;
 use crate::note::Note;
 use crate::output::write_and_flush;
 use std::alloc::{AllocError, Global};
@@ -31,9 +31,10 @@ pub trait Files {
         ensures empty { IfOk result (λ file. tells_new → Self.NewFile.contents file ≡ Some []) }
         ensures kept { KeepsFiles (told self.old) (told self.new) };
 
-    /// Ends the writing to a file that was created by this name.
+    /// Ends the writing to a file that was created by this name. Where that fails, each file has the bytes that it had.
     fn close_file(&mut self, alloc: Global, name: &str, file: Self::NewFile) -> io::Result<()>
         ensures closed { OnOk result (tells_new → told self.new name.now ≡ Self.NewFile.contents file) }
+        ensures failed { OnErr result (KeepsFiles (told self.old) (told self.new)) }
         ensures others { KeepsOthers name.now (told self.old) (told self.new) };
 
     /// Tells whoever runs the program what is no part of its answer. A failure to tell is passed over.
@@ -43,14 +44,18 @@ pub trait Files {
 
 /// Reads bytes in memory as those of a file.
 pub fn read_bytes(alloc: Global, bytes: &[u8], limit: usize) -> Result<Input, AllocError>
+    ensures whole { IfOk result (IsMemoryReading limit bytes.now) }
     ensures known { IfOk result (IsFileReading limit (Some bytes.now)) }
     ensures unknown { IfOk result (IsFileReading limit None) }
 {
-    let mut reader = bytes;
-    read_input(alloc, &mut reader, limit)
+    if bytes.len() > limit {
+        return Ok(Input::TooLong);
+    }
+    Ok(Input::Whole(Vec::from_slice(alloc, bytes)?))
 }
 
-/// Writes bytes to a file that was created by this name, and closes it.
+/// Writes bytes to a file that was created by this name, and closes it. Where that fails, each file has the bytes that it
+/// had.
 pub fn fill_file<F: Files>(
     alloc: Global,
     files: &mut F,
@@ -60,6 +65,7 @@ pub fn fill_file<F: Files>(
 ) -> io::Result<()>
     requires { F.tells_new → F.NewFile.contents file ≡ Some [] }
     ensures filled { OnOk result (F.tells_new → F.told files.new name.now ≡ Some bytes.now) }
+    ensures failed { OnErr result (KeepsFiles (F.told files.old) (F.told files.new)) }
     ensures others { KeepsOthers name.now (F.told files.old) (F.told files.new) }
 {
     let mut file = file;

@@ -1,6 +1,6 @@
 //! Files in memory.
-ghost use Rattle.std.specs.Prelude.{◌≡◌, ℕ, List, None, Some, OnOk, option_map, string_bytes};
-ghost use Rattle.rbg_console.specs.Files.{KeepsOthers};
+ghost use Rattle.std.specs.Prelude.{◌≡◌, ◌≢◌, ℕ, List, [], None, Some, IfOk, OnErr, OnOk, option_map, string_bytes};
+ghost use Rattle.rbg_console.specs.Files.{IsFileReading, IsMemoryFileReading, KeepsFiles, KeepsOthers};
 ghost use Rattle.rbg_console.specs.MemoryFiles.{bytes_in};
 
 use crate::files::{Files, read_bytes};
@@ -26,9 +26,10 @@ impl MemoryFiles {
         }
     }
 
-    /// Puts a file in place of the one with this name, if there is one.
+    /// Puts a file in place of the one with this name, if there is one. Where there is no memory, the files stay as they are.
     pub fn put(&mut self, name: String, bytes: Vec<u8>) -> Result<(), AllocError>
         ensures put { OnOk result (bytes_in self.new (string_bytes name) ≡ Some bytes.items) }
+        ensures refused { OnErr result (KeepsFiles (bytes_in self.old) (bytes_in self.new)) }
         ensures others { KeepsOthers (string_bytes name) (bytes_in self.old) (bytes_in self.new) }
     {
         self.files.insert(name, bytes)?;
@@ -53,14 +54,25 @@ impl Files for MemoryFiles {
 
     ghost tells_new = { Unit {0} };
 
-    fn read_file(&mut self, alloc: Global, name: &str, limit: usize) -> Result<Input, AllocError> {
+    /// Reads a file. Only one that is not there can't be read.
+    fn read_file(&mut self, alloc: Global, name: &str, limit: usize) -> Result<Input, AllocError>
+        ensures whole { IfOk result (IsMemoryFileReading limit (bytes_in self.old name.now)) }
+        ensures read { IfOk result (IsFileReading limit (bytes_in self.old name.now)) }
+        ensures kept { KeepsFiles (bytes_in self.old) (bytes_in self.new) }
+    {
         match self.bytes_of(name) {
             Some(bytes) => read_bytes(alloc, bytes, limit),
             None => Ok(Input::Device),
         }
     }
 
-    fn create_file(&mut self, alloc: Global, name: &str) -> io::Result<Vec<u8>> {
+    /// Creates an empty file. It is an error only where there is one of this name.
+    fn create_file(&mut self, alloc: Global, name: &str) -> io::Result<Vec<u8>>
+        ensures there { OnErr result (bytes_in self.old name.now ≢ None) }
+        ensures absent { OnOk result (bytes_in self.old name.now ≡ None) }
+        ensures empty { IfOk result (λ file. file.items ≡ []) }
+        ensures kept { KeepsFiles (bytes_in self.old) (bytes_in self.new) }
+    {
         match self.bytes_of(name) {
             Some(_) => Err(io::Error::from(ErrorKind::AlreadyExists)),
             None => Ok(Vec::new(alloc)),

@@ -89,7 +89,7 @@ impl Match {
     };
     ghost use Rattle.rbg_match.specs.Config.{IsWithinLimits};
     ghost use Rattle.rbg_match.specs.Inputs.{IsTickAlone, counted, moment_of};
-    ghost use Rattle.rbg_moves.specs.Limits.{FitsLimits};
+    ghost use Rattle.rbg_moves.specs.Limits.{FitsLimits, IsDeepAt, IsWideAt};
     ghost use Rattle.rbg_moves.specs.Listing.{IsListed};
     ghost use Rattle.rbg_rules.specs.Games.{IsGame};
     ghost use Rattle.rbg_rules.specs.Heavy.{IsTooHard};
@@ -121,7 +121,7 @@ impl Match {
     }
 
     /// Handles an event. Its messages go to the outbox, which must have the match's seats. After an `Err` the match has
-    /// failed, and each further call returns `Err`.
+    /// failed, and each further call returns `Err`. Its game, its config and the moment at which it began never change.
     pub fn step(&mut self, event: Event<'_>, outbox: &mut Outbox) -> Result<(), Memory>
         requires { length outbox.old ≡ seats_of self.old.game }
         ensures ok { OnOk result (Steps self.old (event_of event.entry) self.new outbox.old
@@ -129,6 +129,7 @@ impl Match {
         ensures err { OnErr result
             ((outbox.new ≡ outbox.old) × (self.new.failed ≡ true)
             × (self.new.game ≡ self.old.game)) }
+        ensures kept { (self.new.config ≡ self.old.config) × (self.new.began ≡ self.old.began) }
         ensures history { OnOk result (HasHistory self.old → HasHistory self.new) }
         ensures failed { self.old.failed ≡ true → IsErr result }
         ensures seats { length outbox.new ≡ length outbox.old }
@@ -168,13 +169,17 @@ impl Match {
     }
 
     /// The legal moves at the place that play has reached, or `max` of them where there are more. `Deep` and `Wide` say
-    /// that the question is above the limits. An answer comes only where the forced openings are within them.
+    /// how the question is above the limits. An answer comes only where the forced openings are within them.
     pub fn list_moves(&self, max: usize) -> Result<Listed, Over>
         requires { 0 < max }
         ensures listed { IfOk result (λ listed.
             IsListed self.now.game self.now.play.place max listed.moves.items listed.cut) }
         ensures heavy { (result ≡ Err Over.Deep) ⊎ (result ≡ Err Over.Wide)
             → IsTooHard self.now.game listing_moves self.now.play.place }
+        ensures deep { result ≡ Err Over.Deep
+            → IsDeepAt self.now.game listing_moves self.now.play.place }
+        ensures wide { result ≡ Err Over.Wide
+            → IsWideAt self.now.game listing_moves self.now.play.place }
         ensures fits { IfOk result (λ listed.
             FitsLimits self.now.game listed.cut listing_moves self.now.play.place) }
     {

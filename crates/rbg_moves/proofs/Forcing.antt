@@ -18,6 +18,7 @@ use Rattle.rbg_search.proofs.Forcing.{ForcesOn, all_counted, none_deep, takes_no
 use Rattle.rbg_moves.specs.Limits.{FitsLimits}
 use Rattle.rbg_moves.specs.internal.Stepping.{standing_at, place_behind}
 use Rattle.rbg_moves.proofs.Steps.{legal_on}
+use Rattle.rbg_search.specs.Forced.{CountsAllForced}
 
 -- ---- a move is a legal list of pairs
 
@@ -52,6 +53,12 @@ counts_uncut game cut question s f a b left most counts = record {
   fits = counts.fits;
   few = λ o forced. counts.few o (uncut game cut question s f o forced);
 }
+
+-- What is forced where the answer is cut was counted, whether it is cut or not.
+pub all_forced : (game : AbstractGame) (cut : Bool) (question : Question) (s : AbstractState) (f : Start) (a b left most : ℕ) → CountsForced game cut question s f a b left most → CountsAllForced game true question s f a b
+all_forced game true question s f a b left most counts = all_counted game true question s f a b left most counts
+all_forced game false question s f a b left most counts =
+    all_counted game true question s f a b left most (counts_uncut game true question s f a b left most counts)
 
 -- ---- while the modifiers that come next are taken in turn
 
@@ -229,6 +236,18 @@ pub illegal_fits : (game : AbstractGame) (cut : Bool) (place : AbstractPlace) (q
 illegal_fits game cut place qs illegal = fits_none game cut (try_move qs) place (λ o forced.
     let legal = move_legal game place qs (try_forces game cut place.state (stand_of place.last) qs o forced) in
     illegal legal.0 legal.1)
+
+-- .. so any count counts it.
+pub illegal_counts : (game : AbstractGame) (cut : Bool) (place : AbstractPlace) (qs : List (ℕ × ℕ)) (old new : ℕ) → ((to : AbstractPlace) → ¬ Legal game place qs to) → old ≤ new → CountsAllForced game cut (try_move qs) place.state (stand_of place.last) old new
+illegal_counts game cut place qs old new illegal grows = λ many has.
+    let none : many ≡ 0 = none_many has.openings has.forced many has.count in
+    omega (arith, none, grows)
+  where
+    none_many : (os : List (List Item)) → All (Forced game cut (try_move qs) place.state (stand_of place.last)) os → (many : ℕ) → length os ≡ many → many ≡ 0
+    none_many [] forced many count = omega (arith, count)
+    none_many (o ∷ os) forced many count =
+        let legal = move_legal game place qs (try_forces game cut place.state (stand_of place.last) qs o (All-head (Forced game cut (try_move qs) place.state (stand_of place.last)) o os forced)) in
+        absurd (illegal legal.0 legal.1)
 
 -- What was taken up in the whole budget, told of an equal game and place.
 pub fits_at : (game g : AbstractGame) (place : AbstractPlace) (s : AbstractState) (f : Start) (cut : Bool) (question : Question) (old new left most openings : ℕ) → g ≡ game → s ≡ place.state → f ≡ stand_of place.last → old ≡ 0 → new ≤ openings → openings ≡ most_openings → left ≤ most_modifiers → most ≡ most_modifiers → CountsForced g cut question s f old new left most → FitsLimits game cut question place

@@ -1,10 +1,11 @@
 -- What a question counts, and what a workspace counts of one that was answered.
-use Rattle.std.proofs.Common.{◌≡◌, ℕ, ◌+◌, ◌-◌, ◌^◌, min, ap, ◌∙◌, subst}
+use Rattle.std.proofs.Common.{◌≡◌, ℕ, ◌+◌, ◌-◌, ◌^◌, min, true, ap, ◌∙◌, subst}
 use Rattle.rbg_rules.specs.State.{AbstractGame, AbstractState}
 use Rattle.rbg_rules.specs.Words.{Start, after}
 use Rattle.rbg_rules.specs.Moves.{AbstractPlace, stand_of}
 use Rattle.rbg_rules.specs.Questions.{Question, reach}
 use Rattle.rbg_search.specs.Counting.{CountsOpenings}
+use Rattle.rbg_search.specs.Forced.{CountsAllForced}
 use Rattle.rbg_search.specs.Passing.{GoesOn}
 use Rattle.rbg_search.specs.Searching.{Searching, Tally}
 use Rattle.rbg_search.specs.Taken.{CountsPairs}
@@ -31,13 +32,16 @@ more_takes game game' question question' s later f v p a b c t u w same on so_fa
 pub takes_in : (game game' : AbstractGame) (question : Question) (s : AbstractState) (f : Start) (a b t u : ℕ) → game' ≡ game → CountsPairs game' question s f a b t u (Unit {0}) → CountsPairs game question s f a b t u (Unit {0})
 takes_in game game' question s f a b t u same counts = subst (λ (x : AbstractGame). CountsPairs x question s f a b t u (Unit {0})) same counts
 
-pub tallied : (game : AbstractGame) (question : Question) (place : AbstractPlace) (asked later : Searching) (old lent new : Tally) → asked.game ≡ game → asked.opened ≡ 0 → asked.taken ≡ 0 → lent ≡ old → later ≡ record asked { opened = later.opened; taken = later.taken } → CountsOpenings asked.game question place.state (stand_of place.last) asked.opened later.opened → CountsPairs asked.game question place.state (stand_of place.last) asked.opened later.opened asked.taken later.taken (Unit {0}) → new.openings ≡ min (lent.openings + later.opened) (2 ^ 64 - 1) → new.pairs ≡ min (lent.pairs + later.taken) (2 ^ 64 - 1) → IsTallied game question place old new
-tallied game question place asked later old lent new same none nothing kept_tally kept counted paired openings pairs = record {
+pub tallied : (game : AbstractGame) (question : Question) (place : AbstractPlace) (asked later : Searching) (old lent new : Tally) → asked.game ≡ game → asked.opened ≡ 0 → asked.taken ≡ 0 → lent ≡ old → later ≡ record asked { opened = later.opened; taken = later.taken } → CountsOpenings asked.game question place.state (stand_of place.last) asked.opened later.opened → CountsAllForced asked.game true question place.state (stand_of place.last) asked.opened later.opened → CountsPairs asked.game question place.state (stand_of place.last) asked.opened later.opened asked.taken later.taken (Unit {0}) → new.openings ≡ min (lent.openings + later.opened) (2 ^ 64 - 1) → new.pairs ≡ min (lent.pairs + later.taken) (2 ^ 64 - 1) → IsTallied game question place old new
+tallied game question place asked later old lent new same none nothing kept_tally kept counted forced paired openings pairs = record {
   opened = later.opened;
   taken = later.taken;
   counted =
       subst (λ (n : ℕ). CountsOpenings game question place.state (stand_of place.last) n later.opened) none
       (subst (λ (x : AbstractGame). CountsOpenings x question place.state (stand_of place.last) asked.opened later.opened) same counted);
+  forced =
+      subst (λ (n : ℕ). CountsAllForced game true question place.state (stand_of place.last) n later.opened) none
+      (subst (λ (x : AbstractGame). CountsAllForced x true question place.state (stand_of place.last) asked.opened later.opened) same forced);
   paired =
       subst (λ (n : ℕ). CountsPairs game question place.state (stand_of place.last) n later.opened 0 later.taken (Unit {0})) none
       (subst (λ (n : ℕ). CountsPairs game question place.state (stand_of place.last) asked.opened later.opened n later.taken (Unit {0})) nothing

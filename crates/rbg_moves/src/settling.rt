@@ -1,5 +1,6 @@
 //! The keeper's moves before a player's.
-ghost use Rattle.std.specs.Prelude.{◌≡◌, ◌≢◌, Err, IfOk, OnErr};
+ghost use Rattle.std.specs.Prelude.{◌≡◌, ◌≢◌, ◌⊎◌, Err, IfOk, OnErr};
+ghost use Rattle.rbg_rules.specs.Heavy.{IsHeavyToFind};
 ghost use Rattle.rbg_rules.specs.Moves.{Legal, IsLegal};
 ghost use Rattle.rbg_rules.specs.Places.{IsPlaceOf};
 ghost use Rattle.rbg_moves.specs.Limits.{most_keeper_moves};
@@ -16,7 +17,8 @@ pub const MAX_KEEPER_MOVES: u32 = 1000;
 
 impl PlayedGame {
     /// Leads a place, by moves of the keeper, to one where a player is to move or play is finished. Where there is no
-    /// such place, some place of the game is left, to which moves of the keeper led.
+    /// such place, some place of the game is left, to which moves of the keeper led: unless memory ran out, the one where
+    /// the keeper is to move and isn't led on.
     pub fn settle(&self, place: &mut Place, workspace: &mut Workspace) -> Result<(), Unsettled>
         requires place { IsPlaceOf self.now place.old }
         ensures settles { IfOk result (λ _. Settles self.now place.old place.new) }
@@ -24,6 +26,9 @@ impl PlayedGame {
         ensures led { SomeKeeperMoves self.now place.old place.new }
         ensures heavy { result ≡ Err Unsettled.Heavy → MeetsHeavy self.now place.old }
         ensures endless { result ≡ Err Unsettled.Endless → IsEndless self.now place.old }
+        ensures heavy_there { result ≡ Err Unsettled.Heavy → IsHeavyToFind self.now place.new }
+        ensures keeper_there { (result ≡ Err Unsettled.Heavy) ⊎ (result ≡ Err Unsettled.Endless)
+            → place.new.state.player ≡ 0 }
     {
         for _ in 0..MAX_KEEPER_MOVES {
             if place.state.player() != 0 {

@@ -11,7 +11,7 @@ use Rattle.rbg_search.proofs.CallerLemmas.{too_deep}
 use Rattle.rbg_rules.specs.Limits.{most_openings}
 use Rattle.rbg_search.specs.Searching.{Searching}
 use Rattle.rbg_moves.proofs.Steps.{deep_from, wide_from}
-use Rattle.rbg_moves.proofs.Forcing.{counts_uncut, fits_at}
+use Rattle.rbg_moves.proofs.Forcing.{all_forced, counts_uncut, fits_at}
 use Rattle.std.specs.Prelude.{◌++◌, ◌≤◌, Bool, false, Result, Ok, Err, OnOk, OnErr}
 use Rattle.rbg_state.specs.History.{History, IsAfter}
 use Rattle.rbg_state.proofs.Histories.{after_nothing, no_shorter}
@@ -121,13 +121,17 @@ pub returns-then-not-found-clause-tally : goal.returns-then-not-found-clause-tal
 returns-then-not-found-clause-tally x c =
     let place : AbstractPlace = record { state = c.args.state.now.state; last = c.args.after } in
     let asked = c.search_in-search in
-    tallied c.args.game.now find_move place asked.result c.find-found.new.search c.args.searches.now c.search_in-search.new.workspace c.leave.new.workspace asked.ensures.game asked.ensures.opened asked.ensures.taken asked.ensures.tally c.find-found.ensures.search c.in_ok-found.ensures.answered.counted c.in_ok-found.ensures.answered.paired c.leave.ensures.openings c.leave.ensures.pairs
+    tallied c.args.game.now find_move place asked.result c.find-found.new.search c.args.searches.now c.search_in-search.new.workspace c.leave.new.workspace asked.ensures.game asked.ensures.opened asked.ensures.taken asked.ensures.tally c.find-found.ensures.search c.in_ok-found.ensures.answered.counted
+    (all_forced asked.result.game false find_move place.state (stand_of place.last) asked.result.opened c.find-found.new.search.opened _ _ c.in_ok-found.ensures.answered.forced)
+    c.in_ok-found.ensures.answered.paired c.leave.ensures.openings c.leave.ensures.pairs
 
 pub returns-clause-tally : goal.returns-clause-tally
 returns-clause-tally x c =
     let place : AbstractPlace = record { state = c.args.state.now.state; last = c.args.after } in
     let asked = c.search_in-search in
-    tallied c.args.game.now find_move place asked.result c.find-found.new.search c.args.searches.now c.search_in-search.new.workspace c.leave.new.workspace asked.ensures.game asked.ensures.opened asked.ensures.taken asked.ensures.tally c.find-found.ensures.search c.in_ok-found.ensures.answered.counted c.in_ok-found.ensures.answered.paired c.leave.ensures.openings c.leave.ensures.pairs
+    tallied c.args.game.now find_move place asked.result c.find-found.new.search c.args.searches.now c.search_in-search.new.workspace c.leave.new.workspace asked.ensures.game asked.ensures.opened asked.ensures.taken asked.ensures.tally c.find-found.ensures.search c.in_ok-found.ensures.answered.counted
+    (all_forced asked.result.game false find_move place.state (stand_of place.last) asked.result.opened c.find-found.new.search.opened _ _ c.in_ok-found.ensures.answered.forced)
+    c.in_ok-found.ensures.answered.paired c.leave.ensures.openings c.leave.ensures.pairs
 
 pub returns-in_err-found-clause-untallied : goal.returns-in_err-found-clause-untallied
 returns-in_err-found-clause-untallied x c = on_err _ _ c.search_in-search.ensures.tally

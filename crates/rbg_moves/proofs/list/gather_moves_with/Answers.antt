@@ -9,7 +9,7 @@ use Rattle.rbg_search.proofs.CallerLemmas.{too_deep}
 use Rattle.rbg_moves.proofs.Steps.{deep_from, wide_from}
 use Rattle.rbg_rules.specs.Questions.{list_moves, IsDeep}
 use Rattle.rbg_search.specs.Searching.{Searching}
-use Rattle.rbg_moves.proofs.Forcing.{fits_at}
+use Rattle.rbg_moves.proofs.Forcing.{all_forced, fits_at}
 use Rattle.rbg_rules.specs.Moves.{AbstractPlace, stand_of}
 use Rattle.rbg_moves.proofs.Outcome.{gathered, gathered_at}
 use Rattle.rbg_moves.specs.Tallying.{IsTallied}
@@ -87,4 +87,6 @@ returns-clause-tally g c =
     let same_place : here ≡ place = ap (λ (s : AbstractState). let x : AbstractPlace = record { state = s; last = c.place.inside.after } in x) c.in_ok-copy_from.ensures.state ∙ c.place.view_is in
     let asked = c.search_in-search in
     subst (λ (p : AbstractPlace). IsTallied game list_moves p c.args.workspace.now.searches c.leave.new.workspace) same_place
-    (tallied game list_moves here asked.result c.list.new.search c.args.workspace.now.searches c.search_in-search.new.workspace c.leave.new.workspace asked.ensures.game asked.ensures.opened asked.ensures.taken (asked.ensures.tally ∙ c.take_moves-moves.ensures.tally) c.list.ensures.search c.in_ok-cut.ensures.answered.counted c.in_ok-cut.ensures.answered.paired c.leave.ensures.openings c.leave.ensures.pairs)
+    (tallied game list_moves here asked.result c.list.new.search c.args.workspace.now.searches c.search_in-search.new.workspace c.leave.new.workspace asked.ensures.game asked.ensures.opened asked.ensures.taken (asked.ensures.tally ∙ c.take_moves-moves.ensures.tally) c.list.ensures.search c.in_ok-cut.ensures.answered.counted
+    (all_forced asked.result.game c.in_ok-cut.cut list_moves here.state (stand_of here.last) asked.result.opened c.list.new.search.opened _ _ c.in_ok-cut.ensures.answered.forced)
+    c.in_ok-cut.ensures.answered.paired c.leave.ensures.openings c.leave.ensures.pairs)

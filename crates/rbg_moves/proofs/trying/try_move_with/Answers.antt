@@ -1,4 +1,4 @@
-use Rattle.std.proofs.Common.{rules, ◌≡◌, ℕ, List, length, false, ap, ◌∙◌, subst, inl, inr, arith}
+use Rattle.std.proofs.Common.{rules, ◌≡◌, ℕ, List, length, true, false, refl, ap, ◌∙◌, subst, inl, inr, arith}
 use Rattle.std.specs.Prelude.{Option, Some, None, IfSome}
 use Rattle.rbg_rules.specs.State.{AbstractGame, AbstractState}
 use Rattle.rbg_rules.specs.Moves.{AbstractPlace, stand_of}
@@ -9,7 +9,7 @@ use Rattle.rbg_rules.specs.Limits.{most_openings}
 use Rattle.rbg_search.specs.Searching.{Searching}
 use Rattle.rbg_search.specs.Forced.{CountsForced}
 use Rattle.rbg_moves.specs.Limits.{IsDeepAt, IsWideAt, FitsLimits}
-use Rattle.rbg_moves.proofs.Forcing.{counts_uncut, fits_at, illegal_fits}
+use Rattle.rbg_moves.proofs.Forcing.{all_forced, counts_uncut, fits_at, illegal_counts, illegal_fits}
 use Rattle.rbg_moves.proofs.Copies.{from_copy}
 use Rattle.rbg_moves.proofs.Steps.{deep_from, wide_from}
 use Rattle.rbg_moves.specs.Tallying.{IsTallied}
@@ -100,9 +100,12 @@ returns-in-Some-clause-tally x c =
     let here : AbstractPlace = record { state = c.in_ok-state.state.state; last = c.place.inside.after } in
     let old = c.args.workspace.now.searches in
     let new = c.leave.new.workspace in
+    let counts = some_counts c.in_ok-end.end c.in-Some.last (CountsForced asked.result.game false (try_move ps) here.state (stand_of here.last) asked.result.opened c.follow.new.search.opened (length ps) asked.result.modifiers) c.in-Some.is c.in_ok-end.ensures.forced in
     subst (λ (qs : List (ℕ × ℕ)). IsTallied game (try_move qs) c.args.place.now old new) c.as_slice.ensures.pairs
     (subst (λ (p : AbstractPlace). IsTallied game (try_move ps) p old new) there
-    (tallied game (try_move ps) here asked.result c.follow.new.search old c.copy_of.new.self.searches new asked.ensures.game asked.ensures.opened asked.ensures.taken (c.copy_of.ensures.tally ∙ asked.ensures.tally) c.follow.ensures.kept c.in_ok-end.ensures.counted c.in_ok-end.ensures.paired c.leave.ensures.openings c.leave.ensures.pairs))
+    (tallied game (try_move ps) here asked.result c.follow.new.search old c.copy_of.new.self.searches new asked.ensures.game asked.ensures.opened asked.ensures.taken (c.copy_of.ensures.tally ∙ asked.ensures.tally) c.follow.ensures.kept c.in_ok-end.ensures.counted
+    (all_forced asked.result.game false (try_move ps) here.state (stand_of here.last) asked.result.opened c.follow.new.search.opened _ _ counts)
+    c.in_ok-end.ensures.paired c.leave.ensures.openings c.leave.ensures.pairs))
 
 pub returns-in-None-clause-tally : goal.returns-in-None-clause-tally
 returns-in-None-clause-tally x c =
@@ -113,9 +116,12 @@ returns-in-None-clause-tally x c =
     let here : AbstractPlace = record { state = c.in_ok-state.state.state; last = c.place.inside.after } in
     let old = c.args.workspace.now.searches in
     let new = c.leave.new.workspace in
+    let illegal = tried_as asked.result.game asked.result.game here here ps ps c.follow.new.state.state c.in_ok-end.end _ refl refl refl c.in-None.is c.in_ok-end.ensures.tried in
     subst (λ (qs : List (ℕ × ℕ)). IsTallied game (try_move qs) c.args.place.now old new) c.as_slice.ensures.pairs
     (subst (λ (p : AbstractPlace). IsTallied game (try_move ps) p old new) there
-    (tallied game (try_move ps) here asked.result c.follow.new.search old c.copy_of.new.self.searches new asked.ensures.game asked.ensures.opened asked.ensures.taken (c.copy_of.ensures.tally ∙ asked.ensures.tally) c.follow.ensures.kept c.in_ok-end.ensures.counted c.in_ok-end.ensures.paired c.leave.ensures.openings c.leave.ensures.pairs))
+    (tallied game (try_move ps) here asked.result c.follow.new.search old c.copy_of.new.self.searches new asked.ensures.game asked.ensures.opened asked.ensures.taken (c.copy_of.ensures.tally ∙ asked.ensures.tally) c.follow.ensures.kept c.in_ok-end.ensures.counted
+    (illegal_counts asked.result.game true here ps asked.result.opened c.follow.new.search.opened illegal (omega (arith, c.in_ok-end.ensures.counted.sum)))
+    c.in_ok-end.ensures.paired c.leave.ensures.openings c.leave.ensures.pairs))
 
 pub returns-in_err-state-clause-untallied : goal.returns-in_err-state-clause-untallied
 returns-in_err-state-clause-untallied x c = on_err _ _ (c.copy_of.ensures.tally ∙ c.search_in-search.ensures.tally)
