@@ -1,7 +1,7 @@
 -- What is printed and what is recorded of the match of a description and a script.
 use Rattle.std.specs.Prelude.{ℕ, List, map}
 use Rattle.rbg_match.specs.Matches.{MatchState}
-use Rattle.rbg_match.specs.Played.{IsMatchOf}
+use Rattle.rbg_referee.specs.Played.{IsMatchOf}
 use Rattle.rbg_record.specs.OfMatch.{record_of}
 use Rattle.rbg_record.specs.Records.{timed, Spells}
 use Rattle.rbg_record.specs.Right.{IsRightRecord}

@@ -5,8 +5,9 @@ ghost use Rattle.rbg_answering.specs.Recorded.{IsRecorded, IsScriptsMatchState, 
 ghost use Rattle.rbg_refereeing.specs.Matches.{IsNoMatch};
 ghost use Rattle.rbg_script.specs.Scripts.{SpellsScript, script_of as abstract_script};
 
-use rbg_match::{Match, Outbox, referee_match};
+use rbg_match::{Match, Outbox};
 use rbg_record::write_record;
+use rbg_referee::referee_match;
 use rbg_refereeing::{RefereeingError, config_of, events_of, match_lines, referee_texts};
 use rbg_script::{Script, read_script};
 use std::alloc::{AllocError, Global};

@@ -1,6 +1,6 @@
 //! A match that has begun at a table.
 ghost use Rattle.std.specs.Prelude.{◌≡◌, ℕ, length, false, IfOk, OnOk};
-ghost use Rattle.rbg_game.specs.Loading.{Loads};
+ghost use Rattle.rbg_wire.specs.Bytes.{LacksByte};
 ghost use Rattle.rbg_match.specs.Config.{IsWithinLimits};
 ghost use Rattle.rbg_match.specs.Inputs.{event_of};
 ghost use Rattle.rbg_match.specs.Matches.{HasHistory};
@@ -50,7 +50,7 @@ impl Running {
         out: &mut HallOut,
         marks: &mut Vec<Mark>,
     ) -> Result<Running, Memory>
-        requires loaded { Loads text.now game }
+        requires no_zero { LacksByte 0 text.now }
         requires limits { IsWithinLimits config }
         requires seats { length seats.now ≡ seats_of game }
         ensures opens { IfOk result (λ opened.

@@ -1,6 +1,6 @@
 //! A table of a hall: its seats, and its match once it has begun.
 ghost use Rattle.std.specs.Prelude.{◌≡◌, ◌↔◌, ◌+◌, ◌<◌, ◌^◌, ◌++◌, ◌∷◌, [], ℕ, Option, Some, None, false, length, slice_get, slice_set, is_none, option_map, IfNone, IfOk, IfSome, IsTrue, OnOk};
-ghost use Rattle.rbg_game.specs.Loading.{Loads};
+ghost use Rattle.rbg_wire.specs.Bytes.{LacksByte};
 ghost use Rattle.rbg_match.specs.Config.{IsWithinLimits};
 ghost use Rattle.rbg_match.specs.Inputs.{event_of};
 ghost use Rattle.rbg_match.specs.Matches.{HasHistory};
@@ -81,14 +81,14 @@ impl Model for HallTable {
 }
 
 impl HallTable {
-    /// A table where nobody sits, for a match of this game, whose text it is.
+    /// A table where nobody sits, for a match of this game, whose text it is. No byte of the text may be zero.
     pub fn new(
         alloc: Global,
         game: Game,
         text: Vec<u8>,
         config: Config,
     ) -> Result<HallTable, Memory>
-        requires loaded { Loads text.items game }
+        requires no_zero { LacksByte 0 text.items }
         requires limits { IsWithinLimits config }
         ensures { IfOk result (λ table. table ≡ new_table game text.items config) }
     {

@@ -9,8 +9,8 @@ use Rattle.rbg_rules.specs.State.{AbstractGame}
 use Rattle.rbg_match.specs.declared.config.Config.{Config}
 use Rattle.rbg_match.specs.Inputs.{AbstractEvent, piece, end_of_stream, moment_alone, moment_of}
 use Rattle.rbg_match.specs.Matches.{MatchState, Opens, Steps, StepsAll}
-use Rattle.rbg_match.specs.Refereed.{IsRefereed, OpensText}
-use Rattle.rbg_match.specs.Played.{IsMatchOf}
+use Rattle.rbg_referee.specs.Refereed.{IsRefereed, OpensText}
+use Rattle.rbg_referee.specs.Played.{IsMatchOf}
 use Rattle.rbg_match.specs.PlayingOn.{seats_of}
 use Rattle.rbg_match.proofs.Delivering.{delivered-queued, length-delivered}
 use Rattle.rbg_match.proofs.WholeMatch.{stepped_is_transcript}

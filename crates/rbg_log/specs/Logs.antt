@@ -4,8 +4,8 @@ use Rattle.rbg_match.specs.declared.config.Config.{Config}
 use Rattle.rbg_match.specs.Inputs.{AbstractEvent, piece, end_of_stream, moment_alone}
 use Rattle.rbg_match.specs.Limits.{latest_moment}
 use Rattle.rbg_match.specs.Matches.{MatchState, StepsAll}
-use Rattle.rbg_match.specs.Played.{IsMatchOf}
-use Rattle.rbg_match.specs.Refereed.{OpensText}
+use Rattle.rbg_referee.specs.Played.{IsMatchOf}
+use Rattle.rbg_referee.specs.Refereed.{OpensText}
 use Rattle.rbg_refereeing.specs.Matches.{IsScriptRefereed}
 use Rattle.rbg_refereeing.specs.Scripts.{config_for, event_for}
 use Rattle.rbg_script.specs.Config.{config_text}

@@ -12,7 +12,8 @@ ghost use Rattle.rbg_log.specs.Logs.{IsLog, IsScriptPlayed, texts_of};
 
 use crate::{Log, LogFailure, LoggedMatch};
 use rbg_base::Memory;
-use rbg_match::{Match, Outbox, referee_match};
+use rbg_match::{Match, Outbox};
+use rbg_referee::referee_match;
 use rbg_refereeing::{RefereeingError, config_of, events_of};
 use rbg_script::{Script, ScriptEvent, write_config, write_end, write_piece, write_tick};
 use std::alloc::Global;

@@ -1,10 +1,13 @@
--- The greetings of one more seat.
+-- The greetings of one more seat, and the names in them.
 use Rattle.std.proofs.Common.{◌≡◌, ℕ, suc, ◌+◌, ◌-◌, ◌<◌, List, [], ◌∷◌, ◌++◌, length, take, Some, slice_get, refl, ap, ◌∙◌, subst, arith}
 use Rattle.std.specs.List.{flat_map, enumerate_from}
 use Rattle.std.specs.Prelude.{All, IsTrue}
 use Rattle.rbg_base.specs.Names.{is_name}
 use Rattle.std.proofs.lemmas.List.{append-nil, take_more, length-take-le}
 use Rattle.std.proofs.lemmas.Option.{slice_get_within, get_or_from_slice_get}
+use Rattle.std.proofs.lemmas.List.Elements.{All-take}
+use Rattle.rbg_rules.specs.Games.{IsGame}
+use Rattle.rbg_rules.specs.State.{AbstractGame}
 use Rattle.rbg_match.specs.declared.config.Config.{Config}
 use Rattle.rbg_match.specs.Transcript.{greeting, greetings}
 
@@ -30,3 +33,9 @@ name_at names all index name found =
     let same : index + 1 - 1 ≡ index = omega arith in
     let there : slice_get names index ≡ Some name = rw same at found in
     subst (λ one. IsTrue (is_name one)) (get_or_from_slice_get names index name name there) (all index name (slice_get_within names index name there))
+
+-- the players of an accepted game are its first variables, whose names are names of the language
+pub players_named : (game : AbstractGame) → IsGame game → All (λ name. IsTrue (is_name name)) game.players
+players_named game lawful =
+    let first = All-take (λ name. IsTrue (is_name name)) (length game.players) game.variables lawful.variable_names.names in
+    subst (All (λ name. IsTrue (is_name name))) lawful.scores first

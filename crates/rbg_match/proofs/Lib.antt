@@ -11,7 +11,6 @@ pub mod Histories
 pub mod Stepping
 pub mod Greeting
 pub mod OpeningLemmas
-pub mod GameText
 pub mod LegalPairs
 pub mod AllEvents
 pub mod WholeMatch

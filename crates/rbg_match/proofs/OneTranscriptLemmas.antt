@@ -10,14 +10,13 @@ use Rattle.rbg_wire.specs.declared.outcome.Outcome.{Outcome}
 use Rattle.rbg_wire.specs.declared.outcome.Outcome.TheVariants.{Heavy}
 use Rattle.rbg_wire.specs.Messages.{move_message, end_message}
 use Rattle.rbg_wire.proofs.PairLemmas.{one_move}
-use Rattle.rbg_game.proofs.OneGame.{one_game_law}
 use Rattle.rbg_rules.specs.Positions.{IsNumbered}
 use Rattle.rbg_rules.specs.State.{AbstractGame}
 use Rattle.rbg_rules.specs.Moves.{AbstractPlace, Legal}
 use Rattle.rbg_rules.proofs.PlaceLemmas.{one_place_law}
 use Rattle.rbg_match.specs.declared.config.Config.{Config}
 use Rattle.rbg_match.specs.declared.made.Made.{Made}
-use Rattle.rbg_match.specs.Deliveries.{Delivery, to_each, queued}
+use Rattle.rbg_match.specs.Deliveries.{Delivery, to_each}
 use Rattle.rbg_moves.specs.Limits.{most_keeper_moves}
 use Rattle.rbg_base.specs.Move.{most_pairs}
 use Rattle.rbg_match.specs.Play.{AbstractPlay, mover_of, ended, moved}
@@ -26,10 +25,10 @@ use Rattle.rbg_match.specs.PlayingOn as on
 use Rattle.rbg_match.specs.Handling.{AbstractInput, Refuses, Judges, HandlesInTime, Handles}
 use Rattle.rbg_match.specs.Handling as handling
 use Rattle.rbg_match.specs.Inputs.{AbstractEvent, piece, end_of_stream, moment_alone, TimedInput, Streams, streams_at_start, streams_after, counted, moment_of, has_seat, cut_of, rests_after, timed_inputs_in, timed_inputs_of}
-use Rattle.rbg_match.specs.Laws.{keeper_pairs, keeper_run, IsHeavyEnd, HaveOneKeeper, StopsWithin, AreAlike, equal, one_stops, other_stops, OneUntilHeavy, OneTranscript, OneOutbox}
+use Rattle.rbg_match.specs.Laws.{keeper_pairs, keeper_run, IsHeavyEnd, HaveOneKeeper, StopsWithin, AreAlike, equal, one_stops, other_stops, OneUntilHeavy, OneTranscript}
 use Rattle.rbg_wire.specs.Streams.{Rest, incomplete}
 use Rattle.rbg_match.proofs.Histories.{IsInputOf, IsInputAt, timed_of_event}
-use Rattle.rbg_match.specs.Transcript.{Transcript, greetings}
+use Rattle.rbg_match.specs.Transcript.{greetings}
 use Rattle.rbg_match.proofs.EndedLemmas.{not_both, stays_at_input}
 use Rattle.rbg_match.proofs.OneByOne.{HandlesEach, none, more, all_to_each}
 
@@ -342,10 +341,3 @@ none_stops light light' (other_stops stops) = absurd (light' stops.heavy)
 pub one_transcript : OneTranscript
 one_transcript game text config now events play play' said said' numbered one other light light' same =
     none_stops light light' (one_until_heavy game text config now events play play' said said' numbered one other (same_keeper play play' same))
-
-pub one_outbox : OneOutbox
-one_outbox text config now events outbox outbox' one other light light' same =
-    let game = one_game_law text other.game one.game other.loads one.loads in
-    let transcript : Transcript one.game text config now events other.play other.said = subst (λ (g : AbstractGame). Transcript g text config now events other.play other.said) game other.transcript in
-    let alike = one_transcript one.game text config now events one.play other.play one.said other.said one.loads.game_of.lawful.numbered one.transcript transcript light light' same in
-    one.bytes ∙ ap (λ (said : List Delivery). queued (seats_of one.game) said) alike.1 ∙ ap (λ (g : AbstractGame). queued (seats_of g) other.said) (sym game) ∙ sym other.bytes

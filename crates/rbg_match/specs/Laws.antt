@@ -16,7 +16,6 @@ use Rattle.rbg_moves.specs.Limits.{most_keeper_moves}
 use Rattle.rbg_match.specs.Matches.{MatchState, Opens, StepsAll}
 use Rattle.rbg_match.specs.Play.{AbstractPlay, mover_of}
 use Rattle.rbg_match.specs.PlayingOn.{seats_of}
-use Rattle.rbg_match.specs.Refereed.{IsRefereed}
 use Rattle.rbg_match.specs.Transcript.{HandlesAll, Transcript}
 
 -- How a seat's stream is cut does not matter, where a turn lasts some time. A piece may be replaced by one or more pieces
@@ -91,18 +90,6 @@ OneTranscript =
     ¬ IsHeavyEnd play' →
     keeper_pairs play.made ≡ keeper_pairs play'.made →
     (play ≡ play') × (said ≡ said')
-
--- The same of the bytes: a text, a config, a first moment and events have one outbox, if the keeper's moves have the
--- same pairs and no match ends because a question is above the limits.
-abbrev pub OneOutbox : Type 0
-OneOutbox =
-    (text : List ℕ) (config : Config) (now : ℕ) (events : List AbstractEvent) (outbox outbox' : List (List ℕ)) →
-    (one : IsRefereed text config now events outbox) →
-    (other : IsRefereed text config now events outbox') →
-    ¬ IsHeavyEnd one.play →
-    ¬ IsHeavyEnd other.play →
-    keeper_pairs one.play.made ≡ keeper_pairs other.play.made →
-    outbox ≡ outbox'
 
 -- What a match that opens and then handles these events in turn leaves: its state of play is that of a transcript of
 -- them, and each seat has the bytes of what that transcript sends.

@@ -9,7 +9,5 @@ pub mod Handling
 pub mod Inputs
 pub mod Transcript
 pub mod Matches
-pub mod Refereed
-pub mod Played
 pub mod Laws
 pub mod internal

@@ -3,7 +3,7 @@ ghost use Rattle.std.specs.Prelude.{◌≡◌};
 ghost use Rattle.rbg_base.specs.Move.{most_pairs};
 ghost use Rattle.rbg_moves.specs.Limits.{most_keeper_moves};
 ghost use Rattle.rbg_match.specs.Limits.{most_seats, longest_turn, most_refusals, message_limit, latest_moment};
-ghost use Rattle.rbg_match.specs.Laws.{Cutting, EndedPlayStays, EndedMatchStays, OneOutbox, OneTranscript, OneUntilHeavy, SteppedIsTranscript, TickAtStart, TickBehind, TranscriptHasHistory};
+ghost use Rattle.rbg_match.specs.Laws.{Cutting, EndedPlayStays, EndedMatchStays, OneTranscript, OneUntilHeavy, SteppedIsTranscript, TickAtStart, TickBehind, TranscriptHasHistory};
 
 use crate::opening::MESSAGE_LIMIT;
 use crate::{LATEST_MOMENT, MAX_REFUSALS, MAX_SEATS, MAX_TURN_MS};
@@ -37,7 +37,7 @@ pub fn tick_at_the_start_says_nothing()
     ensures { TickAtStart }
 {}
 
-/// What `Match::new` makes and `step` goes on with is what `referee` returns: both are transcripts of the events.
+/// What `Match::new` makes and `step` goes on with is a transcript of the events.
 pub fn stepped_match_is_refereed()
     ensures { SteppedIsTranscript }
 {}
@@ -52,11 +52,6 @@ pub fn one_transcript_until_a_heavy_end()
 /// its events.
 pub fn one_transcript()
     ensures { OneTranscript }
-{}
-
-/// And so are the bytes of its seats.
-pub fn one_outbox()
-    ensures { OneOutbox }
 {}
 
 /// Every transcript tells a history.

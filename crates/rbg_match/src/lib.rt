@@ -15,14 +15,12 @@ mod matches;
 mod opening;
 mod outbox;
 mod play;
-mod refereeing;
 mod state;
 mod turns;
 
 pub use config::{Config, LATEST_MOMENT, MAX_REFUSALS, MAX_TURN_MS};
-pub use error::{MatchError, RefereeError};
+pub use error::MatchError;
 pub use event::Event;
 pub use made::Made;
 pub use matches::Match;
 pub use outbox::{MAX_SEATS, Outbox};
-pub use refereeing::{referee, referee_match};

@@ -1,6 +1,6 @@
 //! A match: it opens, and handles events.
 ghost use Rattle.std.specs.Prelude.{◌≡◌, ℕ, ◌≤◌, true, IsErr, IsErrOf, IsOk, IfOk, OnOk, OnErr, length};
-ghost use Rattle.rbg_game.specs.Loading.{Loads};
+ghost use Rattle.rbg_wire.specs.Bytes.{LacksByte};
 ghost use Rattle.rbg_match.specs.Config.{IsWithinLimits};
 ghost use Rattle.rbg_match.specs.Inputs.{event_of, counted_first};
 ghost use Rattle.rbg_match.specs.Limits.{latest_moment};
@@ -99,8 +99,8 @@ impl Match {
     ghost use Rattle.rbg_match.specs.Matches.{HasHistory, Opens, Steps};
     ghost use Rattle.rbg_wire.specs.declared.outcome.Outcome.{Outcome};
 
-    /// Makes a match of a game at the moment `now`. Each seat is greeted, and play goes on from the start. Returns the
-    /// match and its outbox.
+    /// Makes a match of a game at the moment `now`. Each seat is greeted with the game's text, of which no byte may be
+    /// zero, and play goes on from the start. Returns the match and its outbox.
     pub fn new(
         alloc: Global,
         game: Game,
@@ -108,7 +108,7 @@ impl Match {
         config: Config,
         now: u64,
     ) -> Result<(Match, Outbox), MatchError>
-        requires { Loads text.now game }
+        requires { LacksByte 0 text.now }
         ensures opens { IfOk result (λ made. Opens game text.now config now made.0 made.1) }
         ensures seats { IfOk result (λ made. length made.1 ≡ seats_of made.0.game) }
         ensures history { IfOk result (λ made. HasHistory made.0) }
@@ -269,7 +269,7 @@ fn open(
     config: Config,
     moment: u64,
 ) -> Result<(Match, Outbox), Memory>
-    requires loaded { Loads text.now game }
+    requires no_zero { LacksByte 0 text.now }
     requires lawful { IsWithinLimits config }
     requires counted { moment ≤ latest_moment }
     ensures { IfOk result (λ made.

@@ -1,7 +1,7 @@
 //! How a match opens: each seat is greeted, and play is set to its start.
-ghost use Rattle.std.specs.Prelude.{◌≡◌, ◌≢◌, ◌≤◌, length, All, IsTrue, IfOk};
+ghost use Rattle.std.specs.Prelude.{◌≡◌, ◌≤◌, length, All, IsTrue, IfOk};
 ghost use Rattle.rbg_base.specs.Names.{is_name};
-ghost use Rattle.rbg_game.specs.Loading.{Loads};
+ghost use Rattle.rbg_wire.specs.Bytes.{LacksByte};
 ghost use Rattle.rbg_match.specs.Config.{IsWithinLimits};
 ghost use Rattle.rbg_match.specs.internal.Opening.{first_outbox, referee_at_start};
 ghost use Rattle.rbg_match.specs.Limits.{latest_moment};
@@ -36,7 +36,7 @@ fn greet_seat(
     requires some { 1 ≤ seat }
     requires most { seat ≤ length outbox.old }
     requires name { IsTrue (is_name name.now) }
-    requires no_zero { All (λ byte. byte ≢ 0) text.now }
+    requires no_zero { LacksByte 0 text.now }
     ensures { Says outbox.old outbox.new result (λ _ said.
         said ≡ greeting text.now config seat name.now) }
 {
@@ -58,7 +58,7 @@ fn greet_seat(
 fn greet(game: &Game, text: &[u8], config: Config, outbox: &mut Outbox) -> Result<(), Memory>
     requires seats { length outbox.old ≡ seats_of game.now }
     requires names { All (λ name. IsTrue (is_name name)) game.now.players }
-    requires no_zero { All (λ byte. byte ≢ 0) text.now }
+    requires no_zero { LacksByte 0 text.now }
     ensures { Says outbox.old outbox.new result (λ _ said.
         said ≡ greetings text.now config game.now.players) }
 {
@@ -72,7 +72,7 @@ fn greet(game: &Game, text: &[u8], config: Config, outbox: &mut Outbox) -> Resul
 /// An outbox in which each seat is greeted.
 fn first_outbox(alloc: Global, game: &Game, text: &[u8], config: Config) -> Result<Outbox, Memory>
     requires names { All (λ name. IsTrue (is_name name)) game.now.players }
-    requires no_zero { All (λ byte. byte ≢ 0) text.now }
+    requires no_zero { LacksByte 0 text.now }
     ensures { IfOk result (λ outbox. outbox ≡ first_outbox game.now text.now config) }
 {
     let mut outbox = Outbox::new(alloc, game.players())?;
@@ -88,7 +88,7 @@ pub(crate) fn referee_at_start(
     config: Config,
     moment: u64,
 ) -> Result<Referee, Memory>
-    requires loaded { Loads text.now game }
+    requires no_zero { LacksByte 0 text.now }
     requires lawful { IsWithinLimits config }
     requires counted { moment ≤ latest_moment }
     ensures { IfOk result (λ referee. referee ≡ referee_at_start game text.now config moment) }

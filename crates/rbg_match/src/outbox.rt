@@ -70,7 +70,7 @@ impl Outbox {
     }
 
     /// An outbox with no seat.
-    pub(crate) fn without_seats(alloc: Global) -> Outbox
+    pub fn without_seats(alloc: Global) -> Outbox
         ensures { result ≡ [] }
     {
         Outbox {

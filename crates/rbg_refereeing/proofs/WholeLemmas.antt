@@ -4,7 +4,7 @@ use Rattle.std.specs.List.{flat_map, enumerate_from, range_with_len}
 use Rattle.std.specs.Prelude.{All, IsTrue}
 use Rattle.std.proofs.lemmas.List.Elements.{All-nil, All-cons, All-append, All-head, All-tail, All-map}
 use Rattle.rbg_base.specs.Names.{is_name}
-use Rattle.rbg_match.proofs.GameText.{names_in, no_zero_in}
+use Rattle.rbg_referee.proofs.CallerLemmas.{names_in, no_zero_in}
 use Rattle.rbg_match.specs.declared.config.Config.{Config}
 use Rattle.rbg_match.specs.Deliveries.{Delivery, to_seat, to_each, to_others, bytes_for}
 use Rattle.rbg_match.specs.Handling.{AbstractInput, Refuses, Judges, HandlesInTime, Handles}
@@ -16,7 +16,7 @@ use Rattle.rbg_match.specs.Inputs.{AbstractEvent, TimedInput}
 use Rattle.rbg_match.specs.Play.{AbstractPlay}
 use Rattle.rbg_match.specs.PlayingOn.{PlaysOn, seats_of}
 use Rattle.rbg_match.specs.PlayingOn.PlaysOn.{endless, heavy, finished, keeper, turn}
-use Rattle.rbg_match.specs.Refereed.{IsRefereed}
+use Rattle.rbg_referee.specs.Refereed.{IsRefereed}
 use Rattle.rbg_match.specs.Transcript.{HandlesAll, greeting, greetings}
 use Rattle.rbg_match.specs.Transcript.HandlesAll.{none, more}
 use Rattle.rbg_rules.specs.State.{AbstractGame}

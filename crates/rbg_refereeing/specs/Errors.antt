@@ -2,8 +2,8 @@
 use Rattle.std.specs.Prelude.{◌≡◌}
 use Rattle.rbg_game.specs.Loading.{IsMemory}
 use Rattle.rbg_game.specs.declared.error.LoadError.{LoadError}
-use Rattle.rbg_match.specs.declared.error.RefereeError.{RefereeError}
-use Rattle.rbg_match.specs.declared.error.RefereeError.TheVariants.{Load as NotLoaded, Config, Memory as NoMoreMemory}
+use Rattle.rbg_referee.specs.declared.error.RefereeError.{RefereeError}
+use Rattle.rbg_referee.specs.declared.error.RefereeError.TheVariants.{Load as NotLoaded, Config, Memory as NoMoreMemory}
 use Rattle.rbg_script.specs.declared.error.ScriptError.{ScriptError}
 use Rattle.rbg_script.specs.declared.error.ScriptError.TheVariants.{Line, Memory as NoMemory}
 use Rattle.rbg_refereeing.specs.declared.error.RefereeingError.{RefereeingError}

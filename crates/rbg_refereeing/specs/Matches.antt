@@ -1,7 +1,7 @@
 -- What is printed of the match of a description and a script, and why nothing is.
 use Rattle.std.specs.Prelude.{◌≡◌, ℕ, List, map}
 use Rattle.rbg_game.specs.Loading.{Loads, IsRefused, IsMemory}
-use Rattle.rbg_match.specs.Refereed.{IsRefereed}
+use Rattle.rbg_referee.specs.Refereed.{IsRefereed}
 use Rattle.rbg_rules.specs.State.{AbstractGame}
 use Rattle.rbg_script.specs.Inputs.{IsInput}
 use Rattle.rbg_script.specs.Scripts.{AbstractScript, SpellsScript, HasMisfit}

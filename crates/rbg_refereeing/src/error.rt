@@ -2,7 +2,7 @@
 ghost use Rattle.rbg_refereeing.specs.Errors.{IsOfLoad, IsOfReferee, IsOfScript};
 
 use rbg_game::LoadError;
-use rbg_match::RefereeError;
+use rbg_referee::RefereeError;
 use rbg_script::ScriptError;
 use thiserror::Error;
 

@@ -14,7 +14,8 @@ use crate::RefereeingError;
 use crate::printed::match_lines;
 use crate::script_events::{config_of, events_of};
 use rbg_game::load;
-use rbg_match::{Outbox, referee};
+use rbg_match::Outbox;
+use rbg_referee::referee;
 use rbg_script::{Script, ScriptError, cut_at_mark, read_script};
 use std::alloc::Global;
 

@@ -1,8 +1,7 @@
 //! Matches: what an open match tells of itself, its last due moment, why one isn't made, and all bytes of whole ones.
 use rbg_game::load;
-use rbg_match::{
-    Config, Event, MAX_REFUSALS, MAX_TURN_MS, Match, MatchError, Outbox, RefereeError, referee,
-};
+use rbg_match::{Config, Event, MAX_REFUSALS, MAX_TURN_MS, Match, MatchError, Outbox};
+use rbg_referee::{RefereeError, referee};
 use std::alloc::{AllocError, Global};
 use std::test::Fail;
 
@@ -152,7 +151,8 @@ fn last_due(alloc: Global) -> Result<Option<u64>, Fail> {
         turn_ms: MAX_TURN_MS,
         refusals: 3,
     };
-    let (opened, _) = Match::new(alloc, load(alloc, TEXT)?, TEXT, config, u64::MAX)?;
+    let game = load(alloc, TEXT)?;
+    let (opened, _) = Match::new(alloc, game, TEXT, config, u64::MAX)?;
     Ok(opened.due())
 }
 

@@ -1,6 +1,6 @@
 -- What a table of the code stands for.
 use Rattle.std.specs.Prelude.{◌≡◌, ℕ, List, [], length, Option, Some, None}
-use Rattle.rbg_game.specs.Loading.{Loads}
+use Rattle.rbg_wire.specs.Bytes.{LacksByte}
 use Rattle.rbg_rules.specs.Expression.{skip}
 use Rattle.rbg_rules.specs.State.{AbstractGame}
 use Rattle.rbg_match.specs.declared.config.Config.{Config}
@@ -32,8 +32,8 @@ begun_in (Waiting game) = None
 begun_in (Begun running) = Some running
 begun_in Failed = None
 
--- There is a seat for each player. While a game waits, the text is its own and the config is within its limits.
+-- There is a seat for each player. While a game waits, no byte of its text is zero and the config is within its limits.
 abbrev pub IsSeated : (text : List ℕ) → Config → List (Option ℕ) → Phase → Type 0
-IsSeated text config seats (Waiting game) = Loads text game × (IsWithinLimits config × (length seats ≡ seats_of game))
+IsSeated text config seats (Waiting game) = LacksByte 0 text × (IsWithinLimits config × (length seats ≡ seats_of game))
 IsSeated text config seats (Begun running) = length seats ≡ seats_of running.game
 IsSeated text config seats Failed = Unit {0}

@@ -2,7 +2,7 @@
 use Rattle.std.proofs.Common.{◌∙◌, ap, map, sym, subst}
 use Rattle.std.proofs.lemmas.Simd.{map-map}
 use Rattle.rbg_match.specs.Inputs.{event_of as match_event}
-use Rattle.rbg_match.specs.Played.{IsMatchOf}
+use Rattle.rbg_referee.specs.Played.{IsMatchOf}
 use Rattle.rbg_refereeing.specs.Scripts.{event_for}
 use Rattle.rbg_script.specs.Events.{event_of}
 use Rattle.rbg_answering.proofs.recording.play_script.Goals as goal

@@ -1,7 +1,11 @@
--- The match that was opened is one of the game.
+-- A text that loads can be sent. The match that was opened is one of the game.
 use Rattle.std.proofs.lemmas.Result.{IfOk-weaker}
+use Rattle.rbg_referee.proofs.CallerLemmas.{no_zero_in}
 use Rattle.rbg_listing.specs.Openings.{IsOpenedText, IsOpeningText}
 use Rattle.rbg_listing.proofs.answer.answer_game.Goals as goal
+
+pub new-requires : goal.new-requires
+new-requires c = no_zero_in c.args.text.now c.args.game c.requires
 
 pub returns-in-Ok-clause-lines : goal.returns-in-Ok-clause-lines
 returns-in-Ok-clause-lines c =

@@ -3,7 +3,7 @@ use Rattle.std.proofs.Common.{◌∙◌, ap, map, sym, subst}
 use Rattle.std.proofs.lemmas.Simd.{map-map}
 use Rattle.rbg_game.specs.Loading.{Loads}
 use Rattle.rbg_match.specs.Inputs.{event_of as match_event}
-use Rattle.rbg_match.specs.Played.{IsMatchOf}
+use Rattle.rbg_referee.specs.Played.{IsMatchOf}
 use Rattle.rbg_refereeing.specs.Scripts.{event_for}
 use Rattle.rbg_script.specs.Events.{event_of}
 use Rattle.rbg_script.specs.Scripts.{script_of}

@@ -3,14 +3,14 @@ use Rattle.std.proofs.Common.{rules, length, replicate, [], ap, ◌∙◌, sym}
 use Rattle.std.proofs.lemmas.List.{length-replicate}
 use Rattle.rbg_match.specs.PlayingOn.{seats_of}
 use Rattle.rbg_match.proofs.Delivering.{length-delivered}
-use Rattle.rbg_match.proofs.GameText.{no_zero_in, names_in}
+use Rattle.rbg_rules.specs.Games.{IsGame}
+use Rattle.rbg_match.proofs.Greeting.{players_named}
 use Rattle.rbg_match.proofs.opening.referee_at_start.Goals as goal
 
 pub first_outbox-requires-clause-names : goal.first_outbox-requires-clause-names
-first_outbox-requires-clause-names c = names_in c.args.text.now c.args.game c.requires.loaded
-
-pub first_outbox-requires-clause-no_zero : goal.first_outbox-requires-clause-no_zero
-first_outbox-requires-clause-no_zero c = no_zero_in c.args.text.now c.args.game c.requires.loaded
+first_outbox-requires-clause-names c =
+    let accepted : IsGame c.args.game = search rules in
+    players_named c.args.game accepted
 
 pub invariant_of-result : goal.invariant_of-result
 invariant_of-result c = record {

@@ -2,7 +2,7 @@
 use Rattle.std.proofs.Common.{◌∙◌, ap, map, sym, subst}
 use Rattle.std.proofs.lemmas.Simd.{map-map}
 use Rattle.rbg_match.specs.Inputs.{event_of as match_event}
-use Rattle.rbg_match.specs.Refereed.{IsRefereed}
+use Rattle.rbg_referee.specs.Refereed.{IsRefereed}
 use Rattle.rbg_refereeing.specs.Scripts.{event_for}
 use Rattle.rbg_script.specs.Events.{event_of}
 use Rattle.rbg_refereeing.proofs.refereeing.outbox_of.Goals as goal

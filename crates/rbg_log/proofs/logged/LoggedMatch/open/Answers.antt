@@ -1,7 +1,11 @@
 -- The log begins with its first line.
 use Rattle.std.proofs.Common.{◌<◌, ◌^◌, rules}
+use Rattle.rbg_referee.proofs.CallerLemmas.{no_zero_in}
 use Rattle.rbg_log.proofs.Logging.{opened_so}
 use Rattle.rbg_log.proofs.logged.LoggedMatch.open.Goals as goal
+
+pub new-requires : goal.new-requires
+new-requires g c = no_zero_in c.args.text.now c.args.game c.requires
 
 pub returns-clause-begins : goal.returns-clause-begins
 returns-clause-begins g c =

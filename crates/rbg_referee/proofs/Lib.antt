@@ -1,0 +1,5 @@
+-- Lemmas, by topic.
+pub mod CallerLemmas
+mod HandlingLemmas
+mod OneOutboxLemmas
+mod RefereedLemmas

@@ -1,0 +1,16 @@
+use Rattle.std.proofs.Common.{map, take}
+use Rattle.std.proofs.lemmas.List.{length-map}
+use Rattle.rbg_match.specs.Inputs.{event_of}
+use Rattle.rbg_referee.proofs.RefereedLemmas.{is_match_of, is_still_in_play}
+use Rattle.rbg_referee.proofs.refereeing.go_on.Goals as goal
+
+pub returns-in-Ok-clause-played : goal.returns-in-Ok-clause-played
+returns-in-Ok-clause-played c = λ text config now opened.
+    is_match_of text config now (map event_of c.args.events.now) c.args.refereed.now c.handle_all.new.refereed c.args.outbox c.handle_all.new.outbox opened c.in-Ok.ensures.all (c.in-Ok.ensures.history c.requires.history)
+
+pub returns-in-Err-clause-stopped : goal.returns-in-Err-clause-stopped
+returns-in-Err-clause-stopped c = λ text config now opened.
+    let (within, state, steps, going) = c.in-Err.ensures.some in (
+      rw (length-map c.args.events.now event_of) within,
+      is_still_in_play text config now (take c.in-Err.done (map event_of c.args.events.now)) c.args.refereed.now state c.args.outbox c.handle_all.new.outbox opened steps going,
+    )
