@@ -5,10 +5,10 @@ use native.Mathlib.Decide.{ℕ_discrete}
 use Rattle.rbg_flat.specs.internal.Sets.{SetsOfVertices, IsMarked, IsOpen, IsInWord, Meets, ClosesWord, IsDone, KeepsDone}
 use Rattle.rbg_flat.proofs.Trying.{marked_then, marked_before}
 
-pub meets_done : (old new : SetsOfVertices) (In : (v p : ℕ) → Type 0) (Opens : ℕ → Type 0) → Meets old new In Opens → KeepsDone old new
+pub meets_done : (old new : SetsOfVertices) (In : (v p : ℕ) → Type 0) (Opens : (v p : ℕ) → Type 0) → Meets old new In Opens → KeepsDone old new
 meets_done old new In Opens meets v p done = record { marked = meets.kept v p done.marked; closed = λ is. by_case (meets.no_other v p is) }
   where
-    by_case : IsOpen old v p ⊎ (In v p × Opens p × (¬ IsMarked old v p)) → ⊥
+    by_case : IsOpen old v p ⊎ (In v p × Opens v p × (¬ IsMarked old v p)) → ⊥
     by_case (inl was) = done.closed was
     by_case (inr (_, _, fresh)) = fresh done.marked
 
@@ -16,15 +16,15 @@ pub closes_done : (old new : SetsOfVertices) (q c word : ℕ) → ClosesWord old
 closes_done old new q c word closing v p done = record { marked = marked_then old new q c word v p closing done.marked; closed = λ is. done.closed (closing.only v p is) }
 
 -- Where something was met, no other of what opens was looked at.
-pub meets_quiet : (old new : SetsOfVertices) (In : (v p : ℕ) → Type 0) (Opens : ℕ → Type 0) → Meets old new In Opens → (v p : ℕ) → Opens p → IsDone new v p → IsDone old v p
+pub meets_quiet : (old new : SetsOfVertices) (In : (v p : ℕ) → Type 0) (Opens : (v p : ℕ) → Type 0) → Meets old new In Opens → (v p : ℕ) → Opens v p → IsDone new v p → IsDone old v p
 meets_quiet old new In Opens meets v p opens done = record { marked = by_case (meets.only v p done.marked); closed = λ was. done.closed (meets.still v p was) }
   where
-    by_case : IsMarked old v p ⊎ (In v p × (Opens p → IsOpen new v p)) → IsMarked old v p
+    by_case : IsMarked old v p ⊎ (In v p × (Opens v p → IsOpen new v p)) → IsMarked old v p
     by_case (inl was) = was
     by_case (inr (_, is)) = absurd (done.closed (is opens))
 
 -- Where nothing was marked before, nothing that opens was looked at.
-pub nothing_done : (old new : SetsOfVertices) (In : (v p : ℕ) → Type 0) (Opens : ℕ → Type 0) → ((v p : ℕ) → ¬ IsMarked old v p) → Meets old new In Opens → (v p : ℕ) → Opens p → ¬ IsDone new v p
+pub nothing_done : (old new : SetsOfVertices) (In : (v p : ℕ) → Type 0) (Opens : (v p : ℕ) → Type 0) → ((v p : ℕ) → ¬ IsMarked old v p) → Meets old new In Opens → (v p : ℕ) → Opens v p → ¬ IsDone new v p
 nothing_done old new In Opens none meets v p opens done = none v p (meets_quiet old new In Opens meets v p opens done).marked
 
 -- Where a word was closed, nothing else was looked at.

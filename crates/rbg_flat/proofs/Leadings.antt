@@ -41,7 +41,7 @@ module _ (leaps : Leaps) (targets : List Target) (i : ℕ) (d : Target) (below :
   among_second : (v p : ℕ) → IsInRow t.position (row_of leaps t) v p → IsAmong leaps (take (i + 1) targets) v p
   among_second v p row = record { target = t; listed = subst (λ (ts : List Target). Contains ts t) (sym one_more) (Contains-push (take i targets) t); row = row }
 
-  pub meets_target_more : (old middle new : SetsOfVertices) (Opens : ℕ → Type 0) → Meets old middle (IsAmong leaps (take i targets)) Opens → Meets middle new (IsInRow t.position (row_of leaps t)) Opens → Meets old new (IsAmong leaps (take (i + 1) targets)) Opens
+  pub meets_target_more : (old middle new : SetsOfVertices) (Opens : (v p : ℕ) → Type 0) → Meets old middle (IsAmong leaps (take i targets)) Opens → Meets middle new (IsInRow t.position (row_of leaps t)) Opens → Meets old new (IsAmong leaps (take (i + 1) targets)) Opens
   meets_target_more old middle new Opens so_far row =
       meets_both old middle new (IsAmong leaps (take i targets)) (IsInRow t.position (row_of leaps t)) (IsAmong leaps (take (i + 1) targets)) Opens
       so_far row among_apart among_first among_second

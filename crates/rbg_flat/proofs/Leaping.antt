@@ -70,27 +70,27 @@ module _ (game : AbstractGame) (numbered : IsNumbered game.rules) (f : Start) (v
       }
 
 -- Shifts lead from the board to the board.
-leads_on_board : (game : AbstractGame) → IsClosed game.board → (v : ℕ) (m : List ℕ) (u : ℕ) → v < length game.board.first → Leads game v m u → u < length game.board.first
+pub leads_on_board : (game : AbstractGame) → IsClosed game.board → (v : ℕ) (m : List ℕ) (u : ℕ) → v < length game.board.first → Leads game v m u → u < length game.board.first
 leads_on_board game closed v m u here stay = here
 leads_on_board game closed v m u here (go {w = w} {m = rest} d stands edge more) = leads_on_board game closed w rest u (closed.to_vertex v d w edge) more
 
 -- What leaps lead to is on the board, at positions of the game.
-pub still_on : (game : AbstractGame) → IsGame game → (f : Start) (vertex : ℕ) (Opens : ℕ → Type 0) (old new : SetsOfVertices) → vertex < length game.board.first → Meets old new (λ v p. IsLeap game f vertex p v) Opens → AreOn game old → AreOn game new
+pub still_on : (game : AbstractGame) → IsGame game → (f : Start) (vertex : ℕ) (Opens : (v p : ℕ) → Type 0) (old new : SetsOfVertices) → vertex < length game.board.first → Meets old new (λ v p. IsLeap game f vertex p v) Opens → AreOn game old → AreOn game new
 still_on game lawful f vertex Opens old new here meets on = record {
   vertex = λ v p has. by_vertex v p (meets.only v p has);
   from_one = λ v p has. by_first v p (meets.only v p has);
   there = λ v p has. by_last v p (meets.only v p has);
 }
   where
-    by_vertex : (v p : ℕ) → IsMarked old v p ⊎ (IsLeap game f vertex p v × (Opens p → IsOpen new v p)) → v < length game.board.first
+    by_vertex : (v p : ℕ) → IsMarked old v p ⊎ (IsLeap game f vertex p v × (Opens v p → IsOpen new v p)) → v < length game.board.first
     by_vertex v p (inl was) = on.vertex v p was
     by_vertex v p (inr (leap, _)) = leads_on_board game lawful.board vertex leap.shifts v here leap.leads
 
-    by_first : (v p : ℕ) → IsMarked old v p ⊎ (IsLeap game f vertex p v × (Opens p → IsOpen new v p)) → 0 < p
+    by_first : (v p : ℕ) → IsMarked old v p ⊎ (IsLeap game f vertex p v × (Opens v p → IsOpen new v p)) → 0 < p
     by_first v p (inl was) = on.from_one v p was
     by_first v p (inr (leap, _)) = (within game lawful.numbered f leap.shifts p leap.follows).0
 
-    by_last : (v p : ℕ) → IsMarked old v p ⊎ (IsLeap game f vertex p v × (Opens p → IsOpen new v p)) → p ≤ length (positions_of game.rules)
+    by_last : (v p : ℕ) → IsMarked old v p ⊎ (IsLeap game f vertex p v × (Opens v p → IsOpen new v p)) → p ≤ length (positions_of game.rules)
     by_last v p (inl was) = on.there v p was
     by_last v p (inr (leap, _)) = (within game lawful.numbered f leap.shifts p leap.follows).1
 

@@ -12,7 +12,8 @@ pub mod Leaping
 pub mod Takings
 pub mod Passings
 pub mod Wordwise
-pub mod Trying
+pub mod ToTry
+mod Trying
 pub mod Doing
 pub mod Lists
 pub mod Ones

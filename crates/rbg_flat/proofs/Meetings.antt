@@ -1,5 +1,6 @@
 -- Meetings, one after another.
-use Rattle.std.proofs.Common.{◌≡◌, ℕ, ◌+◌, ◌/◌, ◌%◌, ◌<◌, ◌≤◌, ◌⊎◌, inl, inr, List, [], Bool, true, length, get_or, take, refl, sym, ap, subst, ◌∙◌, arith}
+use Rattle.std.proofs.Common.{◌≡◌, ℕ, ◌+◌, ◌*◌, ◌/◌, ◌%◌, ◌<◌, ◌≤◌, ◌⊎◌, inl, inr, List, [], length, get_or, take, refl, sym, ap, subst, ◌∙◌, arith}
+use Rattle.std.specs.Prelude.{◌↔◌}
 use Rattle.std.specs.Int.{bit_at}
 use Rattle.std.proofs.lemmas.Bool.{cases_lt}
 use Rattle.std.proofs.lemmas.Nat.Bits.{bit_at-zero}
@@ -8,7 +9,7 @@ use native.Mathlib.Decide.{ℕ_discrete}
 use Rattle.rbg_flat.specs.internal.Sets.{SetsOfVertices, IsMarked, IsOpen, IsInWord, IsInRow, MeetsWord, Meets, weight}
 
 -- Nothing is met.
-pub meets_none : (sets : SetsOfVertices) (In : (v p : ℕ) → Type 0) (Opens : ℕ → Type 0) → ((v p : ℕ) → ¬ In v p) → Meets sets sets In Opens
+pub meets_none : (sets : SetsOfVertices) (In : (v p : ℕ) → Type 0) (Opens : (v p : ℕ) → Type 0) → ((v p : ℕ) → ¬ In v p) → Meets sets sets In Opens
 meets_none sets In Opens none = record {
   size = refl;
   columns = refl;
@@ -20,23 +21,53 @@ meets_none sets In Opens none = record {
   lighter = omega arith;
 }
 
-pub meets_word : (old new : SetsOfVertices) (q c word : ℕ) (opens : Bool) → MeetsWord old new q c word opens → Meets old new (IsInWord q c word) (λ _. opens ≡ true)
-meets_word old new q c word opens meets = record {
+-- All was met before.
+pub meets_known : (sets : SetsOfVertices) (In : (v p : ℕ) → Type 0) (Opens : (v p : ℕ) → Type 0) → ((v p : ℕ) → In v p → IsMarked sets v p) → Meets sets sets In Opens
+meets_known sets In Opens known = record {
+  size = refl;
+  columns = refl;
+  kept = λ v p has. has;
+  met = known;
+  only = λ v p has. inl has;
+  still = λ v p has. has;
+  no_other = λ v p has. inl has;
+  lighter = omega arith;
+}
+
+-- A word is met, where it is told of which of its vertices are to be opened.
+pub meets_word : (old new : SetsOfVertices) (q c word opens : ℕ) (Opens : (v p : ℕ) → Type 0) → ((b : ℕ) → b < 64 → (bit_at opens b ≡ 1) ↔ Opens (c * 64 + b) q) → MeetsWord old new q c word opens → Meets old new (IsInWord q c word) Opens
+meets_word old new q c word opens Opens told meets = record {
   size = meets.size;
   columns = meets.columns;
   kept = meets.kept;
   met = meets.met;
-  only = meets.only;
+  only = λ v p has. by_only v p (meets.only v p has);
   still = meets.still;
-  no_other = meets.no_other;
+  no_other = λ v p has. by_other v p (meets.no_other v p has);
   lighter = meets.lighter;
 }
+  where
+    at : (v p : ℕ) → IsInWord q c word v p → (bit_at opens (v % 64) ≡ 1) ↔ Opens v p
+    at v p there =
+        let column = there.column in
+        let small : v % 64 < 64 = omega arith in
+        let place : c * 64 + v % 64 ≡ v = omega (arith, column) in
+        subst (λ (k : ℕ). (bit_at opens (v % 64) ≡ 1) ↔ Opens v k) (sym there.position)
+        (subst (λ (u : ℕ). (bit_at opens (v % 64) ≡ 1) ↔ Opens u q) place (told (v % 64) small))
+
+    by_only : (v p : ℕ) → IsMarked old v p ⊎ (IsInWord q c word v p × (bit_at opens (v % 64) ≡ 1 → IsOpen new v p)) → IsMarked old v p ⊎ (IsInWord q c word v p × (Opens v p → IsOpen new v p))
+    by_only v p (inl was) = inl was
+    by_only v p (inr (there, is)) = inr (there, λ wanted. is ((at v p there).1 wanted))
+
+    by_other : (v p : ℕ) → IsOpen old v p ⊎ (IsInWord q c word v p × (bit_at opens (v % 64) ≡ 1) × (¬ IsMarked old v p)) → IsOpen old v p ⊎ (IsInWord q c word v p × Opens v p × (¬ IsMarked old v p))
+    by_other v p (inl was) = inl was
+    by_other v p (inr (there, set, fresh)) = inr (there, (at v p there).0 set, fresh)
 
 no_heavier : (a b c : ℕ) → a ≤ b → b ≤ c → a ≤ c
 no_heavier a b c one other = omega (arith, one, other)
 
 -- Both are met, one after the other.
-pub meets_both : (old middle new : SetsOfVertices) (In In' Both : (v p : ℕ) → Type 0) (Opens : ℕ → Type 0) → Meets old middle In Opens → Meets middle new In' Opens → ((v p : ℕ) → Both v p → In v p ⊎ In' v p) → ((v p : ℕ) → In v p → Both v p) → ((v p : ℕ) → In' v p → Both v p) → Meets old new Both Opens
+pub meets_both : (old middle new : SetsOfVertices) (In In' Both : (v p : ℕ) → Type 0) (Opens : (v p : ℕ) → Type 0) → Meets old middle In Opens → Meets middle new In' Opens → ((v p : ℕ) → Both v p → In v p ⊎ In' v p) → ((v p : ℕ) → In v p → Both v p) → ((v p : ℕ) → In' v p → Both v p) → Meets old new Both Opens
 meets_both old middle new In In' Both Opens one other apart first second = record {
   size = other.size ∙ one.size;
   columns = other.columns ∙ one.columns;
@@ -52,24 +83,24 @@ meets_both old middle new In In' Both Opens one other apart first second = recor
     by_met v p (inl there) = other.kept v p (one.met v p there)
     by_met v p (inr there) = other.met v p there
 
-    by_one : (v p : ℕ) → IsMarked old v p ⊎ (In v p × (Opens p → IsOpen middle v p)) → IsMarked old v p ⊎ (Both v p × (Opens p → IsOpen new v p))
+    by_one : (v p : ℕ) → IsMarked old v p ⊎ (In v p × (Opens v p → IsOpen middle v p)) → IsMarked old v p ⊎ (Both v p × (Opens v p → IsOpen new v p))
     by_one v p (inl was) = inl was
     by_one v p (inr (there, opens)) = inr (first v p there, λ is. other.still v p (opens is))
 
-    by_only : (v p : ℕ) → IsMarked middle v p ⊎ (In' v p × (Opens p → IsOpen new v p)) → IsMarked old v p ⊎ (Both v p × (Opens p → IsOpen new v p))
+    by_only : (v p : ℕ) → IsMarked middle v p ⊎ (In' v p × (Opens v p → IsOpen new v p)) → IsMarked old v p ⊎ (Both v p × (Opens v p → IsOpen new v p))
     by_only v p (inl was) = by_one v p (one.only v p was)
     by_only v p (inr (there, opens)) = inr (second v p there, opens)
 
-    by_first : (v p : ℕ) → IsOpen old v p ⊎ (In v p × Opens p × (¬ IsMarked old v p)) → IsOpen old v p ⊎ (Both v p × Opens p × (¬ IsMarked old v p))
+    by_first : (v p : ℕ) → IsOpen old v p ⊎ (In v p × Opens v p × (¬ IsMarked old v p)) → IsOpen old v p ⊎ (Both v p × Opens v p × (¬ IsMarked old v p))
     by_first v p (inl was) = inl was
     by_first v p (inr (there, opens, fresh)) = inr (first v p there, opens, fresh)
 
-    by_other : (v p : ℕ) → IsOpen middle v p ⊎ (In' v p × Opens p × (¬ IsMarked middle v p)) → IsOpen old v p ⊎ (Both v p × Opens p × (¬ IsMarked old v p))
+    by_other : (v p : ℕ) → IsOpen middle v p ⊎ (In' v p × Opens v p × (¬ IsMarked middle v p)) → IsOpen old v p ⊎ (Both v p × Opens v p × (¬ IsMarked old v p))
     by_other v p (inl was) = by_first v p (one.no_other v p was)
     by_other v p (inr (there, opens, fresh)) = inr (second v p there, opens, λ was. fresh (one.kept v p was))
 
 -- The same pairs, said in another way.
-pub meets_same : (old new : SetsOfVertices) (In In' : (v p : ℕ) → Type 0) (Opens Opens' : ℕ → Type 0) → Meets old new In Opens → ((v p : ℕ) → In v p → In' v p) → ((v p : ℕ) → In' v p → In v p) → ((v p : ℕ) → In v p → Opens p → Opens' p) → ((v p : ℕ) → In v p → Opens' p → Opens p) → Meets old new In' Opens'
+pub meets_same : (old new : SetsOfVertices) (In In' : (v p : ℕ) → Type 0) (Opens Opens' : (v p : ℕ) → Type 0) → Meets old new In Opens → ((v p : ℕ) → In v p → In' v p) → ((v p : ℕ) → In' v p → In v p) → ((v p : ℕ) → In v p → Opens v p → Opens' v p) → ((v p : ℕ) → In v p → Opens' v p → Opens v p) → Meets old new In' Opens'
 meets_same old new In In' Opens Opens' meets to of opens_to opens_of = record {
   size = meets.size;
   columns = meets.columns;
@@ -81,11 +112,11 @@ meets_same old new In In' Opens Opens' meets to of opens_to opens_of = record {
   lighter = meets.lighter;
 }
   where
-    by_only : (v p : ℕ) → IsMarked old v p ⊎ (In v p × (Opens p → IsOpen new v p)) → IsMarked old v p ⊎ (In' v p × (Opens' p → IsOpen new v p))
+    by_only : (v p : ℕ) → IsMarked old v p ⊎ (In v p × (Opens v p → IsOpen new v p)) → IsMarked old v p ⊎ (In' v p × (Opens' v p → IsOpen new v p))
     by_only v p (inl was) = inl was
     by_only v p (inr (there, opens)) = inr (to v p there, λ is. opens (opens_of v p there is))
 
-    by_other : (v p : ℕ) → IsOpen old v p ⊎ (In v p × Opens p × (¬ IsMarked old v p)) → IsOpen old v p ⊎ (In' v p × Opens' p × (¬ IsMarked old v p))
+    by_other : (v p : ℕ) → IsOpen old v p ⊎ (In v p × Opens v p × (¬ IsMarked old v p)) → IsOpen old v p ⊎ (In' v p × Opens' v p × (¬ IsMarked old v p))
     by_other v p (inl was) = inl was
     by_other v p (inr (there, opens, fresh)) = inr (to v p there, opens_to v p there opens, fresh)
 
@@ -144,27 +175,18 @@ module _ (q : ℕ) (row : List ℕ) (many : ℕ) (within : many < length row) wh
   }
 
 -- One word more of a row is met.
-pub meets_more : (old middle new : SetsOfVertices) (q : ℕ) (row : List ℕ) (many : ℕ) (opens : Bool) → many < length row → Meets old middle (IsInRow q (take many row)) (λ _. opens ≡ true) → MeetsWord middle new q many (get_or row many 0) opens → Meets old new (IsInRow q (take (many + 1) row)) (λ _. opens ≡ true)
-meets_more old middle new q row many opens within so_far word =
-    meets_both old middle new (IsInRow q (take many row)) (IsInWord q many (get_or row many 0)) (IsInRow q (take (many + 1) row)) (λ _. opens ≡ true)
-    so_far (meets_word middle new q many (get_or row many 0) opens word)
+pub meets_more : (old middle new : SetsOfVertices) (q : ℕ) (row : List ℕ) (many : ℕ) (Opens : (v p : ℕ) → Type 0) → many < length row → Meets old middle (IsInRow q (take many row)) Opens → Meets middle new (IsInWord q many (get_or row many 0)) Opens → Meets old new (IsInRow q (take (many + 1) row)) Opens
+meets_more old middle new q row many Opens within so_far word =
+    meets_both old middle new (IsInRow q (take many row)) (IsInWord q many (get_or row many 0)) (IsInRow q (take (many + 1) row)) Opens
+    so_far word
     (row_apart q row many within) (row_first q row many within) (row_second q row many within)
 
 -- A row of one word is met.
-pub meets_only : (old new : SetsOfVertices) (q : ℕ) (row : List ℕ) (opens : Bool) → length row ≡ 1 → MeetsWord old new q 0 (get_or row 0 0) opens → Meets old new (IsInRow q row) (λ _. opens ≡ true)
-meets_only old new q row opens one meets =
-    subst (λ (xs : List ℕ). Meets old new (IsInRow q xs) (λ _. opens ≡ true)) (take_all 1 row (omega (arith, one)))
-    (meets_more old old new q row 0 opens (omega (arith, one)) (meets_none old (IsInRow q []) (λ _. opens ≡ true) (empty_row q)) meets)
+pub meets_only : (old new : SetsOfVertices) (q : ℕ) (row : List ℕ) (Opens : (v p : ℕ) → Type 0) → length row ≡ 1 → Meets old new (IsInWord q 0 (get_or row 0 0)) Opens → Meets old new (IsInRow q row) Opens
+meets_only old new q row Opens one meets =
+    subst (λ (xs : List ℕ). Meets old new (IsInRow q xs) Opens) (take_all 1 row (omega (arith, one)))
+    (meets_more old old new q row 0 Opens (omega (arith, one)) (meets_none old (IsInRow q []) Opens (empty_row q)) meets)
 
 -- A word with no bits is met.
-pub meets_zero : (sets : SetsOfVertices) (q c word : ℕ) (opens : Bool) → word ≡ 0 → MeetsWord sets sets q c word opens
-meets_zero sets q c word opens none = record {
-  size = refl;
-  columns = refl;
-  kept = λ v p has. has;
-  met = λ v p there. absurd (no_bit (ap (λ (n : ℕ). bit_at n (v % 64)) none ∙ bit_at-zero (v % 64)) there.set);
-  only = λ v p has. inl has;
-  still = λ v p has. has;
-  no_other = λ v p has. inl has;
-  lighter = omega arith;
-}
+pub meets_zero : (sets : SetsOfVertices) (q c word : ℕ) (Opens : (v p : ℕ) → Type 0) → word ≡ 0 → Meets sets sets (IsInWord q c word) Opens
+meets_zero sets q c word Opens none = meets_none sets (IsInWord q c word) Opens (λ v p there. no_bit (ap (λ (n : ℕ). bit_at n (v % 64)) none ∙ bit_at-zero (v % 64)) there.set)

@@ -1,46 +1,49 @@
--- Where modifiers stand.
-use Rattle.std.proofs.Common.{◌≡◌, ℕ, Bool, true, false, inl, inr, refl, sym, ap, ◌∙◌}
-use Rattle.std.specs.Prelude.{IsTrue, ◌↔◌}
-use mathlib.Core.Bool.{not}
-use Rattle.rbg_rules.specs.Expression.{AbstractAction, shift, off, switch, positive, negative, Expression}
-use Rattle.rbg_rules.specs.Positions.{HasAction, IsNumbered, IsModifierAt, IsPatternAt, is_modifier}
+-- Of which kind the actions of the program are.
+use Rattle.std.proofs.Common.{◌≡◌, ℕ, List, [], ◌∷◌, Bool, true, false, inl, inr, refl, sym, ap, subst, ◌∙◌}
+use Rattle.rbg_rules.specs.Expression.{AbstractAction, shift, on, off, assignment, comparison, switch, positive, negative, Expression}
+use Rattle.rbg_rules.specs.Positions.{HasAction, IsNumbered, IsModifierAt, IsPatternAt, is_modifier, is_pattern}
 use Rattle.rbg_rules.specs.Table.{Stands}
 use Rattle.rbg_rules.specs.declared.rule.Action.{Action}
 use Rattle.rbg_rules.specs.declared.rule.Action.TheVariants.{Shift, On, Off, Assign, Compare, Switch, Positive, Negative}
 use Rattle.rbg_rules.proofs.PositionLemmas.{one_stands}
-use Rattle.rbg_flat.specs.internal.Shown.{shows_modifier}
+use Rattle.rbg_flat.specs.declared.paths.Kind.{Kind}
+use Rattle.rbg_flat.specs.declared.paths.Kind.TheVariants.{Modifier, Pattern, On as OnOne, OnEither, Other}
+use Rattle.rbg_flat.specs.Paths.{IsKind}
+use Rattle.rbg_flat.specs.internal.Shown.{ShowsKind, IsOnKind}
 
 true_not_false : true ≡ false → ⊥
 true_not_false e = cc
 
-other_stands : (rules : Expression) → IsNumbered rules → (p : ℕ) (a : AbstractAction) → HasAction rules p a → is_modifier a ≡ false → IsTrue false ↔ IsModifierAt rules p
-other_stands rules numbered p a stands plain = (
-  (λ e. absurd (true_not_false (sym e))),
-  (λ other. absurd (true_not_false (sym other.modifies ∙ ap is_modifier (one_stands rules numbered p other.action a other.stands stands) ∙ plain))),
-)
+-- Where an action stands that is neither, no modifier and no pattern stands.
+no_modifier : (rules : Expression) → IsNumbered rules → (p : ℕ) (a : AbstractAction) → HasAction rules p a → is_modifier a ≡ false → ¬ IsModifierAt rules p
+no_modifier rules numbered p a stands plain other = true_not_false (sym other.modifies ∙ ap is_modifier (one_stands rules numbered p other.action a other.stands stands) ∙ plain)
 
-modifier_stands : (rules : Expression) (p : ℕ) (a : AbstractAction) → HasAction rules p a → is_modifier a ≡ true → IsTrue true ↔ IsModifierAt rules p
-modifier_stands rules p a stands modifies = ((λ _. record { action = a; stands = stands; modifies = modifies }), (λ _. refl))
+no_pattern : (rules : Expression) → IsNumbered rules → (p : ℕ) (a : AbstractAction) → HasAction rules p a → is_pattern a ≡ false → ¬ IsPatternAt rules p
+no_pattern rules numbered p a stands plain pattern = elim pattern.stands [
+  | inl is ↦ true_not_false (ap is_pattern (one_stands rules numbered p (positive pattern.inside_it) a is stands) ∙ plain)
+  | inr is ↦ true_not_false (ap is_pattern (one_stands rules numbered p (negative pattern.inside_it) a is stands) ∙ plain)
+]
 
--- A modifier stands at a position exactly where the program's action there is one.
-pub stands_modifier : (rules : Expression) → IsNumbered rules → (p : ℕ) (i : Action) → Stands rules p i → IsTrue (shows_modifier i) ↔ IsModifierAt rules p
-stands_modifier rules numbered p (Shift d) stands = other_stands rules numbered p (shift d) stands refl
-stands_modifier rules numbered p (On pieces) stands = other_stands rules numbered p _ stands refl
-stands_modifier rules numbered p (Off x) stands = modifier_stands rules p (off x) stands refl
-stands_modifier rules numbered p (Assign v e) stands = modifier_stands rules p _ stands refl
-stands_modifier rules numbered p (Compare e r f) stands = other_stands rules numbered p _ stands refl
-stands_modifier rules numbered p (Switch n) stands = modifier_stands rules p (switch n) stands refl
-stands_modifier rules numbered p Positive (x, stands) = other_stands rules numbered p (positive x) stands refl
-stands_modifier rules numbered p Negative (x, stands) = other_stands rules numbered p (negative x) stands refl
+plain_kind : (rules : Expression) → IsNumbered rules → (p : ℕ) (a : AbstractAction) → HasAction rules p a → is_modifier a ≡ false → is_pattern a ≡ false → IsKind rules p Other
+plain_kind rules numbered p a stands quiet plain = (no_modifier rules numbered p a stands quiet, no_pattern rules numbered p a stands plain)
 
--- What is told of one thing is told of the other.
-pub opens_quiet : (b : Bool) (A : Type 0) → IsTrue b ↔ A → not b ≡ true → ¬ A
-opens_quiet true A is opens there = cc
-opens_quiet false A is opens there = true_not_false (sym (is.1 there))
+on_kind : (rules : Expression) → IsNumbered rules → (p : ℕ) (pieces : List ℕ) → HasAction rules p (on pieces) → (kind : Kind) → IsOnKind pieces kind → IsKind rules p kind
+on_kind rules numbered p pieces stands Modifier is = absurd is
+on_kind rules numbered p pieces stands Pattern is = absurd is
+on_kind rules numbered p pieces stands (OnOne x) is = subst (λ (xs : List ℕ). HasAction rules p (on xs)) is stands
+on_kind rules numbered p pieces stands (OnEither x y) is = subst (λ (xs : List ℕ). HasAction rules p (on xs)) is stands
+on_kind rules numbered p pieces stands Other is = plain_kind rules numbered p (on pieces) stands refl refl
 
-pub quiet_opens : (b : Bool) (A : Type 0) → IsTrue b ↔ A → ¬ A → not b ≡ true
-quiet_opens true A is quiet = absurd (quiet (is.0 refl))
-quiet_opens false A is quiet = refl
+-- The kind that an action shows is that of its position.
+pub kind_stands : (rules : Expression) → IsNumbered rules → (p : ℕ) (i : Action) → Stands rules p i → (kind : Kind) → ShowsKind i kind → IsKind rules p kind
+kind_stands rules numbered p (Shift d) stands kind is = subst (λ (k : Kind). IsKind rules p k) (sym is) (plain_kind rules numbered p (shift d) stands refl refl)
+kind_stands rules numbered p (On pieces) stands kind is = on_kind rules numbered p pieces.items stands kind is
+kind_stands rules numbered p (Off x) stands kind is = subst (λ (k : Kind). IsKind rules p k) (sym is) (record { action = off x; stands = stands; modifies = refl })
+kind_stands rules numbered p (Assign v e) stands kind is = subst (λ (k : Kind). IsKind rules p k) (sym is) (record { action = _; stands = stands; modifies = refl })
+kind_stands rules numbered p (Compare e r f) stands kind is = subst (λ (k : Kind). IsKind rules p k) (sym is) (plain_kind rules numbered p _ stands refl refl)
+kind_stands rules numbered p (Switch n) stands kind is = subst (λ (k : Kind). IsKind rules p k) (sym is) (record { action = switch n; stands = stands; modifies = refl })
+kind_stands rules numbered p Positive (x, stands) kind is = subst (λ (k : Kind). IsKind rules p k) (sym is) (record { inside_it = x; stands = inl stands })
+kind_stands rules numbered p Negative (x, stands) kind is = subst (λ (k : Kind). IsKind rules p k) (sym is) (record { inside_it = x; stands = inr stands })
 
 -- A pattern is no modifier.
 pub pattern_opens : (rules : Expression) → IsNumbered rules → (p : ℕ) → IsPatternAt rules p → ¬ IsModifierAt rules p
@@ -48,3 +51,36 @@ pattern_opens rules numbered p pattern m = elim pattern.stands [
   | inl stands ↦ true_not_false (sym m.modifies ∙ ap is_modifier (one_stands rules numbered p m.action (positive pattern.inside_it) m.stands stands))
   | inr stands ↦ true_not_false (sym m.modifies ∙ ap is_modifier (one_stands rules numbered p m.action (negative pattern.inside_it) m.stands stands))
 ]
+
+-- Where a pattern stands, the kind tells so, and where a modifier stands.
+pub pattern_kind : (rules : Expression) → IsNumbered rules → (p : ℕ) (kind : Kind) → IsKind rules p kind → IsPatternAt rules p → kind ≡ Pattern
+pattern_kind rules numbered p Modifier is pattern = absurd (pattern_opens rules numbered p pattern is)
+pattern_kind rules numbered p Pattern is pattern = refl
+pattern_kind rules numbered p (OnOne x) is pattern = absurd (no_pattern rules numbered p (on (x ∷ [])) is refl pattern)
+pattern_kind rules numbered p (OnEither x y) is pattern = absurd (no_pattern rules numbered p (on (x ∷ y ∷ [])) is refl pattern)
+pattern_kind rules numbered p Other is pattern = absurd (is.1 pattern)
+
+pub modifier_kind : (rules : Expression) → IsNumbered rules → (p : ℕ) (kind : Kind) → IsKind rules p kind → IsModifierAt rules p → kind ≡ Modifier
+modifier_kind rules numbered p Modifier is modifier = refl
+modifier_kind rules numbered p Pattern is modifier = absurd (pattern_opens rules numbered p is modifier)
+modifier_kind rules numbered p (OnOne x) is modifier = absurd (no_modifier rules numbered p (on (x ∷ [])) is refl modifier)
+modifier_kind rules numbered p (OnEither x y) is modifier = absurd (no_modifier rules numbered p (on (x ∷ y ∷ [])) is refl modifier)
+modifier_kind rules numbered p Other is modifier = absurd (is.0 modifier)
+
+-- Where the program's action is no on, none stands.
+abbrev is_on : AbstractAction → Bool
+is_on (on xs) = true
+is_on _ = false
+
+no_on_of : (rules : Expression) → IsNumbered rules → (p : ℕ) (a : AbstractAction) → HasAction rules p a → is_on a ≡ false → (wanted : List ℕ) → ¬ HasAction rules p (on wanted)
+no_on_of rules numbered p a stands other wanted there = true_not_false (ap is_on (one_stands rules numbered p (on wanted) a there stands) ∙ other)
+
+pub no_on_stands : (rules : Expression) → IsNumbered rules → (p : ℕ) (i : Action) → Stands rules p i → ((pieces : _) → ¬ (i ≡ On pieces)) → (wanted : List ℕ) → ¬ HasAction rules p (on wanted)
+no_on_stands rules numbered p (Shift d) stands none = no_on_of rules numbered p (shift d) stands refl
+no_on_stands rules numbered p (On pieces) stands none = absurd (none pieces refl)
+no_on_stands rules numbered p (Off x) stands none = no_on_of rules numbered p (off x) stands refl
+no_on_stands rules numbered p (Assign v e) stands none = no_on_of rules numbered p _ stands refl
+no_on_stands rules numbered p (Compare e r f) stands none = no_on_of rules numbered p _ stands refl
+no_on_stands rules numbered p (Switch n) stands none = no_on_of rules numbered p (switch n) stands refl
+no_on_stands rules numbered p Positive (x, stands) none = no_on_of rules numbered p (positive x) stands refl
+no_on_stands rules numbered p Negative (x, stands) none = no_on_of rules numbered p (negative x) stands refl

@@ -5,10 +5,13 @@ use Rattle.std.specs.Int.{bit_at}
 use native.Mathlib.Decide.{ℕ_discrete}
 use Rattle.std.proofs.lemmas.List.{take_more}
 use Rattle.std.proofs.lemmas.List.Elements.{Contains-push, Contains-push_cases, Contains-append_left}
-use Rattle.std.proofs.lemmas.Nat.Bits.{bit_at_and}
+use Rattle.std.proofs.lemmas.Nat.Bits.{bit_at_and, bit_at-zero}
 use Rattle.std.proofs.lemmas.Option.{get_or_from_slice_get}
 use Rattle.std.proofs.lemmas.Option.{slice_get-get_or}
-use Rattle.rbg_rules.specs.Expression.{on}
+use Rattle.rbg_rules.specs.Expression.{on, comparison, AbstractArithmetic}
+use Rattle.rbg_base.specs.declared.relation.Relation.{Relation}
+use Rattle.rbg_rules.specs.Actions.{Acts}
+use Rattle.rbg_state.proofs.Trying.{same_value}
 use Rattle.rbg_rules.specs.Positions.{IsModifierAt, IsNumbered, HasAction, is_modifier}
 use Rattle.rbg_rules.specs.State.{AbstractGame, AbstractState}
 use Rattle.rbg_rules.proofs.MoveLemmas.{applied_acts}
@@ -110,3 +113,68 @@ module _ (game : AbstractGame) (numbered : IsNumbered game.rules) (s : AbstractS
   passes_on v below passes =
       let acts = applied_acts game numbered q (on wanted) stands passes.applies in
       record { piece = get_or s.pieces v 0; listed = acts.0; stands = slice_get-get_or s.pieces v 0 below }
+
+-- A word of bits is filled, one bit after another.
+pub no_bits : (Good : ℕ → Type 0) (b : ℕ) → (bit_at 0 b ≡ 1) ↔ ((b < 0) × Good b)
+no_bits Good b = (λ set. let clear = bit_at-zero b in absurd (omega (arith, set, clear)), λ is. let none = is.0 in absurd (omega (arith, none)))
+
+module _
+    (Good : ℕ → Type 0) (word bit : ℕ)
+    (so_far : (b : ℕ) → (bit_at word b ≡ 1) ↔ ((b < bit) × Good b))
+  where
+    pub one_bit_more : (unit : ℕ) → ((b : ℕ) → bit_at unit b ≡ 1 → b ≡ bit) → bit_at unit bit ≡ 1 → Good bit → (b : ℕ) → (bit_at (bit_or word unit) b ≡ 1) ↔ ((b < bit + 1) × Good b)
+    one_bit_more unit only set good b = (λ is. to_case (either_bit word unit b is), λ is. of_case is.0 is.1)
+      where
+        to_case : (bit_at word b ≡ 1) ⊎ (bit_at unit b ≡ 1) → (b < bit + 1) × Good b
+        to_case (inl was) = let before = ((so_far b).0 was).0 in (omega (arith, before), ((so_far b).0 was).1)
+        to_case (inr here) = let same = only b here in (omega (arith, same), subst Good (sym same) good)
+
+        of_case : b < bit + 1 → Good b → bit_at (bit_or word unit) b ≡ 1
+        of_case below is = elim (ℕ_discrete b bit) [
+          | yes same ↦ second_bit word unit b (subst (λ (k : ℕ). bit_at unit k ≡ 1) (sym same) set)
+          | no other ↦ first_bit word unit b ((so_far b).1 (omega (arith, below, other), is))
+        ]
+
+    pub no_bit_more : (¬ Good bit) → (b : ℕ) → (bit_at word b ≡ 1) ↔ ((b < bit + 1) × Good b)
+    no_bit_more bad b = (
+      λ was. let before = ((so_far b).0 was).0 in (omega (arith, before), ((so_far b).0 was).1),
+      λ is. elim (ℕ_discrete b bit) [
+        | yes same ↦ absurd (bad (subst Good same is.1))
+        | no other ↦ let below = is.0 in (so_far b).1 (omega (arith, below, other), is.1)
+      ],
+    )
+
+-- A comparison that passes at one vertex passes at each.
+pub compares_everywhere : (game : AbstractGame) → IsNumbered game.rules → (s : AbstractState) (p : ℕ) (e : AbstractArithmetic) (r : Relation) (f : AbstractArithmetic) → HasAction game.rules p (comparison e r f) → (v w : ℕ) → Passes game s v p → Passes game s w p
+compares_everywhere game numbered s p e r f stands v w passes = by_acts (applied_acts game numbered p (comparison e r f) stands passes.applies)
+  where
+    by_acts : Acts game (comparison e r f) (record s { vertex = v }) (record s { vertex = passes.to }) → Passes game s w p
+    by_acts (x, y, left, right, relates, same) = record {
+      to = w;
+      quiet = passes.quiet;
+      applies = record {
+        action = comparison e r f;
+        stands = stands;
+        acts = (x, y, same_value e s w ∙ sym (same_value e s v) ∙ left, same_value f s w ∙ sym (same_value f s v) ∙ right, relates, Rattle.std.proofs.Common.refl);
+      };
+    }
+
+no_index : (k : ℕ) → k < 0 → ⊥
+no_index k h = omega (arith, h)
+
+-- A bit tells of one piece, or of either of two.
+pub one_piece : (x : ℕ) (pieces : List ℕ) (v : ℕ) (A : Type 0) → A ↔ (slice_get pieces v ≡ Some x) → A ↔ IsOneOf (x ∷ []) pieces v
+one_piece x pieces v A told = (
+  λ is. record { piece = x; listed = Contains-push [] x; stands = told.0 is },
+  λ one. told.1 (subst (λ (k : ℕ). slice_get pieces v ≡ Some k) (same one.piece one.listed) one.stands),
+)
+  where
+    same : (y : ℕ) → Contains (x ∷ []) y → y ≡ x
+    same y listed = by_case (Contains-push_cases [] x y listed)
+      where
+        by_case : Contains [] y ⊎ (x ≡ y) → y ≡ x
+        by_case (inl there) = absurd (no_index there.0 there.1)
+        by_case (inr is) = sym is
+
+pub either_piece : (x y : ℕ) (pieces : List ℕ) (v one other b : ℕ) → (bit_at one b ≡ 1) ↔ (slice_get pieces v ≡ Some x) → (bit_at other b ≡ 1) ↔ (slice_get pieces v ≡ Some y) → (bit_at (bit_or one other) b ≡ 1) ↔ IsOneOf (x ∷ y ∷ []) pieces v
+either_piece x y pieces v one other b told told_other = one_of_more (x ∷ y ∷ []) pieces 1 v one other b (omega arith) (one_piece x pieces v (bit_at one b ≡ 1) told) told_other

@@ -1,5 +1,5 @@
 -- How sets change where a word is met, and where bits are closed.
-use Rattle.std.proofs.Common.{◌≡◌, ℕ, ◌+◌, ◌-◌, ◌*◌, ◌%◌, ◌<◌, ◌≤◌, ◌^◌, ◌⊎◌, inl, inr, List, Bool, true, false, length, get_or, refl, sym, ap, ◌∙◌, slice_set, arith}
+use Rattle.std.proofs.Common.{◌≡◌, ℕ, ◌+◌, ◌-◌, ◌*◌, ◌%◌, ◌<◌, ◌≤◌, ◌^◌, ◌⊎◌, inl, inr, List, length, get_or, refl, sym, ap, ◌∙◌, slice_set, arith}
 use Rattle.std.specs.Prelude.{bit_or, bit_and}
 use Rattle.std.specs.Int.{bit_at, bit_not, w64}
 use Rattle.std.proofs.lemmas.Nat.Bits.{bit_at-zero}
@@ -11,19 +11,20 @@ use Rattle.rbg_flat.specs.internal.Sets.{SetsOfVertices, sets_of, HasBitAt, IsIn
 use Rattle.rbg_flat.specs.internal.Places.{AreSetsByPlace}
 use Rattle.rbg_flat.proofs.WordLemmas.{added_to, added_old, added_new, taken_of, taken_gone, taken_left, known_or_new, new_in_word, or_at_most, less_left, of_word}
 
-false_not_true : false ≡ true → ⊥
-false_not_true e = cc
-
--- A word x of the row of position q is met in column c; n is what is new of it.
+-- A word x of the row of position q is met in column c; n is what is new of it, and k what of that is to be opened.
 module _
     (size columns : ℕ) (marks pending waiting touched : List ℕ)
-    (place q c x n : ℕ)
+    (place q c x n k opens : ℕ)
     (is : place ≡ q * columns + c)
     (below : c < columns)
     (in_marks : place < length marks)
     (in_pending : place < length pending)
     (only : (b : ℕ) → bit_at n b ≡ 1 → bit_at x b ≡ 1)
     (all : (b : ℕ) → b < 64 → bit_at x b ≡ 1 → (bit_at (get_or marks place 0) b ≡ 1) ⊎ (bit_at n b ≡ 1))
+    (opened_new : (b : ℕ) → bit_at k b ≡ 1 → bit_at n b ≡ 1)
+    (opened : (b : ℕ) → bit_at k b ≡ 1 → bit_at opens b ≡ 1)
+    (all_opened : (b : ℕ) → bit_at n b ≡ 1 → bit_at opens b ≡ 1 → bit_at k b ≡ 1)
+    (few : k ≤ n)
   where
     abbrev old : SetsOfVertices
     old = sets_of size columns marks pending waiting touched
@@ -32,11 +33,11 @@ module _
     marks_then = slice_set marks place (bit_or (get_or marks place 0) n)
 
     abbrev pending_then : List ℕ
-    pending_then = slice_set pending place (bit_or (get_or pending place 0) n)
+    pending_then = slice_set pending place (bit_or (get_or pending place 0) k)
 
     -- Nothing of it is new.
-    pub meets_nothing : n ≡ 0 → (opens : Bool) → MeetsWord old old q c x opens
-    meets_nothing none opens = record {
+    pub meets_nothing : n ≡ 0 → MeetsWord old old q c x opens
+    meets_nothing none = record {
       size = refl;
       columns = refl;
       kept = λ v p has. has;
@@ -67,31 +68,38 @@ module _
         let put = sum_by-set (λ (m : ℕ). 2 ^ 64 - m) marks place (bit_or (get_or marks place 0) n) 0 in_marks in
         omega (arith, put, sum, fits)
 
-    pending_more : sum_by (λ (m : ℕ). m) pending_then ≤ sum_by (λ (m : ℕ). m) pending + n
+    pending_more : sum_by (λ (m : ℕ). m) pending_then ≤ sum_by (λ (m : ℕ). m) pending + k
     pending_more =
-        let put = sum_by-set (λ (m : ℕ). m) pending place (bit_or (get_or pending place 0) n) 0 in_pending in
-        let most = or_at_most (get_or pending place 0) n in
+        let put = sum_by-set (λ (m : ℕ). m) pending place (bit_or (get_or pending place 0) k) 0 in_pending in
+        let most = or_at_most (get_or pending place 0) k in
         omega (arith, put, most)
 
-    -- What is new is opened.
-    pub meets_open : (waiting' touched' : List ℕ) → ((b : ℕ) → bit_at n b ≡ 1 → bit_at (get_or marks place 0) b ≡ 0) → bit_or (get_or marks place 0) n ≡ get_or marks place 0 + n → get_or marks place 0 + n < 2 ^ 64 → MeetsWord old (sets_of size columns marks_then pending_then waiting' touched') q c x true
+    -- What is to be opened is new.
+    new_opened : (v p : ℕ) → IsInWord q c k v p → IsInWord q c n v p
+    new_opened v p there = record { position = there.position; column = there.column; set = opened_new (v % 64) there.set }
+
+    to_open : (v p : ℕ) → IsInWord q c n v p → bit_at opens (v % 64) ≡ 1 → IsInWord q c k v p
+    to_open v p new set = record { position = new.position; column = new.column; set = all_opened (v % 64) new.set set }
+
+    -- Something is opened.
+    pub meets_open : (waiting' touched' : List ℕ) → ((b : ℕ) → bit_at n b ≡ 1 → bit_at (get_or marks place 0) b ≡ 0) → bit_or (get_or marks place 0) n ≡ get_or marks place 0 + n → get_or marks place 0 + n < 2 ^ 64 → MeetsWord old (sets_of size columns marks_then pending_then waiting' touched') q c x opens
     meets_open waiting' touched' fresh sum fits = record {
       size = refl;
       columns = refl;
       kept = added_old columns marks place q c is below in_marks n;
       met = met_then;
       only = λ v p has. by_marks v p (added_to columns marks place q c is below in_marks n v p has);
-      still = added_old columns pending place q c is below in_pending n;
-      no_other = λ v p has. by_pending v p (added_to columns pending place q c is below in_pending n v p has);
+      still = added_old columns pending place q c is below in_pending k;
+      no_other = λ v p has. by_pending v p (added_to columns pending place q c is below in_pending k v p has);
       lighter =
           let less = marks_less sum fits in
           let more = pending_more in
-          omega (arith, less, more);
+          omega (arith, less, more, few);
     }
       where
-        by_marks : (v p : ℕ) → HasBitAt columns marks v p ⊎ IsInWord q c n v p → HasBitAt columns marks v p ⊎ (IsInWord q c x v p × (true ≡ true → HasBitAt columns pending_then v p))
+        by_marks : (v p : ℕ) → HasBitAt columns marks v p ⊎ IsInWord q c n v p → HasBitAt columns marks v p ⊎ (IsInWord q c x v p × (bit_at opens (v % 64) ≡ 1 → HasBitAt columns pending_then v p))
         by_marks v p (inl was) = inl was
-        by_marks v p (inr new) = inr (new_in_word q c x n v p only new, λ _. added_new columns pending place q c is below in_pending n v p new)
+        by_marks v p (inr new) = inr (new_in_word q c x n v p only new, λ set. added_new columns pending place q c is below in_pending k v p (to_open v p new set))
 
         not_both : {k : ℕ} → k ≡ 0 → k ≡ 1 → ⊥
         not_both none one = omega (arith, none, one)
@@ -99,13 +107,15 @@ module _
         unknown : (v p : ℕ) → IsInWord q c n v p → ¬ HasBitAt columns marks v p
         unknown v p new has = not_both (fresh (v % 64) new.set) (sym (ap (λ (k : ℕ). bit_at (get_or marks k 0) (v % 64)) (of_word columns marks place q c is below in_marks n v p new)) ∙ has.set)
 
-        by_pending : (v p : ℕ) → HasBitAt columns pending v p ⊎ IsInWord q c n v p → HasBitAt columns pending v p ⊎ (IsInWord q c x v p × (true ≡ true) × (¬ HasBitAt columns marks v p))
+        by_pending : (v p : ℕ) → HasBitAt columns pending v p ⊎ IsInWord q c k v p → HasBitAt columns pending v p ⊎ (IsInWord q c x v p × (bit_at opens (v % 64) ≡ 1) × (¬ HasBitAt columns marks v p))
         by_pending v p (inl was) = inl was
-        by_pending v p (inr new) = inr (new_in_word q c x n v p only new, refl, unknown v p new)
+        by_pending v p (inr there) =
+            let new = new_opened v p there in
+            inr (new_in_word q c x n v p only new, opened (v % 64) there.set, unknown v p new)
 
-    -- What is new isn't opened.
-    pub meets_closed : (touched' : List ℕ) → bit_or (get_or marks place 0) n ≡ get_or marks place 0 + n → get_or marks place 0 + n < 2 ^ 64 → MeetsWord old (sets_of size columns marks_then pending waiting touched') q c x false
-    meets_closed touched' sum fits = record {
+    -- Nothing is opened.
+    pub meets_closed : (touched' : List ℕ) → k ≡ 0 → bit_or (get_or marks place 0) n ≡ get_or marks place 0 + n → get_or marks place 0 + n < 2 ^ 64 → MeetsWord old (sets_of size columns marks_then pending waiting touched') q c x opens
+    meets_closed touched' nothing sum fits = record {
       size = refl;
       columns = refl;
       kept = added_old columns marks place q c is below in_marks n;
@@ -116,22 +126,25 @@ module _
       lighter = let less = marks_less sum fits in omega (arith, less);
     }
       where
-        by_marks : (v p : ℕ) → HasBitAt columns marks v p ⊎ IsInWord q c n v p → HasBitAt columns marks v p ⊎ (IsInWord q c x v p × (false ≡ true → HasBitAt columns pending v p))
+        no_bit : (b : ℕ) → bit_at k b ≡ 1 → ⊥
+        no_bit b set = let zero_bit : bit_at k b ≡ 0 = ap (λ (m : ℕ). bit_at m b) nothing ∙ bit_at-zero b in omega (arith, set, zero_bit)
+
+        by_marks : (v p : ℕ) → HasBitAt columns marks v p ⊎ IsInWord q c n v p → HasBitAt columns marks v p ⊎ (IsInWord q c x v p × (bit_at opens (v % 64) ≡ 1 → HasBitAt columns pending v p))
         by_marks v p (inl was) = inl was
-        by_marks v p (inr new) = inr (new_in_word q c x n v p only new, λ e. absurd (false_not_true e))
+        by_marks v p (inr new) = inr (new_in_word q c x n v p only new, λ set. absurd (no_bit (v % 64) (all_opened (v % 64) new.set set)))
 
     -- What is open is still marked.
     pub sets_open : AreSetsByPlace old → (waiting' touched' : List ℕ) → AreSetsByPlace (sets_of size columns marks_then pending_then waiting' touched')
     sets_open are waiting' touched' = record {
       marks = length-set marks place (bit_or (get_or marks place 0) n) ∙ are.marks;
-      pendings = length-set pending place (bit_or (get_or pending place 0) n) ∙ are.pendings;
+      pendings = length-set pending place (bit_or (get_or pending place 0) k) ∙ are.pendings;
       small = are.small;
-      under = λ v p has. by_under v p (added_to columns pending place q c is below in_pending n v p has);
+      under = λ v p has. by_under v p (added_to columns pending place q c is below in_pending k v p has);
     }
       where
-        by_under : (v p : ℕ) → HasBitAt columns pending v p ⊎ IsInWord q c n v p → HasBitAt columns marks_then v p
+        by_under : (v p : ℕ) → HasBitAt columns pending v p ⊎ IsInWord q c k v p → HasBitAt columns marks_then v p
         by_under v p (inl was) = added_old columns marks place q c is below in_marks n v p (are.under v p was)
-        by_under v p (inr new) = added_new columns marks place q c is below in_marks n v p new
+        by_under v p (inr there) = added_new columns marks place q c is below in_marks n v p (new_opened v p there)
 
     pub sets_closed : AreSetsByPlace old → (touched' : List ℕ) → AreSetsByPlace (sets_of size columns marks_then pending waiting touched')
     sets_closed are touched' = record {

@@ -93,7 +93,7 @@ module _ (game : AbstractGame) (numbered : IsNumbered game.rules) (q : ℕ) (sti
   end_stays v w end = record { shifts = []; to = w; leads = stay; ends = by_end v end.to end.shifts end.leads end.ends }
 
   -- What is met at once is what leaps from each vertex of the word lead to.
-  module _ (c word vertex : ℕ) (there : IsInWord q c word vertex q) (leaps : Leaps) (targets : List Target) (are : AreTargetsFrom game (after q) vertex leaps targets) where
+  module _ (c word vertex : ℕ) (there : IsInWord q c word vertex q) (leaps : Leaps) (targets : List Target) (are : AreTargetsFrom game (after q) vertex leaps targets) (Opens : (v p : ℕ) → Type 0) where
     to_leads : (u p : ℕ) → IsAmongBits targets c word u p → LeadsFrom game q c word u p
     to_leads u p among =
         let some = All-contains (λ (x : Target). (v : ℕ) × IsLeap game (after q) vertex x.position v) targets among.target are.are.some among.listed in
@@ -117,8 +117,8 @@ module _ (game : AbstractGame) (numbered : IsNumbered game.rules) (q : ℕ) (sti
           };
         }
 
-    pub meets_still : (old new : SetsOfVertices) → Meets old new (IsAmongBits targets c word) (λ p. ¬ IsModifierAt game.rules p) → Meets old new (LeadsFrom game q c word) (λ p. ¬ IsModifierAt game.rules p)
-    meets_still old new meets = meets_same old new (IsAmongBits targets c word) (LeadsFrom game q c word) (λ p. ¬ IsModifierAt game.rules p) (λ p. ¬ IsModifierAt game.rules p) meets to_leads of_leads (λ u p _ is. is) (λ u p _ is. is)
+    pub meets_still : (old new : SetsOfVertices) → Meets old new (IsAmongBits targets c word) Opens → Meets old new (LeadsFrom game q c word) Opens
+    meets_still old new meets = meets_same old new (IsAmongBits targets c word) (LeadsFrom game q c word) Opens Opens meets to_leads of_leads (λ u p _ is. is) (λ u p _ is. is)
 
     pub targets_in : All (λ t. IsPositionIn game t.position) targets
     targets_in i d below =
@@ -140,17 +140,14 @@ module _ (game : AbstractGame) (numbered : IsNumbered game.rules) (q : ℕ) (sti
       by_case (inr end) = inr (record { vertex = vertex; there = there; ends = end })
 
 -- What is met so is on the board.
-pub still_on_board : (game : AbstractGame) → IsGame game → (q c word : ℕ) → IsStill game.rules q → IsOnBoard game c word → (old new : SetsOfVertices) → Meets old new (LeadsFrom game q c word) (λ p. ¬ IsModifierAt game.rules p) → AreOn game old → AreOn game new
-still_on_board game lawful q c word still board old new meets on_old = record {
+pub still_on_board : (game : AbstractGame) → IsGame game → (q c word : ℕ) (Opens : (v p : ℕ) → Type 0) → IsStill game.rules q → IsOnBoard game c word → (old new : SetsOfVertices) → Meets old new (LeadsFrom game q c word) Opens → AreOn game old → AreOn game new
+still_on_board game lawful q c word Opens still board old new meets on_old = record {
   vertex = λ v p has. vertex_of v p (meets.only v p has);
   from_one = λ v p has. first_of v p (meets.only v p has);
   there = λ v p has. last_of v p (meets.only v p has);
 }
   where
-    Or : (v p : ℕ) → Type 0
-    Or v p = IsMarked old v p ⊎ (LeadsFrom game q c word v p × (¬ IsModifierAt game.rules p → IsOpen new v p))
-
-    vertex_of : (v p : ℕ) → IsMarked old v p ⊎ (LeadsFrom game q c word v p × (¬ IsModifierAt game.rules p → IsOpen new v p)) → v < length game.board.first
+    vertex_of : (v p : ℕ) → IsMarked old v p ⊎ (LeadsFrom game q c word v p × (Opens v p → IsOpen new v p)) → v < length game.board.first
     vertex_of v p (inl was) = on_old.vertex v p was
     vertex_of v p (inr (leads, _)) =
         let is = leap_stays game lawful.numbered q still leads.vertex p v leads.leap in
@@ -159,11 +156,11 @@ still_on_board game lawful q c word still board old new meets on_old = record {
         let same = is.0 in
         omega (arith, below, column, same)
 
-    first_of : (v p : ℕ) → IsMarked old v p ⊎ (LeadsFrom game q c word v p × (¬ IsModifierAt game.rules p → IsOpen new v p)) → 0 < p
+    first_of : (v p : ℕ) → IsMarked old v p ⊎ (LeadsFrom game q c word v p × (Opens v p → IsOpen new v p)) → 0 < p
     first_of v p (inl was) = on_old.from_one v p was
     first_of v p (inr (leads, _)) = (within game lawful.numbered (after q) leads.leap.shifts p leads.leap.follows).0
 
-    last_of : (v p : ℕ) → IsMarked old v p ⊎ (LeadsFrom game q c word v p × (¬ IsModifierAt game.rules p → IsOpen new v p)) → p ≤ length (positions_of game.rules)
+    last_of : (v p : ℕ) → IsMarked old v p ⊎ (LeadsFrom game q c word v p × (Opens v p → IsOpen new v p)) → p ≤ length (positions_of game.rules)
     last_of v p (inl was) = on_old.there v p was
     last_of v p (inr (leads, _)) = (within game lawful.numbered (after q) leads.leap.shifts p leads.leap.follows).1
 
@@ -192,7 +189,7 @@ module _ (targets : List Target) (i : ℕ) (d : Target) (below : i < length targ
   bits_second : (v p : ℕ) → IsInWord t.position c word v p → IsAmongBits (take (i + 1) targets) c word v p
   bits_second v p bits = record { target = t; listed = subst (λ (ts : List Target). Contains ts t) (sym one_more) (Contains-push (take i targets) t); there = bits }
 
-  pub meets_bits_more : (old middle new : SetsOfVertices) (Opens : ℕ → Type 0) → Meets old middle (IsAmongBits (take i targets) c word) Opens → Meets middle new (IsInWord t.position c word) Opens → Meets old new (IsAmongBits (take (i + 1) targets) c word) Opens
+  pub meets_bits_more : (old middle new : SetsOfVertices) (Opens : (v p : ℕ) → Type 0) → Meets old middle (IsAmongBits (take i targets) c word) Opens → Meets middle new (IsInWord t.position c word) Opens → Meets old new (IsAmongBits (take (i + 1) targets) c word) Opens
   meets_bits_more old middle new Opens so_far bits =
       meets_both old middle new (IsAmongBits (take i targets) c word) (IsInWord t.position c word) (IsAmongBits (take (i + 1) targets) c word) Opens so_far bits bits_apart bits_first bits_second
 

@@ -3,7 +3,7 @@ use Rattle.std.proofs.Common.{◌≡◌, ℕ, ◌+◌, ◌*◌, ◌/◌, ◌%◌
 use Rattle.std.specs.Int.{bit_at}
 use Rattle.std.specs.Prelude.{IsTrue, ◌↔◌}
 use Rattle.std.proofs.lemmas.Nat.Bits.{bit_at-zero}
-use Rattle.rbg_flat.specs.internal.Passing.{Passes}
+use Rattle.rbg_flat.specs.internal.Passing.{Passes, IsToTry}
 use native.Mathlib.Decide.{ℕ_discrete}
 use Rattle.rbg_rules.specs.Expression.{shift, on, off, assignment, comparison, switch, positive, negative, Expression}
 use Rattle.rbg_rules.specs.Laws.{IsStart}
@@ -12,8 +12,9 @@ use Rattle.rbg_rules.specs.Translation.{arithmetic_of}
 use Rattle.rbg_rules.specs.declared.rule.Action.{Action}
 use Rattle.rbg_rules.specs.declared.rule.Action.TheVariants.{Shift, On, Off, Assign, Compare, Switch, Positive, Negative}
 use Rattle.std.proofs.lemmas.Bool.{cases_lt}
+use Rattle.rbg_rules.specs.Games.{IsGame}
 use Rattle.rbg_rules.specs.Positions.{IsModifierAt, IsNumbered}
-use Rattle.rbg_rules.specs.State.{AbstractGame, AbstractState}
+use Rattle.rbg_rules.specs.State.{AbstractGame, AbstractState, IsStateOf}
 use Rattle.rbg_rules.specs.Words.{Start, after}
 use Rattle.rbg_leaps.specs.Leaps.{IsShiftAt, IsLeap, EndsAcross}
 use Rattle.rbg_flat.specs.Chains.{Holds, IsMet, first, then}
@@ -22,22 +23,39 @@ use Rattle.rbg_flat.specs.internal.Leading.{LearnsEnd}
 use Rattle.rbg_flat.specs.internal.Sets.{SetsOfVertices, IsMarked, IsOpen, IsInWord, Meets, ClosesWord, HasBitAt, weight}
 use Rattle.rbg_rules.specs.Actions.{Applies}
 use Rattle.rbg_flat.proofs.ChainLemmas.{QuietStep, shifts, holds, quiet_step}
+use Rattle.rbg_flat.proofs.ToTry.{holds_to_try}
 
-module _ (game : AbstractGame) (s : AbstractState) (f : Start) where
-  -- Where nothing was marked, the first leaps begin.
-  pub begins : (old new : SetsOfVertices) (ends : Bool) → ((v p : ℕ) → ¬ IsMarked old v p) → Meets old new (λ v p. IsLeap game f s.vertex p v) (λ p. ¬ IsModifierAt game.rules p) → (EndsAcross game f s.vertex → ends ≡ true) → (ends ≡ true → EndsAcross game f s.vertex) → IsBegun game s f (IsMarked new) (IsOpen new) ends
-  begins old new ends none meets all only = record {
-    sound = λ v p has. first (leap_of v p (meets.only v p has)).0;
-    begun = λ v p leap. meets.met v p leap;
-    closed = λ v q u p has closed holds leap. absurd (closed ((leap_of v q (meets.only v q has)).1 holds.quiet));
-    sound_end = λ is. inl (only is);
-    begun_end = all;
-    closed_end = λ v q has closed holds end. absurd (closed ((leap_of v q (meets.only v q has)).1 holds.quiet));
-  }
-    where
-      leap_of : (v p : ℕ) → IsMarked old v p ⊎ (IsLeap game f s.vertex p v × (¬ IsModifierAt game.rules p → IsOpen new v p)) → IsLeap game f s.vertex p v × (¬ IsModifierAt game.rules p → IsOpen new v p)
-      leap_of v p (inl was) = absurd (none v p was)
-      leap_of v p (inr is) = is
+-- Where nothing was marked, the first leaps begin.
+pub begins : (game : AbstractGame) → IsGame game → (s : AbstractState) → IsStateOf game s → (f : Start) (old new : SetsOfVertices) (ends : Bool) → ((v p : ℕ) → ¬ IsMarked old v p) → ((v p : ℕ) → ¬ IsOpen old v p) → Meets old new (λ v p. IsLeap game f s.vertex p v) (IsToTry game s) → LearnsEnd false ends (EndsAcross game f s.vertex) → IsBegun game s f (IsMarked new) (IsOpen new) ends
+begins game lawful s fits f old new ends none nothing_open meets learns = record {
+  sound = λ v p has. first (leap_of v p (meets.only v p has)).0;
+  begun = λ v p leap. meets.met v p leap;
+  closed = λ v q u p has closed is_so leap. absurd (closed (opened v q has is_so));
+  to_try = λ v p has. open_of v p (meets.no_other v p has);
+  sound_end = λ told. inl (end_of (learns.only told));
+  begun_end = learns.all;
+  closed_end = λ v q has closed is_so end. absurd (closed (opened v q has is_so));
+}
+  where
+    leap_of : (v p : ℕ) → IsMarked old v p ⊎ (IsLeap game f s.vertex p v × (IsToTry game s v p → IsOpen new v p)) → IsLeap game f s.vertex p v × (IsToTry game s v p → IsOpen new v p)
+    leap_of v p (inl was) = absurd (none v p was)
+    leap_of v p (inr is) = is
+
+    opened : (v p : ℕ) → IsMarked new v p → Holds game s v p → IsOpen new v p
+    opened v p has is_so =
+        let leap = leap_of v p (meets.only v p has) in
+        leap.1 (holds_to_try game lawful s fits f v p (first leap.0) is_so)
+
+    open_of : (v p : ℕ) → IsOpen old v p ⊎ (IsLeap game f s.vertex p v × IsToTry game s v p × (¬ IsMarked old v p)) → IsToTry game s v p
+    open_of v p (inl was) = absurd (nothing_open v p was)
+    open_of v p (inr (_, opens, _)) = opens
+
+    false_not_true : false ≡ true → ⊥
+    false_not_true e = cc
+
+    end_of : (false ≡ true) ⊎ EndsAcross game f s.vertex → EndsAcross game f s.vertex
+    end_of (inl no_end) = absurd (false_not_true no_end)
+    end_of (inr end) = end
 
 -- Whether a bit is set is decided.
 pub bit_decided : (columns : ℕ) (words : List ℕ) (v p : ℕ) → HasBitAt columns words v p ⊎ ¬ HasBitAt columns words v p
@@ -62,21 +80,6 @@ goes_on rules p (Compare e r f) stands = (comparison (arithmetic_of e) r (arithm
 goes_on rules p (Switch n) stands = (switch n, stands)
 goes_on rules p Positive (x, stands) = (positive x, stands)
 goes_on rules p Negative (x, stands) = (negative x, stands)
-
--- All begins at a vertex where nothing was met.
-pub begins_at : (game : AbstractGame) (s : AbstractState) (f : Start) (old new : SetsOfVertices) (ends : Bool) (vertex : ℕ) → s.vertex ≡ vertex → ((v p : ℕ) → ¬ IsMarked old v p) → Meets old new (λ v p. IsLeap game f vertex p v) (λ p. ¬ IsModifierAt game.rules p) → LearnsEnd false ends (EndsAcross game f vertex) → IsBegun game s f (IsMarked new) (IsOpen new) ends
-begins_at game s f old new ends vertex same none meets learns =
-    begins game s f old new ends none
-    (subst (λ (k : ℕ). Meets old new (λ v p. IsLeap game f k p v) (λ p. ¬ IsModifierAt game.rules p)) (sym same) meets)
-    (λ end. learns.all (subst (λ (k : ℕ). EndsAcross game f k) same end))
-    (λ told. subst (λ (k : ℕ). EndsAcross game f k) (sym same) (end_of (learns.only told)))
-  where
-    false_not_true : false ≡ true → ⊥
-    false_not_true e = cc
-
-    end_of : (false ≡ true) ⊎ EndsAcross game f vertex → EndsAcross game f vertex
-    end_of (inl no_end) = absurd (false_not_true no_end)
-    end_of (inr end) = end
 
 -- What is met is no shift.
 pub met_plain : (game : AbstractGame) (s : AbstractState) (f : Start) (v p : ℕ) → IsMet game s f v p → ¬ IsShiftAt game.rules p

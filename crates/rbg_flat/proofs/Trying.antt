@@ -2,19 +2,21 @@
 use Rattle.std.proofs.Common.{◌≡◌, ℕ, ◌+◌, ◌*◌, ◌/◌, ◌%◌, ◌<◌, ◌⊎◌, inl, inr, List, Bool, true, get_or, refl, sym, ap, subst, ◌∙◌, arith}
 use Rattle.std.specs.Prelude.{◌↔◌}
 use Rattle.std.specs.Int.{bit_at}
-use Rattle.rbg_rules.specs.Positions.{IsModifierAt, IsNumbered}
-use Rattle.rbg_rules.specs.State.{AbstractGame, AbstractState}
+use Rattle.rbg_rules.specs.Games.{IsGame}
+use Rattle.rbg_rules.specs.Positions.{IsModifierAt}
+use Rattle.rbg_rules.specs.State.{AbstractGame, AbstractState, IsStateOf}
 use Rattle.rbg_rules.specs.Actions.{Applies}
 use Rattle.rbg_rules.specs.Words.{Start, after}
 use Rattle.rbg_leaps.specs.Leaps.{IsLeap, EndsAcross}
 use Rattle.rbg_flat.specs.Chains.{Holds, IsMet, then, EndsMet}
 use Rattle.rbg_flat.specs.internal.Begun.{IsBegun}
 use Rattle.rbg_flat.specs.internal.Leading.{LearnsEnd, LeadsFrom, EndsFrom, AreOn, IsOnBoard}
-use Rattle.rbg_flat.specs.internal.Passing.{Passes}
+use Rattle.rbg_flat.specs.internal.Passing.{Passes, IsToTry}
 use Rattle.rbg_flat.specs.internal.Sets.{SetsOfVertices, IsMarked, IsOpen, IsInWord, Meets, ClosesWord, HasBitAt}
 use Rattle.std.proofs.lemmas.Nat.Bits.{bit_at-zero}
 use Rattle.rbg_flat.proofs.Meetings.{meets_none}
 use Rattle.rbg_flat.proofs.Takings.{bit_decided, tried_holds}
+use Rattle.rbg_flat.proofs.ToTry.{holds_to_try}
 
 -- What is marked stays so where bits are closed.
 pub marked_then : (old new : SetsOfVertices) (q c word v p : ℕ) → ClosesWord old new q c word → IsMarked old v p → IsMarked new v p
@@ -48,8 +50,8 @@ no_vertex held q c v p none there =
     let set = there.set in
     omega (arith, clear, set)
 
-pub leads_nowhere : (game : AbstractGame) (sets : SetsOfVertices) (held q c : ℕ) → held ≡ 0 → Meets sets sets (LeadsFrom game q c held) (λ p. ¬ IsModifierAt game.rules p)
-leads_nowhere game sets held q c none = meets_none sets (LeadsFrom game q c held) (λ (p : ℕ). ¬ IsModifierAt game.rules p) (λ u p leads. no_vertex held q c leads.vertex q none leads.there)
+pub leads_nowhere : (game : AbstractGame) (sets : SetsOfVertices) (held q c : ℕ) (Opens : (v p : ℕ) → Type 0) → held ≡ 0 → Meets sets sets (LeadsFrom game q c held) Opens
+leads_nowhere game sets held q c Opens none = meets_none sets (LeadsFrom game q c held) Opens (λ u p leads. no_vertex held q c leads.vertex q none leads.there)
 
 pub ends_nowhere : (game : AbstractGame) (ends : Bool) (held q c : ℕ) → held ≡ 0 → LearnsEnd ends ends (EndsFrom game q c held)
 ends_nowhere game ends held q c none = record {
@@ -59,11 +61,11 @@ ends_nowhere game ends held q c none = record {
 }
 
 module _
-    (game : AbstractGame) (numbered : IsNumbered game.rules) (s : AbstractState) (f : Start)
+    (game : AbstractGame) (lawful : IsGame game) (s : AbstractState) (fits : IsStateOf game s) (f : Start)
     (old middle new : SetsOfVertices) (ends more : Bool) (q c word held : ℕ)
     (closing : ClosesWord old middle q c word)
     (marked : (b : ℕ) → bit_at word b ≡ 1 → (b < 64) × IsMarked old (c * 64 + b) q)
-    (meets : Meets middle new (LeadsFrom game q c held) (λ p. ¬ IsModifierAt game.rules p))
+    (meets : Meets middle new (LeadsFrom game q c held) (IsToTry game s))
     (learns : LearnsEnd ends more (EndsFrom game q c held))
     (within : (b : ℕ) → bit_at held b ≡ 1 → bit_at word b ≡ 1)
     (told : (b : ℕ) → b < 64 → bit_at word b ≡ 1 → (bit_at held b ≡ 1) ↔ Passes game s (c * 64 + b) q)
@@ -78,7 +80,7 @@ module _
     holds_there : (v : ℕ) → IsInWord q c held v q → Holds game s v q
     holds_there v there =
         let passes = subst (λ (u : ℕ). Passes game s u q) (by_bits q c held v q there) ((told (v % 64) (omega arith) (within (v % 64) there.set)).0 there.set) in
-        tried_holds game numbered s f v q passes.to (met_there v there) passes.quiet passes.applies
+        tried_holds game lawful.numbered s f v q passes.to (met_there v there) passes.quiet passes.applies
 
     met_leap : (u p : ℕ) → LeadsFrom game q c held u p → IsMet game s f u p
     met_leap u p leads = then (met_there leads.vertex leads.there) (holds_there leads.vertex leads.there) leads.leap
@@ -110,22 +112,30 @@ module _
       sound = λ v p has. sound v p (meets.only v p has);
       begun = λ v p leap. meets.kept v p (marked_then old middle q c word v p closing (is.begun v p leap));
       closed = λ v r u p has closed holds leap. leaps v r u p closed holds leap (meets.only v r has);
+      to_try = λ v p has. to_try v p (meets.no_other v p has);
       sound_end = λ told_end. sound_end (learns.only told_end);
       begun_end = λ end. learns.kept (is.begun_end end);
       closed_end = λ v r has closed holds end. ends_there v r closed holds end (meets.only v r has);
     }
       where
-        sound : (v p : ℕ) → IsMarked middle v p ⊎ (LeadsFrom game q c held v p × (¬ IsModifierAt game.rules p → IsOpen new v p)) → IsMet game s f v p
+        sound : (v p : ℕ) → IsMarked middle v p ⊎ (LeadsFrom game q c held v p × (IsToTry game s v p → IsOpen new v p)) → IsMet game s f v p
         sound v p (inl was) = is.sound v p (marked_before old middle q c word v p closing was)
         sound v p (inr (leads, _)) = met_leap v p leads
+
+        wanted : (v r : ℕ) → LeadsFrom game q c held v r → Holds game s v r → IsToTry game s v r
+        wanted v r leads holds = holds_to_try game lawful s fits f v r (met_leap v r leads) holds
+
+        to_try : (v p : ℕ) → IsOpen middle v p ⊎ (LeadsFrom game q c held v p × IsToTry game s v p × (¬ IsMarked middle v p)) → IsToTry game s v p
+        to_try v p (inl was) = is.to_try v p (closing.only v p was)
+        to_try v p (inr (_, opens, _)) = opens
 
         by_leaps : (v r u p : ℕ) → Holds game s v r → IsLeap game (after r) v p u → (IsMarked old v r × (¬ IsOpen old v r)) ⊎ (IsInWord q c held v q × (r ≡ q)) → IsMarked new u p
         by_leaps v r u p holds leap (inl (was, not_open)) = meets.kept u p (marked_then old middle q c word u p closing (is.closed v r u p was not_open holds leap))
         by_leaps v r u p holds leap (inr (there, same)) = meets.met u p (record { vertex = v; there = there; leap = subst (λ (k : ℕ). IsLeap game (after k) v p u) same leap })
 
-        leaps : (v r u p : ℕ) → ¬ IsOpen new v r → Holds game s v r → IsLeap game (after r) v p u → IsMarked middle v r ⊎ (LeadsFrom game q c held v r × (¬ IsModifierAt game.rules r → IsOpen new v r)) → IsMarked new u p
+        leaps : (v r u p : ℕ) → ¬ IsOpen new v r → Holds game s v r → IsLeap game (after r) v p u → IsMarked middle v r ⊎ (LeadsFrom game q c held v r × (IsToTry game s v r → IsOpen new v r)) → IsMarked new u p
         leaps v r u p closed holds leap (inl was) = by_leaps v r u p holds leap (by_old v r closed holds was)
-        leaps v r u p closed holds leap (inr (_, opens)) = absurd (closed (opens holds.quiet))
+        leaps v r u p closed holds leap (inr (leads, opens)) = absurd (closed (opens (wanted v r leads holds)))
 
         sound_end : (ends ≡ true) ⊎ EndsFrom game q c held → EndsMet game s f
         sound_end (inl was) = is.sound_end was
@@ -135,6 +145,6 @@ module _
         by_ends v r holds end (inl (was, not_open)) = learns.kept (is.closed_end v r was not_open holds end)
         by_ends v r holds end (inr (there, same)) = learns.all (record { vertex = v; there = there; ends = subst (λ (k : ℕ). EndsAcross game (after k) v) same end })
 
-        ends_there : (v r : ℕ) → ¬ IsOpen new v r → Holds game s v r → EndsAcross game (after r) v → IsMarked middle v r ⊎ (LeadsFrom game q c held v r × (¬ IsModifierAt game.rules r → IsOpen new v r)) → more ≡ true
+        ends_there : (v r : ℕ) → ¬ IsOpen new v r → Holds game s v r → EndsAcross game (after r) v → IsMarked middle v r ⊎ (LeadsFrom game q c held v r × (IsToTry game s v r → IsOpen new v r)) → more ≡ true
         ends_there v r closed holds end (inl was) = by_ends v r holds end (by_old v r closed holds was)
-        ends_there v r closed holds end (inr (_, opens)) = absurd (closed (opens holds.quiet))
+        ends_there v r closed holds end (inr (leads, opens)) = absurd (closed (opens (wanted v r leads holds)))

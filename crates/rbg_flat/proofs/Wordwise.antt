@@ -3,7 +3,6 @@ use Rattle.std.proofs.Common.{◌≡◌, ◌≢◌, ℕ, ◌+◌, ◌*◌, ◌/�
 use Rattle.std.specs.Int.{bit_at}
 use Rattle.std.proofs.lemmas.Nat.Bits.{bit_at-zero, bit_at-lt}
 use native.Mathlib.Decide.{ℕ_discrete}
-use Rattle.rbg_rules.specs.Positions.{IsModifierAt}
 use Rattle.rbg_rules.specs.State.{AbstractGame}
 use Rattle.rbg_rules.specs.Words.{after}
 use Rattle.rbg_leaps.specs.Leaps.{IsLeap, EndsAcross}
@@ -20,10 +19,7 @@ clear_or_set n small clear = elim (ℕ_discrete n 0) [
   | no some ↦ absurd (clear (omega (arith, small, some)))
 ]
 
-module _ (game : AbstractGame) (q c word : ℕ) where
-  abbrev Opens : ℕ → Type 0
-  Opens p = ¬ IsModifierAt game.rules p
-
+module _ (game : AbstractGame) (q c word : ℕ) (Opens : (v p : ℕ) → Type 0) where
   -- All is left, so nothing was led on from.
   pub none_past : (u p : ℕ) → ¬ LeadsPast game q c word word u p
   none_past u p is = not_both is.past is.there.set

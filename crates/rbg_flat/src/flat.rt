@@ -2,7 +2,7 @@
 ghost use Rattle.std.specs.Prelude.{◌≡◌, ℕ, ◌+◌, ◌*◌, ◌/◌, ◌<◌, ◌≤◌, ◌↔◌, ◌⊎◌, ◌^◌, length, IfOk, IfSome, IfNone, OnOk, IsTrue, false};
 ghost use Rattle.rbg_rules.specs.Games.{IsGame};
 ghost use Rattle.rbg_rules.specs.Laws.{IsStart};
-ghost use Rattle.rbg_rules.specs.Positions.{IsModifierAt, IsNumbered, IsPatternAt, positions_of};
+ghost use Rattle.rbg_rules.specs.Positions.{IsNumbered, IsPatternAt, positions_of};
 ghost use Rattle.rbg_rules.specs.State.{AbstractGame, AbstractState, IsStateOf};
 ghost use Rattle.rbg_rules.specs.Words.{Start, after};
 ghost use Rattle.rbg_leaps.specs.Leaps.{IsLeap, EndsAcross};
@@ -12,7 +12,7 @@ ghost use Rattle.rbg_flat.specs.Chains.{Holds};
 ghost use Rattle.rbg_flat.specs.Paths.{ArePathsOf, IsStill};
 ghost use Rattle.rbg_flat.specs.Found.{AreFound, HasCandidates, most_candidates};
 ghost use Rattle.rbg_flat.specs.internal.Begun.{IsBegun};
-ghost use Rattle.rbg_flat.specs.internal.Passing.{Passes};
+ghost use Rattle.rbg_flat.specs.internal.Passing.{IsToTry, Passes};
 ghost use Rattle.rbg_flat.specs.internal.Sets.{Meets, IsInWord, IsMarked, IsOpen, IsLastOf, IsDone, KeepsDone, WaitsLast, weight};
 ghost use Rattle.std.specs.Int.{bit_at};
 ghost use Rattle.rbg_flat.specs.internal.Leading.{AreSizedFor, AreOn, IsOnBoard, LeadsFrom, EndsFrom, LearnsEnd};
@@ -21,7 +21,7 @@ use crate::found::Modifiers;
 use crate::gathering::{gather_place, keeps};
 use crate::leading::{meet_bits, meet_targets};
 use crate::passing::held;
-use crate::paths::Paths;
+use crate::paths::{Kind, Paths};
 use crate::sets::Sets;
 use crate::words::{lowest, unit_word, without};
 use rbg_base::{Memory, Position, Vertex};
@@ -59,23 +59,22 @@ impl Flat {
             && self.sets.columns() == (game.board().len() + 63) / 64
     }
 
-    /// Begins anew, at a place in the rules and a vertex.
-    pub fn begin(&mut self, game: &Game, paths: &Paths, origin: Origin, vertex: Vertex)
+    /// Begins anew in a semi-state, at a place in the rules.
+    pub fn begin(&mut self, game: &Game, paths: &Paths, state: &SemiState, origin: Origin)
         requires lawful { IsGame game.now }
         requires paths { ArePathsOf game.now paths.now }
+        requires fits { IsStateOf game.now state.now.state }
         requires sized { AreSizedFor game.now self.old.sets }
-        requires vertex { vertex < length game.now.board.first }
         requires stands { IsStart game.now.rules (start_of origin) }
         ensures sized { AreSizedFor game.now self.new.sets }
-        ensures begun { (s : AbstractState) → s.vertex ≡ vertex
-            → IsBegun game.now s (start_of origin) (IsMarked self.new.sets) (IsOpen self.new.sets)
-            self.new.ends }
+        ensures begun { IsBegun game.now state.now.state (start_of origin) (IsMarked self.new.sets)
+            (IsOpen self.new.sets) self.new.ends }
         ensures on { AreOn game.now self.new.sets }
-        ensures fresh { (v p : ℕ) → ¬ IsModifierAt game.now.rules p → ¬ IsDone self.new.sets v p }
+        ensures fresh { (v p : ℕ) → IsPatternAt game.now.rules p → ¬ IsDone self.new.sets v p }
     {
         self.sets.clear();
         self.ends = false;
-        self.lead(game, paths, origin, vertex);
+        self.lead(game, paths, state, origin, state.vertex());
     }
 
     /// Goes on up to the next vertex that is to be asked about a pattern, and returns it with the pattern's position;
@@ -124,12 +123,14 @@ impl Flat {
         &mut self,
         game: &Game,
         paths: &Paths,
+        state: &SemiState,
         vertex: Vertex,
         position: Position,
         valid: bool,
     )
         requires lawful { IsGame game.now }
         requires paths { ArePathsOf game.now paths.now }
+        requires fits { IsStateOf game.now state.now.state }
         requires sized { AreSizedFor game.now self.old.sets }
         requires vertex { vertex < length game.now.board.first }
         requires from_one { 0 < position }
@@ -138,10 +139,12 @@ impl Flat {
         requires last { WaitsLast self.old.sets vertex position }
         ensures sized { AreSizedFor game.now self.new.sets }
         ensures on { AreOn game.now self.old.sets → AreOn game.now self.new.sets }
-        ensures begun { (s : AbstractState) (f : Start)
-            → IsTrue valid ↔ Holds game.now s vertex position
-            → IsBegun game.now s f (IsMarked self.old.sets) (IsOpen self.old.sets) self.old.ends
-            → IsBegun game.now s f (IsMarked self.new.sets) (IsOpen self.new.sets) self.new.ends }
+        ensures begun { (f : Start)
+            → IsTrue valid ↔ Holds game.now state.now.state vertex position
+            → IsBegun game.now state.now.state f (IsMarked self.old.sets) (IsOpen self.old.sets)
+            self.old.ends
+            → IsBegun game.now state.now.state f (IsMarked self.new.sets) (IsOpen self.new.sets)
+            self.new.ends }
         ensures still_done { KeepsDone self.old.sets self.new.sets }
         ensures done { IsDone self.new.sets vertex position }
         ensures quiet { (v p : ℕ) → IsPatternAt game.now.rules p → IsDone self.new.sets v p
@@ -153,7 +156,7 @@ impl Flat {
         let word = unit_word(vertex % 64);
         let held = if valid { word } else { 0 };
         let place = self.sets.place(position, column);
-        self.take_word(game, paths, place, position, column, word, held);
+        self.take_word(game, paths, state, place, position, column, word, held);
     }
 
     /// Whether a word may end with no modifier more, once nothing is left to be looked at.
@@ -205,7 +208,14 @@ impl Flat {
 
     /// Leads on from a place in the rules and a vertex: meets where leaps lead from there.
     #[inline(always)]
-    fn lead(&mut self, game: &Game, paths: &Paths, origin: Origin, vertex: Vertex)
+    fn lead(
+        &mut self,
+        game: &Game,
+        paths: &Paths,
+        state: &SemiState,
+        origin: Origin,
+        vertex: Vertex,
+    )
         requires lawful { IsGame game.now }
         requires paths { ArePathsOf game.now paths.now }
         requires sized { AreSizedFor game.now self.old.sets }
@@ -213,13 +223,13 @@ impl Flat {
         requires stands { IsStart game.now.rules (start_of origin) }
         ensures met { Meets self.old.sets self.new.sets
             (λ v p. IsLeap game.now (start_of origin) vertex p v)
-            (λ p. ¬ IsModifierAt game.now.rules p) }
+            (IsToTry game.now state.now.state) }
         ensures ends { LearnsEnd self.old.ends self.new.ends
             (EndsAcross game.now (start_of origin) vertex) }
         ensures on { AreOn game.now self.old.sets → AreOn game.now self.new.sets }
     {
         let (targets, ends) = paths.leaps.leads(origin, vertex);
-        meet_targets(&mut self.sets, game, paths, targets);
+        meet_targets(&mut self.sets, game, paths, state, targets);
         self.ends |= ends;
     }
 
@@ -262,8 +272,8 @@ impl Flat {
         ensures less { weight self.new.sets < weight self.old.sets }
     {
         let word = self.sets.open_at(place, position, column);
-        let held = held(game, state, position, column, word);
-        self.take_word(game, paths, place, position, column, word, held);
+        let held = held(game, paths, state, position, column, word);
+        self.take_word(game, paths, state, place, position, column, word, held);
     }
 
     /// Takes the bits of a word off what is open at the latest waiting place, and leads on from those at which the
@@ -273,6 +283,7 @@ impl Flat {
         &mut self,
         game: &Game,
         paths: &Paths,
+        state: &SemiState,
         place: usize,
         position: Position,
         column: usize,
@@ -281,6 +292,7 @@ impl Flat {
     )
         requires lawful { IsGame game.now }
         requires paths { ArePathsOf game.now paths.now }
+        requires fits { IsStateOf game.now state.now.state }
         requires sized { AreSizedFor game.now self.old.sets }
         requires place { place < length self.old.sets.marks }
         requires last { IsLastOf self.old.sets.waiting place }
@@ -293,16 +305,18 @@ impl Flat {
             → (b < 64) × IsMarked self.old.sets (column * 64 + b) position }
         requires within { (b : ℕ) → bit_at held b ≡ 1 → bit_at word b ≡ 1 }
         ensures sized { AreSizedFor game.now self.new.sets }
-        ensures begun { (s : AbstractState) (f : Start)
+        ensures begun { (f : Start)
             → ((b : ℕ) → b < 64 → bit_at word b ≡ 1
-            → (bit_at held b ≡ 1) ↔ Passes game.now s (column * 64 + b) position)
-            → IsBegun game.now s f (IsMarked self.old.sets) (IsOpen self.old.sets) self.old.ends
-            → IsBegun game.now s f (IsMarked self.new.sets) (IsOpen self.new.sets) self.new.ends }
+            → (bit_at held b ≡ 1) ↔ Passes game.now state.now.state (column * 64 + b) position)
+            → IsBegun game.now state.now.state f (IsMarked self.old.sets) (IsOpen self.old.sets)
+            self.old.ends
+            → IsBegun game.now state.now.state f (IsMarked self.new.sets) (IsOpen self.new.sets)
+            self.new.ends }
         ensures on { AreOn game.now self.old.sets → AreOn game.now self.new.sets }
         ensures still_done { KeepsDone self.old.sets self.new.sets }
         ensures done { (v : ℕ) → IsInWord position column word v position
             → IsDone self.new.sets v position }
-        ensures quiet { (v p : ℕ) → ¬ IsModifierAt game.now.rules p
+        ensures quiet { (v p : ℕ) → IsPatternAt game.now.rules p
             → ¬ IsInWord position column word v p → IsDone self.new.sets v p
             → IsDone self.old.sets v p }
         ensures less { (v : ℕ) → IsOpen self.old.sets v position
@@ -311,7 +325,7 @@ impl Flat {
     {
         self.sets.close_word(place, position, column, word);
         if held != 0 {
-            self.lead_word(game, paths, position, column, held);
+            self.lead_word(game, paths, state, position, column, held);
         }
     }
 
@@ -321,6 +335,7 @@ impl Flat {
         &mut self,
         game: &Game,
         paths: &Paths,
+        state: &SemiState,
         position: Position,
         column: usize,
         word: u64,
@@ -334,14 +349,14 @@ impl Flat {
         requires there { position ≤ length (positions_of game.now.rules) }
         ensures sized { AreSizedFor game.now self.new.sets }
         ensures met { Meets self.old.sets self.new.sets (LeadsFrom game.now position column word)
-            (λ p. ¬ IsModifierAt game.now.rules p) }
+            (IsToTry game.now state.now.state) }
         ensures ends { LearnsEnd self.old.ends self.new.ends
             (EndsFrom game.now position column word) }
         ensures on { AreOn game.now self.old.sets → AreOn game.now self.new.sets }
     {
         match first_still(game, paths, position, column, word) {
-            Some(vertex) => self.lead_still(game, paths, position, vertex, column, word),
-            None => self.lead_each(game, paths, position, column, word),
+            Some(vertex) => self.lead_still(game, paths, state, position, vertex, column, word),
+            None => self.lead_each(game, paths, state, position, column, word),
         }
     }
 
@@ -351,6 +366,7 @@ impl Flat {
         &mut self,
         game: &Game,
         paths: &Paths,
+        state: &SemiState,
         position: Position,
         vertex: Vertex,
         column: usize,
@@ -367,7 +383,7 @@ impl Flat {
         requires in_word { IsInWord position column word vertex position }
         ensures sized { AreSizedFor game.now self.new.sets }
         ensures met { Meets self.old.sets self.new.sets (LeadsFrom game.now position column word)
-            (λ p. ¬ IsModifierAt game.now.rules p) }
+            (IsToTry game.now state.now.state) }
         ensures ends { LearnsEnd self.old.ends self.new.ends
             (EndsAcross game.now (after position) vertex) }
         ensures on { AreOn game.now self.old.sets → AreOn game.now self.new.sets }
@@ -376,7 +392,7 @@ impl Flat {
         let _action = game.action(position);
         let origin = Origin::After(position);
         let (targets, may_end) = paths.leaps.leads(origin, vertex);
-        meet_bits(&mut self.sets, game, paths, targets, column, word);
+        meet_bits(&mut self.sets, game, paths, state, targets, column, word);
         self.ends |= may_end;
     }
 
@@ -386,6 +402,7 @@ impl Flat {
         &mut self,
         game: &Game,
         paths: &Paths,
+        state: &SemiState,
         position: Position,
         column: usize,
         word: u64,
@@ -398,7 +415,7 @@ impl Flat {
         requires there { position ≤ length (positions_of game.now.rules) }
         ensures sized { AreSizedFor game.now self.new.sets }
         ensures met { Meets self.old.sets self.new.sets (LeadsFrom game.now position column word)
-            (λ p. ¬ IsModifierAt game.now.rules p) }
+            (IsToTry game.now state.now.state) }
         ensures ends { LearnsEnd self.old.ends self.new.ends
             (EndsFrom game.now position column word) }
         ensures on { AreOn game.now self.old.sets → AreOn game.now self.new.sets }
@@ -409,7 +426,7 @@ impl Flat {
         while rest != 0 {
             let bit = lowest(rest);
             let vertex = column as Vertex * 64 + bit;
-            self.lead(game, paths, Origin::After(position), vertex);
+            self.lead(game, paths, state, Origin::After(position), vertex);
             rest = without(rest, bit);
         }
     }
@@ -418,12 +435,13 @@ impl Flat {
 /// Whether a pattern stands at a position that is open at a vertex.
 #[inline(always)]
 fn is_pattern(game: &Game, paths: &Paths, sets: &Sets, vertex: Vertex, position: Position) -> bool
+    requires lawful { IsGame game.now }
     requires paths { ArePathsOf game.now paths.now }
     requires on { AreOn game.now sets.now }
     requires marked { IsMarked sets.now vertex position }
     ensures { IsTrue result ↔ IsPatternAt game.now.rules position }
 {
-    paths.is_pattern(game, position)
+    matches!(paths.kind(game, position), Kind::Pattern)
 }
 
 /// The first vertex of a word, where no shift comes next behind a position.

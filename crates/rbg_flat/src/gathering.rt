@@ -1,14 +1,14 @@
 //! What was found is gathered: the modifiers that are valid, and how many candidates there are.
 ghost use Rattle.std.specs.Prelude.{◌≡◌, ◌≢◌, ◌↔◌, ℕ, ◌+◌, ◌*◌, ◌/◌, ◌<◌, ◌≤◌, ◌^◌, length, count_ones, IfOk, OnOk, IsTrue};
 ghost use Rattle.rbg_rules.specs.Games.{IsGame};
-ghost use Rattle.rbg_rules.specs.Positions.{positions_of};
+ghost use Rattle.rbg_rules.specs.Positions.{IsModifierAt, positions_of};
 ghost use Rattle.rbg_rules.specs.State.{IsStateOf};
 ghost use Rattle.rbg_flat.specs.Paths.{ArePathsOf};
 ghost use Rattle.rbg_flat.specs.internal.Places.{IsMetAt};
 ghost use Rattle.rbg_flat.specs.internal.Gathering.{IsBitOf, PushesWord, Gathers, Keeps};
 
 use crate::found::Modifiers;
-use crate::paths::Paths;
+use crate::paths::{Kind, Paths};
 use crate::sets::Sets;
 use rbg_base::{Memory, Position};
 use rbg_rules::Game;
@@ -24,7 +24,19 @@ pub(crate) fn keeps(game: &Game, paths: &Paths, state: &SemiState, position: Pos
     requires there { position ≤ length (positions_of game.now.rules) }
     ensures { 0 < position → IsTrue result ↔ Keeps game.now state.now.state position }
 {
-    position != 0 && paths.is_modifier(game, position) && is_kept(game, state, position)
+    position != 0 && is_modifier(game, paths, position) && is_kept(game, state, position)
+}
+
+/// Whether a modifier stands at a position.
+#[inline(always)]
+fn is_modifier(game: &Game, paths: &Paths, position: Position) -> bool
+    requires lawful { IsGame game.now }
+    requires paths { ArePathsOf game.now paths.now }
+    requires from_one { 0 < position }
+    requires there { position ≤ length (positions_of game.now.rules) }
+    ensures { IsTrue result ↔ IsModifierAt game.now.rules position }
+{
+    matches!(paths.kind(game, position), Kind::Modifier)
 }
 
 /// The same where an action stands.

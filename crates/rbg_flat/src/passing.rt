@@ -1,65 +1,170 @@
-//! At which vertices an action passes: it is no modifier, and valid there.
-ghost use Rattle.std.specs.Prelude.{◌≡◌, ◌<◌, ◌≤◌, ◌↔◌, ◌+◌, ◌*◌, ℕ, length, IfSome, slice_get, Some, IsTrue};
+//! At which vertices what is met is to be looked at, and at which it passes: it is no modifier, and valid there.
+ghost use Rattle.std.specs.Prelude.{◌≡◌, ◌<◌, ◌≤◌, ◌↔◌, ◌+◌, ◌*◌, ◌^◌, ℕ, length, slice_get, slice_index, Some, IsTrue};
 ghost use Rattle.std.specs.Int.{bit_at};
 ghost use Rattle.rbg_rules.specs.Games.{IsGame};
-ghost use Rattle.rbg_rules.specs.Positions.{IsPatternAt, positions_of};
+ghost use Rattle.rbg_rules.specs.Positions.{IsModifierAt, IsPatternAt, positions_of};
 ghost use Rattle.rbg_rules.specs.State.{IsStateOf};
-ghost use Rattle.rbg_flat.specs.internal.Passing.{Passes, IsOneOf};
-ghost use Rattle.rbg_flat.specs.internal.Leading.{IsOnBoard};
+ghost use Rattle.rbg_flat.specs.Paths.{ArePathsOf};
+ghost use Rattle.rbg_flat.specs.internal.Passing.{Passes, IsOneOf, IsToTry};
+ghost use Rattle.rbg_flat.specs.internal.Leading.{IsOnBoard, IsPositionIn};
 
-use crate::words::{lowest, without};
+use crate::paths::{Kind, Paths};
+use crate::words::{full_word, lowest, unit_word, without};
 use rbg_base::{Piece, Position, Vertex};
 use rbg_rules::{Action, Game};
 use rbg_state::{SemiState, Trial};
 
-/// The bits of a word at whose vertices the action at a position passes. It is no pattern.
+/// The bits of a column at whose vertices what is met at a position is to be looked at: all for a pattern, none for a
+/// modifier, and for an on those of its pieces.
+#[inline(always)]
+pub(crate) fn to_try(
+    game: &Game,
+    paths: &Paths,
+    state: &SemiState,
+    position: Position,
+    column: usize,
+) -> u64
+    requires lawful { IsGame game.now }
+    requires paths { ArePathsOf game.now paths.now }
+    requires position { IsPositionIn game.now position }
+    requires column { column < 2 ^ 25 }
+    ensures { (b : ℕ) → b < 64 → (bit_at result b ≡ 1)
+        ↔ IsToTry game.now state.now.state (column * 64 + b) position }
+{
+    match paths.kind(game, position) {
+        Kind::Modifier => 0,
+        Kind::Pattern => full_word(),
+        Kind::On(piece) => standing(state, piece, column),
+        Kind::OnEither(piece, other) => {
+            standing(state, piece, column) | standing(state, other, column)
+        }
+        Kind::Other => other_to_try(game, state, position, column),
+    }
+}
+
+/// The same where the facts tell nothing of the action. It is no modifier and no pattern.
+#[inline(never)]
+fn other_to_try(game: &Game, state: &SemiState, position: Position, column: usize) -> u64
+    requires lawful { IsGame game.now }
+    requires position { IsPositionIn game.now position }
+    requires column { column < 2 ^ 25 }
+    requires quiet { ¬ IsModifierAt game.now.rules position }
+    ensures { (b : ℕ) → b < 64 → (bit_at result b ≡ 1)
+        ↔ IsToTry game.now state.now.state (column * 64 + b) position }
+{
+    match game.action(position) {
+        Action::On { pieces } => any_standing(state, pieces, column),
+        _ => full_word(),
+    }
+}
+
+/// The bits of a column on whose vertices one of these pieces stands.
+fn any_standing(state: &SemiState, pieces: &[Piece], column: usize) -> u64
+    requires { column < 2 ^ 25 }
+    ensures { (b : ℕ) → b < 64 → (bit_at result b ≡ 1)
+        ↔ IsOneOf pieces.now state.now.state.pieces (column * 64 + b) }
+{
+    let mut word = 0;
+    for piece in pieces {
+        word |= standing(state, *piece, column);
+    }
+    word
+}
+
+/// The bits of a column on whose vertices a piece stands.
+#[inline(always)]
+fn standing(state: &SemiState, piece: Piece, column: usize) -> u64
+    requires { column < 2 ^ 25 }
+    ensures { (b : ℕ) → b < 64 → (bit_at result b ≡ 1)
+        ↔ (slice_get state.now.state.pieces (column * 64 + b) ≡ Some piece) }
+{
+    match state.row(piece) {
+        Some(row) => word_in(row, column),
+        None => looked_up(state, piece, column),
+    }
+}
+
+/// A word of a row, which has no bits behind its end.
+#[inline(always)]
+fn word_in(row: &[u64], column: usize) -> u64
+    ensures { result ≡ slice_index row.now column }
+{
+    if column < row.len() { row[column] } else { 0 }
+}
+
+/// The same where the piece has no row: each vertex is looked at. Each piece of a game has one.
+#[inline(never)]
+fn looked_up(state: &SemiState, piece: Piece, column: usize) -> u64
+    requires { column < 2 ^ 25 }
+    ensures { (b : ℕ) → b < 64 → (bit_at result b ≡ 1)
+        ↔ (slice_get state.now.state.pieces (column * 64 + b) ≡ Some piece) }
+{
+    let mut word = 0;
+    for bit in 0..64 {
+        if stands_at(state.pieces(), column * 64 + bit as usize, piece) {
+            word |= unit_word(bit);
+        }
+    }
+    word
+}
+
+/// Whether a piece stands on a vertex that may be behind the end of the board.
+#[inline(always)]
+fn stands_at(pieces: &[Piece], vertex: usize, piece: Piece) -> bool
+    ensures { IsTrue result ↔ (slice_get pieces.now vertex ≡ Some piece) }
+{
+    vertex < pieces.len() && pieces[vertex] == piece
+}
+
+/// The bits of a word, which are to be looked at, at whose vertices the action at a position passes. It is no pattern.
 #[inline(always)]
 pub(crate) fn held(
     game: &Game,
+    paths: &Paths,
     state: &SemiState,
     position: Position,
     column: usize,
     word: u64,
 ) -> u64
     requires lawful { IsGame game.now }
+    requires paths { ArePathsOf game.now paths.now }
     requires fits { IsStateOf game.now state.now.state }
-    requires from_one { 0 < position }
-    requires there { position ≤ length (positions_of game.now.rules) }
+    requires position { IsPositionIn game.now position }
     requires plain { ¬ IsPatternAt game.now.rules position }
     requires board { IsOnBoard game.now column word }
     ensures within { (b : ℕ) → bit_at result b ≡ 1 → bit_at word b ≡ 1 }
-    ensures told { (b : ℕ) → b < 64 → bit_at word b ≡ 1 → (bit_at result b ≡ 1)
+    ensures told { (b : ℕ) → b < 64 → bit_at word b ≡ 1
+        → IsToTry game.now state.now.state (column * 64 + b) position → (bit_at result b ≡ 1)
         ↔ Passes game.now state.now.state (column * 64 + b) position }
 {
-    if let Action::On { pieces } = game.action(position) {
-        if let Some(standing) = standing(state, pieces, column) {
-            return word & standing;
+    match paths.kind(game, position) {
+        // its pieces stand on all vertices that are to be looked at
+        Kind::On(_) | Kind::OnEither(_, _) => word,
+        Kind::Modifier | Kind::Pattern | Kind::Other => {
+            other_held(game, state, position, column, word)
         }
     }
-    passing(game, state, position, column, word)
 }
 
-/// The word of the vertices on which one of these pieces stands, if each piece has a row.
-#[inline(always)]
-fn standing(state: &SemiState, pieces: &[Piece], column: usize) -> Option<u64>
-    ensures { IfSome result (λ word. (b : ℕ) → b < 64 → (bit_at word b ≡ 1)
-        ↔ IsOneOf pieces.now state.now.state.pieces (column * 64 + b)) }
+/// The same where the facts tell nothing of the action. Where a comparison holds at one vertex, it holds at each.
+#[inline(never)]
+fn other_held(game: &Game, state: &SemiState, position: Position, column: usize, word: u64) -> u64
+    requires lawful { IsGame game.now }
+    requires fits { IsStateOf game.now state.now.state }
+    requires position { IsPositionIn game.now position }
+    requires plain { ¬ IsPatternAt game.now.rules position }
+    requires board { IsOnBoard game.now column word }
+    ensures within { (b : ℕ) → bit_at result b ≡ 1 → bit_at word b ≡ 1 }
+    ensures told { (b : ℕ) → b < 64 → bit_at word b ≡ 1
+        → IsToTry game.now state.now.state (column * 64 + b) position → (bit_at result b ≡ 1)
+        ↔ Passes game.now state.now.state (column * 64 + b) position }
 {
-    let mut word = 0;
-    for piece in pieces {
-        word |= row_word(state, *piece, column)?;
+    match game.action(position) {
+        Action::On { .. } => word,
+        Action::Compare { .. } if !passes_at(game, state, state.vertex(), position) => 0,
+        Action::Compare { .. } => word,
+        _ => passing(game, state, position, column, word),
     }
-    Some(word)
-}
-
-/// A word of the vertices on which a piece stands, if the piece has a row.
-#[inline(always)]
-fn row_word(state: &SemiState, piece: Piece, column: usize) -> Option<u64>
-    ensures { IfSome result (λ word. (b : ℕ) → b < 64 → (bit_at word b ≡ 1)
-        ↔ (slice_get state.now.state.pieces (column * 64 + b) ≡ Some piece)) }
-{
-    let row = state.row(piece)?;
-    Some(if column < row.len() { row[column] } else { 0 })
 }
 
 /// Whether the action at a position passes at a vertex. It is no pattern.

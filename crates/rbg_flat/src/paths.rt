@@ -1,29 +1,41 @@
 //! The leaps of a game, and what flat parts need to know of each position.
 ghost use Rattle.std.specs.Prelude.{◌≡◌, ℕ, ◌+◌, ◌≤◌, ◌<◌, ◌↔◌, All, Some, length, take, slice_get, true, IfOk, IfSome, IfNone, IsTrue};
 ghost use Rattle.rbg_rules.specs.Games.{IsGame};
-ghost use Rattle.rbg_rules.specs.Positions.{IsModifierAt, IsPatternAt, positions_of};
+ghost use Rattle.rbg_rules.specs.Positions.{positions_of};
 ghost use Rattle.rbg_rules.specs.State.{AbstractGame};
 ghost use Rattle.rbg_leaps.specs.Leaps.{IsShiftAt};
 ghost use Rattle.rbg_leaps.specs.Limits.{IsTooLarge};
-ghost use Rattle.rbg_flat.specs.Paths.{AreFacts, ArePathsOf, IsStill};
+ghost use Rattle.rbg_flat.specs.Paths.{AreFacts, ArePathsOf, IsKind, IsStill};
 ghost use Rattle.rbg_flat.specs.internal.Leading.{IsPositionIn};
-ghost use Rattle.rbg_flat.specs.internal.Shown.{shows_modifier, shows_shift};
+ghost use Rattle.rbg_flat.specs.internal.Shown.{ShowsKind, IsOnKind, shows_shift};
 
 use rbg_auto::Steps;
-use rbg_base::{Memory, Position};
+use rbg_base::{Memory, Piece, Position};
 use rbg_leaps::{Leaps, leaps};
 use rbg_rules::{Action, Game};
 use std::alloc::Global;
+
+/// What a flat part does with the action at a position.
+#[derive(Debug, Clone, Copy, Drop)]
+pub(crate) enum Kind {
+    /// A modifier: it is found, and nothing is led on from it.
+    Modifier,
+    /// A pattern: it is asked at each vertex.
+    Pattern,
+    /// An on of this piece alone: it is looked at where the piece stands.
+    On(Piece),
+    /// An on of these two pieces.
+    OnEither(Piece, Piece),
+    /// Another action, or none: the game is asked for it.
+    Other,
+}
 
 /// What flat parts need to know of a position.
 #[derive(Debug, Clone, Copy, Drop)]
 pub(crate) struct Facts {
     /// Whether no shift comes next behind it.
     pub(crate) still: bool,
-    /// Whether a modifier stands there.
-    pub(crate) modifier: bool,
-    /// Whether a pattern stands there.
-    pub(crate) pattern: bool,
+    pub(crate) kind: Kind,
 }
 
 /// The leaps of a game, with the facts of each position, from 0 on.
@@ -73,26 +85,15 @@ impl Paths {
         self.facts(position).still
     }
 
-    /// Whether a modifier stands at a position.
+    /// The kind of the action at a position.
     #[inline(always)]
-    pub(crate) fn is_modifier(&self, game: &Game, position: Position) -> bool
+    pub(crate) fn kind(&self, game: &Game, position: Position) -> Kind
         requires paths { ArePathsOf game.now self.now }
         requires from_one { 0 < position }
         requires there { position ≤ length (positions_of game.now.rules) }
-        ensures { IsTrue result ↔ IsModifierAt game.now.rules position }
+        ensures { IsKind game.now.rules position result }
     {
-        self.facts(position).modifier
-    }
-
-    /// Whether a pattern stands at a position.
-    #[inline(always)]
-    pub(crate) fn is_pattern(&self, game: &Game, position: Position) -> bool
-        requires paths { ArePathsOf game.now self.now }
-        requires from_one { 0 < position }
-        requires there { position ≤ length (positions_of game.now.rules) }
-        ensures { IsTrue result ↔ IsPatternAt game.now.rules position }
-    {
-        self.facts(position).pattern
+        self.facts(position).kind
     }
 }
 
@@ -119,13 +120,16 @@ fn facts_at(game: &Game, position: Position, next: &[Position]) -> Facts
     requires there { position ≤ length (positions_of game.now.rules) }
     requires within { All (IsPositionIn game.now) next.now }
     ensures still { IsTrue result.still → All (λ q. ¬ IsShiftAt game.now.rules q) next.now }
-    ensures modifier { 0 < position → IsTrue result.modifier ↔ IsModifierAt game.now.rules position }
-    ensures pattern { 0 < position → IsTrue result.pattern ↔ IsPatternAt game.now.rules position }
+    ensures kind { 0 < position → IsKind game.now.rules position result.kind }
 {
+    let kind = if position == 0 {
+        Kind::Other
+    } else {
+        kind_at(game, position)
+    };
     Facts {
         still: no_shift(game, next),
-        modifier: position != 0 && is_modifier(game, position),
-        pattern: position != 0 && game.is_pattern(position),
+        kind,
     }
 }
 
@@ -168,26 +172,35 @@ fn shifts(action: &Action) -> bool
     }
 }
 
-/// Whether a modifier stands at a position.
-fn is_modifier(game: &Game, position: Position) -> bool
+/// The kind of the action at a position.
+fn kind_at(game: &Game, position: Position) -> Kind
     requires lawful { IsGame game.now }
     requires from_one { 0 < position }
     requires there { position ≤ length (positions_of game.now.rules) }
-    ensures { IsTrue result ↔ IsModifierAt game.now.rules position }
+    ensures { IsKind game.now.rules position result }
 {
-    modifies(game.action(position))
+    kind_of(game.action(position))
 }
 
-/// Whether the action is a modifier.
-fn modifies(action: &Action) -> bool
-    ensures { result ≡ shows_modifier action.now }
+/// The kind of an action.
+fn kind_of(action: &Action) -> Kind
+    ensures { ShowsKind action.now result }
 {
     match action {
-        Action::Off { .. } | Action::Assign { .. } | Action::Switch { .. } => true,
-        Action::Shift { .. }
-        | Action::On { .. }
-        | Action::Compare { .. }
-        | Action::Positive
-        | Action::Negative => false,
+        Action::Off { .. } | Action::Assign { .. } | Action::Switch { .. } => Kind::Modifier,
+        Action::Positive | Action::Negative => Kind::Pattern,
+        Action::On { pieces } => on_kind(pieces),
+        Action::Shift { .. } | Action::Compare { .. } => Kind::Other,
+    }
+}
+
+/// The kind of an on of these pieces.
+fn on_kind(pieces: &[Piece]) -> Kind
+    ensures { IsOnKind pieces.now result }
+{
+    match pieces {
+        [piece] => Kind::On(*piece),
+        [piece, other] => Kind::OnEither(*piece, *other),
+        _ => Kind::Other,
     }
 }

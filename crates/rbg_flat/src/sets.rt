@@ -1,11 +1,11 @@
 //! Sets of vertices for each position: what was met, and what of it is still to be looked at.
-ghost use Rattle.std.specs.Prelude.{◌≡◌, ◌≢◌, ℕ, ◌<◌, ◌≤◌, ◌+◌, ◌/◌, ◌%◌, ◌*◌, ◌^◌, ◌⊎◌, length, slice_index, bit_or, IfOk, IfSome, IfNone, true};
+ghost use Rattle.std.specs.Prelude.{◌≡◌, ◌≢◌, ℕ, ◌<◌, ◌≤◌, ◌+◌, ◌/◌, ◌%◌, ◌*◌, ◌^◌, ◌⊎◌, length, slice_index, bit_or, IfOk, IfSome, IfNone, IsTrue};
 ghost use Rattle.std.specs.Int.{bit_at};
-ghost use Rattle.rbg_flat.specs.internal.Sets.{MeetsWord, Meets, IsInRow, ClosesWord, IsMarked, IsOpen, IsLastOf};
+ghost use Rattle.rbg_flat.specs.internal.Sets.{MeetsWord, IsInWord, ClosesWord, IsMarked, IsOpen, IsLastOf};
 ghost use Rattle.rbg_flat.specs.internal.Places.{ForgetsPlace};
 
 use crate::table::BitTable;
-use crate::words::lowest;
+use crate::words::{lowest, shared};
 use rbg_base::{Memory, Position, Vertex};
 use std::alloc::Global;
 use std::marker::Model;
@@ -63,6 +63,7 @@ impl Sets {
         ensures size { self.new.size ≡ self.old.size }
         ensures columns { self.new.columns ≡ self.old.columns }
         ensures none { (v p : ℕ) → ¬ IsMarked self.new v p }
+        ensures closed { (v p : ℕ) → ¬ IsOpen self.new v p }
     {
         self.pending.clear();
         self.marks.clear();
@@ -160,7 +161,7 @@ impl Sets {
 
     /// Where the row of a position is, where each row has one word.
     #[inline(always)]
-    fn narrow_place(&self, position: Position) -> usize
+    pub(crate) fn narrow_place(&self, position: Position) -> usize
         requires position { position < self.now.size }
         requires one { self.now.columns ≡ 1 }
         ensures place { result ≡ position * self.now.columns + 0 }
@@ -171,20 +172,29 @@ impl Sets {
         position as usize
     }
 
-    /// Meets the bits of a word of the row of a position. What is new of them is to be looked at where `opens` tells so.
+    /// Whether all bits of a word of the row of a position, which is at a place, were met before.
     #[inline(always)]
-    pub(crate) fn meet_word(&mut self, position: Position, column: usize, word: u64, opens: bool)
-        requires position { position < self.old.size }
-        requires column { column < self.old.columns }
-        ensures { MeetsWord self.old self.new position column word opens }
+    pub(crate) fn knows(&self, place: usize, position: Position, column: usize, word: u64) -> bool
+        requires place { place < length self.now.marks }
+        requires at { place ≡ position * self.now.columns + column }
+        requires column { column < self.now.columns }
+        ensures { IsTrue result → (v p : ℕ) → IsInWord position column word v p
+            → IsMarked self.now v p }
     {
-        let place = self.place(position, column);
-        self.meet_at(place, position, column, word, opens);
+        new_of(word, self.marks.word(place)) == 0
     }
 
-    /// The same where the place of the word is known.
+    /// Meets the bits of a word of the row of a position, which is at a place. What is new of them is to be looked at
+    /// where `opens` has a bit too.
     #[inline(always)]
-    fn meet_at(&mut self, place: usize, position: Position, column: usize, word: u64, opens: bool)
+    pub(crate) fn meet_word(
+        &mut self,
+        place: usize,
+        position: Position,
+        column: usize,
+        word: u64,
+        opens: u64,
+    )
         requires place { place < length self.old.marks }
         requires at { place ≡ position * self.old.columns + column }
         requires column { column < self.old.columns }
@@ -195,45 +205,9 @@ impl Sets {
             return;
         }
         self.marks.add(place, new);
-        if opens {
-            self.pending.add(place, new);
-        }
-    }
-
-    /// Meets the vertices of a row at a position, where each row has one word. What is new of them is to be looked at
-    /// where `opens` tells so.
-    #[inline(always)]
-    pub(crate) fn meet_narrow(&mut self, position: Position, row: &[u64], opens: bool)
-        requires position { position < self.old.size }
-        requires one { self.old.columns ≡ 1 }
-        requires row { length row.now ≡ 1 }
-        ensures { Meets self.old self.new (IsInRow position row.now) (λ _. opens ≡ true) }
-    {
-        let place = self.narrow_place(position);
-        self.meet_at(place, position, 0, row[0], opens);
-    }
-
-    /// Meets the vertices of a row at a position. What is new of them is to be looked at where `opens` tells so.
-    #[inline(always)]
-    pub(crate) fn meet_row(&mut self, position: Position, row: &[u64], opens: bool)
-        requires position { position < self.old.size }
-        requires row { length row.now ≤ self.old.columns }
-        ensures { Meets self.old self.new (IsInRow position row.now) (λ _. opens ≡ true) }
-    {
-        for column in 0..row.len() {
-            self.meet_some(position, column, row[column], opens);
-        }
-    }
-
-    /// The same as `meet_word`, quick where the word has no bits.
-    #[inline(always)]
-    fn meet_some(&mut self, position: Position, column: usize, word: u64, opens: bool)
-        requires position { position < self.old.size }
-        requires column { column < self.old.columns }
-        ensures { MeetsWord self.old self.new position column word opens }
-    {
-        if word != 0 {
-            self.meet_word(position, column, word, opens);
+        let open = shared(new, opens);
+        if open != 0 {
+            self.pending.add(place, open);
         }
     }
 
@@ -256,6 +230,7 @@ impl Sets {
         requires at { place ≡ position * self.now.columns + column }
         requires column { column < self.now.columns }
         ensures is { result ≡ slice_index self.now.pending place }
+        ensures open { (b : ℕ) → bit_at result b ≡ 1 → IsOpen self.now (column * 64 + b) position }
         ensures there { (b : ℕ) → bit_at result b ≡ 1
             → (b < 64) × IsMarked self.now (column * 64 + b) position }
     {

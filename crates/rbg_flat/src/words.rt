@@ -1,5 +1,5 @@
 //! Words of bits.
-ghost use Rattle.std.specs.Prelude.{◌≡◌, ◌≢◌, ℕ, ◌<◌};
+ghost use Rattle.std.specs.Prelude.{◌≡◌, ◌≢◌, ℕ, ◌<◌, ◌≤◌};
 ghost use Rattle.std.specs.Int.{bit_at, trailing_zeros, w64};
 
 /// The place of the lowest bit of a word.
@@ -38,4 +38,23 @@ pub(crate) fn without(word: u64, bit: u32) -> u64
     let mut rest = word;
     rest &= !(1 << bit);
     rest
+}
+
+/// The word with all bits.
+#[inline(always)]
+pub(crate) fn full_word() -> u64
+    ensures { (b : ℕ) → b < 64 → bit_at result b ≡ 1 }
+{
+    !0
+}
+
+/// The bits that two words share.
+#[inline(always)]
+pub(crate) fn shared(word: u64, other: u64) -> u64
+    ensures only { (b : ℕ) → bit_at result b ≡ 1 → bit_at word b ≡ 1 }
+    ensures both { (b : ℕ) → bit_at result b ≡ 1 → bit_at other b ≡ 1 }
+    ensures all { (b : ℕ) → bit_at word b ≡ 1 → bit_at other b ≡ 1 → bit_at result b ≡ 1 }
+    ensures few { result ≤ word }
+{
+    word & other
 }

@@ -2,7 +2,7 @@
 use Rattle.std.proofs.Common.{◌≡◌, ℕ, ◌⊎◌, inl, inr, List, [], ◌∷◌, ◌++◌, Bool, sym, subst, arith}
 use Rattle.std.specs.Prelude.{Contains, IsTrue, ◌↔◌}
 use Rattle.std.proofs.lemmas.List.Elements.{Contains-append_left, Contains-push, Contains-push_cases}
-use Rattle.rbg_rules.specs.Positions.{IsNumbered, IsModifierAt, IsPatternAt}
+use Rattle.rbg_rules.specs.Positions.{IsNumbered, IsPatternAt}
 use Rattle.rbg_rules.specs.Words.{Start}
 use Rattle.rbg_rules.specs.State.{AbstractGame, AbstractState}
 use Rattle.rbg_rules.specs.Actions.{Applies}
@@ -69,10 +69,10 @@ pub begun_at : (game : AbstractGame) (s : AbstractState) (f f' : Start) (flat : 
 begun_at game s f f' flat same begun = record { begun = subst (λ (x : Start). IsBegun game s x (IsMarked flat.sets) (IsOpen flat.sets) flat.ends) same begun }
 
 -- Nothing was asked.
-pub asked_none : (game : AbstractGame) → IsNumbered game.rules → (flat : Flat) → ((v p : ℕ) → ¬ IsModifierAt game.rules p → ¬ IsDone flat.sets v p) → AreAsked game flat []
-asked_none game numbered flat fresh = record {
+pub asked_none : (game : AbstractGame) (flat : Flat) → ((v p : ℕ) → IsPatternAt game.rules p → ¬ IsDone flat.sets v p) → AreAsked game flat []
+asked_none game flat fresh = record {
   done = λ v p there. absurd (nothing_in (v, p) there);
-  all = λ v p pattern done. absurd (fresh v p (no_modifier game.rules numbered p pattern) done);
+  all = λ v p pattern done. absurd (fresh v p pattern done);
 }
 
 -- Nothing more was asked.

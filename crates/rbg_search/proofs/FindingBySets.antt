@@ -4,6 +4,7 @@ use Rattle.std.specs.Prelude.{IsTrue, ◌↔◌}
 use Rattle.rbg_rules.specs.Games.{IsGame}
 use Rattle.rbg_rules.specs.Laws.{IsStart}
 use Rattle.rbg_rules.specs.Positions.{inside}
+use Rattle.rbg_rules.specs.State.{AbstractState}
 use Rattle.rbg_rules.specs.Words.{Start, beginning}
 use Rattle.rbg_rules.specs.Actions.{Applies}
 use Rattle.rbg_rules.specs.Questions.{reach, pattern}
@@ -31,12 +32,12 @@ use Rattle.rbg_search.proofs.Takings.{takes_none_yet, takes_own, takes_unfinishe
 use Rattle.rbg_search.proofs.TakingSteps.{asked_takes_at}
 
 -- One opening is taken up, and the flat part is begun.
-pub finds_begun : (h e k : Searching) (s l : History) (f : Start) (vertex : ℕ) (flat : Flat) → IsStart h.game.rules f → e ≡ record h { opened = e.opened; taken = e.taken } → k ≡ e → l ≡ record s { room = l.room } → s.room ≤ l.room → 2 ≤ l.room → e.opened ≡ h.opened + 1 → e.taken ≡ h.taken → IsSpent h.game h.opened h.taken → vertex ≡ l.state.vertex → BeginsBySets e.game f vertex flat → FindsBySets h k s l f flat
-finds_begun h e k s l f vertex flat start kept same given more enough one none spent here begins =
-    let begins_here : BeginsBySets h.game f vertex flat = subst (λ (y : Searching). BeginsBySets y.game f vertex flat) kept begins in
+pub finds_begun : (h e k : Searching) (s l : History) (f : Start) (flat : Flat) → IsStart h.game.rules f → e ≡ record h { opened = e.opened; taken = e.taken } → k ≡ e → l ≡ record s { room = l.room } → s.room ≤ l.room → 2 ≤ l.room → e.opened ≡ h.opened + 1 → e.taken ≡ h.taken → IsSpent h.game h.opened h.taken → BeginsBySets e.game l.state f flat → FindsBySets h k s l f flat
+finds_begun h e k s l f flat start kept same given more enough one none spent begins =
+    let begins_here : BeginsBySets h.game l.state f flat = subst (λ (y : Searching). BeginsBySets y.game l.state f flat) kept begins in
     let opened : k.opened ≡ h.opened + 1 = ap (λ (x : Searching). x.opened) same ∙ one in
     let taken : k.taken ≡ h.taken = ap (λ (x : Searching). x.taken) same ∙ none in
-    let at : s.state.vertex ≡ vertex = sym (here ∙ ap (λ (x : History). x.state.vertex) given) in
+    let begun : IsBegunBySets h.game s.state f flat = subst (λ (t : AbstractState). IsBegunBySets h.game t f flat) (ap (λ (x : History). x.state) given) begins_here.begun in
     let lawful : IsGame h.game = begins_here.lawful in
     record {
       kept = kept_twice h e k kept (kept_same e k same);
@@ -45,7 +46,7 @@ finds_begun h e k s l f vertex flat start kept same given more enough one none s
       enough = enough;
       lawful = lawful;
       sets = begins_here.sets;
-      begun = begins_here.begun s.state at;
+      begun = begun;
       counts = record {
         pairs = [];
         asked = begins_here.asked;
@@ -99,11 +100,11 @@ module _ (h k : Searching) (s l : History) (f : Start) (flat : Flat) (is : Finds
     asked_pairs b w A asked = asked_takes_at h k s l f v p b w A is.kept is.given_back is.lawful reached_here next_here.pattern is.taken asked
 
     -- It was asked and taken.
-    pub finds_more : (k' : Searching) (l' : History) (flat' : Flat) (valid : Bool) (D W : Type 0) → k' ≡ record k { opened = k'.opened; taken = k'.taken } → l' ≡ record l { room = l'.room } → l.room ≤ l'.room → IsTrue valid ↔ Applies k.game p (at_vertex l.state v) (at_vertex l.state v) → TakesBySets k'.game flat flat' v p valid → IsCounted k.game pattern (at_vertex l.state v) (beginning (inside p)) k.opened k'.opened k.modifiers k.openings k.modifiers D W → ((cut : Bool) → CountsForced k.game cut pattern (at_vertex l.state v) (beginning (inside p)) k.opened k'.opened k.modifiers k.modifiers) → CountsPairs k.game pattern (at_vertex l.state v) (beginning (inside p)) k.opened k'.opened k.taken k'.taken (Unit {0}) → FindsBySets h k' s l' f flat'
+    pub finds_more : (k' : Searching) (l' : History) (flat' : Flat) (valid : Bool) (D W : Type 0) → k' ≡ record k { opened = k'.opened; taken = k'.taken } → l' ≡ record l { room = l'.room } → l.room ≤ l'.room → IsTrue valid ↔ Applies k.game p (at_vertex l.state v) (at_vertex l.state v) → TakesBySets k'.game l'.state flat flat' v p valid → IsCounted k.game pattern (at_vertex l.state v) (beginning (inside p)) k.opened k'.opened k.modifiers k.openings k.modifiers D W → ((cut : Bool) → CountsForced k.game cut pattern (at_vertex l.state v) (beginning (inside p)) k.opened k'.opened k.modifiers k.modifiers) → CountsPairs k.game pattern (at_vertex l.state v) (beginning (inside p)) k.opened k'.opened k.taken k'.taken (Unit {0}) → FindsBySets h k' s l' f flat'
     finds_more k' l' flat' valid D W kept given more decides takes counted forced taken =
         let kept_all = kept_twice h k k' is.kept kept in
         let given_all = room_twice s l l' is.given_back given in
-        let takes_here : TakesBySets h.game flat flat' v p valid = search_before (λ y z. TakesBySets y.game flat flat' v p valid) h k' s l' kept_all given_all takes in
+        let takes_here : TakesBySets h.game s.state flat flat' v p valid = search_before (λ y z. TakesBySets y.game z flat flat' v p valid) h k' s l' kept_all given_all takes in
         let decides_here : IsTrue valid ↔ Applies h.game p (at_vertex s.state v) (at_vertex s.state v) =
         search_before (λ y z. IsTrue valid ↔ Applies y.game p (at_vertex z v) (at_vertex z v)) h k s l is.kept is.given_back decides in
         record {
@@ -113,7 +114,7 @@ module _ (h k : Searching) (s l : History) (f : Start) (flat : Flat) (is : Finds
           enough = omega (arith, is.enough, more);
           lawful = is.lawful;
           sets = takes_here.sets;
-          begun = takes_here.begun s.state f decides_here is.begun;
+          begun = takes_here.begun f decides_here is.begun;
           counts = record {
             pairs = is.counts.pairs ++ (v, p) ∷ [];
             asked = takes_here.asked is.counts.pairs is.counts.asked;

@@ -55,23 +55,23 @@ impl<'a, S: Steps> Search<'a, S> {
         Ok(Box::new(self.alloc, SetFlat::new(self.alloc, self.rules.game())?)?)
     }
 
-    /// A flat part by sets that is begun at a vertex.
+    /// A flat part by sets that is begun.
     pub(crate) fn begun_by_sets(
         &mut self,
         paths: &Paths,
+        state: &SemiState,
         origin: Origin,
-        vertex: Vertex,
     ) -> Result<Box<SetFlat>, Over>
         requires paths { ArePathsOf self.old.game paths.now }
-        requires there { vertex < length self.old.game.board.first }
+        requires fits { IsStateOf self.old.game state.now.state }
         requires stands { IsStart self.old.game.rules (start_of origin) }
         ensures kept { self.new ≡ self.old }
         ensures begins { IfOk result (λ flat.
-            BeginsBySets self.old.game (start_of origin) vertex flat.value) }
+            BeginsBySets self.old.game state.now.state (start_of origin) flat.value) }
         ensures memory { IfErr result (λ over. over ≡ Over.Memory) }
     {
         let mut flat = self.unused_sets()?;
-        flat.begin(self.rules.game(), paths, leap_origin(origin), vertex);
+        flat.begin(self.rules.game(), paths, state, leap_origin(origin));
         Ok(flat)
     }
 
@@ -99,17 +99,19 @@ impl<'a, S: Steps> Search<'a, S> {
         &self,
         paths: &Paths,
         flat: &mut Box<SetFlat>,
+        state: &SemiState,
         vertex: Vertex,
         position: Position,
         valid: bool,
     )
         requires paths { ArePathsOf self.now.game paths.now }
+        requires fits { IsStateOf self.now.game state.now.state }
         requires sets { HasSetsFor self.now.game flat.old.value }
         requires next { IsToBeAsked self.now.game flat.old.value vertex position }
-        ensures takes { TakesBySets self.now.game flat.old.value flat.new.value vertex position
-            valid }
+        ensures takes { TakesBySets self.now.game state.now.state flat.old.value flat.new.value
+            vertex position valid }
     {
-        flat.take(self.rules.game(), paths, vertex, position, valid);
+        flat.take(self.rules.game(), paths, state, vertex, position, valid);
     }
 
     /// Hands out what a flat part found, in the list that is lent, and keeps the rest for further use. Returns whether a

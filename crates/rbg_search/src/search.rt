@@ -577,10 +577,10 @@ impl<'a, S: Steps> Search<'a, S> {
             self.old.opened self.new.opened self.old.taken self.new.taken (IsOk result) }
     {
         self.enter(state)?;
-        let mut flat = self.begun_by_sets(paths, origin, state.vertex())?;
+        let mut flat = self.begun_by_sets(paths, state, origin)?;
         while let Some((vertex, position)) = self.advance_by_sets(paths, &mut flat, state) {
             let valid = self.ask(state, vertex, position, nested)?;
-            self.take_by_sets(paths, &mut flat, vertex, position, valid);
+            self.take_by_sets(paths, &mut flat, state, vertex, position, valid);
         }
         let ends = self.finish_by_sets(paths, flat, state, pairs)?;
         Ok(ends)

@@ -4,6 +4,7 @@ use Rattle.rbg_rules.specs.Words.{Start, after}
 use Rattle.rbg_rules.specs.State.{AbstractGame, AbstractState}
 use Rattle.rbg_leaps.specs.Leaps.{IsLeap, EndsAcross}
 use Rattle.rbg_flat.specs.Chains.{Holds, IsMet, EndsMet}
+use Rattle.rbg_flat.specs.internal.Passing.{IsToTry}
 
 -- Vertices with positions.
 abbrev pub Pairs : Type 1
@@ -13,6 +14,7 @@ Pairs = (v p : ℕ) → Type 0
 --   sound: what is marked is met
 --   begun: the leaps with which all begins are marked
 --   closed: so are the leaps from behind what is marked, isn't open, and holds
+--   to_try: what is open is to be looked at: an on is only where one of its pieces stands
 --   sound_end, begun_end, closed_end: the same of whether a word may end
 pub record IsBegun
     (game : AbstractGame) (s : AbstractState) (f : Start) (Marked Open : Pairs) (ends : Bool)
@@ -22,6 +24,7 @@ pub record IsBegun
     pub begun : (v p : ℕ) → IsLeap game f s.vertex p v → Marked v p
     pub closed :
         (v q u p : ℕ) → Marked v q → ¬ Open v q → Holds game s v q → IsLeap game (after q) v p u → Marked u p
+    pub to_try : (v p : ℕ) → Open v p → IsToTry game s v p
     pub sound_end : ends ≡ true → EndsMet game s f
     pub begun_end : EndsAcross game f s.vertex → ends ≡ true
     pub closed_end :

@@ -1,5 +1,5 @@
 -- Sets of vertices for each position, as rows of bits.
-use Rattle.std.specs.Prelude.{◌≡◌, ◌⊎◌, ℕ, ◌+◌, ◌-◌, ◌*◌, ◌^◌, ◌/◌, ◌%◌, ◌<◌, ◌≤◌, List, length, slice_index, true, Bool}
+use Rattle.std.specs.Prelude.{◌≡◌, ◌⊎◌, ℕ, ◌+◌, ◌-◌, ◌*◌, ◌^◌, ◌/◌, ◌%◌, ◌<◌, ◌≤◌, List, length, slice_index}
 use Rattle.std.specs.Int.{bit_at}
 use Rattle.std.specs.List.{sum_by}
 
@@ -45,19 +45,19 @@ sets_of size columns marks pending waiting touched =
 abbrev pub weight : SetsOfVertices → ℕ
 weight sets = 2 * sum_by (λ m. 2 ^ 64 - m) sets.marks + sum_by (λ m. m) sets.pending
 
--- A word of a row was met: its bits are marked, and what is new of it is open where that is wanted.
-pub record MeetsWord (old new : SetsOfVertices) (position column word : ℕ) (opens : Bool) : Type 0 where
+-- A word of a row was met: its bits are marked, and what is new of it is open where `opens` has a bit too.
+pub record MeetsWord (old new : SetsOfVertices) (position column word opens : ℕ) : Type 0 where
   pub size : new.size ≡ old.size
   pub columns : new.columns ≡ old.columns
   pub kept : (v p : ℕ) → IsMarked old v p → IsMarked new v p
   pub met : (v p : ℕ) → IsInWord position column word v p → IsMarked new v p
   pub only :
       (v p : ℕ) → IsMarked new v p →
-      IsMarked old v p ⊎ (IsInWord position column word v p × (opens ≡ true → IsOpen new v p))
+      IsMarked old v p ⊎ (IsInWord position column word v p × (bit_at opens (v % 64) ≡ 1 → IsOpen new v p))
   pub still : (v p : ℕ) → IsOpen old v p → IsOpen new v p
   pub no_other :
       (v p : ℕ) → IsOpen new v p →
-      IsOpen old v p ⊎ (IsInWord position column word v p × (opens ≡ true) × (¬ IsMarked old v p))
+      IsOpen old v p ⊎ (IsInWord position column word v p × (bit_at opens (v % 64) ≡ 1) × (¬ IsMarked old v p))
   pub lighter : weight new ≤ weight old
 
 -- Bits of a word of a row are no longer open.
@@ -71,18 +71,18 @@ pub record ClosesWord (old new : SetsOfVertices) (position column word : ℕ) : 
   pub lighter : weight new ≤ weight old
   pub less : (v : ℕ) → IsOpen old v position → IsInWord position column word v position → weight new < weight old
 
--- These vertices with positions were met: they are marked, and those of them that are new and of such positions are
+-- These vertices with positions were met: they are marked, and those of them that are new and are to be opened are
 -- open.
-pub record Meets (old new : SetsOfVertices) (In : (v p : ℕ) → Type 0) (Opens : ℕ → Type 0) : Type 0 where
+pub record Meets (old new : SetsOfVertices) (In Opens : (v p : ℕ) → Type 0) : Type 0 where
   pub size : new.size ≡ old.size
   pub columns : new.columns ≡ old.columns
   pub kept : (v p : ℕ) → IsMarked old v p → IsMarked new v p
   pub met : (v p : ℕ) → In v p → IsMarked new v p
-  pub only : (v p : ℕ) → IsMarked new v p → IsMarked old v p ⊎ (In v p × (Opens p → IsOpen new v p))
+  pub only : (v p : ℕ) → IsMarked new v p → IsMarked old v p ⊎ (In v p × (Opens v p → IsOpen new v p))
   pub still : (v p : ℕ) → IsOpen old v p → IsOpen new v p
   pub no_other :
       (v p : ℕ) → IsOpen new v p →
-      IsOpen old v p ⊎ (In v p × Opens p × (¬ IsMarked old v p))
+      IsOpen old v p ⊎ (In v p × Opens v p × (¬ IsMarked old v p))
   pub lighter : weight new ≤ weight old
 
 -- The vertex is in a row of a position.

@@ -1,17 +1,27 @@
--- Which actions of the program are modifiers, and which are shifts or switches.
-use Rattle.std.specs.Prelude.{Bool, true, false}
+-- Of which kind an action of the program is, and which are shifts or switches.
+use Rattle.std.specs.Prelude.{◌≡◌, ℕ, List, [], ◌∷◌, Bool, true, false}
 use Rattle.rbg_rules.specs.declared.rule.Action.{Action}
 use Rattle.rbg_rules.specs.declared.rule.Action.TheVariants.{Shift, On, Off, Assign, Compare, Switch, Positive, Negative}
+use Rattle.rbg_flat.specs.declared.paths.Kind.{Kind}
+use Rattle.rbg_flat.specs.declared.paths.Kind.TheVariants.{Modifier, Pattern, On as OnOne, OnEither, Other}
 
-abbrev pub shows_modifier : Action → Bool
-shows_modifier (Off x) = true
-shows_modifier (Assign v e) = true
-shows_modifier (Switch n) = true
-shows_modifier (Shift d) = false
-shows_modifier (On pieces) = false
-shows_modifier (Compare e r f) = false
-shows_modifier Positive = false
-shows_modifier Negative = false
+-- The kind of an on of these pieces: where it is another one, nothing is told of them.
+abbrev pub IsOnKind : List ℕ → Kind → Type 0
+IsOnKind pieces Modifier = ⊥
+IsOnKind pieces Pattern = ⊥
+IsOnKind pieces (OnOne x) = pieces ≡ x ∷ []
+IsOnKind pieces (OnEither x y) = pieces ≡ x ∷ y ∷ []
+IsOnKind pieces Other = Unit {0}
+
+abbrev pub ShowsKind : Action → Kind → Type 0
+ShowsKind (Off x) kind = kind ≡ Modifier
+ShowsKind (Assign v e) kind = kind ≡ Modifier
+ShowsKind (Switch n) kind = kind ≡ Modifier
+ShowsKind (Shift d) kind = kind ≡ Other
+ShowsKind (On pieces) kind = IsOnKind pieces.items kind
+ShowsKind (Compare e r f) kind = kind ≡ Other
+ShowsKind Positive kind = kind ≡ Pattern
+ShowsKind Negative kind = kind ≡ Pattern
 
 abbrev pub shows_shift : Action → Bool
 shows_shift (Shift d) = true

@@ -36,11 +36,11 @@ pub record AreAsked (game : AbstractGame) (flat : Flat) (pairs : List (ℕ × �
   pub done : (v p : ℕ) → Contains pairs (v, p) → IsDone flat.sets v p
   pub all : (v p : ℕ) → IsPatternAt game.rules p → IsDone flat.sets v p → Contains pairs (v, p)
 
--- A flat part is begun at a vertex, and nothing was asked.
-pub record BeginsBySets (game : AbstractGame) (f : Start) (vertex : ℕ) (flat : Flat) : Type 0 where
+-- A flat part is begun, and nothing was asked.
+pub record BeginsBySets (game : AbstractGame) (s : AbstractState) (f : Start) (flat : Flat) : Type 0 where
   pub lawful : IsGame game
   pub sets : HasSetsFor game flat
-  pub begun : (s : AbstractState) → s.vertex ≡ vertex → IsBegunBySets game s f flat
+  pub begun : IsBegunBySets game s f flat
   pub asked : AreAsked game flat []
 
 -- A flat part goes on, and nothing is asked.
@@ -59,10 +59,10 @@ pub record IsToBeAsked (game : AbstractGame) (flat : Flat) (v p : ℕ) : Type 0 
   pub last : WaitsLast flat.sets v p
 
 -- It was asked, and the pattern is valid there or isn't.
-pub record TakesBySets (game : AbstractGame) (old new : Flat) (v p : ℕ) (valid : Bool) : Type 0 where
+pub record TakesBySets (game : AbstractGame) (s : AbstractState) (old new : Flat) (v p : ℕ) (valid : Bool) : Type 0 where
   pub sets : HasSetsFor game new
   pub begun :
-      (s : AbstractState) (f : Start) →
+      (f : Start) →
       IsTrue valid ↔ Applies game p (at_vertex s v) (at_vertex s v) →
       IsBegunBySets game s f old →
       IsBegunBySets game s f new

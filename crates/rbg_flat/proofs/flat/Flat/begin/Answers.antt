@@ -1,11 +1,26 @@
+use Rattle.std.proofs.Common.{◌≡◌, ℕ, ◌<◌, length, false, subst, sym, ◌∙◌}
+use Rattle.rbg_leaps.specs.Leaps.{IsLeap, EndsAcross}
 use Rattle.rbg_leaps.specs.Origin.{start_of}
-use Rattle.rbg_flat.proofs.Takings.{begins_at}
+use Rattle.rbg_flat.specs.internal.Leading.{LearnsEnd}
+use Rattle.rbg_flat.specs.internal.Passing.{IsToTry}
+use Rattle.rbg_flat.specs.internal.Sets.{Meets}
 use Rattle.rbg_flat.proofs.Doing.{nothing_done}
+use Rattle.rbg_flat.proofs.Takings.{begins}
+use Rattle.rbg_flat.proofs.ToTry.{pattern_to_try}
 use Rattle.rbg_flat.proofs.flat.Flat.begin.Goals as goal
 
+pub lead-requires-clause-vertex : goal.lead-requires-clause-vertex
+lead-requires-clause-vertex c = subst (λ (k : ℕ). k < length c.args.game.now.board.first) (sym c.vertex.ensures) (subst (λ (k : ℕ). c.args.state.now.state.vertex < k) c.requires.fits.vertices c.requires.fits.vertex)
+
 pub returns-clause-begun : goal.returns-clause-begun
-returns-clause-begun c = λ s same.
-    begins_at c.args.game.now s (start_of c.args.origin) c.clear.new.self c.lead.new.self.sets c.lead.new.self.ends c.args.vertex same c.clear.ensures.none c.lead.ensures.met c.lead.ensures.ends
+returns-clause-begun c =
+    let f = start_of c.args.origin in
+    let s = c.args.state.now.state in
+    begins c.args.game.now c.requires.lawful s c.requires.fits f c.clear.new.self c.lead.new.self.sets c.lead.new.self.ends c.clear.ensures.none c.clear.ensures.closed
+    (subst (λ (k : ℕ). Meets c.clear.new.self c.lead.new.self.sets (λ v p. IsLeap c.args.game.now f k p v) (IsToTry c.args.game.now s)) c.vertex.ensures c.lead.ensures.met)
+    (subst (λ (k : ℕ). LearnsEnd false c.lead.new.self.ends (EndsAcross c.args.game.now f k)) c.vertex.ensures c.lead.ensures.ends)
 
 pub returns-clause-fresh : goal.returns-clause-fresh
-returns-clause-fresh c = λ v p other done. nothing_done c.clear.new.self c.lead.new.self.sets _ _ c.clear.ensures.none c.lead.ensures.met v p other done
+returns-clause-fresh c = λ v p pattern done.
+    nothing_done c.clear.new.self c.lead.new.self.sets _ _ c.clear.ensures.none c.lead.ensures.met v p
+    (pattern_to_try c.args.game.now c.requires.lawful.numbered c.args.state.now.state p pattern v) done

@@ -1,8 +1,8 @@
 use Rattle.std.proofs.Common.{ℕ}
-use Rattle.rbg_rules.specs.Positions.{IsModifierAt}
 use Rattle.rbg_leaps.specs.Leaps.{IsLeap}
 use Rattle.rbg_leaps.specs.Origin.{start_of}
 use Rattle.rbg_flat.specs.internal.Leading.{IsAmong}
+use Rattle.rbg_flat.specs.internal.Passing.{IsToTry}
 use Rattle.rbg_flat.proofs.Leaping.{targets_for, among_leap, leap_among, still_on}
 use Rattle.rbg_flat.proofs.Meetings.{meets_same}
 use Rattle.rbg_flat.proofs.flat.Flat.lead.Goals as goal
@@ -17,7 +17,7 @@ returns-clause-met c =
     let are = c.leads-ends.ensures.from c.args.game.now c.requires.paths.leaps c.requires.vertex c.requires.stands in
     meets_same c.args.self.now.sets c.meet_targets.new.sets (IsAmong c.args.paths.now.leaps c.leads-ends.result.0.now)
     (λ (v p : ℕ). IsLeap c.args.game.now (start_of c.args.origin) c.args.vertex p v)
-    (λ (p : ℕ). ¬ IsModifierAt c.args.game.now.rules p) (λ (p : ℕ). ¬ IsModifierAt c.args.game.now.rules p)
+    (IsToTry c.args.game.now c.args.state.now.state) (IsToTry c.args.game.now c.args.state.now.state)
     c.meet_targets.ensures
     (among_leap c.args.game.now c.requires.lawful.numbered (start_of c.args.origin) c.args.vertex c.args.paths.now.leaps c.leads-ends.result.0.now are)
     (leap_among c.args.game.now c.requires.lawful.numbered (start_of c.args.origin) c.args.vertex c.args.paths.now.leaps c.leads-ends.result.0.now are)
@@ -26,11 +26,11 @@ returns-clause-met c =
 pub returns-clause-on : goal.returns-clause-on
 returns-clause-on c = λ on.
     let are = c.leads-ends.ensures.from c.args.game.now c.requires.paths.leaps c.requires.vertex c.requires.stands in
-    still_on c.args.game.now c.requires.lawful (start_of c.args.origin) c.args.vertex (λ (p : ℕ). ¬ IsModifierAt c.args.game.now.rules p)
+    still_on c.args.game.now c.requires.lawful (start_of c.args.origin) c.args.vertex (IsToTry c.args.game.now c.args.state.now.state)
     c.args.self.now.sets c.meet_targets.new.sets c.requires.vertex
     (meets_same c.args.self.now.sets c.meet_targets.new.sets (IsAmong c.args.paths.now.leaps c.leads-ends.result.0.now)
     (λ (v p : ℕ). IsLeap c.args.game.now (start_of c.args.origin) c.args.vertex p v)
-    (λ (p : ℕ). ¬ IsModifierAt c.args.game.now.rules p) (λ (p : ℕ). ¬ IsModifierAt c.args.game.now.rules p)
+    (IsToTry c.args.game.now c.args.state.now.state) (IsToTry c.args.game.now c.args.state.now.state)
     c.meet_targets.ensures
     (among_leap c.args.game.now c.requires.lawful.numbered (start_of c.args.origin) c.args.vertex c.args.paths.now.leaps c.leads-ends.result.0.now are)
     (leap_among c.args.game.now c.requires.lawful.numbered (start_of c.args.origin) c.args.vertex c.args.paths.now.leaps c.leads-ends.result.0.now are)

@@ -1,6 +1,5 @@
 use Rattle.std.proofs.Common.{◌≡◌, ℕ, ◌+◌, ◌*◌, ◌/◌, inl, inr, true, false, refl, sym, ◌∙◌, arith}
 use Rattle.rbg_flat.specs.internal.Passing.{Passes}
-use Rattle.rbg_flat.proofs.ModifierLemmas.{pattern_opens}
 use Rattle.rbg_flat.proofs.Doing.{this_or_not}
 use Rattle.rbg_flat.proofs.Takings.{held_by, holds_passes}
 use Rattle.rbg_flat.proofs.flat.Flat.take.Goals.{then-valid, else-valid}
@@ -10,13 +9,14 @@ true_not_false : true ≡ false → ⊥
 true_not_false e = cc
 
 pub returns-clause-begun : goal.returns-clause-begun
-returns-clause-begun c = λ s f told is.
+returns-clause-begun c = λ f told is.
+    let s = c.args.state.now.state in
     let vertex : ℕ = c.args.vertex in
     let p : ℕ = c.args.position in
     let word : ℕ = c.unit_word-word.result in
     let whole : c.args.valid ≡ true → c.if-valid.held ≡ word = λ e. elim c.if-valid.branch [ then-valid w ↦ w.held-is | else-valid w ↦ absurd (true_not_false (sym e ∙ w.if-valid.false)) ] in
     let none : c.args.valid ≡ false → c.if-valid.held ≡ 0 = λ e. elim c.if-valid.branch [ then-valid w ↦ absurd (true_not_false (sym w.if-valid.true ∙ e)) | else-valid w ↦ w.held-is ] in
-    c.take_word.ensures.begun s f
+    c.take_word.ensures.begun f
     (λ b small set.
     let bit = c.unit_word-word.ensures.only b set in
     let same : vertex / 64 * 64 + b ≡ vertex = omega (arith, bit) in
@@ -31,5 +31,5 @@ returns-clause-done c = c.take_word.ensures.done c.args.vertex (record { positio
 pub returns-clause-quiet : goal.returns-clause-quiet
 returns-clause-quiet c = λ v p pattern done. elim (this_or_not c.args.position c.args.vertex c.unit_word-word.result c.unit_word-word.ensures.only v p) [
   | inl this ↦ inl this
-  | inr other ↦ inr (c.take_word.ensures.quiet v p (pattern_opens c.args.game.now.rules c.requires.lawful.numbered p pattern) other done)
+  | inr other ↦ inr (c.take_word.ensures.quiet v p pattern other done)
 ]

@@ -919,20 +919,17 @@ word_runs-returns-clause-taken g t c =
 pub sets_part-begun_by_sets-requires-clause-paths : goal.sets_part-begun_by_sets-requires-clause-paths
 sets_part-begun_by_sets-requires-clause-paths g t c = onward_rules (λ x. ArePathsOf x c.args.paths.now) c.args.self.now c.enter.new.self c.enter.ensures.kept c.requires.paths
 
-pub sets_part-begun_by_sets-requires-clause-there : goal.sets_part-begun_by_sets-requires-clause-there
-sets_part-begun_by_sets-requires-clause-there g t c =
-    let fits : IsStateOf c.enter.new.self.game c.enter.new.state.state = onward IsStateOf c.args.self.now c.enter.new.self c.args.state.now c.enter.new.state c.enter.ensures.kept c.enter.ensures.given_back c.requires.fits in
-    let under : c.enter.new.state.state.vertex < length c.enter.new.state.state.pieces = fits.vertex in
-    let size : length c.enter.new.state.state.pieces ≡ length c.enter.new.self.game.board.first = fits.vertices in
-    omega (arith, under, size, c.vertex.ensures)
+pub sets_part-begun_by_sets-requires-clause-fits : goal.sets_part-begun_by_sets-requires-clause-fits
+sets_part-begun_by_sets-requires-clause-fits g t c =
+    onward IsStateOf c.args.self.now c.enter.new.self c.args.state.now c.enter.new.state c.enter.ensures.kept c.enter.ensures.given_back c.requires.fits
 
 pub sets_part-begun_by_sets-requires-clause-stands : goal.sets_part-begun_by_sets-requires-clause-stands
 sets_part-begun_by_sets-requires-clause-stands g t c = onward_rules (λ x. IsStart x.rules (start_of c.args.origin)) c.args.self.now c.enter.new.self c.enter.ensures.kept c.requires.start
 
 pub sets_part-loop-vertex-init : goal.sets_part-loop-vertex-init
 sets_part-loop-vertex-init g t c =
-    finds_begun c.args.self.now c.enter.new.self c.begun_by_sets.new.self c.args.state.now c.enter.new.state (start_of c.args.origin) c.vertex.result c.in_ok-flat.flat.value c.requires.start c.enter.ensures.kept c.begun_by_sets.ensures.kept c.enter.ensures.given_back c.enter.ensures.room c.in_ok-enter.ensures.enough
-    c.in_ok-enter.ensures.opened c.enter.ensures.none_taken c.enter.ensures.spent c.vertex.ensures c.in_ok-flat.ensures.begins
+    finds_begun c.args.self.now c.enter.new.self c.begun_by_sets.new.self c.args.state.now c.enter.new.state (start_of c.args.origin) c.in_ok-flat.flat.value c.requires.start c.enter.ensures.kept c.begun_by_sets.ensures.kept c.enter.ensures.given_back c.enter.ensures.room c.in_ok-enter.ensures.enough
+    c.in_ok-enter.ensures.opened c.enter.ensures.none_taken c.enter.ensures.spent c.in_ok-flat.ensures.begins
 
 pub sets_part-advance_by_sets-requires-clause-paths : goal.sets_part-advance_by_sets-requires-clause-paths
 sets_part-advance_by_sets-requires-clause-paths g t c = onward_rules (λ x. ArePathsOf x c.args.paths.now) c.args.self.now c.loop-vertex.self c.loop-vertex.invariant.kept c.requires.paths
@@ -970,6 +967,11 @@ sets_part-ask-requires g t c κs within =
 pub sets_part-take_by_sets-requires-clause-paths : goal.sets_part-take_by_sets-requires-clause-paths
 sets_part-take_by_sets-requires-clause-paths g t c =
     onward_rules (λ x. ArePathsOf x c.args.paths.now) c.loop-vertex.self c.ask.new.self c.ask.ensures.kept (onward_rules (λ x. ArePathsOf x c.args.paths.now) c.args.self.now c.loop-vertex.self c.loop-vertex.invariant.kept c.requires.paths)
+
+pub sets_part-take_by_sets-requires-clause-fits : goal.sets_part-take_by_sets-requires-clause-fits
+sets_part-take_by_sets-requires-clause-fits g t c =
+    onward IsStateOf c.loop-vertex.self c.ask.new.self c.loop-vertex.state c.ask.new.state c.ask.ensures.kept c.ask.ensures.given_back
+    (onward IsStateOf c.args.self.now c.loop-vertex.self c.args.state.now c.loop-vertex.state c.loop-vertex.invariant.kept c.loop-vertex.invariant.given_back c.requires.fits)
 
 pub sets_part-take_by_sets-requires-clause-sets : goal.sets_part-take_by_sets-requires-clause-sets
 sets_part-take_by_sets-requires-clause-sets g t c =

@@ -12,13 +12,14 @@ use Rattle.rbg_search.proofs.search.Search.begun_by_sets.Goals as goal
 pub returns-clause-begins : goal.returns-clause-begins
 returns-clause-begins g c =
     let game : AbstractGame = c.game.result.now in
+    let s = c.args.state.now.state in
     let flat : Flat = c.begin.new.self in
     let same : game ≡ c.args.self.now.game = c.game.ensures.game ∙ ap (λ (x : Searching). x.game) (c.self.view_is ∙ c.unused_sets.ensures.kept) in
     let lawful : IsGame game = subst IsGame (sym c.game.ensures.game) c.game.ensures.lawful in
-    let there : BeginsBySets game (start_of c.args.origin) c.args.vertex flat = record {
+    let there : BeginsBySets game s (start_of c.args.origin) flat = record {
       lawful = lawful;
       sets = record { sized = c.begin.ensures.sized; on = c.begin.ensures.on };
-      begun = λ s at. begun_at game s (start_of c.args.origin) (leap_start_of c.leap_origin.result) flat c.leap_origin.ensures (c.begin.ensures.begun s at);
-      asked = asked_none game lawful.numbered flat c.begin.ensures.fresh;
+      begun = begun_at game s (start_of c.args.origin) (leap_start_of c.leap_origin.result) flat c.leap_origin.ensures c.begin.ensures.begun;
+      asked = asked_none game flat c.begin.ensures.fresh;
     } in
-    subst (λ (x : AbstractGame). BeginsBySets x (start_of c.args.origin) c.args.vertex flat) same there
+    subst (λ (x : AbstractGame). BeginsBySets x s (start_of c.args.origin) flat) same there

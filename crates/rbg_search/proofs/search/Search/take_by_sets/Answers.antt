@@ -9,6 +9,7 @@ use Rattle.rbg_search.proofs.search.Search.take_by_sets.Goals as goal
 
 pub returns : goal.returns
 returns g c =
+    let s = c.args.state.now.state in
     let v = c.args.vertex in
     let p = c.args.position in
     let game : AbstractGame = c.game.result.now in
@@ -19,14 +20,14 @@ returns g c =
     let opened : old ≡ c.args.flat.now.value = c.deref_mut.ensures.value in
     let next : IsToBeAsked game old v p = subst (λ (x : AbstractGame). IsToBeAsked x old v p) (sym same) (subst (λ (x : Flat). IsToBeAsked c.args.self.now.game x v p) (sym opened) c.requires.next) in
     let sets : HasSetsFor game old = subst (λ (x : AbstractGame). HasSetsFor x old) (sym same) (subst (λ (x : Flat). HasSetsFor c.args.self.now.game x) (sym opened) c.requires.sets) in
-    let there : TakesBySets game old new v p c.args.valid = record {
+    let there : TakesBySets game s old new v p c.args.valid = record {
       sets = record { sized = c.take.ensures.sized; on = c.take.ensures.on sets.on };
-      begun = λ s f decides begun. record { begun = c.take.ensures.begun s f (pattern_holds game lawful.numbered s v p c.args.valid next.pattern decides) begun.begun };
+      begun = λ f decides begun. record { begun = c.take.ensures.begun f (pattern_holds game lawful.numbered s v p c.args.valid next.pattern decides) begun.begun };
       asked = asked_one game old new v p c.take.ensures.still_done c.take.ensures.done c.take.ensures.quiet;
       lighter = c.take.ensures.less next.is_open;
     } in
     record {
       takes =
-          subst (λ (x : AbstractGame). TakesBySets x c.args.flat.now.value new v p c.args.valid) same
-          (subst (λ (x : Flat). TakesBySets game x new v p c.args.valid) opened there);
+          subst (λ (x : AbstractGame). TakesBySets x s c.args.flat.now.value new v p c.args.valid) same
+          (subst (λ (x : Flat). TakesBySets game s x new v p c.args.valid) opened there);
     }

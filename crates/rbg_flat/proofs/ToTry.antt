@@ -1,0 +1,68 @@
+-- What is to be looked at where it is met.
+use Rattle.std.proofs.Common.{◌≡◌, ℕ, ◌+◌, ◌*◌, ◌<◌, ◌⊎◌, inl, inr, List, [], ◌∷◌, true, false, length, get_or, refl, sym, ap, subst, ◌∙◌}
+use Rattle.std.specs.Prelude.{◌↔◌, Contains}
+use Rattle.rbg_board.specs.Graph.{IsClosed}
+use Rattle.rbg_rules.specs.Expression.{AbstractAction, on, positive, negative, Expression}
+use Rattle.rbg_rules.specs.Games.{IsGame}
+use Rattle.rbg_rules.specs.Positions.{HasAction, IsModifierAt, IsNumbered, IsPatternAt, is_modifier, is_pattern}
+use Rattle.rbg_rules.specs.State.{AbstractGame, AbstractState, IsStateOf}
+use Rattle.rbg_rules.specs.Words.{Start}
+use Rattle.rbg_rules.proofs.PositionLemmas.{one_stands}
+use Rattle.rbg_flat.specs.Chains.{Holds, IsMet, first, then}
+use Rattle.rbg_flat.specs.internal.Passing.{Passes, IsOneOf, IsToTry}
+use Rattle.rbg_flat.proofs.Leaping.{leads_on_board}
+use Rattle.rbg_flat.proofs.ModifierLemmas.{pattern_opens}
+use Rattle.rbg_flat.proofs.Passings.{on_passes, passes_on}
+
+true_not_false : true ≡ false → ⊥
+true_not_false e = cc
+
+-- No on stands where a pattern stands.
+no_on : (rules : Expression) → IsNumbered rules → (p : ℕ) → IsPatternAt rules p → (wanted : List ℕ) → ¬ HasAction rules p (on wanted)
+no_on rules numbered p pattern wanted stands = elim pattern.stands [
+  | inl is ↦ true_not_false (ap is_pattern (one_stands rules numbered p (positive pattern.inside_it) (on wanted) is stands))
+  | inr is ↦ true_not_false (ap is_pattern (one_stands rules numbered p (negative pattern.inside_it) (on wanted) is stands))
+]
+
+module _ (game : AbstractGame) (numbered : IsNumbered game.rules) (s : AbstractState) (p : ℕ) where
+  -- A pattern is to be looked at everywhere.
+  pub pattern_to_try : IsPatternAt game.rules p → (v : ℕ) → IsToTry game s v p
+  pattern_to_try pattern v = record {
+    quiet = pattern_opens game.rules numbered p pattern;
+    stands = λ wanted stands. absurd (no_on game.rules numbered p pattern wanted stands);
+  }
+
+  -- So is all that is no modifier and no on.
+  pub other_to_try : (¬ IsModifierAt game.rules p) → ((wanted : List ℕ) → ¬ HasAction game.rules p (on wanted)) → (v : ℕ) → IsToTry game s v p
+  other_to_try quiet none v = record { quiet = quiet; stands = λ wanted stands. absurd (none wanted stands) }
+
+  -- An on is to be looked at where one of its pieces stands, and it passes there.
+  pub on_to_try : (wanted : List ℕ) → HasAction game.rules p (on wanted) → (v : ℕ) → IsOneOf wanted s.pieces v ↔ IsToTry game s v p
+  on_to_try wanted stands v = (
+    λ one. record {
+      quiet = λ m. true_not_false (sym m.modifies ∙ ap is_modifier (one_stands game.rules numbered p m.action (on wanted) m.stands stands));
+      stands = λ others there. by_same others (one_stands game.rules numbered p (on wanted) (on others) stands there) one;
+    },
+    λ is. is.stands wanted stands,
+  )
+    where
+      by_same : (others : List ℕ) → on wanted ≡ on others → IsOneOf wanted s.pieces v → IsOneOf others s.pieces v
+      by_same others same one = subst (λ (xs : List ℕ). IsOneOf xs s.pieces v) (cc same) one
+
+  pub tried_passes : (wanted : List ℕ) → HasAction game.rules p (on wanted) → (v : ℕ) → IsToTry game s v p → Passes game s v p
+  tried_passes wanted stands v is = on_passes game numbered s p wanted stands v (is.stands wanted stands)
+
+-- What is met is on the board.
+pub met_on_board : (game : AbstractGame) → IsClosed game.board → (s : AbstractState) (f : Start) → s.vertex < length game.board.first → (v p : ℕ) → IsMet game s f v p → v < length game.board.first
+met_on_board game closed s f here v p (first leap) = leads_on_board game closed s.vertex leap.shifts v here leap.leads
+met_on_board game closed s f here v p (then {v = u} {q = q} met holds leap) = leads_on_board game closed u leap.shifts v (met_on_board game closed s f here u q met) leap.leads
+
+-- What was met and holds is to be looked at.
+pub holds_to_try : (game : AbstractGame) → IsGame game → (s : AbstractState) → IsStateOf game s → (f : Start) (v p : ℕ) → IsMet game s f v p → Holds game s v p → IsToTry game s v p
+holds_to_try game lawful s fits f v p met holds = record {
+  quiet = holds.quiet;
+  stands = λ wanted stands.
+      let here : s.vertex < length game.board.first = subst (λ (k : ℕ). s.vertex < k) fits.vertices fits.vertex in
+      let below : v < length s.pieces = subst (λ (k : ℕ). v < k) (sym fits.vertices) (met_on_board game lawful.board s f here v p met) in
+      passes_on game lawful.numbered s p wanted stands v below (record { to = v; quiet = holds.quiet; applies = holds.applies });
+}

@@ -1,0 +1,26 @@
+use Rattle.std.proofs.Common.{◌≡◌, ℕ, ◌+◌, ◌*◌, List, sym, subst}
+use Rattle.std.specs.Prelude.{◌↔◌}
+use Rattle.std.specs.Int.{bit_at}
+use Rattle.rbg_rules.specs.Positions.{HasAction}
+use Rattle.rbg_rules.specs.Expression.{on}
+use Rattle.rbg_rules.specs.Table.{Stands}
+use Rattle.rbg_rules.specs.declared.rule.Action.{Action}
+use Rattle.rbg_flat.specs.internal.Passing.{IsOneOf}
+use Rattle.rbg_flat.proofs.ModifierLemmas.{no_on_stands}
+use Rattle.rbg_flat.proofs.ToTry.{on_to_try, other_to_try}
+use Rattle.rbg_flat.proofs.passing.other_to_try.Goals as goal
+
+pub returns-in-On : goal.returns-in-On
+returns-in-On c = λ b small.
+    let s = c.args.state.now.state in
+    let here = c.args.column * 64 + b in
+    let stands : HasAction c.args.game.now.rules c.args.position (on c.in-On.pieces.items) = subst (λ (a : Action). Stands c.args.game.now.rules c.args.position a) c.in-On.is c.action.ensures in
+    let told : (bit_at c.any_standing.result b ≡ 1) ↔ IsOneOf c.in-On.pieces.items s.pieces here = subst (λ (xs : List ℕ). (bit_at c.any_standing.result b ≡ 1) ↔ IsOneOf xs s.pieces here) c.deref.ensures.value (c.any_standing.ensures b small) in
+    let try = on_to_try c.args.game.now c.requires.lawful.numbered s c.args.position c.in-On.pieces.items stands here in
+    (λ set. try.0 (told.0 set), λ is. told.1 (try.1 is))
+
+pub returns-in_default : goal.returns-in_default
+returns-in_default c = λ b small. (
+  λ _. other_to_try c.args.game.now c.requires.lawful.numbered c.args.state.now.state c.args.position c.requires.quiet (no_on_stands c.args.game.now.rules c.requires.lawful.numbered c.args.position c.action.result.now c.action.ensures (λ pieces is. c.in_default.not-On pieces is)) (c.args.column * 64 + b),
+  λ _. c.full_word.ensures b small,
+)
