@@ -1,11 +1,12 @@
 -- Of which kind the actions of the program are.
-use Rattle.std.proofs.Common.{◌≡◌, ℕ, List, [], ◌∷◌, Bool, true, false, inl, inr, refl, sym, ap, subst, ◌∙◌}
+use Rattle.std.proofs.Common.{◌≡◌, ◌<◌, ℕ, List, [], ◌∷◌, Bool, true, false, inl, inr, refl, sym, ap, subst, ◌∙◌, arith}
 use Rattle.rbg_rules.specs.Expression.{AbstractAction, shift, on, off, assignment, comparison, switch, positive, negative, Expression}
 use Rattle.rbg_rules.specs.Positions.{HasAction, IsNumbered, IsModifierAt, IsPatternAt, is_modifier, is_pattern}
 use Rattle.rbg_rules.specs.Table.{Stands}
 use Rattle.rbg_rules.specs.declared.rule.Action.{Action}
 use Rattle.rbg_rules.specs.declared.rule.Action.TheVariants.{Shift, On, Off, Assign, Compare, Switch, Positive, Negative}
 use Rattle.rbg_rules.proofs.PositionLemmas.{one_stands}
+use Rattle.rbg_leaps.proofs.ShiftLemmas.{action_within}
 use Rattle.rbg_flat.specs.declared.paths.Kind.{Kind}
 use Rattle.rbg_flat.specs.declared.paths.Kind.TheVariants.{Modifier, Pattern, On as OnOne, OnEither, Other}
 use Rattle.rbg_flat.specs.Paths.{IsKind}
@@ -84,3 +85,16 @@ no_on_stands rules numbered p (Compare e r f) stands none = no_on_of rules numbe
 no_on_stands rules numbered p (Switch n) stands none = no_on_of rules numbered p (switch n) stands refl
 no_on_stands rules numbered p Positive (x, stands) none = no_on_of rules numbered p (positive x) stands refl
 no_on_stands rules numbered p Negative (x, stands) none = no_on_of rules numbered p (negative x) stands refl
+
+-- No action stands at position 0.
+pub zero_kind : (rules : Expression) → IsNumbered rules → IsKind rules 0 Other
+zero_kind rules numbered = (λ modifier. not_zero (action_within rules numbered 0 modifier.action modifier.stands).0, λ pattern. by_pattern pattern)
+  where
+    not_zero : 0 < 0 → ⊥
+    not_zero h = omega (arith, h)
+
+    by_pattern : IsPatternAt rules 0 → ⊥
+    by_pattern pattern = elim pattern.stands [
+      | inl is ↦ not_zero (action_within rules numbered 0 (positive pattern.inside_it) is).0
+      | inr is ↦ not_zero (action_within rules numbered 0 (negative pattern.inside_it) is).0
+    ]

@@ -23,10 +23,10 @@ IsKind rules p (On x) = HasAction rules p (on (x ∷ []))
 IsKind rules p (OnEither x y) = HasAction rules p (on (x ∷ y ∷ []))
 IsKind rules p Other = (¬ IsModifierAt rules p) × (¬ IsPatternAt rules p)
 
--- What is told of the position is so. No action stands at position 0.
+-- What is told of the position is so.
 pub record AreFacts (game : AbstractGame) (p : ℕ) (told : Facts) : Type 0 where
   pub still : IsTrue told.still → IsStill game.rules p
-  pub kind : 0 < p → IsKind game.rules p told.kind
+  pub kind : IsKind game.rules p told.kind
 
 -- The leaps are those of the game, and the facts of each of its positions are told.
 pub record ArePathsOf (game : AbstractGame) (paths : Paths) : Type 0 where

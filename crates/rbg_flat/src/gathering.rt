@@ -5,7 +5,7 @@ ghost use Rattle.rbg_rules.specs.Positions.{IsModifierAt, positions_of};
 ghost use Rattle.rbg_rules.specs.State.{IsStateOf};
 ghost use Rattle.rbg_flat.specs.Paths.{ArePathsOf};
 ghost use Rattle.rbg_flat.specs.internal.Places.{IsMetAt};
-ghost use Rattle.rbg_flat.specs.internal.Gathering.{IsBitOf, PushesWord, Gathers, Keeps};
+ghost use Rattle.rbg_flat.specs.internal.Gathering.{Gathers, Keeps};
 
 use crate::found::Modifiers;
 use crate::paths::{Kind, Paths};
@@ -14,17 +14,16 @@ use rbg_base::{Memory, Position};
 use rbg_rules::Game;
 use rbg_state::{SemiState, Trial};
 
-/// Whether a modifier stands at a position that is valid: where it is valid at one vertex, it is at each. No action
-/// stands at position 0.
+/// Whether a modifier stands at a position that is valid: where it is valid at one vertex, it is at each.
 #[inline(always)]
 pub(crate) fn keeps(game: &Game, paths: &Paths, state: &SemiState, position: Position) -> bool
     requires lawful { IsGame game.now }
     requires paths { ArePathsOf game.now paths.now }
     requires fits { IsStateOf game.now state.now.state }
     requires there { position ≤ length (positions_of game.now.rules) }
-    ensures { 0 < position → IsTrue result ↔ Keeps game.now state.now.state position }
+    ensures { IsTrue result ↔ Keeps game.now state.now.state position }
 {
-    position != 0 && is_modifier(game, paths, position) && is_kept(game, state, position)
+    is_modifier(game, paths, position) && is_kept(game, state, position)
 }
 
 /// Whether a modifier stands at a position.
@@ -32,7 +31,6 @@ pub(crate) fn keeps(game: &Game, paths: &Paths, state: &SemiState, position: Pos
 fn is_modifier(game: &Game, paths: &Paths, position: Position) -> bool
     requires lawful { IsGame game.now }
     requires paths { ArePathsOf game.now paths.now }
-    requires from_one { 0 < position }
     requires there { position ≤ length (positions_of game.now.rules) }
     ensures { IsTrue result ↔ IsModifierAt game.now.rules position }
 {
@@ -53,26 +51,6 @@ fn is_kept(game: &Game, state: &SemiState, position: Position) -> bool
         Trial::Invalid => false,
         Trial::Pattern => false,
         Trial::LeadsTo(_) => false,
-    }
-}
-
-/// Counts the vertices of a word, and puts them behind what was found where they are kept.
-fn gather_word(
-    found: &mut Modifiers,
-    position: Position,
-    column: usize,
-    word: u64,
-    keeps: bool,
-) -> Result<usize, Memory>
-    requires { column < 2 ^ 25 }
-    ensures { IfOk result (λ many.
-        Gathers (IsBitOf column word) found.old found.new position keeps many 64) }
-{
-    if keeps {
-        found.push_word(position, column, word)?;
-        Ok(count(word))
-    } else {
-        Ok(count(word))
     }
 }
 
@@ -100,11 +78,11 @@ pub(crate) fn gather_place(
     ensures { IfOk result (λ many. Gathers (IsMetAt sets.now place position)
         found.old found.new position keeps many 64) }
 {
-    gather_word(
-        found,
-        position,
-        sets.column_at(place),
-        sets.met_at(place),
-        keeps,
-    )
+    let word = sets.met_at(place);
+    if keeps {
+        found.push_word(position, sets.column_at(place), word)?;
+        Ok(count(word))
+    } else {
+        Ok(count(word))
+    }
 }

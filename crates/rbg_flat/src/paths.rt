@@ -89,7 +89,6 @@ impl Paths {
     #[inline(always)]
     pub(crate) fn kind(&self, game: &Game, position: Position) -> Kind
         requires paths { ArePathsOf game.now self.now }
-        requires from_one { 0 < position }
         requires there { position ≤ length (positions_of game.now.rules) }
         ensures { IsKind game.now.rules position result }
     {
@@ -120,16 +119,11 @@ fn facts_at(game: &Game, position: Position, next: &[Position]) -> Facts
     requires there { position ≤ length (positions_of game.now.rules) }
     requires within { All (IsPositionIn game.now) next.now }
     ensures still { IsTrue result.still → All (λ q. ¬ IsShiftAt game.now.rules q) next.now }
-    ensures kind { 0 < position → IsKind game.now.rules position result.kind }
+    ensures kind { IsKind game.now.rules position result.kind }
 {
-    let kind = if position == 0 {
-        Kind::Other
-    } else {
-        kind_at(game, position)
-    };
     Facts {
         still: no_shift(game, next),
-        kind,
+        kind: kind_at(game, position),
     }
 }
 
@@ -172,13 +166,15 @@ fn shifts(action: &Action) -> bool
     }
 }
 
-/// The kind of the action at a position.
+/// The kind of the action at a position. None stands at position 0.
 fn kind_at(game: &Game, position: Position) -> Kind
     requires lawful { IsGame game.now }
-    requires from_one { 0 < position }
     requires there { position ≤ length (positions_of game.now.rules) }
     ensures { IsKind game.now.rules position result }
 {
+    if position == 0 {
+        return Kind::Other;
+    }
     kind_of(game.action(position))
 }
 

@@ -132,7 +132,8 @@ impl Sets {
     #[inline(always)]
     pub(crate) fn met_at(&self, place: usize) -> u64
         requires place { place < length self.now.marks }
-        ensures { result ≡ slice_index self.now.marks place }
+        ensures is { result ≡ slice_index self.now.marks place }
+        ensures column { place % self.now.columns < self.now.columns }
     {
         self.marks.word(place)
     }

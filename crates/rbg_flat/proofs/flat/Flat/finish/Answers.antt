@@ -28,7 +28,7 @@ loop-place-preserved c =
       closed = λ v p has. is.closed v p (subst (λ (k : ℕ). HasBitAt k c.loop-place.self.sets.pending v p) c.forget.ensures.columns (subst (λ (words : List ℕ). HasBitAt c.forget.new.self.columns words v p) c.forget.ensures.pending has));
       gathered = gathered_more c.args.game.now c.requires.lawful c.args.state.now.state c.args.self.now.sets c.requires.on
           c.loop-place.self.sets c.forget.new.self c.loop-place.found c.gather_place.new.found c.loop-place.many c.in_ok-many.field-0 _ c.in-Some.place c.position_at-position.result c.keeps-keeps.result
-          c.position_at-position.ensures.is is.gathered c.in_ok-many.ensures c.forget.ensures.forgets c.keeps-keeps.ensures;
+          c.position_at-position.ensures.is is.gathered c.in_ok-many.ensures c.forget.ensures.forgets (λ _. c.keeps-keeps.ensures);
     }
 
 pub returns-clause-found : goal.returns-clause-found
