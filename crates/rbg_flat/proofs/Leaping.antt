@@ -18,7 +18,8 @@ use Rattle.rbg_leaps.specs.Leaps.{IsLeap, Leads, stay, go}
 use Rattle.rbg_leaps.specs.Rows.{has_bit}
 use Rattle.rbg_leaps.proofs.ShiftLemmas.{follower_stands, action_within}
 use Rattle.rbg_flat.specs.internal.Sets.{SetsOfVertices, HasBitAt, IsInRow, IsMarked, IsOpen, Meets, ClosesWord}
-use Rattle.rbg_flat.specs.internal.Leading.{IsAmong, IsTargetFor, AreOn}
+use Rattle.rbg_leaps.specs.Limits.{row_words}
+use Rattle.rbg_flat.specs.internal.Leading.{IsAmong, IsTargetFor, AreOn, AreSizedFor}
 
 -- What follows stands in the rules.
 pub within : (game : AbstractGame) → IsNumbered game.rules → (f : Start) (m : List ℕ) (p : ℕ) → Follows game.rules f (m ++ p ∷ []) → (0 < p) × (p ≤ length (positions_of game.rules))
@@ -112,3 +113,11 @@ same_on game old new q c word closing on = record {
   where
     was : (v p : ℕ) → IsMarked new v p → IsMarked old v p
     was v p has = subst (λ (marks : List ℕ). HasBitAt old.columns marks v p) closing.marks (subst (λ (k : ℕ). HasBitAt k new.marks v p) closing.columns has)
+
+-- Sets of the same size are sized for the same game.
+pub same_size : (game : AbstractGame) (old new : SetsOfVertices) → new.size ≡ old.size → new.columns ≡ old.columns → AreSizedFor game old → AreSizedFor game new
+same_size game old new size columns sized = record {
+  size = size ∙ sized.size;
+  columns = subst (λ (k : ℕ). row_words game ≤ k) (sym columns) sized.columns;
+  few = subst (λ (k : ℕ). k ≤ 64) (sym columns) sized.few;
+}

@@ -44,9 +44,9 @@ impl Flat {
     pub fn new(alloc: Global, game: &Game) -> Result<Flat, Memory>
         ensures { IfOk result (λ flat. AreSizedFor game.now flat.sets) }
     {
-        let columns = (game.board().len() + 63) / 64;
+        let shift = doublings((game.board().len() + 63) / 64);
         Ok(Flat {
-            sets: Sets::new(alloc, game.positions() + 1, columns)?,
+            sets: Sets::new(alloc, game.positions() + 1, shift)?,
             ends: false,
         })
     }
@@ -56,7 +56,7 @@ impl Flat {
         ensures { IsTrue result → AreSizedFor game.now self.now.sets }
     {
         self.sets.size() == game.positions() + 1
-            && self.sets.columns() == (game.board().len() + 63) / 64
+            && (game.board().len() + 63) / 64 <= self.sets.columns()
     }
 
     /// Begins anew in a semi-state, at a place in the rules.
@@ -430,6 +430,19 @@ impl Flat {
             rest = without(rest, bit);
         }
     }
+}
+
+/// How often 1 is doubled until it isn't less than a number of words of a row.
+fn doublings(words: usize) -> u32
+    requires { words ≤ 64 }
+    ensures enough { words ≤ 2 ^ result }
+    ensures few { result ≤ 6 }
+{
+    let mut shift = 0;
+    while shift < 6 && 1 << shift < words {
+        shift += 1;
+    }
+    shift
 }
 
 /// Whether a pattern stands at a position that is open at a vertex.

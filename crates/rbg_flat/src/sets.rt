@@ -14,12 +14,16 @@ use std::marker::Model;
 #[derive(Debug, Drop)]
 pub(crate) struct Sets {
     size: usize,
-    /// How many words a row has.
+    /// How many words a row has: 2 to the power of `shift`, so that a place is split into its position and its column
+    /// without a division.
     columns: usize,
+    shift: u32,
     /// What was met.
     marks: BitTable,
     /// What of it is still to be looked at.
     pending: BitTable,
+    ghost doubled: { columns ≡ 2 ^ shift },
+    ghost few: { shift ≤ 6 },
 }
 
 impl Model for Sets {
@@ -44,15 +48,18 @@ impl Model for Sets {
 }
 
 impl Sets {
-    /// Nothing was met yet, for the positions below a size and rows of so many words.
-    pub(crate) fn new(alloc: Global, size: usize, columns: usize) -> Result<Sets, Memory>
-        requires { size * columns < 2 ^ 64 }
+    /// Nothing was met yet, for the positions below a size and rows of 2 to the power of `shift` words.
+    pub(crate) fn new(alloc: Global, size: usize, shift: u32) -> Result<Sets, Memory>
+        requires size { size < 2 ^ 32 }
+        requires few { shift ≤ 6 }
         ensures size { IfOk result (λ sets. sets.size ≡ size) }
-        ensures columns { IfOk result (λ sets. sets.columns ≡ columns) }
+        ensures columns { IfOk result (λ sets. sets.columns ≡ 2 ^ shift) }
     {
+        let columns = 1 << shift;
         Ok(Sets {
             size,
             columns,
+            shift,
             marks: BitTable::new(alloc, size * columns)?,
             pending: BitTable::new(alloc, size * columns)?,
         })
@@ -93,7 +100,8 @@ impl Sets {
 
     /// How many words a row has.
     pub(crate) fn columns(&self) -> usize
-        ensures { result ≡ self.now.columns }
+        ensures is { result ≡ self.now.columns }
+        ensures few { result ≤ 64 }
     {
         self.columns
     }
@@ -106,12 +114,7 @@ impl Sets {
         ensures is { result ≡ place / self.now.columns }
         ensures below { result < self.now.size }
     {
-        // most boards have one word for each position
-        if self.columns <= 1 {
-            place as Position
-        } else {
-            (place / self.columns) as Position
-        }
+        (place >> self.shift) as Position
     }
 
     /// The column of a place.
@@ -121,11 +124,7 @@ impl Sets {
         ensures is { result ≡ place % self.now.columns }
         ensures below { result < self.now.columns }
     {
-        if self.columns <= 1 {
-            0
-        } else {
-            place % self.columns
-        }
+        place & (self.columns - 1)
     }
 
     /// What was met in the word at a place.
@@ -157,7 +156,7 @@ impl Sets {
         ensures marks { result < length self.now.marks }
         ensures pending { result < length self.now.pending }
     {
-        position as usize * self.columns + column
+        ((position as usize) << self.shift) + column
     }
 
     /// Where the row of a position is, where each row has one word.

@@ -14,7 +14,8 @@ use Rattle.rbg_flat.specs.internal.Sets.{SetsOfVertices, IsInRow, IsInWord, IsMa
 -- The sets have a row for each position of the game, and a bit in it for each vertex.
 pub record AreSizedFor (game : AbstractGame) (sets : SetsOfVertices) : Type 0 where
   pub size : sets.size ≡ length (positions_of game.rules) + 1
-  pub columns : sets.columns ≡ row_words game
+  pub columns : row_words game ≤ sets.columns
+  pub few : sets.columns ≤ 64
 
 -- What is marked is on the board, at positions of the game.
 pub record AreOn (game : AbstractGame) (sets : SetsOfVertices) : Type 0 where

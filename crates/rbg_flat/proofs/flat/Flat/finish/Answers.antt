@@ -1,6 +1,7 @@
 use Rattle.std.proofs.Common.{◌∙◌, ℕ, List, refl, sym, subst}
 use Rattle.rbg_flat.specs.internal.Gathering.{Gathered}
 use Rattle.rbg_flat.specs.internal.Sets.{HasBitAt}
+use Rattle.rbg_flat.proofs.Leaping.{same_size}
 use Rattle.rbg_flat.proofs.Finishings.{gathered_none, gathered_more, count_fits, are_found, has_candidates, few_gathered}
 use Rattle.rbg_flat.proofs.flat.Flat.finish.Goals as goal
 
@@ -23,7 +24,7 @@ pub loop-place-preserved : goal.loop-place-preserved
 loop-place-preserved c =
     let is = c.loop-place.invariant in
     record {
-      sized = record { size = c.forget.ensures.size ∙ is.sized.size; columns = c.forget.ensures.columns ∙ is.sized.columns };
+      sized = same_size c.args.game.now c.loop-place.self.sets c.forget.new.self c.forget.ensures.size c.forget.ensures.columns is.sized;
       ends = is.ends;
       closed = λ v p has. is.closed v p (subst (λ (k : ℕ). HasBitAt k c.loop-place.self.sets.pending v p) c.forget.ensures.columns (subst (λ (words : List ℕ). HasBitAt c.forget.new.self.columns words v p) c.forget.ensures.pending has));
       gathered = gathered_more c.args.game.now c.requires.lawful c.args.state.now.state c.args.self.now.sets c.requires.on

@@ -1,5 +1,6 @@
 use Rattle.std.proofs.Common.{◌∙◌}
 use Rattle.rbg_flat.specs.internal.Passing.{IsToTry}
+use Rattle.rbg_flat.proofs.Leaping.{same_size}
 use Rattle.rbg_flat.proofs.Wordwise.{meets_bit, ends_bit, meets_all, ends_all}
 use Rattle.rbg_flat.proofs.flat.Flat.lead_each.Goals as goal
 
@@ -9,7 +10,7 @@ loop-rest-preserved c =
     let out = c.without-rest.ensures in
     let set = is.rest_in c.lowest-bit.result c.lowest-bit.ensures.set in
     record {
-      sized = record { size = c.lead.ensures.met.size ∙ is.sized.size; columns = c.lead.ensures.met.columns ∙ is.sized.columns };
+      sized = same_size c.args.game.now c.loop-rest.self.sets c.lead.new.self.sets c.lead.ensures.met.size c.lead.ensures.met.columns is.sized;
       rest_in = λ b there. is.rest_in b (out.only b there);
       met = meets_bit c.args.game.now c.args.position c.args.column c.args.word (IsToTry c.args.game.now c.args.state.now.state) c.loop-rest.rest c.lowest-bit.result c.without-rest.result c.lowest-bit.ensures.small set out.gone out.only out.others c.args.self.now.sets c.loop-rest.self.sets c.lead.new.self.sets is.met c.lead.ensures.met;
       ends = ends_bit c.args.game.now c.args.position c.args.column c.args.word (IsToTry c.args.game.now c.args.state.now.state) c.loop-rest.rest c.lowest-bit.result c.without-rest.result c.lowest-bit.ensures.small set out.gone out.only out.others c.args.self.now.ends c.loop-rest.self.ends c.lead.new.self.ends is.ends c.lead.ensures.ends;
