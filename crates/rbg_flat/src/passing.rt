@@ -4,7 +4,7 @@ ghost use Rattle.std.specs.Int.{bit_at};
 ghost use Rattle.rbg_rules.specs.Games.{IsGame};
 ghost use Rattle.rbg_rules.specs.Positions.{IsModifierAt, IsPatternAt, positions_of};
 ghost use Rattle.rbg_rules.specs.State.{IsStateOf};
-ghost use Rattle.rbg_flat.specs.Paths.{ArePathsOf};
+ghost use Rattle.rbg_flat.specs.Paths.{ArePathsOf, IsKind};
 ghost use Rattle.rbg_flat.specs.internal.Passing.{Passes, IsOneOf, IsToTry};
 ghost use Rattle.rbg_flat.specs.internal.Leading.{IsOnBoard, IsPositionIn};
 
@@ -31,7 +31,31 @@ pub(crate) fn to_try(
     ensures { (b : ℕ) → b < 64 → (bit_at result b ≡ 1)
         ↔ IsToTry game.now state.now.state (column * 64 + b) position }
 {
+    // most of what is met are ons of one piece, and modifiers
     match paths.kind(game, position) {
+        Kind::On(piece) => standing(state, piece, column),
+        Kind::Modifier => 0,
+        kind => kind_to_try(game, state, position, column, kind),
+    }
+}
+
+/// The same for an action of this kind.
+#[inline(never)]
+fn kind_to_try(
+    game: &Game,
+    state: &SemiState,
+    position: Position,
+    column: usize,
+    kind: Kind,
+) -> u64
+    requires lawful { IsGame game.now }
+    requires position { IsPositionIn game.now position }
+    requires column { column < 2 ^ 25 }
+    requires kind { IsKind game.now.rules position kind }
+    ensures { (b : ℕ) → b < 64 → (bit_at result b ≡ 1)
+        ↔ IsToTry game.now state.now.state (column * 64 + b) position }
+{
+    match kind {
         Kind::Modifier => 0,
         Kind::Pattern => full_word(),
         Kind::On(piece) => standing(state, piece, column),
