@@ -1,5 +1,6 @@
 -- Lemmas, by topic.
 pub mod Fillings
+pub mod Layings
 pub mod RowLemmas
 pub mod ShiftLemmas
 pub mod Sharing

@@ -61,7 +61,7 @@ fn entry_behind(
     let Some(to) = ground.to(vertex, position) else {
         return Entry {
             start: 0,
-            end: 0,
+            many: 0,
             ends: may_end,
         };
     };
@@ -69,7 +69,7 @@ fn entry_behind(
     let ends = behind.ends || may_end;
     Entry {
         start: behind.start,
-        end: behind.end,
+        many: behind.many,
         ends,
     }
 }
@@ -144,7 +144,7 @@ fn place_one(
     requires plain { ¬ IsShiftAt ground.now.rules position }
     ensures { OnOk result (FillsOne ground.now lists.now table.old table.new node vertex) }
 {
-    let row = vertex as usize * table.columns;
+    let row = table.unit(vertex);
     let target = Target { position, row };
     table.put(node, vertex, &[target], lists.shelf.may_end(node))?;
     Ok(())

@@ -35,7 +35,7 @@ pub(crate) fn add(
     words: &mut Vec<u64>,
     columns: usize,
     position: Position,
-    row: usize,
+    row: u32,
 ) -> Result<(), Memory>
     requires row { row + columns ≤ length words.old.items }
     requires rows { All (λ t. t.row + columns ≤ length words.old.items) parts.old.items }
@@ -47,8 +47,8 @@ pub(crate) fn add(
         return Ok(());
     };
     let before = parts[index].row;
-    if !is_under(words, columns, row, before) {
-        let row = push_union(words, columns, before, row)?;
+    if !is_under(words, columns, row as usize, before as usize) {
+        let row = push_union(words, columns, before as usize, row as usize)?;
         parts[index] = Target { position, row };
     }
     Ok(())
@@ -61,7 +61,8 @@ fn add_all(table: &mut Table, parts: &mut Vec<Target>, entry: Entry) -> Result<(
     requires rows { All (λ t. t.row + table.old.columns ≤ length table.old.words.items) parts.old.items }
     ensures { OnOk result (AddsAll table.old table.new parts.old.items parts.new.items entry) }
 {
-    for index in entry.start..entry.end {
+    let start = entry.start as usize;
+    for index in start..start + entry.many as usize {
         let target = table.targets[index];
         table.add_row(parts, target.position, target.row)?;
     }
@@ -93,7 +94,7 @@ fn gather_one(
     ensures told { IfOk result (λ ends. IsToldBy ground.now lists.now table.new parts.new.items ends vertex position) }
 {
     if !ground.is_shift(position) {
-        let row = vertex as usize * table.columns;
+        let row = table.unit(vertex);
         table.add_row(parts, position, row)?;
         return Ok(false);
     }

@@ -24,7 +24,7 @@ pub(crate) struct Lists {
 
 /// The node of a position, or the first one where there is none.
 #[inline(always)]
-fn node_at(nodes: &[usize], position: Position) -> usize
+pub(crate) fn node_at(nodes: &[usize], position: Position) -> usize
     ensures { result ≡ slice_index_or nodes.now position 0 }
 {
     let index = position as usize;
@@ -38,13 +38,6 @@ impl Lists {
         ensures { result ≡ slice_index_or self.now.afters.items position 0 }
     {
         node_at(&self.afters, position)
-    }
-
-    /// The node at the beginning of what is inside a position.
-    pub(crate) fn inside(&self, position: Position) -> usize
-        ensures { result ≡ slice_index_or self.now.insides.items position 0 }
-    {
-        node_at(&self.insides, position)
     }
 }
 

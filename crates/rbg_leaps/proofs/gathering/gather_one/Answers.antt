@@ -1,4 +1,4 @@
-use Rattle.std.proofs.Common.{◌≡◌, ◌*◌, ◌<◌, ◌∙◌, ℕ, List, get_or, true, false, sym, ap, subst}
+use Rattle.std.proofs.Common.{◌≡◌, ◌<◌, ◌∙◌, ℕ, List, get_or, true, false, sym, ap, subst}
 use Rattle.std.specs.Prelude.{Bool, Some, None}
 use Rattle.rbg_rules.specs.Words.{after}
 use Rattle.rbg_leaps.specs.declared.table.Entry.{Entry}
@@ -7,6 +7,7 @@ use Rattle.rbg_leaps.specs.Made.{entry_at}
 use Rattle.rbg_leaps.specs.internal.Shelves.{list_at, may_end_at, IsNodeOf}
 use Rattle.rbg_leaps.specs.internal.Steps.{Comes, IsLeapBy}
 use Rattle.rbg_leaps.specs.internal.Tables.{AreSound, IsSoundEntry, IsUnder, Tells}
+use Rattle.rbg_leaps.specs.internal.Words.{IsUnit}
 use Rattle.rbg_leaps.proofs.Fillings.{entry_grown_same, told_plain, told_nowhere, told_behind, added_under}
 use Rattle.rbg_leaps.proofs.ShiftLemmas.{shift_within}
 use Rattle.rbg_leaps.proofs.Tabling.{unit_row, sound_on, sound_ends_on}
@@ -28,8 +29,8 @@ returns-then-not-is_shift-clause-gathered c =
     let on_board : c.args.vertex < c.args.table.now.vertices = subst (λ (n : ℕ). c.args.vertex < n) (sym c.requires.sound.laid_out.vertices) c.requires.vertex in
     subst (λ (k : ℕ). AreSound (IsLeapBy c.args.ground.now list may_end c.args.vertex) k c.add_row.new.self.words.items c.add_row.new.parts.items) (sym c.in_ok-add_row.ensures.grows.columns)
     (c.in_ok-add_row.ensures.adds.sound c.args.ground.now list may_end c.args.vertex c.requires.gathered
-    (unit_row c.args.ground.now list may_end c.args.table.now.columns c.args.table.now.words.items c.args.vertex c.args.position (c.args.vertex * c.args.table.now.columns)
-    (c.requires.sound.laid_out.units c.args.vertex on_board) c.requires.listed (λ is. not_both (c.is_shift.ensures.1 is) c.if-not-is_shift.true)))
+    (unit_row c.args.ground.now list may_end c.args.table.now.columns c.args.table.now.words.items c.args.vertex c.args.position c.unit-row.result
+    (subst (IsUnit c.args.table.now.columns c.args.table.now.words.items c.args.vertex) (sym c.unit-row.ensures) (c.requires.sound.laid_out.units c.args.vertex on_board)) c.requires.listed (λ is. not_both (c.is_shift.ensures.1 is) c.if-not-is_shift.true)))
 
 pub returns-clause-gathered : goal.returns-clause-gathered
 returns-clause-gathered c =
@@ -70,7 +71,7 @@ returns-then-not-is_shift-clause-told c =
     let on_board : c.args.vertex < c.args.table.now.vertices = subst (λ (n : ℕ). c.args.vertex < n) (sym c.requires.sound.laid_out.vertices) c.requires.vertex in
     told_plain c.args.ground.now c.args.lists.now c.add_row.new.self c.add_row.new.parts.items false c.args.vertex c.args.position (λ is. not_both (c.is_shift.ensures.1 is) c.if-not-is_shift.true)
     (subst (λ (k : ℕ). Tells k c.add_row.new.self.words.items c.add_row.new.parts.items c.args.position c.args.vertex) (sym c.in_ok-add_row.ensures.grows.columns)
-    (c.in_ok-add_row.ensures.adds.has c.args.vertex (c.requires.sound.laid_out.units c.args.vertex on_board).has))
+    (c.in_ok-add_row.ensures.adds.has c.args.vertex (subst (IsUnit c.args.table.now.columns c.args.table.now.words.items c.args.vertex) (sym c.unit-row.ensures) (c.requires.sound.laid_out.units c.args.vertex on_board)).has))
 
 pub returns-in_default-clause-keeps : goal.returns-in_default-clause-keeps
 returns-in_default-clause-keeps c = record { keeps = λ j u told. told }

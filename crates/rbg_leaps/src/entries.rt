@@ -1,0 +1,19 @@
+//! Entries in a list.
+ghost use Rattle.std.specs.Prelude.{◌≡◌, ℕ, All, slice_index_or};
+ghost use Rattle.rbg_leaps.specs.Entries.{IsWithin};
+ghost use Rattle.rbg_leaps.specs.Made.{no_entry};
+
+use crate::table::Entry;
+
+/// The entry in a place, or an empty one where it isn't there.
+#[inline(always)]
+pub(crate) fn entry_in_place(entries: &[Entry], place: usize) -> Entry
+    ensures entry { result ≡ slice_index_or entries.now place no_entry }
+    ensures within { (size : ℕ) → All (IsWithin size) entries.now → IsWithin size result }
+{
+    if place < entries.len() {
+        entries[place]
+    } else {
+        Entry::NONE
+    }
+}
