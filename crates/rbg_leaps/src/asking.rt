@@ -2,7 +2,7 @@
 ghost use Rattle.std.specs.Prelude.{◌*◌, ◌<◌, ◌≤◌, ◌^◌, All, length};
 ghost use Rattle.rbg_leaps.specs.Entries.{IsWithin};
 
-use crate::entries::entry_in_place;
+use crate::entries::find_entry;
 use crate::lists::node_at;
 use crate::origin::Origin;
 use crate::table::{Entry, Table, Target};
@@ -27,22 +27,24 @@ pub struct Leaps {
 }
 
 impl Leaps {
-    ghost use Rattle.std.specs.Prelude.{◌≡◌, ◌*◌, ◌<◌, ◌≤◌, ◌↔◌, IsTrue};
+    ghost use Rattle.std.specs.Prelude.{◌≡◌, ◌*◌, ◌<◌, ◌≤◌, ◌↔◌, IfSome, IfNone, IsTrue};
     ghost use Rattle.rbg_rules.specs.Laws.{IsStart};
     ghost use Rattle.rbg_rules.specs.State.{AbstractGame};
+    ghost use Rattle.rbg_leaps.specs.declared.origin.Origin.TheVariants.{Begin, After};
     ghost use Rattle.rbg_leaps.specs.Leaps.{EndsAcross};
     ghost use Rattle.rbg_leaps.specs.Origin.{start_of};
     ghost use Rattle.rbg_leaps.specs.Asked.{row_of, HasRow, AreTargetsFrom};
-    ghost use Rattle.rbg_leaps.specs.Made.{node_of, entry_in, entry_at, entry_of, AreLeapsOf};
+    ghost use Rattle.rbg_leaps.specs.Made.{no_entry, node_of, entry_of, AreLeapsOf};
 
-    /// The entry of what comes after a position, and of a vertex.
+    /// The entry of what comes after a position, and of a vertex, if it is there.
     #[inline(always)]
-    fn after(&self, position: Position, vertex: Vertex) -> Entry
-        ensures entry { result ≡ entry_in self.now.afters.items self.now.table.vertices position vertex }
-        ensures within { IsWithin (length self.now.table.targets.items) result }
+    fn after(&self, position: Position, vertex: Vertex) -> Option<&Entry>
+        ensures some { IfSome result (λ entry. entry.now ≡ entry_of self.now (After position) vertex) }
+        ensures within { IfSome result (λ entry. IsWithin (length self.now.table.targets.items) entry.now) }
+        ensures none { IfNone result (entry_of self.now (After position) vertex ≡ no_entry) }
     {
         let row = position as usize * self.table.vertices;
-        entry_in_place(&self.afters, row + vertex as usize)
+        find_entry(&self.afters, row + vertex as usize)
     }
 
     /// The node at the beginning of an expression.
@@ -57,21 +59,23 @@ impl Leaps {
         }
     }
 
-    /// The entry of the beginning of an expression, and of a vertex.
+    /// The entry of the beginning of an expression, and of a vertex, if it is there.
     #[inline(always)]
-    fn begin(&self, expr: Expr, vertex: Vertex) -> Entry
-        ensures entry { result ≡ entry_at self.now.table (node_of self.now expr) vertex }
-        ensures within { IsWithin (length self.now.table.targets.items) result }
+    fn begin(&self, expr: Expr, vertex: Vertex) -> Option<&Entry>
+        ensures some { IfSome result (λ entry. entry.now ≡ entry_of self.now (Begin expr) vertex) }
+        ensures within { IfSome result (λ entry. IsWithin (length self.now.table.targets.items) entry.now) }
+        ensures none { IfNone result (entry_of self.now (Begin expr) vertex ≡ no_entry) }
     {
         let row = self.node(expr) * self.table.vertices;
-        entry_in_place(&self.table.entries, row + vertex as usize)
+        find_entry(&self.table.entries, row + vertex as usize)
     }
 
-    /// The entry of an origin and a vertex.
+    /// The entry of an origin and a vertex, if it is there.
     #[inline(always)]
-    fn entry(&self, origin: Origin, vertex: Vertex) -> Entry
-        ensures entry { result ≡ entry_of self.now origin vertex }
-        ensures within { IsWithin (length self.now.table.targets.items) result }
+    fn entry(&self, origin: Origin, vertex: Vertex) -> Option<&Entry>
+        ensures some { IfSome result (λ entry. entry.now ≡ entry_of self.now origin vertex) }
+        ensures within { IfSome result (λ entry. IsWithin (length self.now.table.targets.items) entry.now) }
+        ensures none { IfNone result (entry_of self.now origin vertex ≡ no_entry) }
     {
         match origin {
             Origin::After(position) => self.after(position, vertex),
@@ -90,8 +94,10 @@ impl Leaps {
             → IsStart game.rules (start_of origin)
             → IsTrue result.1 ↔ EndsAcross game (start_of origin) vertex }
     {
-        let entry = self.entry(origin, vertex);
-        (self.table.targets(entry), entry.ends)
+        match self.entry(origin, vertex) {
+            Some(entry) => (self.table.targets_from(entry.start, entry.many), entry.ends),
+            None => (self.table.targets_from(0, 0), false),
+        }
     }
 
     /// The row of a target that has one: its vertices, a bit for each, 64 in a word.

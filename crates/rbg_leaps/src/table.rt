@@ -197,13 +197,22 @@ impl Table {
         (vertex as usize * self.columns) as u32
     }
 
+    /// So many targets, one behind another.
+    #[inline(always)]
+    pub(crate) fn targets_from(&self, start: u32, many: u16) -> &[Target]
+        requires { start + many ≤ length self.now.targets.items }
+        ensures { result.now ≡ slice_range self.now.targets.items start (start + many) }
+    {
+        let start = start as usize;
+        &self.targets[start..start + many as usize]
+    }
+
     /// The targets of an entry.
     #[inline(always)]
     pub(crate) fn targets(&self, entry: Entry) -> &[Target]
         requires { IsWithin (length self.now.targets.items) entry }
         ensures { result.now ≡ targets_of self.now entry }
     {
-        let start = entry.start as usize;
-        &self.targets[start..start + entry.many as usize]
+        self.targets_from(entry.start, entry.many)
     }
 }
