@@ -1,20 +1,12 @@
-use Rattle.std.proofs.Common.{◌≡◌, ◌∙◌, ℕ, Bool, true, false, inl, inr, sym, subst}
-use Rattle.std.specs.Prelude.{IsTrue, Some, None}
+use Rattle.std.proofs.Common.{◌∙◌, inl, inr, sym, subst}
+use Rattle.std.specs.Prelude.{IsTrue}
 use Rattle.rbg_leaps.specs.Made.{no_entry}
 use Rattle.rbg_leaps.specs.internal.Tables.{targets_of}
+use Rattle.rbg_leaps.proofs.Cases.{not_both, no_some, some_same}
 use Rattle.rbg_leaps.proofs.Fillings.{told_nowhere}
 use Rattle.rbg_leaps.proofs.Sharing.{entry_step, shared_told}
 use Rattle.rbg_leaps.proofs.Tabling.{entry_of_none}
 use Rattle.rbg_leaps.proofs.filling.entry_behind.Goals as goal
-
-no_some : {n : ℕ} → None ≡ Some n → ⊥
-no_some e = cc
-
-some_same : {m n : ℕ} → Some m ≡ Some n → n ≡ m
-some_same e = cc
-
-not_both : {b : Bool} → b ≡ true → b ≡ false → ⊥
-not_both e f = cc
 
 pub returns-in_default-clause-sound : goal.returns-in_default-clause-sound
 returns-in_default-clause-sound c = entry_of_none c.args.ground.now c.args.lists.now c.args.table.now c.args.node c.args.vertex c.may_end-may_end.result (λ t. subst IsTrue c.may_end-may_end.ensures t)
