@@ -1,10 +1,9 @@
 //! What one step leads to from a node and a vertex, gathered from the entries that are there.
 ghost use Rattle.std.specs.Prelude.{◌≡◌, ◌≢◌, ℕ, ◌+◌, ◌<◌, ◌≤◌, length, All, Contains, IfOk, OnOk, IfSome, IfNone, IsTrue, slice_index_or};
-ghost use Rattle.rbg_rules.specs.Games.{IsGame};
 ghost use Rattle.rbg_leaps.specs.Entries.{IsWithin};
-ghost use Rattle.rbg_leaps.specs.internal.Shelves.{Extends, AreListsOf, list_at, may_end_at};
+ghost use Rattle.rbg_leaps.specs.internal.Shelves.{Extends, list_at, may_end_at};
 ghost use Rattle.rbg_leaps.specs.internal.Steps.{EndsBy};
-ghost use Rattle.rbg_leaps.specs.internal.Tables.{no_target, AddsRow, AddsAll, IsSoundTable, IsGathered, IsToldBy, IsWhole, Keeps, Grows};
+ghost use Rattle.rbg_leaps.specs.internal.Tables.{no_target, AddsRow, AddsAll, IsRightSoFar, IsGathered, IsToldBy, IsWhole, Keeps, Grows};
 
 use crate::ground::Ground;
 use crate::lists::Lists;
@@ -80,9 +79,7 @@ fn gather_one(
     vertex: Vertex,
     position: Position,
 ) -> Result<bool, Memory>
-    requires lawful { IsGame ground.now }
-    requires lists { AreListsOf ground.now.rules lists.now }
-    requires sound { IsSoundTable ground.now lists.now table.old }
+    requires right { IsRightSoFar ground.now lists.now table.old }
     requires node { node < length lists.now.shelf.nodes.items }
     requires vertex { vertex < length ground.now.board.first }
     requires listed { Contains (list_at lists.now.shelf node) position }
@@ -116,9 +113,7 @@ pub(crate) fn gather(
     node: usize,
     vertex: Vertex,
 ) -> Result<bool, Memory>
-    requires lawful { IsGame ground.now }
-    requires lists { AreListsOf ground.now.rules lists.now }
-    requires sound { IsSoundTable ground.now lists.now table.old }
+    requires right { IsRightSoFar ground.now lists.now table.old }
     requires node { node < length lists.now.shelf.nodes.items }
     requires vertex { vertex < length ground.now.board.first }
     ensures grows { OnOk result (Grows table.old table.new) }

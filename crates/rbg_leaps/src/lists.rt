@@ -1,8 +1,6 @@
 //! What comes next at each place in the rules, as nodes: places with one list have one node.
-ghost use Rattle.std.specs.Prelude.{◌≡◌, ◌+◌, ◌≤◌, length, All, IfOk, slice_index_or};
-ghost use Rattle.rbg_rules.specs.Positions.{positions_of};
+ghost use Rattle.std.specs.Prelude.{◌≡◌, ◌+◌, IfOk, slice_index_or};
 ghost use Rattle.rbg_leaps.specs.internal.Shelves.{AreListsOf};
-ghost use Rattle.rbg_leaps.specs.internal.Steps.{IsUpToLast};
 
 use crate::shelf::Shelf;
 use rbg_auto::{Expr, Steps};

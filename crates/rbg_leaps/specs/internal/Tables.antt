@@ -1,5 +1,6 @@
 -- What a table that is being made tells, whether it is right so far, and whether anything is missing.
 use Rattle.std.specs.Prelude.{◌≡◌, ◌≢◌, ℕ, ◌+◌, ◌*◌, ◌<◌, ◌≤◌, List, ◌++◌, length, slice_range, slice_index_or, Bool, true, false, IsTrue, All, AllPairs, Contains}
+use Rattle.rbg_rules.specs.Games.{IsGame}
 use Rattle.rbg_rules.specs.State.{AbstractGame}
 use Rattle.rbg_leaps.specs.declared.lists.Lists.{Lists}
 use Rattle.rbg_leaps.specs.declared.table.Entry.{Entry}
@@ -11,7 +12,7 @@ use Rattle.rbg_leaps.specs.Limits.{row_words}
 use Rattle.rbg_leaps.specs.Made.{entry_in, entry_at, no_entry}
 use Rattle.rbg_leaps.specs.Rows.{has_bit}
 use Rattle.rbg_leaps.specs.Targets.{row_at}
-use Rattle.rbg_leaps.specs.internal.Shelves.{Extends, list_at, may_end_at}
+use Rattle.rbg_leaps.specs.internal.Shelves.{Extends, list_at, may_end_at, AreListsOf}
 use Rattle.rbg_leaps.specs.internal.Steps.{Comes, IsLeapBy, EndsBy}
 use Rattle.rbg_leaps.specs.internal.Words.{AreUnits}
 
@@ -62,6 +63,14 @@ pub record IsSoundTable (game : AbstractGame) (lists : Lists) (table : Table) : 
   pub sound :
       (n v : ℕ) → n < length lists.shelf.nodes.items → v < table.vertices →
       IsSoundEntry game (list_at lists.shelf n) (may_end_at lists.shelf n) v table (entry_at table n v)
+
+-- What is asked wherever the table of a game is filled: the nodes are those of its rules, and nothing wrong is told.
+abbrev pub IsRightSoFar : AbstractGame → Lists → Table → Type 0
+IsRightSoFar game lists table = record {
+  lawful : IsGame game;
+  nodes : AreListsOf game.rules lists;
+  sound : IsSoundTable game lists table;
+}
 
 -- What an entry tells, the targets tell, and also whether a word may end.
 pub record IsUnder (table : Table) (one : Entry) (targets : List Target) (may_end : Bool) : Type 0 where

@@ -20,7 +20,7 @@ loop-listed-init c =
     let shelf = c.args.lists.now.shelf in
     let game = c.args.ground.now in
     rw c.clear.ensures.items (record {
-      sound = c.requires.sound;
+      sound = c.requires.right.sound;
       grows = grows_none c.args.table.now;
       gathered = sound_none (IsLeapBy game (list_at shelf c.args.node) (may_end_at shelf c.args.node) c.args.vertex) c.args.table.now.columns c.args.table.now.words.items;
       ends_told = λ is. subst IsTrue (sym c.may_end-ends.ensures) is;
