@@ -1,5 +1,6 @@
 -- The steps of the rules, by topic.
 pub mod Steps
+pub mod OfTree
 pub mod Laws
 pub mod Lent
 pub mod internal

@@ -1,9 +1,6 @@
 //! The plain automaton of a game.
-ghost use Rattle.std.specs.Prelude.{◌≡◌, ◌<◌, ◌^◌, List, length, IfOk};
-ghost use Rattle.rbg_rules.specs.declared.rule.Action.{Action};
-ghost use Rattle.rbg_rules.specs.Games.{HasNoEmptySum};
-ghost use Rattle.rbg_rules.specs.Positions.{positions_of, IsNumbered};
-ghost use Rattle.rbg_rules.specs.Translation.{expression_of};
+ghost use Rattle.std.specs.Prelude.{◌<◌, ◌^◌, IfOk};
+ghost use Rattle.rbg_auto.specs.OfTree.{HoldsOfTree};
 ghost use Rattle.rbg_auto.specs.internal.Places.{SetsPlace, FillsTree, FillsSequence, FillsSum, AreBlank};
 
 use crate::plain::{Automaton, Place};
@@ -122,11 +119,7 @@ fn fill_sum(alloc: Global, places: &mut [Place], parts: &[Rule], rest: &Rest) ->
 pub fn compile_tree(alloc: Global, tree: &Rule, positions: usize) -> Result<Automaton, Memory>
     requires { positions < 2 ^ 32 }
     ensures { IfOk result (λ automaton.
-        (actions : List Action) →
-        IsNumbered (expression_of actions tree.now) →
-        HasNoEmptySum (expression_of actions tree.now) →
-        positions ≡ length (positions_of (expression_of actions tree.now)) →
-        ⟦<Automaton as Steps>⟧.of_rules automaton (expression_of actions tree.now)) }
+        HoldsOfTree (⟦<Automaton as Steps>⟧.of_rules automaton) tree.now positions) }
 {
     let mut places = blank(alloc, positions + 1)?;
     let nothing = Rest {

@@ -1,11 +1,9 @@
 //! The automaton of a game, made in one walk over its rules.
-ghost use Rattle.std.specs.Prelude.{◌≡◌, ℕ, ◌<◌, ◌^◌, List, length, IfOk};
-ghost use Rattle.rbg_rules.specs.declared.rule.Action.{Action};
+ghost use Rattle.std.specs.Prelude.{ℕ, ◌<◌, ◌^◌, IfOk};
 ghost use Rattle.rbg_rules.specs.Expression.{Expression, on};
-ghost use Rattle.rbg_rules.specs.Games.{HasNoEmptySum};
-ghost use Rattle.rbg_rules.specs.Positions.{HasAction, positions_of, IsNumbered};
+ghost use Rattle.rbg_rules.specs.Positions.{HasAction};
 ghost use Rattle.rbg_rules.specs.Table.{Stands};
-ghost use Rattle.rbg_rules.specs.Translation.{expression_of};
+ghost use Rattle.rbg_auto.specs.OfTree.{HoldsOfTree};
 ghost use Rattle.rbg_auto.specs.Steps.{IsGlance};
 
 use crate::arrays::Compact;
@@ -21,11 +19,7 @@ use std::alloc::Global;
 pub fn compact_tree(alloc: Global, tree: &Rule, positions: usize) -> Result<Compact, Memory>
     requires { positions < 2 ^ 32 }
     ensures { IfOk result (λ automaton.
-        (actions : List Action) →
-        IsNumbered (expression_of actions tree.now) →
-        HasNoEmptySum (expression_of actions tree.now) →
-        positions ≡ length (positions_of (expression_of actions tree.now)) →
-        ⟦<Compact as Steps>⟧.of_rules automaton (expression_of actions tree.now)) }
+        HoldsOfTree (⟦<Compact as Steps>⟧.of_rules automaton) tree.now positions) }
 {
     let mut walk = Walk::new(alloc, positions + 1)?;
     let rules = walk.lay_level(tree)?;

@@ -1,7 +1,7 @@
 -- Nothing is missing where all was gathered, and that stays so.
 use Rattle.std.proofs.Common.{◌≡◌, ◌≢◌, ℕ, ◌+◌, ◌*◌, ◌<◌, ◌≤◌, ◌⊎◌, List, [], ◌∷◌, length, get_or, take, set, Bool, true, false, refl, sym, ap, ◌∙◌, subst, inl, inr, zero, suc, arith}
 use Rattle.std.specs.Prelude.{All, Contains, IsTrue, slice_range, replicate}
-use Rattle.std.proofs.lemmas.List.{length-append, length-take-le, length-drop, get_or-set_same, get_or-set_other}
+use Rattle.std.proofs.lemmas.List.{length-take-le, length-drop, get_or-set_same, get_or-set_other}
 use Rattle.std.proofs.lemmas.List.Elements.{All-contains}
 use Rattle.std.proofs.Math.ListN.{get_or-eq_default}
 use Rattle.std.proofs.lemmas.Slice.{between_is}
@@ -10,7 +10,7 @@ use Rattle.rbg_leaps.specs.declared.lists.Lists.{Lists}
 use Rattle.rbg_leaps.specs.declared.table.Entry.{Entry}
 use Rattle.rbg_leaps.specs.declared.table.Table.{Table}
 use Rattle.rbg_leaps.specs.declared.table.Target.{Target}
-use Rattle.rbg_leaps.specs.Entries.{IsWithin}
+use Rattle.rbg_leaps.specs.Entries.{end_of, IsWithin}
 use Rattle.rbg_leaps.specs.Leaps.{IsShiftAt}
 use Rattle.rbg_leaps.specs.Made.{entry_at, no_entry}
 use Rattle.rbg_leaps.specs.Rows.{has_bit}
@@ -20,13 +20,13 @@ use Rattle.rbg_leaps.specs.internal.Tables.{no_target, Tells, targets_of, TellsA
 use Rattle.rbg_leaps.specs.internal.Words.{IsUnit}
 use Rattle.rbg_leaps.proofs.RowLemmas.{below_or_not, same_or_not, one_place, same_item, extends_none, extends_more, extends_by, part_extended, row_extended, LastPlace, before, last, last_place}
 use Rattle.rbg_leaps.proofs.Steppings.{ends_here}
-use Rattle.rbg_leaps.proofs.Tabling.{part_item, part_last, sound_none, grows_none, adds_new, unit_row, table_put}
+use Rattle.rbg_leaps.proofs.Tabling.{part_item, part_put, sound_none, grows_none, adds_new, unit_row, table_put}
 
 -- Each entry of a table is within its targets, and their rows within its words.
 pub within_at : (t : Table) (n v : ℕ) → IsWithin (length t.targets.items) (entry_at t n v)
 within_at t n v = elim (below_or_not (n * t.vertices + v) (length t.entries.items)) [
   | inl there ↦ t.within (n * t.vertices + v) no_entry there
-  | inr far ↦ subst (IsWithin (length t.targets.items)) (sym (get_or-eq_default t.entries.items no_entry far)) (record { starts = omega arith; ends = omega arith })
+  | inr far ↦ subst (IsWithin (length t.targets.items)) (sym (get_or-eq_default t.entries.items no_entry far)) (record { ends = omega arith })
 ]
 
 part_short : {X : Type 0} (xs : List X) (a b i : ℕ) → b ≤ length xs → i < length (slice_range xs a b) → a + i < b
@@ -36,14 +36,14 @@ part_short xs a b i within below =
     let rest = length-drop a (take b xs) in
     omega (arith, same, front, rest, below)
 
-pub target_short : (t : Table) (e : Entry) → IsWithin (length t.targets.items) e → (i : ℕ) → i < length (targets_of t e) → e.start + i < e.end
-target_short t e within i below = part_short t.targets.items e.start e.end i within.ends below
+pub target_short : (t : Table) (e : Entry) → IsWithin (length t.targets.items) e → (i : ℕ) → i < length (targets_of t e) → e.start + i < end_of e
+target_short t e within i below = part_short t.targets.items e.start (end_of e) i within.ends below
 
 rows_of : (t : Table) (e : Entry) → IsWithin (length t.targets.items) e → All (λ x. x.row + t.columns ≤ length t.words.items) (targets_of t e)
 rows_of t e within = λ i d below.
-    let short : e.start + i < e.end = target_short t e within i below in
+    let short : e.start + i < end_of e = target_short t e within i below in
     let ends = within.ends in
-    subst (λ (x : Target). x.row + t.columns ≤ length t.words.items) (sym (part_item t.targets.items e.start e.end i d short)) (t.rows (e.start + i) d (omega (arith, short, ends)))
+    subst (λ (x : Target). x.row + t.columns ≤ length t.words.items) (sym (part_item t.targets.items e.start (end_of e) i d short)) (t.rows (e.start + i) d (omega (arith, short, ends)))
 
 -- What is told by rows that are there doesn't change when words are appended.
 tells_longer : (columns : ℕ) (old new : List ℕ) → Extends old new → (ts : List Target) → All (λ t. t.row + columns ≤ length old) ts → (j u : ℕ) → Tells columns old ts j u → Tells columns new ts j u
@@ -64,7 +64,7 @@ tells_shorter columns old new extends ts rows j u told = record {
 
 pub tells_forth : (old new : Table) → new.columns ≡ old.columns → Extends old.targets.items new.targets.items → Extends old.words.items new.words.items → (e : Entry) → IsWithin (length old.targets.items) e → (j u : ℕ) → TellsAt old e j u → TellsAt new e j u
 tells_forth old new columns targets words e within j u told =
-    subst (λ (ts : List Target). Tells new.columns new.words.items ts j u) (sym (part_extended old.targets.items new.targets.items targets e.start e.end within.ends))
+    subst (λ (ts : List Target). Tells new.columns new.words.items ts j u) (sym (part_extended old.targets.items new.targets.items targets e.start (end_of e) within.ends))
     (subst (λ (c : ℕ). Tells c new.words.items (targets_of old e) j u) (sym columns)
     (tells_longer old.columns old.words.items new.words.items words (targets_of old e) (rows_of old e within) j u told))
 
@@ -72,7 +72,7 @@ pub tells_back : (old new : Table) → new.columns ≡ old.columns → Extends o
 tells_back old new columns targets words e within j u told =
     tells_shorter old.columns old.words.items new.words.items words (targets_of old e) (rows_of old e within) j u
     (subst (λ (c : ℕ). Tells c new.words.items (targets_of old e) j u) columns
-    (subst (λ (ts : List Target). Tells new.columns new.words.items ts j u) (part_extended old.targets.items new.targets.items targets e.start e.end within.ends) told))
+    (subst (λ (ts : List Target). Tells new.columns new.words.items ts j u) (part_extended old.targets.items new.targets.items targets e.start (end_of e) within.ends) told))
 
 -- What one step leads to is told still where no less is told, and no more where a shift leads.
 pub told_on : (game : AbstractGame) (lists : Lists) (old new : Table) (first behind : List Target) (one two : Bool) (v p : ℕ) → new.vertices ≡ old.vertices → new.columns ≡ old.columns → Extends old.targets.items new.targets.items → Extends old.words.items new.words.items → ((j u : ℕ) → Tells old.columns old.words.items first j u → Tells new.columns new.words.items behind j u) → (IsTrue one → IsTrue two) → ((w : ℕ) → IsShiftAt game.rules p → w < old.vertices → entry_at new (get_or lists.afters.items p 0) w ≡ entry_at old (get_or lists.afters.items p 0) w) → IsToldBy game lists old first one v p → IsToldBy game lists new behind two v p
@@ -218,7 +218,7 @@ one_put game lists old middle new n v ts may_end below grows puts sound whole = 
   beside = λ w differ small. beside n w (other_vertex middle.vertices n v w differ) ∙ entry_grown_same old middle grows n w;
   closed = λ away.
       subst (λ (e : Entry). IsWhole game lists new n v (targets_of new e) e.ends) (sym puts.here)
-      (subst (λ (xs : List Target). IsWhole game lists new n v xs may_end) (sym part) (record {
+      (subst (λ (xs : List Target). IsWhole game lists new n v xs may_end) (sym (part_put middle new n v ts may_end puts)) (record {
         ends = whole.ends;
         told = all_told_on game lists middle new ts ts may_end may_end v (list_at lists.shelf n) (λ p there. told_on game lists middle new ts ts may_end may_end v p puts.vertices puts.columns targets words keeps (λ t. t)
             (λ w s small. beside (get_or lists.afters.items p 0) w (other_node middle.vertices n v (get_or lists.afters.items p 0) w (inside v below) small (away p there s)))) whole.told;
@@ -236,12 +236,6 @@ one_put game lists old middle new n v ts may_end below grows puts sound whole = 
 
     beside : (m w : ℕ) → m * middle.vertices + w ≢ n * middle.vertices + v → entry_at new m w ≡ entry_at middle m w
     beside m w differ = entry_apart middle new n v m w puts.vertices puts.others differ
-
-    long : length new.targets.items ≡ length middle.targets.items + length ts
-    long = ap length puts.are_targets ∙ length-append middle.targets.items ts
-
-    part : slice_range new.targets.items (length middle.targets.items) (length new.targets.items) ≡ ts
-    part = ap (λ (xs : List Target). slice_range xs (length middle.targets.items) (length new.targets.items)) puts.are_targets ∙ part_last middle.targets.items ts (length new.targets.items) long
 
     keeps : (j u : ℕ) → Tells middle.columns middle.words.items ts j u → Tells new.columns new.words.items ts j u
     keeps j u told =

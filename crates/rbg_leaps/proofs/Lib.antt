@@ -1,5 +1,7 @@
 -- Lemmas, by topic.
+pub mod Cases
 pub mod Fillings
+pub mod Layings
 pub mod RowLemmas
 pub mod ShiftLemmas
 pub mod Sharing

@@ -16,18 +16,37 @@ use Rattle.rbg_leaps.proofs.Fillings.{told_behind}
 use Rattle.rbg_leaps.proofs.ShiftLemmas.{shift_within}
 use Rattle.rbg_leaps.proofs.Tabling.{entry_on}
 
-pub entry_step : (game : AbstractGame) → IsNumbered game.rules → (lists : Lists) → AreListsOf game.rules lists → (table : Table) → IsSoundTable game lists table → (n v p w k : ℕ) (e : Entry) → Contains (list_at lists.shelf n) p → IsShiftAt game.rules p → Comes game v p w → w < length game.board.first → k ≡ get_or lists.afters.items p 0 → e ≡ entry_at table k w → (ends : Bool) → (IsTrue ends → IsTrue e.ends ⊎ IsTrue (may_end_at lists.shelf n)) → IsSoundEntry game (list_at lists.shelf n) (may_end_at lists.shelf n) v table (record { start = e.start; end = e.end; ends = ends })
+-- The entry behind a shift is that of a node, and is right there.
+pub record IsRightBehind (game : AbstractGame) (lists : Lists) (table : Table) (p w : ℕ) (e : Entry) : Type 0 where
+  pub node : IsNodeOf game.rules lists.shelf (after p) (get_or lists.afters.items p 0)
+  pub sound :
+      IsSoundEntry game (list_at lists.shelf (get_or lists.afters.items p 0)) (may_end_at lists.shelf (get_or lists.afters.items p 0)) w table e
+
+pub right_behind : (game : AbstractGame) → IsNumbered game.rules → (lists : Lists) → AreListsOf game.rules lists → (table : Table) → IsSoundTable game lists table → (p w k : ℕ) (e : Entry) → IsShiftAt game.rules p → w < length game.board.first → k ≡ get_or lists.afters.items p 0 → e ≡ entry_at table k w → IsRightBehind game lists table p w e
+right_behind game numbered lists are table right p w k e is below behind at = record {
+  node = node;
+  sound = subst (IsSoundEntry game (list_at lists.shelf m) (may_end_at lists.shelf m) w table) (sym same) (right.sound m w node.there on_board);
+}
+  where
+    m : ℕ
+    m = get_or lists.afters.items p 0
+
+    node : IsNodeOf game.rules lists.shelf (after p) m
+    node = are.after_each p (shift_within game.rules numbered p is)
+
+    on_board : w < table.vertices
+    on_board = subst (λ (many : ℕ). w < many) (sym right.laid_out.vertices) below
+
+    same : e ≡ entry_at table m w
+    same = at ∙ ap (λ (i : ℕ). entry_at table i w) behind
+
+pub entry_step : (game : AbstractGame) → IsNumbered game.rules → (lists : Lists) → AreListsOf game.rules lists → (table : Table) → IsSoundTable game lists table → (n v p w k : ℕ) (e : Entry) → Contains (list_at lists.shelf n) p → IsShiftAt game.rules p → Comes game v p w → w < length game.board.first → k ≡ get_or lists.afters.items p 0 → e ≡ entry_at table k w → (ends : Bool) → (IsTrue ends → IsTrue e.ends ⊎ IsTrue (may_end_at lists.shelf n)) → IsSoundEntry game (list_at lists.shelf n) (may_end_at lists.shelf n) v table (record { start = e.start; many = e.many; ends = ends })
 entry_step game numbered lists are table right n v p w k e there is comes below behind at ends either =
-    let m : ℕ = get_or lists.afters.items p 0 in
-    let node : IsNodeOf game.rules lists.shelf (after p) m = are.after_each p (shift_within game.rules numbered p is) in
-    let on_board : w < table.vertices = subst (λ (many : ℕ). w < many) (sym right.laid_out.vertices) below in
-    let same : e ≡ entry_at table m w = at ∙ ap (λ (i : ℕ). entry_at table i w) behind in
-    let sound : IsSoundEntry game (list_at lists.shelf m) (may_end_at lists.shelf m) w table e =
-    subst (IsSoundEntry game (list_at lists.shelf m) (may_end_at lists.shelf m) w table) (sym same) (right.sound m w node.there on_board) in
-    entry_on game numbered lists table n v p w m e there is comes node sound ends either
+    let before = right_behind game numbered lists are table right p w k e is below behind at in
+    entry_on game numbered lists table n v p w (get_or lists.afters.items p 0) e there is comes before.node before.sound ends either
 
 -- What is told behind the only shift is told by an entry that shares its targets.
-pub shared_told : (game : AbstractGame) (lists : Lists) (table : Table) → IsSoundTable game lists table → (v p to k : ℕ) (e : Entry) (ends : Bool) → IsShiftAt game.rules p → ((w : ℕ) → Comes game v p w → w ≡ to) → to < length game.board.first → k ≡ get_or lists.afters.items p 0 → e ≡ entry_at table k to → (IsTrue e.ends → IsTrue ends) → IsToldAt game lists table (record { start = e.start; end = e.end; ends = ends }) v p
+pub shared_told : (game : AbstractGame) (lists : Lists) (table : Table) → IsSoundTable game lists table → (v p to k : ℕ) (e : Entry) (ends : Bool) → IsShiftAt game.rules p → ((w : ℕ) → Comes game v p w → w ≡ to) → to < length game.board.first → k ≡ get_or lists.afters.items p 0 → e ≡ entry_at table k to → (IsTrue e.ends → IsTrue ends) → IsToldAt game lists table (record { start = e.start; many = e.many; ends = ends }) v p
 shared_told game lists table right v p to k e ends is only below behind at more =
     let on_board : to < table.vertices = subst (λ (many : ℕ). to < many) (sym right.laid_out.vertices) below in
     let same : e ≡ entry_at table (get_or lists.afters.items p 0) to = at ∙ ap (λ (i : ℕ). entry_at table i to) behind in

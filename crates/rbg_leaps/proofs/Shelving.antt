@@ -8,15 +8,14 @@ use Rattle.rbg_rules.specs.Laws.{IsStart}
 use Rattle.rbg_rules.specs.State.{AbstractGame}
 use Rattle.rbg_rules.specs.Words.{Start, beginning, after}
 use Rattle.rbg_auto.specs.declared.steps.Expr.TheVariants.{Rules, Inside}
-use Rattle.rbg_leaps.specs.declared.asking.Leaps.{Leaps}
+use Rattle.rbg_leaps.specs.declared.lists.Lists.{Lists}
 use Rattle.rbg_leaps.specs.declared.origin.Origin.{Origin}
 use Rattle.rbg_leaps.specs.declared.origin.Origin.TheVariants.{Begin, After}
 use Rattle.rbg_leaps.specs.declared.shelf.Node.{Node}
 use Rattle.rbg_leaps.specs.declared.shelf.Shelf.{Shelf}
-use Rattle.rbg_leaps.specs.Made.{node_of}
 use Rattle.rbg_leaps.specs.Origin.{start_of}
 use Rattle.rbg_leaps.specs.internal.Spans.{IsNodeWithin, no_node}
-use Rattle.rbg_leaps.specs.internal.Shelves.{node_in, list_at, may_end_at, IsKept, ExtendsShelf, IsNodeOf, AreListsUpTo, AreListsOf}
+use Rattle.rbg_leaps.specs.internal.Shelves.{node_in, list_at, may_end_at, IsKept, ExtendsShelf, IsNodeOf, AreListsUpTo, origin_node, AreListsOf}
 use Rattle.rbg_leaps.specs.internal.Steps.{IsAnswerAt}
 use Rattle.rbg_leaps.proofs.RowLemmas.{extends_none, extends_more, part_extended, item_extended, longer, LastPlace, before, last, last_place}
 use Rattle.rbg_leaps.proofs.ShiftLemmas.{action_within}
@@ -101,7 +100,7 @@ level_within game numbered p x (inl h) = (action_within game.rules numbered p (p
 level_within game numbered p x (inr h) = (action_within game.rules numbered p (negative x) h).1
 
 -- The node of an origin is that of the place where one stands.
-pub node_there : (game : AbstractGame) → IsNumbered game.rules → (leaps : Leaps) → AreListsOf game.rules leaps.lists → (origin : Origin) → IsStart game.rules (start_of origin) → IsNodeOf game.rules leaps.lists.shelf (start_of origin) (node_of leaps origin)
-node_there game numbered leaps are (Begin Rules) start = are.begins
-node_there game numbered leaps are (Begin (Inside p)) (x, level) = let small = level_within game numbered p x level in are.inside_each p (omega (arith, small))
-node_there game numbered leaps are (After p) (a, stands) = let small = (action_within game.rules numbered p a stands).1 in are.after_each p (omega (arith, small))
+pub node_there : (game : AbstractGame) → IsNumbered game.rules → (lists : Lists) → AreListsOf game.rules lists → (origin : Origin) → IsStart game.rules (start_of origin) → IsNodeOf game.rules lists.shelf (start_of origin) (origin_node lists origin)
+node_there game numbered lists are (Begin Rules) start = are.begins
+node_there game numbered lists are (Begin (Inside p)) (x, level) = let small = level_within game numbered p x level in are.inside_each p (omega (arith, small))
+node_there game numbered lists are (After p) (a, stands) = let small = (action_within game.rules numbered p a stands).1 in are.after_each p (omega (arith, small))

@@ -20,6 +20,7 @@ use Rattle.rbg_rules.proofs.PatternLemmas.{own_stands, stands_inside, word_own}
 use Rattle.rbg_auto.specs.Steps.{AreAllThatFollow}
 use Rattle.rbg_leaps.specs.Leaps.{IsShiftAt}
 use Rattle.rbg_leaps.specs.internal.Steps.{AreDirections, AreDirectionsUpTo, Comes, by_shift, by_other, IsUpToLast}
+use Rattle.rbg_leaps.proofs.Cases.{no_some}
 
 -- An action of a level stands in the rules.
 level_stands : (rules : Expression) (level : Level) (x : Expression) → IsLevel rules level x → (p : ℕ) (a : AbstractAction) → HasAction x p a → HasAction rules p a
@@ -95,9 +96,6 @@ shift_is rules numbered p d h Negative (x, stands) = absurd (no (one_stands rule
   where
     no : {x : Expression} {d : ℕ} → negative x ≡ shift d → ⊥
     no is = cc
-
-no_some : {d : ℕ} → None ≡ Some d → ⊥
-no_some e = cc
 
 -- No direction yet: only position 0 was looked at.
 abbrev pub nothing : List (Option ℕ)

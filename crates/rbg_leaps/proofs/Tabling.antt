@@ -10,15 +10,14 @@ use Rattle.std.proofs.Math.Nat.{mul-le-mul_right}
 use Rattle.rbg_rules.specs.Positions.{IsNumbered}
 use Rattle.rbg_rules.specs.State.{AbstractGame}
 use Rattle.rbg_rules.specs.Words.{Start, after}
-use Rattle.rbg_leaps.specs.declared.asking.Leaps.{Leaps}
 use Rattle.rbg_leaps.specs.declared.lists.Lists.{Lists}
 use Rattle.rbg_leaps.specs.declared.table.Entry.{Entry}
 use Rattle.rbg_leaps.specs.declared.table.Table.{Table}
 use Rattle.rbg_leaps.specs.declared.table.Target.{Target}
 use Rattle.rbg_leaps.specs.Leaps.{IsShiftAt, IsLeap}
+use Rattle.rbg_leaps.specs.Entries.{end_of}
 use Rattle.rbg_leaps.specs.Limits.{row_words}
-use Rattle.rbg_leaps.specs.Made.{entry_at, no_entry, node_of, IsEntry, AreLeapsOf}
-use Rattle.rbg_leaps.specs.Origin.{start_of}
+use Rattle.rbg_leaps.specs.Made.{entry_at, no_entry, IsEntry}
 use Rattle.rbg_leaps.specs.Rows.{has_bit}
 use Rattle.rbg_leaps.specs.Targets.{row_at}
 use Rattle.rbg_leaps.specs.internal.Shelves.{Extends, list_at, may_end_at, IsNodeOf, AreListsOf}
@@ -26,7 +25,6 @@ use Rattle.rbg_leaps.specs.internal.Steps.{Comes, IsLeapBy, EndsBy}
 use Rattle.rbg_leaps.specs.internal.Tables.{no_target, Tells, IsRowOf, AreSound, targets_of, TellsAt, IsSoundEntry, IsSoundTable, Grows, IsGathered, Puts, Shares, AddsRow, AddsUpTo, AddsAll, IsFilled, IsClosed, StaysClosed, AreClosedFrom}
 use Rattle.rbg_leaps.specs.internal.Words.{IsUnion, IsUnit, AreUnits}
 use Rattle.rbg_leaps.proofs.RowLemmas.{below_or_not, same_or_not, one_place, extends_none, extends_more, extends_by, longer, part_extended, item_extended, row_extended, units_extended, LastPlace, before, last, last_place}
-use Rattle.rbg_leaps.proofs.Shelving.{node_there}
 use Rattle.rbg_leaps.proofs.Steppings.{leap_here, leap_on, ends_here, ends_on, all_told, all_ends_told}
 
 -- What is in a list doesn't depend on the default.
@@ -220,10 +218,10 @@ grows_words t new vertices columns entries targets words = record {
 -- An entry stays sound where targets and words are appended.
 entry_grown : (game : AbstractGame) (list : List ℕ) (may_end : Bool) (v : ℕ) (old new : Table) → new.columns ≡ old.columns → Extends old.targets.items new.targets.items → Extends old.words.items new.words.items → (e : Entry) → IsSoundEntry game list may_end v old e → IsSoundEntry game list may_end v new e
 entry_grown game list may_end v old new columns targets words e is = record {
-  within = record { starts = is.within.starts; ends = let long = longer old.targets.items new.targets.items targets in let within = is.within.ends in omega (arith, long, within) };
+  within = record { ends = let long = longer old.targets.items new.targets.items targets in let within = is.within.ends in omega (arith, long, within) };
   targets =
       subst (λ (k : ℕ). AreSound (IsLeapBy game list may_end v) k new.words.items (targets_of new e)) (sym columns)
-      (subst (λ (ts : List Target). AreSound (IsLeapBy game list may_end v) old.columns new.words.items ts) (sym (part_extended old.targets.items new.targets.items targets e.start e.end is.within.ends))
+      (subst (λ (ts : List Target). AreSound (IsLeapBy game list may_end v) old.columns new.words.items ts) (sym (part_extended old.targets.items new.targets.items targets e.start (end_of e) is.within.ends))
       (sound_grown (IsLeapBy game list may_end v) old.columns old.words.items new.words.items words (targets_of old e) is.targets));
   ends = is.ends;
 }
@@ -289,13 +287,19 @@ table_set game lists old new n v e below is vertices columns targets words size 
         subst (IsSoundEntry game (list_at lists.shelf m) (may_end_at lists.shelf m) w new) (sym same)
         (entry_grown game (list_at lists.shelf m) (may_end_at lists.shelf m) w old new columns targets words (entry_at old m w) (is.sound m w there small))
 
+-- The targets of an entry that was put into its place are its own.
+pub part_put : (old new : Table) (n v : ℕ) (ts : List Target) (ends : Bool) → Puts old new n v ts ends → slice_range new.targets.items (length old.targets.items) (length old.targets.items + length ts) ≡ ts
+part_put old new n v ts ends puts =
+    ap (λ (xs : List Target). slice_range xs (length old.targets.items) (length old.targets.items + length ts)) puts.are_targets
+    ∙ part_last old.targets.items ts (length old.targets.items + length ts) refl
+
 -- .. with what was gathered,
 pub table_put : (game : AbstractGame) (lists : Lists) (old new : Table) (n v : ℕ) (ts : List Target) (ends : Bool) → v < old.vertices → IsSoundTable game lists old → Puts old new n v ts ends → IsGathered game lists old n v ts → (IsTrue ends → EndsBy game (list_at lists.shelf n) (may_end_at lists.shelf n) v) → IsSoundTable game lists new
 table_put game lists old new n v ts ends below is puts gathered end =
     table_set game lists old new n v entry below is puts.vertices puts.columns (extends_by old.targets.items new.targets.items ts puts.are_targets) words puts.size puts.here puts.others (record {
-      within = record { starts = omega (arith, long); ends = omega arith };
+      within = record { ends = omega (arith, long) };
       targets =
-          subst (λ (xs : List Target). AreSound (IsLeapBy game (list_at lists.shelf n) (may_end_at lists.shelf n) v) new.columns new.words.items xs) (sym part)
+          subst (λ (xs : List Target). AreSound (IsLeapBy game (list_at lists.shelf n) (may_end_at lists.shelf n) v) new.columns new.words.items xs) (sym (part_put old new n v ts ends puts))
           (subst (λ (k : ℕ). AreSound (IsLeapBy game (list_at lists.shelf n) (may_end_at lists.shelf n) v) k new.words.items ts) (sym puts.columns)
           (sound_grown (IsLeapBy game (list_at lists.shelf n) (may_end_at lists.shelf n) v) old.columns old.words.items new.words.items words ts gathered));
       ends = end;
@@ -305,13 +309,10 @@ table_put game lists old new n v ts ends below is puts gathered end =
     words = subst (Extends old.words.items) (sym puts.words) (extends_none old.words.items)
 
     entry : Entry
-    entry = record { start = length old.targets.items; end = length new.targets.items; ends = ends }
+    entry = record { start = length old.targets.items; many = length ts; ends = ends }
 
     long : length new.targets.items ≡ length old.targets.items + length ts
     long = ap length puts.are_targets ∙ length-append old.targets.items ts
-
-    part : slice_range new.targets.items (length old.targets.items) (length new.targets.items) ≡ ts
-    part = ap (λ (xs : List Target). slice_range xs (length old.targets.items) (length new.targets.items)) puts.are_targets ∙ part_last old.targets.items ts (length new.targets.items) long
 
 -- .. or with targets that are there.
 pub table_shared : (game : AbstractGame) (lists : Lists) (old new : Table) (n v : ℕ) (e : Entry) → v < old.vertices → IsSoundTable game lists old → Shares old new n v e → IsSoundEntry game (list_at lists.shelf n) (may_end_at lists.shelf n) v old e → IsSoundTable game lists new
@@ -335,7 +336,7 @@ blank_table game lists t places vertices columns many entries units = record {
     units = units;
   };
   sound = λ n v there below. subst (IsSoundEntry game (list_at lists.shelf n) (may_end_at lists.shelf n) v t) (sym (none n v)) (record {
-    within = record { starts = omega arith; ends = omega arith };
+    within = record { ends = omega arith };
     targets = sound_none (IsLeapBy game (list_at lists.shelf n) (may_end_at lists.shelf n) v) t.columns t.words.items;
     ends = λ is. absurd (false_not_true is);
   });
@@ -374,7 +375,7 @@ adds_none t ts e rows = record {
 }
 
 -- All that is behind the end was added too.
-pub adds_all : (old new : Table) (first behind : List Target) (e : Entry) (place : ℕ) → e.end ≤ place → AddsUpTo old new first behind e place → AddsAll old new first behind e
+pub adds_all : (old new : Table) (first behind : List Target) (e : Entry) (place : ℕ) → end_of e ≤ place → AddsUpTo old new first behind e place → AddsAll old new first behind e
 adds_all old new first behind e place far adds = record {
   grows = adds.grows;
   rows = adds.rows;
@@ -383,7 +384,7 @@ adds_all old new first behind e place far adds = record {
   has = λ i u below is. adds.has i u (omega (arith, below, far)) is;
 }
 
-pub adds_one : (old middle new : Table) (first between behind : List Target) (e : Entry) (k : ℕ) (d : Target) → e.start ≤ k → k < e.end → e.end ≤ length old.targets.items → AddsUpTo old middle first between e k → Grows middle new → AddsRow middle.columns middle.words.items new.words.items between behind (get_or middle.targets.items k d).position (get_or middle.targets.items k d).row → AddsUpTo old new first behind e (k + 1)
+pub adds_one : (old middle new : Table) (first between behind : List Target) (e : Entry) (k : ℕ) (d : Target) → e.start ≤ k → k < end_of e → end_of e ≤ length old.targets.items → AddsUpTo old middle first between e k → Grows middle new → AddsRow middle.columns middle.words.items new.words.items between behind (get_or middle.targets.items k d).position (get_or middle.targets.items k d).row → AddsUpTo old new first behind e (k + 1)
 adds_one old middle new first between behind e k d starts ends within adds grows adds_row = record {
   grows = grows_more old middle new adds.grows grows;
   rows = subst (λ (c : ℕ). All (λ x. x.row + c ≤ length new.words.items) behind) (sym grows.columns) adds_row.rows;
@@ -398,12 +399,12 @@ adds_one old middle new first between behind e k d starts ends within adds grows
     go_on j u told = subst (λ (c : ℕ). Tells c new.words.items behind j u) (sym grows.columns) (adds_row.keeps j u told)
 
     there_at : (n : ℕ) → e.start + n ≡ k → n < length (targets_of old e)
-    there_at n same = part_long old.targets.items e.start e.end n within (omega (arith, same, ends))
+    there_at n same = part_long old.targets.items e.start (end_of e) n within (omega (arith, same, ends))
 
     target_at : (n : ℕ) → e.start + n ≡ k → get_or (targets_of old e) n no_target ≡ get_or middle.targets.items k d
     target_at n same =
         any_default (targets_of old e) n no_target d (there_at n same)
-        ∙ part_item old.targets.items e.start e.end n d (omega (arith, same, ends))
+        ∙ part_item old.targets.items e.start (end_of e) n d (omega (arith, same, ends))
         ∙ ap (λ (j : ℕ). get_or old.targets.items j d) same
         ∙ sym (item_extended old.targets.items middle.targets.items adds.grows.targets k d (omega (arith, ends, within)))
 
@@ -412,7 +413,7 @@ adds_one old middle new first between behind e k d starts ends within adds grows
     has_at n u (last same) is =
         let own : Target = get_or (targets_of old e) n no_target in
         let in_row : own.row + old.columns ≤ length old.words.items =
-        subst (λ (t : Target). t.row + old.columns ≤ length old.words.items) (sym (any_default (targets_of old e) n no_target d (there_at n same) ∙ part_item old.targets.items e.start e.end n d (omega (arith, same, ends))))
+        subst (λ (t : Target). t.row + old.columns ≤ length old.words.items) (sym (any_default (targets_of old e) n no_target d (there_at n same) ∙ part_item old.targets.items e.start (end_of e) n d (omega (arith, same, ends))))
         (old.rows (e.start + n) d (omega (arith, same, ends, within))) in
         let bit : has_bit (row_at middle.columns middle.words.items own.row) u ≡ true =
         subst (λ (c : ℕ). has_bit (row_at c middle.words.items own.row) u ≡ true) (sym adds.grows.columns)
@@ -429,13 +430,13 @@ adds_one old middle new first between behind e k d starts ends within adds grows
 
     target : get_or (targets_of old e) i d ≡ get_or middle.targets.items k d
     target =
-        part_item old.targets.items e.start e.end i d (let same = at in omega (arith, same, ends))
+        part_item old.targets.items e.start (end_of e) i d (let same = at in omega (arith, same, ends))
         ∙ ap (λ (j : ℕ). get_or old.targets.items j d) at
         ∙ sym (item_extended old.targets.items middle.targets.items adds.grows.targets k d (omega (arith, ends, within)))
 
     row : (game : AbstractGame) (list : List ℕ) (may_end : Bool) (v : ℕ) → AreSound (IsLeapBy game list may_end v) old.columns old.words.items (targets_of old e) → IsRowOf (IsLeapBy game list may_end v (get_or middle.targets.items k d).position) middle.columns middle.words.items (get_or middle.targets.items k d).row
     row game list may_end v are =
-        let there : i < length (targets_of old e) = part_long old.targets.items e.start e.end i within (let same = at in omega (arith, same, ends)) in
+        let there : i < length (targets_of old e) = part_long old.targets.items e.start (end_of e) i within (let same = at in omega (arith, same, ends)) in
         subst (λ (t : Target). IsRowOf (IsLeapBy game list may_end v t.position) middle.columns middle.words.items t.row) target
         (subst (λ (c : ℕ). IsRowOf (IsLeapBy game list may_end v (get_or (targets_of old e) i d).position) c middle.words.items (get_or (targets_of old e) i d).row) (sym adds.grows.columns)
         (row_grown (IsLeapBy game list may_end v (get_or (targets_of old e) i d).position) old.columns old.words.items middle.words.items adds.grows.words (get_or (targets_of old e) i d).row (are.rows i d there)))
@@ -463,9 +464,9 @@ pub sound_ends_on : (game : AbstractGame) → IsNumbered game.rules → (lists :
 sound_ends_on game numbered lists table n v p w m e there is comes node sound ends = ends_on game numbered (list_at lists.shelf n) (may_end_at lists.shelf n) v p w there is comes (list_at lists.shelf m) (may_end_at lists.shelf m) node.answer (sound.ends ends)
 
 -- The entry behind a shift, as the entry before it.
-pub entry_on : (game : AbstractGame) → IsNumbered game.rules → (lists : Lists) (table : Table) (n v p w m : ℕ) (e : Entry) → Contains (list_at lists.shelf n) p → IsShiftAt game.rules p → Comes game v p w → IsNodeOf game.rules lists.shelf (after p) m → IsSoundEntry game (list_at lists.shelf m) (may_end_at lists.shelf m) w table e → (ends : Bool) → (IsTrue ends → IsTrue e.ends ⊎ IsTrue (may_end_at lists.shelf n)) → IsSoundEntry game (list_at lists.shelf n) (may_end_at lists.shelf n) v table (record { start = e.start; end = e.end; ends = ends })
+pub entry_on : (game : AbstractGame) → IsNumbered game.rules → (lists : Lists) (table : Table) (n v p w m : ℕ) (e : Entry) → Contains (list_at lists.shelf n) p → IsShiftAt game.rules p → Comes game v p w → IsNodeOf game.rules lists.shelf (after p) m → IsSoundEntry game (list_at lists.shelf m) (may_end_at lists.shelf m) w table e → (ends : Bool) → (IsTrue ends → IsTrue e.ends ⊎ IsTrue (may_end_at lists.shelf n)) → IsSoundEntry game (list_at lists.shelf n) (may_end_at lists.shelf n) v table (record { start = e.start; many = e.many; ends = ends })
 entry_on game numbered lists table n v p w m e there is comes node sound ends either = record {
-  within = record { starts = sound.within.starts; ends = sound.within.ends };
+  within = record { ends = sound.within.ends };
   targets = sound_on game numbered lists table n v p w m e there is comes node sound;
   ends = λ t. by (either t);
 }
@@ -475,9 +476,9 @@ entry_on game numbered lists table n v p w m e there is comes node sound ends ei
     by (inr t) = ends_here game (list_at lists.shelf n) (may_end_at lists.shelf n) v t
 
 -- An entry without targets.
-pub entry_of_none : (game : AbstractGame) (lists : Lists) (table : Table) (n v : ℕ) (ends : Bool) → (IsTrue ends → IsTrue (may_end_at lists.shelf n)) → IsSoundEntry game (list_at lists.shelf n) (may_end_at lists.shelf n) v table (record { start = 0; end = 0; ends = ends })
+pub entry_of_none : (game : AbstractGame) (lists : Lists) (table : Table) (n v : ℕ) (ends : Bool) → (IsTrue ends → IsTrue (may_end_at lists.shelf n)) → IsSoundEntry game (list_at lists.shelf n) (may_end_at lists.shelf n) v table (record { start = 0; many = 0; ends = ends })
 entry_of_none game lists table n v ends only = record {
-  within = record { starts = omega arith; ends = omega arith };
+  within = record { ends = omega arith };
   targets = sound_none (IsLeapBy game (list_at lists.shelf n) (may_end_at lists.shelf n) v) table.columns table.words.items;
   ends = λ t. ends_here game (list_at lists.shelf n) (may_end_at lists.shelf n) v (only t);
 }
@@ -541,13 +542,6 @@ module _ (game : AbstractGame) (numbered : IsNumbered game.rules) (lists : Lists
     };
     ends = (λ is. (sound.ends is).ends f node.answer, λ end. all_ends_told game numbered lists are table filled.sound.laid_out.vertices filled.closed f n v node below end.shifts end.leads end.ends);
   }
-
--- The leaps of a game are those of a filled table.
-pub are_leaps : (game : AbstractGame) → IsNumbered game.rules → (leaps : Leaps) → AreListsOf game.rules leaps.lists → IsFilled game leaps.lists leaps.table → AreLeapsOf game leaps
-are_leaps game numbered leaps are filled = record {
-  columns = filled.sound.laid_out.columns;
-  entries = λ origin v below start. filled_entry game numbered leaps.lists are leaps.table filled (start_of origin) (node_of leaps origin) v (node_there game numbered leaps are origin start) below;
-}
 
 -- One node more at which nothing is missing.
 pub one_more_node : (game : AbstractGame) (lists : Lists) (old new : Table) (many n : ℕ) → n + 1 + many ≡ length lists.shelf.nodes.items → AreClosedFrom game lists old many → StaysClosed game lists old new n → AreClosedFrom game lists new (many + 1)

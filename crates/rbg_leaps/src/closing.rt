@@ -10,22 +10,22 @@ use crate::gathering::index_of;
 use crate::ground::Ground;
 use crate::lists::Lists;
 use crate::rows::is_under;
-use crate::table::{Entry, Table, Target};
+use crate::table::{Entry, Table};
 use rbg_base::{Position, Vertex};
 
-/// Whether an entry tells of all vertices of a target at its position.
-fn tells(table: &Table, entry: Entry, target: Target) -> bool
+/// Whether an entry tells of all vertices of a row at a position.
+fn tells(table: &Table, entry: Entry, position: Position, row: usize) -> bool
     requires within { IsWithin (length table.now.targets.items) entry }
-    requires row { target.row + table.now.columns ≤ length table.now.words.items }
+    requires row { row + table.now.columns ≤ length table.now.words.items }
     ensures { IsTrue result → (u : ℕ)
-        → has_bit (row_at table.now.columns table.now.words.items target.row) u ≡ true
-        → TellsAt table.now entry target.position u }
+        → has_bit (row_at table.now.columns table.now.words.items row) u ≡ true
+        → TellsAt table.now entry position u }
 {
     let targets = table.targets(entry);
-    match index_of(targets, target.position) {
+    match index_of(targets, position) {
         Some(index) => {
-            let row = targets[index].row;
-            row == target.row || is_under(&table.words, table.columns, target.row, row)
+            let other = targets[index].row as usize;
+            other == row || is_under(&table.words, table.columns, row, other)
         }
         None => false,
     }
@@ -34,9 +34,9 @@ fn tells(table: &Table, entry: Entry, target: Target) -> bool
 /// Whether two entries share their targets.
 fn have_same_targets(entry: Entry, other: Entry) -> bool
     ensures start { IsTrue result → entry.start ≡ other.start }
-    ensures end { IsTrue result → entry.end ≡ other.end }
+    ensures many { IsTrue result → entry.many ≡ other.many }
 {
-    entry.start == other.start && entry.end == other.end
+    entry.start == other.start && entry.many == other.many
 }
 
 /// Whether an entry tells of all targets of another one.
@@ -49,7 +49,7 @@ fn tells_targets(table: &Table, entry: Entry, other: Entry) -> bool
         return true;
     }
     for target in table.targets(other) {
-        if !tells(table, entry, *target) {
+        if !tells(table, entry, target.position, target.row as usize) {
             return false;
         }
     }
@@ -84,7 +84,7 @@ fn is_told(
 {
     if !ground.is_shift(position) {
         let row = vertex as usize * table.columns;
-        return tells(table, entry, Target { position, row });
+        return tells(table, entry, position, row);
     }
     match ground.to(vertex, position) {
         Some(to) => tells_all(table, entry, table.entry(lists.after(position), to)),

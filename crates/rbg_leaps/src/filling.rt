@@ -5,7 +5,7 @@ ghost use Rattle.rbg_leaps.specs.Entries.{IsWithin};
 ghost use Rattle.rbg_leaps.specs.Leaps.{IsShiftAt};
 ghost use Rattle.rbg_leaps.specs.internal.Shelves.{AreListsOf, list_at, may_end_at};
 ghost use Rattle.rbg_leaps.specs.internal.Steps.{IsOnly};
-ghost use Rattle.rbg_leaps.specs.internal.Tables.{IsSoundEntry, IsSoundTable, IsToldAt, FillsOne, FillsUpTo, FillsRightly, LeadsAway, LeadsToMarked, IsMarked, AreFilled};
+ghost use Rattle.rbg_leaps.specs.internal.Tables.{IsSoundEntry, IsRightSoFar, IsToldAt, FillsOne, FillsUpTo, FillsRightly, LeadsAway, LeadsToMarked, IsMarked, AreFilled};
 
 use crate::gathering::gather;
 use crate::ground::Ground;
@@ -24,9 +24,7 @@ fn fill_one(
     node: usize,
     vertex: Vertex,
 ) -> Result<(), Memory>
-    requires lawful { IsGame ground.now }
-    requires lists { AreListsOf ground.now.rules lists.now }
-    requires sound { IsSoundTable ground.now lists.now table.old }
+    requires right { IsRightSoFar ground.now lists.now table.old }
     requires node { node < length lists.now.shelf.nodes.items }
     requires vertex { vertex < length ground.now.board.first }
     ensures { OnOk result (FillsOne ground.now lists.now table.old table.new node vertex) }
@@ -46,9 +44,7 @@ fn entry_behind(
     vertex: Vertex,
     position: Position,
 ) -> Entry
-    requires lawful { IsGame ground.now }
-    requires lists { AreListsOf ground.now.rules lists.now }
-    requires sound { IsSoundTable ground.now lists.now table.now }
+    requires right { IsRightSoFar ground.now lists.now table.now }
     requires vertex { vertex < length ground.now.board.first }
     requires listed { Contains (list_at lists.now.shelf node) position }
     requires shift { IsShiftAt ground.now.rules position }
@@ -61,7 +57,7 @@ fn entry_behind(
     let Some(to) = ground.to(vertex, position) else {
         return Entry {
             start: 0,
-            end: 0,
+            many: 0,
             ends: may_end,
         };
     };
@@ -69,7 +65,7 @@ fn entry_behind(
     let ends = behind.ends || may_end;
     Entry {
         start: behind.start,
-        end: behind.end,
+        many: behind.many,
         ends,
     }
 }
@@ -84,9 +80,7 @@ fn share_one(
     vertex: Vertex,
     position: Position,
 )
-    requires lawful { IsGame ground.now }
-    requires lists { AreListsOf ground.now.rules lists.now }
-    requires sound { IsSoundTable ground.now lists.now table.old }
+    requires right { IsRightSoFar ground.now lists.now table.old }
     requires node { node < length lists.now.shelf.nodes.items }
     requires vertex { vertex < length ground.now.board.first }
     requires only { IsOnly (list_at lists.now.shelf node) position }
@@ -113,9 +107,7 @@ fn share_node(
     node: usize,
     position: Position,
 )
-    requires lawful { IsGame ground.now }
-    requires lists { AreListsOf ground.now.rules lists.now }
-    requires sound { IsSoundTable ground.now lists.now table.old }
+    requires right { IsRightSoFar ground.now lists.now table.old }
     requires node { node < length lists.now.shelf.nodes.items }
     requires only { IsOnly (list_at lists.now.shelf node) position }
     requires shift { IsShiftAt ground.now.rules position }
@@ -136,15 +128,14 @@ fn place_one(
     vertex: Vertex,
     position: Position,
 ) -> Result<(), Memory>
-    requires lawful { IsGame ground.now }
-    requires sound { IsSoundTable ground.now lists.now table.old }
+    requires right { IsRightSoFar ground.now lists.now table.old }
     requires node { node < length lists.now.shelf.nodes.items }
     requires vertex { vertex < length ground.now.board.first }
     requires only { IsOnly (list_at lists.now.shelf node) position }
     requires plain { ¬ IsShiftAt ground.now.rules position }
     ensures { OnOk result (FillsOne ground.now lists.now table.old table.new node vertex) }
 {
-    let row = vertex as usize * table.columns;
+    let row = table.unit(vertex);
     let target = Target { position, row };
     table.put(node, vertex, &[target], lists.shelf.may_end(node))?;
     Ok(())
@@ -158,8 +149,7 @@ fn place_node(
     node: usize,
     position: Position,
 ) -> Result<(), Memory>
-    requires lawful { IsGame ground.now }
-    requires sound { IsSoundTable ground.now lists.now table.old }
+    requires right { IsRightSoFar ground.now lists.now table.old }
     requires node { node < length lists.now.shelf.nodes.items }
     requires only { IsOnly (list_at lists.now.shelf node) position }
     requires plain { ¬ IsShiftAt ground.now.rules position }
@@ -179,9 +169,7 @@ fn fill_forwards(
     ground: &Ground<'_>,
     node: usize,
 ) -> Result<(), Memory>
-    requires lawful { IsGame ground.now }
-    requires lists { AreListsOf ground.now.rules lists.now }
-    requires sound { IsSoundTable ground.now lists.now table.old }
+    requires right { IsRightSoFar ground.now lists.now table.old }
     requires node { node < length lists.now.shelf.nodes.items }
     ensures { OnOk result (FillsUpTo ground.now lists.now table.old table.new node (length ground.now.board.first)) }
 {
@@ -199,9 +187,7 @@ fn fill_backwards(
     ground: &Ground<'_>,
     node: usize,
 ) -> Result<(), Memory>
-    requires lawful { IsGame ground.now }
-    requires lists { AreListsOf ground.now.rules lists.now }
-    requires sound { IsSoundTable ground.now lists.now table.old }
+    requires right { IsRightSoFar ground.now lists.now table.old }
     requires node { node < length lists.now.shelf.nodes.items }
     ensures { OnOk result (FillsRightly ground.now lists.now table.old table.new node) }
 {
@@ -221,9 +207,7 @@ fn fill_once(
     ground: &Ground<'_>,
     node: usize,
 ) -> Result<(), Memory>
-    requires lawful { IsGame ground.now }
-    requires lists { AreListsOf ground.now.rules lists.now }
-    requires sound { IsSoundTable ground.now lists.now table.old }
+    requires right { IsRightSoFar ground.now lists.now table.old }
     requires node { node < length lists.now.shelf.nodes.items }
     ensures { OnOk result (FillsUpTo ground.now lists.now table.old table.new node (length ground.now.board.first)) }
 {
@@ -273,9 +257,7 @@ pub(crate) fn fill_again(
     ground: &Ground<'_>,
     node: usize,
 ) -> Result<(), Memory>
-    requires lawful { IsGame ground.now }
-    requires lists { AreListsOf ground.now.rules lists.now }
-    requires sound { IsSoundTable ground.now lists.now table.old }
+    requires right { IsRightSoFar ground.now lists.now table.old }
     requires node { node < length lists.now.shelf.nodes.items }
     ensures { OnOk result (FillsRightly ground.now lists.now table.old table.new node) }
 {
@@ -336,9 +318,7 @@ fn fill_node(
     ground: &Ground<'_>,
     node: usize,
 ) -> Result<(), Memory>
-    requires lawful { IsGame ground.now }
-    requires lists { AreListsOf ground.now.rules lists.now }
-    requires sound { IsSoundTable ground.now lists.now table.old }
+    requires right { IsRightSoFar ground.now lists.now table.old }
     requires node { node < length lists.now.shelf.nodes.items }
     ensures { OnOk result (FillsUpTo ground.now lists.now table.old table.new node (length ground.now.board.first)) }
 {
@@ -407,9 +387,7 @@ pub(crate) fn fill_in_order(
     lists: &Lists,
     ground: &Ground<'_>,
 ) -> Result<Vec<bool>, Memory>
-    requires lawful { IsGame ground.now }
-    requires lists { AreListsOf ground.now.rules lists.now }
-    requires sound { IsSoundTable ground.now lists.now table.old }
+    requires right { IsRightSoFar ground.now lists.now table.old }
     ensures { IfOk result (λ filled. AreFilled ground.now lists.now table.new filled.items) }
 {
     let nodes = lists.shelf.nodes.len();

@@ -1,10 +1,9 @@
 //! What one step leads to from a node and a vertex, gathered from the entries that are there.
 ghost use Rattle.std.specs.Prelude.{◌≡◌, ◌≢◌, ℕ, ◌+◌, ◌<◌, ◌≤◌, length, All, Contains, IfOk, OnOk, IfSome, IfNone, IsTrue, slice_index_or};
-ghost use Rattle.rbg_rules.specs.Games.{IsGame};
 ghost use Rattle.rbg_leaps.specs.Entries.{IsWithin};
-ghost use Rattle.rbg_leaps.specs.internal.Shelves.{Extends, AreListsOf, list_at, may_end_at};
+ghost use Rattle.rbg_leaps.specs.internal.Shelves.{Extends, list_at, may_end_at};
 ghost use Rattle.rbg_leaps.specs.internal.Steps.{EndsBy};
-ghost use Rattle.rbg_leaps.specs.internal.Tables.{no_target, AddsRow, AddsAll, IsSoundTable, IsGathered, IsToldBy, IsWhole, Keeps, Grows};
+ghost use Rattle.rbg_leaps.specs.internal.Tables.{no_target, AddsRow, AddsAll, IsRightSoFar, IsGathered, IsToldBy, IsWhole, Keeps, Grows};
 
 use crate::ground::Ground;
 use crate::lists::Lists;
@@ -35,7 +34,7 @@ pub(crate) fn add(
     words: &mut Vec<u64>,
     columns: usize,
     position: Position,
-    row: usize,
+    row: u32,
 ) -> Result<(), Memory>
     requires row { row + columns ≤ length words.old.items }
     requires rows { All (λ t. t.row + columns ≤ length words.old.items) parts.old.items }
@@ -47,8 +46,8 @@ pub(crate) fn add(
         return Ok(());
     };
     let before = parts[index].row;
-    if !is_under(words, columns, row, before) {
-        let row = push_union(words, columns, before, row)?;
+    if !is_under(words, columns, row as usize, before as usize) {
+        let row = push_union(words, columns, before as usize, row as usize)?;
         parts[index] = Target { position, row };
     }
     Ok(())
@@ -61,7 +60,8 @@ fn add_all(table: &mut Table, parts: &mut Vec<Target>, entry: Entry) -> Result<(
     requires rows { All (λ t. t.row + table.old.columns ≤ length table.old.words.items) parts.old.items }
     ensures { OnOk result (AddsAll table.old table.new parts.old.items parts.new.items entry) }
 {
-    for index in entry.start..entry.end {
+    let start = entry.start as usize;
+    for index in start..start + entry.many as usize {
         let target = table.targets[index];
         table.add_row(parts, target.position, target.row)?;
     }
@@ -79,9 +79,7 @@ fn gather_one(
     vertex: Vertex,
     position: Position,
 ) -> Result<bool, Memory>
-    requires lawful { IsGame ground.now }
-    requires lists { AreListsOf ground.now.rules lists.now }
-    requires sound { IsSoundTable ground.now lists.now table.old }
+    requires right { IsRightSoFar ground.now lists.now table.old }
     requires node { node < length lists.now.shelf.nodes.items }
     requires vertex { vertex < length ground.now.board.first }
     requires listed { Contains (list_at lists.now.shelf node) position }
@@ -93,7 +91,7 @@ fn gather_one(
     ensures told { IfOk result (λ ends. IsToldBy ground.now lists.now table.new parts.new.items ends vertex position) }
 {
     if !ground.is_shift(position) {
-        let row = vertex as usize * table.columns;
+        let row = table.unit(vertex);
         table.add_row(parts, position, row)?;
         return Ok(false);
     }
@@ -115,9 +113,7 @@ pub(crate) fn gather(
     node: usize,
     vertex: Vertex,
 ) -> Result<bool, Memory>
-    requires lawful { IsGame ground.now }
-    requires lists { AreListsOf ground.now.rules lists.now }
-    requires sound { IsSoundTable ground.now lists.now table.old }
+    requires right { IsRightSoFar ground.now lists.now table.old }
     requires node { node < length lists.now.shelf.nodes.items }
     requires vertex { vertex < length ground.now.board.first }
     ensures grows { OnOk result (Grows table.old table.new) }

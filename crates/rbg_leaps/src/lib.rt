@@ -3,9 +3,11 @@
 
 mod asking;
 mod closing;
+mod entries;
 mod filling;
 mod gathering;
 mod ground;
+mod laying;
 mod lists;
 mod making;
 mod origin;

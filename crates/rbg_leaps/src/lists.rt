@@ -1,8 +1,6 @@
 //! What comes next at each place in the rules, as nodes: places with one list have one node.
-ghost use Rattle.std.specs.Prelude.{◌≡◌, ◌+◌, ◌≤◌, length, All, IfOk, slice_index_or};
-ghost use Rattle.rbg_rules.specs.Positions.{positions_of};
+ghost use Rattle.std.specs.Prelude.{◌≡◌, ◌+◌, IfOk, slice_index_or};
 ghost use Rattle.rbg_leaps.specs.internal.Shelves.{AreListsOf};
-ghost use Rattle.rbg_leaps.specs.internal.Steps.{IsUpToLast};
 
 use crate::shelf::Shelf;
 use rbg_auto::{Expr, Steps};
@@ -24,7 +22,7 @@ pub(crate) struct Lists {
 
 /// The node of a position, or the first one where there is none.
 #[inline(always)]
-fn node_at(nodes: &[usize], position: Position) -> usize
+pub(crate) fn node_at(nodes: &[usize], position: Position) -> usize
     ensures { result ≡ slice_index_or nodes.now position 0 }
 {
     let index = position as usize;
@@ -38,13 +36,6 @@ impl Lists {
         ensures { result ≡ slice_index_or self.now.afters.items position 0 }
     {
         node_at(&self.afters, position)
-    }
-
-    /// The node at the beginning of what is inside a position.
-    pub(crate) fn inside(&self, position: Position) -> usize
-        ensures { result ≡ slice_index_or self.now.insides.items position 0 }
-    {
-        node_at(&self.insides, position)
     }
 }
 

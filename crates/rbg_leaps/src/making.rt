@@ -5,6 +5,7 @@ ghost use Rattle.rbg_leaps.specs.Made.{AreLeapsOf};
 
 use crate::asking::Leaps;
 use crate::ground::Ground;
+use crate::laying::laid_out;
 use crate::lists::lists_of;
 use crate::rounds::fill;
 use crate::shifts::directions;
@@ -34,5 +35,6 @@ pub fn leaps<S: Steps>(alloc: Global, game: &Game, steps: &S) -> Result<Option<L
     let ground = Ground::new(game, &directions);
     let lists = lists_of(alloc, game, steps)?;
     let table = fill(alloc, &lists, &ground)?;
-    Ok(Some(Leaps { lists, table }))
+    let laid = laid_out(alloc, lists, table, &ground)?;
+    Ok(Some(laid))
 }

@@ -2,7 +2,7 @@
 ghost use Rattle.std.specs.Prelude.{◌≡◌, ◌<◌, length, false, IfOk, OnOk, IsTrue};
 ghost use Rattle.rbg_rules.specs.Games.{IsGame};
 ghost use Rattle.rbg_leaps.specs.internal.Shelves.{AreListsOf};
-ghost use Rattle.rbg_leaps.specs.internal.Tables.{IsSoundTable, StaysClosed, AreClosedAt, AreAllClosed, IsFilled, FillsRightly, AreFilled};
+ghost use Rattle.rbg_leaps.specs.internal.Tables.{IsSoundTable, IsRightSoFar, StaysClosed, AreClosedAt, AreAllClosed, IsFilled, FillsRightly, AreFilled};
 
 use crate::closing::is_closed;
 use crate::filling::{fill_again, fill_in_order, is_marked, leads_away};
@@ -21,9 +21,7 @@ fn mend(
     ground: &Ground<'_>,
     node: usize,
 ) -> Result<bool, Memory>
-    requires lawful { IsGame ground.now }
-    requires lists { AreListsOf ground.now.rules lists.now }
-    requires sound { IsSoundTable ground.now lists.now table.old }
+    requires right { IsRightSoFar ground.now lists.now table.old }
     requires node { node < length lists.now.shelf.nodes.items }
     ensures fills { OnOk result (FillsRightly ground.now lists.now table.old table.new node) }
     ensures closed { IfOk result (λ missing. missing ≡ false
@@ -43,9 +41,7 @@ fn round(
     lists: &Lists,
     ground: &Ground<'_>,
 ) -> Result<bool, Memory>
-    requires lawful { IsGame ground.now }
-    requires lists { AreListsOf ground.now.rules lists.now }
-    requires sound { IsSoundTable ground.now lists.now table.old }
+    requires right { IsRightSoFar ground.now lists.now table.old }
     ensures sound { OnOk result (IsSoundTable ground.now lists.now table.new) }
     ensures closed { IfOk result (λ missing. missing ≡ false → AreAllClosed ground.now lists.now table.new) }
 {

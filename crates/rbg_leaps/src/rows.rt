@@ -7,7 +7,7 @@ ghost use Rattle.rbg_leaps.specs.internal.Shelves.{Extends};
 ghost use Rattle.rbg_leaps.specs.internal.Words.{IsUnion, AreUnits, AddsUnit};
 
 use rbg_base::Memory;
-use std::alloc::Global;
+use std::alloc::{AllocError, Global};
 
 /// Whether each bit of one row is a bit of the other.
 #[inline(always)]
@@ -26,25 +26,29 @@ pub(crate) fn is_under(words: &[u64], columns: usize, one: usize, other: usize) 
     true
 }
 
-/// Appends a row with the bits of two rows. Returns where it begins.
+/// Appends a row with the bits of two rows. Returns where it begins. Memory is said to be out where a target can't name
+/// that: behind 4,294,967,295 words, which take 32 gigabytes.
 #[inline(always)]
 pub(crate) fn push_union(
     words: &mut Vec<u64>,
     columns: usize,
     one: usize,
     other: usize,
-) -> Result<usize, Memory>
+) -> Result<u32, Memory>
     requires one { one + columns ≤ length words.old.items }
     requires other { other + columns ≤ length words.old.items }
     ensures extends { Extends words.old.items words.new.items }
     ensures union { IfOk result (IsUnion columns words.old.items words.new.items one other) }
 {
     let row = words.len();
+    if row > u32::MAX as usize {
+        return Err(AllocError);
+    }
     for column in 0..columns {
         let word = words[one + column] | words[other + column];
         words.push(word)?;
     }
-    Ok(row)
+    Ok(row as u32)
 }
 
 /// A word of the row that has a vertex alone.

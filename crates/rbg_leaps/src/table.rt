@@ -2,23 +2,27 @@
 ghost use Rattle.std.specs.Prelude.{◌+◌, ◌≤◌, All, length};
 ghost use Rattle.rbg_leaps.specs.Entries.{IsWithin};
 
+use crate::entries::entry_in_place;
 use crate::gathering::add;
 use rbg_base::{Memory, Position, Vertex};
-use std::alloc::Global;
+use std::alloc::{AllocError, Global};
 
 /// A position to which a leap leads, and the row of its vertices.
 #[derive(Debug, Clone, Copy, Drop)]
 pub struct Target {
     pub position: Position,
     /// Where its row begins among all words.
-    pub(crate) row: usize,
+    pub(crate) row: u32,
 }
 
-/// The leaps from one place and vertex: which of the targets they are, and whether a word may end on the way.
+/// The leaps from one place and vertex: which of the targets they are, and whether a word may end on the way. There are
+/// many entries, so each is small.
 #[derive(Debug, Clone, Copy, Drop)]
 pub(crate) struct Entry {
-    pub(crate) start: usize,
-    pub(crate) end: usize,
+    /// Where its targets begin among all of them.
+    pub(crate) start: u32,
+    /// How many they are.
+    pub(crate) many: u16,
     pub(crate) ends: bool,
 }
 
@@ -37,16 +41,16 @@ pub(crate) struct Table {
 }
 
 impl Entry {
-    /// With no target.
+    /// Without a target.
     pub(crate) const NONE: Entry = Entry {
         start: 0,
-        end: 0,
+        many: 0,
         ends: false,
     };
 }
 
 impl Table {
-    ghost use Rattle.std.specs.Prelude.{◌≡◌, ◌*◌, ◌<◌, ◌^◌, replicate, IfOk, OnOk, IfSome, IfNone, slice_index_or};
+    ghost use Rattle.std.specs.Prelude.{◌≡◌, ◌*◌, ◌<◌, ◌^◌, replicate, IfOk, OnOk, IfSome, IfNone, slice_range};
     ghost use Rattle.rbg_leaps.specs.Made.{entry_at, no_entry};
     ghost use Rattle.rbg_leaps.specs.internal.Tables.{targets_of, Puts, Shares, Grows, AddsRow};
 
@@ -112,25 +116,24 @@ impl Table {
         ensures within { IsWithin (length self.now.targets.items) result }
     {
         match self.place(node, vertex) {
-            Some(place) => self.entry_in(place),
+            Some(place) => entry_in_place(&self.entries, place),
             None => Entry::NONE,
         }
     }
 
-    /// The entry in a place, or an empty one where it isn't there.
+    /// The entries of a node that has them.
     #[inline(always)]
-    fn entry_in(&self, place: usize) -> Entry
-        ensures entry { result ≡ slice_index_or self.now.entries.items place no_entry }
-        ensures within { IsWithin (length self.now.targets.items) result }
+    pub(crate) fn entries_of(&self, node: usize) -> &[Entry]
+        requires { node * self.now.vertices + self.now.vertices ≤ length self.now.entries.items }
+        ensures { result.now ≡ slice_range self.now.entries.items (node * self.now.vertices) (node * self.now.vertices + self.now.vertices) }
     {
-        if place < self.entries.len() {
-            self.entries[place]
-        } else {
-            Entry::NONE
-        }
+        let start = node * self.vertices;
+        &self.entries[start..start + self.vertices]
     }
 
-    /// Puts the entry of a node and a vertex in its place, with targets of its own.
+    /// Puts the entry of a node and a vertex in its place, with targets of its own. Memory is said to be out where an entry
+    /// can't name them: behind 4,294,967,295 targets, which take 32 gigabytes, and where they are more than 65,535, while a
+    /// game has at most 20,000 positions.
     #[inline(always)]
     pub(crate) fn put(
         &mut self,
@@ -144,11 +147,16 @@ impl Table {
         ensures { OnOk result (Puts self.old self.new node vertex targets.now ends) }
     {
         let start = self.targets.len();
-        self.targets.extend_from_slice(targets)?;
-        let end = self.targets.len();
-        if let Some(place) = self.place(node, vertex) {
-            self.entries[place] = Entry { start, end, ends };
+        if start > u32::MAX as usize || targets.len() > u16::MAX as usize {
+            return Err(AllocError);
         }
+        self.targets.extend_from_slice(targets)?;
+        let place = node * self.vertices + vertex as usize;
+        self.entries[place] = Entry {
+            start: start as u32,
+            many: targets.len() as u16,
+            ends,
+        };
         Ok(())
     }
 
@@ -159,9 +167,8 @@ impl Table {
         requires within { IsWithin (length self.old.targets.items) entry }
         ensures { Shares self.old self.new node vertex entry }
     {
-        if let Some(place) = self.place(node, vertex) {
-            self.entries[place] = entry;
-        }
+        let place = node * self.vertices + vertex as usize;
+        self.entries[place] = entry;
     }
 
     /// Adds a row to targets at a position.
@@ -170,7 +177,7 @@ impl Table {
         &mut self,
         parts: &mut Vec<Target>,
         position: Position,
-        row: usize,
+        row: u32,
     ) -> Result<(), Memory>
         requires row { row + self.old.columns ≤ length self.old.words.items }
         requires rows { All (λ t. t.row + self.old.columns ≤ length self.old.words.items) parts.old.items }
@@ -181,12 +188,31 @@ impl Table {
         add(parts, &mut self.words, columns, position, row)
     }
 
+    /// Where the row that has a vertex alone begins.
+    #[inline(always)]
+    pub(crate) fn unit(&self, vertex: Vertex) -> u32
+        requires { vertex * self.now.columns < 2 ^ 32 }
+        ensures { result ≡ vertex * self.now.columns }
+    {
+        (vertex as usize * self.columns) as u32
+    }
+
+    /// So many targets, one behind another.
+    #[inline(always)]
+    pub(crate) fn targets_from(&self, start: u32, many: u16) -> &[Target]
+        requires { start + many ≤ length self.now.targets.items }
+        ensures { result.now ≡ slice_range self.now.targets.items start (start + many) }
+    {
+        let start = start as usize;
+        &self.targets[start..start + many as usize]
+    }
+
     /// The targets of an entry.
     #[inline(always)]
     pub(crate) fn targets(&self, entry: Entry) -> &[Target]
         requires { IsWithin (length self.now.targets.items) entry }
         ensures { result.now ≡ targets_of self.now entry }
     {
-        &self.targets[entry.start..entry.end]
+        self.targets_from(entry.start, entry.many)
     }
 }

@@ -3,7 +3,10 @@ use Rattle.std.specs.Prelude.{◌≡◌, ℕ, ◌+◌, ◌<◌, List, ◌++◌, 
 use Rattle.rbg_rules.specs.Expression.{Expression}
 use Rattle.rbg_rules.specs.Positions.{positions_of, outermost, inside}
 use Rattle.rbg_rules.specs.Words.{Start, beginning, after}
+use Rattle.rbg_auto.specs.declared.steps.Expr.TheVariants.{Rules, Inside}
 use Rattle.rbg_leaps.specs.declared.lists.Lists.{Lists}
+use Rattle.rbg_leaps.specs.declared.origin.Origin.{Origin}
+use Rattle.rbg_leaps.specs.declared.origin.Origin.TheVariants.{Begin, After}
 use Rattle.rbg_leaps.specs.declared.shelf.Node.{Node}
 use Rattle.rbg_leaps.specs.declared.shelf.Shelf.{Shelf}
 use Rattle.rbg_leaps.specs.internal.Spans.{no_node}
@@ -47,6 +50,12 @@ pub record AreListsUpTo (rules : Expression) (many : ℕ) (shelf : Shelf) (first
   pub insides_size : length insides ≡ many
   pub after_each : (p : ℕ) → p < many → IsNodeOf rules shelf (after p) (slice_index_or afters p 0)
   pub inside_each : (p : ℕ) → p < many → IsNodeOf rules shelf (beginning (inside p)) (slice_index_or insides p 0)
+
+-- The node of a place in the rules: places where the same positions come next have one.
+abbrev pub origin_node : Lists → Origin → ℕ
+origin_node lists (Begin Rules) = lists.rules
+origin_node lists (Begin (Inside p)) = slice_index_or lists.insides.items p 0
+origin_node lists (After p) = slice_index_or lists.afters.items p 0
 
 -- The nodes of all positions.
 abbrev pub AreListsOf : Expression → Lists → Type 0

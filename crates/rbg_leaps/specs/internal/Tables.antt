@@ -1,17 +1,18 @@
 -- What a table that is being made tells, whether it is right so far, and whether anything is missing.
 use Rattle.std.specs.Prelude.{◌≡◌, ◌≢◌, ℕ, ◌+◌, ◌*◌, ◌<◌, ◌≤◌, List, ◌++◌, length, slice_range, slice_index_or, Bool, true, false, IsTrue, All, AllPairs, Contains}
+use Rattle.rbg_rules.specs.Games.{IsGame}
 use Rattle.rbg_rules.specs.State.{AbstractGame}
 use Rattle.rbg_leaps.specs.declared.lists.Lists.{Lists}
 use Rattle.rbg_leaps.specs.declared.table.Entry.{Entry}
 use Rattle.rbg_leaps.specs.declared.table.Table.{Table}
 use Rattle.rbg_leaps.specs.declared.table.Target.{Target}
-use Rattle.rbg_leaps.specs.Entries.{IsWithin}
+use Rattle.rbg_leaps.specs.Entries.{end_of, IsWithin}
 use Rattle.rbg_leaps.specs.Leaps.{IsShiftAt}
 use Rattle.rbg_leaps.specs.Limits.{row_words}
-use Rattle.rbg_leaps.specs.Made.{entry_at, no_entry}
+use Rattle.rbg_leaps.specs.Made.{entry_in, entry_at, no_entry}
 use Rattle.rbg_leaps.specs.Rows.{has_bit}
 use Rattle.rbg_leaps.specs.Targets.{row_at}
-use Rattle.rbg_leaps.specs.internal.Shelves.{Extends, list_at, may_end_at}
+use Rattle.rbg_leaps.specs.internal.Shelves.{Extends, list_at, may_end_at, AreListsOf}
 use Rattle.rbg_leaps.specs.internal.Steps.{Comes, IsLeapBy, EndsBy}
 use Rattle.rbg_leaps.specs.internal.Words.{AreUnits}
 
@@ -38,7 +39,7 @@ pub record AreSound (Leap : ℕ → ℕ → Type 0) (columns : ℕ) (words : Lis
 
 -- The targets of an entry.
 abbrev pub targets_of : Table → Entry → List Target
-targets_of table e = slice_range table.targets.items e.start e.end
+targets_of table e = slice_range table.targets.items e.start (end_of e)
 
 abbrev pub TellsAt : Table → Entry → (j u : ℕ) → Type 0
 TellsAt table e = Tells table.columns table.words.items (targets_of table e)
@@ -62,6 +63,14 @@ pub record IsSoundTable (game : AbstractGame) (lists : Lists) (table : Table) : 
   pub sound :
       (n v : ℕ) → n < length lists.shelf.nodes.items → v < table.vertices →
       IsSoundEntry game (list_at lists.shelf n) (may_end_at lists.shelf n) v table (entry_at table n v)
+
+-- What is asked wherever the table of a game is filled: the nodes are those of its rules, and nothing wrong is told.
+abbrev pub IsRightSoFar : AbstractGame → Lists → Table → Type 0
+IsRightSoFar game lists table = record {
+  lawful : IsGame game;
+  nodes : AreListsOf game.rules lists;
+  sound : IsSoundTable game lists table;
+}
 
 -- What an entry tells, the targets tell, and also whether a word may end.
 pub record IsUnder (table : Table) (one : Entry) (targets : List Target) (may_end : Bool) : Type 0 where
@@ -118,7 +127,7 @@ pub record Puts (old new : Table) (n v : ℕ) (targets : List Target) (ends : Bo
   pub are_targets : new.targets.items ≡ old.targets.items ++ targets
   pub size : length new.entries.items ≡ length old.entries.items
   pub here :
-      entry_at new n v ≡ (record { start = length old.targets.items; end = length new.targets.items; ends = ends })
+      entry_at new n v ≡ (record { start = length old.targets.items; many = length targets; ends = ends })
   pub others :
       (i : ℕ) → i ≢ n * old.vertices + v →
       slice_index_or new.entries.items i no_entry ≡ slice_index_or old.entries.items i no_entry
@@ -169,7 +178,7 @@ pub record AddsUpTo (old new : Table) (before behind : List Target) (e : Entry) 
 
 -- All of them were added.
 abbrev pub AddsAll : Table → Table → List Target → List Target → Entry → Type 0
-AddsAll old new before behind e = AddsUpTo old new before behind e e.end
+AddsAll old new before behind e = AddsUpTo old new before behind e (end_of e)
 
 -- No shift of the node's list leads to the node again.
 abbrev pub LeadsAway : AbstractGame → Lists → (n : ℕ) → Type 0
@@ -239,6 +248,14 @@ abbrev pub AreClosedFrom : AbstractGame → Lists → Table → (many : ℕ) →
 AreClosedFrom game lists table many =
     (n v : ℕ) → length lists.shelf.nodes.items ≤ n + many → n < length lists.shelf.nodes.items →
     v < length game.board.first → IsClosed game lists table n v
+
+-- The entries of nodes, side by side.
+pub record AreLaid (table : Table) (nodes : List ℕ) (entries : List Entry) : Type 0 where
+  pub size : length entries ≡ length nodes * table.vertices
+  pub within : All (IsWithin (length table.targets.items)) entries
+  pub each :
+      (i v : ℕ) → i < length nodes → v < table.vertices →
+      entry_in entries table.vertices i v ≡ entry_at table (slice_index_or nodes i 0) v
 
 -- Nothing is missing at all.
 abbrev pub AreAllClosed : AbstractGame → Lists → Table → Type 0

@@ -1,14 +1,12 @@
-use Rattle.std.proofs.Common.{◌≡◌, ℕ, List, get_or, take, true, false, sym, subst}
-use Rattle.std.specs.Prelude.{Bool, All, IsTrue}
+use Rattle.std.proofs.Common.{ℕ, List, get_or, take, sym, subst}
+use Rattle.std.specs.Prelude.{All, IsTrue}
 use Rattle.std.proofs.lemmas.List.{take_more, take_all}
 use Rattle.std.proofs.lemmas.List.Elements.{All-push}
 use Rattle.rbg_leaps.specs.internal.Shelves.{list_at}
 use Rattle.rbg_leaps.specs.internal.Tables.{IsToldEverywhere}
+use Rattle.rbg_leaps.proofs.Cases.{not_both}
 use Rattle.rbg_leaps.proofs.closing.is_closed.Goals as goal
 use Rattle.rbg_leaps.proofs.closing.is_closed.Goals.{else-may_end-via-then-may_end+else-not-all_end, else-may_end-via-else-may_end}
-
-not_both : {b : Bool} → b ≡ true → b ≡ false → ⊥
-not_both e f = cc
 
 pub loop-listed-preserved : goal.loop-listed-preserved
 loop-listed-preserved c =

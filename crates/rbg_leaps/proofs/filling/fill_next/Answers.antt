@@ -1,9 +1,7 @@
-use Rattle.std.proofs.Common.{◌≡◌, ◌∙◌, Bool, true, false}
+use Rattle.std.proofs.Common.{◌∙◌}
+use Rattle.rbg_leaps.proofs.Cases.{not_both}
 use Rattle.rbg_leaps.proofs.Fillings.{one_marked, rightly_up_to}
 use Rattle.rbg_leaps.proofs.filling.fill_next.Goals as goal
-
-not_both : {b : Bool} → b ≡ true → b ≡ false → ⊥
-not_both e f = cc
 
 pub returns-clause-filled : goal.returns-clause-filled
 returns-clause-filled c = one_marked c.args.ground.now c.args.lists.now c.args.table.now c.fill_node.new.table c.args.filled.now c.args.node c.requires.there

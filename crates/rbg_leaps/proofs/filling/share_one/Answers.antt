@@ -5,7 +5,7 @@ use Rattle.rbg_leaps.proofs.filling.share_one.Goals as goal
 
 pub returns : goal.returns
 returns c =
-    let sound = c.requires.sound in
+    let sound = c.requires.right.sound in
     let entry = c.entry_behind-entry.result in
     let inside : c.args.vertex < c.args.table.now.vertices = subst (λ (n : ℕ). c.args.vertex < n) (sym sound.laid_out.vertices) c.requires.vertex in
     one_shared c.args.ground.now c.args.lists.now c.args.table.now c.share.new.self c.args.node c.args.vertex c.args.position entry inside c.share.ensures

@@ -1,18 +1,16 @@
-use Rattle.std.proofs.Common.{◌≡◌, ℕ, List, Bool, get_or, take, true, false, sym, subst, arith}
+use Rattle.std.proofs.Common.{ℕ, List, Bool, get_or, take, sym, subst, arith}
 use Rattle.std.specs.Prelude.{All, IsTrue}
 use Rattle.std.proofs.lemmas.List.{take_more, take_all}
 use Rattle.std.proofs.lemmas.List.Elements.{All-push}
 use Rattle.rbg_leaps.specs.internal.Shelves.{list_at, may_end_at}
 use Rattle.rbg_leaps.specs.internal.Steps.{IsLeapBy}
 use Rattle.rbg_leaps.specs.internal.Tables.{IsToldBy}
+use Rattle.rbg_leaps.proofs.Cases.{not_both}
 use Rattle.rbg_leaps.proofs.Steppings.{ends_here}
 use Rattle.rbg_leaps.proofs.Tabling.{sound_none, grows_none, grows_more, table_grown}
 use Rattle.rbg_leaps.proofs.Fillings.{all_told_on, told_grown, raise_end}
 use Rattle.rbg_leaps.proofs.gathering.gather.Goals as goal
 use Rattle.rbg_leaps.proofs.gathering.gather.Goals.{then-ends, else-ends}
-
-not_both : {b : Bool} → b ≡ true → b ≡ false → ⊥
-not_both e f = cc
 
 none_told : (P : ℕ → Type 0) (xs : List ℕ) → All P (take 0 xs)
 none_told P xs = λ k d below. absurd (omega (arith, below))
@@ -22,7 +20,7 @@ loop-listed-init c =
     let shelf = c.args.lists.now.shelf in
     let game = c.args.ground.now in
     rw c.clear.ensures.items (record {
-      sound = c.requires.sound;
+      sound = c.requires.right.sound;
       grows = grows_none c.args.table.now;
       gathered = sound_none (IsLeapBy game (list_at shelf c.args.node) (may_end_at shelf c.args.node) c.args.vertex) c.args.table.now.columns c.args.table.now.words.items;
       ends_told = λ is. subst IsTrue (sym c.may_end-ends.ensures) is;

@@ -1,9 +1,7 @@
-use Rattle.std.proofs.Common.{◌≡◌, ◌∙◌, Bool, true, false, sym}
+use Rattle.std.proofs.Common.{◌∙◌, sym}
+use Rattle.rbg_leaps.proofs.Cases.{not_both}
 use Rattle.rbg_leaps.proofs.rounds.is_done.Goals as goal
 use Rattle.rbg_leaps.proofs.rounds.is_done.Goals.{then-is_marked, else-is_marked}
-
-not_both : {b : Bool} → b ≡ true → b ≡ false → ⊥
-not_both e f = cc
 
 pub returns-then-leads_away : goal.returns-then-leads_away
 returns-then-leads_away c = λ t v below. elim c.if-is_marked.branch [

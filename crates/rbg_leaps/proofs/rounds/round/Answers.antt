@@ -1,11 +1,8 @@
-use Rattle.std.proofs.Common.{◌≡◌, ◌-◌, ◌∙◌, length, true, false, sym, arith}
-use Rattle.std.specs.Prelude.{Bool}
+use Rattle.std.proofs.Common.{◌≡◌, ◌-◌, ◌∙◌, length, sym, arith}
+use Rattle.rbg_leaps.proofs.Cases.{not_both}
 use Rattle.rbg_leaps.proofs.Tabling.{one_more_node}
 use Rattle.rbg_leaps.proofs.rounds.round.Goals as goal
 use Rattle.rbg_leaps.proofs.rounds.round.Goals.{then-branch, else-branch}
-
-not_both : {b : Bool} → b ≡ true → b ≡ false → ⊥
-not_both e f = cc
 
 pub loop-done-preserved : goal.loop-done-preserved
 loop-done-preserved c =

@@ -1,0 +1,15 @@
+-- What holds of the expression of a tree.
+use Rattle.std.specs.Prelude.{◌≡◌, ℕ, List, length}
+use Rattle.rbg_rules.specs.declared.rule.Action.{Action}
+use Rattle.rbg_rules.specs.declared.rule.Rule.{Rule}
+use Rattle.rbg_rules.specs.Expression.{Expression}
+use Rattle.rbg_rules.specs.Games.{HasNoEmptySum}
+use Rattle.rbg_rules.specs.Positions.{positions_of, IsNumbered}
+use Rattle.rbg_rules.specs.Translation.{expression_of}
+
+-- It holds of the tree's expression with that many positions, whatever actions stand at them, where the positions are
+-- numbered and no sum is empty.
+abbrev pub HoldsOfTree : (Holds : Expression → Type 0) → Rule → (positions : ℕ) → Type 0
+HoldsOfTree Holds tree positions =
+    (actions : List Action) → IsNumbered (expression_of actions tree) → HasNoEmptySum (expression_of actions tree) →
+    positions ≡ length (positions_of (expression_of actions tree)) → Holds (expression_of actions tree)
