@@ -31,7 +31,7 @@ module _ (game : AbstractGame) (numbered : IsNumbered game.rules) (f : Start) (v
   pub leap_among : (v p : ℕ) → IsLeap game f vertex p v → IsAmong targets v p
   leap_among v p leap =
       let found = are.all p v leap in
-      record { target = found.0; listed = found.1.0; there = record { position = found.1.1.position; column = found.1.1.column; set = found.1.1.set } }
+      record { target = found.0; listed = found.1; there = record { position = found.2.position; column = found.2.column; set = found.2.set } }
 
   -- Some leap leads to each target.
   pub some_leap : (t : Target) → Contains targets t → (u : ℕ) × IsLeap game f vertex t.position u

@@ -69,7 +69,7 @@ pattern_kind rules numbered p Pattern is pattern = refl
 pattern_kind rules numbered p (OnOne x) is pattern = absurd (no_pattern rules numbered p (on (x ∷ [])) is refl pattern)
 pattern_kind rules numbered p (OnEither x y) is pattern = absurd (no_pattern rules numbered p (on (x ∷ y ∷ [])) is refl pattern)
 pattern_kind rules numbered p OnAny is pattern = absurd (no_pattern rules numbered p (on is.0) is.1 refl pattern)
-pattern_kind rules numbered p Plain is pattern = absurd (is.1.0 pattern)
+pattern_kind rules numbered p Plain is pattern = absurd (is.1 pattern)
 
 pub modifier_kind : (rules : Expression) → IsNumbered rules → (p : ℕ) (kind : Kind) → IsKind rules p kind → IsModifierAt rules p → kind ≡ Modifier
 modifier_kind rules numbered p Modifier is modifier = refl

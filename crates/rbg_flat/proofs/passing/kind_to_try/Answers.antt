@@ -16,7 +16,7 @@ everywhere : (game : AbstractGame) → IsNumbered game.rules → (s : AbstractSt
 everywhere game numbered s p kind (inl is) told = pattern_to_try game numbered s p (subst (λ (k : Kind). IsKind game.rules p k) is told)
 everywhere game numbered s p kind (inr is) told =
     let plain = subst (λ (k : Kind). IsKind game.rules p k) is told in
-    other_to_try game numbered s p plain.0 plain.1.1
+    other_to_try game numbered s p plain.0 plain.2
 
 pub returns-in-Pattern : goal.returns-in-Pattern
 returns-in-Pattern c = λ b small.
