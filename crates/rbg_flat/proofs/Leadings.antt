@@ -3,45 +3,43 @@ use Rattle.std.proofs.Common.{◌≡◌, ℕ, ◌+◌, ◌<◌, ◌⊎◌, inl, 
 use Rattle.std.specs.Prelude.{Contains}
 use Rattle.std.proofs.lemmas.List.{take_more}
 use Rattle.std.proofs.lemmas.List.Elements.{Contains-push, Contains-push_cases, Contains-append_left}
-use Rattle.rbg_leaps.specs.declared.asking.Leaps.{Leaps}
-use Rattle.rbg_leaps.specs.declared.table.Target.{Target}
-use Rattle.rbg_leaps.specs.Asked.{row_of}
-use Rattle.rbg_flat.specs.internal.Sets.{SetsOfVertices, IsInRow, Meets}
+use Rattle.rbg_leaps.specs.declared.target.Target.{Target}
+use Rattle.rbg_flat.specs.internal.Sets.{SetsOfVertices, IsInWord, Meets}
 use Rattle.rbg_flat.specs.internal.Leading.{IsAmong}
 use Rattle.rbg_flat.proofs.Meetings.{meets_both}
 
-pub none_among : (leaps : Leaps) (v p : ℕ) → ¬ IsAmong leaps [] v p
-none_among leaps v p among = no_index among.listed.0 among.listed.1
+pub none_among : (v p : ℕ) → ¬ IsAmong [] v p
+none_among v p among = no_index among.listed.0 among.listed.1
   where
     no_index : (k : ℕ) → k < 0 → ⊥
     no_index k h = omega (arith, h)
 
 -- One target more.
-module _ (leaps : Leaps) (targets : List Target) (i : ℕ) (d : Target) (below : i < length targets) where
+module _ (targets : List Target) (i : ℕ) (d : Target) (below : i < length targets) where
   abbrev t : Target
   t = get_or targets i d
 
   one_more : take (i + 1) targets ≡ take i targets ++ t ∷ []
   one_more = take_more targets i d below
 
-  among_apart : (v p : ℕ) → IsAmong leaps (take (i + 1) targets) v p → IsAmong leaps (take i targets) v p ⊎ IsInRow t.position (row_of leaps t) v p
+  among_apart : (v p : ℕ) → IsAmong (take (i + 1) targets) v p → IsAmong (take i targets) v p ⊎ IsInWord t.position t.column t.word v p
   among_apart v p among = by_case (Contains-push_cases (take i targets) t among.target (subst (λ (ts : List Target). Contains ts among.target) one_more among.listed))
     where
-      by_case : Contains (take i targets) among.target ⊎ (t ≡ among.target) → IsAmong leaps (take i targets) v p ⊎ IsInRow t.position (row_of leaps t) v p
-      by_case (inl there) = inl (record { target = among.target; listed = there; row = among.row })
-      by_case (inr same) = inr (subst (λ (x : Target). IsInRow x.position (row_of leaps x) v p) (sym same) among.row)
+      by_case : Contains (take i targets) among.target ⊎ (t ≡ among.target) → IsAmong (take i targets) v p ⊎ IsInWord t.position t.column t.word v p
+      by_case (inl there) = inl (record { target = among.target; listed = there; there = among.there })
+      by_case (inr same) = inr (subst (λ (x : Target). IsInWord x.position x.column x.word v p) (sym same) among.there)
 
-  among_first : (v p : ℕ) → IsAmong leaps (take i targets) v p → IsAmong leaps (take (i + 1) targets) v p
+  among_first : (v p : ℕ) → IsAmong (take i targets) v p → IsAmong (take (i + 1) targets) v p
   among_first v p among = record {
     target = among.target;
     listed = subst (λ (ts : List Target). Contains ts among.target) (sym one_more) (Contains-append_left (take i targets) (t ∷ []) among.target among.listed);
-    row = among.row;
+    there = among.there;
   }
 
-  among_second : (v p : ℕ) → IsInRow t.position (row_of leaps t) v p → IsAmong leaps (take (i + 1) targets) v p
-  among_second v p row = record { target = t; listed = subst (λ (ts : List Target). Contains ts t) (sym one_more) (Contains-push (take i targets) t); row = row }
+  among_second : (v p : ℕ) → IsInWord t.position t.column t.word v p → IsAmong (take (i + 1) targets) v p
+  among_second v p row = record { target = t; listed = subst (λ (ts : List Target). Contains ts t) (sym one_more) (Contains-push (take i targets) t); there = row }
 
-  pub meets_target_more : (old middle new : SetsOfVertices) (Opens : (v p : ℕ) → Type 0) → Meets old middle (IsAmong leaps (take i targets)) Opens → Meets middle new (IsInRow t.position (row_of leaps t)) Opens → Meets old new (IsAmong leaps (take (i + 1) targets)) Opens
+  pub meets_target_more : (old middle new : SetsOfVertices) (Opens : (v p : ℕ) → Type 0) → Meets old middle (IsAmong (take i targets)) Opens → Meets middle new (IsInWord t.position t.column t.word) Opens → Meets old new (IsAmong (take (i + 1) targets)) Opens
   meets_target_more old middle new Opens so_far row =
-      meets_both old middle new (IsAmong leaps (take i targets)) (IsInRow t.position (row_of leaps t)) (IsAmong leaps (take (i + 1) targets)) Opens
+      meets_both old middle new (IsAmong (take i targets)) (IsInWord t.position t.column t.word) (IsAmong (take (i + 1) targets)) Opens
       so_far row among_apart among_first among_second

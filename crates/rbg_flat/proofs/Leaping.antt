@@ -2,24 +2,20 @@
 use Rattle.std.proofs.Common.{◌≡◌, ℕ, ◌+◌, ◌/◌, ◌%◌, ◌<◌, ◌≤◌, ◌⊎◌, inl, inr, List, [], ◌∷◌, ◌++◌, true, length, get_or, map, sym, subst, ◌∙◌}
 use Rattle.std.specs.Prelude.{Contains, All, ◌↔◌}
 use Rattle.std.specs.Int.{bit_at}
-use Rattle.std.proofs.lemmas.Bool.Decides.{Decides-eqb}
-use Rattle.std.proofs.lemmas.List.Elements.{All-contains, Contains-get_or}
-use Rattle.std.proofs.lemmas.List.{get_or-map, length-map}
+use Rattle.std.proofs.lemmas.List.Elements.{Contains-get_or}
 use Rattle.rbg_rules.specs.Positions.{IsNumbered, positions_of}
 use Rattle.rbg_rules.specs.State.{AbstractGame}
 use Rattle.rbg_rules.specs.Words.{Start, after, Follows}
 use Rattle.rbg_rules.proofs.LocalityLemmas.{locality_law}
-use Rattle.rbg_leaps.specs.declared.asking.Leaps.{Leaps}
-use Rattle.rbg_leaps.specs.declared.table.Target.{Target}
-use Rattle.rbg_leaps.specs.Asked.{row_of, AreTargetsFrom}
+use Rattle.rbg_leaps.specs.declared.target.Target.{Target}
+use Rattle.rbg_leaps.specs.Asked.{AreTargetsFrom}
 use Rattle.rbg_board.specs.Graph.{IsClosed}
 use Rattle.rbg_rules.specs.Games.{IsGame}
 use Rattle.rbg_leaps.specs.Leaps.{IsLeap, Leads, stay, go}
-use Rattle.rbg_leaps.specs.Rows.{has_bit}
 use Rattle.rbg_leaps.proofs.ShiftLemmas.{follower_stands, action_within}
-use Rattle.rbg_flat.specs.internal.Sets.{SetsOfVertices, HasBitAt, IsInRow, IsMarked, IsOpen, Meets, ClosesWord}
+use Rattle.rbg_flat.specs.internal.Sets.{SetsOfVertices, HasBitAt, IsInWord, IsMarked, IsOpen, Meets, ClosesWord}
 use Rattle.rbg_leaps.specs.Limits.{row_words}
-use Rattle.rbg_flat.specs.internal.Leading.{IsAmong, IsTargetFor, AreOn, AreSizedFor}
+use Rattle.rbg_flat.specs.internal.Leading.{IsAmong, IsTargetFor, IsPositionIn, AreOn, AreSizedFor}
 
 -- What follows stands in the rules.
 pub within : (game : AbstractGame) → IsNumbered game.rules → (f : Start) (m : List ℕ) (p : ℕ) → Follows game.rules f (m ++ p ∷ []) → (0 < p) × (p ≤ length (positions_of game.rules))
@@ -28,47 +24,29 @@ within game numbered f [] p follows =
     action_within game.rules numbered p stands.0 stands.1
 within game numbered f (q ∷ m) p follows = within game numbered (after q) m p ((locality_law game.rules numbered f [] q (m ++ p ∷ [])).0.0 follows).1
 
--- A bit of a row is told by its word.
-bit_told : (row : List ℕ) (v : ℕ) → has_bit row v ≡ true ↔ (bit_at (get_or row (v / 64) 0) (v % 64) ≡ 1)
-unfolding has_bit
-bit_told row v = Decides-eqb (bit_at (get_or row (v / 64) 0) (v % 64)) 1
+module _ (game : AbstractGame) (numbered : IsNumbered game.rules) (f : Start) (vertex : ℕ) (targets : List Target) (are : AreTargetsFrom game f vertex targets) where
+  pub among_leap : (v p : ℕ) → IsAmong targets v p → IsLeap game f vertex p v
+  among_leap v p among = are.sound among.target among.listed p v (record { position = among.there.position; column = among.there.column; set = among.there.set })
 
-module _ (game : AbstractGame) (numbered : IsNumbered game.rules) (f : Start) (vertex : ℕ) (leaps : Leaps) (targets : List Target) (are : AreTargetsFrom game f vertex leaps targets) where
-  leap_of : (t : Target) → Contains targets t → (v p : ℕ) → IsInRow t.position (row_of leaps t) v p → IsLeap game f vertex p v
-  leap_of t listed v p there =
-      let exact = All-contains (λ (x : Target). (u : ℕ) → (has_bit (row_of leaps x) u ≡ true) ↔ IsLeap game f vertex x.position u) targets t are.are.exact listed in
-      subst (λ (k : ℕ). IsLeap game f vertex k v) (sym there.position) ((exact v).0 ((bit_told (row_of leaps t) v).1 there.set))
+  pub leap_among : (v p : ℕ) → IsLeap game f vertex p v → IsAmong targets v p
+  leap_among v p leap =
+      let found = are.all p v leap in
+      record { target = found.0; listed = found.1; there = record { position = found.2.position; column = found.2.column; set = found.2.set } }
 
-  pub among_leap : (v p : ℕ) → IsAmong leaps targets v p → IsLeap game f vertex p v
-  among_leap v p among = leap_of among.target among.listed v p among.row
+  -- Some leap leads to each target.
+  pub some_leap : (t : Target) → Contains targets t → (u : ℕ) × IsLeap game f vertex t.position u
+  some_leap t listed = let one = are.some t listed in (one.0, are.sound t listed t.position one.0 one.1)
 
-  pub leap_among : (v p : ℕ) → IsLeap game f vertex p v → IsAmong leaps targets v p
-  leap_among v p leap = by_place (are.are.all p v leap)
-    where
-      by_place : Contains (map (λ (t : Target). t.position) targets) p → IsAmong leaps targets v p
-      by_place (i, within, is) =
-          let d : Target = record { position = 0; row = 0 } in
-          let below : i < length targets = subst (λ (k : ℕ). i < k) (length-map targets (λ (t : Target). t.position)) within in
-          let t : Target = get_or targets i d in
-          let listed : Contains targets t = Contains-get_or targets i d below in
-          let at : t.position ≡ p = sym (get_or-map (λ (x : Target). x.position) targets i d p below) ∙ is in
-          let exact = All-contains (λ (x : Target). (u : ℕ) → (has_bit (row_of leaps x) u ≡ true) ↔ IsLeap game f vertex x.position u) targets t are.are.exact listed in
-          let set = (bit_told (row_of leaps t) v).0 ((exact v).1 (subst (λ (k : ℕ). IsLeap game f vertex k v) (sym at) leap)) in
-          record { target = t; listed = listed; row = record { position = sym at; set = set } }
-
-  pub targets_for : All (IsTargetFor game leaps) targets
-  targets_for i d below =
-      let t : Target = get_or targets i d in
-      let listed : Contains targets t = Contains-get_or targets i d below in
-      let some = All-contains (λ (x : Target). (u : ℕ) × IsLeap game f vertex x.position u) targets t are.are.some listed in
-      let leap = some.1 in
+  pub target_position : (t : Target) → Contains targets t → IsPositionIn game t.position
+  target_position t listed =
+      let leap = (some_leap t listed).1 in
       let range = within game numbered f leap.shifts t.position leap.follows in
-      record {
-        from_one = range.0;
-        there = range.1;
-        row = All-contains (λ (x : Target). x.row + leaps.table.columns ≤ length leaps.table.words.items) targets t are.are.rows listed;
-        columns = are.size;
-      }
+      record { from_one = range.0; there = range.1 }
+
+  pub targets_for : All (IsTargetFor game) targets
+  targets_for i d below =
+      let listed = Contains-get_or targets i d below in
+      record { position = target_position (get_or targets i d) listed; column = are.columns (get_or targets i d) listed }
 
 -- Shifts lead from the board to the board.
 pub leads_on_board : (game : AbstractGame) → IsClosed game.board → (v : ℕ) (m : List ℕ) (u : ℕ) → v < length game.board.first → Leads game v m u → u < length game.board.first

@@ -6,7 +6,7 @@ use Rattle.std.proofs.lemmas.Bool.{cases_lt}
 use Rattle.std.proofs.lemmas.Nat.Bits.{bit_at-zero}
 use Rattle.std.proofs.lemmas.List.{get_or-take, get_or_past, length-take-le, take_all}
 use native.Mathlib.Decide.{ℕ_discrete}
-use Rattle.rbg_flat.specs.internal.Sets.{SetsOfVertices, IsMarked, IsOpen, IsInWord, IsInRow, MeetsWord, Meets, weight}
+use Rattle.rbg_flat.specs.internal.Sets.{SetsOfVertices, IsMarked, IsOpen, IsInWord, MeetsWord, Meets, weight}
 
 -- Nothing is met.
 pub meets_none : (sets : SetsOfVertices) (In : (v p : ℕ) → Type 0) (Opens : (v p : ℕ) → Type 0) → ((v p : ℕ) → ¬ In v p) → Meets sets sets In Opens
@@ -119,74 +119,3 @@ meets_same old new In In' Opens Opens' meets to of opens_to opens_of = record {
     by_other : (v p : ℕ) → IsOpen old v p ⊎ (In v p × Opens v p × (¬ IsMarked old v p)) → IsOpen old v p ⊎ (In' v p × Opens' v p × (¬ IsMarked old v p))
     by_other v p (inl was) = inl was
     by_other v p (inr (there, opens, fresh)) = inr (to v p there, opens_to v p there opens, fresh)
-
--- A row up to a column, and one column more.
-no_bit : {n : ℕ} → n ≡ 0 → n ≡ 1 → ⊥
-no_bit clear set = omega (arith, clear, set)
-
-pub empty_row : (q v p : ℕ) → ¬ IsInRow q [] v p
-empty_row q v p there = no_bit (bit_at-zero (v % 64)) there.set
-
-module _ (q : ℕ) (row : List ℕ) (many : ℕ) (within : many < length row) where
-  word_at : (i : ℕ) → i < many + 1 → get_or (take (many + 1) row) i 0 ≡ get_or row i 0
-  word_at i below = get_or-take (many + 1) row i 0 below
-
-  beyond : (k i v : ℕ) → k ≤ length row → k ≤ i → bit_at (get_or (take k row) i 0) (v % 64) ≡ 1 → ⊥
-  beyond k i v small far set =
-      let long = length-take-le k row small in
-      let none : get_or (take k row) i 0 ≡ 0 = get_or_past (take k row) i 0 (omega (arith, long, far)) in
-      no_bit (ap (λ (n : ℕ). bit_at n (v % 64)) none ∙ bit_at-zero (v % 64)) set
-
-  pub row_apart : (v p : ℕ) → IsInRow q (take (many + 1) row) v p → IsInRow q (take many row) v p ⊎ IsInWord q many (get_or row many 0) v p
-  row_apart v p there = elim (cases_lt (v / 64) many) [
-    | inl below ↦ inl (record {
-      position = there.position;
-      set = ap (λ (n : ℕ). bit_at n (v % 64)) (get_or-take many row (v / 64) 0 below ∙ sym (word_at (v / 64) (omega (arith, below)))) ∙ there.set;
-    })
-    | inr far ↦ elim (ℕ_discrete (v / 64) many) [
-      | yes same ↦ inr (record {
-        position = there.position;
-        column = same;
-        set = sym (ap (λ (n : ℕ). bit_at n (v % 64)) (word_at (v / 64) (omega (arith, same)) ∙ ap (λ (k : ℕ). get_or row k 0) same)) ∙ there.set;
-      })
-      | no other ↦ absurd (beyond (many + 1) (v / 64) v (omega (arith, within)) (past (v / 64) far other) there.set)
-    ]
-  ]
-    where
-      past : (i : ℕ) → many ≤ i → ¬ (i ≡ many) → many + 1 ≤ i
-      past i far other = elim (cases_lt i (many + 1)) [
-        | inl below ↦ absurd (other (omega (arith, far, below)))
-        | inr far ↦ far
-      ]
-
-  pub row_first : (v p : ℕ) → IsInRow q (take many row) v p → IsInRow q (take (many + 1) row) v p
-  row_first v p there = elim (cases_lt (v / 64) many) [
-    | inl below ↦ record {
-      position = there.position;
-      set = sym (ap (λ (n : ℕ). bit_at n (v % 64)) (get_or-take many row (v / 64) 0 below ∙ sym (word_at (v / 64) (omega (arith, below))))) ∙ there.set;
-    }
-    | inr far ↦ absurd (beyond many (v / 64) v (omega (arith, within)) far there.set)
-  ]
-
-  pub row_second : (v p : ℕ) → IsInWord q many (get_or row many 0) v p → IsInRow q (take (many + 1) row) v p
-  row_second v p there = record {
-    position = there.position;
-    set = ap (λ (n : ℕ). bit_at n (v % 64)) (word_at (v / 64) (omega (arith, there.column)) ∙ ap (λ (k : ℕ). get_or row k 0) there.column) ∙ there.set;
-  }
-
--- One word more of a row is met.
-pub meets_more : (old middle new : SetsOfVertices) (q : ℕ) (row : List ℕ) (many : ℕ) (Opens : (v p : ℕ) → Type 0) → many < length row → Meets old middle (IsInRow q (take many row)) Opens → Meets middle new (IsInWord q many (get_or row many 0)) Opens → Meets old new (IsInRow q (take (many + 1) row)) Opens
-meets_more old middle new q row many Opens within so_far word =
-    meets_both old middle new (IsInRow q (take many row)) (IsInWord q many (get_or row many 0)) (IsInRow q (take (many + 1) row)) Opens
-    so_far word
-    (row_apart q row many within) (row_first q row many within) (row_second q row many within)
-
--- A row of one word is met.
-pub meets_only : (old new : SetsOfVertices) (q : ℕ) (row : List ℕ) (Opens : (v p : ℕ) → Type 0) → length row ≡ 1 → Meets old new (IsInWord q 0 (get_or row 0 0)) Opens → Meets old new (IsInRow q row) Opens
-meets_only old new q row Opens one meets =
-    subst (λ (xs : List ℕ). Meets old new (IsInRow q xs) Opens) (take_all 1 row (omega (arith, one)))
-    (meets_more old old new q row 0 Opens (omega (arith, one)) (meets_none old (IsInRow q []) Opens (empty_row q)) meets)
-
--- A word with no bits is met.
-pub meets_zero : (sets : SetsOfVertices) (q c word : ℕ) (Opens : (v p : ℕ) → Type 0) → word ≡ 0 → Meets sets sets (IsInWord q c word) Opens
-meets_zero sets q c word Opens none = meets_none sets (IsInWord q c word) Opens (λ v p there. no_bit (ap (λ (n : ℕ). bit_at n (v % 64)) none ∙ bit_at-zero (v % 64)) there.set)

@@ -8,7 +8,7 @@ use Rattle.rbg_rules.specs.declared.rule.Action.TheVariants.{Shift, On, Off, Ass
 use Rattle.rbg_rules.proofs.PositionLemmas.{one_stands}
 use Rattle.rbg_leaps.proofs.ShiftLemmas.{action_within}
 use Rattle.rbg_flat.specs.declared.paths.Kind.{Kind}
-use Rattle.rbg_flat.specs.declared.paths.Kind.TheVariants.{Modifier, Pattern, On as OnOne, OnEither, Other}
+use Rattle.rbg_flat.specs.declared.paths.Kind.TheVariants.{Modifier, Pattern, On as OnOne, OnEither, OnAny, Plain}
 use Rattle.rbg_flat.specs.Paths.{IsKind}
 use Rattle.rbg_flat.specs.internal.Shown.{ShowsKind, IsOnKind}
 
@@ -25,23 +25,32 @@ no_pattern rules numbered p a stands plain pattern = elim pattern.stands [
   | inr is ↦ true_not_false (ap is_pattern (one_stands rules numbered p (negative pattern.inside_it) a is stands) ∙ plain)
 ]
 
-plain_kind : (rules : Expression) → IsNumbered rules → (p : ℕ) (a : AbstractAction) → HasAction rules p a → is_modifier a ≡ false → is_pattern a ≡ false → IsKind rules p Other
-plain_kind rules numbered p a stands quiet plain = (no_modifier rules numbered p a stands quiet, no_pattern rules numbered p a stands plain)
+-- Where another action stands, no on does.
+abbrev is_on : AbstractAction → Bool
+is_on (on xs) = true
+is_on _ = false
+
+no_on_of : (rules : Expression) → IsNumbered rules → (p : ℕ) (a : AbstractAction) → HasAction rules p a → is_on a ≡ false → (wanted : List ℕ) → ¬ HasAction rules p (on wanted)
+no_on_of rules numbered p a stands other wanted there = true_not_false (ap is_on (one_stands rules numbered p (on wanted) a there stands) ∙ other)
+
+plain_kind : (rules : Expression) → IsNumbered rules → (p : ℕ) (a : AbstractAction) → HasAction rules p a → is_modifier a ≡ false → is_pattern a ≡ false → is_on a ≡ false → IsKind rules p Plain
+plain_kind rules numbered p a stands quiet plain other = (no_modifier rules numbered p a stands quiet, no_pattern rules numbered p a stands plain, no_on_of rules numbered p a stands other)
 
 on_kind : (rules : Expression) → IsNumbered rules → (p : ℕ) (pieces : List ℕ) → HasAction rules p (on pieces) → (kind : Kind) → IsOnKind pieces kind → IsKind rules p kind
 on_kind rules numbered p pieces stands Modifier is = absurd is
 on_kind rules numbered p pieces stands Pattern is = absurd is
 on_kind rules numbered p pieces stands (OnOne x) is = subst (λ (xs : List ℕ). HasAction rules p (on xs)) is stands
 on_kind rules numbered p pieces stands (OnEither x y) is = subst (λ (xs : List ℕ). HasAction rules p (on xs)) is stands
-on_kind rules numbered p pieces stands Other is = plain_kind rules numbered p (on pieces) stands refl refl
+on_kind rules numbered p pieces stands OnAny is = (pieces, stands)
+on_kind rules numbered p pieces stands Plain is = absurd is
 
 -- The kind that an action shows is that of its position.
 pub kind_stands : (rules : Expression) → IsNumbered rules → (p : ℕ) (i : Action) → Stands rules p i → (kind : Kind) → ShowsKind i kind → IsKind rules p kind
-kind_stands rules numbered p (Shift d) stands kind is = subst (λ (k : Kind). IsKind rules p k) (sym is) (plain_kind rules numbered p (shift d) stands refl refl)
+kind_stands rules numbered p (Shift d) stands kind is = subst (λ (k : Kind). IsKind rules p k) (sym is) (plain_kind rules numbered p (shift d) stands refl refl refl)
 kind_stands rules numbered p (On pieces) stands kind is = on_kind rules numbered p pieces.items stands kind is
 kind_stands rules numbered p (Off x) stands kind is = subst (λ (k : Kind). IsKind rules p k) (sym is) (record { action = off x; stands = stands; modifies = refl })
 kind_stands rules numbered p (Assign v e) stands kind is = subst (λ (k : Kind). IsKind rules p k) (sym is) (record { action = _; stands = stands; modifies = refl })
-kind_stands rules numbered p (Compare e r f) stands kind is = subst (λ (k : Kind). IsKind rules p k) (sym is) (plain_kind rules numbered p _ stands refl refl)
+kind_stands rules numbered p (Compare e r f) stands kind is = subst (λ (k : Kind). IsKind rules p k) (sym is) (plain_kind rules numbered p _ stands refl refl refl)
 kind_stands rules numbered p (Switch n) stands kind is = subst (λ (k : Kind). IsKind rules p k) (sym is) (record { action = switch n; stands = stands; modifies = refl })
 kind_stands rules numbered p Positive (x, stands) kind is = subst (λ (k : Kind). IsKind rules p k) (sym is) (record { inside_it = x; stands = inl stands })
 kind_stands rules numbered p Negative (x, stands) kind is = subst (λ (k : Kind). IsKind rules p k) (sym is) (record { inside_it = x; stands = inr stands })
@@ -59,36 +68,24 @@ pattern_kind rules numbered p Modifier is pattern = absurd (pattern_opens rules 
 pattern_kind rules numbered p Pattern is pattern = refl
 pattern_kind rules numbered p (OnOne x) is pattern = absurd (no_pattern rules numbered p (on (x ∷ [])) is refl pattern)
 pattern_kind rules numbered p (OnEither x y) is pattern = absurd (no_pattern rules numbered p (on (x ∷ y ∷ [])) is refl pattern)
-pattern_kind rules numbered p Other is pattern = absurd (is.1 pattern)
+pattern_kind rules numbered p OnAny is pattern = absurd (no_pattern rules numbered p (on is.0) is.1 refl pattern)
+pattern_kind rules numbered p Plain is pattern = absurd (is.1 pattern)
 
 pub modifier_kind : (rules : Expression) → IsNumbered rules → (p : ℕ) (kind : Kind) → IsKind rules p kind → IsModifierAt rules p → kind ≡ Modifier
 modifier_kind rules numbered p Modifier is modifier = refl
 modifier_kind rules numbered p Pattern is modifier = absurd (pattern_opens rules numbered p is modifier)
 modifier_kind rules numbered p (OnOne x) is modifier = absurd (no_modifier rules numbered p (on (x ∷ [])) is refl modifier)
 modifier_kind rules numbered p (OnEither x y) is modifier = absurd (no_modifier rules numbered p (on (x ∷ y ∷ [])) is refl modifier)
-modifier_kind rules numbered p Other is modifier = absurd (is.0 modifier)
-
--- Where the program's action is no on, none stands.
-abbrev is_on : AbstractAction → Bool
-is_on (on xs) = true
-is_on _ = false
-
-no_on_of : (rules : Expression) → IsNumbered rules → (p : ℕ) (a : AbstractAction) → HasAction rules p a → is_on a ≡ false → (wanted : List ℕ) → ¬ HasAction rules p (on wanted)
-no_on_of rules numbered p a stands other wanted there = true_not_false (ap is_on (one_stands rules numbered p (on wanted) a there stands) ∙ other)
-
-pub no_on_stands : (rules : Expression) → IsNumbered rules → (p : ℕ) (i : Action) → Stands rules p i → ((pieces : _) → ¬ (i ≡ On pieces)) → (wanted : List ℕ) → ¬ HasAction rules p (on wanted)
-no_on_stands rules numbered p (Shift d) stands none = no_on_of rules numbered p (shift d) stands refl
-no_on_stands rules numbered p (On pieces) stands none = absurd (none pieces refl)
-no_on_stands rules numbered p (Off x) stands none = no_on_of rules numbered p (off x) stands refl
-no_on_stands rules numbered p (Assign v e) stands none = no_on_of rules numbered p _ stands refl
-no_on_stands rules numbered p (Compare e r f) stands none = no_on_of rules numbered p _ stands refl
-no_on_stands rules numbered p (Switch n) stands none = no_on_of rules numbered p (switch n) stands refl
-no_on_stands rules numbered p Positive (x, stands) none = no_on_of rules numbered p (positive x) stands refl
-no_on_stands rules numbered p Negative (x, stands) none = no_on_of rules numbered p (negative x) stands refl
+modifier_kind rules numbered p OnAny is modifier = absurd (no_modifier rules numbered p (on is.0) is.1 refl modifier)
+modifier_kind rules numbered p Plain is modifier = absurd (is.0 modifier)
 
 -- No action stands at position 0.
-pub zero_kind : (rules : Expression) → IsNumbered rules → IsKind rules 0 Other
-zero_kind rules numbered = (λ modifier. not_zero (action_within rules numbered 0 modifier.action modifier.stands).0, λ pattern. by_pattern pattern)
+pub zero_kind : (rules : Expression) → IsNumbered rules → IsKind rules 0 Plain
+zero_kind rules numbered = (
+  λ modifier. not_zero (action_within rules numbered 0 modifier.action modifier.stands).0,
+  λ pattern. by_pattern pattern,
+  λ wanted stands. not_zero (action_within rules numbered 0 (on wanted) stands).0,
+)
   where
     not_zero : 0 < 0 → ⊥
     not_zero h = omega (arith, h)
@@ -98,3 +95,14 @@ zero_kind rules numbered = (λ modifier. not_zero (action_within rules numbered 
       | inl is ↦ not_zero (action_within rules numbered 0 (positive pattern.inside_it) is).0
       | inr is ↦ not_zero (action_within rules numbered 0 (negative pattern.inside_it) is).0
     ]
+
+-- Where an on stands, the program's action is one.
+pub other_never : (rules : Expression) → IsNumbered rules → (p : ℕ) (i : Action) → Stands rules p i → ((pieces : _) → ¬ (i ≡ On pieces)) → (wanted : List ℕ) → ¬ HasAction rules p (on wanted)
+other_never rules numbered p (Shift d) stands none = no_on_of rules numbered p (shift d) stands refl
+other_never rules numbered p (On pieces) stands none = absurd (none pieces refl)
+other_never rules numbered p (Off x) stands none = no_on_of rules numbered p (off x) stands refl
+other_never rules numbered p (Assign v e) stands none = no_on_of rules numbered p _ stands refl
+other_never rules numbered p (Compare e r f) stands none = no_on_of rules numbered p _ stands refl
+other_never rules numbered p (Switch n) stands none = no_on_of rules numbered p (switch n) stands refl
+other_never rules numbered p Positive (x, stands) none = no_on_of rules numbered p (positive x) stands refl
+other_never rules numbered p Negative (x, stands) none = no_on_of rules numbered p (negative x) stands refl

@@ -17,8 +17,7 @@ use Rattle.rbg_rules.specs.declared.rule.Action.TheVariants.{Shift, On, Off, Ass
 use Rattle.rbg_rules.proofs.LocalityLemmas.{locality_law}
 use Rattle.rbg_rules.proofs.PositionLemmas.{one_stands}
 use Rattle.rbg_auto.specs.Steps.{AreNext}
-use Rattle.rbg_leaps.specs.declared.asking.Leaps.{Leaps}
-use Rattle.rbg_leaps.specs.declared.table.Target.{Target}
+use Rattle.rbg_leaps.specs.declared.target.Target.{Target}
 use Rattle.rbg_leaps.specs.Asked.{AreTargetsFrom}
 use Rattle.rbg_leaps.specs.Leaps.{IsShiftAt, IsLeap, EndsAcross, Leads, stay, go}
 use Rattle.rbg_base.proofs.CallerLemmas.{slice_get-append_left}
@@ -27,7 +26,7 @@ use Rattle.rbg_flat.specs.Paths.{IsStill, AreFacts}
 use Rattle.rbg_flat.specs.internal.Leading.{IsAmongBits, IsOnBoard, IsPositionIn, LeadsFrom, EndsFrom, LearnsEnd, AreOn}
 use Rattle.rbg_flat.specs.internal.Sets.{SetsOfVertices, IsInWord, IsMarked, IsOpen, Meets}
 use Rattle.rbg_flat.specs.internal.Shown.{shows_shift}
-use Rattle.rbg_flat.proofs.Leaping.{within, leap_among}
+use Rattle.rbg_flat.proofs.Leaping.{within, leap_among, some_leap, target_position}
 use Rattle.rbg_flat.proofs.Meetings.{meets_both, meets_same}
 
 true_not_false : true ≡ false → ⊥
@@ -93,10 +92,10 @@ module _ (game : AbstractGame) (numbered : IsNumbered game.rules) (q : ℕ) (sti
   end_stays v w end = record { shifts = []; to = w; leads = stay; ends = by_end v end.to end.shifts end.leads end.ends }
 
   -- What is met at once is what leaps from each vertex of the word lead to.
-  module _ (c word vertex : ℕ) (there : IsInWord q c word vertex q) (leaps : Leaps) (targets : List Target) (are : AreTargetsFrom game (after q) vertex leaps targets) (Opens : (v p : ℕ) → Type 0) where
+  module _ (c word vertex : ℕ) (there : IsInWord q c word vertex q) (targets : List Target) (are : AreTargetsFrom game (after q) vertex targets) (Opens : (v p : ℕ) → Type 0) where
     to_leads : (u p : ℕ) → IsAmongBits targets c word u p → LeadsFrom game q c word u p
     to_leads u p among =
-        let some = All-contains (λ (x : Target). (v : ℕ) × IsLeap game (after q) vertex x.position v) targets among.target are.are.some among.listed in
+        let some = some_leap game numbered (after q) vertex targets are among.target among.listed in
         record {
           vertex = u;
           there = record { position = refl; column = among.there.column; set = among.there.set };
@@ -106,12 +105,12 @@ module _ (game : AbstractGame) (numbered : IsNumbered game.rules) (q : ℕ) (sti
     of_leads : (u p : ℕ) → LeadsFrom game q c word u p → IsAmongBits targets c word u p
     of_leads u p leads =
         let is = leap_stays leads.vertex p u leads.leap in
-        let among = leap_among game numbered (after q) vertex leaps targets are vertex p (is.1 vertex) in
+        let among = leap_among game numbered (after q) vertex targets are vertex p (is.1 vertex) in
         record {
           target = among.target;
           listed = among.listed;
           there = record {
-            position = among.row.position;
+            position = among.there.position;
             column = ap (λ (k : ℕ). k / 64) is.0 ∙ leads.there.column;
             set = subst (λ (k : ℕ). bit_at word (k % 64) ≡ 1) (sym is.0) leads.there.set;
           };
@@ -122,10 +121,7 @@ module _ (game : AbstractGame) (numbered : IsNumbered game.rules) (q : ℕ) (sti
 
     pub targets_in : All (λ t. IsPositionIn game t.position) targets
     targets_in i d below =
-        let t : Target = get_or targets i d in
-        let some = All-contains (λ (x : Target). (u : ℕ) × IsLeap game (after q) vertex x.position u) targets t are.are.some (Contains-get_or targets i d below) in
-        let range = within game numbered (after q) some.1.shifts t.position some.1.follows in
-        record { from_one = range.0; there = range.1 }
+        target_position game numbered (after q) vertex targets are (get_or targets i d) (Contains-get_or targets i d below)
 
   -- What is learned at one vertex is so at each of the word.
   pub ends_still : (c word vertex : ℕ) → IsInWord q c word vertex q → (old new : Bool) → LearnsEnd old new (EndsAcross game (after q) vertex) → LearnsEnd old new (EndsFrom game q c word)

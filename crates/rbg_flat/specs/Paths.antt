@@ -1,5 +1,5 @@
 -- The leaps of a game, and what flat parts need to know of its positions.
-use Rattle.std.specs.Prelude.{◌≡◌, ◌+◌, ◌<◌, ℕ, [], ◌∷◌, length, slice_get, Some, IsTrue}
+use Rattle.std.specs.Prelude.{◌≡◌, ◌+◌, ◌<◌, ℕ, List, [], ◌∷◌, length, slice_get, Some, IsTrue}
 use Rattle.rbg_rules.specs.Expression.{Expression, on}
 use Rattle.rbg_rules.specs.Positions.{HasAction, IsModifierAt, IsPatternAt, positions_of}
 use Rattle.rbg_rules.specs.State.{AbstractGame}
@@ -8,7 +8,7 @@ use Rattle.rbg_leaps.specs.Leaps.{IsShiftAt}
 use Rattle.rbg_leaps.specs.Made.{AreLeapsOf}
 use Rattle.rbg_flat.specs.declared.paths.Facts.{Facts}
 use Rattle.rbg_flat.specs.declared.paths.Kind.{Kind}
-use Rattle.rbg_flat.specs.declared.paths.Kind.TheVariants.{Modifier, Pattern, On, OnEither, Other}
+use Rattle.rbg_flat.specs.declared.paths.Kind.TheVariants.{Modifier, Pattern, On, OnEither, OnAny, Plain}
 use Rattle.rbg_flat.specs.declared.paths.Paths.{Paths}
 
 -- No shift comes next behind the position.
@@ -21,7 +21,8 @@ IsKind rules p Modifier = IsModifierAt rules p
 IsKind rules p Pattern = IsPatternAt rules p
 IsKind rules p (On x) = HasAction rules p (on (x ∷ []))
 IsKind rules p (OnEither x y) = HasAction rules p (on (x ∷ y ∷ []))
-IsKind rules p Other = (¬ IsModifierAt rules p) × (¬ IsPatternAt rules p)
+IsKind rules p OnAny = (wanted : List ℕ) × HasAction rules p (on wanted)
+IsKind rules p Plain = (¬ IsModifierAt rules p) × (¬ IsPatternAt rules p) × ((wanted : List ℕ) → ¬ HasAction rules p (on wanted))
 
 -- What is told of the position is so.
 pub record AreFacts (game : AbstractGame) (p : ℕ) (told : Facts) : Type 0 where

@@ -5,6 +5,7 @@ ghost use Rattle.rbg_rules.specs.Games.{IsGame};
 ghost use Rattle.rbg_rules.specs.Positions.{IsModifierAt, IsPatternAt, positions_of};
 ghost use Rattle.rbg_rules.specs.State.{IsStateOf};
 ghost use Rattle.rbg_flat.specs.Paths.{ArePathsOf, IsKind};
+ghost use Rattle.rbg_flat.specs.declared.paths.Kind.TheVariants.{OnAny};
 ghost use Rattle.rbg_flat.specs.internal.Passing.{Passes, IsOneOf, IsToTry};
 ghost use Rattle.rbg_flat.specs.internal.Leading.{IsOnBoard, IsPositionIn};
 
@@ -57,28 +58,28 @@ fn kind_to_try(
 {
     match kind {
         Kind::Modifier => 0,
-        Kind::Pattern => full_word(),
+        Kind::Pattern | Kind::Plain => full_word(),
         Kind::On(piece) => standing(state, piece, column),
         Kind::OnEither(piece, other) => {
             standing(state, piece, column) | standing(state, other, column)
         }
-        Kind::Other => other_to_try(game, state, position, column),
+        Kind::OnAny => on_to_try(game, state, position, column),
     }
 }
 
-/// The same where the facts tell nothing of the action. It is no modifier and no pattern.
-#[inline(never)]
-fn other_to_try(game: &Game, state: &SemiState, position: Position, column: usize) -> u64
+/// The bits of a column on whose vertices one of the pieces of the on at a position stands.
+fn on_to_try(game: &Game, state: &SemiState, position: Position, column: usize) -> u64
     requires lawful { IsGame game.now }
     requires position { IsPositionIn game.now position }
     requires column { column < 2 ^ 25 }
-    requires quiet { ¬ IsModifierAt game.now.rules position }
+    requires stands { IsKind game.now.rules position OnAny }
     ensures { (b : ℕ) → b < 64 → (bit_at result b ≡ 1)
         ↔ IsToTry game.now state.now.state (column * 64 + b) position }
 {
     match game.action(position) {
         Action::On { pieces } => any_standing(state, pieces, column),
-        _ => full_word(),
+        // it is an on
+        _ => 0,
     }
 }
 
@@ -163,14 +164,14 @@ pub(crate) fn held(
 {
     match paths.kind(game, position) {
         // its pieces stand on all vertices that are to be looked at
-        Kind::On(_) | Kind::OnEither(_, _) => word,
-        Kind::Modifier | Kind::Pattern | Kind::Other => {
+        Kind::On(_) | Kind::OnEither(_, _) | Kind::OnAny => word,
+        Kind::Modifier | Kind::Pattern | Kind::Plain => {
             other_held(game, state, position, column, word)
         }
     }
 }
 
-/// The same where the facts tell nothing of the action. Where a comparison holds at one vertex, it holds at each.
+/// The same where no on stands. Where a comparison holds at one vertex, it holds at each.
 #[inline(never)]
 fn other_held(game: &Game, state: &SemiState, position: Position, column: usize, word: u64) -> u64
     requires lawful { IsGame game.now }
@@ -184,7 +185,6 @@ fn other_held(game: &Game, state: &SemiState, position: Position, column: usize,
         ↔ Passes game.now state.now.state (column * 64 + b) position }
 {
     match game.action(position) {
-        Action::On { .. } => word,
         Action::Compare { .. } if !passes_at(game, state, state.vertex(), position) => 0,
         Action::Compare { .. } => word,
         _ => passing(game, state, position, column, word),

@@ -26,8 +26,10 @@ pub(crate) enum Kind {
     On(Piece),
     /// An on of these two pieces.
     OnEither(Piece, Piece),
-    /// Another action, or none: the game is asked for it.
-    Other,
+    /// A comparison or a shift, or no action: it is looked at everywhere.
+    Plain,
+    /// An on of no piece, or of more than two: the game is asked for its pieces.
+    OnAny,
 }
 
 /// What flat parts need to know of a position.
@@ -173,7 +175,7 @@ fn kind_at(game: &Game, position: Position) -> Kind
     ensures { IsKind game.now.rules position result }
 {
     if position == 0 {
-        return Kind::Other;
+        return Kind::Plain;
     }
     kind_of(game.action(position))
 }
@@ -186,7 +188,7 @@ fn kind_of(action: &Action) -> Kind
         Action::Off { .. } | Action::Assign { .. } | Action::Switch { .. } => Kind::Modifier,
         Action::Positive | Action::Negative => Kind::Pattern,
         Action::On { pieces } => on_kind(pieces),
-        Action::Shift { .. } | Action::Compare { .. } => Kind::Other,
+        Action::Shift { .. } | Action::Compare { .. } => Kind::Plain,
     }
 }
 
@@ -197,6 +199,6 @@ fn on_kind(pieces: &[Piece]) -> Kind
     match pieces {
         [piece] => Kind::On(*piece),
         [piece, other] => Kind::OnEither(*piece, *other),
-        _ => Kind::Other,
+        _ => Kind::OnAny,
     }
 }

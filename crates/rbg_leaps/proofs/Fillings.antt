@@ -9,14 +9,14 @@ use Rattle.rbg_rules.specs.State.{AbstractGame}
 use Rattle.rbg_leaps.specs.declared.lists.Lists.{Lists}
 use Rattle.rbg_leaps.specs.declared.table.Entry.{Entry}
 use Rattle.rbg_leaps.specs.declared.table.Table.{Table}
-use Rattle.rbg_leaps.specs.declared.table.Target.{Target}
+use Rattle.rbg_leaps.specs.declared.table.RowTarget.{RowTarget}
 use Rattle.rbg_leaps.specs.Entries.{end_of, IsWithin}
 use Rattle.rbg_leaps.specs.Leaps.{IsShiftAt}
-use Rattle.rbg_leaps.specs.Made.{entry_at, no_entry}
-use Rattle.rbg_leaps.specs.Rows.{has_bit}
+use Rattle.rbg_leaps.specs.Made.{no_entry}
+use Rattle.rbg_leaps.specs.internal.Rows.{has_bit}
 use Rattle.rbg_leaps.specs.internal.Shelves.{Extends, list_at, may_end_at}
 use Rattle.rbg_leaps.specs.internal.Steps.{Comes, IsLeapBy, IsOnly}
-use Rattle.rbg_leaps.specs.internal.Tables.{no_target, Tells, targets_of, TellsAt, IsSoundTable, IsUnder, IsToldBy, IsToldAt, IsWhole, IsClosed, IsRowOf, AddsRow, Grows, Puts, Shares, Keeps, AddsAll, LeadsAway, Fills, FillsOne, FillsUpTo, FillsRightly, IsMarked, LeadsToMarked, AreFilled}
+use Rattle.rbg_leaps.specs.internal.Tables.{entry_at, no_target, Tells, targets_of, TellsAt, IsSoundTable, IsUnder, IsToldBy, IsToldAt, IsWhole, IsClosed, IsRowOf, AddsRow, Grows, Puts, Shares, Keeps, AddsAll, LeadsAway, Fills, FillsOne, FillsUpTo, FillsRightly, IsMarked, LeadsToMarked, AreFilled}
 use Rattle.rbg_leaps.specs.internal.Words.{IsUnit}
 use Rattle.rbg_leaps.proofs.RowLemmas.{below_or_not, same_or_not, one_place, same_item, extends_none, extends_more, extends_by, part_extended, row_extended, LastPlace, before, last, last_place}
 use Rattle.rbg_leaps.proofs.Steppings.{ends_here}
@@ -43,10 +43,10 @@ rows_of : (t : Table) (e : Entry) → IsWithin (length t.targets.items) e → Al
 rows_of t e within = λ i d below.
     let short : e.start + i < end_of e = target_short t e within i below in
     let ends = within.ends in
-    subst (λ (x : Target). x.row + t.columns ≤ length t.words.items) (sym (part_item t.targets.items e.start (end_of e) i d short)) (t.rows (e.start + i) d (omega (arith, short, ends)))
+    subst (λ (x : RowTarget). x.row + t.columns ≤ length t.words.items) (sym (part_item t.targets.items e.start (end_of e) i d short)) (t.rows (e.start + i) d (omega (arith, short, ends)))
 
 -- What is told by rows that are there doesn't change when words are appended.
-tells_longer : (columns : ℕ) (old new : List ℕ) → Extends old new → (ts : List Target) → All (λ t. t.row + columns ≤ length old) ts → (j u : ℕ) → Tells columns old ts j u → Tells columns new ts j u
+tells_longer : (columns : ℕ) (old new : List ℕ) → Extends old new → (ts : List RowTarget) → All (λ t. t.row + columns ≤ length old) ts → (j u : ℕ) → Tells columns old ts j u → Tells columns new ts j u
 tells_longer columns old new extends ts rows j u told = record {
   at = told.at;
   there = told.there;
@@ -54,7 +54,7 @@ tells_longer columns old new extends ts rows j u told = record {
   bit = ap (λ (ws : List ℕ). has_bit ws u) (row_extended columns old new extends (get_or ts told.at no_target).row (rows told.at no_target told.there)) ∙ told.bit;
 }
 
-tells_shorter : (columns : ℕ) (old new : List ℕ) → Extends old new → (ts : List Target) → All (λ t. t.row + columns ≤ length old) ts → (j u : ℕ) → Tells columns new ts j u → Tells columns old ts j u
+tells_shorter : (columns : ℕ) (old new : List ℕ) → Extends old new → (ts : List RowTarget) → All (λ t. t.row + columns ≤ length old) ts → (j u : ℕ) → Tells columns new ts j u → Tells columns old ts j u
 tells_shorter columns old new extends ts rows j u told = record {
   at = told.at;
   there = told.there;
@@ -64,7 +64,7 @@ tells_shorter columns old new extends ts rows j u told = record {
 
 pub tells_forth : (old new : Table) → new.columns ≡ old.columns → Extends old.targets.items new.targets.items → Extends old.words.items new.words.items → (e : Entry) → IsWithin (length old.targets.items) e → (j u : ℕ) → TellsAt old e j u → TellsAt new e j u
 tells_forth old new columns targets words e within j u told =
-    subst (λ (ts : List Target). Tells new.columns new.words.items ts j u) (sym (part_extended old.targets.items new.targets.items targets e.start (end_of e) within.ends))
+    subst (λ (ts : List RowTarget). Tells new.columns new.words.items ts j u) (sym (part_extended old.targets.items new.targets.items targets e.start (end_of e) within.ends))
     (subst (λ (c : ℕ). Tells c new.words.items (targets_of old e) j u) (sym columns)
     (tells_longer old.columns old.words.items new.words.items words (targets_of old e) (rows_of old e within) j u told))
 
@@ -72,10 +72,10 @@ pub tells_back : (old new : Table) → new.columns ≡ old.columns → Extends o
 tells_back old new columns targets words e within j u told =
     tells_shorter old.columns old.words.items new.words.items words (targets_of old e) (rows_of old e within) j u
     (subst (λ (c : ℕ). Tells c new.words.items (targets_of old e) j u) columns
-    (subst (λ (ts : List Target). Tells new.columns new.words.items ts j u) (part_extended old.targets.items new.targets.items targets e.start (end_of e) within.ends) told))
+    (subst (λ (ts : List RowTarget). Tells new.columns new.words.items ts j u) (part_extended old.targets.items new.targets.items targets e.start (end_of e) within.ends) told))
 
 -- What one step leads to is told still where no less is told, and no more where a shift leads.
-pub told_on : (game : AbstractGame) (lists : Lists) (old new : Table) (first behind : List Target) (one two : Bool) (v p : ℕ) → new.vertices ≡ old.vertices → new.columns ≡ old.columns → Extends old.targets.items new.targets.items → Extends old.words.items new.words.items → ((j u : ℕ) → Tells old.columns old.words.items first j u → Tells new.columns new.words.items behind j u) → (IsTrue one → IsTrue two) → ((w : ℕ) → IsShiftAt game.rules p → w < old.vertices → entry_at new (get_or lists.afters.items p 0) w ≡ entry_at old (get_or lists.afters.items p 0) w) → IsToldBy game lists old first one v p → IsToldBy game lists new behind two v p
+pub told_on : (game : AbstractGame) (lists : Lists) (old new : Table) (first behind : List RowTarget) (one two : Bool) (v p : ℕ) → new.vertices ≡ old.vertices → new.columns ≡ old.columns → Extends old.targets.items new.targets.items → Extends old.words.items new.words.items → ((j u : ℕ) → Tells old.columns old.words.items first j u → Tells new.columns new.words.items behind j u) → (IsTrue one → IsTrue two) → ((w : ℕ) → IsShiftAt game.rules p → w < old.vertices → entry_at new (get_or lists.afters.items p 0) w ≡ entry_at old (get_or lists.afters.items p 0) w) → IsToldBy game lists old first one v p → IsToldBy game lists new behind two v p
 told_on game lists old new first behind one two v p vertices columns targets words keeps more same is = record {
   plain = λ other. keeps p v (is.plain other);
   is_vertex = λ w s comes. subst (λ (k : ℕ). w < k) (sym vertices) (is.is_vertex w s comes);
@@ -92,7 +92,7 @@ told_on game lists old new first behind one two v p vertices columns targets wor
     }
 
 -- .. at each position of a list.
-pub all_told_on : (game : AbstractGame) (lists : Lists) (old new : Table) (first behind : List Target) (one two : Bool) (v : ℕ) (list : List ℕ) → ((p : ℕ) → Contains list p → IsToldBy game lists old first one v p → IsToldBy game lists new behind two v p) → All (IsToldBy game lists old first one v) list → All (IsToldBy game lists new behind two v) list
+pub all_told_on : (game : AbstractGame) (lists : Lists) (old new : Table) (first behind : List RowTarget) (one two : Bool) (v : ℕ) (list : List ℕ) → ((p : ℕ) → Contains list p → IsToldBy game lists old first one v p → IsToldBy game lists new behind two v p) → All (IsToldBy game lists old first one v) list → All (IsToldBy game lists new behind two v) list
 all_told_on game lists old new first behind one two v list step all = λ k d below. step (get_or list k d) (k, below, same_item list k (get_or list k d) below ∙ sym (same_item list k d below)) (all k d below)
 
 -- Where nothing was missing, nothing is missing once other entries were filled.
@@ -161,11 +161,11 @@ entry_grown_same old new grows n v =
     ∙ ap (λ (k : ℕ). get_or old.entries.items (n * k + v) no_entry) grows.vertices
 
 -- What one step leads to is told still where words were appended.
-pub told_grown : (game : AbstractGame) (lists : Lists) (old new : Table) (first behind : List Target) (one two : Bool) (v p : ℕ) → Grows old new → Keeps old new first behind → (IsTrue one → IsTrue two) → IsToldBy game lists old first one v p → IsToldBy game lists new behind two v p
+pub told_grown : (game : AbstractGame) (lists : Lists) (old new : Table) (first behind : List RowTarget) (one two : Bool) (v p : ℕ) → Grows old new → Keeps old new first behind → (IsTrue one → IsTrue two) → IsToldBy game lists old first one v p → IsToldBy game lists new behind two v p
 told_grown game lists old new first behind one two v p grows kept more is =
     told_on game lists old new first behind one two v p grows.vertices grows.columns grows.targets grows.words kept.keeps more (λ w s small. entry_grown_same old new grows (get_or lists.afters.items p 0) w) is
 
-pub raise_end : (game : AbstractGame) (lists : Lists) (t : Table) (ts : List Target) (one two : Bool) (v p : ℕ) → (IsTrue one → IsTrue two) → IsToldBy game lists t ts one v p → IsToldBy game lists t ts two v p
+pub raise_end : (game : AbstractGame) (lists : Lists) (t : Table) (ts : List RowTarget) (one two : Bool) (v p : ℕ) → (IsTrue one → IsTrue two) → IsToldBy game lists t ts one v p → IsToldBy game lists t ts two v p
 raise_end game lists t ts one two v p more is = record {
   plain = is.plain;
   is_vertex = is.is_vertex;
@@ -173,7 +173,7 @@ raise_end game lists t ts one two v p more is = record {
 }
 
 -- A position that is no shift is told of by the row of the vertex.
-pub told_plain : (game : AbstractGame) (lists : Lists) (t : Table) (ts : List Target) (may_end : Bool) (v p : ℕ) → ¬ IsShiftAt game.rules p → Tells t.columns t.words.items ts p v → IsToldBy game lists t ts may_end v p
+pub told_plain : (game : AbstractGame) (lists : Lists) (t : Table) (ts : List RowTarget) (may_end : Bool) (v p : ℕ) → ¬ IsShiftAt game.rules p → Tells t.columns t.words.items ts p v → IsToldBy game lists t ts may_end v p
 told_plain game lists t ts may_end v p other told = record {
   plain = λ is_other. told;
   is_vertex = λ w s comes. absurd (other s);
@@ -181,7 +181,7 @@ told_plain game lists t ts may_end v p other told = record {
 }
 
 -- A shift that leads nowhere has nothing to be told.
-pub told_nowhere : (game : AbstractGame) (lists : Lists) (t : Table) (ts : List Target) (may_end : Bool) (v p : ℕ) → IsShiftAt game.rules p → ((w : ℕ) → ¬ Comes game v p w) → IsToldBy game lists t ts may_end v p
+pub told_nowhere : (game : AbstractGame) (lists : Lists) (t : Table) (ts : List RowTarget) (may_end : Bool) (v p : ℕ) → IsShiftAt game.rules p → ((w : ℕ) → ¬ Comes game v p w) → IsToldBy game lists t ts may_end v p
 told_nowhere game lists t ts may_end v p is nowhere = record {
   plain = λ other. absurd (other is);
   is_vertex = λ w s comes. absurd (nowhere w comes);
@@ -189,7 +189,7 @@ told_nowhere game lists t ts may_end v p is nowhere = record {
 }
 
 -- A shift that leads to one vertex, at which all was added that is told there.
-pub told_behind : (game : AbstractGame) (lists : Lists) (t : Table) (ts : List Target) (may_end : Bool) (v p to : ℕ) → IsShiftAt game.rules p → ((w : ℕ) → Comes game v p w → w ≡ to) → to < t.vertices → IsUnder t (entry_at t (get_or lists.afters.items p 0) to) ts may_end → IsToldBy game lists t ts may_end v p
+pub told_behind : (game : AbstractGame) (lists : Lists) (t : Table) (ts : List RowTarget) (may_end : Bool) (v p to : ℕ) → IsShiftAt game.rules p → ((w : ℕ) → Comes game v p w → w ≡ to) → to < t.vertices → IsUnder t (entry_at t (get_or lists.afters.items p 0) to) ts may_end → IsToldBy game lists t ts may_end v p
 told_behind game lists t ts may_end v p to is only small under = record {
   plain = λ other. absurd (other is);
   is_vertex = λ w s comes. subst (λ (x : ℕ). x < t.vertices) (sym (only w comes)) small;
@@ -197,7 +197,7 @@ told_behind game lists t ts may_end v p to is only small under = record {
 }
 
 -- All targets of an entry were added.
-pub added_under : (old new : Table) (first behind : List Target) (e : Entry) → IsWithin (length old.targets.items) e → AddsAll old new first behind e → IsUnder new e behind e.ends
+pub added_under : (old new : Table) (first behind : List RowTarget) (e : Entry) → IsWithin (length old.targets.items) e → AddsAll old new first behind e → IsUnder new e behind e.ends
 added_under old new first behind e within adds = record {
   tells = λ j u told.
       let before_it : TellsAt old e j u = tells_back old new adds.grows.columns adds.grows.targets adds.grows.words e within j u told in
@@ -205,7 +205,7 @@ added_under old new first behind e within adds = record {
   ends = λ t. t;
 }
 
-pub one_put : (game : AbstractGame) (lists : Lists) (old middle new : Table) (n v : ℕ) (ts : List Target) (may_end : Bool) → v < old.vertices → Grows old middle → Puts middle new n v ts may_end → IsSoundTable game lists new → IsWhole game lists middle n v ts may_end → FillsOne game lists old new n v
+pub one_put : (game : AbstractGame) (lists : Lists) (old middle new : Table) (n v : ℕ) (ts : List RowTarget) (may_end : Bool) → v < old.vertices → Grows old middle → Puts middle new n v ts may_end → IsSoundTable game lists new → IsWhole game lists middle n v ts may_end → FillsOne game lists old new n v
 one_put game lists old middle new n v ts may_end below grows puts sound whole = record {
   sound = sound;
   fills = record {
@@ -218,7 +218,7 @@ one_put game lists old middle new n v ts may_end below grows puts sound whole = 
   beside = λ w differ small. beside n w (other_vertex middle.vertices n v w differ) ∙ entry_grown_same old middle grows n w;
   closed = λ away.
       subst (λ (e : Entry). IsWhole game lists new n v (targets_of new e) e.ends) (sym puts.here)
-      (subst (λ (xs : List Target). IsWhole game lists new n v xs may_end) (sym (part_put middle new n v ts may_end puts)) (record {
+      (subst (λ (xs : List RowTarget). IsWhole game lists new n v xs may_end) (sym (part_put middle new n v ts may_end puts)) (record {
         ends = whole.ends;
         told = all_told_on game lists middle new ts ts may_end may_end v (list_at lists.shelf n) (λ p there. told_on game lists middle new ts ts may_end may_end v p puts.vertices puts.columns targets words keeps (λ t. t)
             (λ w s small. beside (get_or lists.afters.items p 0) w (other_node middle.vertices n v (get_or lists.afters.items p 0) w (inside v below) small (away p there s)))) whole.told;
@@ -365,7 +365,7 @@ one_placed game lists old new n v p may_end below sound only other ends puts =
     list : List ℕ
     list = list_at lists.shelf n
 
-    ts : List Target
+    ts : List RowTarget
     ts = (record { position = p; row = v * old.columns }) ∷ []
 
     unit : IsUnit old.columns old.words.items v (v * old.columns)

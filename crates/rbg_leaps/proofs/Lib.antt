@@ -2,6 +2,7 @@
 pub mod Cases
 pub mod Fillings
 pub mod Layings
+pub mod Packings
 pub mod RowLemmas
 pub mod ShiftLemmas
 pub mod Sharing

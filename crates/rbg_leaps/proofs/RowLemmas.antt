@@ -9,8 +9,7 @@ use Rattle.std.proofs.lemmas.Nat.Bits.{bit_at-zero, bit_at_or, bit_at-lt, bit_at
 use Rattle.std.proofs.lemmas.List.{append-nil, length-append, length-take-le, length-drop, get_or-drop, get_or-take, get_or_append_left, get_or_push, take-append-le}
 use Rattle.std.proofs.Math.ListN.{get_or-eq_default}
 use Rattle.std.proofs.lemmas.Slice.{between_is}
-use Rattle.rbg_leaps.specs.Rows.{has_bit}
-use Rattle.rbg_leaps.specs.Targets.{row_at}
+use Rattle.rbg_leaps.specs.internal.Rows.{has_bit, row_at}
 use Rattle.rbg_leaps.specs.internal.Shelves.{Extends}
 use Rattle.rbg_leaps.specs.internal.Words.{IsUnion, IsUnionUpTo, IsUnit, AddsUnit, AddsUnitUpTo, AreUnits, AreUnitsUpTo}
 

@@ -8,10 +8,9 @@ use Rattle.rbg_leaps.specs.declared.lists.Lists.{Lists}
 use Rattle.rbg_leaps.specs.declared.table.Entry.{Entry}
 use Rattle.rbg_leaps.specs.declared.table.Table.{Table}
 use Rattle.rbg_leaps.specs.Leaps.{IsShiftAt}
-use Rattle.rbg_leaps.specs.Made.{entry_at}
+use Rattle.rbg_leaps.specs.internal.Tables.{entry_at, IsSoundEntry, IsSoundTable, targets_of, IsUnder, IsToldAt}
 use Rattle.rbg_leaps.specs.internal.Shelves.{list_at, may_end_at, IsNodeOf, AreListsOf}
 use Rattle.rbg_leaps.specs.internal.Steps.{Comes}
-use Rattle.rbg_leaps.specs.internal.Tables.{IsSoundEntry, IsSoundTable, targets_of, IsUnder, IsToldAt}
 use Rattle.rbg_leaps.proofs.Fillings.{told_behind}
 use Rattle.rbg_leaps.proofs.ShiftLemmas.{shift_within}
 use Rattle.rbg_leaps.proofs.Tabling.{entry_on}

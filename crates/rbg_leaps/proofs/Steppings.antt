@@ -9,10 +9,9 @@ use Rattle.rbg_rules.proofs.LocalityLemmas.{locality_law}
 use Rattle.rbg_leaps.specs.declared.lists.Lists.{Lists}
 use Rattle.rbg_leaps.specs.declared.table.Table.{Table}
 use Rattle.rbg_leaps.specs.Leaps.{IsShiftAt, Leads, stay, go}
-use Rattle.rbg_leaps.specs.Made.{entry_at}
+use Rattle.rbg_leaps.specs.internal.Tables.{entry_at, TellsAt, IsToldAt, AreAllClosed}
 use Rattle.rbg_leaps.specs.internal.Shelves.{list_at, IsNodeOf, AreListsOf}
 use Rattle.rbg_leaps.specs.internal.Steps.{Comes, by_shift, by_other, IsAnswerAt, IsLeapBy, EndsBy}
-use Rattle.rbg_leaps.specs.internal.Tables.{TellsAt, IsToldAt, AreAllClosed}
 use Rattle.rbg_leaps.proofs.ShiftLemmas.{follower_within}
 
 -- A position that isn't a shift is a leap where one is.

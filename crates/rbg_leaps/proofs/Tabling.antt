@@ -1,7 +1,7 @@
 -- A table that is being made: what stays right when it grows.
 use Rattle.std.proofs.Common.{◌≡◌, ◌≢◌, ℕ, ◌+◌, ◌-◌, ◌*◌, ◌<◌, ◌≤◌, ◌⊎◌, List, [], ◌∷◌, ◌++◌, length, get_or, take, drop, set, Bool, true, false, refl, sym, ap, ◌∙◌, subst, inl, inr, zero, suc, arith}
 use Rattle.std.specs.Prelude.{All, Contains, IsTrue, slice_range, replicate}
-use Rattle.std.proofs.lemmas.List.{take_all, length-append, length-map, length-set, length-replicate, get_or-map, get_or-set_same, get_or-set_other, get_or-drop, get_or-take, get_or_append_left, get_or_push, length-take-le, length-drop}
+use Rattle.std.proofs.lemmas.List.{take_all, length-append, length-set, length-replicate, get_or-set_same, get_or-set_other, get_or-drop, get_or-take, get_or_append_left, get_or_push, length-take-le, length-drop}
 use Rattle.std.proofs.lemmas.List.Elements.{All-push}
 use Rattle.std.proofs.lemmas.List.Quantifiers.{all_pairs_push}
 use Rattle.std.proofs.lemmas.Slice.{between_is}
@@ -13,22 +13,21 @@ use Rattle.rbg_rules.specs.Words.{Start, after}
 use Rattle.rbg_leaps.specs.declared.lists.Lists.{Lists}
 use Rattle.rbg_leaps.specs.declared.table.Entry.{Entry}
 use Rattle.rbg_leaps.specs.declared.table.Table.{Table}
-use Rattle.rbg_leaps.specs.declared.table.Target.{Target}
+use Rattle.rbg_leaps.specs.declared.table.RowTarget.{RowTarget}
 use Rattle.rbg_leaps.specs.Leaps.{IsShiftAt, IsLeap}
 use Rattle.rbg_leaps.specs.Entries.{end_of}
 use Rattle.rbg_leaps.specs.Limits.{row_words}
-use Rattle.rbg_leaps.specs.Made.{entry_at, no_entry, IsEntry}
-use Rattle.rbg_leaps.specs.Rows.{has_bit}
-use Rattle.rbg_leaps.specs.Targets.{row_at}
+use Rattle.rbg_leaps.specs.Made.{no_entry}
+use Rattle.rbg_leaps.specs.internal.Rows.{has_bit, row_at}
 use Rattle.rbg_leaps.specs.internal.Shelves.{Extends, list_at, may_end_at, IsNodeOf, AreListsOf}
 use Rattle.rbg_leaps.specs.internal.Steps.{Comes, IsLeapBy, EndsBy}
-use Rattle.rbg_leaps.specs.internal.Tables.{no_target, Tells, IsRowOf, AreSound, targets_of, TellsAt, IsSoundEntry, IsSoundTable, Grows, IsGathered, Puts, Shares, AddsRow, AddsUpTo, AddsAll, IsFilled, IsClosed, StaysClosed, AreClosedFrom}
+use Rattle.rbg_leaps.specs.internal.Tables.{IsRowEntry, entry_at, no_target, Tells, IsRowOf, AreSound, targets_of, TellsAt, IsSoundEntry, IsSoundTable, Grows, IsGathered, Puts, Shares, AddsRow, AddsUpTo, AddsAll, IsFilled, IsClosed, StaysClosed, AreClosedFrom}
 use Rattle.rbg_leaps.specs.internal.Words.{IsUnion, IsUnit, AreUnits}
 use Rattle.rbg_leaps.proofs.RowLemmas.{below_or_not, same_or_not, one_place, extends_none, extends_more, extends_by, longer, part_extended, item_extended, row_extended, units_extended, LastPlace, before, last, last_place}
 use Rattle.rbg_leaps.proofs.Steppings.{leap_here, leap_on, ends_here, ends_on, all_told, all_ends_told}
 
 -- What is in a list doesn't depend on the default.
-pub any_default : (xs : List Target) (k : ℕ) (c d : Target) → k < length xs → get_or xs k c ≡ get_or xs k d
+pub any_default : {X : Type 0} (xs : List X) (k : ℕ) (c d : X) → k < length xs → get_or xs k c ≡ get_or xs k d
 any_default [] k c d below = absurd (omega (arith, below))
 any_default (x ∷ xs) zero c d below = refl
 any_default (x ∷ xs) (suc k) c d below = any_default xs k c d (omega (arith, below))
@@ -43,7 +42,7 @@ row_grown Leap columns old new extends row is =
       some = (is.some.0, ap (λ (ws : List ℕ). has_bit ws is.some.0) same ∙ is.some.1);
     }
 
-pub sound_grown : (Leap : ℕ → ℕ → Type 0) (columns : ℕ) (old new : List ℕ) → Extends old new → (ts : List Target) → AreSound Leap columns old ts → AreSound Leap columns new ts
+pub sound_grown : (Leap : ℕ → ℕ → Type 0) (columns : ℕ) (old new : List ℕ) → Extends old new → (ts : List RowTarget) → AreSound Leap columns old ts → AreSound Leap columns new ts
 sound_grown Leap columns old new extends ts are = record {
   different = are.different;
   rows = λ i d below. row_grown (Leap (get_or ts i d).position) columns old new extends (get_or ts i d).row (are.rows i d below);
@@ -56,19 +55,19 @@ sound_none Leap columns words = record {
 }
 
 -- The rows of sound targets are there.
-pub rows_there : (Leap : ℕ → ℕ → Type 0) (columns : ℕ) (words : List ℕ) (ts : List Target) → AreSound Leap columns words ts → All (λ t. t.row + columns ≤ length words) ts
+pub rows_there : (Leap : ℕ → ℕ → Type 0) (columns : ℕ) (words : List ℕ) (ts : List RowTarget) → AreSound Leap columns words ts → All (λ t. t.row + columns ≤ length words) ts
 rows_there Leap columns words ts are = λ i d below. (are.rows i d below).within
 
-pub rows_longer : (columns : ℕ) (old new : List ℕ) → Extends old new → (ts : List Target) → All (λ t. t.row + columns ≤ length old) ts → All (λ t. t.row + columns ≤ length new) ts
+pub rows_longer : (columns : ℕ) (old new : List ℕ) → Extends old new → (ts : List RowTarget) → All (λ t. t.row + columns ≤ length old) ts → All (λ t. t.row + columns ≤ length new) ts
 rows_longer columns old new extends ts rows = λ i d below. let long = longer old new extends in let within = rows i d below in omega (arith, long, within)
 
 -- A target of a position that has none is appended.
-pub adds_new : (columns : ℕ) (words : List ℕ) (ts : List Target) (position row : ℕ) → row + columns ≤ length words → All (λ t. t.row + columns ≤ length words) ts → ((i : ℕ) → i < length ts → (get_or ts i no_target).position ≢ position) → AddsRow columns words words ts (ts ++ (record { position = position; row = row }) ∷ []) position row
+pub adds_new : (columns : ℕ) (words : List ℕ) (ts : List RowTarget) (position row : ℕ) → row + columns ≤ length words → All (λ t. t.row + columns ≤ length words) ts → ((i : ℕ) → i < length ts → (get_or ts i no_target).position ≢ position) → AddsRow columns words words ts (ts ++ (record { position = position; row = row }) ∷ []) position row
 adds_new columns words ts position row within rows none = record {
   extends = extends_none words;
   rows = All-push (λ t. t.row + columns ≤ length words) ts target rows within;
   sound = λ game list may_end v are is. record {
-    different = all_pairs_push (λ s t. s.position ≢ t.position) ts target are.different (λ k d under same. none k under (ap (λ (t : Target). t.position) (any_default ts k no_target d under) ∙ same));
+    different = all_pairs_push (λ s t. s.position ≢ t.position) ts target are.different (λ k d under same. none k under (ap (λ (t : RowTarget). t.position) (any_default ts k no_target d under) ∙ same));
     rows = All-push (λ t. IsRowOf (IsLeapBy game list may_end v t.position) columns words t.row) ts target are.rows is;
   };
   keeps = λ j u told.
@@ -76,18 +75,18 @@ adds_new columns words ts position row within rows none = record {
       record {
         at = told.at;
         there = let there = told.there in omega (arith, long, there);
-        position = ap (λ (t : Target). t.position) item ∙ told.position;
-        bit = ap (λ (t : Target). has_bit (row_at columns words t.row) u) item ∙ told.bit;
+        position = ap (λ (t : RowTarget). t.position) item ∙ told.position;
+        bit = ap (λ (t : RowTarget). has_bit (row_at columns words t.row) u) item ∙ told.bit;
       };
   has = λ u is. record {
     at = length ts;
     there = omega (arith, long);
-    position = ap (λ (t : Target). t.position) item_last;
-    bit = ap (λ (t : Target). has_bit (row_at columns words t.row) u) item_last ∙ is;
+    position = ap (λ (t : RowTarget). t.position) item_last;
+    bit = ap (λ (t : RowTarget). has_bit (row_at columns words t.row) u) item_last ∙ is;
   };
 }
   where
-    target : Target
+    target : RowTarget
     target = record { position = position; row = row }
 
     long : length (ts ++ target ∷ []) ≡ length ts + 1
@@ -97,7 +96,7 @@ adds_new columns words ts position row within rows none = record {
     item_last = get_or_push ts target no_target (length ts) refl
 
 -- A row that is under the one that is there adds nothing.
-pub adds_nothing : (columns : ℕ) (words : List ℕ) (ts : List Target) (position row index : ℕ) → index < length ts → (get_or ts index no_target).position ≡ position → All (λ t. t.row + columns ≤ length words) ts → ((u : ℕ) → has_bit (row_at columns words row) u ≡ true → has_bit (row_at columns words (get_or ts index no_target).row) u ≡ true) → AddsRow columns words words ts ts position row
+pub adds_nothing : (columns : ℕ) (words : List ℕ) (ts : List RowTarget) (position row index : ℕ) → index < length ts → (get_or ts index no_target).position ≡ position → All (λ t. t.row + columns ≤ length words) ts → ((u : ℕ) → has_bit (row_at columns words row) u ≡ true → has_bit (row_at columns words (get_or ts index no_target).row) u ≡ true) → AddsRow columns words words ts ts position row
 adds_nothing columns words ts position row index there same rows under = record {
   extends = extends_none words;
   rows = rows;
@@ -107,7 +106,7 @@ adds_nothing columns words ts position row index there same rows under = record 
 }
 
 -- A row is joined with the one that is there.
-pub adds_union : (columns : ℕ) (old new : List ℕ) (ts : List Target) (position row index joined : ℕ) → index < length ts → (get_or ts index no_target).position ≡ position → All (λ t. t.row + columns ≤ length old) ts → IsUnion columns old new (get_or ts index no_target).row row joined → AddsRow columns old new ts (set ts index (record { position = position; row = joined })) position row
+pub adds_union : (columns : ℕ) (old new : List ℕ) (ts : List RowTarget) (position row index joined : ℕ) → index < length ts → (get_or ts index no_target).position ≡ position → All (λ t. t.row + columns ≤ length old) ts → IsUnion columns old new (get_or ts index no_target).row row joined → AddsRow columns old new ts (set ts index (record { position = position; row = joined })) position row
 adds_union columns old new ts position row index joined there same rows union = record {
   extends = union.extends;
   rows = λ k d below. rows_at k d below (same_or_not k index);
@@ -119,12 +118,12 @@ adds_union columns old new ts position row index joined there same rows union = 
   has = λ u is. record {
     at = index;
     there = below_old index there;
-    position = ap (λ (t : Target). t.position) (here index no_target refl);
-    bit = ap (λ (t : Target). has_bit (row_at columns new t.row) u) (here index no_target refl) ∙ union.second u is;
+    position = ap (λ (t : RowTarget). t.position) (here index no_target refl);
+    bit = ap (λ (t : RowTarget). has_bit (row_at columns new t.row) u) (here index no_target refl) ∙ union.second u is;
   };
 }
   where
-    target : Target
+    target : RowTarget
     target = record { position = position; row = joined }
 
     inside : (k : ℕ) → k < length (set ts index target) → k < length ts
@@ -136,18 +135,18 @@ adds_union columns old new ts position row index joined there same rows union = 
     below_old : (k : ℕ) → k < length ts → k < length (set ts index target)
     below_old k below = let long = length-set ts index target in omega (arith, below, long)
 
-    here : (k : ℕ) (d : Target) → k ≡ index → get_or (set ts index target) k d ≡ target
+    here : (k : ℕ) (d : RowTarget) → k ≡ index → get_or (set ts index target) k d ≡ target
     here k d e = ap (λ (i : ℕ). get_or (set ts index target) i d) e ∙ get_or-set_same ts index target d there
 
-    other : (k : ℕ) (d : Target) → k ≢ index → get_or (set ts index target) k d ≡ get_or ts k d
+    other : (k : ℕ) (d : RowTarget) → k ≢ index → get_or (set ts index target) k d ≡ get_or ts k d
     other k d differ = get_or-set_other ts index k target d differ
 
-    position_by : (k : ℕ) (d : Target) → k < length ts → (k ≡ index) ⊎ (k ≢ index) → (get_or (set ts index target) k d).position ≡ (get_or ts k d).position
+    position_by : (k : ℕ) (d : RowTarget) → k < length ts → (k ≡ index) ⊎ (k ≢ index) → (get_or (set ts index target) k d).position ≡ (get_or ts k d).position
     position_by k d below (inl e) =
-        ap (λ (t : Target). t.position) (here k d e) ∙ sym same ∙ ap (λ (t : Target). t.position) (any_default ts index no_target d there) ∙ ap (λ (i : ℕ). (get_or ts i d).position) (sym e)
-    position_by k d below (inr differ) = ap (λ (t : Target). t.position) (other k d differ)
+        ap (λ (t : RowTarget). t.position) (here k d e) ∙ sym same ∙ ap (λ (t : RowTarget). t.position) (any_default ts index no_target d there) ∙ ap (λ (i : ℕ). (get_or ts i d).position) (sym e)
+    position_by k d below (inr differ) = ap (λ (t : RowTarget). t.position) (other k d differ)
 
-    position_at : (k : ℕ) (d : Target) → k < length ts → (get_or (set ts index target) k d).position ≡ (get_or ts k d).position
+    position_at : (k : ℕ) (d : RowTarget) → k < length ts → (get_or (set ts index target) k d).position ≡ (get_or ts k d).position
     position_at k d below = position_by k d below (same_or_not k index)
 
     keep : (j u : ℕ) (told : Tells columns old ts j u) → (told.at ≡ index) ⊎ (told.at ≢ index) → Tells columns new (set ts index target) j u
@@ -156,7 +155,7 @@ adds_union columns old new ts position row index joined there same rows union = 
       there = below_old told.at told.there;
       position = position_at told.at no_target told.there ∙ told.position;
       bit =
-          ap (λ (t : Target). has_bit (row_at columns new t.row) u) (here told.at no_target e)
+          ap (λ (t : RowTarget). has_bit (row_at columns new t.row) u) (here told.at no_target e)
           ∙ union.first u (ap (λ (i : ℕ). has_bit (row_at columns old (get_or ts i no_target).row) u) (sym e) ∙ told.bit);
     }
     keep j u told (inr differ) = record {
@@ -164,19 +163,19 @@ adds_union columns old new ts position row index joined there same rows union = 
       there = below_old told.at told.there;
       position = position_at told.at no_target told.there ∙ told.position;
       bit =
-          ap (λ (t : Target). has_bit (row_at columns new t.row) u) (other told.at no_target differ)
+          ap (λ (t : RowTarget). has_bit (row_at columns new t.row) u) (other told.at no_target differ)
           ∙ ap (λ (ws : List ℕ). has_bit ws u) (row_extended columns old new union.extends (get_or ts told.at no_target).row (rows told.at no_target told.there))
           ∙ told.bit;
     }
 
-    rows_at : (k : ℕ) (d : Target) → k < length (set ts index target) → (k ≡ index) ⊎ (k ≢ index) → (get_or (set ts index target) k d).row + columns ≤ length new
-    rows_at k d below (inl e) = subst (λ (t : Target). t.row + columns ≤ length new) (sym (here k d e)) union.within
-    rows_at k d below (inr differ) = subst (λ (t : Target). t.row + columns ≤ length new) (sym (other k d differ)) (rows_longer columns old new union.extends ts rows k d (inside k below))
+    rows_at : (k : ℕ) (d : RowTarget) → k < length (set ts index target) → (k ≡ index) ⊎ (k ≢ index) → (get_or (set ts index target) k d).row + columns ≤ length new
+    rows_at k d below (inl e) = subst (λ (t : RowTarget). t.row + columns ≤ length new) (sym (here k d e)) union.within
+    rows_at k d below (inr differ) = subst (λ (t : RowTarget). t.row + columns ≤ length new) (sym (other k d differ)) (rows_longer columns old new union.extends ts rows k d (inside k below))
 
-    sound_at : (Leap : ℕ → ℕ → Type 0) → AreSound Leap columns old ts → IsRowOf (Leap position) columns old row → (k : ℕ) (d : Target) → k < length (set ts index target) → (k ≡ index) ⊎ (k ≢ index) → IsRowOf (Leap (get_or (set ts index target) k d).position) columns new (get_or (set ts index target) k d).row
+    sound_at : (Leap : ℕ → ℕ → Type 0) → AreSound Leap columns old ts → IsRowOf (Leap position) columns old row → (k : ℕ) (d : RowTarget) → k < length (set ts index target) → (k ≡ index) ⊎ (k ≢ index) → IsRowOf (Leap (get_or (set ts index target) k d).position) columns new (get_or (set ts index target) k d).row
     sound_at Leap are is k d below (inl e) =
         let before : IsRowOf (Leap position) columns old (get_or ts index no_target).row = subst (λ (p : ℕ). IsRowOf (Leap p) columns old (get_or ts index no_target).row) same (are.rows index no_target there) in
-        subst (λ (t : Target). IsRowOf (Leap t.position) columns new t.row) (sym (here k d e)) (record {
+        subst (λ (t : RowTarget). IsRowOf (Leap t.position) columns new t.row) (sym (here k d e)) (record {
           within = union.within;
           only = λ u set_there. elim (union.only u set_there) [
             | inl one ↦ before.only u one
@@ -185,7 +184,7 @@ adds_union columns old new ts position row index joined there same rows union = 
           some = (before.some.0, union.first before.some.0 before.some.1);
         })
     sound_at Leap are is k d below (inr differ) =
-        subst (λ (t : Target). IsRowOf (Leap t.position) columns new t.row) (sym (other k d differ))
+        subst (λ (t : RowTarget). IsRowOf (Leap t.position) columns new t.row) (sym (other k d differ))
         (row_grown (Leap (get_or ts k d).position) columns old new union.extends (get_or ts k d).row (are.rows k d (inside k below)))
 
 -- A table that grew.
@@ -221,7 +220,7 @@ entry_grown game list may_end v old new columns targets words e is = record {
   within = record { ends = let long = longer old.targets.items new.targets.items targets in let within = is.within.ends in omega (arith, long, within) };
   targets =
       subst (λ (k : ℕ). AreSound (IsLeapBy game list may_end v) k new.words.items (targets_of new e)) (sym columns)
-      (subst (λ (ts : List Target). AreSound (IsLeapBy game list may_end v) old.columns new.words.items ts) (sym (part_extended old.targets.items new.targets.items targets e.start (end_of e) is.within.ends))
+      (subst (λ (ts : List RowTarget). AreSound (IsLeapBy game list may_end v) old.columns new.words.items ts) (sym (part_extended old.targets.items new.targets.items targets e.start (end_of e) is.within.ends))
       (sound_grown (IsLeapBy game list may_end v) old.columns old.words.items new.words.items words (targets_of old e) is.targets));
   ends = is.ends;
 }
@@ -244,7 +243,7 @@ table_grown game lists old new grows is = record {
 }
 
 -- What is gathered stays so.
-pub gathered_grown : (game : AbstractGame) (lists : Lists) (old new : Table) (n v : ℕ) → Grows old new → (ts : List Target) → IsGathered game lists old n v ts → IsGathered game lists new n v ts
+pub gathered_grown : (game : AbstractGame) (lists : Lists) (old new : Table) (n v : ℕ) → Grows old new → (ts : List RowTarget) → IsGathered game lists old n v ts → IsGathered game lists new n v ts
 gathered_grown game lists old new n v grows ts is =
     let Leap : ℕ → ℕ → Type 0 = IsLeapBy game (list_at lists.shelf n) (may_end_at lists.shelf n) v in
     subst (λ (k : ℕ). AreSound Leap k new.words.items ts) (sym grows.columns) (sound_grown Leap old.columns old.words.items new.words.items grows.words ts is)
@@ -288,18 +287,18 @@ table_set game lists old new n v e below is vertices columns targets words size 
         (entry_grown game (list_at lists.shelf m) (may_end_at lists.shelf m) w old new columns targets words (entry_at old m w) (is.sound m w there small))
 
 -- The targets of an entry that was put into its place are its own.
-pub part_put : (old new : Table) (n v : ℕ) (ts : List Target) (ends : Bool) → Puts old new n v ts ends → slice_range new.targets.items (length old.targets.items) (length old.targets.items + length ts) ≡ ts
+pub part_put : (old new : Table) (n v : ℕ) (ts : List RowTarget) (ends : Bool) → Puts old new n v ts ends → slice_range new.targets.items (length old.targets.items) (length old.targets.items + length ts) ≡ ts
 part_put old new n v ts ends puts =
-    ap (λ (xs : List Target). slice_range xs (length old.targets.items) (length old.targets.items + length ts)) puts.are_targets
+    ap (λ (xs : List RowTarget). slice_range xs (length old.targets.items) (length old.targets.items + length ts)) puts.are_targets
     ∙ part_last old.targets.items ts (length old.targets.items + length ts) refl
 
 -- .. with what was gathered,
-pub table_put : (game : AbstractGame) (lists : Lists) (old new : Table) (n v : ℕ) (ts : List Target) (ends : Bool) → v < old.vertices → IsSoundTable game lists old → Puts old new n v ts ends → IsGathered game lists old n v ts → (IsTrue ends → EndsBy game (list_at lists.shelf n) (may_end_at lists.shelf n) v) → IsSoundTable game lists new
+pub table_put : (game : AbstractGame) (lists : Lists) (old new : Table) (n v : ℕ) (ts : List RowTarget) (ends : Bool) → v < old.vertices → IsSoundTable game lists old → Puts old new n v ts ends → IsGathered game lists old n v ts → (IsTrue ends → EndsBy game (list_at lists.shelf n) (may_end_at lists.shelf n) v) → IsSoundTable game lists new
 table_put game lists old new n v ts ends below is puts gathered end =
     table_set game lists old new n v entry below is puts.vertices puts.columns (extends_by old.targets.items new.targets.items ts puts.are_targets) words puts.size puts.here puts.others (record {
       within = record { ends = omega (arith, long) };
       targets =
-          subst (λ (xs : List Target). AreSound (IsLeapBy game (list_at lists.shelf n) (may_end_at lists.shelf n) v) new.columns new.words.items xs) (sym (part_put old new n v ts ends puts))
+          subst (λ (xs : List RowTarget). AreSound (IsLeapBy game (list_at lists.shelf n) (may_end_at lists.shelf n) v) new.columns new.words.items xs) (sym (part_put old new n v ts ends puts))
           (subst (λ (k : ℕ). AreSound (IsLeapBy game (list_at lists.shelf n) (may_end_at lists.shelf n) v) k new.words.items ts) (sym puts.columns)
           (sound_grown (IsLeapBy game (list_at lists.shelf n) (may_end_at lists.shelf n) v) old.columns old.words.items new.words.items words ts gathered));
       ends = end;
@@ -357,7 +356,7 @@ blank_table game lists t places vertices columns many entries units = record {
 pub part_item : {X : Type 0} (xs : List X) (a b i : ℕ) (d : X) → a + i < b → get_or (slice_range xs a b) i d ≡ get_or xs (a + i) d
 part_item xs a b i d below = ap (λ (ys : List _). get_or ys i d) (between_is xs a b) ∙ get_or-drop a (take b xs) i d ∙ get_or-take b xs (a + i) d below
 
-part_long : {X : Type 0} (xs : List X) (a b i : ℕ) → b ≤ length xs → a + i < b → i < length (slice_range xs a b)
+pub part_long : {X : Type 0} (xs : List X) (a b i : ℕ) → b ≤ length xs → a + i < b → i < length (slice_range xs a b)
 part_long xs a b i within below =
     let same = ap length (between_is xs a b) in
     let front = length-take-le b xs within in
@@ -365,7 +364,7 @@ part_long xs a b i within below =
     omega (arith, same, front, rest, below)
 
 -- Nothing was added of an entry yet, and then one target.
-pub adds_none : (t : Table) (ts : List Target) (e : Entry) → All (λ x. x.row + t.columns ≤ length t.words.items) ts → AddsUpTo t t ts ts e e.start
+pub adds_none : (t : Table) (ts : List RowTarget) (e : Entry) → All (λ x. x.row + t.columns ≤ length t.words.items) ts → AddsUpTo t t ts ts e e.start
 adds_none t ts e rows = record {
   grows = grows_none t;
   rows = rows;
@@ -375,7 +374,7 @@ adds_none t ts e rows = record {
 }
 
 -- All that is behind the end was added too.
-pub adds_all : (old new : Table) (first behind : List Target) (e : Entry) (place : ℕ) → end_of e ≤ place → AddsUpTo old new first behind e place → AddsAll old new first behind e
+pub adds_all : (old new : Table) (first behind : List RowTarget) (e : Entry) (place : ℕ) → end_of e ≤ place → AddsUpTo old new first behind e place → AddsAll old new first behind e
 adds_all old new first behind e place far adds = record {
   grows = adds.grows;
   rows = adds.rows;
@@ -384,7 +383,7 @@ adds_all old new first behind e place far adds = record {
   has = λ i u below is. adds.has i u (omega (arith, below, far)) is;
 }
 
-pub adds_one : (old middle new : Table) (first between behind : List Target) (e : Entry) (k : ℕ) (d : Target) → e.start ≤ k → k < end_of e → end_of e ≤ length old.targets.items → AddsUpTo old middle first between e k → Grows middle new → AddsRow middle.columns middle.words.items new.words.items between behind (get_or middle.targets.items k d).position (get_or middle.targets.items k d).row → AddsUpTo old new first behind e (k + 1)
+pub adds_one : (old middle new : Table) (first between behind : List RowTarget) (e : Entry) (k : ℕ) (d : RowTarget) → e.start ≤ k → k < end_of e → end_of e ≤ length old.targets.items → AddsUpTo old middle first between e k → Grows middle new → AddsRow middle.columns middle.words.items new.words.items between behind (get_or middle.targets.items k d).position (get_or middle.targets.items k d).row → AddsUpTo old new first behind e (k + 1)
 adds_one old middle new first between behind e k d starts ends within adds grows adds_row = record {
   grows = grows_more old middle new adds.grows grows;
   rows = subst (λ (c : ℕ). All (λ x. x.row + c ≤ length new.words.items) behind) (sym grows.columns) adds_row.rows;
@@ -411,16 +410,16 @@ adds_one old middle new first between behind e k d starts ends within adds grows
     has_at : (n u : ℕ) → LastPlace k (e.start + n) → has_bit (row_at old.columns old.words.items (get_or (targets_of old e) n no_target).row) u ≡ true → Tells new.columns new.words.items behind (get_or (targets_of old e) n no_target).position u
     has_at n u (before below) is = go_on (get_or (targets_of old e) n no_target).position u (adds.has n u below is)
     has_at n u (last same) is =
-        let own : Target = get_or (targets_of old e) n no_target in
+        let own : RowTarget = get_or (targets_of old e) n no_target in
         let in_row : own.row + old.columns ≤ length old.words.items =
-        subst (λ (t : Target). t.row + old.columns ≤ length old.words.items) (sym (any_default (targets_of old e) n no_target d (there_at n same) ∙ part_item old.targets.items e.start (end_of e) n d (omega (arith, same, ends))))
+        subst (λ (t : RowTarget). t.row + old.columns ≤ length old.words.items) (sym (any_default (targets_of old e) n no_target d (there_at n same) ∙ part_item old.targets.items e.start (end_of e) n d (omega (arith, same, ends))))
         (old.rows (e.start + n) d (omega (arith, same, ends, within))) in
         let bit : has_bit (row_at middle.columns middle.words.items own.row) u ≡ true =
         subst (λ (c : ℕ). has_bit (row_at c middle.words.items own.row) u ≡ true) (sym adds.grows.columns)
         (ap (λ (ws : List ℕ). has_bit ws u) (row_extended old.columns old.words.items middle.words.items adds.grows.words own.row in_row) ∙ is) in
         subst (λ (c : ℕ). Tells c new.words.items behind own.position u) (sym grows.columns)
-        (subst (λ (t : Target). Tells middle.columns new.words.items behind t.position u) (sym (target_at n same))
-        (adds_row.has u (subst (λ (t : Target). has_bit (row_at middle.columns middle.words.items t.row) u ≡ true) (target_at n same) bit)))
+        (subst (λ (t : RowTarget). Tells middle.columns new.words.items behind t.position u) (sym (target_at n same))
+        (adds_row.has u (subst (λ (t : RowTarget). has_bit (row_at middle.columns middle.words.items t.row) u ≡ true) (target_at n same) bit)))
 
     i : ℕ
     i = k - e.start
@@ -437,7 +436,7 @@ adds_one old middle new first between behind e k d starts ends within adds grows
     row : (game : AbstractGame) (list : List ℕ) (may_end : Bool) (v : ℕ) → AreSound (IsLeapBy game list may_end v) old.columns old.words.items (targets_of old e) → IsRowOf (IsLeapBy game list may_end v (get_or middle.targets.items k d).position) middle.columns middle.words.items (get_or middle.targets.items k d).row
     row game list may_end v are =
         let there : i < length (targets_of old e) = part_long old.targets.items e.start (end_of e) i within (let same = at in omega (arith, same, ends)) in
-        subst (λ (t : Target). IsRowOf (IsLeapBy game list may_end v t.position) middle.columns middle.words.items t.row) target
+        subst (λ (t : RowTarget). IsRowOf (IsLeapBy game list may_end v t.position) middle.columns middle.words.items t.row) target
         (subst (λ (c : ℕ). IsRowOf (IsLeapBy game list may_end v (get_or (targets_of old e) i d).position) c middle.words.items (get_or (targets_of old e) i d).row) (sym adds.grows.columns)
         (row_grown (IsLeapBy game list may_end v (get_or (targets_of old e) i d).position) old.columns old.words.items middle.words.items adds.grows.words (get_or (targets_of old e) i d).row (are.rows i d there)))
 
@@ -488,7 +487,7 @@ module _ (game : AbstractGame) (numbered : IsNumbered game.rules) (lists : Lists
   abbrev pub own : Entry
   own = entry_at table n v
 
-  abbrev pub ts : List Target
+  abbrev pub ts : List RowTarget
   ts = targets_of table own
 
   sound : IsSoundEntry game (list_at lists.shelf n) (may_end_at lists.shelf n) v table own
@@ -497,49 +496,16 @@ module _ (game : AbstractGame) (numbered : IsNumbered game.rules) (lists : Lists
   tells : (j u : ℕ) → IsLeap game f v j u → TellsAt table own j u
   tells j u leap = all_told game numbered lists are table filled.sound.laid_out.vertices filled.closed f n v node below leap.shifts leap.leads leap.follows leap.plain
 
-  leap_in : (i : ℕ) (d : Target) → i < length ts → (u : ℕ) → has_bit (row_at table.columns table.words.items (get_or ts i d).row) u ≡ true → IsLeap game f v (get_or ts i d).position u
-  leap_in i d there u set_there = ((sound.targets.rows i d there).only u set_there).leap f node.answer
-
-  -- Two targets of one position are one.
-  one_target : (i k : ℕ) (d : Target) → i < length ts → k < length ts → (get_or ts i d).position ≡ (get_or ts k d).position → i ≡ k
-  one_target i k d first second same = elim (same_or_not i k) [
-    | inl e ↦ e
-    | inr differ ↦ absurd (by_order i k d first second same (apart i k differ))
-  ]
-    where
-      by_order : (i k : ℕ) (d : Target) → i < length ts → k < length ts → (get_or ts i d).position ≡ (get_or ts k d).position → (i < k) ⊎ (k < i) → ⊥
-      by_order i k d first second same (inl e) = sound.targets.different i k d e second same
-      by_order i k d first second same (inr e) = sound.targets.different k i d e first (sym same)
-
-      apart : (i k : ℕ) → i ≢ k → (i < k) ⊎ (k < i)
-      apart zero zero differ = absurd (differ refl)
-      apart zero (suc k) differ = inl (omega arith)
-      apart (suc i) zero differ = inr (omega arith)
-      apart (suc i) (suc k) differ = up (apart i k (λ e. differ (ap suc e)))
-        where
-          up : (i < k) ⊎ (k < i) → (suc i < suc k) ⊎ (suc k < suc i)
-          up (inl e) = inl (omega (arith, e))
-          up (inr e) = inr (omega (arith, e))
-
-  bit_in : (i : ℕ) (d : Target) → i < length ts → (u : ℕ) → IsLeap game f v (get_or ts i d).position u → has_bit (row_at table.columns table.words.items (get_or ts i d).row) u ≡ true
-  bit_in i d there u leap =
-      let told = tells (get_or ts i d).position u leap in
-      let here : get_or ts told.at no_target ≡ get_or ts told.at d = any_default ts told.at no_target d told.there in
-      let same : told.at ≡ i = one_target told.at i d told.there there (ap (λ (t : Target). t.position) (sym here) ∙ told.position) in
-      subst (λ (t : Target). has_bit (row_at table.columns table.words.items t.row) u ≡ true) (here ∙ ap (λ (k : ℕ). get_or ts k d) same) told.bit
-
-  pub filled_entry : IsEntry game f v table own
+  pub filled_entry : IsRowEntry game f v table own
   filled_entry = record {
     within = sound.within;
-    targets = record {
-      rows = λ i d there. (sound.targets.rows i d there).within;
+    sound = record {
       different = sound.targets.different;
-      exact = λ i d there. λ u. (leap_in i d there u, bit_in i d there u);
-      some = λ i d there. let some = (sound.targets.rows i d there).some in (some.0, leap_in i d there some.0 some.1);
-      all = λ j u leap.
-          let told = tells j u leap in
-          (told.at, let long = length-map ts (λ (t : Target). t.position) in let there = told.there in omega (arith, long, there), get_or-map (λ (t : Target). t.position) ts told.at no_target j told.there ∙ told.position);
+      rows = λ i d there.
+          let row = sound.targets.rows i d there in
+          record { within = row.within; only = λ u set_there. (row.only u set_there).leap f node.answer; some = row.some };
     };
+    all = tells;
     ends = (λ is. (sound.ends is).ends f node.answer, λ end. all_ends_told game numbered lists are table filled.sound.laid_out.vertices filled.closed f n v node below end.shifts end.leads end.ends);
   }
 

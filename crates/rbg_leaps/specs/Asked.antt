@@ -1,21 +1,24 @@
 -- What is told of the leaps that are asked for.
-use Rattle.std.specs.Prelude.{◌≡◌, ℕ, ◌+◌, ◌≤◌, List, length}
+use Rattle.std.specs.Prelude.{◌≡◌, ℕ, ◌/◌, ◌%◌, ◌<◌, List, Contains}
+use Rattle.std.specs.Int.{bit_at}
 use Rattle.rbg_rules.specs.State.{AbstractGame}
 use Rattle.rbg_rules.specs.Words.{Start}
-use Rattle.rbg_leaps.specs.declared.asking.Leaps.{Leaps}
-use Rattle.rbg_leaps.specs.declared.table.Target.{Target}
+use Rattle.rbg_leaps.specs.declared.target.Target.{Target}
+use Rattle.rbg_leaps.specs.Leaps.{IsLeap}
 use Rattle.rbg_leaps.specs.Limits.{row_words}
-use Rattle.rbg_leaps.specs.Targets.{row_in, AreTargets}
 
--- The row of a target.
-abbrev pub row_of : Leaps → Target → List ℕ
-row_of leaps = row_in leaps.table.columns leaps.table.words.items
+-- A leap's end is one of the vertices of a target.
+pub record IsEndOf (t : Target) (p u : ℕ) : Type 0 where
+  pub position : p ≡ t.position
+  pub column : u / 64 ≡ t.column
+  pub set : bit_at t.word (u % 64) ≡ 1
 
--- The target has a row.
-abbrev pub HasRow : Leaps → Target → Type 0
-HasRow leaps t = t.row + leaps.table.columns ≤ length leaps.table.words.items
-
--- The targets are the leaps from f and vertex v, with the rows that these leaps have: each of as many words as it takes.
-pub record AreTargetsFrom (game : AbstractGame) (f : Start) (v : ℕ) (leaps : Leaps) (targets : List Target) : Type 0 where
-  pub size : leaps.table.columns ≡ row_words game
-  pub are : AreTargets game f v leaps.table.columns leaps.table.words.items targets
+-- The targets are the leaps from f and vertex v.
+--   sound, all: their vertices are exactly the ends of these leaps
+--   some: each has a vertex
+--   columns: each is in a column of the board
+pub record AreTargetsFrom (game : AbstractGame) (f : Start) (v : ℕ) (targets : List Target) : Type 0 where
+  pub sound : (t : Target) → Contains targets t → (p u : ℕ) → IsEndOf t p u → IsLeap game f v p u
+  pub all : (p u : ℕ) → IsLeap game f v p u → (t : Target) × Contains targets t × IsEndOf t p u
+  pub some : (t : Target) → Contains targets t → (u : ℕ) × IsEndOf t t.position u
+  pub columns : (t : Target) → Contains targets t → t.column < row_words game

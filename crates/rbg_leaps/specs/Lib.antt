@@ -1,8 +1,6 @@
 -- Leaps, by topic.
 pub mod Leaps
-pub mod Rows
 pub mod Origin
-pub mod Targets
 pub mod Asked
 pub mod Limits
 pub mod Entries

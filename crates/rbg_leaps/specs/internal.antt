@@ -2,5 +2,7 @@
 pub mod Spans
 pub mod Steps
 pub mod Shelves
+pub mod Rows
 pub mod Words
 pub mod Tables
+pub mod Packing

@@ -1,9 +1,8 @@
 //! Whether anything is missing in a table.
 ghost use Rattle.std.specs.Prelude.{◌≡◌, ℕ, ◌+◌, ◌<◌, ◌≤◌, length, true, IsTrue};
 ghost use Rattle.rbg_leaps.specs.Entries.{IsWithin};
-ghost use Rattle.rbg_leaps.specs.Made.{entry_at};
-ghost use Rattle.rbg_leaps.specs.Rows.{has_bit};
-ghost use Rattle.rbg_leaps.specs.Targets.{row_at};
+ghost use Rattle.rbg_leaps.specs.internal.Tables.{entry_at};
+ghost use Rattle.rbg_leaps.specs.internal.Rows.{has_bit, row_at};
 ghost use Rattle.rbg_leaps.specs.internal.Tables.{TellsAt, targets_of, IsUnder, IsToldAt, IsToldEverywhere, AreClosedAt, IsLaidOut};
 
 use crate::gathering::index_of;

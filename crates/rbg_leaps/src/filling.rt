@@ -10,7 +10,7 @@ ghost use Rattle.rbg_leaps.specs.internal.Tables.{IsSoundEntry, IsRightSoFar, Is
 use crate::gathering::gather;
 use crate::ground::Ground;
 use crate::lists::Lists;
-use crate::table::{Entry, Table, Target};
+use crate::table::{Entry, RowTarget, Table};
 use rbg_base::{Memory, Position, Vertex};
 use std::alloc::Global;
 
@@ -18,7 +18,7 @@ use std::alloc::Global;
 #[inline(always)]
 fn fill_one(
     table: &mut Table,
-    parts: &mut Vec<Target>,
+    parts: &mut Vec<RowTarget>,
     lists: &Lists,
     ground: &Ground<'_>,
     node: usize,
@@ -136,7 +136,7 @@ fn place_one(
     ensures { OnOk result (FillsOne ground.now lists.now table.old table.new node vertex) }
 {
     let row = table.unit(vertex);
-    let target = Target { position, row };
+    let target = RowTarget { position, row };
     table.put(node, vertex, &[target], lists.shelf.may_end(node))?;
     Ok(())
 }
@@ -164,7 +164,7 @@ fn place_node(
 /// Fills the entries of a node forwards over the vertices.
 fn fill_forwards(
     table: &mut Table,
-    parts: &mut Vec<Target>,
+    parts: &mut Vec<RowTarget>,
     lists: &Lists,
     ground: &Ground<'_>,
     node: usize,
@@ -182,7 +182,7 @@ fn fill_forwards(
 /// Fills the entries of a node backwards over the vertices.
 fn fill_backwards(
     table: &mut Table,
-    parts: &mut Vec<Target>,
+    parts: &mut Vec<RowTarget>,
     lists: &Lists,
     ground: &Ground<'_>,
     node: usize,
@@ -202,7 +202,7 @@ fn fill_backwards(
 /// Fills the entries of a node from which no shift leads to the node again.
 fn fill_once(
     table: &mut Table,
-    parts: &mut Vec<Target>,
+    parts: &mut Vec<RowTarget>,
     lists: &Lists,
     ground: &Ground<'_>,
     node: usize,
@@ -252,7 +252,7 @@ fn repeats(lists: &Lists, ground: &Ground<'_>, node: usize, later: bool) -> bool
 /// backwards where they lead to later ones.
 pub(crate) fn fill_again(
     table: &mut Table,
-    parts: &mut Vec<Target>,
+    parts: &mut Vec<RowTarget>,
     lists: &Lists,
     ground: &Ground<'_>,
     node: usize,
@@ -313,7 +313,7 @@ fn is_ready(lists: &Lists, ground: &Ground<'_>, filled: &[bool], node: usize) ->
 /// Fills the entries of a node.
 fn fill_node(
     table: &mut Table,
-    parts: &mut Vec<Target>,
+    parts: &mut Vec<RowTarget>,
     lists: &Lists,
     ground: &Ground<'_>,
     node: usize,
@@ -333,7 +333,7 @@ fn fill_node(
 /// Fills a node that isn't filled, where it is ready. Returns whether it is filled then.
 fn fill_next(
     table: &mut Table,
-    parts: &mut Vec<Target>,
+    parts: &mut Vec<RowTarget>,
     lists: &Lists,
     ground: &Ground<'_>,
     filled: &mut [bool],
@@ -358,7 +358,7 @@ fn fill_next(
 /// Fills the nodes that are ready. Returns whether there was one.
 fn fill_ready(
     table: &mut Table,
-    parts: &mut Vec<Target>,
+    parts: &mut Vec<RowTarget>,
     lists: &Lists,
     ground: &Ground<'_>,
     filled: &mut [bool],
@@ -383,7 +383,7 @@ fn fill_ready(
 pub(crate) fn fill_in_order(
     alloc: Global,
     table: &mut Table,
-    parts: &mut Vec<Target>,
+    parts: &mut Vec<RowTarget>,
     lists: &Lists,
     ground: &Ground<'_>,
 ) -> Result<Vec<bool>, Memory>

@@ -8,12 +8,12 @@ ghost use Rattle.rbg_leaps.specs.internal.Tables.{no_target, AddsRow, AddsAll, I
 use crate::ground::Ground;
 use crate::lists::Lists;
 use crate::rows::{is_under, push_union};
-use crate::table::{Entry, Table, Target};
+use crate::table::{Entry, RowTarget, Table};
 use rbg_base::{Memory, Position, Vertex};
 
 /// Which of the targets is of a position.
 #[inline(always)]
-pub(crate) fn index_of(targets: &[Target], position: Position) -> Option<usize>
+pub(crate) fn index_of(targets: &[RowTarget], position: Position) -> Option<usize>
     ensures there { IfSome result (λ i. i < length targets.now) }
     ensures some { IfSome result (λ i. (slice_index_or targets.now i no_target).position ≡ position) }
     ensures none { IfNone result ((i : ℕ) → i < length targets.now
@@ -30,7 +30,7 @@ pub(crate) fn index_of(targets: &[Target], position: Position) -> Option<usize>
 /// Adds a row to the targets at a position: as it is where they have none there, and else joined with theirs.
 #[inline(always)]
 pub(crate) fn add(
-    parts: &mut Vec<Target>,
+    parts: &mut Vec<RowTarget>,
     words: &mut Vec<u64>,
     columns: usize,
     position: Position,
@@ -42,20 +42,20 @@ pub(crate) fn add(
     ensures adds { OnOk result (AddsRow columns words.old.items words.new.items parts.old.items parts.new.items position row) }
 {
     let Some(index) = index_of(parts, position) else {
-        parts.push(Target { position, row })?;
+        parts.push(RowTarget { position, row })?;
         return Ok(());
     };
     let before = parts[index].row;
     if !is_under(words, columns, row as usize, before as usize) {
         let row = push_union(words, columns, before as usize, row as usize)?;
-        parts[index] = Target { position, row };
+        parts[index] = RowTarget { position, row };
     }
     Ok(())
 }
 
 /// Adds all targets of an entry.
 #[inline(always)]
-fn add_all(table: &mut Table, parts: &mut Vec<Target>, entry: Entry) -> Result<(), Memory>
+fn add_all(table: &mut Table, parts: &mut Vec<RowTarget>, entry: Entry) -> Result<(), Memory>
     requires within { IsWithin (length table.old.targets.items) entry }
     requires rows { All (λ t. t.row + table.old.columns ≤ length table.old.words.items) parts.old.items }
     ensures { OnOk result (AddsAll table.old table.new parts.old.items parts.new.items entry) }
@@ -72,7 +72,7 @@ fn add_all(table: &mut Table, parts: &mut Vec<Target>, entry: Entry) -> Result<(
 #[inline(always)]
 fn gather_one(
     table: &mut Table,
-    parts: &mut Vec<Target>,
+    parts: &mut Vec<RowTarget>,
     lists: &Lists,
     ground: &Ground<'_>,
     node: usize,
@@ -107,7 +107,7 @@ fn gather_one(
 #[inline(always)]
 pub(crate) fn gather(
     table: &mut Table,
-    parts: &mut Vec<Target>,
+    parts: &mut Vec<RowTarget>,
     lists: &Lists,
     ground: &Ground<'_>,
     node: usize,

@@ -8,21 +8,23 @@ ghost use Rattle.rbg_leaps.specs.internal.Tables.{AreLaid, IsFilled};
 use crate::asking::Leaps;
 use crate::ground::Ground;
 use crate::lists::Lists;
+use crate::packing::{Packed, pack};
 use crate::table::{Entry, Table};
 use rbg_base::Memory;
 use std::alloc::{AllocError, Global};
 
-/// The entries of nodes, side by side.
-fn lay(alloc: Global, table: &Table, nodes: &[usize]) -> Result<Vec<Entry>, Memory>
-    requires { All (λ n. n * table.now.vertices + table.now.vertices ≤ length table.now.entries.items) nodes.now }
-    ensures { IfOk result (λ entries. AreLaid table.now nodes.now entries.items) }
+/// Entries of nodes, side by side, out of those of all nodes.
+fn lay(alloc: Global, all: &[Entry], vertices: usize, nodes: &[usize]) -> Result<Vec<Entry>, Memory>
+    requires { All (λ n. n * vertices + vertices ≤ length all.now) nodes.now }
+    ensures { IfOk result (λ entries. AreLaid vertices all.now nodes.now entries.items) }
 {
-    let Some(places) = nodes.len().checked_mul(table.vertices) else {
+    let Some(places) = nodes.len().checked_mul(vertices) else {
         return Err(AllocError);
     };
     let mut entries = Vec::with_capacity(alloc, places)?;
     for node in nodes {
-        entries.extend_from_slice(table.entries_of(*node))?;
+        let start = *node * vertices;
+        entries.extend_from_slice(&all[start..start + vertices])?;
     }
     Ok(entries)
 }
@@ -40,11 +42,15 @@ pub(crate) fn laid_out(
     requires lawful { IsGame ground.now }
     ensures { IfOk result (AreLeapsOf ground.now) }
 {
-    let afters = lay(alloc, &table, &lists.afters)?;
+    let vertices = table.vertices;
+    let Packed { entries, targets } = pack(alloc, table)?;
+    let afters = lay(alloc, &entries, vertices, &lists.afters)?;
     Ok(Leaps {
         afters,
         rules: lists.rules,
         insides: lists.insides,
-        table,
+        vertices,
+        entries,
+        targets,
     })
 }

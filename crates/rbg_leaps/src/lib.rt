@@ -11,13 +11,15 @@ mod laying;
 mod lists;
 mod making;
 mod origin;
+mod packing;
 mod rounds;
 mod rows;
 mod shelf;
 mod shifts;
 mod table;
+mod target;
 
 pub use asking::Leaps;
 pub use making::{MAX_WORDS, leaps};
 pub use origin::Origin;
-pub use table::Target;
+pub use target::Target;

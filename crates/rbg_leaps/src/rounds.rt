@@ -9,14 +9,14 @@ use crate::filling::{fill_again, fill_in_order, is_marked, leads_away};
 use crate::ground::Ground;
 use crate::lists::Lists;
 use crate::rows::units;
-use crate::table::{Table, Target};
+use crate::table::{RowTarget, Table};
 use rbg_base::Memory;
 use std::alloc::{AllocError, Global};
 
 /// Fills the entries of a node where anything is missing in them. Returns whether anything was.
 fn mend(
     table: &mut Table,
-    parts: &mut Vec<Target>,
+    parts: &mut Vec<RowTarget>,
     lists: &Lists,
     ground: &Ground<'_>,
     node: usize,
@@ -37,7 +37,7 @@ fn mend(
 /// Mends the entries of all nodes, those that come late in the rules first. Returns whether anything was missing.
 fn round(
     table: &mut Table,
-    parts: &mut Vec<Target>,
+    parts: &mut Vec<RowTarget>,
     lists: &Lists,
     ground: &Ground<'_>,
 ) -> Result<bool, Memory>
@@ -58,7 +58,7 @@ fn round(
 /// Mends a node where it isn't filled. Returns whether anything was missing.
 fn mend_other(
     table: &mut Table,
-    parts: &mut Vec<Target>,
+    parts: &mut Vec<RowTarget>,
     lists: &Lists,
     ground: &Ground<'_>,
     filled: &[bool],
@@ -80,7 +80,7 @@ fn mend_other(
 /// Mends the nodes that aren't filled. Returns whether anything was missing.
 fn mend_others(
     table: &mut Table,
-    parts: &mut Vec<Target>,
+    parts: &mut Vec<RowTarget>,
     lists: &Lists,
     ground: &Ground<'_>,
     filled: &[bool],
@@ -102,7 +102,7 @@ fn mend_others(
 /// Mends the nodes that aren't filled, until nothing is missing in them.
 fn mend_until_still(
     table: &mut Table,
-    parts: &mut Vec<Target>,
+    parts: &mut Vec<RowTarget>,
     lists: &Lists,
     ground: &Ground<'_>,
     filled: &[bool],

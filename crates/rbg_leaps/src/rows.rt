@@ -1,8 +1,7 @@
 //! Rows of bits in one array of words.
 ghost use Rattle.std.specs.Prelude.{◌≡◌, ℕ, ◌+◌, ◌*◌, ◌<◌, ◌≤◌, ◌/◌, ◌%◌, length, true, IfOk, OnOk, IsTrue};
 ghost use Rattle.std.specs.Int.{bit_at};
-ghost use Rattle.rbg_leaps.specs.Rows.{has_bit};
-ghost use Rattle.rbg_leaps.specs.Targets.{row_at};
+ghost use Rattle.rbg_leaps.specs.internal.Rows.{has_bit, row_at};
 ghost use Rattle.rbg_leaps.specs.internal.Shelves.{Extends};
 ghost use Rattle.rbg_leaps.specs.internal.Words.{IsUnion, AreUnits, AddsUnit};
 

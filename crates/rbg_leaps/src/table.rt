@@ -9,8 +9,8 @@ use std::alloc::{AllocError, Global};
 
 /// A position to which a leap leads, and the row of its vertices.
 #[derive(Debug, Clone, Copy, Drop)]
-pub struct Target {
-    pub position: Position,
+pub(crate) struct RowTarget {
+    pub(crate) position: Position,
     /// Where its row begins among all words.
     pub(crate) row: u32,
 }
@@ -34,7 +34,7 @@ pub(crate) struct Table {
     /// How many words a row has.
     pub(crate) columns: usize,
     pub(crate) entries: Vec<Entry>,
-    pub(crate) targets: Vec<Target>,
+    pub(crate) targets: Vec<RowTarget>,
     pub(crate) words: Vec<u64>,
     ghost within: { All (IsWithin (length targets.items)) entries.items },
     ghost rows: { All (λ t. t.row + columns ≤ length words.items) targets.items },
@@ -50,9 +50,9 @@ impl Entry {
 }
 
 impl Table {
-    ghost use Rattle.std.specs.Prelude.{◌≡◌, ◌*◌, ◌<◌, ◌^◌, replicate, IfOk, OnOk, IfSome, IfNone, slice_range};
-    ghost use Rattle.rbg_leaps.specs.Made.{entry_at, no_entry};
-    ghost use Rattle.rbg_leaps.specs.internal.Tables.{targets_of, Puts, Shares, Grows, AddsRow};
+    ghost use Rattle.std.specs.Prelude.{◌≡◌, ◌*◌, ◌<◌, ◌^◌, replicate, IfOk, OnOk, IfSome, IfNone};
+    ghost use Rattle.rbg_leaps.specs.Made.{no_entry};
+    ghost use Rattle.rbg_leaps.specs.internal.Tables.{entry_at, targets_of, Puts, Shares, Grows, AddsRow};
 
     /// An empty entry for each node and each vertex, appended node by node: that takes fewer instructions than one large
     /// fill.
@@ -121,16 +121,6 @@ impl Table {
         }
     }
 
-    /// The entries of a node that has them.
-    #[inline(always)]
-    pub(crate) fn entries_of(&self, node: usize) -> &[Entry]
-        requires { node * self.now.vertices + self.now.vertices ≤ length self.now.entries.items }
-        ensures { result.now ≡ slice_range self.now.entries.items (node * self.now.vertices) (node * self.now.vertices + self.now.vertices) }
-    {
-        let start = node * self.vertices;
-        &self.entries[start..start + self.vertices]
-    }
-
     /// Puts the entry of a node and a vertex in its place, with targets of its own. Memory is said to be out where an entry
     /// can't name them: behind 4,294,967,295 targets, which take 32 gigabytes, and where they are more than 65,535, while a
     /// game has at most 20,000 positions.
@@ -139,7 +129,7 @@ impl Table {
         &mut self,
         node: usize,
         vertex: Vertex,
-        targets: &[Target],
+        targets: &[RowTarget],
         ends: bool,
     ) -> Result<(), Memory>
         requires there { node * self.old.vertices + vertex < length self.old.entries.items }
@@ -175,7 +165,7 @@ impl Table {
     #[inline(always)]
     pub(crate) fn add_row(
         &mut self,
-        parts: &mut Vec<Target>,
+        parts: &mut Vec<RowTarget>,
         position: Position,
         row: u32,
     ) -> Result<(), Memory>
@@ -197,22 +187,13 @@ impl Table {
         (vertex as usize * self.columns) as u32
     }
 
-    /// So many targets, one behind another.
-    #[inline(always)]
-    pub(crate) fn targets_from(&self, start: u32, many: u16) -> &[Target]
-        requires { start + many ≤ length self.now.targets.items }
-        ensures { result.now ≡ slice_range self.now.targets.items start (start + many) }
-    {
-        let start = start as usize;
-        &self.targets[start..start + many as usize]
-    }
-
     /// The targets of an entry.
     #[inline(always)]
-    pub(crate) fn targets(&self, entry: Entry) -> &[Target]
+    pub(crate) fn targets(&self, entry: Entry) -> &[RowTarget]
         requires { IsWithin (length self.now.targets.items) entry }
         ensures { result.now ≡ targets_of self.now entry }
     {
-        self.targets_from(entry.start, entry.many)
+        let start = entry.start as usize;
+        &self.targets[start..start + entry.many as usize]
     }
 }

@@ -4,12 +4,10 @@ use Rattle.std.specs.Int.{bit_at}
 use Rattle.rbg_rules.specs.Positions.{positions_of}
 use Rattle.rbg_rules.specs.State.{AbstractGame}
 use Rattle.rbg_rules.specs.Words.{after}
-use Rattle.rbg_leaps.specs.declared.asking.Leaps.{Leaps}
-use Rattle.rbg_leaps.specs.declared.table.Target.{Target}
-use Rattle.rbg_leaps.specs.Asked.{row_of, HasRow}
+use Rattle.rbg_leaps.specs.declared.target.Target.{Target}
 use Rattle.rbg_leaps.specs.Leaps.{IsLeap, EndsAcross}
 use Rattle.rbg_leaps.specs.Limits.{row_words}
-use Rattle.rbg_flat.specs.internal.Sets.{SetsOfVertices, IsInRow, IsInWord, IsMarked}
+use Rattle.rbg_flat.specs.internal.Sets.{SetsOfVertices, IsInWord, IsMarked}
 
 -- The sets have a row for each position of the game, and a bit in it for each vertex.
 pub record AreSizedFor (game : AbstractGame) (sets : SetsOfVertices) : Type 0 where
@@ -23,18 +21,21 @@ pub record AreOn (game : AbstractGame) (sets : SetsOfVertices) : Type 0 where
   pub from_one : (v p : ℕ) → IsMarked sets v p → 0 < p
   pub there : (v p : ℕ) → IsMarked sets v p → p ≤ length (positions_of game.rules)
 
--- The target is at a position of the game, and has a row of as many words as it takes.
-pub record IsTargetFor (game : AbstractGame) (leaps : Leaps) (t : Target) : Type 0 where
-  pub from_one : 0 < t.position
-  pub there : t.position ≤ length (positions_of game.rules)
-  pub row : HasRow leaps t
-  pub columns : leaps.table.columns ≡ row_words game
+-- The position is one of the game's.
+pub record IsPositionIn (game : AbstractGame) (p : ℕ) : Type 0 where
+  pub from_one : 0 < p
+  pub there : p ≤ length (positions_of game.rules)
 
--- The vertex is in the row of one of the targets, which is at the position.
-pub record IsAmong (leaps : Leaps) (targets : List Target) (v p : ℕ) : Type 0 where
+-- The target is at a position of the game, and in a column of the board.
+pub record IsTargetFor (game : AbstractGame) (t : Target) : Type 0 where
+  pub position : IsPositionIn game t.position
+  pub column : t.column < row_words game
+
+-- The vertex is one of those of one of the targets, which is at the position.
+pub record IsAmong (targets : List Target) (v p : ℕ) : Type 0 where
   pub target : Target
   pub listed : Contains targets target
-  pub row : IsInRow target.position (row_of leaps target) v p
+  pub there : IsInWord target.position target.column target.word v p
 
 -- It was learned whether something ends.
 pub record LearnsEnd (old new : Bool) (Ends : Type 0) : Type 0 where
@@ -76,8 +77,3 @@ pub record IsAmongBits (targets : List Target) (c word v p : ℕ) : Type 0 where
   pub target : Target
   pub listed : Contains targets target
   pub there : IsInWord target.position c word v p
-
--- The position is one of the game's.
-pub record IsPositionIn (game : AbstractGame) (p : ℕ) : Type 0 where
-  pub from_one : 0 < p
-  pub there : p ≤ length (positions_of game.rules)

@@ -85,11 +85,6 @@ pub record Meets (old new : SetsOfVertices) (In Opens : (v p : ℕ) → Type 0) 
       IsOpen old v p ⊎ (In v p × Opens v p × (¬ IsMarked old v p))
   pub lighter : weight new ≤ weight old
 
--- The vertex is in a row of a position.
-pub record IsInRow (q : ℕ) (row : List ℕ) (v p : ℕ) : Type 0 where
-  pub position : p ≡ q
-  pub set : bit_at (slice_index row (v / 64)) (v % 64) ≡ 1
-
 -- The word of the vertex in the row of the position is the latest that waits.
 abbrev pub WaitsLast : SetsOfVertices → (v p : ℕ) → Type 0
 WaitsLast sets v p = IsLastOf sets.waiting (p * sets.columns + v / 64)

@@ -1,26 +1,26 @@
 -- What a table that is being made tells, whether it is right so far, and whether anything is missing.
-use Rattle.std.specs.Prelude.{◌≡◌, ◌≢◌, ℕ, ◌+◌, ◌*◌, ◌<◌, ◌≤◌, List, ◌++◌, length, slice_range, slice_index_or, Bool, true, false, IsTrue, All, AllPairs, Contains}
+use Rattle.std.specs.Prelude.{◌≡◌, ◌≢◌, ℕ, ◌+◌, ◌*◌, ◌<◌, ◌≤◌, ◌↔◌, List, ◌++◌, length, slice_range, slice_index_or, Bool, true, false, IsTrue, All, AllPairs, Contains}
 use Rattle.rbg_rules.specs.Games.{IsGame}
 use Rattle.rbg_rules.specs.State.{AbstractGame}
+use Rattle.rbg_rules.specs.Words.{Start}
 use Rattle.rbg_leaps.specs.declared.lists.Lists.{Lists}
 use Rattle.rbg_leaps.specs.declared.table.Entry.{Entry}
 use Rattle.rbg_leaps.specs.declared.table.Table.{Table}
-use Rattle.rbg_leaps.specs.declared.table.Target.{Target}
+use Rattle.rbg_leaps.specs.declared.table.RowTarget.{RowTarget}
 use Rattle.rbg_leaps.specs.Entries.{end_of, IsWithin}
-use Rattle.rbg_leaps.specs.Leaps.{IsShiftAt}
+use Rattle.rbg_leaps.specs.Leaps.{IsShiftAt, IsLeap, EndsAcross}
 use Rattle.rbg_leaps.specs.Limits.{row_words}
-use Rattle.rbg_leaps.specs.Made.{entry_in, entry_at, no_entry}
-use Rattle.rbg_leaps.specs.Rows.{has_bit}
-use Rattle.rbg_leaps.specs.Targets.{row_at}
+use Rattle.rbg_leaps.specs.Made.{entry_in, no_entry}
+use Rattle.rbg_leaps.specs.internal.Rows.{has_bit, row_at}
 use Rattle.rbg_leaps.specs.internal.Shelves.{Extends, list_at, may_end_at, AreListsOf}
 use Rattle.rbg_leaps.specs.internal.Steps.{Comes, IsLeapBy, EndsBy}
 use Rattle.rbg_leaps.specs.internal.Words.{AreUnits}
 
-abbrev pub no_target : Target
+abbrev pub no_target : RowTarget
 no_target = record { position = 0; row = 0 }
 
 -- The targets tell of position j at vertex u.
-pub record Tells (columns : ℕ) (words : List ℕ) (targets : List Target) (j u : ℕ) : Type 0 where
+pub record Tells (columns : ℕ) (words : List ℕ) (targets : List RowTarget) (j u : ℕ) : Type 0 where
   pub at : ℕ
   pub there : at < length targets
   pub position : (slice_index_or targets at no_target).position ≡ j
@@ -33,12 +33,16 @@ pub record IsRowOf (Leap : ℕ → Type 0) (columns : ℕ) (words : List ℕ) (r
   pub some : (u : ℕ) × (has_bit (row_at columns words row) u ≡ true)
 
 -- The targets are of different positions, and tell of nothing but these leaps.
-pub record AreSound (Leap : ℕ → ℕ → Type 0) (columns : ℕ) (words : List ℕ) (targets : List Target) : Type 0 where
+pub record AreSound (Leap : ℕ → ℕ → Type 0) (columns : ℕ) (words : List ℕ) (targets : List RowTarget) : Type 0 where
   pub different : AllPairs (λ s t. s.position ≢ t.position) targets
   pub rows : All (λ t. IsRowOf (Leap t.position) columns words t.row) targets
 
+-- The entry of a node and a vertex.
+abbrev pub entry_at : Table → (node v : ℕ) → Entry
+entry_at table node v = entry_in table.entries.items table.vertices node v
+
 -- The targets of an entry.
-abbrev pub targets_of : Table → Entry → List Target
+abbrev pub targets_of : Table → Entry → List RowTarget
 targets_of table e = slice_range table.targets.items e.start (end_of e)
 
 abbrev pub TellsAt : Table → Entry → (j u : ℕ) → Type 0
@@ -73,14 +77,14 @@ IsRightSoFar game lists table = record {
 }
 
 -- What an entry tells, the targets tell, and also whether a word may end.
-pub record IsUnder (table : Table) (one : Entry) (targets : List Target) (may_end : Bool) : Type 0 where
+pub record IsUnder (table : Table) (one : Entry) (targets : List RowTarget) (may_end : Bool) : Type 0 where
   pub tells : (j u : ℕ) → TellsAt table one j u → Tells table.columns table.words.items targets j u
   pub ends : IsTrue one.ends → IsTrue may_end
 
 -- The targets tell of what one step by position p leads to from vertex v: of p itself where it is no shift, and of all
 -- that is told where a shift leads.
 pub record IsToldBy
-    (game : AbstractGame) (lists : Lists) (table : Table) (targets : List Target) (may_end : Bool) (v p : ℕ)
+    (game : AbstractGame) (lists : Lists) (table : Table) (targets : List RowTarget) (may_end : Bool) (v p : ℕ)
     : Type 0
   where
     pub plain : ¬ IsShiftAt game.rules p → Tells table.columns table.words.items targets p v
@@ -95,7 +99,7 @@ IsToldAt game lists table e = IsToldBy game lists table (targets_of table e) e.e
 
 -- Nothing is missing in the targets at a node and a vertex.
 pub record IsWhole
-    (game : AbstractGame) (lists : Lists) (table : Table) (n v : ℕ) (targets : List Target) (may_end : Bool)
+    (game : AbstractGame) (lists : Lists) (table : Table) (n v : ℕ) (targets : List RowTarget) (may_end : Bool)
     : Type 0
   where
     pub ends : IsTrue (may_end_at lists.shelf n) → IsTrue may_end
@@ -115,12 +119,12 @@ pub record Grows (old new : Table) : Type 0 where
   pub words : Extends old.words.items new.words.items
 
 -- What is gathered at a node and a vertex: targets that tell of nothing but leaps.
-abbrev pub IsGathered : AbstractGame → Lists → Table → (n v : ℕ) → List Target → Type 0
+abbrev pub IsGathered : AbstractGame → Lists → Table → (n v : ℕ) → List RowTarget → Type 0
 IsGathered game lists table n v targets =
     AreSound (IsLeapBy game (list_at lists.shelf n) (may_end_at lists.shelf n) v) table.columns table.words.items targets
 
 -- An entry of a node and a vertex was put in its place, with targets of its own; the others stay.
-pub record Puts (old new : Table) (n v : ℕ) (targets : List Target) (ends : Bool) : Type 0 where
+pub record Puts (old new : Table) (n v : ℕ) (targets : List RowTarget) (ends : Bool) : Type 0 where
   pub vertices : new.vertices ≡ old.vertices
   pub columns : new.columns ≡ old.columns
   pub words : new.words.items ≡ old.words.items
@@ -145,7 +149,7 @@ pub record Shares (old new : Table) (n v : ℕ) (e : Entry) : Type 0 where
       slice_index_or new.entries.items i no_entry ≡ slice_index_or old.entries.items i no_entry
 
 -- A row was added to the targets at a position.
-pub record AddsRow (columns : ℕ) (old new : List ℕ) (before behind : List Target) (position row : ℕ) : Type 0 where
+pub record AddsRow (columns : ℕ) (old new : List ℕ) (before behind : List RowTarget) (position row : ℕ) : Type 0 where
   pub extends : Extends old new
   pub rows : All (λ t. t.row + columns ≤ length new) behind
   pub sound :
@@ -157,12 +161,12 @@ pub record AddsRow (columns : ℕ) (old new : List ℕ) (before behind : List Ta
   pub has : (u : ℕ) → has_bit (row_at columns old row) u ≡ true → Tells columns new behind position u
 
 -- What the targets told, they tell.
-pub record Keeps (old new : Table) (before behind : List Target) : Type 0 where
+pub record Keeps (old new : Table) (before behind : List RowTarget) : Type 0 where
   pub keeps :
       (j u : ℕ) → Tells old.columns old.words.items before j u → Tells new.columns new.words.items behind j u
 
 -- The targets of an entry were added, up to a place among all targets.
-pub record AddsUpTo (old new : Table) (before behind : List Target) (e : Entry) (place : ℕ) : Type 0 where
+pub record AddsUpTo (old new : Table) (before behind : List RowTarget) (e : Entry) (place : ℕ) : Type 0 where
   pub grows : Grows old new
   pub rows : All (λ t. t.row + new.columns ≤ length new.words.items) behind
   pub sound :
@@ -177,7 +181,7 @@ pub record AddsUpTo (old new : Table) (before behind : List Target) (e : Entry) 
       Tells new.columns new.words.items behind (slice_index_or (targets_of old e) i no_target).position u
 
 -- All of them were added.
-abbrev pub AddsAll : Table → Table → List Target → List Target → Entry → Type 0
+abbrev pub AddsAll : Table → Table → List RowTarget → List RowTarget → Entry → Type 0
 AddsAll old new before behind e = AddsUpTo old new before behind e (end_of e)
 
 -- No shift of the node's list leads to the node again.
@@ -249,13 +253,13 @@ AreClosedFrom game lists table many =
     (n v : ℕ) → length lists.shelf.nodes.items ≤ n + many → n < length lists.shelf.nodes.items →
     v < length game.board.first → IsClosed game lists table n v
 
--- The entries of nodes, side by side.
-pub record AreLaid (table : Table) (nodes : List ℕ) (entries : List Entry) : Type 0 where
-  pub size : length entries ≡ length nodes * table.vertices
-  pub within : All (IsWithin (length table.targets.items)) entries
+-- Entries of nodes, side by side, out of those of all nodes.
+pub record AreLaid (vertices : ℕ) (all : List Entry) (nodes : List ℕ) (entries : List Entry) : Type 0 where
+  pub size : length entries ≡ length nodes * vertices
+  pub within : (many : ℕ) → All (IsWithin many) all → All (IsWithin many) entries
   pub each :
-      (i v : ℕ) → i < length nodes → v < table.vertices →
-      entry_in entries table.vertices i v ≡ entry_at table (slice_index_or nodes i 0) v
+      (i v : ℕ) → i < length nodes → v < vertices →
+      entry_in entries vertices i v ≡ entry_in all vertices (slice_index_or nodes i 0) v
 
 -- Nothing is missing at all.
 abbrev pub AreAllClosed : AbstractGame → Lists → Table → Type 0
@@ -266,3 +270,11 @@ AreAllClosed game lists table =
 pub record IsFilled (game : AbstractGame) (lists : Lists) (table : Table) : Type 0 where
   pub sound : IsSoundTable game lists table
   pub closed : AreAllClosed game lists table
+
+-- The entry is that of the leaps from f and vertex v: it tells of nothing but these, and of all of them, and whether a
+-- word may end.
+pub record IsRowEntry (game : AbstractGame) (f : Start) (v : ℕ) (table : Table) (e : Entry) : Type 0 where
+  pub within : IsWithin (length table.targets.items) e
+  pub sound : AreSound (IsLeap game f v) table.columns table.words.items (targets_of table e)
+  pub all : (j u : ℕ) → IsLeap game f v j u → TellsAt table e j u
+  pub ends : IsTrue e.ends ↔ EndsAcross game f v

@@ -1,8 +1,7 @@
 -- Rows in one array of words.
 use Rattle.std.specs.Prelude.{◌≡◌, ℕ, ◌+◌, ◌*◌, ◌/◌, ◌%◌, ◌<◌, ◌≤◌, ◌⊎◌, List, length, slice_index_or, true, bit_or}
 use Rattle.std.specs.Int.{bit_at}
-use Rattle.rbg_leaps.specs.Rows.{has_bit}
-use Rattle.rbg_leaps.specs.Targets.{row_at}
+use Rattle.rbg_leaps.specs.internal.Rows.{has_bit, row_at}
 use Rattle.rbg_leaps.specs.internal.Shelves.{Extends}
 
 -- A row was appended, with the bits of two rows and no other.

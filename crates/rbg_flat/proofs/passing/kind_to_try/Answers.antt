@@ -2,17 +2,25 @@ use Rattle.std.proofs.Common.{◌≡◌, ℕ, ◌+◌, ◌*◌, ◌⊎◌, inl, 
 use Rattle.std.specs.Prelude.{◌↔◌, bit_or, slice_get, Some}
 use Rattle.std.specs.Int.{bit_at}
 use Rattle.rbg_rules.specs.Expression.{on}
-use Rattle.rbg_rules.specs.Positions.{HasAction, IsPatternAt}
+use Rattle.rbg_rules.specs.Positions.{HasAction, IsNumbered}
 use Rattle.rbg_flat.specs.Paths.{IsKind}
 use Rattle.rbg_flat.specs.declared.paths.Kind.{Kind}
+use Rattle.rbg_flat.specs.declared.paths.Kind.TheVariants.{Pattern, Plain}
+use Rattle.rbg_rules.specs.State.{AbstractGame, AbstractState}
+use Rattle.rbg_flat.specs.internal.Passing.{IsToTry}
 use Rattle.rbg_flat.proofs.Passings.{one_piece, either_piece}
-use Rattle.rbg_flat.proofs.ToTry.{on_to_try, pattern_to_try}
+use Rattle.rbg_flat.proofs.ToTry.{on_to_try, pattern_to_try, other_to_try}
 use Rattle.rbg_flat.proofs.passing.kind_to_try.Goals as goal
+
+everywhere : (game : AbstractGame) → IsNumbered game.rules → (s : AbstractState) (p : ℕ) (kind : Kind) → (kind ≡ Pattern) ⊎ (kind ≡ Plain) → IsKind game.rules p kind → (v : ℕ) → IsToTry game s v p
+everywhere game numbered s p kind (inl is) told = pattern_to_try game numbered s p (subst (λ (k : Kind). IsKind game.rules p k) is told)
+everywhere game numbered s p kind (inr is) told =
+    let plain = subst (λ (k : Kind). IsKind game.rules p k) is told in
+    other_to_try game numbered s p plain.0 plain.2
 
 pub returns-in-Pattern : goal.returns-in-Pattern
 returns-in-Pattern c = λ b small.
-    let pattern : IsPatternAt c.args.game.now.rules c.args.position = subst (λ (k : Kind). IsKind c.args.game.now.rules c.args.position k) c.in-Pattern.is c.requires.kind in
-    (λ _. pattern_to_try c.args.game.now c.requires.lawful.numbered c.args.state.now.state c.args.position pattern (c.args.column * 64 + b), λ _. c.full_word.ensures b small)
+    (λ _. everywhere c.args.game.now c.requires.lawful.numbered c.args.state.now.state c.args.position c.args.kind c.in-Pattern.is c.requires.kind (c.args.column * 64 + b), λ _. c.full_word.ensures b small)
 
 pub returns-in-On : goal.returns-in-On
 returns-in-On c = λ b small.

@@ -1,17 +1,9 @@
-use Rattle.std.proofs.Common.{◌≡◌, ℕ, ◌+◌, ◌*◌, List, true, false, sym, subst, ◌∙◌, arith}
+use Rattle.std.proofs.Common.{◌≡◌, ℕ, ◌+◌, ◌*◌, true, false, sym, subst, ◌∙◌, arith}
 use Rattle.std.proofs.lemmas.Nat.Bits.{bit_at-zero}
-use Rattle.rbg_rules.specs.Positions.{HasAction}
-use Rattle.rbg_rules.specs.Expression.{on}
 use Rattle.rbg_rules.specs.Table.{Stands}
 use Rattle.rbg_rules.specs.declared.rule.Action.{Action}
 use Rattle.rbg_flat.proofs.Passings.{compares_everywhere}
-use Rattle.rbg_flat.proofs.ToTry.{tried_passes}
 use Rattle.rbg_flat.proofs.passing.other_held.Goals as goal
-
-pub returns-in-On-clause-told : goal.returns-in-On-clause-told
-returns-in-On-clause-told c = λ b small set is.
-    let stands : HasAction c.args.game.now.rules c.args.position (on c.in-On.pieces.items) = subst (λ (a : Action). Stands c.args.game.now.rules c.args.position a) c.in-On.is c.action.ensures in
-    (λ _. tried_passes c.args.game.now c.requires.lawful.numbered c.args.state.now.state c.args.position c.in-On.pieces.items stands (c.args.column * 64 + b) is, λ _. set)
 
 false_not_true : false ≡ true → ⊥
 false_not_true e = cc

@@ -1,7 +1,7 @@
 use Rattle.std.proofs.Common.{◌≡◌, ℕ, true, false, refl, sym, subst, arith}
 use Rattle.std.specs.Prelude.{Bool, IsTrue, not}
 use Rattle.rbg_leaps.specs.declared.table.Entry.{Entry}
-use Rattle.rbg_leaps.specs.Made.{entry_at}
+use Rattle.rbg_leaps.specs.internal.Tables.{entry_at}
 use Rattle.rbg_leaps.proofs.RowLemmas.{before, last, last_place}
 use Rattle.rbg_leaps.proofs.closing.all_end.Goals as goal
 

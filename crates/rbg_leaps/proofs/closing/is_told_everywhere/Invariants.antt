@@ -1,7 +1,6 @@
 -- The vertices so far are told of.
 use Rattle.std.proofs.Common.{◌<◌, ℕ}
-use Rattle.rbg_leaps.specs.Made.{entry_at}
-use Rattle.rbg_leaps.specs.internal.Tables.{IsToldAt}
+use Rattle.rbg_leaps.specs.internal.Tables.{entry_at, IsToldAt}
 use Rattle.rbg_leaps.proofs.closing.is_told_everywhere.Given as goal
 
 abbrev pub invariant-loop-index : goal.invariant-loop-index

@@ -1,8 +1,7 @@
 -- The entry tells of all vertices of the targets so far.
 use Rattle.std.proofs.Common.{◌≡◌, ◌<◌, ℕ, get_or}
 use Rattle.std.specs.Prelude.{true}
-use Rattle.rbg_leaps.specs.Rows.{has_bit}
-use Rattle.rbg_leaps.specs.Targets.{row_at}
+use Rattle.rbg_leaps.specs.internal.Rows.{has_bit, row_at}
 use Rattle.rbg_leaps.specs.internal.Tables.{no_target, TellsAt}
 use Rattle.rbg_leaps.proofs.closing.tells_targets.Given as goal
 

@@ -1,5 +1,5 @@
 use Rattle.std.proofs.Common.{subst, arith}
-use Rattle.rbg_leaps.specs.declared.table.Target.{Target}
+use Rattle.rbg_leaps.specs.declared.table.RowTarget.{RowTarget}
 use Rattle.rbg_leaps.specs.internal.Tables.{AddsRow}
 use Rattle.rbg_leaps.proofs.Tabling.{adds_none, adds_one, adds_all}
 use Rattle.rbg_leaps.proofs.gathering.add_all.Goals as goal
@@ -12,7 +12,7 @@ loop-index-preserved c =
     let t = c.loop-index.table in
     adds_one c.args.table.now t c.add_row.new.self c.args.parts.now.items c.loop-index.parts.items c.add_row.new.parts.items c.args.entry c.loop-index.index c.index-target.result.now
     c.loop-index.auto.index c.loop-index-test.true c.requires.within.ends c.loop-index.invariant c.in_ok-add_row.ensures.grows
-    (subst (λ (x : Target). AddsRow t.columns t.words.items c.add_row.new.self.words.items c.loop-index.parts.items c.add_row.new.parts.items x.position x.row) c.index-target.ensures c.in_ok-add_row.ensures.adds)
+    (subst (λ (x : RowTarget). AddsRow t.columns t.words.items c.add_row.new.self.words.items c.loop-index.parts.items c.add_row.new.parts.items x.position x.row) c.index-target.ensures c.in_ok-add_row.ensures.adds)
 
 pub returns : goal.returns
 returns c = adds_all c.args.table.now c.loop-index.table c.args.parts.now.items c.loop-index.parts.items c.args.entry c.loop-index.index (omega (arith, c.loop-index-test.false)) c.loop-index.invariant

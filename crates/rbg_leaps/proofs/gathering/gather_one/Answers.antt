@@ -1,10 +1,9 @@
 use Rattle.std.proofs.Common.{◌≡◌, ◌<◌, ◌∙◌, ℕ, List, get_or, false, sym, ap, subst}
 use Rattle.std.specs.Prelude.{Bool}
 use Rattle.rbg_leaps.specs.declared.table.Entry.{Entry}
-use Rattle.rbg_leaps.specs.Made.{entry_at}
+use Rattle.rbg_leaps.specs.internal.Tables.{entry_at, AreSound, IsUnder, Tells}
 use Rattle.rbg_leaps.specs.internal.Shelves.{list_at, may_end_at}
 use Rattle.rbg_leaps.specs.internal.Steps.{IsLeapBy}
-use Rattle.rbg_leaps.specs.internal.Tables.{AreSound, IsUnder, Tells}
 use Rattle.rbg_leaps.specs.internal.Words.{IsUnit}
 use Rattle.rbg_leaps.proofs.Cases.{not_both, no_some, some_same}
 use Rattle.rbg_leaps.proofs.Fillings.{entry_grown_same, told_plain, told_nowhere, told_behind, added_under}

@@ -4,4 +4,4 @@ use Rattle.rbg_leaps.specs.internal.Tables.{AreLaid}
 use Rattle.rbg_leaps.proofs.laying.lay.Given as goal
 
 abbrev pub invariant-loop-node : goal.invariant-loop-node
-invariant-loop-node l = AreLaid l.table (take l.node-index l.nodes) l.entries.items
+invariant-loop-node l = AreLaid l.vertices l.all (take l.node-index l.nodes) l.entries.items

@@ -17,8 +17,8 @@ meet_bits-requires-clause-targets c =
     let column = c.requires.in_word.column in
     let here : c.args.vertex < length game.board.first = omega (arith, bit, column) in
     let stands : IsStart game.rules (after q) = goes_on game.rules q c.action-action.result.now c.action-action.ensures in
-    let are : AreTargetsFrom game (after q) c.args.vertex c.args.paths.now.leaps c.leads-may_end.result.0.now = c.leads-may_end.ensures.from game c.requires.paths.leaps here stands in
-    targets_in game c.requires.lawful.numbered q c.requires.still c.args.column c.args.word c.args.vertex c.requires.in_word c.args.paths.now.leaps c.leads-may_end.result.0.now are (IsToTry game c.args.state.now.state)
+    let are : AreTargetsFrom game (after q) c.args.vertex c.leads-may_end.result.0.now = c.leads-may_end.ensures.from game c.requires.paths.leaps here stands in
+    targets_in game c.requires.lawful.numbered q c.requires.still c.args.column c.args.word c.args.vertex c.requires.in_word c.leads-may_end.result.0.now are (IsToTry game c.args.state.now.state)
 
 pub returns-clause-met : goal.returns-clause-met
 returns-clause-met c =
@@ -28,8 +28,8 @@ returns-clause-met c =
     let column = c.requires.in_word.column in
     let here : c.args.vertex < length game.board.first = omega (arith, bit, column) in
     let stands : IsStart game.rules (after q) = goes_on game.rules q c.action-action.result.now c.action-action.ensures in
-    let are : AreTargetsFrom game (after q) c.args.vertex c.args.paths.now.leaps c.leads-may_end.result.0.now = c.leads-may_end.ensures.from game c.requires.paths.leaps here stands in
-    meets_still game c.requires.lawful.numbered q c.requires.still c.args.column c.args.word c.args.vertex c.requires.in_word c.args.paths.now.leaps c.leads-may_end.result.0.now are (IsToTry game c.args.state.now.state) c.args.self.now.sets c.meet_bits.new.sets c.meet_bits.ensures
+    let are : AreTargetsFrom game (after q) c.args.vertex c.leads-may_end.result.0.now = c.leads-may_end.ensures.from game c.requires.paths.leaps here stands in
+    meets_still game c.requires.lawful.numbered q c.requires.still c.args.column c.args.word c.args.vertex c.requires.in_word c.leads-may_end.result.0.now are (IsToTry game c.args.state.now.state) c.args.self.now.sets c.meet_bits.new.sets c.meet_bits.ensures
 
 pub returns-clause-ends : goal.returns-clause-ends
 returns-clause-ends c =
@@ -49,6 +49,6 @@ returns-clause-on c =
     let column = c.requires.in_word.column in
     let here : c.args.vertex < length game.board.first = omega (arith, bit, column) in
     let stands : IsStart game.rules (after q) = goes_on game.rules q c.action-action.result.now c.action-action.ensures in
-    let are : AreTargetsFrom game (after q) c.args.vertex c.args.paths.now.leaps c.leads-may_end.result.0.now = c.leads-may_end.ensures.from game c.requires.paths.leaps here stands in
+    let are : AreTargetsFrom game (after q) c.args.vertex c.leads-may_end.result.0.now = c.leads-may_end.ensures.from game c.requires.paths.leaps here stands in
     still_on_board game c.requires.lawful q c.args.column c.args.word (IsToTry game c.args.state.now.state) c.requires.still c.requires.board c.args.self.now.sets c.meet_bits.new.sets
-    (meets_still game c.requires.lawful.numbered q c.requires.still c.args.column c.args.word c.args.vertex c.requires.in_word c.args.paths.now.leaps c.leads-may_end.result.0.now are (IsToTry game c.args.state.now.state) c.args.self.now.sets c.meet_bits.new.sets c.meet_bits.ensures)
+    (meets_still game c.requires.lawful.numbered q c.requires.still c.args.column c.args.word c.args.vertex c.requires.in_word c.leads-may_end.result.0.now are (IsToTry game c.args.state.now.state) c.args.self.now.sets c.meet_bits.new.sets c.meet_bits.ensures)

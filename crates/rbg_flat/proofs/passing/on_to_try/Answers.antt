@@ -6,9 +6,9 @@ use Rattle.rbg_rules.specs.Expression.{on}
 use Rattle.rbg_rules.specs.Table.{Stands}
 use Rattle.rbg_rules.specs.declared.rule.Action.{Action}
 use Rattle.rbg_flat.specs.internal.Passing.{IsOneOf}
-use Rattle.rbg_flat.proofs.ModifierLemmas.{no_on_stands}
-use Rattle.rbg_flat.proofs.ToTry.{on_to_try, other_to_try}
-use Rattle.rbg_flat.proofs.passing.other_to_try.Goals as goal
+use Rattle.rbg_flat.proofs.ModifierLemmas.{other_never}
+use Rattle.rbg_flat.proofs.ToTry.{on_to_try}
+use Rattle.rbg_flat.proofs.passing.on_to_try.Goals as goal
 
 pub returns-in-On : goal.returns-in-On
 returns-in-On c = λ b small.
@@ -20,7 +20,4 @@ returns-in-On c = λ b small.
     (λ set. try.0 (told.0 set), λ is. told.1 (try.1 is))
 
 pub returns-in_default : goal.returns-in_default
-returns-in_default c = λ b small. (
-  λ _. other_to_try c.args.game.now c.requires.lawful.numbered c.args.state.now.state c.args.position c.requires.quiet (no_on_stands c.args.game.now.rules c.requires.lawful.numbered c.args.position c.action.result.now c.action.ensures (λ pieces is. c.in_default.not-On pieces is)) (c.args.column * 64 + b),
-  λ _. c.full_word.ensures b small,
-)
+returns-in_default c = absurd (other_never c.args.game.now.rules c.requires.lawful.numbered c.args.position c.action.result.now c.action.ensures (λ pieces is. c.in_default.not-On pieces is) c.requires.stands.0 c.requires.stands.1)

@@ -1,7 +1,0 @@
--- Rows of bits.
-use Rattle.std.specs.Prelude.{ℕ, List, Bool, ◌/◌, ◌%◌, ◌==◌, slice_index}
-use Rattle.std.specs.Int.{bit_at}
-
--- whether bit k of a row of words is set, 64 in a word
-unfoldable pub has_bit : (words : List ℕ) → ℕ → Bool
-has_bit words k = bit_at (slice_index words (k / 64)) (k % 64) == 1
