@@ -1,7 +1,7 @@
 -- Lemmas on answers.
-use Rattle.std.proofs.Common.{◌≡◌, ℕ, ◌<◌, ◌≤◌, List, length, refl, sym, subst, arith}
+use Rattle.std.proofs.Common.{◌≡◌, ℕ, List, refl, sym, subst, arith}
 use Rattle.std.specs.Global.{Global}
-use Rattle.std.specs.Prelude.{Option, Some, Vec, Result, Ok, Err, IfOk}
+use Rattle.std.specs.Prelude.{Option, Some, Vec}
 use Rattle.rbg_console.specs.declared.status.Status.{Status}
 use Rattle.rbg_console.specs.declared.status.Status.TheVariants.{Success, Refused, BadInput}
 use Rattle.rbg_game.specs.Loading.{Loads, IsRefused, IsMemory}
@@ -23,26 +23,10 @@ use Rattle.rbg_answering.specs.Answers.IsTaskAnswer.{of_game, refused, long_scri
 use Rattle.rbg_answering.specs.Tasks.{AbstractTask, IsReadOf}
 use Rattle.rbg_answering.specs.internal.Parts.{task_of, AnswersWhole, AnswersLong, AnswersLongRecord, AnswersMatch, SaysUnloaded}
 
--- two facts of what is returned give a third
-pub both : {X Y : Type 0} (r : Result X Y) (P Q R : X → Type 0) → ((x : X) → P x → Q x → R x) → IfOk r P → IfOk r Q → IfOk r R
-both (Ok x) P Q R give p q = give x p q
-both (Err y) P Q R give p q = tt
-
-pub all_three : {X Y : Type 0} (r : Result X Y) (P Q R S : X → Type 0) → ((x : X) → P x → Q x → R x → S x) → IfOk r P → IfOk r Q → IfOk r R → IfOk r S
-all_three (Ok x) P Q R S give p q s = give x p q s
-all_three (Err y) P Q R S give p q s = tt
-
 -- the answer with this text and this status
 pub answer_is : (task : AbstractTask) (text said : List ℕ) (status ended : Status) → text ≡ said → status ≡ ended → IsTaskAnswer task said ended → IsTaskAnswer task text status
 answer_is task text said status ended is was answer =
     subst (λ t. IsTaskAnswer task t status) (sym is) (subst (IsTaskAnswer task said) (sym was) answer)
-
--- a text that is too long is refused
-pub long_refused : (text : List ℕ) → longest_text < length text → IsRefused text (Text TooLong)
-long_refused text above = record {
-  fault = above;
-  no_game = λ known game loads. let fits : length text ≤ longest_text = loads.describes.has.cut.fits in let no : ⊥ = omega (arith, fits, above) in no;
-}
 
 pub long_known : ¬ IsMemory (Text TooLong)
 long_known same = absurd (let e : TooLong ≡ TextMemory = same in cc)

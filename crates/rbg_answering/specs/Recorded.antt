@@ -1,18 +1,12 @@
 -- What is printed and what is recorded of the match of a description and a script.
-use Rattle.std.specs.Prelude.{ℕ, List, map}
+use Rattle.std.specs.Prelude.{ℕ, List}
 use Rattle.rbg_match.specs.Matches.{MatchState}
-use Rattle.rbg_referee.specs.Played.{IsMatchOf}
 use Rattle.rbg_record.specs.OfMatch.{record_of}
 use Rattle.rbg_record.specs.Records.{timed, Spells}
 use Rattle.rbg_record.specs.Right.{IsRightRecord}
+use Rattle.rbg_refereeing.specs.Matches.{IsScriptPlayed}
 use Rattle.rbg_refereeing.specs.Printed.{IsPrinted}
-use Rattle.rbg_refereeing.specs.Scripts.{config_for, event_for}
 use Rattle.rbg_script.specs.Scripts.{AbstractScript, SpellsScript}
-
--- The events of the script lead to this match of the description's game, and to these bytes of each seat.
-abbrev pub IsScriptsMatchState : (description : List ℕ) → AbstractScript → MatchState → (outbox : List (List ℕ)) → Type 0
-IsScriptsMatchState description script state outbox =
-    IsMatchOf description (config_for script.config) script.config.now (map event_for script.events) state outbox
 
 -- The lines are those of the match, and the bytes are its record of version 2, which is right.
 pub record IsWrittenOf (state : MatchState) (outbox : List (List ℕ)) (lines told : List ℕ) : Type 0 where
@@ -26,5 +20,5 @@ pub record IsRecorded (description text lines told : List ℕ) : Type 0 where
   pub spells : SpellsScript text script
   pub state : MatchState
   pub outbox : List (List ℕ)
-  pub played : IsScriptsMatchState description script state outbox
+  pub played : IsScriptPlayed description script state outbox
   pub written : IsWrittenOf state outbox lines told

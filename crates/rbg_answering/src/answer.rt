@@ -1,5 +1,5 @@
 //! The answer to a task.
-ghost use Rattle.std.specs.Prelude.{IfOk};
+ghost use Rattle.std.specs.Prelude.{◌≢◌, IfOk};
 ghost use Rattle.rbg_answering.specs.Answers.{IsTaskAnswer};
 ghost use Rattle.rbg_answering.specs.Tasks.{AbstractTask, IsTaskOf};
 ghost use Rattle.rbg_answering.specs.internal.Parts.{
@@ -9,7 +9,7 @@ ghost use Rattle.rbg_answering.specs.internal.Parts.{
   AnswersWhole,
 };
 
-use crate::judging::{count, go_on, replay, rewrite};
+use crate::judging::judge_game;
 use crate::lines::answer_form;
 use crate::loading::{answer_unloaded, load_read};
 use crate::{Command, Task};
@@ -71,26 +71,27 @@ fn answer_whole(
         AnswersWhole command description.now told.now answer.text.items answer.status) }
 {
     match command {
-        Command::Check => answer_check(alloc, description, told),
         Command::Referee => answer_referee(alloc, description, told),
-        Command::Replay => answer_replay(alloc, description, told),
-        Command::Migrate => answer_migrate(alloc, description, told),
-        Command::Moves => answer_moves(alloc, description, told),
+        Command::Check => answer_game(alloc, command, description, told),
+        Command::Replay => answer_game(alloc, command, description, told),
+        Command::Migrate => answer_game(alloc, command, description, told),
+        Command::Moves => answer_game(alloc, command, description, told),
     }
 }
 
-/// How many of each thing the game has.
-fn answer_check(
+/// What is said of the game and the record, or the line of the description's refusal.
+fn answer_game(
     alloc: Global,
+    command: Command,
     description: &Option<Vec<u8>>,
     told: &[u8],
 ) -> Result<Answer, AllocError>
+    requires { command ≢ Command.Referee }
     ensures { IfOk result (λ answer.
-        AnswersWhole Command.Check description.now told.now answer.text.items answer.status) }
+        AnswersWhole command description.now told.now answer.text.items answer.status) }
 {
-    let _nothing = told;
     match load_read(alloc, description) {
-        Ok(game) => count(alloc, &game),
+        Ok(game) => judge_game(alloc, command, game, told),
         Err(error) => answer_unloaded(alloc, error),
     }
 }
@@ -121,50 +122,5 @@ fn answer_match(alloc: Global, description: &[u8], script: &[u8]) -> Result<Answ
             status: Status::Success,
         }),
         Err(error) => answer_fault(alloc, error),
-    }
-}
-
-/// Whether the record is right.
-fn answer_replay(
-    alloc: Global,
-    description: &Option<Vec<u8>>,
-    told: &[u8],
-) -> Result<Answer, AllocError>
-    ensures { IfOk result (λ answer.
-        AnswersWhole Command.Replay description.now told.now answer.text.items answer.status) }
-{
-    match load_read(alloc, description) {
-        Ok(game) => replay(alloc, game, told),
-        Err(error) => answer_unloaded(alloc, error),
-    }
-}
-
-/// The record in version 2.
-fn answer_migrate(
-    alloc: Global,
-    description: &Option<Vec<u8>>,
-    told: &[u8],
-) -> Result<Answer, AllocError>
-    ensures { IfOk result (λ answer.
-        AnswersWhole Command.Migrate description.now told.now answer.text.items answer.status) }
-{
-    match load_read(alloc, description) {
-        Ok(game) => rewrite(alloc, &game, told),
-        Err(error) => answer_unloaded(alloc, error),
-    }
-}
-
-/// The moves with which play can go on behind the record.
-fn answer_moves(
-    alloc: Global,
-    description: &Option<Vec<u8>>,
-    told: &[u8],
-) -> Result<Answer, AllocError>
-    ensures { IfOk result (λ answer.
-        AnswersWhole Command.Moves description.now told.now answer.text.items answer.status) }
-{
-    match load_read(alloc, description) {
-        Ok(game) => go_on(alloc, game, told),
-        Err(error) => answer_unloaded(alloc, error),
     }
 }

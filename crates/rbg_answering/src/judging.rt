@@ -1,5 +1,5 @@
 //! The answers of the commands on a game and a record.
-ghost use Rattle.std.specs.Prelude.{◌≡◌, ◌++◌, ℕ, List, IfOk, codes};
+ghost use Rattle.std.specs.Prelude.{◌≡◌, ◌≢◌, ◌++◌, ℕ, List, IfOk, codes};
 ghost use Rattle.rbg_console.specs.Counts.{counts_of};
 ghost use Rattle.rbg_answering.specs.Answers.{IsGamesAnswer};
 ghost use Rattle.rbg_record.specs.internal.Faults.{told_at};
@@ -15,8 +15,28 @@ use rbg_record::{Checked, Fault, RecordError, check_record, migrate};
 use rbg_refereeing::Answer;
 use std::alloc::{AllocError, Global};
 
+/// What a command says of a game and a record. `referee` is answered from its texts.
+pub(crate) fn judge_game(
+    alloc: Global,
+    command: Command,
+    game: Game,
+    told: &[u8],
+) -> Result<Answer, AllocError>
+    requires { command ≢ Command.Referee }
+    ensures { IfOk result (λ answer. (description : List ℕ) →
+        IsGamesAnswer game description told.now command answer.text.items answer.status) }
+{
+    match command {
+        Command::Check => count(alloc, &game),
+        Command::Replay => replay(alloc, game, told),
+        Command::Migrate => rewrite(alloc, &game, told),
+        Command::Moves => go_on(alloc, game, told),
+        Command::Referee => unreachable!(),
+    }
+}
+
 /// The counts of a game.
-pub(crate) fn count(alloc: Global, game: &Game) -> Result<Answer, AllocError>
+fn count(alloc: Global, game: &Game) -> Result<Answer, AllocError>
     ensures { IfOk result (λ answer. (description told : List ℕ) →
         IsGamesAnswer game.now description told Command.Check answer.text.items answer.status) }
 {
@@ -29,7 +49,7 @@ pub(crate) fn count(alloc: Global, game: &Game) -> Result<Answer, AllocError>
 }
 
 /// Whether a record is right.
-pub(crate) fn replay(alloc: Global, game: Game, told: &[u8]) -> Result<Answer, AllocError>
+fn replay(alloc: Global, game: Game, told: &[u8]) -> Result<Answer, AllocError>
     ensures { IfOk result (λ answer. (description : List ℕ) →
         IsGamesAnswer game description told.now Command.Replay answer.text.items answer.status) }
 {
@@ -61,7 +81,7 @@ fn answer_checked(
 }
 
 /// Version 2 of a record of version 1.
-pub(crate) fn rewrite(alloc: Global, game: &Game, told: &[u8]) -> Result<Answer, AllocError>
+fn rewrite(alloc: Global, game: &Game, told: &[u8]) -> Result<Answer, AllocError>
     ensures { IfOk result (λ answer. (description : List ℕ) →
         IsGamesAnswer game.now description told.now Command.Migrate answer.text.items answer.status) }
 {
@@ -75,7 +95,7 @@ pub(crate) fn rewrite(alloc: Global, game: &Game, told: &[u8]) -> Result<Answer,
 }
 
 /// The moves with which play can go on behind a record.
-pub(crate) fn go_on(alloc: Global, game: Game, told: &[u8]) -> Result<Answer, AllocError>
+fn go_on(alloc: Global, game: Game, told: &[u8]) -> Result<Answer, AllocError>
     ensures { IfOk result (λ answer. (description : List ℕ) →
         IsGamesAnswer game description told.now Command.Moves answer.text.items answer.status) }
 {

@@ -13,6 +13,7 @@ mod run;
 mod task;
 
 pub use answer::answer_task;
+pub use lines::answer_form;
 pub use recording::{Recorded, referee_recorded};
 pub use run::run_task;
 pub use task::{Command, FileTask, Task};

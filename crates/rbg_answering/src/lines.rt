@@ -5,7 +5,7 @@ ghost use Rattle.rbg_answering.specs.internal.Parts.{SaysFault};
 
 use rbg_console::Status;
 use rbg_record::RecordError;
-use rbg_refereeing::Answer;
+use rbg_refereeing::{Answer, answer_line};
 use std::alloc::{AllocError, Global};
 
 /// `good`
@@ -24,23 +24,15 @@ pub(crate) fn answer_bad(alloc: Global, line: usize) -> Result<Answer, AllocErro
     ensures text { IfOk result (λ answer. answer.text.items ≡ bad_line line) }
     ensures status { IfOk result (λ answer. answer.status ≡ Status.BadInput) }
 {
-    let text = format!(in alloc; "bad {line}\n")?;
-    Ok(Answer {
-        text: text.into_bytes(),
-        status: Status::BadInput,
-    })
+    answer_line(alloc, "bad ", line)
 }
 
 /// `form <line>`
-pub(crate) fn answer_form(alloc: Global, line: usize) -> Result<Answer, AllocError>
+pub fn answer_form(alloc: Global, line: usize) -> Result<Answer, AllocError>
     ensures text { IfOk result (λ answer. answer.text.items ≡ form_line line) }
     ensures status { IfOk result (λ answer. answer.status ≡ Status.BadInput) }
 {
-    let text = format!(in alloc; "form {line}\n")?;
-    Ok(Answer {
-        text: text.into_bytes(),
-        status: Status::BadInput,
-    })
+    answer_line(alloc, "form ", line)
 }
 
 /// `over <line>`
@@ -48,11 +40,7 @@ pub(crate) fn answer_over(alloc: Global, line: usize) -> Result<Answer, AllocErr
     ensures text { IfOk result (λ answer. answer.text.items ≡ over_line line) }
     ensures status { IfOk result (λ answer. answer.status ≡ Status.BadInput) }
 {
-    let text = format!(in alloc; "over {line}\n")?;
-    Ok(Answer {
-        text: text.into_bytes(),
-        status: Status::BadInput,
-    })
+    answer_line(alloc, "over ", line)
 }
 
 /// The line of a record's fault.

@@ -1,14 +1,13 @@
 //! Refereeing a match with its record.
 ghost use Rattle.std.specs.Prelude.{IfOk, IfErr, List, ℕ};
 ghost use Rattle.rbg_match.specs.Matches.{HasHistory};
-ghost use Rattle.rbg_answering.specs.Recorded.{IsRecorded, IsScriptsMatchState, IsWrittenOf};
+ghost use Rattle.rbg_answering.specs.Recorded.{IsRecorded, IsWrittenOf};
 ghost use Rattle.rbg_refereeing.specs.Matches.{IsNoMatch};
 ghost use Rattle.rbg_script.specs.Scripts.{SpellsScript, script_of as abstract_script};
 
 use rbg_match::{Match, Outbox};
 use rbg_record::write_record;
-use rbg_referee::referee_match;
-use rbg_refereeing::{RefereeingError, config_of, events_of, match_lines, referee_texts};
+use rbg_refereeing::{RefereeingError, match_lines, play_script, referee_texts};
 use rbg_script::{Script, read_script};
 use std::alloc::{AllocError, Global};
 
@@ -63,26 +62,6 @@ fn record_script(
         Ok(both) => Ok(both),
         Err(_) => Err(RefereeingError::Memory),
     }
-}
-
-/// The match of a script, and what the seats are sent in it.
-fn play_script(
-    alloc: Global,
-    description: &[u8],
-    script: &Script,
-) -> Result<(Match, Outbox), RefereeingError>
-    ensures played { IfOk result (λ played.
-        IsScriptsMatchState description.now (abstract_script script.now) played.0 played.1) }
-    ensures refused { IfErr result (λ fault. (text : List ℕ) →
-        SpellsScript text (abstract_script script.now) → IsNoMatch description.now text fault) }
-{
-    let events = match events_of(alloc, script.events.as_slice()) {
-        Ok(events) => events,
-        Err(_) => return Err(RefereeingError::Memory),
-    };
-    let config = config_of(script.config);
-    let now = script.config.now;
-    Ok(referee_match(alloc, description, config, now, events.as_slice())?)
 }
 
 /// The lines of a match, and its record.

@@ -7,8 +7,8 @@ ghost use Rattle.rbg_answering.specs.internal.Parts.{IsFilesAnswer};
 use crate::FileTask;
 use crate::answer::answer_task;
 use crate::reading::{Unread, read_task};
-use rbg_console::{Files, Status, write_text};
-use rbg_refereeing::{Answer, answer_device};
+use rbg_console::{Files, Status};
+use rbg_refereeing::{Answer, answer_device, write_answer};
 use std::alloc::{AllocError, Global};
 use std::io::{Read, Write};
 
@@ -24,10 +24,8 @@ pub fn run_task<F: Files, R: Read, W: Write>(
     ensures { IsTaskRun (F.told files.old) (R.remaining input.old) (R.remaining input.new)
         (file_task named.entry) (W.contents output.old) (W.contents output.new) result }
 {
-    match answer_files(alloc, named, files, input) {
-        Ok(answer) => write_text(output, answer.text.as_slice(), answer.status),
-        Err(_) => write_text(output, b"memory\n", Status::Memory),
-    }
+    let answered = answer_files(alloc, named, files, input);
+    write_answer(output, answered)
 }
 
 /// The answer to what the files and standard input have.

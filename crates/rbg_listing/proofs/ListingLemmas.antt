@@ -1,27 +1,15 @@
 -- Lemmas on what is listed.
 use Rattle.std.proofs.Common.{◌≡◌, ◌⊎◌, ℕ, Bool, true, false, List, [], inl, inr, ap, refl, subst, arith}
-use Rattle.std.specs.Prelude.{◌<◌, ◌≤◌, Contains, Result, Ok, Err, IfOk, OnOk, length}
-use Rattle.rbg_game.specs.Loading.{IsMemory, IsRefused}
-use Rattle.rbg_game.specs.declared.error.LoadError.TheVariants.{Text}
+use Rattle.std.specs.Prelude.{Contains, Result, Ok, Err, OnOk, length}
 use Rattle.rbg_moves.specs.Listing.{IsListed}
 use Rattle.rbg_moves.specs.declared.list.Listed.{Listed}
 use Rattle.rbg_rules.specs.Moves.{AbstractPlace, Finished}
 use Rattle.rbg_rules.specs.State.{AbstractGame}
 use Rattle.rbg_search.specs.declared.over.Over.{Over}
 use Rattle.rbg_search.specs.declared.over.Over.TheVariants.{Deep, Wide}
-use Rattle.rbg_tokens.specs.Limits.{longest_text}
-use Rattle.rbg_tokens.specs.declared.error.TextError.TheVariants.{TooLong}
 use Rattle.rbg_listing.specs.Openings.{most_listed}
 
--- facts of what is returned give another one
-pub both : {X Y : Type 0} (r : Result X Y) (P Q R : X → Type 0) → ((x : X) → P x → Q x → R x) → IfOk r P → IfOk r Q → IfOk r R
-both (Ok x) P Q R give p q = give x p q
-both (Err y) P Q R give p q = tt
-
-pub all_three : {X Y : Type 0} (r : Result X Y) (P Q R S : X → Type 0) → ((x : X) → P x → Q x → R x → S x) → IfOk r P → IfOk r Q → IfOk r R → IfOk r S
-all_three (Ok x) P Q R S give p q s = give x p q s
-all_three (Err y) P Q R S give p q s = tt
-
+-- two facts of what is returned give a third
 pub both_hold : {X Y : Type 0} (r : Result X Y) (P Q R : Type 0) → (P → Q → R) → OnOk r P → OnOk r Q → OnOk r R
 both_hold (Ok x) P Q R give p q = give p q
 both_hold (Err y) P Q R give p q = tt
@@ -34,13 +22,6 @@ no_list over = Err over
 pub over_error : (over : Over) → (over ≡ Deep) ⊎ (over ≡ Wide) → (no_list over ≡ no_list Deep) ⊎ (no_list over ≡ no_list Wide)
 over_error over (inl deep) = inl (ap no_list deep)
 over_error over (inr wide) = inr (ap no_list wide)
-
--- a text that is too long is refused
-pub long_refused : (text : List ℕ) → longest_text < length text → IsRefused text (Text TooLong)
-long_refused text above = record {
-  fault = above;
-  no_game = λ known game loads. let fits : length text ≤ longest_text = loads.describes.has.cut.fits in let no : ⊥ = omega (arith, fits, above) in no;
-}
 
 nothing_in : {X : Type 0} (x : X) → Contains [] x → ⊥
 nothing_in x there = omega (arith, there.1)

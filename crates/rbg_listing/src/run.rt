@@ -3,9 +3,9 @@ ghost use Rattle.std.specs.Prelude.{IfOk};
 ghost use Rattle.rbg_listing.specs.Runs.{IsFilesMoves, IsMovesRun};
 
 use crate::answer::{answer_moves, refuse};
-use rbg_console::{Files, Input, Status, write_text};
+use rbg_console::{Files, Input, Status};
 use rbg_game::LoadError;
-use rbg_refereeing::{Answer, answer_device};
+use rbg_refereeing::{Answer, answer_device, write_answer};
 use rbg_tokens::{MAX_TEXT, TextError};
 use std::alloc::{AllocError, Global};
 use std::io::Write;
@@ -19,10 +19,8 @@ pub fn run_moves<F: Files, W: Write>(
 ) -> Status
     ensures { IsMovesRun (F.told files.old file.now) (W.contents output.old) (W.contents output.new) result }
 {
-    match answer_file(alloc, file, files) {
-        Ok(answer) => write_text(output, answer.text.as_slice(), answer.status),
-        Err(_) => write_text(output, b"memory\n", Status::Memory),
-    }
+    let answered = answer_file(alloc, file, files);
+    write_answer(output, answered)
 }
 
 /// The answer to a file.

@@ -1,7 +1,7 @@
 -- The log of a match through a call.
-use Rattle.std.proofs.Common.{◌≡◌, ◌⊎◌, inl, inr, ℕ, ◌<◌, ◌^◌, List, [], ◌∷◌, ◌++◌, length, map, take, replicate, All, Result, Ok, Err, refl, sym, ap, ◌∙◌, subst, arith, append-nil}
+use Rattle.std.proofs.Common.{◌≡◌, ◌⊎◌, inl, inr, ℕ, ◌<◌, ◌^◌, List, [], ◌∷◌, ◌++◌, length, map, take, All, Result, Ok, Err, refl, sym, ap, ◌∙◌, subst, arith, append-nil}
 use Rattle.std.specs.Prelude.{OnOk, OnErr}
-use Rattle.std.proofs.lemmas.List.{map-append, take_all, length-replicate}
+use Rattle.std.proofs.lemmas.List.{map-append, take_all}
 use Rattle.std.proofs.lemmas.List.Elements.{All-nil, All-append}
 use Rattle.std.proofs.lemmas.Grind.{flat_map-append}
 use Rattle.rbg_game.specs.Loading.{Loads}
@@ -11,8 +11,6 @@ use Rattle.rbg_match.specs.Inputs.{AbstractEvent, piece, end_of_stream, moment_a
 use Rattle.rbg_match.specs.Matches.{MatchState, Opens, Steps, StepsAll}
 use Rattle.rbg_referee.specs.Refereed.{IsRefereed, OpensText}
 use Rattle.rbg_referee.specs.Played.{IsMatchOf}
-use Rattle.rbg_match.specs.PlayingOn.{seats_of}
-use Rattle.rbg_match.proofs.Delivering.{delivered-queued, length-delivered}
 use Rattle.rbg_match.proofs.WholeMatch.{stepped_is_transcript}
 use Rattle.rbg_refereeing.specs.Scripts.{config_for, event_for}
 use Rattle.rbg_script.specs.Config.{ConfigHasSpelling, config_text}
@@ -218,12 +216,3 @@ opened_so told game text config now state outbox old new loads fits opens append
 pub resumed_so : {W : Type 0} (told : W → List ℕ → Type 0) (text : List ℕ) (script : AbstractScript) (state : MatchState) (outbox : List (List ℕ)) (bytes : List ℕ) (old new : W) → IsMatchOf text (config_for script.config) script.config.now (map event_for script.events) state outbox → bytes ≡ script_text script → All EventHasSpelling script.events → Appends told old new bytes → ConfigHasSpelling script.config → told old [] → (held : List ℕ) × told new held × IsLog text held state outbox
 resumed_so told text script state outbox bytes old new played is spelled appends has empty =
     (bytes, appends [] empty, subst (λ (one : List ℕ). IsLog text one state outbox) (sym is) (resumed_log text script state outbox played (record { config = has; events = spelled })))
-
-pub played_seats : (text : List ℕ) (script : AbstractScript) (state : MatchState) (outbox : List (List ℕ)) → IsMatchOf text (config_for script.config) script.config.now (map event_for script.events) state outbox → length outbox ≡ seats_of state.game
-played_seats text script state outbox played =
-    let seats = seats_of played.refereed.game in
-    ap length played.refereed.bytes
-    ∙ ap length (sym (delivered-queued seats played.refereed.said))
-    ∙ length-delivered (replicate seats []) played.refereed.said
-    ∙ length-replicate seats []
-    ∙ ap seats_of played.of_game

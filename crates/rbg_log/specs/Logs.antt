@@ -4,7 +4,6 @@ use Rattle.rbg_match.specs.declared.config.Config.{Config}
 use Rattle.rbg_match.specs.Inputs.{AbstractEvent, piece, end_of_stream, moment_alone}
 use Rattle.rbg_match.specs.Limits.{latest_moment}
 use Rattle.rbg_match.specs.Matches.{MatchState, StepsAll}
-use Rattle.rbg_referee.specs.Played.{IsMatchOf}
 use Rattle.rbg_referee.specs.Refereed.{OpensText}
 use Rattle.rbg_refereeing.specs.Matches.{IsScriptRefereed}
 use Rattle.rbg_refereeing.specs.Scripts.{config_for, event_for}
@@ -55,11 +54,6 @@ pub record Logs {W : Type 0} (told : W → List ℕ → Type 0) (old new : W) (e
 -- No more than a front part of their lines is appended.
 abbrev pub LogsPart : {W : Type 0} → (told : W → List ℕ → Type 0) → (old new : W) → (events : List AbstractEvent) → Type 0
 LogsPart told old new events = AppendsFront told old new (event_lines events)
-
--- The match of the description and the script stands here, and these bytes are queued.
-abbrev pub IsScriptPlayed : (description : List ℕ) → AbstractScript → MatchState → (queued : List (List ℕ)) → Type 0
-IsScriptPlayed description script state queued =
-    IsMatchOf description (config_for script.config) script.config.now (map event_for script.events) state queued
 
 -- The log of a match of this text that stands here, with these bytes queued. The log is the text of a script, and in the
 -- match of that script each seat is sent the bytes that are queued for it. It stands where this match stands.

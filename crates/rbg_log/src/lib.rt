@@ -21,6 +21,7 @@ pub use later_clock::LaterClock;
 pub use logged::{LoggedMatch, Stop};
 pub use memory_log::MemoryLog;
 pub use opening::{OpenError, write_first};
-pub use resuming::{ResumeError, play_script};
+pub use rbg_refereeing::play_script;
+pub use resuming::ResumeError;
 pub use stumps::cut_stumps;
 pub use writing::write_event;

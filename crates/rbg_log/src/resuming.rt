@@ -1,20 +1,18 @@
 //! A match goes on from the script of its log.
-ghost use Rattle.std.specs.Prelude.{◌≡◌, ◌++◌, [], ℕ, List, All, length, map, IfErr, IfOk, None, OnOk};
+ghost use Rattle.std.specs.Prelude.{◌≡◌, ◌++◌, [], ℕ, List, All, length, map, IfOk, None, OnOk};
 ghost use Rattle.rbg_game.specs.Loading.{Loads};
 ghost use Rattle.rbg_match.specs.Matches.{HasHistory};
 ghost use Rattle.rbg_match.specs.PlayingOn.{seats_of};
-ghost use Rattle.rbg_refereeing.specs.Matches.{IsNoMatch};
 ghost use Rattle.rbg_script.specs.Config.{ConfigHasSpelling};
 ghost use Rattle.rbg_script.specs.Events.{EventHasSpelling, event_of, event_text};
-ghost use Rattle.rbg_script.specs.Scripts.{SpellsScript, script_of, script_text};
+ghost use Rattle.rbg_script.specs.Scripts.{script_of, script_text};
 ghost use Rattle.rbg_wire.specs.Lines.{line_of};
-ghost use Rattle.rbg_log.specs.Logs.{IsLog, IsScriptPlayed, texts_of};
+ghost use Rattle.rbg_log.specs.Logs.{IsLog, texts_of};
 
 use crate::{Log, LogFailure, LoggedMatch};
 use rbg_base::Memory;
-use rbg_match::{Match, Outbox};
-use rbg_referee::referee_match;
-use rbg_refereeing::{RefereeingError, config_of, events_of};
+use rbg_match::Outbox;
+use rbg_refereeing::{RefereeingError, play_script};
 use rbg_script::{Script, ScriptEvent, write_config, write_end, write_piece, write_tick};
 use std::alloc::Global;
 use thiserror::Error;
@@ -46,29 +44,6 @@ impl From<LogFailure> for ResumeError {
     fn from(_failure: LogFailure) -> ResumeError {
         ResumeError::Log
     }
-}
-
-/// The match of a description and a script, and what its seats are sent.
-pub fn play_script(
-    alloc: Global,
-    description: &[u8],
-    script: &Script,
-) -> Result<(Match, Outbox), RefereeingError>
-    ensures played { IfOk result (λ made.
-        IsScriptPlayed description.now (script_of script.now) made.0 made.1) }
-    ensures seats { IfOk result (λ made. length made.1 ≡ seats_of made.0.game) }
-    ensures loads { IfOk result (λ made. Loads description.now made.0.game) }
-    ensures history { IfOk result (λ made. HasHistory made.0) }
-    ensures refused { IfErr result (λ fault. (text : List ℕ) →
-        SpellsScript text (script_of script.now) → IsNoMatch description.now text fault) }
-{
-    let events = match events_of(alloc, script.events.as_slice()) {
-        Ok(events) => events,
-        Err(_) => return Err(RefereeingError::Memory),
-    };
-    let config = config_of(script.config);
-    let now = script.config.now;
-    Ok(referee_match(alloc, description, config, now, events.as_slice())?)
 }
 
 /// Appends the lines of a script.

@@ -1,7 +1,8 @@
 -- Lemmas on the answer to a match with its record.
 use Rattle.std.proofs.Common.{◌≡◌, ◌≢◌, ◌∙◌, ℕ, List, [], refl, sym, subst, arith}
 use Rattle.std.specs.Prelude.{◌<◌, Option, Some, None, length}
-use Rattle.rbg_answering.proofs.AnswerLemmas.{answer_is, fault_answers, long_known, long_refused}
+use Rattle.rbg_answering.proofs.AnswerLemmas.{answer_is, fault_answers, long_known}
+use Rattle.rbg_refereeing.proofs.CallerLemmas.{long_refused}
 use Rattle.rbg_answering.specs.Answers.IsTaskAnswer.{long_script, refused as task_refused}
 use Rattle.rbg_answering.specs.Answers.{IsTaskAnswer}
 use Rattle.rbg_answering.specs.Recorded.{IsRecorded}

@@ -3,11 +3,10 @@
 use Rattle.std.specs.Prelude.{◌≡◌, ◌≢◌, ℕ, List, [], Option, Some, None}
 use Rattle.rbg_console.specs.Files.{KnownFiles, MayBe}
 use Rattle.rbg_console.specs.Inputs.{most_input, IsAll}
-use Rattle.rbg_console.specs.Outputs.{IsWritten}
 use Rattle.rbg_console.specs.declared.status.Status.{Status}
-use Rattle.rbg_console.specs.declared.status.Status.TheVariants.{Success, Device, Memory}
+use Rattle.rbg_console.specs.declared.status.Status.TheVariants.{Success, Device}
 use Rattle.rbg_script.specs.Inputs.{IsInput}
-use Rattle.rbg_refereeing.specs.Runs.{IsReadersAnswer, device_line, memory_line}
+use Rattle.rbg_refereeing.specs.Runs.{IsReadersAnswer, IsRunOf, device_line}
 use Rattle.rbg_answering.specs.Answers.{IsTaskAnswer}
 use Rattle.rbg_answering.specs.Recorded.{IsRecorded}
 use Rattle.rbg_answering.specs.Tasks.{AbstractTask, AsksFor}
@@ -50,11 +49,7 @@ pub data IsRecordedAnswer (tells : Type 0) (known after : KnownFiles) (unread le
       → status ≡ Device
       → IsRecordedAnswer tells known after unread left named text status
 
--- Either the answer is written, or the line that says that memory ran out, and nothing else.
-pub data IsRecordedRun (tells : Type 0) (known after : KnownFiles) (unread left : Option (List ℕ)) (named : RecordedTask) (held holds : Option (List ℕ)) (status : Status) : Type 0 where
-  answered : (text : List ℕ) (wanted : Status)
-      → IsRecordedAnswer tells known after unread left named text wanted
-      → IsWritten held holds text wanted status
-      → IsRecordedRun tells known after unread left named held holds status
-  no_memory : IsWritten held holds memory_line Memory status
-      → IsRecordedRun tells known after unread left named held holds status
+-- What was read is answered.
+abbrev pub IsRecordedRun : (tells : Type 0) → (known after : KnownFiles) → (unread left : Option (List ℕ)) → RecordedTask → (held holds : Option (List ℕ)) → Status → Type 0
+IsRecordedRun tells known after unread left named held holds status =
+    IsRunOf (IsRecordedAnswer tells known after unread left named) held holds status

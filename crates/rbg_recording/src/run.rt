@@ -6,8 +6,8 @@ ghost use Rattle.rbg_recording.specs.Tasks.{record_task};
 use crate::RecordTask;
 use crate::marked::record_input;
 use crate::texts::record_file;
-use rbg_console::{Files, Status, write_text};
-use rbg_refereeing::Answer;
+use rbg_console::{Files, Status};
+use rbg_refereeing::{Answer, write_answer};
 use std::alloc::{AllocError, Global};
 use std::io::{Read, Write};
 
@@ -25,10 +25,8 @@ pub fn run_recorded<F: Files, R: Read, W: Write>(
         (R.remaining input.old) (R.remaining input.new) (record_task task.entry)
         (W.contents output.old) (W.contents output.new) result }
 {
-    match answer_recorded(alloc, task, files, input) {
-        Ok(answer) => write_text(output, answer.text.as_slice(), answer.status),
-        Err(_) => write_text(output, b"memory\n", Status::Memory),
-    }
+    let answered = answer_recorded(alloc, task, files, input);
+    write_answer(output, answered)
 }
 
 /// The answer to what the files and standard input have.

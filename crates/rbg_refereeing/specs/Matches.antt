@@ -1,6 +1,8 @@
 -- What is printed of the match of a description and a script, and why nothing is.
 use Rattle.std.specs.Prelude.{◌≡◌, ℕ, List, map}
 use Rattle.rbg_game.specs.Loading.{Loads, IsRefused, IsMemory}
+use Rattle.rbg_match.specs.Matches.{MatchState}
+use Rattle.rbg_referee.specs.Played.{IsMatchOf}
 use Rattle.rbg_referee.specs.Refereed.{IsRefereed}
 use Rattle.rbg_rules.specs.State.{AbstractGame}
 use Rattle.rbg_script.specs.Inputs.{IsInput}
@@ -14,6 +16,11 @@ use Rattle.rbg_refereeing.specs.Scripts.{config_for, event_for}
 abbrev pub IsScriptRefereed : (description : List ℕ) → AbstractScript → (outbox : List (List ℕ)) → Type 0
 IsScriptRefereed description script outbox =
     IsRefereed description (config_for script.config) script.config.now (map event_for script.events) outbox
+
+-- The events of the script lead to this match of the description's game, and these bytes are queued for the seats.
+abbrev pub IsScriptPlayed : (description : List ℕ) → AbstractScript → MatchState → (queued : List (List ℕ)) → Type 0
+IsScriptPlayed description script state queued =
+    IsMatchOf description (config_for script.config) script.config.now (map event_for script.events) state queued
 
 -- The match of the description and the script is refereed, and these are the lines of its outbox.
 pub record IsPrintedMatch (description : List ℕ) (script : AbstractScript) (lines : List ℕ) : Type 0 where

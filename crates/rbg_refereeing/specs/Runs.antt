@@ -1,9 +1,10 @@
 -- A run of `referee`: from the bytes that its input had to those that its output holds, and the status.
-use Rattle.std.specs.Prelude.{◌≡◌, ℕ, List, Option, codes}
+use Rattle.std.specs.Prelude.{◌≡◌, ℕ, List, Option, Result, Ok, Err, codes}
 use Rattle.rbg_console.specs.Inputs.{most_input, IsAll, IsAbove, IsCutOff}
 use Rattle.rbg_console.specs.Outputs.{IsWritten}
 use Rattle.rbg_console.specs.declared.status.Status.{Status}
 use Rattle.rbg_console.specs.declared.status.Status.TheVariants.{BadInput, Device, Memory}
+use Rattle.rbg_refereeing.specs.declared.answer.Answer.{Answer}
 use Rattle.rbg_refereeing.specs.Answers.{script_line, IsAnswer}
 
 -- the line that says that the input can't be read
@@ -32,11 +33,20 @@ pub data IsReadersAnswer (unread left : Option (List ℕ)) (text : List ℕ) (st
       → status ≡ Device
       → IsReadersAnswer unread left text status
 
--- The input had some bytes unread and has the others left; the output held some bytes and holds more now. Either the
--- answer to what was read is written, or memory ran out and the line that says so is written: that one line alone.
-pub data IsRun (unread left held holds : Option (List ℕ)) (status : Status) : Type 0 where
+-- The output held some bytes and holds more now. Either an answer that is right is written, or memory ran out and the line
+-- that says so is written: that one line alone.
+pub data IsRunOf (Answers : (text : List ℕ) → Status → Type 0) (held holds : Option (List ℕ)) (status : Status) : Type 0 where
   answered : (text : List ℕ) (wanted : Status)
-      → IsReadersAnswer unread left text wanted
+      → Answers text wanted
       → IsWritten held holds text wanted status
-      → IsRun unread left held holds status
-  no_memory : IsWritten held holds memory_line Memory status → IsRun unread left held holds status
+      → IsRunOf Answers held holds status
+  no_memory : IsWritten held holds memory_line Memory status → IsRunOf Answers held holds status
+
+-- The input had some bytes unread and has the others left, and what was read is answered.
+abbrev pub IsRun : (unread left held holds : Option (List ℕ)) → Status → Type 0
+IsRun unread left held holds status = IsRunOf (IsReadersAnswer unread left) held holds status
+
+-- This answer is written, or the line that says that memory ran out.
+abbrev pub WritesAnswer : {E : Type 0} → Result Answer E → (held holds : Option (List ℕ)) → Status → Type 0
+WritesAnswer (Ok answer) held holds status = IsWritten held holds answer.text.items answer.status status
+WritesAnswer (Err _) held holds status = IsWritten held holds memory_line Memory status

@@ -1,14 +1,15 @@
 //! What is answered to an input: a text that is printed, and the status with which the program ends.
-ghost use Rattle.std.specs.Prelude.{◌≡◌, IfOk};
+ghost use Rattle.std.specs.Prelude.{◌≡◌, ◌++◌, IfOk, codes, decimal};
 ghost use Rattle.rbg_refereeing.specs.Answers.{IsAnswer, refused_line, script_line};
-ghost use Rattle.rbg_refereeing.specs.Runs.{device_line};
+ghost use Rattle.rbg_refereeing.specs.Runs.{WritesAnswer, device_line};
 ghost use Rattle.rbg_refereeing.specs.Faults.{AnswersFault};
 
 use crate::RefereeingError;
 use crate::refereeing::referee_input;
-use rbg_console::{Refusal, Status};
+use rbg_console::{Refusal, Status, write_text};
 use rbg_game::LoadError;
 use std::alloc::{AllocError, Global};
+use std::io::Write;
 
 /// A text that is printed, and the status with which the program ends.
 #[derive(Drop)]
@@ -59,7 +60,16 @@ pub fn answer_script(alloc: Global, number: usize) -> Result<Answer, AllocError>
     ensures text { IfOk result (λ answer. answer.text.items ≡ script_line number) }
     ensures status { IfOk result (λ answer. answer.status ≡ Status.BadInput) }
 {
-    let line = format!(in alloc; "script {number}\n")?;
+    answer_line(alloc, "script ", number)
+}
+
+/// A word and the number of a line, for what is at fault there.
+pub fn answer_line(alloc: Global, word: &str, number: usize) -> Result<Answer, AllocError>
+    ensures text { IfOk result (λ answer.
+        answer.text.items ≡ word.now ++ (decimal number ++ codes "\n")) }
+    ensures status { IfOk result (λ answer. answer.status ≡ Status.BadInput) }
+{
+    let line = format!(in alloc; "{word}{number}\n")?;
     Ok(Answer {
         text: line.into_bytes(),
         status: Status::BadInput,
@@ -75,4 +85,14 @@ pub fn answer_device(alloc: Global) -> Result<Answer, AllocError>
         text: b"device\n".to_vec(alloc)?,
         status: Status::Device,
     })
+}
+
+/// Writes an answer, or the line that says that memory ran out.
+pub fn write_answer<W: Write>(output: &mut W, answered: Result<Answer, AllocError>) -> Status
+    ensures { WritesAnswer answered (W.contents output.old) (W.contents output.new) result }
+{
+    match answered {
+        Ok(answer) => write_text(output, answer.text.as_slice(), answer.status),
+        Err(_) => write_text(output, b"memory\n", Status::Memory),
+    }
 }

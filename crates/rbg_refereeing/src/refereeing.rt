@@ -1,10 +1,14 @@
 //! The match of a description and a script, from their bytes to the printed lines.
-ghost use Rattle.std.specs.Prelude.{IfOk, IfErr, List, ℕ};
+ghost use Rattle.std.specs.Prelude.{◌≡◌, IfOk, IfErr, List, length, ℕ};
+ghost use Rattle.rbg_game.specs.Loading.{Loads};
+ghost use Rattle.rbg_match.specs.Matches.{HasHistory};
+ghost use Rattle.rbg_match.specs.PlayingOn.{seats_of};
 ghost use Rattle.rbg_refereeing.specs.Matches.{
   IsInputsMatch,
   IsNoInput,
   IsNoMatch,
   IsPrintedMatch,
+  IsScriptPlayed,
   IsScriptRefereed,
   IsScriptsMatch,
 };
@@ -14,8 +18,8 @@ use crate::RefereeingError;
 use crate::printed::match_lines;
 use crate::script_events::{config_of, events_of};
 use rbg_game::load;
-use rbg_match::Outbox;
-use rbg_referee::referee;
+use rbg_match::{Match, Outbox};
+use rbg_referee::referee_match;
 use rbg_script::{Script, ScriptError, cut_at_mark, read_script};
 use std::alloc::Global;
 
@@ -84,11 +88,29 @@ fn outbox_of(alloc: Global, description: &[u8], script: &Script) -> Result<Outbo
     ensures refused { IfErr result (λ fault. (text : List ℕ) →
         SpellsScript text (abstract_script script.now) → IsNoMatch description.now text fault) }
 {
+    let (_, outbox) = play_script(alloc, description, script)?;
+    Ok(outbox)
+}
+
+/// The match of a description and a script, and what its seats are sent.
+pub fn play_script(
+    alloc: Global,
+    description: &[u8],
+    script: &Script,
+) -> Result<(Match, Outbox), RefereeingError>
+    ensures played { IfOk result (λ made.
+        IsScriptPlayed description.now (abstract_script script.now) made.0 made.1) }
+    ensures seats { IfOk result (λ made. length made.1 ≡ seats_of made.0.game) }
+    ensures loads { IfOk result (λ made. Loads description.now made.0.game) }
+    ensures history { IfOk result (λ made. HasHistory made.0) }
+    ensures refused { IfErr result (λ fault. (text : List ℕ) →
+        SpellsScript text (abstract_script script.now) → IsNoMatch description.now text fault) }
+{
     let events = match events_of(alloc, script.events.as_slice()) {
         Ok(events) => events,
         Err(_) => return Err(RefereeingError::Memory),
     };
     let config = config_of(script.config);
     let now = script.config.now;
-    Ok(referee(alloc, description, config, now, events.as_slice())?)
+    Ok(referee_match(alloc, description, config, now, events.as_slice())?)
 }

@@ -2,8 +2,8 @@
 ghost use Rattle.std.specs.Prelude.{IfOk};
 ghost use Rattle.rbg_refereeing.specs.Runs.{IsReadersAnswer, IsRun};
 
-use crate::answer::{Answer, answer_device, answer_input, answer_script};
-use rbg_console::{Input, MAX_INPUT, Status, read_input, write_text};
+use crate::answer::{Answer, answer_device, answer_input, answer_script, write_answer};
+use rbg_console::{Input, MAX_INPUT, Status, read_input};
 use std::alloc::{AllocError, Global};
 use std::io::{Read, Write};
 
@@ -13,10 +13,8 @@ pub fn run_referee<R: Read, W: Write>(alloc: Global, input: &mut R, output: &mut
     ensures { IsRun (R.remaining input.old) (R.remaining input.new)
         (W.contents output.old) (W.contents output.new) result }
 {
-    match answer_reader(alloc, input) {
-        Ok(answer) => write_text(output, answer.text.as_slice(), answer.status),
-        Err(_) => write_text(output, b"memory\n", Status::Memory),
-    }
+    let answered = answer_reader(alloc, input);
+    write_answer(output, answered)
 }
 
 /// The answer to all that the input has.

@@ -2,12 +2,4 @@
 #![tactic(auto)]
 
 #[cfg(test)]
-mod boards;
-#[cfg(test)]
-mod descriptions;
-#[cfg(test)]
-mod expansions;
-#[cfg(test)]
-mod games;
-#[cfg(test)]
-mod token_lists;
+mod tests;

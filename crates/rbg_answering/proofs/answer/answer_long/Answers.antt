@@ -5,7 +5,8 @@ use Rattle.rbg_console.specs.declared.status.Status.TheVariants.{BadInput}
 use Rattle.rbg_refereeing.specs.Answers.{script_line}
 use Rattle.rbg_answering.specs.declared.task.Command.TheVariants.{Referee}
 use Rattle.rbg_answering.specs.internal.Parts.{AnswersLong}
-use Rattle.rbg_answering.proofs.AnswerLemmas.{both, long_script_answers}
+use Rattle.rbg_answering.proofs.AnswerLemmas.{long_script_answers}
+use Rattle.rbg_refereeing.proofs.CallerLemmas.{both}
 use Rattle.rbg_answering.proofs.answer.answer_long.Goals as goal
 
 pub returns-in-Referee : goal.returns-in-Referee

@@ -5,7 +5,8 @@ use Rattle.std.proofs.lemmas.Result.{IfOk-weaker}
 use Rattle.rbg_console.specs.declared.status.Status.TheVariants.{BadInput}
 use Rattle.rbg_answering.specs.Answers.{form_line}
 use Rattle.rbg_answering.specs.internal.Parts.{AnswersLongRecord, SaysUnloaded}
-use Rattle.rbg_answering.proofs.AnswerLemmas.{both, long_record_answers, unloaded_answers_long}
+use Rattle.rbg_answering.proofs.AnswerLemmas.{long_record_answers, unloaded_answers_long}
+use Rattle.rbg_refereeing.proofs.CallerLemmas.{both}
 use Rattle.rbg_answering.proofs.answer.answer_long_record.Goals.{in-Ok, in-Err}
 use Rattle.rbg_answering.proofs.answer.answer_long_record.Goals as goal
 

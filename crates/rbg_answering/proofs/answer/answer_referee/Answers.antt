@@ -8,7 +8,8 @@ use Rattle.rbg_tokens.specs.declared.error.TextError.TheVariants.{TooLong}
 use Rattle.rbg_answering.specs.Tasks.{IsReadOf}
 use Rattle.rbg_answering.specs.declared.task.Command.TheVariants.{Referee}
 use Rattle.rbg_answering.specs.internal.Parts.{AnswersWhole}
-use Rattle.rbg_answering.proofs.AnswerLemmas.{both, long_known, long_refused, refusal_answers}
+use Rattle.rbg_answering.proofs.AnswerLemmas.{long_known, refusal_answers}
+use Rattle.rbg_refereeing.proofs.CallerLemmas.{both, long_refused}
 use Rattle.rbg_answering.proofs.answer.answer_referee.Goals as goal
 
 pub returns-in-None : goal.returns-in-None

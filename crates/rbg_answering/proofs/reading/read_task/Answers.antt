@@ -6,7 +6,7 @@ use Rattle.rbg_tokens.specs.Limits.{longest_text}
 use Rattle.rbg_answering.specs.Tasks.{IsReadOf, file_task}
 use Rattle.rbg_answering.specs.declared.task.Command.TheVariants.{Check, Referee, Replay, Migrate, Moves}
 use Rattle.rbg_answering.specs.internal.Parts.{IsReadFor, IsReadIn, IsReadInput}
-use Rattle.rbg_answering.proofs.AnswerLemmas.{all_three}
+use Rattle.rbg_refereeing.proofs.CallerLemmas.{all_three}
 use Rattle.rbg_answering.proofs.ReadingLemmas.{check_read, match_read, replay_read, migrate_read, moves_read}
 use Rattle.rbg_answering.proofs.reading.read_task.Goals as goal
 

@@ -6,7 +6,7 @@ use Rattle.rbg_refereeing.specs.Answers.{refused_line}
 use Rattle.rbg_listing.specs.Answers.{IsMovesAnswer}
 use Rattle.rbg_listing.specs.Answers.IsMovesAnswer.{opened, refused}
 use Rattle.rbg_listing.specs.Openings.{IsOpeningText}
-use Rattle.rbg_listing.proofs.ListingLemmas.{both, all_three}
+use Rattle.rbg_refereeing.proofs.CallerLemmas.{both, all_three}
 use Rattle.rbg_listing.proofs.answer.answer_moves.Goals as goal
 
 pub returns-in-Ok : goal.returns-in-Ok

@@ -12,7 +12,7 @@ use Rattle.rbg_listing.specs.Answers.{IsMovesAnswer}
 use Rattle.rbg_listing.specs.Answers.IsMovesAnswer.{refused}
 use Rattle.rbg_listing.specs.Runs.{IsFilesMoves}
 use Rattle.rbg_listing.specs.Runs.IsFilesMoves.{of_file}
-use Rattle.rbg_listing.proofs.ListingLemmas.{all_three, long_refused}
+use Rattle.rbg_refereeing.proofs.CallerLemmas.{all_three, long_refused}
 use Rattle.rbg_listing.proofs.run.answer_file.Goals as goal
 
 pub returns-in-Whole : goal.returns-in-Whole

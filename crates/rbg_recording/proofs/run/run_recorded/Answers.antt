@@ -1,13 +1,13 @@
 -- The answer is written.
-use Rattle.std.proofs.Common.{subst}
-use Rattle.rbg_console.specs.Outputs.{IsWritten}
-use Rattle.rbg_recording.specs.Runs.IsRecordedRun.{answered}
+use Rattle.rbg_recording.specs.Runs.{IsRecordedAnswer}
+use Rattle.rbg_recording.specs.Tasks.{record_task}
+use Rattle.rbg_refereeing.proofs.CallerLemmas.{run_of}
 use Rattle.rbg_recording.proofs.run.run_recorded.Goals as goal
 
-pub returns-in-Ok : goal.returns-in-Ok
-returns-in-Ok g c =
-    let held = g.W.Write.contents c.args.output.now in
-    let holds = g.W.Write.contents c.write_text.new.output in
-    let wanted = c.in-Ok.answer.status in
-    answered c.in-Ok.answer.text.items wanted c.in-Ok.ensures
-    (subst (λ text. IsWritten held holds text wanted c.write_text.result) c.as_slice.ensures.value c.write_text.ensures)
+pub returns : goal.returns
+returns g c =
+    let known = g.F.Files.told c.args.files.now in
+    let after = g.F.Files.told c.answer_recorded-answered.new.files in
+    let unread = g.R.Read.remaining c.args.input.now in
+    let left = g.R.Read.remaining c.answer_recorded-answered.new.input in
+    run_of (IsRecordedAnswer g.F.Files.tells_new known after unread left (record_task c.args.task)) _ _ c.answer_recorded-answered.result c.write_answer.result c.answer_recorded-answered.ensures c.write_answer.ensures

@@ -1,6 +1,6 @@
 -- The description is refused, unless the script is too long.
 use Rattle.std.proofs.Common.{◌≡◌, subst}
-use Rattle.rbg_answering.proofs.AnswerLemmas.{both}
+use Rattle.rbg_refereeing.proofs.CallerLemmas.{both}
 use Rattle.rbg_console.specs.Inputs.{most_input, IsReading}
 use Rattle.rbg_console.specs.declared.status.Status.TheVariants.{BadInput, Refused}
 use Rattle.rbg_game.specs.declared.error.LoadError.TheVariants.{Text}

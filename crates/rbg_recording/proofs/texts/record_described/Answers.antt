@@ -1,7 +1,7 @@
 -- All that was read is answered.
 use Rattle.std.proofs.Common.{◌≡◌, subst}
 use Rattle.std.proofs.lemmas.Result.{IfOk-weaker}
-use Rattle.rbg_answering.proofs.AnswerLemmas.{both}
+use Rattle.rbg_refereeing.proofs.CallerLemmas.{both}
 use Rattle.rbg_console.specs.Inputs.{most_input, IsAll, IsAbove, IsReading}
 use Rattle.rbg_console.specs.declared.status.Status.TheVariants.{BadInput}
 use Rattle.rbg_refereeing.specs.Answers.{script_line}

@@ -1,13 +1,8 @@
 -- The answer is written.
-use Rattle.std.proofs.Common.{subst}
-use Rattle.rbg_console.specs.Outputs.{IsWritten}
-use Rattle.rbg_refereeing.specs.Runs.IsRun.{answered}
+use Rattle.rbg_refereeing.specs.Runs.{IsReadersAnswer}
+use Rattle.rbg_refereeing.proofs.CallerLemmas.{run_of}
 use Rattle.rbg_refereeing.proofs.run.run_referee.Goals as goal
 
-pub returns-in-Ok : goal.returns-in-Ok
-returns-in-Ok g c =
-    let held = g.W.Write.contents c.args.output.now in
-    let holds = g.W.Write.contents c.write_text.new.output in
-    let wanted = c.in-Ok.answer.status in
-    answered c.in-Ok.answer.text.items wanted c.in-Ok.ensures
-    (subst (λ text. IsWritten held holds text wanted c.write_text.result) c.as_slice.ensures.value c.write_text.ensures)
+pub returns : goal.returns
+returns g c =
+    run_of (IsReadersAnswer (g.R.Read.remaining c.args.input.now) (g.R.Read.remaining c.answer_reader-answered.new.input)) _ _ c.answer_reader-answered.result c.write_answer.result c.answer_reader-answered.ensures c.write_answer.ensures
