@@ -1,6 +1,6 @@
 -- What a session answers.
-use Rattle.std.proofs.Common.{◌≡◌, ℕ, ◌-◌, ◌<◌, List, [], ◌∷◌, ◌++◌, length, slice_get, Bool, true, false, Option, Some, None, Result, Ok, Err, refl, sym, ap, ◌∙◌, subst, append-nil, arith}
-use Rattle.std.specs.Prelude.{OnOk, IfErr}
+use Rattle.std.proofs.Common.{◌≡◌, ℕ, ◌-◌, ◌<◌, ◌≤◌, List, [], ◌∷◌, ◌++◌, length, slice_get, Bool, true, false, Option, Some, None, Result, Ok, Err, refl, sym, ap, ◌∙◌, subst, append-nil, arith}
+use Rattle.std.specs.Prelude.{◌^◌, OnOk, IfErr, IfSome, IfNone}
 use Rattle.rbg_rules.specs.State.{AbstractGame}
 use Rattle.rbg_rules.specs.Moves.{AbstractPlace}
 use Rattle.rbg_moves.specs.Listing.{IsListed}
@@ -16,12 +16,14 @@ use Rattle.rbg_ask.specs.internal.Places.{AreReached}
 use Rattle.rbg_ask.proofs.Places.{led_before, not_finished, place_at}
 
 -- legal moves
-pub lists_some : (session : AbstractSession) (max : ℕ) (all : List (List (ℕ × ℕ))) (cut : Bool) (before after : List ℕ) → IsListed session.game session.place max all cut → after ≡ before ++ answer_text (moves all cut) → AnswersIn session (Moves (Some max)) session before after
-lists_some session max all cut before after listed told = record { answer = moves all cut; answers = lists listed; told = told }
-
-pub lists_whole : (session : AbstractSession) (limit : ℕ) (all : List (List (ℕ × ℕ))) (cut : Bool) (before after : List ℕ) → IsListed session.game session.place limit all cut → length all < limit → after ≡ before ++ answer_text (moves all cut) → AnswersIn session (Moves None) session before after
-lists_whole session limit all true before after listed small told = absurd (omega (arith, small, listed.full refl))
-lists_whole session limit all false before after listed small told = record { answer = moves all false; answers = lists_all listed; told = told }
+pub lists_legal : (session : AbstractSession) (max : Option ℕ) (limit : ℕ) (all : List (List (ℕ × ℕ))) (cut : Bool) (before after : List ℕ) → IfSome max (λ most. limit ≡ most) → IfNone max (2 ^ 63 ≤ limit) → length all < 2 ^ 63 → IsListed session.game session.place limit all cut → after ≡ before ++ answer_text (moves all cut) → AnswersIn session (Moves max) session before after
+lists_legal session (Some max) limit all cut before after asked most small listed told = record {
+  answer = moves all cut;
+  answers = lists (subst (λ n. IsListed session.game session.place n all cut) asked listed);
+  told = told;
+}
+lists_legal session None limit all true before after asked most small listed told = absurd (omega (arith, small, most, listed.full refl))
+lists_legal session None limit all false before after asked most small listed told = record { answer = moves all false; answers = lists_all listed; told = told }
 
 -- a move that is made, and moves that are undone
 pub makes_move : (session : AbstractSession) (pairs : List (ℕ × ℕ)) (to : AbstractPlace) (answer : Answer) (before after : List ℕ) → Leads session.game session.place pairs to → StandsAt session.game to answer → after ≡ before ++ answer_text answer → AnswersIn session (Make pairs) (moved_to session to) before after

@@ -1,5 +1,5 @@
 //! A session: the places that play has reached, and what is answered there.
-ghost use Rattle.std.specs.Prelude.{◌≡◌, ◌↔◌, ◌+◌, ◌-◌, ◌<◌, ◌^◌, ◌∷◌, ◌++◌, [], length, Err, IfErr, IfNone, IfOk, IfSome, IsTrue, OnErr, OnOk, All, ℕ, Option, Some, None};
+ghost use Rattle.std.specs.Prelude.{◌≡◌, ◌↔◌, ◌+◌, ◌-◌, ◌<◌, ◌≤◌, ◌^◌, ◌∷◌, ◌++◌, [], length, Err, IfErr, IfNone, IfOk, IfSome, IsTrue, OnErr, OnOk, All, ℕ, Option, Some, None};
 ghost use Rattle.rbg_moves.specs.declared.unsettled.Unsettled.TheVariants.{Heavy, Endless};
 ghost use Rattle.rbg_moves.specs.Settling.{IsEndless, MeetsHeavy, Settles};
 ghost use Rattle.rbg_ask.specs.declared.question.Question.TheVariants as questions;
@@ -163,6 +163,7 @@ impl Session {
         }
     }
 
+    /// Lists the legal moves: so many of them, or all.
     fn list_moves(&self, max: Option<u64>, out: &mut Vec<u8>) -> Result<(), Refusal>
         requires { QuestionHasSpelling (questions.Moves max) }
         ensures answers { OnOk result (AnswersIn self.now (questions.Moves max) self.now
@@ -170,31 +171,7 @@ impl Session {
         ensures refused { IfErr result (IsRefused self.now (questions.Moves max)) }
         ensures out { OnErr result (out.new.items ≡ out.old.items) }
     {
-        match max {
-            Some(max) => self.list_some(max as usize, out),
-            None => self.list_all(out),
-        }
-    }
-
-    fn list_some(&self, max: usize, out: &mut Vec<u8>) -> Result<(), Refusal>
-        requires { 0 < max }
-        ensures answers { OnOk result (AnswersIn self.now (questions.Moves (Some max)) self.now
-            out.old.items out.new.items) }
-        ensures refused { IfErr result (IsRefused self.now (questions.Moves (Some max))) }
-        ensures out { OnErr result (out.new.items ≡ out.old.items) }
-    {
-        let listed = self.game.list_moves(&self.place, max)?;
-        write_moves(listed.moves.as_slice(), listed.cut, out)?;
-        Ok(())
-    }
-
-    fn list_all(&self, out: &mut Vec<u8>) -> Result<(), Refusal>
-        ensures answers { OnOk result (AnswersIn self.now (questions.Moves None) self.now
-            out.old.items out.new.items) }
-        ensures refused { IfErr result (IsRefused self.now (questions.Moves None)) }
-        ensures out { OnErr result (out.new.items ≡ out.old.items) }
-    {
-        let listed = self.game.list_moves(&self.place, usize::MAX)?;
+        let listed = self.game.list_moves(&self.place, limit_of(max))?;
         is_in_memory(&listed.moves);
         write_moves(listed.moves.as_slice(), listed.cut, out)?;
         Ok(())
@@ -350,6 +327,19 @@ fn count_of(moves: Option<u64>) -> u64
     match moves {
         None => 1,
         Some(many) => many,
+    }
+}
+
+/// The most moves that are listed. No list in memory is as long as the greatest number, which stands for all moves.
+fn limit_of(max: Option<u64>) -> usize
+    requires { QuestionHasSpelling (questions.Moves max) }
+    ensures some { 0 < result }
+    ensures asked { IfSome max (λ most. result ≡ most) }
+    ensures all { IfNone max (2 ^ 63 ≤ result) }
+{
+    match max {
+        Some(most) => most as usize,
+        None => usize::MAX,
     }
 }
 

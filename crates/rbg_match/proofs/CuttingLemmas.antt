@@ -19,6 +19,7 @@ use Rattle.rbg_match.specs.PlayingOn.{seats_of}
 use Rattle.rbg_match.specs.Transcript.{HandlesAll}
 use Rattle.rbg_match.proofs.AllEvents.{streams_through}
 use Rattle.rbg_match.proofs.Events.{inputs_of_piece, left_of_piece}
+use Rattle.rbg_match.proofs.Transcripts.{of_other_inputs}
 use Rattle.rbg_match.proofs.OneByOne.{all_to_each, each_to_all}
 use Rattle.rbg_match.proofs.Settling.{tick_at, tick_dropped, tick_added}
 
@@ -205,20 +206,10 @@ module _ (game : AbstractGame) (config : Config) (some : 1 ≤ config.turn_ms) (
 pub cutting : Cutting
 cutting game text config now some before after seat at first others play said =
     let streams = streams_at_start (seats_of game) now in (
-      λ whole. record {
-        opened = whole.opened;
-        opening = whole.opening;
-        replies = whole.replies;
-        opens = whole.opens;
-        goes_on = handled_as game config some streams whole.opened play whole.replies _ _ (sym (append_assoc before (map (piece seat at) (first ∷ others)) after)) (cut_all game config some streams whole.opened play whole.replies after seat at before first others whole.goes_on);
-        whole = whole.whole;
-      },
-      λ parts. record {
-        opened = parts.opened;
-        opening = parts.opening;
-        replies = parts.replies;
-        opens = parts.opens;
-        goes_on = join_all game config some streams parts.opened play parts.replies after seat at before first others (handled_as game config some streams parts.opened play parts.replies _ _ (append_assoc before (map (piece seat at) (first ∷ others)) after) parts.goes_on);
-        whole = parts.whole;
-      },
+      λ whole. of_other_inputs _ whole
+          (handled_as game config some streams whole.opened play whole.replies _ _ (sym (append_assoc before (map (piece seat at) (first ∷ others)) after))
+          (cut_all game config some streams whole.opened play whole.replies after seat at before first others whole.goes_on)),
+      λ parts. of_other_inputs _ parts
+          (join_all game config some streams parts.opened play parts.replies after seat at before first others
+          (handled_as game config some streams parts.opened play parts.replies _ _ (append_assoc before (map (piece seat at) (first ∷ others)) after) parts.goes_on)),
     )

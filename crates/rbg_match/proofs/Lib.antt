@@ -17,6 +17,7 @@ pub mod WholeMatch
 pub mod EndedLemmas
 pub mod OneByOne
 pub mod Settling
+pub mod Transcripts
 pub mod CuttingLemmas
 pub mod TickLemmas
 pub mod OneTranscriptLemmas

@@ -1,8 +1,8 @@
 -- The items that a stream has completed are handled in turn.
-use Rattle.std.proofs.Common.{◌≡◌, ℕ, List, [], ◌∷◌, ◌++◌, map, drop, refl, sym, ap, ◌∙◌, subst, Ok, Some, None, slice_get, append_assoc}
+use Rattle.std.proofs.Common.{◌≡◌, ℕ, List, [], ◌∷◌, ◌++◌, map, refl, sym, ap, ◌∙◌, subst, Ok, Some, None, slice_get, append_assoc}
 use Rattle.std.proofs.lemmas.List.{map-append, append-nil}
-use Rattle.std.proofs.lemmas.Option.{none-some}
 use Rattle.rbg_wire.specs.Streams.{Item, Stream, without_first}
+use Rattle.rbg_wire.proofs.Items.{first_and_others, nothing_first}
 use Rattle.rbg_match.specs.Deliveries.{Delivery}
 use Rattle.rbg_match.specs.Play.{AbstractPlay}
 use Rattle.rbg_match.specs.Handling.{AbstractInput, sent, Handles}
@@ -10,15 +10,6 @@ use Rattle.rbg_match.specs.Inputs.{TimedInput, inputs_at}
 use Rattle.rbg_match.specs.Transcript.{none, more}
 use Rattle.rbg_match.specs.internal.Replies.{RefereeState, Replies, HandlesNow, gone_on}
 use Rattle.rbg_match.proofs.Replying.{nothing_done, gone_on-twice}
-
--- a list that has a first element, or none
-first_and_others : {A : Type 0} (xs : List A) (x : A) → slice_get xs 0 ≡ Some x → xs ≡ x ∷ drop 1 xs
-first_and_others [] x first = absurd (none-some x first)
-first_and_others (y ∷ xs) x first = cc
-
-nothing_first : {A : Type 0} (xs : List A) → slice_get xs 0 ≡ None → xs ≡ []
-nothing_first [] first = refl
-nothing_first (y ∷ xs) first = absurd (none-some y (sym first))
 
 -- inputs of one more thing
 inputs_at-more : (moment : ℕ) (input : List AbstractInput) (one : AbstractInput) → inputs_at moment (input ++ one ∷ []) ≡ inputs_at moment input ++ record { moment = moment; input = one } ∷ []

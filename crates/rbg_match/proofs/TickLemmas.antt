@@ -16,6 +16,7 @@ use Rattle.rbg_match.specs.Transcript.{HandlesAll}
 use Rattle.rbg_match.proofs.AllEvents.{streams_through}
 use Rattle.rbg_match.proofs.CuttingLemmas.{timed_inputs_of-append}
 use Rattle.rbg_match.proofs.OneByOne.{all_to_each, each_to_all}
+use Rattle.rbg_match.proofs.Transcripts.{of_other_inputs}
 use Rattle.rbg_match.proofs.Settling.{tick_at, tick_dropped, tick_added, plays_on_settles, first_dropped, first_added}
 
 -- an event stands for one input at least
@@ -92,22 +93,8 @@ module _ (game : AbstractGame) (config : Config) (some : 1 ≤ config.turn_ms) (
 pub tick_behind : TickBehind
 tick_behind game text config now some before after event at early play said =
     let streams = streams_at_start (seats_of game) now in (
-      λ one. record {
-        opened = one.opened;
-        opening = one.opening;
-        replies = one.replies;
-        opens = one.opens;
-        goes_on = drop_tick game config some streams one.opened play one.replies before after event at early one.goes_on;
-        whole = one.whole;
-      },
-      λ one. record {
-        opened = one.opened;
-        opening = one.opening;
-        replies = one.replies;
-        opens = one.opens;
-        goes_on = add_tick game config some streams one.opened play one.replies before after event at early one.goes_on;
-        whole = one.whole;
-      },
+      λ one. of_other_inputs _ one (drop_tick game config some streams one.opened play one.replies before after event at early one.goes_on),
+      λ one. of_other_inputs _ one (add_tick game config some streams one.opened play one.replies before after event at early one.goes_on),
     )
 
 -- a moment that isn't later than the first one
@@ -131,22 +118,10 @@ tick_at_start game text config now some after at early play said =
     let seats = seats_of game in
     let inputs = timed_inputs_of (streams_at_start seats now) after in
     let same = tick_first seats now at after early in (
-      λ one. record {
-        opened = one.opened;
-        opening = one.opening;
-        replies = one.replies;
-        opens = one.opens;
-        goes_on = each_to_all (first_dropped game config some (counted_first now) inputs (plays_on_settles config some one.opens)
-            (all_to_each (subst (λ (inputs : List TimedInput). HandlesAll game config one.opened inputs play one.replies) same one.goes_on)));
-        whole = one.whole;
-      },
-      λ one. record {
-        opened = one.opened;
-        opening = one.opening;
-        replies = one.replies;
-        opens = one.opens;
-        goes_on = subst (λ (inputs : List TimedInput). HandlesAll game config one.opened inputs play one.replies) (sym same)
-            (each_to_all (first_added game config some (counted_first now) inputs (plays_on_settles config some one.opens) (all_to_each one.goes_on)));
-        whole = one.whole;
-      },
+      λ one. of_other_inputs _ one
+          (each_to_all (first_dropped game config some (counted_first now) inputs (plays_on_settles config some one.opens)
+          (all_to_each (subst (λ (inputs : List TimedInput). HandlesAll game config one.opened inputs play one.replies) same one.goes_on)))),
+      λ one. of_other_inputs _ one
+          (subst (λ (inputs : List TimedInput). HandlesAll game config one.opened inputs play one.replies) (sym same)
+          (each_to_all (first_added game config some (counted_first now) inputs (plays_on_settles config some one.opens) (all_to_each one.goes_on)))),
     )

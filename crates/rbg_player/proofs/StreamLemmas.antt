@@ -2,23 +2,14 @@
 use Rattle.std.proofs.Common.{◌≡◌, ℕ, List, [], ◌∷◌, ◌++◌, drop, refl, sym, ap, ◌∙◌, subst, Some, None, slice_get, append_assoc}
 use Rattle.std.specs.List.{flat_map}
 use Rattle.std.proofs.lemmas.List.{append-nil}
-use Rattle.std.proofs.lemmas.Option.{none-some}
 use Rattle.std.proofs.lemmas.Grind.{flat_map-append}
 use Rattle.rbg_wire.specs.Messages.{AbstractMessage, spelling}
 use Rattle.rbg_wire.specs.Streams.{Item, complete, Cut, cut, Stream, with_bytes, without_first}
+use Rattle.rbg_wire.proofs.Items.{first_and_others, nothing_first}
 use Rattle.rbg_player.specs.declared.error.PlayerError.{PlayerError}
 use Rattle.rbg_player.specs.Players.{Stage, AbstractPlayer}
 use Rattle.rbg_player.specs.Streams.{HearsAll, none, more, HearsPiece, HasItemFault, FailsIn, cut_of}
 use Rattle.rbg_player.specs.internal.Standing.{HearsItem, IsReady}
-
--- a list that has a first element, or none
-first_and_others : {A : Type 0} (xs : List A) (x : A) → slice_get xs 0 ≡ Some x → xs ≡ x ∷ drop 1 xs
-first_and_others [] x first = absurd (none-some x first)
-first_and_others (y ∷ xs) x first = cc
-
-nothing_first : {A : Type 0} (xs : List A) → slice_get xs 0 ≡ None → xs ≡ []
-nothing_first [] first = refl
-nothing_first (y ∷ xs) first = absurd (none-some y (sym first))
 
 -- From this stage on, with these items in the inbox and this rest after them, some items were taken and heard.
 pub record HasHeard (start : Stage) (from : Stream) (old : List ℕ) (stage : Stage) (inbox : Stream) (new : List ℕ) : Type 0 where

@@ -18,7 +18,6 @@ use Rattle.rbg_lines.specs.Entries.{entry_text, timed_text, EntryHasSpelling, Ti
 use Rattle.rbg_lines.specs.Heading.{version_text, players_text, start_text, HaveNames}
 use Rattle.rbg_lines.specs.Lines.{IsFirstLine}
 use Rattle.rbg_wire.specs.Lines.{line_feed, line_of, lines_of}
-use Rattle.rbg_wire.proofs.ByteLemmas.{no_cut}
 use Rattle.rbg_match.specs.declared.made.Made.{Made}
 use Rattle.rbg_match.specs.History.{LeadsTo, MadeInTurn}
 use Rattle.rbg_match.specs.History as history
@@ -28,14 +27,13 @@ use Rattle.rbg_record.specs.Records.{PlainMove, PlainRecord, plain, timed, plain
 use Rattle.rbg_record.specs.Right.{made_at, turn_config, told_play, IsRight, IsRightPlain, IsRightTimed}
 use Rattle.rbg_record.specs.Lines.{with_moment, unwritten_moment}
 use Rattle.rbg_record.specs.Judged.{BeginsWith, GoesOn}
-use Rattle.rbg_record.specs.Judged as judged
 use Rattle.rbg_record.specs.Migration.{PlainPart, before_version, among_moves, behind_end, HasPlainForm, IsPlainSoFar, IsPlainFault, IsMigrated, migrated}
 use Rattle.rbg_record.specs.Migration as migration
 use Rattle.rbg_record.specs.internal.Migrating.{Migrates, IsMigratedSoFar, TellsMoves, TellsAll, IsTold, part_behind, head_texts, moves_texts, timed_texts}
 use Rattle.rbg_record.specs.internal.Migrating as migrating
 use Rattle.rbg_record.proofs.Fitting.{fits_place, fits_unwritten}
 use Rattle.rbg_record.proofs.Leading.{unwritten_counted, all_first, all_last}
-use Rattle.rbg_record.proofs.OneEnd.{one_first, no_line}
+use Rattle.rbg_record.proofs.OneEnd.{ends_early, not_formed}
 use Rattle.rbg_record.proofs.SoFarLemmas.{begins_more}
 use Rattle.rbg_record.proofs.Telling.{in_turn_more}
 
@@ -115,9 +113,9 @@ migrated_more game bytes from to rest text later line old new so_far first migra
       shorter = omega arith;
     }
 
--- a line that is not of the form
-pub migrated_fault : (game : AbstractGame) (bytes : List ℕ) (part : PlainPart) (rest text later : List ℕ) (line : ℕ) (out : List ℕ) → IsMigratedSoFar game bytes part rest line out → IsFirstLine rest text later → (HasPlainForm part text → ⊥) → IsPlainFault bytes line
-migrated_fault game bytes part rest text later line out so_far first wrong = record {
+-- the lines so far, where what is left is not of the form
+plain_fault : (game : AbstractGame) (bytes : List ℕ) (part : PlainPart) (rest : List ℕ) (line : ℕ) (out : List ℕ) → IsMigratedSoFar game bytes part rest line out → ¬ GoesOn (part ≡ behind_end) (HasPlainForm part) rest → IsPlainFault bytes line
+plain_fault game bytes part rest line out so_far stops = record {
   texts = so_far.texts;
   rest = rest;
   begins = so_far.begins;
@@ -126,26 +124,14 @@ migrated_fault game bytes part rest text later line out so_far first wrong = rec
   so_far = so_far.so_far;
   stops = stops;
 }
-  where
-    stops : GoesOn (part ≡ behind_end) (HasPlainForm part) rest → ⊥
-    stops (judged.nothing_left over none) = no_line text later (sym first.parts ∙ none)
-    stops (judged.one_more text' later' first' form) = wrong (subst (HasPlainForm part) (one_first rest text' text later' later first' first).0 form)
+
+-- a line that is not of the form
+pub migrated_fault : (game : AbstractGame) (bytes : List ℕ) (part : PlainPart) (rest text later : List ℕ) (line : ℕ) (out : List ℕ) → IsMigratedSoFar game bytes part rest line out → IsFirstLine rest text later → (HasPlainForm part text → ⊥) → IsPlainFault bytes line
+migrated_fault game bytes part rest text later line out so_far first wrong = plain_fault game bytes part rest line out so_far (not_formed (part ≡ behind_end) (HasPlainForm part) rest text later first wrong)
 
 -- no line is left, but the record has not ended, or some bytes are left
 pub migrated_short : (game : AbstractGame) (bytes : List ℕ) (part : PlainPart) (rest : List ℕ) (line : ℕ) (out : List ℕ) → IsMigratedSoFar game bytes part rest line out → LacksByte line_feed rest → (part ≡ behind_end → rest ≡ [] → ⊥) → IsPlainFault bytes line
-migrated_short game bytes part rest line out so_far lacks going = record {
-  texts = so_far.texts;
-  rest = rest;
-  begins = so_far.begins;
-  number = so_far.number;
-  part = part;
-  so_far = so_far.so_far;
-  stops = stops;
-}
-  where
-    stops : GoesOn (part ≡ behind_end) (HasPlainForm part) rest → ⊥
-    stops (judged.nothing_left over none) = going over none
-    stops (judged.one_more text later first form) = no_cut line_feed text later (subst (LacksByte line_feed) first.parts lacks)
+migrated_short game bytes part rest line out so_far lacks going = plain_fault game bytes part rest line out so_far (ends_early (part ≡ behind_end) (HasPlainForm part) rest lacks going)
 
 -- What was migrated is right exactly where the old record is.
 

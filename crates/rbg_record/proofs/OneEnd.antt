@@ -2,7 +2,7 @@
 use Rattle.std.proofs.Common.{◌≡◌, ℕ, suc, List, [], ◌∷◌, ◌++◌, length, refl, sym, ap, ◌∙◌, subst, append_assoc, All}
 use Rattle.std.proofs.lemmas.List.Elements.{All-head, All-tail}
 use Rattle.rbg_wire.specs.Bytes.{LacksByte}
-use Rattle.rbg_wire.proofs.ByteLemmas.{same_cut}
+use Rattle.rbg_wire.proofs.ByteLemmas.{no_cut, same_cut}
 use Rattle.rbg_lines.specs.Lines.{IsFirstLine}
 use Rattle.rbg_wire.specs.Lines.{line_feed, line_of, lines_of}
 use Rattle.rbg_record.specs.Judged.{GoesOn}
@@ -52,6 +52,16 @@ no_line (byte ∷ text) rest same = let apart : byte ∷ (text ++ line_feed ∷ 
 -- there is one first line
 pub one_first : (bytes text text' rest rest' : List ℕ) → IsFirstLine bytes text rest → IsFirstLine bytes text' rest' → (text ≡ text') × (rest ≡ rest')
 one_first bytes text text' rest rest' first other = same_cut line_feed text text' rest rest' first.whole other.whole (sym first.parts ∙ other.parts)
+
+-- what is left is not of the form: its first line isn't
+pub not_formed : (over : Type 0) (HasForm : List ℕ → Type 0) (rest text later : List ℕ) → IsFirstLine rest text later → (HasForm text → ⊥) → GoesOn over HasForm rest → ⊥
+not_formed over HasForm rest text later first wrong (judged.nothing_left ended none) = no_line text later (sym first.parts ∙ none)
+not_formed over HasForm rest text later first wrong (judged.one_more text' later' first' form) = wrong (subst HasForm (one_first rest text' text later' later first' first).0 form)
+
+-- or it has no line, and it isn't over, or some bytes are left
+pub ends_early : (over : Type 0) (HasForm : List ℕ → Type 0) (rest : List ℕ) → LacksByte line_feed rest → (over → rest ≡ [] → ⊥) → GoesOn over HasForm rest → ⊥
+ends_early over HasForm rest lacks going (judged.nothing_left ended none) = going ended none
+ends_early over HasForm rest lacks going (judged.one_more text later first form) = no_cut line_feed text later (subst (LacksByte line_feed) first.parts lacks)
 
 -- the first of these lines
 pub first_of_lines : (bytes text : List ℕ) (texts : List (List ℕ)) (rest : List ℕ) → All (LacksByte line_feed) (text ∷ texts) → bytes ≡ lines_of (text ∷ texts) ++ rest → IsFirstLine bytes text (lines_of texts ++ rest)

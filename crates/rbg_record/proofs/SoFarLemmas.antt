@@ -8,18 +8,16 @@ use Rattle.rbg_wire.specs.Bytes.{LacksByte}
 use Rattle.rbg_rules.specs.State.{AbstractGame}
 use Rattle.rbg_lines.specs.Lines.{IsFirstLine}
 use Rattle.rbg_wire.specs.Lines.{line_feed, lines_of}
-use Rattle.rbg_wire.proofs.ByteLemmas.{no_cut}
 use Rattle.rbg_record.specs.declared.fault.Fault.{Fault}
 use Rattle.rbg_record.specs.declared.fault.Fault.TheVariants.{Form, Bad, Over, Memory}
 use Rattle.rbg_record.specs.Lines.{Reached, version_next, nothing_next, entry_next, HasForm, Leads, LeadTo}
 use Rattle.rbg_record.specs.Lines as lines
 use Rattle.rbg_record.specs.Judged.{BeginsWith, GoesOn, IsGoodByLines, IsFormFault, IsJudged}
-use Rattle.rbg_record.specs.Judged as judged
 use Rattle.rbg_record.specs.internal.Faults.{told_at}
 use Rattle.rbg_record.specs.ByLine.{IsReachedIn, Refuses}
 use Rattle.rbg_record.specs.internal.SoFar.{IsReadSoFar}
 use Rattle.rbg_record.proofs.Deciding.{last_line}
-use Rattle.rbg_record.proofs.OneEnd.{one_first, no_line}
+use Rattle.rbg_record.proofs.OneEnd.{ends_early, not_formed}
 
 -- no line yet
 pub read_none : (game : AbstractGame) (bytes : List ℕ) → IsReadSoFar game bytes version_next bytes 1
@@ -53,9 +51,9 @@ read_more game bytes reached to rest text later line so_far first leads in_game 
       shorter = omega arith;
     }
 
--- a line with a fault
-pub read_fault : (game : AbstractGame) (bytes : List ℕ) (reached : Reached) (rest text later : List ℕ) (line : ℕ) (fault : Fault) → IsReadSoFar game bytes reached rest line → IsFirstLine rest text later → Refuses game reached text fault → IsJudged game bytes (told_at fault line)
-read_fault game bytes reached rest text later line Form so_far first refuses = record {
+-- the lines so far, where what is left is not of the form
+form_fault : (game : AbstractGame) (bytes : List ℕ) (reached : Reached) (rest : List ℕ) (line : ℕ) → IsReadSoFar game bytes reached rest line → ¬ GoesOn (reached ≡ nothing_next) (HasForm reached) rest → IsFormFault game bytes line
+form_fault game bytes reached rest line so_far stops = record {
   texts = so_far.texts;
   rest = rest;
   begins = so_far.begins;
@@ -64,10 +62,10 @@ read_fault game bytes reached rest text later line Form so_far first refuses = r
   leads = so_far.leads;
   stops = stops;
 }
-  where
-    stops : GoesOn (reached ≡ nothing_next) (HasForm reached) rest → ⊥
-    stops (judged.nothing_left over none) = no_line text later (sym first.parts ∙ none)
-    stops (judged.one_more text' later' first' form) = refuses (subst (HasForm reached) (one_first rest text' text later' later first' first).0 form)
+
+-- a line with a fault
+pub read_fault : (game : AbstractGame) (bytes : List ℕ) (reached : Reached) (rest text later : List ℕ) (line : ℕ) (fault : Fault) → IsReadSoFar game bytes reached rest line → IsFirstLine rest text later → Refuses game reached text fault → IsJudged game bytes (told_at fault line)
+read_fault game bytes reached rest text later line Form so_far first refuses = form_fault game bytes reached rest line so_far (not_formed (reached ≡ nothing_next) (HasForm reached) rest text later first refuses)
 read_fault game bytes reached rest text later line Bad so_far first refuses = record {
   texts = so_far.texts;
   text = text;
@@ -105,19 +103,7 @@ read_good game bytes reached rest line so_far over none = record {
 
 -- no line is left, but the record has not ended, or some bytes are left
 pub read_short : (game : AbstractGame) (bytes : List ℕ) (reached : Reached) (rest : List ℕ) (line : ℕ) → IsReadSoFar game bytes reached rest line → LacksByte line_feed rest → (reached ≡ nothing_next → rest ≡ [] → ⊥) → IsFormFault game bytes line
-read_short game bytes reached rest line so_far lacks going = record {
-  texts = so_far.texts;
-  rest = rest;
-  begins = so_far.begins;
-  number = so_far.number;
-  reached = reached;
-  leads = so_far.leads;
-  stops = stops;
-}
-  where
-    stops : GoesOn (reached ≡ nothing_next) (HasForm reached) rest → ⊥
-    stops (judged.nothing_left over none) = going over none
-    stops (judged.one_more text later first form) = no_cut line_feed text later (subst (LacksByte line_feed) first.parts lacks)
+read_short game bytes reached rest line so_far lacks going = form_fault game bytes reached rest line so_far (ends_early (reached ≡ nothing_next) (HasForm reached) rest lacks going)
 
 pub not_empty : (rest : List ℕ) (empty : Bool) → empty ≡ (length rest == 0) → empty ≡ false → rest ≡ [] → ⊥
 not_empty rest empty is fails none =

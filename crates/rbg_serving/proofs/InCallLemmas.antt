@@ -53,6 +53,14 @@ one_more_moment {told = told} {before = before} {clock = clock} at tells call ho
   holds = holds;
 }
 
+-- the same of either answer
+pub either_with_one_more : {T E C : Type 0} {told : C → List ℕ → Type 0} {before : List ℕ} {old : C} {Held : List ℕ → Type 0} (clock : C) (Holds Lacks : List ℕ → Type 0) (result : Result T E) (at : ℕ) →
+    ((so_far : List ℕ) → told old so_far → told clock (so_far ++ at ∷ [])) →
+    (call : WithMoments told before old Held) →
+    MatchResult result (λ _. Holds (call.moments ++ at ∷ [])) (λ _. Lacks (call.moments ++ at ∷ [])) →
+    MatchResult result (λ _. WithMoments told before clock Holds) (λ _. WithMoments told before clock Lacks)
+either_with_one_more clock Holds Lacks result at tells call holds = either result (one_more_moment at tells call) (one_more_moment at tells call) holds
+
 module _ {L S : Type 0} {told : L → Told → Type 0} {failure_count : L → ℕ} {engine : Behaviour S} {start : Start S} where
   -- it was handled
   pub handled : {moments : List ℕ} {rounds : ℕ} {lines : List L} {states : List LineState} {state new : S}
@@ -158,12 +166,13 @@ module _ {L S : Type 0} {told : L → Told → Type 0} {failure_count : L → �
     fits = fits;
   }
 
-  -- The clock is asked, and nothing is heard.
-  pub asked_once : (at : ℕ) {moments : List ℕ} {rounds : ℕ} {lines : List L} {states : List LineState} {state : S}
-      {queued : List (List ℕ)} →
-      InCall told failure_count engine start moments rounds lines states state queued →
-      InCall told failure_count engine start (moments ++ at ∷ []) rounds lines states state queued
-  asked_once at call = record {
+  -- The clock is asked, and nothing is heard, whatever the lines told.
+  abbrev pub asked_alone : (at : ℕ) {moments : List ℕ} {rounds : ℕ} {lines used : List L} {states come : List LineState} {state : S}
+      {queued : List (List ℕ)}
+      (call : InCall told failure_count engine start moments rounds lines states state queued) →
+      AreServed told failure_count start.told call.heard queued used come call.intakes →
+      InCall told failure_count engine start (moments ++ at ∷ []) rounds used come state queued
+  asked_alone at call served = record {
     heard = call.heard;
     timed = asked call.timed at;
     live = call.live;
@@ -172,8 +181,15 @@ module _ {L S : Type 0} {told : L → Told → Type 0} {failure_count : L → �
     handles = call.handles;
     intakes = call.intakes;
     later = call.later;
-    served = call.served;
+    served = served;
   }
+
+  -- the same, with no line asked
+  pub asked_once : (at : ℕ) {moments : List ℕ} {rounds : ℕ} {lines : List L} {states : List LineState} {state : S}
+      {queued : List (List ℕ)} →
+      InCall told failure_count engine start moments rounds lines states state queued →
+      InCall told failure_count engine start (moments ++ at ∷ []) rounds lines states state queued
+  asked_once at call = asked_alone at call call.served
 
   -- all was passed on
   pub all_passed : {moments : List ℕ} {rounds : ℕ} {lines used : List L} {states come : List LineState} {state : S}

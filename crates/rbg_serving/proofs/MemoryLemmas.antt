@@ -1,5 +1,5 @@
 -- Lemmas on lines over memory.
-use Rattle.std.proofs.Common.{◌≡◌, ◌<◌, ◌≤◌, ℕ, ◌+◌, List, [], ◌∷◌, ◌++◌, length, take, drop, get_or, ap, sym, ◌∙◌, arith, append_assoc, append-nil, refl, zero, suc, false, min}
+use Rattle.std.proofs.Common.{◌≡◌, ◌<◌, ◌≤◌, ℕ, ◌+◌, ◌-◌, List, [], ◌∷◌, ◌++◌, length, take, drop, get_or, ap, sym, ◌∙◌, arith, append_assoc, append-nil, refl, zero, suc, false, min}
 use Rattle.std.specs.List.{flat_map, count_by}
 use Rattle.std.proofs.Math.Seq.{take-add}
 use Rattle.std.proofs.lemmas.Grind.{flat_map-append}
@@ -9,8 +9,9 @@ use Rattle.rbg_serving.specs.declared.give.Give.{Give}
 use Rattle.rbg_serving.specs.declared.give.Give.TheVariants.{Nothing, Ended, Failed}
 use Rattle.rbg_serving.specs.Answers.{with_failure}
 use Rattle.rbg_serving.specs.declared.answer.Polled.{Polled}
+use Rattle.rbg_serving.specs.declared.answer.Put.{Put}
 use Rattle.rbg_serving.specs.declared.memory_line.MemoryLine.{MemoryLine}
-use Rattle.rbg_serving.specs.MemoryLines.{bytes_in, is_end, memory_told, GivesNext, IsPolled}
+use Rattle.rbg_serving.specs.MemoryLines.{bytes_in, is_end, memory_told, GivesNext, IsPolled, TakesNext, IsPut}
 use Rattle.rbg_serving.specs.Told.{Told}
 use Rattle.rbg_serving.proofs.HeardLemmas.{one_if}
 
@@ -21,6 +22,15 @@ pub only_gives : {old new : MemoryLine} {result : Polled} {buffer : List ℕ} �
     IsPolled old new result buffer
 only_gives next gives takes puts taken room =
     record { gives_next = next; gives = gives; takes = takes; puts = puts; taken = taken; room = room }
+
+-- a put after which only what was taken is another
+pub only_takes : {old new : MemoryLine} {result : Put} {bytes : List ℕ} (took : List ℕ) →
+    TakesNext old.takes.items (old.room - length old.taken.items) bytes old.puts result took new.puts →
+    new.taken.items ≡ old.taken.items ++ took →
+    new.gives ≡ old.gives → new.whole ≡ old.whole → new.offset ≡ old.offset → new.takes ≡ old.takes → new.room ≡ old.room →
+    IsPut old new result bytes
+only_takes took next taken gives whole offset takes room =
+    record { took = took; takes_next = next; taken = taken; gives = gives; whole = whole; offset = offset; takes = takes; room = room }
 
 -- the bytes of one more give
 bytes_more : (gives : List Give) (whole : ℕ) → whole < length gives →

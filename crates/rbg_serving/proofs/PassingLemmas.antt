@@ -143,101 +143,144 @@ below (suc a) zero least differ = absurd (omega (arith, least))
 below (suc a) (suc b) least differ =
     let less = below a b (omega (arith, least)) (λ e. differ (ap suc e)) in omega (arith, less)
 
--- the next line was passed all and is live
-pub one_passed : {L : Type 0} (told : L → Told → Type 0) (failure_count : L → ℕ) (before : List Told)
-    (heard : List Heard) (queued : List (List ℕ)) (lines : List L) (states : List LineState) (since : List Intake)
-    (index : ℕ) (old line : L) (one : LineState) (bytes : List ℕ) →
-    index < length lines →
-    bytes ≡ queued_at queued index →
-    (get_or states index absent).live ≡ true →
-    PassesTo told failure_count bytes (get_or lines index old) line (get_or states index absent) one →
-    ((get_or states index absent).taken ≤ length bytes → one.taken ≤ length bytes) →
-    (get_or states index absent).taken ≤ one.taken →
-    one.live ≡ true →
-    ArePassed told failure_count before heard queued lines states since index →
-    ArePassed told failure_count before heard queued (set lines index line) (set states index one) since (index + 1)
-one_passed told failure_count before heard queued lines states since index old line one bytes there is was_live passes fits more live passed = record {
-  from = record {
-    intakes = set intakes index intake;
-    later = later_at since intakes index intake in_intakes passed.from.later
-        (subst (λ n. n ≤ one.taken) (sym was.taken) more)
-        (omega arith);
-    served = one_used told failure_count before heard heard queued lines states intakes index line one intake there
-        (λ other _. same_of (other + 1) heard)
-        are
-        record {
-          tells = subst (λ all. Tells told failure_count line (has_taken (has_said (index + 1) heard intake.stalls (told_at before index)) all one.taken)) is
-              (subst (Tells told failure_count line)
-              (sym (passed_is said bytes one (stall_of bytes one) live refl) ∙ stalls_joined)
-              (passes said within
-              (subst (λ all. Tells told failure_count (get_or lines index old)
-              (has_taken said all (get_or states index absent).taken)) (sym is) was.tells)));
-          taken = refl;
-          within = subst (λ all. one.taken ≤ length all) is (fits within);
-          live = λ _. was.live was_live;
-          over = λ over. true_or_false (sym live ∙ over);
-        };
-  };
-  offered = λ other within live. offered_at other within live (same_or_not other index);
-}
-  where
-    intakes : List Intake
-    intakes = passed.from.intakes
+-- The next line was passed bytes.
+module _ {L : Type 0} (told : L → Told → Type 0) (failure_count : L → ℕ) (before : List Told) (heard : List Heard)
+    (queued : List (List ℕ)) (lines : List L) (states : List LineState) (since : List Intake) (index : ℕ) (old line : L)
+    (one : LineState) (bytes : List ℕ) (there : index < length lines) (is : bytes ≡ queued_at queued index)
+    (was_live : (get_or states index absent).live ≡ true)
+    (passes : PassesTo told failure_count bytes (get_or lines index old) line (get_or states index absent) one)
+    (fits : (get_or states index absent).taken ≤ length bytes → one.taken ≤ length bytes)
+    (more : (get_or states index absent).taken ≤ one.taken)
+    (passed : ArePassed told failure_count before heard queued lines states since index) where
+  abbrev was : IsLineServed told failure_count (index + 1) heard (queued_at queued index) (told_at before index) (get_or lines index old) (get_or states index absent) (intake_at passed.from.intakes index)
+  was = passed.from.served.each index old there
 
-    intake : Intake
-    intake = passed_intake bytes (intake_at passed.from.intakes index) one
+  abbrev said : Told
+  said = has_said (index + 1) heard (intake_at passed.from.intakes index).stalls (told_at before index)
 
-    are : AreServed told failure_count before heard queued lines states passed.from.intakes
-    are = passed.from.served
+  abbrev within : (get_or states index absent).taken ≤ length bytes
+  within = subst (λ all. (get_or states index absent).taken ≤ length all) (sym is) was.within
 
-    was : IsLineServed told failure_count (index + 1) heard (queued_at queued index) (told_at before index) (get_or lines index old) (get_or states index absent) (intake_at passed.from.intakes index)
-    was = passed.from.served.each index old there
+  true_or_false : {P : Type 0} → true ≡ false → P
+  true_or_false e = cc
 
-    said : Told
-    said = has_said (index + 1) heard (intake_at passed.from.intakes index).stalls (told_at before index)
+  -- it took all and is live
+  pub one_passed :
+      one.live ≡ true →
+      ArePassed told failure_count before heard queued (set lines index line) (set states index one) since (index + 1)
+  one_passed live = record {
+    from = record {
+      intakes = set intakes index intake;
+      later = later_at since intakes index intake in_intakes passed.from.later
+          (subst (λ n. n ≤ one.taken) (sym was.taken) more)
+          (omega arith);
+      served = one_used told failure_count before heard heard queued lines states intakes index line one intake there
+          (λ other _. same_of (other + 1) heard)
+          are
+          record {
+            tells = subst (λ all. Tells told failure_count line (has_taken (has_said (index + 1) heard intake.stalls (told_at before index)) all one.taken)) is
+                (subst (Tells told failure_count line)
+                (sym (passed_is said bytes one (stall_of bytes one) live refl) ∙ stalls_joined)
+                (passes said within
+                (subst (λ all. Tells told failure_count (get_or lines index old)
+                (has_taken said all (get_or states index absent).taken)) (sym is) was.tells)));
+            taken = refl;
+            within = subst (λ all. one.taken ≤ length all) is (fits within);
+            live = λ _. was.live was_live;
+            over = λ over. true_or_false (sym live ∙ over);
+          };
+    };
+    offered = λ other within live. offered_at other within live (same_or_not other index);
+  }
+    where
+      intakes : List Intake
+      intakes = passed.from.intakes
 
-    within : (get_or states index absent).taken ≤ length bytes
-    within = subst (λ all. (get_or states index absent).taken ≤ length all) (sym is) was.within
+      intake : Intake
+      intake = passed_intake bytes (intake_at passed.from.intakes index) one
 
-    in_intakes : index < length passed.from.intakes
-    in_intakes = omega (arith, there, passed.from.served.as_many_intakes)
+      are : AreServed told failure_count before heard queued lines states passed.from.intakes
+      are = passed.from.served
 
-    plus_assoc : (a b c : ℕ) → (a + b) + c ≡ a + (b + c)
-    plus_assoc a b c = omega arith
+      in_intakes : index < length passed.from.intakes
+      in_intakes = omega (arith, there, passed.from.served.as_many_intakes)
 
-    stalls_joined : record (has_taken said bytes one.taken) { stalls = said.stalls + stall_of bytes one }
-        ≡ has_taken (has_said (index + 1) heard intake.stalls (told_at before index)) bytes one.taken
-    stalls_joined = λ i. record (has_taken said bytes one.taken) {
-      stalls = plus_assoc (told_at before index).stalls (intake_at passed.from.intakes index).stalls (stall_of bytes one) i;
-    }
+      plus_assoc : (a b c : ℕ) → (a + b) + c ≡ a + (b + c)
+      plus_assoc a b c = omega arith
 
-    true_or_false : {P : Type 0} → true ≡ false → P
-    true_or_false e = cc
+      stalls_joined : record (has_taken said bytes one.taken) { stalls = said.stalls + stall_of bytes one }
+          ≡ has_taken (has_said (index + 1) heard intake.stalls (told_at before index)) bytes one.taken
+      stalls_joined = λ i. record (has_taken said bytes one.taken) {
+        stalls = plus_assoc (told_at before index).stalls (intake_at passed.from.intakes index).stalls (stall_of bytes one) i;
+      }
 
-    all_or_stall : (one.taken ≡ length bytes) ⊎ (one.taken ≢ length bytes) →
-        (one.taken ≡ length bytes) ⊎ ((intake_at since index).stalls < intake.stalls)
-    all_or_stall (inl all) = inl all
-    all_or_stall (inr rest) = inr (omega (
-      arith,
-      passed.from.later.stalls index,
-      ap {B = ℕ} (λ test. if test then 0 else 1) (different one.taken (length bytes) rest),
-    ))
+      all_or_stall : (one.taken ≡ length bytes) ⊎ (one.taken ≢ length bytes) →
+          (one.taken ≡ length bytes) ⊎ ((intake_at since index).stalls < intake.stalls)
+      all_or_stall (inl all) = inl all
+      all_or_stall (inr rest) = inr (omega (
+        arith,
+        passed.from.later.stalls index,
+        ap {B = ℕ} (λ test. if test then 0 else 1) (different one.taken (length bytes) rest),
+      ))
 
-    here : (intake.taken ≡ length (queued_at queued index)) ⊎ ((intake_at since index).stalls < intake.stalls)
-    here = subst (λ all. (intake.taken ≡ length all) ⊎ ((intake_at since index).stalls < intake.stalls)) is
-        (all_or_stall (same_or_not one.taken (length bytes)))
+      here : (intake.taken ≡ length (queued_at queued index)) ⊎ ((intake_at since index).stalls < intake.stalls)
+      here = subst (λ all. (intake.taken ≡ length all) ⊎ ((intake_at since index).stalls < intake.stalls)) is
+          (all_or_stall (same_or_not one.taken (length bytes)))
 
-    Offered : (place : ℕ) → Intake → Type 0
-    Offered place now = (now.taken ≡ length (queued_at queued place)) ⊎ ((intake_at since place).stalls < now.stalls)
+      Offered : (place : ℕ) → Intake → Type 0
+      Offered place now = (now.taken ≡ length (queued_at queued place)) ⊎ ((intake_at since place).stalls < now.stalls)
 
-    offered_at : (other : ℕ) → other < index + 1 → IsLive (other + 1) heard → (other ≡ index) ⊎ (other ≢ index) →
-        Offered other (intake_at (set passed.from.intakes index intake) other)
-    offered_at other within live (inl e) =
-        subst (Offered other) (sym (get_or-set_at passed.from.intakes index other intake no_intake e in_intakes))
-        (subst (λ place. Offered place intake) (sym e) here)
-    offered_at other within live (inr differ) =
-        subst (Offered other) (sym (get_or-set_other passed.from.intakes index other intake no_intake differ))
-        (passed.offered other (below other index within differ) live)
+      offered_at : (other : ℕ) → other < index + 1 → IsLive (other + 1) heard → (other ≡ index) ⊎ (other ≢ index) →
+          Offered other (intake_at (set passed.from.intakes index intake) other)
+      offered_at other within live (inl e) =
+          subst (Offered other) (sym (get_or-set_at passed.from.intakes index other intake no_intake e in_intakes))
+          (subst (λ place. Offered place intake) (sym e) here)
+      offered_at other within live (inr differ) =
+          subst (Offered other) (sym (get_or-set_other passed.from.intakes index other intake no_intake differ))
+          (passed.offered other (below other index within differ) live)
+
+  -- it failed
+  pub one_failed :
+      one.live ≡ false →
+      IsLive (index + 1) heard
+      × ((at : ℕ) →
+      AreServedFrom told failure_count before (heard ++ failed_to_take (index + 1) at ∷ []) queued (set lines index line) (set states index one) since)
+  one_failed live = (
+    was.live was_live,
+    λ at. record {
+      intakes = set passed.from.intakes index intake;
+      later = later_at since passed.from.intakes index intake (omega (arith, there, passed.from.served.as_many_intakes)) passed.from.later
+          (subst (λ n. n ≤ one.taken) (sym was.taken) more)
+          (omega arith);
+      served =
+          one_used told failure_count before heard (heard ++ failed_to_take (index + 1) at ∷ []) queued lines states passed.from.intakes index line one intake there
+          (λ other differ. of_another (other + 1) heard (failed_to_take (index + 1) at) (other_seat index other differ))
+          passed.from.served
+          record {
+            tells = subst (λ all. Tells told failure_count line (has_taken (has_said (index + 1) (heard ++ failed_to_take (index + 1) at ∷ []) intake.stalls (told_at before index)) all one.taken)) is
+                (subst (Tells told failure_count line)
+                (ap (λ alive. if alive
+                then record (has_taken said bytes one.taken) { stalls = said.stalls + stall_of bytes one }
+                else with_failure (has_taken said bytes one.taken)) live
+                ∙ sym (says_failed_to_take (index + 1) at (has_taken said bytes one.taken))
+                ∙ sym (said_one (index + 1) heard (failed_to_take (index + 1) at) intake.stalls (told_at before index) bytes one.taken))
+                (passes said within
+                (subst (λ all. Tells told failure_count (get_or lines index old)
+                (has_taken said all (get_or states index absent).taken)) (sym is) was.tells)));
+            taken = refl;
+            within = subst (λ all. one.taken ≤ length all) is (fits within);
+            live = λ alive. true_or_false (sym alive ∙ live);
+            over = λ _ still. one_too_many at still;
+          };
+    },
+  )
+    where
+      intake : Intake
+      intake = record { taken = one.taken; stalls = (intake_at passed.from.intakes index).stalls }
+
+      one_too_many : (at : ℕ) → IsLive (index + 1) (heard ++ failed_to_take (index + 1) at ∷ []) → ⊥
+      one_too_many at still =
+          omega (arith, still.1, count_more (is_failure_of (index + 1)) heard (failed_to_take (index + 1) at), ap one_if (itself (index + 1)))
 
 -- the next line is not live
 pub one_left : {L : Type 0} (told : L → Told → Type 0) (failure_count : L → ℕ) (before : List Told)
@@ -258,70 +301,6 @@ one_left told failure_count before heard queued lines states since index there o
     offered_at other within live (inl e) =
         absurd ((passed.from.served.each index (item_at lines index there) there).over over (subst (λ place. IsLive (place + 1) heard) e live))
     offered_at other within live (inr differ) = passed.offered other (below other index within differ) live
-
--- the line was passed bytes and failed
-pub one_failed : {L : Type 0} (told : L → Told → Type 0) (failure_count : L → ℕ) (before : List Told)
-    (heard : List Heard) (queued : List (List ℕ)) (lines : List L) (states : List LineState) (since : List Intake)
-    (index : ℕ) (old line : L) (one : LineState) (bytes : List ℕ) →
-    index < length lines →
-    bytes ≡ queued_at queued index →
-    (get_or states index absent).live ≡ true →
-    PassesTo told failure_count bytes (get_or lines index old) line (get_or states index absent) one →
-    ((get_or states index absent).taken ≤ length bytes → one.taken ≤ length bytes) →
-    (get_or states index absent).taken ≤ one.taken →
-    one.live ≡ false →
-    ArePassed told failure_count before heard queued lines states since index →
-    IsLive (index + 1) heard
-    × ((at : ℕ) →
-    AreServedFrom told failure_count before (heard ++ failed_to_take (index + 1) at ∷ []) queued (set lines index line) (set states index one) since)
-one_failed told failure_count before heard queued lines states since index old line one bytes there is was_live passes fits more live passed = (
-  was.live was_live,
-  λ at. record {
-    intakes = set passed.from.intakes index intake;
-    later = later_at since passed.from.intakes index intake (omega (arith, there, passed.from.served.as_many_intakes)) passed.from.later
-        (subst (λ n. n ≤ one.taken) (sym was.taken) more)
-        (omega arith);
-    served =
-        one_used told failure_count before heard (heard ++ failed_to_take (index + 1) at ∷ []) queued lines states passed.from.intakes index line one intake there
-        (λ other differ. of_another (other + 1) heard (failed_to_take (index + 1) at) (other_seat index other differ))
-        passed.from.served
-        record {
-          tells = subst (λ all. Tells told failure_count line (has_taken (has_said (index + 1) (heard ++ failed_to_take (index + 1) at ∷ []) intake.stalls (told_at before index)) all one.taken)) is
-              (subst (Tells told failure_count line)
-              (ap (λ alive. if alive
-              then record (has_taken said bytes one.taken) { stalls = said.stalls + stall_of bytes one }
-              else with_failure (has_taken said bytes one.taken)) live
-              ∙ sym (says_failed_to_take (index + 1) at (has_taken said bytes one.taken))
-              ∙ sym (said_one (index + 1) heard (failed_to_take (index + 1) at) intake.stalls (told_at before index) bytes one.taken))
-              (passes said within
-              (subst (λ all. Tells told failure_count (get_or lines index old)
-              (has_taken said all (get_or states index absent).taken)) (sym is) was.tells)));
-          taken = refl;
-          within = subst (λ all. one.taken ≤ length all) is (fits within);
-          live = λ alive. true_or_false (sym alive ∙ live);
-          over = λ _ still. one_too_many at still;
-        };
-  },
-)
-  where
-    intake : Intake
-    intake = record { taken = one.taken; stalls = (intake_at passed.from.intakes index).stalls }
-
-    said : Told
-    said = has_said (index + 1) heard (intake_at passed.from.intakes index).stalls (told_at before index)
-
-    was : IsLineServed told failure_count (index + 1) heard (queued_at queued index) (told_at before index) (get_or lines index old) (get_or states index absent) (intake_at passed.from.intakes index)
-    was = passed.from.served.each index old there
-
-    within : (get_or states index absent).taken ≤ length bytes
-    within = subst (λ all. (get_or states index absent).taken ≤ length all) (sym is) was.within
-
-    true_or_false : {P : Type 0} → true ≡ false → P
-    true_or_false e = cc
-
-    one_too_many : (at : ℕ) → IsLive (index + 1) (heard ++ failed_to_take (index + 1) at ∷ []) → ⊥
-    one_too_many at still =
-        omega (arith, still.1, count_more (is_failure_of (index + 1)) heard (failed_to_take (index + 1) at), ap one_if (itself (index + 1)))
 
 -- nothing was passed yet
 pub none_passed : {L : Type 0} (told : L → Told → Type 0) (failure_count : L → ℕ) (before : List Told)

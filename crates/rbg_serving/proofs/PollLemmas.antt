@@ -5,12 +5,13 @@ use Rattle.rbg_serving.specs.declared.answer.Polled.{Polled}
 use Rattle.rbg_serving.specs.declared.answer.Polled.TheVariants.{Got, Nothing, Ended, Failed}
 use Rattle.rbg_serving.specs.declared.line_state.LineState.{LineState}
 use Rattle.rbg_serving.specs.Answers.{after_poll}
-use Rattle.rbg_serving.specs.Heard.{Heard, gave, ended, failed_to_give, seat_of, heard_at, event_of, is_end_of, is_failure_of, is_failed_put, is_round_over, IsLive, IsTimed, asked, heard_alone, of_line}
+use Rattle.rbg_serving.specs.Heard.{Heard, gave, ended, failed_to_give, seat_of, heard_at, event_of, is_end_of, is_failure_of, is_failed_put, is_round_over, IsLive, IsTimed, heard_alone, of_line}
 use Rattle.rbg_serving.specs.Passing.{Behaviour, Intake, no_intake, intake_at, queued_at}
 use Rattle.rbg_serving.specs.Told.{Told, Tells, told_at}
 use Rattle.rbg_serving.specs.internal.InCall.{Start, HeardLast, Passed}
 use Rattle.rbg_serving.specs.internal.Lines.{has_taken, has_said, IsLineServed, AreServed, absent}
 use Rattle.rbg_serving.specs.internal.Polling.{heard_by_poll, is_last}
+use Rattle.rbg_serving.proofs.InCallLemmas.{asked_alone}
 use Rattle.rbg_serving.proofs.HeardLemmas.{SameOf, of_another, count_more, itself, one_if}
 use Rattle.rbg_serving.proofs.SaidLemmas.{said_one, says_gave, says_ended, says_failed_to_give}
 use Rattle.rbg_serving.proofs.LinesLemmas.{one_used, same_of, other_seat}
@@ -198,18 +199,9 @@ module _ {L S : Type 0} {told : L → Told → Type 0} {failure_count : L → �
   poll_unheard at index polled buffer {lines = lines} {used = used} {states = states} {come = come} {queued = queued} is serves passed =
       let call = passed.call in
       record {
-        call = record {
-          heard = call.heard;
-          timed = asked call.timed at;
-          live = call.live;
-          count = call.count;
-          since = call.since;
-          handles = call.handles;
-          intakes = call.intakes;
-          later = call.later;
-          served = subst (λ whole. AreServed told failure_count start.told whole queued used come call.intakes)
-              (ap (λ more. call.heard ++ more) (not_heard (index + 1) at polled buffer is) ∙ append-nil call.heard)
-              (serves start.told call.heard queued call.intakes at call.served).1;
-        };
+        call = asked_alone at call
+            (subst (λ whole. AreServed told failure_count start.told whole queued used come call.intakes)
+            (ap (λ more. call.heard ++ more) (not_heard (index + 1) at polled buffer is) ∙ append-nil call.heard)
+            (serves start.told call.heard queued call.intakes at call.served).1);
         offered = passed.offered;
       }

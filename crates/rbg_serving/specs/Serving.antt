@@ -97,6 +97,17 @@ pub record ServesOver {L C S : Type 0} (told : L → Told → Type 0) (failure_c
   pub clock_tells : clock_told clock (asked ++ moments)
   pub serves : Serves engine rounds before after moments old new queued_before queued result
 
+-- Whatever the lines and the clock had told before the call, it serves over them. Of the lines, the clock, what is
+-- served and the queued bytes these are the values before the call and after it.
+abbrev pub ServesLines : {L C S : Type 0} → (told : L → Told → Type 0) → (failure_count : L → ℕ) → (clock_told : C → List ℕ → Type 0) →
+    Behaviour S → (old_lines lines : List L) → (old_clock clock : C) → (rounds : ℕ) → (old new : S) →
+    (queued_before queued : List (List ℕ)) → Result Served ServeError → Type 0
+ServesLines told failure_count clock_told engine old_lines lines old_clock clock rounds old new queued_before queued result =
+    (before : List Told) (asked : List ℕ) →
+    TellEach told failure_count old_lines before →
+    clock_told old_clock asked →
+    ServesOver told failure_count clock_told engine lines clock rounds before asked old new queued_before queued result
+
 -- A match, as a call knows it. It is over once it has ended, and hears each line until then. It fails where it has no
 -- memory for an event.
 abbrev pub of_match : Behaviour MatchState

@@ -1,11 +1,11 @@
 //! Rounds: each line is polled, and the clock ticks.
-ghost use Rattle.std.specs.Prelude.{◌≡◌, ◌<◌, ◌+◌, ◌++◌, ◌↔◌, ℕ, List, true, length, map, slice_index_or, option_to_list, IsTrue, MatchResult, OnOk};
+ghost use Rattle.std.specs.Prelude.{◌≡◌, ◌<◌, ◌+◌, ◌++◌, ◌↔◌, ℕ, List, true, length, map, slice_index_or, option_to_list, IsTrue};
 ghost use Rattle.rbg_match.specs.Inputs.{event_of};
 ghost use Rattle.rbg_serving.specs.Answers.{FitsPoll};
 ghost use Rattle.rbg_serving.specs.Heard.{Heard, IsLive, event_of as heard_event};
 ghost use Rattle.rbg_serving.specs.Told.{Told};
 ghost use Rattle.rbg_serving.specs.Passing.{Intake};
-ghost use Rattle.rbg_serving.specs.internal.InCall.{Start, InCallOf, PassedOf, LacksMemoryOf, Fits, IsSameCall};
+ghost use Rattle.rbg_serving.specs.internal.InCall.{Start, InCallOf, PassedOf, PassesOrLacks, Fits, Keeps};
 ghost use Rattle.rbg_serving.specs.internal.Lines.{AreServed, absent};
 ghost use Rattle.rbg_serving.specs.internal.Polling.{heard_by_poll, is_last};
 
@@ -78,13 +78,8 @@ impl<'a, L: Line, E: Engine, C: Clock> Call<'a, L, E, C> {
         requires listens { E.behaviour.listens self.old.engine.now (index + 1) }
         ensures goes_on { (start : Start E) (rounds : ℕ) →
             PassedOf L.told L.failure_count E.behaviour E.queued C.told start rounds self.old →
-            MatchResult result
-            (λ _. PassedOf L.told L.failure_count E.behaviour E.queued C.told start rounds self.new)
-            (λ _. LacksMemoryOf L.told L.failure_count E.behaviour E.queued C.told start rounds self.new) }
-        ensures fits { Fits (λ engine. E.lines (E.fixed engine)) E.queued self.new }
-        ensures same { IsSameCall self.old self.new }
-        ensures fixed { E.fixed self.new.engine.now ≡ E.fixed self.old.engine.now }
-        ensures valid { OnOk result (E.valid self.old.engine.now → E.valid self.new.engine.now) }
+            PassesOrLacks L.told L.failure_count E.behaviour E.queued C.told start rounds self.new result }
+        ensures kept { Keeps (λ engine. E.lines (E.fixed engine)) E.queued E.fixed E.valid self.old self.new result }
     {
         let at = self.clock.now();
         let polled = poll(self.lines, self.states, index, buffer);
@@ -110,13 +105,8 @@ impl<'a, L: Line, E: Engine, C: Clock> Call<'a, L, E, C> {
         requires there { index < length self.old.lines.now }
         ensures goes_on { (start : Start E) (rounds : ℕ) →
             PassedOf L.told L.failure_count E.behaviour E.queued C.told start rounds self.old →
-            MatchResult result
-            (λ _. PassedOf L.told L.failure_count E.behaviour E.queued C.told start rounds self.new)
-            (λ _. LacksMemoryOf L.told L.failure_count E.behaviour E.queued C.told start rounds self.new) }
-        ensures fits { Fits (λ engine. E.lines (E.fixed engine)) E.queued self.new }
-        ensures same { IsSameCall self.old self.new }
-        ensures fixed { E.fixed self.new.engine.now ≡ E.fixed self.old.engine.now }
-        ensures valid { OnOk result (E.valid self.old.engine.now → E.valid self.new.engine.now) }
+            PassesOrLacks L.told L.failure_count E.behaviour E.queued C.told start rounds self.new result }
+        ensures kept { Keeps (λ engine. E.lines (E.fixed engine)) E.queued E.fixed E.valid self.old self.new result }
     {
         if self.is_heard(index) {
             return self.hear(index, buffer);
@@ -129,13 +119,8 @@ impl<'a, L: Line, E: Engine, C: Clock> Call<'a, L, E, C> {
         requires fits { Fits (λ engine. E.lines (E.fixed engine)) E.queued self.old }
         ensures goes_on { (start : Start E) (rounds : ℕ) →
             PassedOf L.told L.failure_count E.behaviour E.queued C.told start rounds self.old →
-            MatchResult result
-            (λ _. PassedOf L.told L.failure_count E.behaviour E.queued C.told start (rounds + 1) self.new)
-            (λ _. LacksMemoryOf L.told L.failure_count E.behaviour E.queued C.told start (rounds + 1) self.new) }
-        ensures fits { Fits (λ engine. E.lines (E.fixed engine)) E.queued self.new }
-        ensures same { IsSameCall self.old self.new }
-        ensures fixed { E.fixed self.new.engine.now ≡ E.fixed self.old.engine.now }
-        ensures valid { OnOk result (E.valid self.old.engine.now → E.valid self.new.engine.now) }
+            PassesOrLacks L.told L.failure_count E.behaviour E.queued C.told start (rounds + 1) self.new result }
+        ensures kept { Keeps (λ engine. E.lines (E.fixed engine)) E.queued E.fixed E.valid self.old self.new result }
     {
         let at = self.clock.now();
         self.engine.handle(Event::Tick { at }, self.outbox)?;
@@ -147,13 +132,8 @@ impl<'a, L: Line, E: Engine, C: Clock> Call<'a, L, E, C> {
         requires fits { Fits (λ engine. E.lines (E.fixed engine)) E.queued self.old }
         ensures goes_on { (start : Start E) (rounds : ℕ) →
             InCallOf L.told L.failure_count E.behaviour E.queued C.told start rounds self.old →
-            MatchResult result
-            (λ _. PassedOf L.told L.failure_count E.behaviour E.queued C.told start rounds self.new)
-            (λ _. LacksMemoryOf L.told L.failure_count E.behaviour E.queued C.told start rounds self.new) }
-        ensures fits { Fits (λ engine. E.lines (E.fixed engine)) E.queued self.new }
-        ensures same { IsSameCall self.old self.new }
-        ensures fixed { E.fixed self.new.engine.now ≡ E.fixed self.old.engine.now }
-        ensures valid { OnOk result (E.valid self.old.engine.now → E.valid self.new.engine.now) }
+            PassesOrLacks L.told L.failure_count E.behaviour E.queued C.told start rounds self.new result }
+        ensures kept { Keeps (λ engine. E.lines (E.fixed engine)) E.queued E.fixed E.valid self.old self.new result }
     {
         let at = self.clock.now();
         pass(self.lines, self.states, self.engine, self.outbox, at)
@@ -164,13 +144,8 @@ impl<'a, L: Line, E: Engine, C: Clock> Call<'a, L, E, C> {
         requires fits { Fits (λ engine. E.lines (E.fixed engine)) E.queued self.old }
         ensures goes_on { (start : Start E) (rounds : ℕ) →
             PassedOf L.told L.failure_count E.behaviour E.queued C.told start rounds self.old →
-            MatchResult result
-            (λ _. PassedOf L.told L.failure_count E.behaviour E.queued C.told start (rounds + 1) self.new)
-            (λ _. LacksMemoryOf L.told L.failure_count E.behaviour E.queued C.told start (rounds + 1) self.new) }
-        ensures fits { Fits (λ engine. E.lines (E.fixed engine)) E.queued self.new }
-        ensures same { IsSameCall self.old self.new }
-        ensures fixed { E.fixed self.new.engine.now ≡ E.fixed self.old.engine.now }
-        ensures valid { OnOk result (E.valid self.old.engine.now → E.valid self.new.engine.now) }
+            PassesOrLacks L.told L.failure_count E.behaviour E.queued C.told start (rounds + 1) self.new result }
+        ensures kept { Keeps (λ engine. E.lines (E.fixed engine)) E.queued E.fixed E.valid self.old self.new result }
     {
         for index in 0..self.lines.len() {
             self.visit(index, buffer)?;

@@ -1,9 +1,8 @@
 //! The serving of a match over lines.
-ghost use Rattle.std.specs.Prelude.{◌≡◌, ◌<◌, ◌≤◌, ◌↔◌, ℕ, List, length, slice_index_or, IfOk, IsErrOf, IsTrue};
+ghost use Rattle.std.specs.Prelude.{◌≡◌, ◌<◌, ◌≤◌, ◌↔◌, ℕ, length, slice_index_or, IfOk, IsErrOf, IsTrue};
 ghost use Rattle.rbg_match.specs.Matches.{HasHistory};
 ghost use Rattle.rbg_match.specs.PlayingOn.{seats_of};
-ghost use Rattle.rbg_serving.specs.Told.{Told, TellEach};
-ghost use Rattle.rbg_serving.specs.Serving.{ServesOver, of_match};
+ghost use Rattle.rbg_serving.specs.Serving.{ServesLines, of_match};
 ghost use Rattle.rbg_serving.specs.internal.InCall.{Fits, IsSameCall};
 ghost use Rattle.rbg_serving.specs.internal.Lines.{absent, at_first, HasAll, LiveHaveAll};
 
@@ -32,12 +31,8 @@ pub fn serve<L: Line, C: Clock>(
 ) -> Result<Served, ServeError>
     requires lines { length lines.old ≡ seats_of refereed.old.game }
     requires seats { length outbox.old ≡ seats_of refereed.old.game }
-    ensures serves { (before : List Told) (asked : List ℕ) →
-        TellEach L.told L.failure_count lines.old before →
-        C.told clock.old asked →
-        ServesOver L.told L.failure_count C.told of_match lines.new clock.new rounds before asked
-        refereed.old refereed.new
-        outbox.old outbox.new result }
+    ensures serves { ServesLines L.told L.failure_count C.told of_match lines.old lines.new clock.old clock.new
+        rounds refereed.old refereed.new outbox.old outbox.new result }
     ensures history { (¬ IsErrOf result ServeError.Memory) → HasHistory refereed.old
         → HasHistory refereed.new }
     ensures game { refereed.new.game ≡ refereed.old.game }
@@ -62,12 +57,8 @@ pub fn serve_engine<L: Line, E: Engine, C: Clock>(
 ) -> Result<Served, ServeError>
     requires lines { length lines.old ≤ E.lines (E.fixed engine.old) }
     requires queues { length (E.queued outbox.old) ≡ E.lines (E.fixed engine.old) }
-    ensures serves { (before : List Told) (asked : List ℕ) →
-        TellEach L.told L.failure_count lines.old before →
-        C.told clock.old asked →
-        ServesOver L.told L.failure_count C.told E.behaviour lines.new clock.new rounds before asked
-        engine.old engine.new
-        (E.queued outbox.old) (E.queued outbox.new) result }
+    ensures serves { ServesLines L.told L.failure_count C.told E.behaviour lines.old lines.new clock.old clock.new
+        rounds engine.old engine.new (E.queued outbox.old) (E.queued outbox.new) result }
     ensures valid { (¬ IsErrOf result ServeError.Memory) → E.valid engine.old → E.valid engine.new }
     ensures fixed { E.fixed engine.new ≡ E.fixed engine.old }
     ensures queues { length (E.queued outbox.new) ≡ length (E.queued outbox.old) }
@@ -110,12 +101,8 @@ fn serve_lines<L: Line, E: Engine, C: Clock>(
     requires queues { length (E.queued outbox.old) ≡ E.lines (E.fixed engine.old) }
     requires first { (index : ℕ) → index < length states.old
         → slice_index_or states.old index absent ≡ at_first }
-    ensures serves { (before : List Told) (asked : List ℕ) →
-        TellEach L.told L.failure_count lines.old before →
-        C.told clock.old asked →
-        ServesOver L.told L.failure_count C.told E.behaviour lines.new clock.new rounds before asked
-        engine.old engine.new
-        (E.queued outbox.old) (E.queued outbox.new) result }
+    ensures serves { ServesLines L.told L.failure_count C.told E.behaviour lines.old lines.new clock.old clock.new
+        rounds engine.old engine.new (E.queued outbox.old) (E.queued outbox.new) result }
     ensures valid { (¬ IsErrOf result ServeError.Memory) → E.valid engine.old → E.valid engine.new }
     ensures fixed { E.fixed engine.new ≡ E.fixed engine.old }
     ensures queues { length (E.queued outbox.new) ≡ length (E.queued outbox.old) }
@@ -149,12 +136,8 @@ impl<'a, L: Line, E: Engine, C: Clock> Call<'a, L, E, C> {
         requires fits { Fits (λ engine. E.lines (E.fixed engine)) E.queued self.old }
         requires first { (index : ℕ) → index < length self.old.states.now
             → slice_index_or self.old.states.now index absent ≡ at_first }
-        ensures serves { (before : List Told) (asked : List ℕ) →
-            TellEach L.told L.failure_count self.old.lines.now before →
-            C.told self.old.clock.now asked →
-            ServesOver L.told L.failure_count C.told E.behaviour self.new.lines.now
-            self.new.clock.now rounds before asked
-            self.old.engine.now self.new.engine.now
+        ensures serves { ServesLines L.told L.failure_count C.told E.behaviour self.old.lines.now self.new.lines.now
+            self.old.clock.now self.new.clock.now rounds self.old.engine.now self.new.engine.now
             (E.queued self.old.outbox.now) (E.queued self.new.outbox.now) result }
         ensures fits { Fits (λ engine. E.lines (E.fixed engine)) E.queued self.new }
         ensures same { IsSameCall self.old self.new }

@@ -4,6 +4,7 @@ pub mod CursorLemmas
 pub mod CutLemmas
 pub mod FieldLemmas
 pub mod InboxLemmas
+pub mod Items
 pub mod Kept
 pub mod LawLemmas
 pub mod MessageLemmas

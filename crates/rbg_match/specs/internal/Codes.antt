@@ -1,11 +1,9 @@
 -- States of a match as pairs, sums and lists of numbers, one to one. Proofs tell states apart by them.
-use Rattle.std.specs.Prelude.{◌≡◌, ◌⊎◌, ℕ, Bool, List, Option, refl}
-use mathlib.Core.Logic.{inl, inr}
-use base.Stored.{coded_unit}
-use Rattle.std.specs.Coded.{Coded, coded_ℕ, coded_bool, coded_list, coded_option, coded×, coded⊎, code_by}
+use Rattle.std.specs.Prelude.{ℕ, Bool, List, Option, refl}
+use Rattle.std.specs.Coded.{Coded, coded_ℕ, coded_bool, coded_list, coded_option, coded×, code_by}
 use Rattle.rbg_wire.specs.declared.outcome.Outcome.{Outcome}
-use Rattle.rbg_wire.specs.declared.outcome.Outcome.TheVariants.{Finished, Time, Refusals, Gone, Heavy}
-use Rattle.rbg_wire.specs.Streams.{Rest, incomplete, dropping}
+use Rattle.rbg_wire.specs.Codes.{coded_outcome, coded_rest}
+use Rattle.rbg_wire.specs.Streams.{Rest}
 use Rattle.rbg_rules.specs.State.{AbstractGame}
 use Rattle.rbg_rules.specs.Moves.{AbstractPlace}
 use Rattle.rbg_rules.specs.Codes.{coded_game}
@@ -23,34 +21,6 @@ coded_made = code_by (ℕ × (ℕ × List (ℕ × ℕ)))
     (λ p. record { player = p.0; at = p.1.0; pairs = p.1.1 })
     (λ _. refl)
 
-abbrev outcome_parts : Outcome → List ℕ ⊎ (ℕ ⊎ (ℕ ⊎ (ℕ ⊎ Unit {0})))
-outcome_parts (Finished scores) = inl scores
-outcome_parts (Time player) = inr (inl player)
-outcome_parts (Refusals player) = inr (inr (inl player))
-outcome_parts (Gone player) = inr (inr (inr (inl player)))
-outcome_parts Heavy = inr (inr (inr (inr tt)))
-
-abbrev outcome_from : List ℕ ⊎ (ℕ ⊎ (ℕ ⊎ (ℕ ⊎ Unit {0}))) → Outcome
-outcome_from (inl scores) = Finished scores
-outcome_from (inr (inl player)) = Time player
-outcome_from (inr (inr (inl player))) = Refusals player
-outcome_from (inr (inr (inr (inl player)))) = Gone player
-outcome_from (inr (inr (inr (inr _)))) = Heavy
-
-pub outcome_from-parts : (o : Outcome) → outcome_from (outcome_parts o) ≡ o
-outcome_from-parts (Finished scores) = refl
-outcome_from-parts (Time player) = refl
-outcome_from-parts (Refusals player) = refl
-outcome_from-parts (Gone player) = refl
-outcome_from-parts Heavy = refl
-
-abbrev coded_outcome : Coded Outcome
-coded_outcome = code_by (List ℕ ⊎ (ℕ ⊎ (ℕ ⊎ (ℕ ⊎ Unit {0}))))
-    (coded⊎ (coded_list coded_ℕ) (coded⊎ coded_ℕ (coded⊎ coded_ℕ (coded⊎ coded_ℕ coded_unit))))
-    outcome_parts
-    outcome_from
-    outcome_from-parts
-
 abbrev coded_play : Coded AbstractPlay
 coded_play = code_by ((AbstractPlace × ℕ) × (List ℕ × (List Made × Option Outcome)))
     (coded×
@@ -59,21 +29,6 @@ coded_play = code_by ((AbstractPlace × ℕ) × (List ℕ × (List Made × Optio
     (λ p. ((p.place, p.turn_began), (p.refusals, (p.made, p.outcome))))
     (λ p. record { place = p.0.0; turn_began = p.0.1; refusals = p.1.0; made = p.1.1.0; outcome = p.1.1.1 })
     (λ _. refl)
-
-abbrev rest_parts : Rest → List ℕ ⊎ Unit {0}
-rest_parts (incomplete bytes) = inl bytes
-rest_parts dropping = inr tt
-
-abbrev rest_from : List ℕ ⊎ Unit {0} → Rest
-rest_from (inl bytes) = incomplete bytes
-rest_from (inr _) = dropping
-
-pub rest_from-parts : (r : Rest) → rest_from (rest_parts r) ≡ r
-rest_from-parts (incomplete bytes) = refl
-rest_from-parts dropping = refl
-
-abbrev coded_rest : Coded Rest
-coded_rest = code_by (List ℕ ⊎ Unit {0}) (coded⊎ (coded_list coded_ℕ) coded_unit) rest_parts rest_from rest_from-parts
 
 abbrev coded_streams : Coded Streams
 coded_streams = code_by (ℕ × List Rest)

@@ -1,5 +1,5 @@
 -- The middle of a call of `serve`.
-use Rattle.std.specs.Prelude.{◌≡◌, ◌≤◌, ℕ, List, [], ◌∷◌, ◌++◌, length}
+use Rattle.std.specs.Prelude.{◌≡◌, ◌≤◌, ℕ, List, [], ◌∷◌, ◌++◌, length, Result, MatchResult, OnOk}
 use Rattle.rbg_match.specs.Inputs.{AbstractEvent}
 use Rattle.rbg_serving.specs.declared.line_state.LineState.{LineState}
 use Rattle.rbg_serving.specs.declared.call.Call.{Call}
@@ -112,3 +112,20 @@ IsSameCall old new =
     × (new.outbox.ghost_name ≡ old.outbox.ghost_name)
     × (new.clock.ghost_name ≡ old.clock.ghost_name)
     × (length new.lines.now ≡ length old.lines.now)
+
+-- A part of the call leaves this as it was, and keeps what holds as long as there is memory.
+abbrev pub Keeps : {L S Q C Fixed E : Type 0} → (served : S → ℕ) → (Q → List (List ℕ)) → (fixed : S → Fixed) → (valid : S → Type 0) →
+    (old new : Call L S C Q) → Result (Unit {0}) E → Type 0
+Keeps served queued fixed valid old new result =
+    Fits served queued new
+    × IsSameCall old new
+    × (fixed new.engine.now ≡ fixed old.engine.now)
+    × OnOk result (valid old.engine.now → valid new.engine.now)
+
+-- All that is queued was offered, or there was no memory for the last that was heard, after so many rounds.
+abbrev pub PassesOrLacks : {L S Q C E : Type 0} → (L → Told → Type 0) → (L → ℕ) → Behaviour S → (Q → List (List ℕ)) →
+    (C → List ℕ → Type 0) → (start : Start S) → (rounds : ℕ) → Call L S C Q → Result (Unit {0}) E → Type 0
+PassesOrLacks told failure_count engine queued clock_told start rounds call result =
+    MatchResult result
+    (λ _. PassedOf told failure_count engine queued clock_told start rounds call)
+    (λ _. LacksMemoryOf told failure_count engine queued clock_told start rounds call)

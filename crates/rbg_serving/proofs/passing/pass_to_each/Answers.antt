@@ -15,8 +15,8 @@ returns-then-not-states-index-clause-served g c =
     one_failed g.L.Line.told g.L.Line.failure_count before heard (g.E.Engine.queued c.args.outbox.now) c.loop-index.lines c.loop-index.states since
     c.loop-index.index c.index-lines-index.result c.pass_to.new.line c.pass_to.new.state c.bytes.result.now
     (omega arith) is c.if-states-index.true c.pass_to.ensures.told c.pass_to.ensures.within c.pass_to.ensures.more
-    (live_at c.loop-index.states c.loop-index.index c.pass_to.new.state _ (omega arith) c.if-not-states-index.true)
     (c.loop-index.invariant.0 before heard since are)
+    (live_at c.loop-index.states c.loop-index.index c.pass_to.new.state _ (omega arith) c.if-not-states-index.true)
 
 pub loop-index-preserved : goal.loop-index-preserved
 loop-index-preserved g c =
@@ -30,7 +30,7 @@ loop-index-preserved g c =
                 (one_passed g.L.Line.told g.L.Line.failure_count before heard (g.E.Engine.queued c.args.outbox.now) c.loop-index.lines c.loop-index.states since
                 c.loop-index.index w.index-lines-index.result w.pass_to.new.line w.pass_to.new.state w.bytes.result.now
                 (omega arith) is w.if-states-index.true w.pass_to.ensures.told w.pass_to.ensures.within w.pass_to.ensures.more
-                live (c.loop-index.invariant.0 before heard since are)))),
+                (c.loop-index.invariant.0 before heard since are) live))),
             same_live c.loop-index.states _ c.loop-index.index w.pass_to.new.state _ (omega arith) w.if-states-index.true live w.states-is c.loop-index.invariant.1,
           )
       | else-states-index w ↦ (

@@ -1,5 +1,5 @@
 use Rattle.std.proofs.Common.{arith}
-use Rattle.rbg_serving.proofs.InCallLemmas.{handled, refused, either, on_error, one_more_moment}
+use Rattle.rbg_serving.proofs.InCallLemmas.{handled, refused, either_with_one_more, on_error, one_more_moment}
 use Rattle.rbg_serving.proofs.PollLemmas.{poll_heard, poll_unheard}
 use Rattle.rbg_serving.proofs.call.Call.hear.Goals as goal
 
@@ -20,9 +20,7 @@ returns-in_err-handle-clause-goes_on g c = λ start rounds call.
 
 pub returns-clause-goes_on : goal.returns-clause-goes_on
 returns-clause-goes_on g c = λ start rounds call.
-    either c.pass.result
-    (one_more_moment c.now-at.result c.now-at.ensures call)
-    (one_more_moment c.now-at.result c.now-at.ensures call)
+    either_with_one_more _ _ _ c.pass.result c.now-at.result c.now-at.ensures call
     (c.pass.ensures.goes_on start call.moments rounds
     (handled (poll_heard c.now-at.result c.args.index c.poll-polled.result c.poll-polled.new.buffer c.requires.listens
     c.requires.there c.poll-polled.auto.lines (omega (arith, c.requires.fits.1, c.requires.fits.2)) c.in-Some.ensures

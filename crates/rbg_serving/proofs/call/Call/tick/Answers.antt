@@ -1,5 +1,5 @@
 use Rattle.std.proofs.Common.{◌+◌, arith}
-use Rattle.rbg_serving.proofs.InCallLemmas.{ticked, handled, refused, either, on_error, one_more_moment}
+use Rattle.rbg_serving.proofs.InCallLemmas.{ticked, handled, refused, either_with_one_more, on_error, one_more_moment}
 use Rattle.rbg_serving.proofs.call.Call.tick.Goals as goal
 
 pub returns-in_err-handle-clause-goes_on : goal.returns-in_err-handle-clause-goes_on
@@ -11,9 +11,7 @@ returns-in_err-handle-clause-goes_on g c = λ start rounds call.
 
 pub returns-clause-goes_on : goal.returns-clause-goes_on
 returns-clause-goes_on g c = λ start rounds call.
-    either c.pass.result
-    (one_more_moment c.now-at.result c.now-at.ensures call)
-    (one_more_moment c.now-at.result c.now-at.ensures call)
+    either_with_one_more _ _ _ c.pass.result c.now-at.result c.now-at.ensures call
     (c.pass.ensures.goes_on start call.moments (rounds + 1)
     (handled (ticked c.now-at.result (omega (arith, c.requires.fits.1, c.requires.fits.2)) call.holds)
     c.in_ok-handle.ensures.ok c.in_ok-handle.ensures.extends))

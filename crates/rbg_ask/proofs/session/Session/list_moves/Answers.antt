@@ -2,9 +2,9 @@
 use Rattle.rbg_ask.specs.declared.refusal.Refusal.TheVariants.{Memory}
 use Rattle.rbg_ask.specs.Answering.{no_memory}
 use Rattle.rbg_ask.specs.internal.Refusing.{refusal_of_over}
-use Rattle.rbg_ask.proofs.Answering.{lists_some}
+use Rattle.rbg_ask.proofs.Answering.{lists_legal}
 use Rattle.rbg_ask.proofs.Faults.{passed_on, list_refused}
-use Rattle.rbg_ask.proofs.session.Session.list_some.Goals as goal
+use Rattle.rbg_ask.proofs.session.Session.list_moves.Goals as goal
 
 pub returns-in_err-listed-clause-refused : goal.returns-in_err-listed-clause-refused
 returns-in_err-listed-clause-refused c =
@@ -17,4 +17,4 @@ returns-in_err-write_moves-clause-refused c =
 pub returns-clause-answers : goal.returns-clause-answers
 returns-clause-answers c =
     rw (← c.self.view_is)
-    (lists_some _ _ _ _ _ _ c.in_ok-listed.ensures.listed (rw c.as_slice.ensures.value at c.in_ok-write_moves.ensures.ok))
+    (lists_legal _ _ _ _ _ _ _ c.limit_of.ensures.asked c.limit_of.ensures.all c.is_in_memory.ensures c.in_ok-listed.ensures.listed (rw c.as_slice.ensures.value at c.in_ok-write_moves.ensures.ok))

@@ -1,0 +1,2 @@
+-- Crates above cite LegalPairs.
+pub mod LegalPairs

@@ -1,0 +1,2 @@
+-- The law of this crate.
+pub mod Laws

@@ -1,0 +1,4 @@
+//! Each legal move can be told in a message.
+#![tactic(auto)]
+
+pub mod laws;
