@@ -169,7 +169,7 @@ impl Flat {
     }
 
     /// Gathers what was found, once nothing is left to be looked at, in place of what the list held: the modifiers that
-    /// come next and are valid, each with its vertex. All is forgotten then. Returns how many candidates there were.
+    /// come next and are valid, each with its vertex. Returns how many candidates there were.
     pub fn finish(
         &mut self,
         game: &Game,

@@ -14,7 +14,7 @@ use rbg_base::{Memory, Position};
 use rbg_rules::Game;
 use rbg_state::{SemiState, Trial};
 
-/// Whether a modifier stands at a position that is valid: where it is valid at one vertex, it is at each.
+/// Whether a modifier stands at a position and is valid: where it is valid at one vertex, it is at each.
 #[inline(always)]
 pub(crate) fn keeps(game: &Game, paths: &Paths, state: &SemiState, position: Position) -> bool
     requires lawful { IsGame game.now }

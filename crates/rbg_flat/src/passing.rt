@@ -15,8 +15,8 @@ use rbg_base::{Piece, Position, Vertex};
 use rbg_rules::{Action, Game};
 use rbg_state::{SemiState, Trial};
 
-/// The bits of a column at whose vertices what is met at a position is to be looked at: all for a pattern, none for a
-/// modifier, and for an on those of its pieces.
+/// The bits of a column at whose vertices what is met at a position is to be looked at: all for a pattern or a comparison,
+/// none for a modifier, and for an on those on which one of its pieces stands.
 #[inline(always)]
 pub(crate) fn to_try(
     game: &Game,
@@ -78,7 +78,7 @@ fn on_to_try(game: &Game, state: &SemiState, position: Position, column: usize) 
 {
     match game.action(position) {
         Action::On { pieces } => any_standing(state, pieces, column),
-        // it is an on
+        // never: an on stands there
         _ => 0,
     }
 }
@@ -141,7 +141,8 @@ fn stands_at(pieces: &[Piece], vertex: usize, piece: Piece) -> bool
     vertex < pieces.len() && pieces[vertex] == piece
 }
 
-/// The bits of a word, which are to be looked at, at whose vertices the action at a position passes. It is no pattern.
+/// Of the bits of a word that are to be looked at, those at whose vertices the action at a position passes. It is no
+/// pattern.
 #[inline(always)]
 pub(crate) fn held(
     game: &Game,

@@ -26,10 +26,10 @@ pub(crate) enum Kind {
     On(Piece),
     /// An on of these two pieces.
     OnEither(Piece, Piece),
+    /// An on of whichever pieces: the game is asked for them. The facts say so of an on of none, or of more than two.
+    OnAny,
     /// A comparison or a shift, or no action: it is looked at everywhere.
     Plain,
-    /// An on of no piece, or of more than two: the game is asked for its pieces.
-    OnAny,
 }
 
 /// What flat parts need to know of a position.

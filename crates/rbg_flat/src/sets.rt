@@ -76,7 +76,7 @@ impl Sets {
         self.marks.clear();
     }
 
-    /// Forgets what was met at the place that was touched last. Nothing is open any more.
+    /// Forgets what was met at the place that was touched last. It is asked once nothing is open any more.
     #[inline(always)]
     pub(crate) fn forget(&mut self, place: usize)
         requires place { place < length self.old.marks }

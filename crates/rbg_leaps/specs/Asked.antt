@@ -7,7 +7,7 @@ use Rattle.rbg_leaps.specs.declared.target.Target.{Target}
 use Rattle.rbg_leaps.specs.Leaps.{IsLeap}
 use Rattle.rbg_leaps.specs.Limits.{row_words}
 
--- A leap's end is one of the vertices of a target.
+-- Vertex u at position p is one of those of the target.
 pub record IsEndOf (t : Target) (p u : ℕ) : Type 0 where
   pub position : p ≡ t.position
   pub column : u / 64 ≡ t.column

@@ -1,5 +1,5 @@
-//! The rows of targets as words that have bits, one after another. Most rows have one vertex, so a search that goes
-//! through these words needs no row.
+//! The rows of targets as words that have bits, one after another. Most rows have one vertex, so few words have bits; a
+//! search goes over these, and needs no row.
 ghost use Rattle.std.specs.Prelude.{◌≡◌, ℕ, ◌+◌, ◌<◌, ◌≤◌, ◌^◌, length, All, IfOk, OnOk};
 ghost use Rattle.rbg_leaps.specs.Entries.{end_of};
 ghost use Rattle.rbg_leaps.specs.internal.Packing.{PacksWord, PacksRow, ArePackedBy, before_in, IsPackedEntry, AreEntriesPacked, AreNarrow, IsPacked};
@@ -9,7 +9,7 @@ use crate::target::Target;
 use rbg_base::{Memory, Position};
 use std::alloc::{AllocError, Global};
 
-/// The targets with their words, and how many stand before those of each row, and at the end how many there are.
+/// The words of all rows, and for each row how many stand before its own; last, how many there are.
 #[derive(Debug, Drop)]
 struct Rows {
     targets: Vec<Target>,
@@ -87,8 +87,8 @@ fn pack_rows(alloc: Global, table: &Table) -> Result<Rows, Memory>
     Ok(Rows { targets, before })
 }
 
-/// An entry with the words of its rows. Memory is said to be out where it can't tell how many they are: more than 65,535,
-/// while there is one for each position and column at most.
+/// An entry with the words of its rows. Memory is said to be out where they are more than 65,535, which is never met: from
+/// 65 vertices on, the limit of words allows at most 4,194,304 / 65 for the positions and columns of one entry.
 #[inline(always)]
 fn pack_entry(entry: Entry, before: &[u32]) -> Result<Entry, Memory>
     requires there { end_of entry < length before.now }
@@ -120,7 +120,7 @@ fn pack_entries(entries: &mut Vec<Entry>, before: &[u32]) -> Result<(), Memory>
     Ok(())
 }
 
-/// The words of all rows, where each row is one word: each has a bit where it is asked for, so all of them are taken.
+/// The words of all rows, where each row is one word. Each row that a target names has a bit, so all of them are taken.
 fn pack_narrow(alloc: Global, rows: &[RowTarget], words: &[u64]) -> Result<Vec<Target>, Memory>
     requires { All (λ r. r.row + 1 ≤ length words.now) rows.now }
     ensures { IfOk result (λ targets. AreNarrow words.now rows.now targets.items (length rows.now)) }

@@ -46,7 +46,7 @@ impl<'a, S: Steps> Search<'a, S> {
         }
     }
 
-    /// A new flat part by sets. It isn't put in line, since it is rare and needs much of the stack.
+    /// A new flat part by sets. It isn't inlined, since it is rare and needs much of the stack.
     #[inline(never)]
     fn new_sets(&self) -> Result<Box<SetFlat>, Over>
         ensures sized { IfOk result (λ flat. AreSizedFor self.now.game flat.value.sets) }

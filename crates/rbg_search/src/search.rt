@@ -227,8 +227,8 @@ impl<'a, S: Steps> Search<'a, S> {
         self.opened
     }
 
-    /// How many pairs of a position and a vertex were tried in the flat parts that were found whole, those of patterns
-    /// among them. Modifiers count too.
+    /// How many candidates the flat parts had that were found whole, those of patterns among them: each vertex with each
+    /// position that may come next there and is no shift, once. Modifiers count too.
     pub fn taken(&self) -> u64
         ensures taken { result ≡ self.now.taken }
         ensures few { self.now.taken ≤ self.now.opened * most_pairs_of self.now.game }

@@ -48,7 +48,7 @@ impl Workspace {
         self.openings
     }
 
-    /// How many pairs of a position and a vertex the searches tried, shifts left out.
+    /// How many candidates the searches took: pairs of a position and a vertex, shifts left out.
     pub fn pairs(&self) -> u64
         ensures { result ≡ self.now.pairs }
     {

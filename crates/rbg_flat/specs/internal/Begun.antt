@@ -14,7 +14,7 @@ Pairs = (v p : ℕ) → Type 0
 --   sound: what is marked is met
 --   begun: the leaps with which all begins are marked
 --   closed: so are the leaps from behind what is marked, isn't open, and holds
---   to_try: what is open is to be looked at: an on is only where one of its pieces stands
+--   to_try: no modifier is open, and an on only where one of its pieces stands
 --   sound_end, begun_end, closed_end: the same of whether a word may end
 pub record IsBegun
     (game : AbstractGame) (s : AbstractState) (f : Start) (Marked Open : Pairs) (ends : Bool)

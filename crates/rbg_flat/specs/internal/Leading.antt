@@ -9,7 +9,7 @@ use Rattle.rbg_leaps.specs.Leaps.{IsLeap, EndsAcross}
 use Rattle.rbg_leaps.specs.Limits.{row_words}
 use Rattle.rbg_flat.specs.internal.Sets.{SetsOfVertices, IsInWord, IsMarked}
 
--- The sets have a row for each position of the game, and a bit in it for each vertex.
+-- The sets have a row for each position from 0 on, of at least as many words as the board takes, and at most 64.
 pub record AreSizedFor (game : AbstractGame) (sets : SetsOfVertices) : Type 0 where
   pub size : sets.size ≡ length (positions_of game.rules) + 1
   pub columns : row_words game ≤ sets.columns
