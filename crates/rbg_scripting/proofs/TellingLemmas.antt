@@ -163,9 +163,9 @@ told_more bytes from to rest text later line old new so_far first next =
       shorter = omega arith;
     }
 
--- a line that is not of the form
-pub told_fault : (bytes : List ℕ) (part : Part) (rest text later : List ℕ) (line : ℕ) (out : List ℕ) → IsToldSoFar bytes part rest line out → IsFirstLine rest text later → (HasForm part text → ⊥) → IsNoRecord bytes line
-told_fault bytes part rest text later line out so_far first wrong = record {
+-- what follows the lines so far is not of the form
+no_more : (bytes : List ℕ) (part : Part) (rest : List ℕ) (line : ℕ) (out : List ℕ) → IsToldSoFar bytes part rest line out → (GoesOn (part ≡ parts.Nothing) (HasForm part) rest → ⊥) → IsNoRecord bytes line
+no_more bytes part rest line out so_far stops = record {
   texts = so_far.texts;
   rest = rest;
   begins = so_far.begins;
@@ -174,6 +174,10 @@ told_fault bytes part rest text later line out so_far first wrong = record {
   leads = so_far.leads;
   stops = stops;
 }
+
+-- a line that is not of the form
+pub told_fault : (bytes : List ℕ) (part : Part) (rest text later : List ℕ) (line : ℕ) (out : List ℕ) → IsToldSoFar bytes part rest line out → IsFirstLine rest text later → (HasForm part text → ⊥) → IsNoRecord bytes line
+told_fault bytes part rest text later line out so_far first wrong = no_more bytes part rest line out so_far stops
   where
     stops : GoesOn (part ≡ parts.Nothing) (HasForm part) rest → ⊥
     stops (judged.nothing_left over none) = no_line text later (sym first.parts ∙ none)
@@ -181,15 +185,7 @@ told_fault bytes part rest text later line out so_far first wrong = record {
 
 -- no line is left, but the record has not ended, or some bytes are left
 pub told_short : (bytes : List ℕ) (part : Part) (rest : List ℕ) (line : ℕ) (out : List ℕ) → IsToldSoFar bytes part rest line out → LacksByte line_feed rest → (part ≡ parts.Nothing → rest ≡ [] → ⊥) → IsNoRecord bytes line
-told_short bytes part rest line out so_far lacks going = record {
-  texts = so_far.texts;
-  rest = rest;
-  begins = so_far.begins;
-  number = so_far.number;
-  part = part;
-  leads = so_far.leads;
-  stops = stops;
-}
+told_short bytes part rest line out so_far lacks going = no_more bytes part rest line out so_far stops
   where
     stops : GoesOn (part ≡ parts.Nothing) (HasForm part) rest → ⊥
     stops (judged.nothing_left over none) = going over none
