@@ -1,18 +1,12 @@
 -- If a line is not written, the bytes from before the first one are still there.
 use Rattle.std.proofs.Common.{◌≡◌, ◌+◌, ◌-◌, arith, map}
-use Rattle.std.proofs.lemmas.Result.{err_from_is_err_and}
-use Rattle.rbg_wire.proofs.Kept.{kept_after}
+use Rattle.rbg_wire.proofs.Kept.{broken_off}
 use Rattle.rbg_ask.specs.Chance.{counted_by}
 use Rattle.rbg_playouts.proofs.Lines.{lines_more}
 use Rattle.rbg_playouts.proofs.summary_writer.put_means.Goals as goal
 
 pub returns-in_err-put_mean_of : goal.returns-in_err-put_mean_of
-returns-in_err-put_mean_of c =
-    let failed = err_from_is_err_and c.from_residual.result c.from_residual.ensures.1 in
-    record {
-      written = rw failed.1 tt;
-      kept = kept_after _ _ _ _ c.loop-index.invariant c.put_mean_of.ensures.kept;
-    }
+returns-in_err-put_mean_of c = broken_off _ _ _ _ _ _ c.from_residual.result c.from_residual.ensures.1 c.loop-index.invariant c.put_mean_of.ensures.kept
 
 pub loop-index-preserved : goal.loop-index-preserved
 loop-index-preserved c =
