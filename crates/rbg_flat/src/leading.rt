@@ -60,7 +60,58 @@ fn meet_target(sets: &mut Sets, game: &Game, paths: &Paths, state: &SemiState, t
     meet_at(sets, game, paths, state, place, target.position, column, target.word);
 }
 
-/// Meets the vertices of targets.
+/// The same where each row has one word: the place is the position.
+#[inline(always)]
+fn meet_narrow(sets: &mut Sets, game: &Game, paths: &Paths, state: &SemiState, target: &Target)
+    requires lawful { IsGame game.now }
+    requires paths { ArePathsOf game.now paths.now }
+    requires sized { AreSizedFor game.now sets.old }
+    requires one { sets.old.columns ≡ 1 }
+    requires target { IsTargetFor game.now target.now }
+    ensures { Meets sets.old sets.new
+        (IsInWord target.now.position target.now.column target.now.word)
+        (IsToTry game.now state.now.state) }
+{
+    let place = sets.narrow_place(target.position);
+    meet_at(sets, game, paths, state, place, target.position, 0, target.word);
+}
+
+/// Meets the vertices of targets, however many words a row has.
+#[inline(always)]
+fn meet_all(sets: &mut Sets, game: &Game, paths: &Paths, state: &SemiState, targets: &[Target])
+    requires lawful { IsGame game.now }
+    requires paths { ArePathsOf game.now paths.now }
+    requires sized { AreSizedFor game.now sets.old }
+    requires targets { All (IsTargetFor game.now) targets.now }
+    ensures { Meets sets.old sets.new (IsAmong targets.now) (IsToTry game.now state.now.state) }
+{
+    for target in targets {
+        meet_target(sets, game, paths, state, target);
+    }
+}
+
+/// The same where each row has one word.
+#[inline(always)]
+fn meet_all_narrow(
+    sets: &mut Sets,
+    game: &Game,
+    paths: &Paths,
+    state: &SemiState,
+    targets: &[Target],
+)
+    requires lawful { IsGame game.now }
+    requires paths { ArePathsOf game.now paths.now }
+    requires sized { AreSizedFor game.now sets.old }
+    requires one { sets.old.columns ≡ 1 }
+    requires targets { All (IsTargetFor game.now) targets.now }
+    ensures { Meets sets.old sets.new (IsAmong targets.now) (IsToTry game.now state.now.state) }
+{
+    for target in targets {
+        meet_narrow(sets, game, paths, state, target);
+    }
+}
+
+/// Meets the vertices of targets. Most boards have one word for each row, which is asked once.
 #[inline(always)]
 pub(crate) fn meet_targets(
     sets: &mut Sets,
@@ -75,8 +126,10 @@ pub(crate) fn meet_targets(
     requires targets { All (IsTargetFor game.now) targets.now }
     ensures { Meets sets.old sets.new (IsAmong targets.now) (IsToTry game.now state.now.state) }
 {
-    for target in targets {
-        meet_target(sets, game, paths, state, target);
+    if sets.columns() == 1 {
+        meet_all_narrow(sets, game, paths, state, targets);
+    } else {
+        meet_all(sets, game, paths, state, targets);
     }
 }
 

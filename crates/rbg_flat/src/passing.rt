@@ -33,11 +33,14 @@ pub(crate) fn to_try(
         ↔ IsToTry game.now state.now.state (column * 64 + b) position }
 {
     // most of what is met are ons of one piece, and modifiers
-    match paths.kind(game, position) {
-        Kind::On(piece) => standing(state, piece, column),
-        Kind::Modifier => 0,
-        kind => kind_to_try(game, state, position, column, kind),
+    let kind = paths.kind(game, position);
+    if let Kind::On(piece) = kind {
+        return standing(state, piece, column);
     }
+    if let Kind::Modifier = kind {
+        return 0;
+    }
+    kind_to_try(game, state, position, column, kind)
 }
 
 /// The same for an action of this kind.

@@ -159,6 +159,19 @@ impl Sets {
         ((position as usize) << self.shift) + column
     }
 
+    /// Where the row of a position is, where each row has one word.
+    #[inline(always)]
+    pub(crate) fn narrow_place(&self, position: Position) -> usize
+        requires position { position < self.now.size }
+        requires one { self.now.columns ≡ 1 }
+        ensures place { result ≡ position * self.now.columns + 0 }
+        ensures marks { result < length self.now.marks }
+    {
+        // there are as many words as positions
+        let _columns = self.columns;
+        position as usize
+    }
+
     /// Whether all bits of a word of the row of a position, which is at a place, were met before.
     #[inline(always)]
     pub(crate) fn knows(&self, place: usize, position: Position, column: usize, word: u64) -> bool
