@@ -18,6 +18,7 @@ use rbg_search::{Budget, Origin, Search, Workspace};
 use std::alloc::Global;
 
 /// A search that may take up as many openings as a question may have. Where the game has paths, it goes by sets.
+#[inline(always)]
 pub(crate) fn search_in<'a, S: Steps>(
     alloc: Global,
     game: &'a Game,
