@@ -100,7 +100,10 @@ pub(crate) fn join(buffer: &mut Vec<Pair>, front: &[Pair], last: Pair) -> Result
     ensures { OnOk result (buffer.new.items ≡ front.now ++ last ∷ []) }
 {
     buffer.clear();
-    buffer.extend_from_slice(front)?;
+    // most fronts are short, so that no block is copied
+    for pair in front {
+        buffer.push(*pair)?;
+    }
     buffer.push(last)?;
     Ok(())
 }
