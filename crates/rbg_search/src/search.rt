@@ -663,6 +663,7 @@ impl<'a, S: Steps> Search<'a, S> {
     /// Whether some word runs: one that ends with no modifier more, or else one behind a modifier, of which each is tried in
     /// order of vertices and then of positions. An opening with `modifiers` more is too deep.
     #[cycle(search)]
+    #[inline(always)]
     fn word_runs(
         &mut self,
         state: &mut SemiState,
