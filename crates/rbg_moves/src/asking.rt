@@ -18,6 +18,7 @@ use rbg_search::{Budget, Origin, Search, Workspace};
 use std::alloc::Global;
 
 /// A search that may take up as many openings as a question may have. Where the game has paths, it goes by sets.
+#[inline(always)]
 pub(crate) fn search_in<'a, S: Steps>(
     alloc: Global,
     game: &'a Game,
@@ -99,7 +100,10 @@ pub(crate) fn join(buffer: &mut Vec<Pair>, front: &[Pair], last: Pair) -> Result
     ensures { OnOk result (buffer.new.items ≡ front.now ++ last ∷ []) }
 {
     buffer.clear();
-    buffer.extend_from_slice(front)?;
+    // most fronts are short, so that no block is copied
+    for pair in front {
+        buffer.push(*pair)?;
+    }
     buffer.push(last)?;
     Ok(())
 }

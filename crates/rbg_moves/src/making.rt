@@ -55,10 +55,28 @@ pub(crate) fn make_move_into(
     ensures to { IfOk result (Legal game.now place.now pairs.now) }
     ensures in_game { IfOk result (IsPlaceOf game.now) }
 {
-    let mut state = to.state;
-    state.copy_from(&place.state)?;
-    let after = make_all(game, &mut state, place.after, pairs)?;
-    Ok(Place { state, after })
+    let mut to = to;
+    make_move_to(game, place, pairs, &mut to)?;
+    Ok(to)
+}
+
+/// As `make_move`, with the pairs of the move, and another place becomes the one to which it leads. Where memory is
+/// refused, what is left of that place is no use.
+pub(crate) fn make_move_to(
+    game: &Game,
+    place: &Place,
+    pairs: &[Pair],
+    to: &mut Place,
+) -> Result<(), Memory>
+    requires place { IsPlaceOf game.now place.now }
+    requires legal { IsLegal game.now place.now pairs.now }
+    ensures to { IfOk result (λ _. Legal game.now place.now pairs.now to.new) }
+    ensures in_game { IfOk result (λ _. IsPlaceOf game.now to.new) }
+{
+    to.state.copy_from(&place.state)?;
+    let after = make_all(game, &mut to.state, place.after, pairs)?;
+    to.after = after;
+    Ok(())
 }
 
 /// As `make_move`, with the pairs of the move, and in place. Its changes stay on the list of the place's semi-state.

@@ -35,7 +35,7 @@ ghost use Rattle.rbg_moves.specs.Tallying.{IsTallied};
 use crate::asking::game_is_accepted;
 use crate::finding::{find_move_by, find_pairs_on, find_pairs_with};
 use crate::list::{Gathered, Listed, gather_moves_with, list_moves_with};
-use crate::making::{make_move, make_move_into, make_move_on, make_move_with};
+use crate::making::{make_move, make_move_into, make_move_on, make_move_to, make_move_with};
 use crate::place::Place;
 use crate::trying::try_move_with;
 use crate::workspace::Workspace;
@@ -401,6 +401,17 @@ impl PlayedGame {
         ensures in_game { IfOk result (IsPlaceOf self.now) }
     {
         make_move_into(&self.game, place, pairs, to)
+    }
+
+    /// As `make_move`, with the pairs of the move, and another place becomes the one to which it leads. Where memory is
+    /// refused, what is left of that place is no use.
+    pub fn make_move_to(&self, place: &Place, pairs: &[Pair], to: &mut Place) -> Result<(), Memory>
+        requires place { IsPlaceOf self.now place.now }
+        requires legal { IsLegal self.now place.now pairs.now }
+        ensures to { IfOk result (λ _. Legal self.now place.now pairs.now to.new) }
+        ensures in_game { IfOk result (λ _. IsPlaceOf self.now to.new) }
+    {
+        make_move_to(&self.game, place, pairs, to)
     }
 
     /// As `make_move`, with the pairs of the move, and in place. Where memory is refused, the place stays as it is.

@@ -124,7 +124,7 @@ fn count_behind(
     let mut to = workspace.spare();
     for index in 0..firsts.len() {
         let pairs = firsts.get(index);
-        to = game.make_move_into(place, pairs, to)?;
+        game.make_move_to(place, pairs, &mut to)?;
         let behind = count_from(game, &mut to, further, extent, workspace)?;
         counts = counts.join(behind).ok_or(CountError::TooMany)?;
     }

@@ -9,6 +9,7 @@ use rbg_rules::Game;
 use std::alloc::Global;
 
 /// The flat parts, if each has marks for the game; else none.
+#[inline(always)]
 pub(crate) fn fitting(alloc: Global, game: &Game, flats: Vec<Box<Flat>>) -> Vec<Box<Flat>>
     ensures { All (λ flat. HasMarksOf game.now flat.value.queue) result.items }
 {
@@ -20,6 +21,7 @@ pub(crate) fn fitting(alloc: Global, game: &Game, flats: Vec<Box<Flat>>) -> Vec<
 }
 
 /// Whether each flat part has marks for the game.
+#[inline(always)]
 fn are_for(game: &Game, flats: &[Box<Flat>]) -> bool
     ensures { IsTrue result → All (λ flat. HasMarksOf game.now flat.value.queue) flats.now }
 {
@@ -32,6 +34,7 @@ fn are_for(game: &Game, flats: &[Box<Flat>]) -> bool
 }
 
 /// The flat parts by sets, if each is of use for the game; else none.
+#[inline(always)]
 pub(crate) fn fitting_sets(
     alloc: Global,
     game: &Game,
@@ -47,6 +50,7 @@ pub(crate) fn fitting_sets(
 }
 
 /// Whether each flat part by sets is of use for the game.
+#[inline(always)]
 fn are_sets_for(game: &Game, flats: &[Box<SetFlat>]) -> bool
     ensures { IsTrue result → All (λ flat. AreSizedFor game.now flat.value.sets) flats.now }
 {

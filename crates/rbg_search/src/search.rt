@@ -120,6 +120,7 @@ impl<'a, S: Steps> Search<'a, S> {
     }
 
     /// As `new`, with the paths of the game where it has some: then flat parts are found by sets.
+    #[inline(always)]
     fn on_paths(
         alloc: Global,
         game: &'a Game,
@@ -129,6 +130,34 @@ impl<'a, S: Steps> Search<'a, S> {
     ) -> Search<'a, S>
         requires steps { S.of_rules steps.now game.now.rules }
         requires paths { IfSome paths (λ told. ArePathsOf game.now told.now) }
+        ensures game { result.game ≡ game.now }
+        ensures openings { result.openings ≡ budget.openings }
+        ensures modifiers { result.modifiers ≡ max budget.modifiers 1 }
+        ensures opened { result.opened ≡ 0 }
+        ensures taken { result.taken ≡ 0 }
+    {
+        let flats = Vec::new(alloc);
+        let sets = Vec::new(alloc);
+        let lists = Vec::new(alloc);
+        Search::with_buffers(alloc, game, steps, paths, budget, flats, sets, lists)
+    }
+
+    /// As `on_paths`, with these buffers, each of which is of use for the game.
+    #[inline(always)]
+    fn with_buffers(
+        alloc: Global,
+        game: &'a Game,
+        steps: &'a S,
+        paths: Option<&'a Paths>,
+        budget: Budget,
+        flats: Vec<Box<Flat>>,
+        sets: Vec<Box<SetFlat>>,
+        lists: Vec<Modifiers>,
+    ) -> Search<'a, S>
+        requires steps { S.of_rules steps.now game.now.rules }
+        requires paths { IfSome paths (λ told. ArePathsOf game.now told.now) }
+        requires flats { All (λ flat. HasMarksOf game.now flat.value.queue) flats.items }
+        requires sets { All (λ flat. AreSizedFor game.now flat.value.sets) sets.items }
         ensures game { result.game ≡ game.now }
         ensures openings { result.openings ≡ budget.openings }
         ensures modifiers { result.modifiers ≡ max budget.modifiers 1 }
@@ -145,9 +174,9 @@ impl<'a, S: Steps> Search<'a, S> {
             },
             opened: 0,
             taken: 0,
-            flats: Vec::new(alloc),
-            sets: Vec::new(alloc),
-            lists: Vec::new(alloc),
+            flats,
+            sets,
+            lists,
         }
     }
 
@@ -171,6 +200,7 @@ impl<'a, S: Steps> Search<'a, S> {
     }
 
     /// As `with_workspace`, with the paths of the game where it has some: then flat parts are found by sets.
+    #[inline(always)]
     pub fn with_paths(
         alloc: Global,
         game: &'a Game,
@@ -188,16 +218,16 @@ impl<'a, S: Steps> Search<'a, S> {
         ensures taken { result.taken ≡ 0 }
         ensures tally { workspace.new ≡ workspace.old }
     {
-        let mut search = Search::on_paths(alloc, game, steps, paths, budget);
         let flats = replace(&mut workspace.flats, Vec::new(alloc));
-        search.flats = fitting(alloc, game, flats);
+        let flats = fitting(alloc, game, flats);
         let sets = replace(&mut workspace.sets, Vec::new(alloc));
-        search.sets = fitting_sets(alloc, game, sets);
-        search.lists = replace(&mut workspace.lists, Vec::new(alloc));
-        search
+        let sets = fitting_sets(alloc, game, sets);
+        let lists = replace(&mut workspace.lists, Vec::new(alloc));
+        Search::with_buffers(alloc, game, steps, paths, budget, flats, sets, lists)
     }
 
     /// Ends the search. A workspace gets its buffers, and counts what it took up; at the greatest number it stays.
+    #[inline(always)]
     pub fn leave(self, workspace: &mut Workspace)
         ensures openings { workspace.new.openings
             ≡ min (workspace.old.openings + self.entry.opened) (2 ^ 64 - 1) }
@@ -633,6 +663,7 @@ impl<'a, S: Steps> Search<'a, S> {
     /// Whether some word runs: one that ends with no modifier more, or else one behind a modifier, of which each is tried in
     /// order of vertices and then of positions. An opening with `modifiers` more is too deep.
     #[cycle(search)]
+    #[inline(always)]
     fn word_runs(
         &mut self,
         state: &mut SemiState,

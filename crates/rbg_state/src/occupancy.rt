@@ -74,6 +74,15 @@ impl Occupancy {
     pub(crate) fn copy_from(&mut self, other: &Occupancy) -> Result<(), Memory>
         ensures { IfOk result (λ _. self.new ≡ other.now) }
     {
+        if self.pieces.len() == other.pieces.len()
+            && self.counts.len() == other.counts.len()
+            && self.rows.are_as_many(&other.rows)
+        {
+            self.pieces.copy_from_slice(&other.pieces);
+            self.counts.copy_from_slice(&other.counts);
+            self.rows.copy_over(&other.rows);
+            return Ok(());
+        }
         // With no counts and no rows they are right, also where memory is refused below.
         self.counts.clear();
         self.rows.clear_for(&other.rows);
@@ -187,10 +196,15 @@ fn take_one(counts: &mut Vec<u16>, piece: Piece)
 }
 
 /// Makes these the items of a buffer. Memory is taken only where it has no room for them.
+#[inline(always)]
 pub(crate) fn refill<T: Copy + Drop>(buffer: &mut Vec<T>, items: &[T]) -> Result<(), Memory>
     ensures done { IfOk result (λ _. buffer.new.items ≡ items.now) }
     ensures refused { OnErr result (buffer.new.items ≡ []) }
 {
+    if buffer.len() == items.len() {
+        buffer.copy_from_slice(items);
+        return Ok(());
+    }
     buffer.clear();
     buffer.extend_from_slice(items)
 }

@@ -1,5 +1,5 @@
 //! The vertices on which each piece of the game stands, as rows of bits.
-ghost use Rattle.std.specs.Prelude.{◌≡◌, ℕ, List, ◌≤◌, ◌<◌, ◌^◌, ◌*◌, ◌++◌, [], ◌∷◌, length, slice_set, take, IfOk, IfSome, IfNone, OnErr};
+ghost use Rattle.std.specs.Prelude.{◌≡◌, ℕ, List, ◌≤◌, ◌<◌, ◌^◌, ◌*◌, ◌++◌, [], ◌∷◌, length, slice_set, take, IfOk, IfSome, IfNone, OnErr, IsTrue};
 ghost use Rattle.rbg_state.specs.Rows.{IsRowOf, word_of, HasBit, AreRows, ChangesBit, ChangesWord};
 
 use crate::occupancy::refill;
@@ -51,6 +51,25 @@ impl Rows {
             columns: self.columns,
             words: self.words.clone()?,
         })
+    }
+
+    /// Whether there are as many words as in others.
+    #[inline(always)]
+    pub(crate) fn are_as_many(&self, other: &Rows) -> bool
+        ensures { IsTrue result → length self.now.words.items ≡ length other.now.words.items }
+    {
+        self.words.len() == other.words.len()
+    }
+
+    /// Become a copy of others, of which there are as many words.
+    #[inline(always)]
+    pub(crate) fn copy_over(&mut self, other: &Rows)
+        requires { length self.old.words.items ≡ length other.now.words.items }
+        ensures columns { self.new.columns ≡ other.now.columns }
+        ensures words { self.new.words.items ≡ other.now.words.items }
+    {
+        self.columns = other.columns;
+        self.words.copy_from_slice(&other.words);
     }
 
     /// Lets go of all rows, to become a copy of these by `fill`.

@@ -72,7 +72,7 @@ impl SemiState {
                 left,
                 relation,
                 right,
-            } => self.compare(left, *relation, right),
+            } => self.compare_apart(left, *relation, right),
             Action::Switch { player } => self.switch(*player),
             Action::Positive | Action::Negative => unreachable!(),
         }
@@ -95,6 +95,7 @@ impl SemiState {
     }
 
     /// Tests whether the piece on the current vertex is one of these.
+    #[inline(never)]
     fn on(&self, pieces: &[Piece]) -> Applied
         requires { self.now.state.vertex < length self.now.state.pieces }
         ensures { (game : AbstractGame) → Answers game (on pieces.now) self.now self.now result }
@@ -118,6 +119,7 @@ impl SemiState {
     }
 
     /// Gives a variable the value of an expression, if there is one that the variable may hold.
+    #[inline(never)]
     fn assign(&mut self, variable: Variable, expression: &Arithmetic, bound: u32) -> Applied
         requires variable { variable < length self.old.state.values }
         requires reads { ReadsBelow (length self.old.state.values) (arithmetic_of expression.now) }
@@ -156,6 +158,7 @@ impl SemiState {
     }
 
     /// Tests whether two expressions have values that stand in a relation.
+    #[inline(always)]
     pub(super) fn compare(
         &self,
         left: &Arithmetic,
@@ -168,10 +171,22 @@ impl SemiState {
             → Answers game (comparison (arithmetic_of left.now) relation (arithmetic_of right.now))
             self.now self.now result }
     {
-        match (self.evaluate(left), self.evaluate(right)) {
+        match (self.evaluated(left), self.evaluated(right)) {
             (Some(x), Some(y)) if relates(relation, x, y) => Applied::Valid,
             _ => Applied::Invalid,
         }
+    }
+
+    /// As `compare`, in a call of its own, since a comparison is seldom applied.
+    #[inline(never)]
+    fn compare_apart(&self, left: &Arithmetic, relation: Relation, right: &Arithmetic) -> Applied
+        requires left { ReadsBelow (length self.now.state.values) (arithmetic_of left.now) }
+        requires right { ReadsBelow (length self.now.state.values) (arithmetic_of right.now) }
+        ensures { (game : AbstractGame)
+            → Answers game (comparison (arithmetic_of left.now) relation (arithmetic_of right.now))
+            self.now self.now result }
+    {
+        self.compare(left, relation, right)
     }
 
     /// Makes a player, or the keeper, the current one.

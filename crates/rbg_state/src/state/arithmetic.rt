@@ -1,5 +1,5 @@
 //! The arithmetic of a game: whole numbers of 64 bits with a sign, and no value where one does not fit.
-ghost use Rattle.std.specs.Prelude.{◌≡◌, Some, length, All};
+ghost use Rattle.std.specs.Prelude.{◌≡◌, Some, length, All, IfSome};
 ghost use Rattle.rbg_rules.specs.Values.{value_of};
 ghost use Rattle.rbg_rules.specs.Translation.{arithmetic_of};
 ghost use Rattle.rbg_state.specs.Reads.{ReadsBelow};
@@ -21,7 +21,35 @@ impl SemiState {
             Arithmetic::Variable(variable) => Some(i64::from(self.value(*variable))),
             Arithmetic::PieceCount(piece) => i64::try_from(self.count(*piece)).ok(),
             Arithmetic::Negated(operand) => operate(Operator::Minus, 0, self.evaluate(operand)?),
-            Arithmetic::Chain { first, rest } => self.continued(self.evaluate(first)?, rest),
+            Arithmetic::Chain { first, rest } => self.continued(self.evaluated(first)?, rest),
+        }
+    }
+
+    /// As `evaluate`. A number or a variable alone, as most operands are, takes no call.
+    #[cycle(evaluate)]
+    #[inline(always)]
+    pub(super) fn evaluated(&self, expression: &Arithmetic) -> Option<i64>
+        requires { ReadsBelow (length self.now.state.values) (arithmetic_of expression.now) }
+        ensures { result ≡ value_of (arithmetic_of expression.now) self.now.state }
+    {
+        match self.plain_value(expression) {
+            Some(value) => Some(value),
+            None => self.evaluate(expression),
+        }
+    }
+
+    /// The value of a number or a variable alone; none of any other expression.
+    #[inline(always)]
+    #[tactic(auto, using(rbg_rules::proofs::Bridge::translation, crate::proofs::Fits::by_conversion))]
+    fn plain_value(&self, expression: &Arithmetic) -> Option<i64>
+        requires { ReadsBelow (length self.now.state.values) (arithmetic_of expression.now) }
+        ensures { IfSome result (λ value.
+            value_of (arithmetic_of expression.now) self.now.state ≡ Some value) }
+    {
+        match expression {
+            Arithmetic::Number(number) => i64::try_from(*number).ok(),
+            Arithmetic::Variable(variable) => Some(i64::from(self.value(*variable))),
+            _ => None,
         }
     }
 
@@ -34,7 +62,7 @@ impl SemiState {
     {
         let mut value = first;
         for operation in operations {
-            let operand = self.evaluate(&operation.operand)?;
+            let operand = self.evaluated(&operation.operand)?;
             value = operate(operation.operator, value, operand)?;
         }
         Some(value)

@@ -87,7 +87,8 @@ impl SemiState {
         }
     }
 
-    /// What a comparison would do at a vertex.
+    /// What a comparison would do at a vertex, in a call of its own, so that it stays out of the loops around it.
+    #[inline(never)]
     fn tell_compare(
         &self,
         left: &Arithmetic,

@@ -23,30 +23,30 @@ evaluate-continued-requires t c =
     let reads = reads_of-Chain (length c.args.self.now.state.values) c.args.expression.now c.in-Chain.first c.in-Chain.rest c.requires c.in-Chain.is in
     (search (rules, the_lemmas), rw c.deref-in-Chain-2.ensures.value reads.1)
 
-pub evaluate-evaluate-requires-in-Chain : goal.evaluate-evaluate-requires-in-Chain
-evaluate-evaluate-requires-in-Chain t c =
+pub evaluate-evaluated-requires : goal.evaluate-evaluated-requires
+evaluate-evaluated-requires t c =
     let reads = reads_of-Chain (length c.args.self.now.state.values) c.args.expression.now c.in-Chain.first c.in-Chain.rest c.requires c.in-Chain.is in
     (search (rules, the_lemmas), rw c.deref-in-Chain.ensures reads.0)
 
-pub evaluate-returns-in_err-evaluate-in-Chain : goal.evaluate-returns-in_err-evaluate-in-Chain
-evaluate-returns-in_err-evaluate-in-Chain t c =
+pub evaluate-returns-in_err-evaluated-in-Chain : goal.evaluate-returns-in_err-evaluated-in-Chain
+evaluate-returns-in_err-evaluated-in-Chain t c =
     let value = value_of-Chain c.args.self.now.state c.args.expression.now c.in-Chain.first c.in-Chain.rest c.in-Chain.is in
     let none = value_after-None c.args.self.now.state c.in-Chain.rest.items in
-    let no_first = c.in_err-evaluate-in-Chain.ensures in
+    let no_first = c.in_err-evaluated-in-Chain.ensures in
     grind arith
 
-pub evaluate-returns-in_ok-evaluate-in-Chain : goal.evaluate-returns-in_ok-evaluate-in-Chain
-evaluate-returns-in_ok-evaluate-in-Chain t c =
+pub evaluate-returns-in_ok-evaluated-in-Chain : goal.evaluate-returns-in_ok-evaluated-in-Chain
+evaluate-returns-in_ok-evaluated-in-Chain t c =
     let value = value_of-Chain c.args.self.now.state c.args.expression.now c.in-Chain.first c.in-Chain.rest c.in-Chain.is in
-    let first = c.in_ok-evaluate-in-Chain.ensures in
+    let first = c.in_ok-evaluated-in-Chain.ensures in
     grind (arith, to_z-of_z)
 
 pub continued-loop-operation-init : goal.continued-loop-operation-init
 unfolding value_after
 continued-loop-operation-init t c = refl
 
-pub continued-evaluate-requires : goal.continued-evaluate-requires
-continued-evaluate-requires t c = (search (rules, the_lemmas), operand_reads (length c.args.self.now.state.values) c.args.operations.now c.loop-operation.operation-index c.operation-item.result c.requires (omega arith) c.operation-item.is)
+pub continued-evaluated-requires : goal.continued-evaluated-requires
+continued-evaluated-requires t c = (search (rules, the_lemmas), operand_reads (length c.args.self.now.state.values) c.args.operations.now c.loop-operation.operation-index c.operation-item.result c.requires (omega arith) c.operation-item.is)
 
 pub continued-returns-in_err-operand : goal.continued-returns-in_err-operand
 continued-returns-in_err-operand t c =

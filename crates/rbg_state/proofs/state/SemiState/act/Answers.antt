@@ -18,7 +18,7 @@ pub returns-in-Assign : goal.returns-in-Assign
 returns-in-Assign c = rw c.in-Assign.is (λ a shown. rw shown (c.assign.ensures c.args.game.now (get_or_from_slice_get c.args.game.now.bounds c.in-Assign.variable c.bound.result 0 c.bound.ensures)))
 
 pub returns-in-Compare : goal.returns-in-Compare
-returns-in-Compare c = rw c.in-Compare.is (λ a shown. rw shown (c.compare.ensures c.args.game.now))
+returns-in-Compare c = rw c.in-Compare.is (λ a shown. rw shown (c.compare_apart.ensures c.args.game.now))
 
 pub returns-in-Switch : goal.returns-in-Switch
 returns-in-Switch c = rw c.in-Switch.is (λ a shown. rw shown (c.switch.ensures c.args.game.now))
@@ -36,12 +36,12 @@ assign-requires-clause-variable c =
 pub bound-requires : goal.bound-requires
 bound-requires c = (c.requires.named (assignment c.in-Assign.variable (arithmetic_of c.in-Assign.value)) (rw c.in-Assign.is refl)).0
 
-pub compare-requires-clause-left : goal.compare-requires-clause-left
-compare-requires-clause-left c =
+pub compare_apart-requires-clause-left : goal.compare_apart-requires-clause-left
+compare_apart-requires-clause-left c =
     let named = c.requires.named (comparison (arithmetic_of c.in-Compare.left) c.in-Compare.relation (arithmetic_of c.in-Compare.right)) (rw c.in-Compare.is refl) in
     rw (c.requires.fits.variables ∙ c.requires.lawful.bounds) (reads_variables c.args.game.now (arithmetic_of c.in-Compare.left) named.0)
 
-pub compare-requires-clause-right : goal.compare-requires-clause-right
-compare-requires-clause-right c =
+pub compare_apart-requires-clause-right : goal.compare_apart-requires-clause-right
+compare_apart-requires-clause-right c =
     let named = c.requires.named (comparison (arithmetic_of c.in-Compare.left) c.in-Compare.relation (arithmetic_of c.in-Compare.right)) (rw c.in-Compare.is refl) in
     rw (c.requires.fits.variables ∙ c.requires.lawful.bounds) (reads_variables c.args.game.now (arithmetic_of c.in-Compare.right) named.1)

@@ -2,7 +2,7 @@ use Rattle.std.proofs.Common.{sym, subst}
 use Rattle.rbg_rules.specs.Moves.{AbstractPlace, Legal, IsLegal}
 use Rattle.rbg_rules.specs.Places.{IsPlaceOf}
 use Rattle.rbg_moves.proofs.Copies.{from_copy}
-use Rattle.rbg_moves.proofs.making.make_move_into.Goals as goal
+use Rattle.rbg_moves.proofs.making.make_move_to.Goals as goal
 
 pub make_all-requires-clause-place : goal.make_all-requires-clause-place
 make_all-requires-clause-place c =
