@@ -32,10 +32,13 @@ pub(crate) fn to_try(
     ensures { (b : ℕ) → b < 64 → (bit_at result b ≡ 1)
         ↔ IsToTry game.now state.now.state (column * 64 + b) position }
 {
-    // most of what is met are ons of one piece, and modifiers
+    // most of what is met are ons of one piece or of two, and modifiers
     let kind = paths.kind(game, position);
     if let Kind::On(piece) = kind {
         return standing(state, piece, column);
+    }
+    if let Kind::OnEither(piece, other) = kind {
+        return standing(state, piece, column) | standing(state, other, column);
     }
     if let Kind::Modifier = kind {
         return 0;
