@@ -57,7 +57,16 @@ fn meet_target(sets: &mut Sets, game: &Game, paths: &Paths, state: &SemiState, t
 {
     let column = target.column as usize;
     let place = sets.place(target.position, column);
-    meet_at(sets, game, paths, state, place, target.position, column, target.word);
+    meet_at(
+        sets,
+        game,
+        paths,
+        state,
+        place,
+        target.position,
+        column,
+        target.word,
+    );
 }
 
 /// The same where each row has one word: the place is the position.
@@ -73,7 +82,16 @@ fn meet_narrow(sets: &mut Sets, game: &Game, paths: &Paths, state: &SemiState, t
         (IsToTry game.now state.now.state) }
 {
     let place = sets.narrow_place(target.position);
-    meet_at(sets, game, paths, state, place, target.position, 0, target.word);
+    meet_at(
+        sets,
+        game,
+        paths,
+        state,
+        place,
+        target.position,
+        0,
+        target.word,
+    );
 }
 
 /// Meets the vertices of targets, however many words a row has.
@@ -154,6 +172,15 @@ pub(crate) fn meet_bits(
 {
     for target in targets {
         let place = sets.place(target.position, column);
-        meet_at(sets, game, paths, state, place, target.position, column, word);
+        meet_at(
+            sets,
+            game,
+            paths,
+            state,
+            place,
+            target.position,
+            column,
+            word,
+        );
     }
 }

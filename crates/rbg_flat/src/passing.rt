@@ -32,37 +32,34 @@ pub(crate) fn to_try(
     ensures { (b : ℕ) → b < 64 → (bit_at result b ≡ 1)
         ↔ IsToTry game.now state.now.state (column * 64 + b) position }
 {
-    // most of what is met are ons of one piece or of two, and modifiers
+    // most of what is met are ons of one piece, and modifiers
     let kind = paths.kind(game, position);
     if let Kind::On(piece) = kind {
         return standing(state, piece, column);
     }
-    if let Kind::OnEither(piece, other) = kind {
-        return standing(state, piece, column) | standing(state, other, column);
-    }
     if let Kind::Modifier = kind {
         return 0;
     }
-    kind_to_try(game, state, position, column, kind)
+    any_to_try(game, paths, state, position, column)
 }
 
-/// The same for an action of this kind.
+/// The same for an action of any kind. The kind is read again, since to hand it over would cost each word that is met.
 #[inline(never)]
-fn kind_to_try(
+fn any_to_try(
     game: &Game,
+    paths: &Paths,
     state: &SemiState,
     position: Position,
     column: usize,
-    kind: Kind,
 ) -> u64
     requires lawful { IsGame game.now }
+    requires paths { ArePathsOf game.now paths.now }
     requires position { IsPositionIn game.now position }
     requires column { column < 2 ^ 25 }
-    requires kind { IsKind game.now.rules position kind }
     ensures { (b : ℕ) → b < 64 → (bit_at result b ≡ 1)
         ↔ IsToTry game.now state.now.state (column * 64 + b) position }
 {
-    match kind {
+    match paths.kind(game, position) {
         Kind::Modifier => 0,
         Kind::Pattern | Kind::Plain => full_word(),
         Kind::On(piece) => standing(state, piece, column),
