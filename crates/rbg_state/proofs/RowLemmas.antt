@@ -9,7 +9,7 @@ use Rattle.std.proofs.lemmas.List.{length-set, get_or-set_same, get_or-set_other
 use Rattle.std.proofs.lemmas.Option.{slice_get-get_or, get_or_from_slice_get, slice_get_within}
 use Rattle.std.proofs.lemmas.Slice.{between_is}
 use native.Mathlib.Decide.{ℕ_discrete}
-use Rattle.rbg_state.specs.Rows.{bit_of, IsRowOf, word_of, HasBit, bit_in, AreRows, ChangesBit, ChangesWord}
+use Rattle.rbg_state.specs.Rows.{IsWordOf, word_of, HasBit, bit_in, AreRows, ChangesBit, ChangesWord}
 
 -- a word that differs from the old one in one bit
 changed_word : (words : List ℕ) (word bit value new : ℕ) → word < length words → bit_at new bit ≡ value → ((b : ℕ) → b < 64 → b ≢ bit → bit_at new b ≡ bit_at (get_or words word 0) b) → ChangesWord words (slice_set words word new) word bit value
@@ -175,45 +175,29 @@ rows_after_put pieces columns old middle new v o x rows is_vertex stood takes ad
           )
     ]
 
--- A row of so many words among all words, which reach over all vertices.
-pub row_is : (pieces : List ℕ) (columns : ℕ) (words : List ℕ) (x : ℕ) → AreRows pieces (length pieces) columns words → length pieces ≤ columns * 64 → x * columns + columns ≤ length words → IsRowOf pieces x (slice_range words (x * columns) (x * columns + columns))
-row_is pieces columns words x rows wide within v = elim (below_or_not (v / 64) columns) [
-  | inl near ↦ by_word near
-  | inr far ↦ (λ set. absurd (not_one (none far) set), λ stands. absurd (beyond far (slice_get_within pieces v x stands)))
-]
+-- A word of the row of a piece, among the words of all rows.
+pub word_is : (pieces : List ℕ) (columns : ℕ) (words : List ℕ) (x column : ℕ) → AreRows pieces (length pieces) columns words → column < columns → x * columns + column < length words → IsWordOf pieces x column (get_or words (x * columns + column) 0)
+word_is pieces columns words x column rows near within b small = (
+  λ set. let stands = exact.0 (same ∙ set) in slice_get-get_or pieces v 0 stands.0 ∙ ap Some stands.1,
+  λ stands. sym same ∙ exact.1 (slice_get_within pieces v x stands, get_or_from_slice_get pieces v x 0 stands),
+)
   where
-    row : List ℕ
-    row = slice_range words (x * columns) (x * columns + columns)
+    v : ℕ
+    v = column * 64 + b
 
-    below_or_not : (a b : ℕ) → (a < b) ⊎ (b ≤ a)
-    below_or_not a b = cases_lt a b
+    at : v / 64 ≡ column
+    at = div-mul-add column 64 b small
 
-    is_part : row ≡ drop (x * columns) (take (x * columns + columns) words)
-    is_part = between_is words (x * columns) (x * columns + columns)
+    bit : v % 64 ≡ b
+    bit = omega (arith, at, small)
 
-    long : length row ≡ columns
-    long =
-        let all = length-take-le (x * columns + columns) words within in
-        let rest = length-drop (x * columns) (take (x * columns + columns) words) in
-        ap length is_part ∙ omega (arith, all, rest)
+    has : HasBit columns (length words) x v
+    has = record { column = subst (λ (k : ℕ). k < columns) (sym at) near; word = subst (λ (k : ℕ). x * columns + k < length words) (sym at) within }
 
-    none : columns ≤ v / 64 → bit_of row v ≡ 0
-    none far = ap (λ (n : ℕ). bit_at n (v % 64)) (get_or_past row (v / 64) 0 (omega (arith, far, long))) ∙ bit_at-zero (v % 64)
+    exact : (bit_in columns words x v ≡ 1) ↔ ((v < length pieces) × (get_or pieces v 0 ≡ x))
+    exact = rows.exact x v has
 
-    beyond : columns ≤ v / 64 → v < length pieces → ⊥
-    beyond far h = omega (arith, far, h, wide)
-
-    bits : v / 64 < columns → bit_of row v ≡ bit_in columns words x v
-    bits near =
-        ap (λ (n : ℕ). bit_at n (v % 64))
-        (ap (λ (xs : List ℕ). get_or xs (v / 64) 0) is_part
-        ∙ get_or-drop (x * columns) (take (x * columns + columns) words) (v / 64) 0
-        ∙ get_or-take (x * columns + columns) words (x * columns + v / 64) 0 (omega (arith, near)))
-
-    by_word : v / 64 < columns → (bit_of row v ≡ 1) ↔ (slice_get pieces v ≡ Some x)
-    by_word near =
-        let has : HasBit columns (length words) x v = record { column = near; word = omega (arith, near, within) } in
-        let exact = rows.exact x v has in (
-          λ set. let stands = exact.0 (sym (bits near) ∙ set) in slice_get-get_or pieces v 0 stands.0 ∙ ap Some stands.1,
-          λ stands. bits near ∙ exact.1 (slice_get_within pieces v x stands, get_or_from_slice_get pieces v x 0 stands),
-        )
+    same : bit_in columns words x v ≡ bit_at (get_or words (x * columns + column) 0) b
+    same =
+        ap (λ (k : ℕ). bit_at (get_or words (x * columns + k) 0) (v % 64)) at
+        ∙ ap (λ (k : ℕ). bit_at (get_or words (x * columns + column) 0) k) bit

@@ -2,13 +2,9 @@
 use Rattle.std.specs.Prelude.{◌≡◌, ℕ, ◌+◌, ◌*◌, ◌/◌, ◌%◌, ◌<◌, ◌⊎◌, ◌↔◌, ◌≢◌, List, length, slice_get, slice_index, Some}
 use Rattle.std.specs.Int.{bit_at}
 
--- bit v of a row of words, 64 in a word
-abbrev pub bit_of : (row : List ℕ) → (v : ℕ) → ℕ
-bit_of row v = bit_at (slice_index row (v / 64)) (v % 64)
-
--- The row has a bit for each vertex on which the piece stands, and no other.
-abbrev pub IsRowOf : (pieces : List ℕ) → (piece : ℕ) → (row : List ℕ) → Type 0
-IsRowOf pieces piece row = (v : ℕ) → (bit_of row v ≡ 1) ↔ (slice_get pieces v ≡ Some piece)
+-- The word has a bit for each vertex of a column of 64 on which the piece stands, and no other.
+abbrev pub IsWordOf : (pieces : List ℕ) → (piece column word : ℕ) → Type 0
+IsWordOf pieces piece column word = (b : ℕ) → b < 64 → (bit_at word b ≡ 1) ↔ (slice_get pieces (column * 64 + b) ≡ Some piece)
 
 -- the word that has the bit of a piece and a vertex, where a row has so many words
 abbrev pub word_of : (columns : ℕ) → (piece v : ℕ) → ℕ

@@ -1,7 +1,7 @@
 //! The piece on each vertex of a board, with a running count and a row of vertices for each piece.
-ghost use Rattle.std.specs.Prelude.{◌≡◌, ◌+◌, ◌-◌, ◌<◌, ◌^◌, ◌==◌, ◌++◌, [], ◌∷◌, Some, length, count_by, slice_get, slice_index, slice_set, IfOk, IfSome, OnErr};
+ghost use Rattle.std.specs.Prelude.{◌≡◌, ◌+◌, ◌*◌, ◌-◌, ◌<◌, ◌^◌, ◌==◌, ◌++◌, [], ◌∷◌, Some, length, count_by, slice_get, slice_index, slice_set, IfOk, IfSome, OnErr};
 ghost use Rattle.rbg_state.specs.Tallies.{IsTally};
-ghost use Rattle.rbg_state.specs.Rows.{IsRowOf};
+ghost use Rattle.rbg_state.specs.Rows.{IsWordOf};
 
 use crate::rows::Rows;
 use rbg_base::{Memory, Piece, Vertex};
@@ -108,11 +108,13 @@ impl Occupancy {
         }
     }
 
-    /// The row of a piece, if it has one.
-    pub(crate) fn row(&self, piece: Piece) -> Option<&[u64]>
-        ensures { IfSome result (λ row. IsRowOf self.now piece row.now) }
+    /// A word of the row of a piece, if it has a row.
+    #[inline(always)]
+    pub(crate) fn row_word(&self, piece: Piece, column: usize) -> Option<u64>
+        requires { column * 64 < length self.now }
+        ensures { IfSome result (IsWordOf self.now piece column) }
     {
-        self.rows.row(piece)
+        self.rows.row_word(piece, column)
     }
 
     /// Puts a piece on a vertex, and returns the piece that stood there.

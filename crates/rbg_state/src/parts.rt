@@ -1,8 +1,8 @@
 //! The parts of a semi-state, one of which is changed at a time.
-ghost use Rattle.std.specs.Prelude.{◌≡◌, ◌<◌, ◌==◌, Some, length, count_by, slice_get, IfOk, IfSome};
+ghost use Rattle.std.specs.Prelude.{◌≡◌, ◌*◌, ◌<◌, ◌==◌, Some, length, count_by, slice_get, IfOk, IfSome};
 ghost use Rattle.rbg_rules.specs.State.{start_of, IsStateOf};
 ghost use Rattle.rbg_state.specs.Changes.{set, IsChangeWithin};
-ghost use Rattle.rbg_state.specs.Rows.{IsRowOf};
+ghost use Rattle.rbg_state.specs.Rows.{IsWordOf};
 
 use crate::change::Change;
 use crate::occupancy::{Occupancy, refill};
@@ -108,10 +108,12 @@ impl Parts {
         self.occupancy.count(piece)
     }
 
-    pub(crate) fn row(&self, piece: Piece) -> Option<&[u64]>
-        ensures { IfSome result (λ row. IsRowOf self.now.pieces piece row.now) }
+    #[inline(always)]
+    pub(crate) fn row_word(&self, piece: Piece, column: usize) -> Option<u64>
+        requires { column * 64 < length self.now.pieces }
+        ensures { IfSome result (IsWordOf self.now.pieces piece column) }
     {
-        self.occupancy.row(piece)
+        self.occupancy.row_word(piece, column)
     }
 
     pub(crate) fn value(&self, variable: Variable) -> u32

@@ -1,6 +1,6 @@
 //! The vertices on which each piece of the game stands, as rows of bits.
 ghost use Rattle.std.specs.Prelude.{◌≡◌, ℕ, List, ◌≤◌, ◌<◌, ◌^◌, ◌*◌, ◌++◌, [], ◌∷◌, length, slice_set, take, IfOk, IfSome, IfNone, OnErr, IsTrue};
-ghost use Rattle.rbg_state.specs.Rows.{IsRowOf, word_of, HasBit, AreRows, ChangesBit, ChangesWord};
+ghost use Rattle.rbg_state.specs.Rows.{IsWordOf, word_of, HasBit, AreRows, ChangesBit, ChangesWord};
 
 use crate::occupancy::refill;
 use rbg_base::{Memory, Piece, Vertex};
@@ -91,15 +91,17 @@ impl Rows {
         refill(&mut self.words, &other.words)
     }
 
-    /// The row of a piece, if it has one.
-    pub(crate) fn row(&self, piece: Piece) -> Option<&[u64]>
+    /// A word of the row of a piece, if it has a row.
+    #[inline(always)]
+    pub(crate) fn row_word(&self, piece: Piece, column: usize) -> Option<u64>
+        requires { column < self.now.columns }
         ensures { (pieces : List ℕ) → AreRows pieces (length pieces) self.now.columns self.now.words.items
-            → length pieces ≤ self.now.columns * 64 → IfSome result (λ row. IsRowOf pieces piece row.now) }
+            → length pieces ≤ self.now.columns * 64
+            → IfSome result (IsWordOf pieces piece column) }
     {
-        let start = piece as usize * self.columns;
-        let end = start + self.columns;
-        if end <= self.words.len() {
-            Some(&self.words[start..end])
+        let place = piece as usize * self.columns + column;
+        if place < self.words.len() {
+            Some(self.words[place])
         } else {
             None
         }

@@ -1,10 +1,10 @@
 //! A semi-state: who is to act, what stands on each vertex, what each variable holds, and the current
 //! vertex. It changes in place and keeps a list of its changes, so that they can be taken back.
-ghost use Rattle.std.specs.Prelude.{◌≡◌, ℕ, ◌+◌, ◌-◌, ◌<◌, ◌≤◌, ◌==◌, [], length, take, count_by, slice_get, Some, IfOk, IfSome, OnOk, OnErr};
+ghost use Rattle.std.specs.Prelude.{◌≡◌, ℕ, ◌+◌, ◌*◌, ◌-◌, ◌<◌, ◌≤◌, ◌==◌, [], length, take, count_by, slice_get, Some, IfOk, IfSome, OnOk, OnErr};
 ghost use Rattle.rbg_rules.specs.State.{AbstractGame, start_of, IsStateOf};
 ghost use Rattle.rbg_state.specs.History.{History, states_of, capacity_of, changed_to, IsAfter};
 ghost use Rattle.rbg_state.specs.Changes.{set, IsChangeWithin};
-ghost use Rattle.rbg_state.specs.Rows.{IsRowOf};
+ghost use Rattle.rbg_state.specs.Rows.{IsWordOf};
 
 mod actions;
 mod arithmetic;
@@ -139,11 +139,13 @@ impl SemiState {
         self.parts.count(piece)
     }
 
-    /// The vertices on which a piece stands, a bit for each, 64 in a word. A piece of the game has a row.
-    pub fn row(&self, piece: Piece) -> Option<&[u64]>
-        ensures { IfSome result (λ row. IsRowOf self.now.state.pieces piece row.now) }
+    /// The vertices of a column of 64 on which a piece stands, a bit for each. A piece of the game has such words.
+    #[inline(always)]
+    pub fn row_word(&self, piece: Piece, column: usize) -> Option<u64>
+        requires { column * 64 < length self.now.state.pieces }
+        ensures { IfSome result (IsWordOf self.now.state.pieces piece column) }
     {
-        self.parts.row(piece)
+        self.parts.row_word(piece, column)
     }
 
     /// What a player has scored. Players are numbered from 1.
