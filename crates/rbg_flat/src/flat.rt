@@ -218,6 +218,7 @@ impl Flat {
     )
         requires lawful { IsGame game.now }
         requires paths { ArePathsOf game.now paths.now }
+        requires fits { IsStateOf game.now state.now.state }
         requires sized { AreSizedFor game.now self.old.sets }
         requires vertex { vertex < length game.now.board.first }
         requires stands { IsStart game.now.rules (start_of origin) }
@@ -342,6 +343,7 @@ impl Flat {
     )
         requires lawful { IsGame game.now }
         requires paths { ArePathsOf game.now paths.now }
+        requires fits { IsStateOf game.now state.now.state }
         requires sized { AreSizedFor game.now self.old.sets }
         requires board { IsOnBoard game.now column word }
         requires column { column < self.old.sets.columns }
@@ -374,6 +376,7 @@ impl Flat {
     )
         requires lawful { IsGame game.now }
         requires paths { ArePathsOf game.now paths.now }
+        requires fits { IsStateOf game.now state.now.state }
         requires sized { AreSizedFor game.now self.old.sets }
         requires board { IsOnBoard game.now column word }
         requires column { column < self.old.sets.columns }
@@ -409,6 +412,7 @@ impl Flat {
     )
         requires lawful { IsGame game.now }
         requires paths { ArePathsOf game.now paths.now }
+        requires fits { IsStateOf game.now state.now.state }
         requires sized { AreSizedFor game.now self.old.sets }
         requires board { IsOnBoard game.now column word }
         requires from_one { 0 < position }

@@ -1,6 +1,8 @@
 //! How sets are led on by leaps.
 ghost use Rattle.std.specs.Prelude.{◌≡◌, ◌+◌, ◌*◌, ◌<◌, ◌≤◌, ℕ, length, All};
 ghost use Rattle.rbg_rules.specs.Games.{IsGame};
+ghost use Rattle.rbg_rules.specs.State.{IsStateOf};
+ghost use Rattle.rbg_leaps.specs.Limits.{row_words};
 ghost use Rattle.rbg_flat.specs.Paths.{ArePathsOf};
 ghost use Rattle.rbg_flat.specs.internal.Passing.{IsToTry};
 ghost use Rattle.rbg_flat.specs.internal.Sets.{Meets, IsInWord};
@@ -29,11 +31,12 @@ fn meet_at(
 )
     requires lawful { IsGame game.now }
     requires paths { ArePathsOf game.now paths.now }
+    requires fits { IsStateOf game.now state.now.state }
     requires sized { AreSizedFor game.now sets.old }
     requires position { IsPositionIn game.now position }
     requires place { place < length sets.old.marks }
     requires at { place ≡ position * sets.old.columns + column }
-    requires column { column < sets.old.columns }
+    requires column { column < row_words game.now }
     ensures { Meets sets.old sets.new (IsInWord position column word)
         (IsToTry game.now state.now.state) }
 {
@@ -49,6 +52,7 @@ fn meet_at(
 fn meet_target(sets: &mut Sets, game: &Game, paths: &Paths, state: &SemiState, target: &Target)
     requires lawful { IsGame game.now }
     requires paths { ArePathsOf game.now paths.now }
+    requires fits { IsStateOf game.now state.now.state }
     requires sized { AreSizedFor game.now sets.old }
     requires target { IsTargetFor game.now target.now }
     ensures { Meets sets.old sets.new
@@ -74,6 +78,7 @@ fn meet_target(sets: &mut Sets, game: &Game, paths: &Paths, state: &SemiState, t
 fn meet_narrow(sets: &mut Sets, game: &Game, paths: &Paths, state: &SemiState, target: &Target)
     requires lawful { IsGame game.now }
     requires paths { ArePathsOf game.now paths.now }
+    requires fits { IsStateOf game.now state.now.state }
     requires sized { AreSizedFor game.now sets.old }
     requires one { sets.old.columns ≡ 1 }
     requires target { IsTargetFor game.now target.now }
@@ -99,6 +104,7 @@ fn meet_narrow(sets: &mut Sets, game: &Game, paths: &Paths, state: &SemiState, t
 fn meet_all(sets: &mut Sets, game: &Game, paths: &Paths, state: &SemiState, targets: &[Target])
     requires lawful { IsGame game.now }
     requires paths { ArePathsOf game.now paths.now }
+    requires fits { IsStateOf game.now state.now.state }
     requires sized { AreSizedFor game.now sets.old }
     requires targets { All (IsTargetFor game.now) targets.now }
     ensures { Meets sets.old sets.new (IsAmong targets.now) (IsToTry game.now state.now.state) }
@@ -119,6 +125,7 @@ fn meet_all_narrow(
 )
     requires lawful { IsGame game.now }
     requires paths { ArePathsOf game.now paths.now }
+    requires fits { IsStateOf game.now state.now.state }
     requires sized { AreSizedFor game.now sets.old }
     requires one { sets.old.columns ≡ 1 }
     requires targets { All (IsTargetFor game.now) targets.now }
@@ -140,6 +147,7 @@ pub(crate) fn meet_targets(
 )
     requires lawful { IsGame game.now }
     requires paths { ArePathsOf game.now paths.now }
+    requires fits { IsStateOf game.now state.now.state }
     requires sized { AreSizedFor game.now sets.old }
     requires targets { All (IsTargetFor game.now) targets.now }
     ensures { Meets sets.old sets.new (IsAmong targets.now) (IsToTry game.now state.now.state) }
@@ -164,8 +172,9 @@ pub(crate) fn meet_bits(
 )
     requires lawful { IsGame game.now }
     requires paths { ArePathsOf game.now paths.now }
+    requires fits { IsStateOf game.now state.now.state }
     requires sized { AreSizedFor game.now sets.old }
-    requires column { column < sets.old.columns }
+    requires column { column < row_words game.now }
     requires targets { All (λ t. IsPositionIn game.now t.position) targets.now }
     ensures { Meets sets.old sets.new (IsAmongBits targets.now column word)
         (IsToTry game.now state.now.state) }

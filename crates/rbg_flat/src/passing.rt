@@ -4,6 +4,7 @@ ghost use Rattle.std.specs.Int.{bit_at};
 ghost use Rattle.rbg_rules.specs.Games.{IsGame};
 ghost use Rattle.rbg_rules.specs.Positions.{IsModifierAt, IsPatternAt, positions_of};
 ghost use Rattle.rbg_rules.specs.State.{IsStateOf};
+ghost use Rattle.rbg_leaps.specs.Limits.{row_words};
 ghost use Rattle.rbg_flat.specs.Paths.{ArePathsOf, IsKind};
 ghost use Rattle.rbg_flat.specs.declared.paths.Kind.TheVariants.{OnAny};
 ghost use Rattle.rbg_flat.specs.internal.Passing.{Passes, IsOneOf, IsToTry};
@@ -27,8 +28,9 @@ pub(crate) fn to_try(
 ) -> u64
     requires lawful { IsGame game.now }
     requires paths { ArePathsOf game.now paths.now }
+    requires fits { IsStateOf game.now state.now.state }
     requires position { IsPositionIn game.now position }
-    requires column { column < 2 ^ 25 }
+    requires column { column < row_words game.now }
     ensures { (b : ℕ) → b < 64 → (bit_at result b ≡ 1)
         ↔ IsToTry game.now state.now.state (column * 64 + b) position }
 {
@@ -54,8 +56,9 @@ fn any_to_try(
 ) -> u64
     requires lawful { IsGame game.now }
     requires paths { ArePathsOf game.now paths.now }
+    requires fits { IsStateOf game.now state.now.state }
     requires position { IsPositionIn game.now position }
-    requires column { column < 2 ^ 25 }
+    requires column { column < row_words game.now }
     ensures { (b : ℕ) → b < 64 → (bit_at result b ≡ 1)
         ↔ IsToTry game.now state.now.state (column * 64 + b) position }
 {
@@ -74,7 +77,7 @@ fn any_to_try(
 fn on_to_try(game: &Game, state: &SemiState, position: Position, column: usize) -> u64
     requires lawful { IsGame game.now }
     requires position { IsPositionIn game.now position }
-    requires column { column < 2 ^ 25 }
+    requires column { column * 64 < length state.now.state.pieces }
     requires stands { IsKind game.now.rules position OnAny }
     ensures { (b : ℕ) → b < 64 → (bit_at result b ≡ 1)
         ↔ IsToTry game.now state.now.state (column * 64 + b) position }
@@ -88,7 +91,7 @@ fn on_to_try(game: &Game, state: &SemiState, position: Position, column: usize) 
 
 /// The bits of a column on whose vertices one of these pieces stands.
 fn any_standing(state: &SemiState, pieces: &[Piece], column: usize) -> u64
-    requires { column < 2 ^ 25 }
+    requires { column * 64 < length state.now.state.pieces }
     ensures { (b : ℕ) → b < 64 → (bit_at result b ≡ 1)
         ↔ IsOneOf pieces.now state.now.state.pieces (column * 64 + b) }
 {
@@ -102,28 +105,20 @@ fn any_standing(state: &SemiState, pieces: &[Piece], column: usize) -> u64
 /// The bits of a column on whose vertices a piece stands.
 #[inline(always)]
 fn standing(state: &SemiState, piece: Piece, column: usize) -> u64
-    requires { column < 2 ^ 25 }
+    requires { column * 64 < length state.now.state.pieces }
     ensures { (b : ℕ) → b < 64 → (bit_at result b ≡ 1)
         ↔ (slice_get state.now.state.pieces (column * 64 + b) ≡ Some piece) }
 {
-    match state.row(piece) {
-        Some(row) => word_in(row, column),
+    match state.row_word(piece, column) {
+        Some(word) => word,
         None => looked_up(state, piece, column),
     }
-}
-
-/// A word of a row, which has no bits behind its end.
-#[inline(always)]
-fn word_in(row: &[u64], column: usize) -> u64
-    ensures { result ≡ slice_index row.now column }
-{
-    if column < row.len() { row[column] } else { 0 }
 }
 
 /// The same where the piece has no row: each vertex is looked at. Each piece of a game has one.
 #[inline(never)]
 fn looked_up(state: &SemiState, piece: Piece, column: usize) -> u64
-    requires { column < 2 ^ 25 }
+    requires { column * 64 < length state.now.state.pieces }
     ensures { (b : ℕ) → b < 64 → (bit_at result b ≡ 1)
         ↔ (slice_get state.now.state.pieces (column * 64 + b) ≡ Some piece) }
 {
