@@ -1,5 +1,5 @@
 //! At which vertices what is met is to be looked at, and at which it passes: it is no modifier, and valid there.
-ghost use Rattle.std.specs.Prelude.{◌≡◌, ◌<◌, ◌≤◌, ◌↔◌, ◌+◌, ◌*◌, ◌^◌, ℕ, length, slice_get, slice_index, Some, IsTrue};
+ghost use Rattle.std.specs.Prelude.{◌≡◌, ◌<◌, ◌≤◌, ◌↔◌, ◌+◌, ◌*◌, [], ◌∷◌, ℕ, length, slice_get, slice_index, Some, IsTrue};
 ghost use Rattle.std.specs.Int.{bit_at};
 ghost use Rattle.rbg_rules.specs.Games.{IsGame};
 ghost use Rattle.rbg_rules.specs.Positions.{IsModifierAt, IsPatternAt, positions_of};
@@ -34,13 +34,16 @@ pub(crate) fn to_try(
     ensures { (b : ℕ) → b < 64 → (bit_at result b ≡ 1)
         ↔ IsToTry game.now state.now.state (column * 64 + b) position }
 {
-    // most of what is met are ons of one piece, and modifiers
+    // most of what is met are ons of one piece or of two, and modifiers
     let kind = paths.kind(game, position);
     if let Kind::On(piece) = kind {
         return standing(state, piece, column);
     }
     if let Kind::Modifier = kind {
         return 0;
+    }
+    if let Kind::OnEither(piece, other) = kind {
+        return either_standing(state, piece, other, column);
     }
     any_to_try(game, paths, state, position, column)
 }
@@ -66,9 +69,7 @@ fn any_to_try(
         Kind::Modifier => 0,
         Kind::Pattern | Kind::Plain => full_word(),
         Kind::On(piece) => standing(state, piece, column),
-        Kind::OnEither(piece, other) => {
-            standing(state, piece, column) | standing(state, other, column)
-        }
+        Kind::OnEither(piece, other) => either_standing(state, piece, other, column),
         Kind::OnAny => on_to_try(game, state, position, column),
     }
 }
@@ -100,6 +101,16 @@ fn any_standing(state: &SemiState, pieces: &[Piece], column: usize) -> u64
         word |= standing(state, *piece, column);
     }
     word
+}
+
+/// The bits of a column on whose vertices one of two pieces stands.
+#[inline(always)]
+fn either_standing(state: &SemiState, piece: Piece, other: Piece, column: usize) -> u64
+    requires { column * 64 < length state.now.state.pieces }
+    ensures { (b : ℕ) → b < 64 → (bit_at result b ≡ 1)
+        ↔ IsOneOf (piece ∷ other ∷ []) state.now.state.pieces (column * 64 + b) }
+{
+    standing(state, piece, column) | standing(state, other, column)
 }
 
 /// The bits of a column on whose vertices a piece stands.

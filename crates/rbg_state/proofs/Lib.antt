@@ -1,7 +1,7 @@
 -- Lemmas, by topic.
 pub mod Histories
 pub mod Pasts
-pub mod Tallies
+pub mod Counts
 pub mod Fits
 pub mod Applying
 pub mod Reading

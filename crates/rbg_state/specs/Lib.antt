@@ -1,7 +1,6 @@
 -- What the contracts of this crate cite beside the meaning of a game.
 pub mod History
 pub mod Changes
-pub mod Tallies
 pub mod Equality
 pub mod Answer
 pub mod Reads

@@ -1,5 +1,5 @@
 //! The vertices on which each piece of the game stands, as rows of bits.
-ghost use Rattle.std.specs.Prelude.{◌≡◌, ℕ, List, ◌≤◌, ◌<◌, ◌^◌, ◌*◌, ◌++◌, [], ◌∷◌, length, slice_set, take, IfOk, IfSome, IfNone, OnErr, IsTrue};
+ghost use Rattle.std.specs.Prelude.{◌≡◌, ℕ, List, ◌≤◌, ◌<◌, ◌^◌, ◌*◌, ◌/◌, ◌==◌, ◌++◌, [], ◌∷◌, count_by, count_ones, length, slice_set, take, IfOk, IfSome, IfNone, OnErr, IsTrue};
 ghost use Rattle.rbg_state.specs.Rows.{IsWordOf, word_of, HasBit, AreRows, ChangesBit, ChangesWord};
 
 use crate::occupancy::refill;
@@ -107,9 +107,27 @@ impl Rows {
         }
     }
 
+    /// On how many vertices a piece stands, if it has a row.
+    pub(crate) fn count(&self, piece: Piece) -> Option<usize>
+        ensures { (pieces : List ℕ) → AreRows pieces (length pieces) self.now.columns self.now.words.items
+            → length pieces ≤ self.now.columns * 64
+            → IfSome result (λ many. many ≡ count_by (λ x. x == piece) pieces) }
+    {
+        let start = piece as usize * self.columns;
+        if start + self.columns > self.words.len() {
+            return None;
+        }
+        let mut many = 0;
+        for column in 0..self.columns {
+            many += count_bits(self.words[start + column]);
+        }
+        Some(many)
+    }
+
     /// The word that has the bit of a piece and a vertex, if there is one.
     #[inline(always)]
     fn word(&self, piece: Piece, vertex: Vertex) -> Option<usize>
+        requires { vertex / 64 < self.now.columns }
         ensures some { IfSome result (λ word. word ≡ word_of self.now.columns piece vertex) }
         ensures there { IfSome result (λ _. HasBit self.now.columns (length self.now.words.items) piece vertex) }
         ensures within { IfSome result (λ word. word < length self.now.words.items) }
@@ -117,7 +135,7 @@ impl Rows {
     {
         let column = vertex as usize / 64;
         let word = piece as usize * self.columns + column;
-        if column < self.columns && word < self.words.len() {
+        if word < self.words.len() {
             Some(word)
         } else {
             None
@@ -127,6 +145,7 @@ impl Rows {
     /// The piece stands on the vertex from now on.
     #[inline(always)]
     pub(crate) fn add(&mut self, piece: Piece, vertex: Vertex)
+        requires { vertex / 64 < self.old.columns }
         ensures columns { self.new.columns ≡ self.old.columns }
         ensures changed { ChangesBit self.old.columns self.old.words.items self.new.words.items piece vertex 1 }
     {
@@ -138,6 +157,7 @@ impl Rows {
     /// The piece no longer stands on the vertex.
     #[inline(always)]
     pub(crate) fn take(&mut self, piece: Piece, vertex: Vertex)
+        requires { vertex / 64 < self.old.columns }
         ensures columns { self.new.columns ≡ self.old.columns }
         ensures changed { ChangesBit self.old.columns self.old.words.items self.new.words.items piece vertex 0 }
     {
@@ -145,6 +165,16 @@ impl Rows {
             clear_bit(&mut self.words, word, vertex % 64);
         }
     }
+}
+
+/// How many bits of a word are set.
+#[inline(always)]
+fn count_bits(word: u64) -> usize
+    ensures ones { result ≡ count_ones word }
+    ensures few { result ≤ 64 }
+    ensures fits { word < 2 ^ 64 }
+{
+    word.count_ones() as usize
 }
 
 /// Sets a bit of a word.

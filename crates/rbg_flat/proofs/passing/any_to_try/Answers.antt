@@ -8,7 +8,7 @@ use Rattle.rbg_flat.specs.declared.paths.Kind.{Kind}
 use Rattle.rbg_flat.specs.declared.paths.Kind.TheVariants.{Pattern, Plain}
 use Rattle.rbg_rules.specs.State.{AbstractGame, AbstractState}
 use Rattle.rbg_flat.specs.internal.Passing.{IsToTry}
-use Rattle.rbg_flat.proofs.Passings.{one_piece, either_piece}
+use Rattle.rbg_flat.proofs.Passings.{one_piece}
 use Rattle.rbg_flat.proofs.ToTry.{on_to_try, pattern_to_try, other_to_try}
 use Rattle.rbg_flat.proofs.passing.any_to_try.Goals as goal
 
@@ -39,6 +39,6 @@ returns-in-OnEither c = λ b small.
     let x : ℕ = c.in-OnEither.piece in
     let y : ℕ = c.in-OnEither.other in
     let stands : HasAction c.args.game.now.rules c.args.position (on (x ∷ y ∷ [])) = subst (λ (k : Kind). IsKind c.args.game.now.rules c.args.position k) c.in-OnEither.is c.kind.ensures in
-    let told = either_piece x y s.pieces here c.standing-in-OnEither.result c.standing-in-OnEither-2.result b (c.standing-in-OnEither.ensures b small) (c.standing-in-OnEither-2.ensures b small) in
+    let told = c.either_standing.ensures b small in
     let try = on_to_try c.args.game.now c.requires.lawful.numbered s c.args.position (x ∷ y ∷ []) stands here in
     (λ set. try.0 (told.0 set), λ is. told.1 (try.1 is))

@@ -18,3 +18,14 @@ returns-in-On c = λ b small.
     let told = one_piece x s.pieces here (bit_at c.standing.result b ≡ 1) (c.standing.ensures b small) in
     let try = on_to_try c.args.game.now c.requires.lawful.numbered s c.args.position (x ∷ []) stands here in
     (λ set. try.0 (told.0 set), λ is. told.1 (try.1 is))
+
+pub returns-in-OnEither : goal.returns-in-OnEither
+returns-in-OnEither c = λ b small.
+    let s = c.args.state.now.state in
+    let here = c.args.column * 64 + b in
+    let x : ℕ = c.in-OnEither.piece in
+    let y : ℕ = c.in-OnEither.other in
+    let stands : HasAction c.args.game.now.rules c.args.position (on (x ∷ y ∷ [])) = subst (λ (k : Kind). IsKind c.args.game.now.rules c.args.position k) c.in-OnEither.is c.kind-kind.ensures in
+    let told = c.either_standing.ensures b small in
+    let try = on_to_try c.args.game.now c.requires.lawful.numbered s c.args.position (x ∷ y ∷ []) stands here in
+    (λ set. try.0 (told.0 set), λ is. told.1 (try.1 is))

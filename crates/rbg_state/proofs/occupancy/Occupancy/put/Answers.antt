@@ -1,31 +1,9 @@
 use Rattle.std.proofs.Common.{◌≡◌, ◌<◌, ◌≤◌, ◌*◌, ℕ, List, Some, length, get_or, slice_set, sym, ap, subst, ◌∙◌}
 use Rattle.std.proofs.lemmas.List.{get_or_read, length-set}
 use Rattle.std.proofs.lemmas.Option.{slice_get-get_or}
-use Rattle.rbg_state.specs.Tallies.{IsTally}
 use Rattle.rbg_state.specs.Rows.{AreRows, ChangesBit}
-use Rattle.rbg_state.proofs.Tallies.{put_back}
 use Rattle.rbg_state.proofs.RowLemmas.{rows_after_put}
 use Rattle.rbg_state.proofs.occupancy.Occupancy.put.Goals as goal
-
-pub recount-requires-clause-vertex : goal.recount-requires-clause-vertex
-recount-requires-clause-vertex c =
-    let pieces : List ℕ = c.self.inside.pieces.items in
-    let v : ℕ = c.args.vertex in
-    let is_vertex : v < length pieces = rw (← c.self.view_is) at c.requires.vertex in
-    let now : c.deref.result.now ≡ slice_set pieces v c.args.piece = c.deref.ensures.value ∙ ap (slice_set pieces v) c.replace-replaced.ensures.after in
-    subst (λ (ps : List ℕ). v < length ps) (sym now) (subst (λ (n : ℕ). v < n) (sym (length-set pieces v c.args.piece)) is_vertex)
-
-pub recount-requires-clause-before : goal.recount-requires-clause-before
-recount-requires-clause-before c =
-    let pieces : List ℕ = c.self.inside.pieces.items in
-    let counts : List ℕ = c.self.inside.counts.items in
-    let v : ℕ = c.args.vertex in
-    let o : ℕ = c.replace-replaced.result in
-    let is_vertex : v < length pieces = rw (← c.self.view_is) at c.requires.vertex in
-    let now : c.deref.result.now ≡ slice_set pieces v c.args.piece = c.deref.ensures.value ∙ ap (slice_set pieces v) c.replace-replaced.ensures.after in
-    let stands : o ≡ get_or pieces v 0 = c.replace-replaced.ensures.value ∙ get_or_read pieces v c.index_mut.result.now is_vertex c.index_mut.ensures.value 0 in
-    let back = put_back pieces v c.args.piece o stands in
-    subst (λ (ps : List ℕ). IsTally (slice_set ps v o) counts) (sym now) (subst (λ (ps : List ℕ). IsTally ps counts) (sym back) c.self.invariant.0)
 
 pub invariant_of-self : goal.invariant_of-self
 invariant_of-self c =
@@ -39,10 +17,9 @@ invariant_of-self c =
     let adds = subst (λ (k : ℕ). ChangesBit k c.take.new.self.words.items c.add.new.self.words.items x v 1) c.take.ensures.columns c.add.ensures.changed in
     let same : columns ≡ c.add.new.self.columns = sym (c.add.ensures.columns ∙ c.take.ensures.columns) in
     let is : slice_set pieces v x ≡ slice_set pieces v c.replace-replaced.new.dest = ap (slice_set pieces v) (sym c.replace-replaced.ensures.after) in
-    let rows = rows_after_put pieces columns c.self.inside.rows.words.items c.take.new.self.words.items c.add.new.self.words.items v o x c.self.invariant.1 is_vertex (sym stands) c.take.ensures.changed adds in
+    let rows = rows_after_put pieces columns c.self.inside.rows.words.items c.take.new.self.words.items c.add.new.self.words.items v o x c.self.invariant.0 is_vertex (sym stands) c.take.ensures.changed adds in
     let moved = subst (λ (ps : List ℕ). AreRows ps (length ps) columns c.add.new.self.words.items) is rows in
-    let wide : length (slice_set pieces v x) ≤ columns * 64 = subst (λ (k : ℕ). k ≤ columns * 64) (sym (length-set pieces v x)) c.self.invariant.2 in (
-      subst (λ (ps : List ℕ). IsTally ps c.recount.new.counts.items) c.deref.ensures.value c.recount.ensures,
+    let wide : length (slice_set pieces v x) ≤ columns * 64 = subst (λ (k : ℕ). k ≤ columns * 64) (sym (length-set pieces v x)) c.self.invariant.1 in (
       subst (λ (k : ℕ). AreRows (slice_set pieces v c.replace-replaced.new.dest) (length (slice_set pieces v c.replace-replaced.new.dest)) k c.add.new.self.words.items) same moved,
       subst (λ (k : ℕ). length (slice_set pieces v c.replace-replaced.new.dest) ≤ k * 64) same (subst (λ (ps : List ℕ). length ps ≤ columns * 64) is wide),
     )
