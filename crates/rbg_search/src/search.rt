@@ -701,6 +701,7 @@ impl<'a, S: Steps> Search<'a, S> {
 
     /// Whether some word runs behind one of these modifiers, tried in turn. An opening with `modifiers` more is too deep.
     #[cycle(search)]
+    #[inline(always)]
     fn runs_behind(
         &mut self,
         state: &mut SemiState,
