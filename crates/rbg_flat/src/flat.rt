@@ -1,5 +1,5 @@
 //! A flat part that is being found, by sets of vertices.
-ghost use Rattle.std.specs.Prelude.{◌≡◌, ℕ, ◌+◌, ◌*◌, ◌/◌, ◌<◌, ◌≤◌, ◌↔◌, ◌⊎◌, ◌^◌, length, IfOk, IfSome, IfNone, OnOk, IsTrue, false};
+ghost use Rattle.std.specs.Prelude.{◌≡◌, ℕ, ◌+◌, ◌*◌, ◌/◌, ◌<◌, ◌≤◌, ◌↔◌, ◌⊎◌, ◌^◌, [], length, IfOk, IfSome, IfNone, OnOk, IsTrue, false};
 ghost use Rattle.rbg_rules.specs.Games.{IsGame};
 ghost use Rattle.rbg_rules.specs.Laws.{IsStart};
 ghost use Rattle.rbg_rules.specs.Positions.{IsNumbered, IsPatternAt, positions_of};
@@ -12,6 +12,7 @@ ghost use Rattle.rbg_flat.specs.Chains.{Holds};
 ghost use Rattle.rbg_flat.specs.Paths.{ArePathsOf, IsStill};
 ghost use Rattle.rbg_flat.specs.Found.{AreFound, HasCandidates, most_candidates};
 ghost use Rattle.rbg_flat.specs.internal.Begun.{IsBegun};
+ghost use Rattle.rbg_flat.specs.internal.Going.{Advances, IsAskedNext, AreGathered};
 ghost use Rattle.rbg_flat.specs.internal.Passing.{IsToTry, Passes};
 ghost use Rattle.rbg_flat.specs.internal.Sets.{Meets, IsInWord, IsMarked, IsOpen, IsLastOf, IsDone, KeepsDone, WaitsLast, weight};
 ghost use Rattle.std.specs.Int.{bit_at};
@@ -74,7 +75,8 @@ impl Flat {
     {
         self.sets.clear();
         self.ends = false;
-        self.lead(game, paths, state, origin, state.vertex());
+        let narrow = self.sets.is_narrow();
+        self.lead(game, paths, state, origin, state.vertex(), narrow);
     }
 
     /// Goes on up to the next vertex that is to be asked about a pattern, and returns it with the pattern's position;
@@ -106,14 +108,42 @@ impl Flat {
         ensures done { IfNone result ((v p : ℕ) → ¬ IsOpen self.new.sets v p) }
         ensures lighter { weight self.new.sets ≤ weight self.old.sets }
     {
+        // most boards have one word for each row, which is asked once
+        if self.sets.is_narrow() {
+            self.advance_over(game, paths, state, true)
+        } else {
+            self.advance_over(game, paths, state, false)
+        }
+    }
+
+    /// Goes on as `advance` does, over rows of one word, or of however many.
+    #[inline(always)]
+    fn advance_over(
+        &mut self,
+        game: &Game,
+        paths: &Paths,
+        state: &SemiState,
+        narrow: bool,
+    ) -> Option<(Vertex, Position)>
+        requires lawful { IsGame game.now }
+        requires paths { ArePathsOf game.now paths.now }
+        requires fits { IsStateOf game.now state.now.state }
+        requires sized { AreSizedFor game.now self.old.sets }
+        requires narrow { IsTrue narrow → self.old.sets.columns ≡ 1 }
+        requires on { AreOn game.now self.old.sets }
+        ensures advances { Advances game.now state.now.state self.old.sets self.new.sets
+            self.old.ends self.new.ends }
+        ensures asked { IfSome result (λ pair. IsAskedNext game.now self.new.sets pair.0 pair.1) }
+        ensures done { IfNone result ((v p : ℕ) → ¬ IsOpen self.new.sets v p) }
+    {
         while let Some(place) = self.sets.waiting() {
-            let position = self.sets.position_at(place);
-            let vertex = self.sets.first_open(place);
+            let position = self.sets.position_at(place, narrow);
+            let vertex = self.sets.first_open(place, narrow);
             if is_pattern(game, paths, &self.sets, vertex, position) {
                 return Some((vertex, position));
             }
-            let column = self.sets.column_at(place);
-            self.try_word(game, paths, state, place, position, column, vertex);
+            let column = self.sets.column_at(place, narrow);
+            self.try_word(game, paths, state, place, position, column, vertex, narrow);
         }
         None
     }
@@ -155,8 +185,11 @@ impl Flat {
         let column = vertex as usize / 64;
         let word = unit_word(vertex % 64);
         let held = if valid { word } else { 0 };
-        let place = self.sets.place(position, column);
-        self.take_word(game, paths, state, place, position, column, word, held);
+        let narrow = self.sets.is_narrow();
+        let place = self.sets.place(position, column, narrow);
+        self.take_word(
+            game, paths, state, place, position, column, word, held, narrow,
+        );
     }
 
     /// Whether a word may end with no modifier more, once nothing is left to be looked at.
@@ -196,11 +229,41 @@ impl Flat {
         ensures few { IfOk result (λ many. many ≤ most_candidates game.now) }
     {
         found.clear();
+        if self.sets.is_narrow() {
+            self.gather_all(game, paths, state, found, true)
+        } else {
+            self.gather_all(game, paths, state, found, false)
+        }
+    }
+
+    /// Gathers what was found as `finish` does, over rows of one word, or of however many, and forgets it.
+    #[inline(always)]
+    fn gather_all(
+        &mut self,
+        game: &Game,
+        paths: &Paths,
+        state: &SemiState,
+        found: &mut Modifiers,
+        narrow: bool,
+    ) -> Result<usize, Memory>
+        requires lawful { IsGame game.now }
+        requires paths { ArePathsOf game.now paths.now }
+        requires fits { IsStateOf game.now state.now.state }
+        requires sized { AreSizedFor game.now self.old.sets }
+        requires narrow { IsTrue narrow → self.old.sets.columns ≡ 1 }
+        requires on { AreOn game.now self.old.sets }
+        requires done { (v p : ℕ) → ¬ IsOpen self.old.sets v p }
+        requires none { found.old ≡ [] }
+        ensures sized { AreSizedFor game.now self.new.sets }
+        ensures ends { self.new.ends ≡ self.old.ends }
+        ensures gathered { IfOk result (λ many. AreGathered game.now state.now.state self.old.sets
+            self.old.ends found.new many) }
+    {
         let mut many = 0;
         while let Some(place) = self.sets.last_touched() {
-            let position = self.sets.position_at(place);
+            let position = self.sets.position_at(place, narrow);
             let keeps = keeps(game, paths, state, position);
-            many += gather_place(found, &self.sets, place, position, keeps)?;
+            many += gather_place(found, &self.sets, place, position, keeps, narrow)?;
             self.sets.forget(place);
         }
         Ok(many)
@@ -215,11 +278,13 @@ impl Flat {
         state: &SemiState,
         origin: Origin,
         vertex: Vertex,
+        narrow: bool,
     )
         requires lawful { IsGame game.now }
         requires paths { ArePathsOf game.now paths.now }
         requires fits { IsStateOf game.now state.now.state }
         requires sized { AreSizedFor game.now self.old.sets }
+        requires narrow { IsTrue narrow → self.old.sets.columns ≡ 1 }
         requires vertex { vertex < length game.now.board.first }
         requires stands { IsStart game.now.rules (start_of origin) }
         ensures met { Meets self.old.sets self.new.sets
@@ -230,7 +295,7 @@ impl Flat {
         ensures on { AreOn game.now self.old.sets → AreOn game.now self.new.sets }
     {
         let (targets, ends) = paths.leaps.leads(origin, vertex);
-        meet_targets(&mut self.sets, game, paths, state, targets);
+        meet_targets(&mut self.sets, game, paths, state, targets, narrow);
         self.ends |= ends;
     }
 
@@ -246,11 +311,13 @@ impl Flat {
         position: Position,
         column: usize,
         vertex: Vertex,
+        narrow: bool,
     )
         requires lawful { IsGame game.now }
         requires paths { ArePathsOf game.now paths.now }
         requires fits { IsStateOf game.now state.now.state }
         requires sized { AreSizedFor game.now self.old.sets }
+        requires narrow { IsTrue narrow → self.old.sets.columns ≡ 1 }
         requires on { AreOn game.now self.old.sets }
         requires place { place < length self.old.sets.marks }
         requires last { IsLastOf self.old.sets.waiting place }
@@ -260,21 +327,15 @@ impl Flat {
         requires open { IsOpen self.old.sets vertex position }
         requires marked { IsMarked self.old.sets vertex position }
         requires plain { ¬ IsPatternAt game.now.rules position }
-        ensures sized { AreSizedFor game.now self.new.sets }
-        ensures begun { (f : Start)
-            → IsBegun game.now state.now.state f (IsMarked self.old.sets) (IsOpen self.old.sets)
-            self.old.ends
-            → IsBegun game.now state.now.state f (IsMarked self.new.sets) (IsOpen self.new.sets)
-            self.new.ends }
-        ensures on { AreOn game.now self.new.sets }
-        ensures done { KeepsDone self.old.sets self.new.sets }
-        ensures quiet { (v p : ℕ) → IsPatternAt game.now.rules p → IsDone self.new.sets v p
-            → IsDone self.old.sets v p }
+        ensures advances { Advances game.now state.now.state self.old.sets self.new.sets
+            self.old.ends self.new.ends }
         ensures less { weight self.new.sets < weight self.old.sets }
     {
         let word = self.sets.open_at(place, position, column);
         let held = held(game, paths, state, position, column, word);
-        self.take_word(game, paths, state, place, position, column, word, held);
+        self.take_word(
+            game, paths, state, place, position, column, word, held, narrow,
+        );
     }
 
     /// Takes the bits of a word off what is open at the latest waiting place, and leads on from those at which the
@@ -290,11 +351,13 @@ impl Flat {
         column: usize,
         word: u64,
         held: u64,
+        narrow: bool,
     )
         requires lawful { IsGame game.now }
         requires paths { ArePathsOf game.now paths.now }
         requires fits { IsStateOf game.now state.now.state }
         requires sized { AreSizedFor game.now self.old.sets }
+        requires narrow { IsTrue narrow → self.old.sets.columns ≡ 1 }
         requires place { place < length self.old.sets.marks }
         requires last { IsLastOf self.old.sets.waiting place }
         requires at { place ≡ position * self.old.sets.columns + column }
@@ -313,6 +376,7 @@ impl Flat {
             self.old.ends
             → IsBegun game.now state.now.state f (IsMarked self.new.sets) (IsOpen self.new.sets)
             self.new.ends }
+        ensures columns { self.new.sets.columns ≡ self.old.sets.columns }
         ensures on { AreOn game.now self.old.sets → AreOn game.now self.new.sets }
         ensures still_done { KeepsDone self.old.sets self.new.sets }
         ensures done { (v : ℕ) → IsInWord position column word v position
@@ -326,7 +390,7 @@ impl Flat {
     {
         self.sets.close_word(place, position, column, word);
         if held != 0 {
-            self.lead_word(game, paths, state, position, column, held);
+            self.lead_word(game, paths, state, position, column, held, narrow);
         }
     }
 
@@ -340,11 +404,13 @@ impl Flat {
         position: Position,
         column: usize,
         word: u64,
+        narrow: bool,
     )
         requires lawful { IsGame game.now }
         requires paths { ArePathsOf game.now paths.now }
         requires fits { IsStateOf game.now state.now.state }
         requires sized { AreSizedFor game.now self.old.sets }
+        requires narrow { IsTrue narrow → self.old.sets.columns ≡ 1 }
         requires board { IsOnBoard game.now column word }
         requires column { column < self.old.sets.columns }
         requires from_one { 0 < position }
@@ -357,8 +423,10 @@ impl Flat {
         ensures on { AreOn game.now self.old.sets → AreOn game.now self.new.sets }
     {
         match first_still(game, paths, position, column, word) {
-            Some(vertex) => self.lead_still(game, paths, state, position, vertex, column, word),
-            None => self.lead_each(game, paths, state, position, column, word),
+            Some(vertex) => self.lead_still(
+                game, paths, state, position, vertex, column, word, narrow,
+            ),
+            None => self.lead_each(game, paths, state, position, column, word, narrow),
         }
     }
 
@@ -373,11 +441,13 @@ impl Flat {
         vertex: Vertex,
         column: usize,
         word: u64,
+        narrow: bool,
     )
         requires lawful { IsGame game.now }
         requires paths { ArePathsOf game.now paths.now }
         requires fits { IsStateOf game.now state.now.state }
         requires sized { AreSizedFor game.now self.old.sets }
+        requires narrow { IsTrue narrow → self.old.sets.columns ≡ 1 }
         requires board { IsOnBoard game.now column word }
         requires column { column < self.old.sets.columns }
         requires from_one { 0 < position }
@@ -395,7 +465,16 @@ impl Flat {
         let _action = game.action(position);
         let origin = Origin::After(position);
         let (targets, may_end) = paths.leaps.leads(origin, vertex);
-        meet_bits(&mut self.sets, game, paths, state, targets, column, word);
+        meet_bits(
+            &mut self.sets,
+            game,
+            paths,
+            state,
+            targets,
+            column,
+            word,
+            narrow,
+        );
         self.ends |= may_end;
     }
 
@@ -409,11 +488,13 @@ impl Flat {
         position: Position,
         column: usize,
         word: u64,
+        narrow: bool,
     )
         requires lawful { IsGame game.now }
         requires paths { ArePathsOf game.now paths.now }
         requires fits { IsStateOf game.now state.now.state }
         requires sized { AreSizedFor game.now self.old.sets }
+        requires narrow { IsTrue narrow → self.old.sets.columns ≡ 1 }
         requires board { IsOnBoard game.now column word }
         requires from_one { 0 < position }
         requires there { position ≤ length (positions_of game.now.rules) }
@@ -430,7 +511,7 @@ impl Flat {
         while rest != 0 {
             let bit = lowest(rest);
             let vertex = column as Vertex * 64 + bit;
-            self.lead(game, paths, state, Origin::After(position), vertex);
+            self.lead(game, paths, state, Origin::After(position), vertex, narrow);
             rest = without(rest, bit);
         }
     }
