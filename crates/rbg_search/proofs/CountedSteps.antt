@@ -11,14 +11,14 @@ use Rattle.rbg_rules.specs.Actions.{Applies}
 use Rattle.rbg_rules.specs.Games.{IsGame}
 use Rattle.rbg_rules.specs.Questions.{Question, reach, pattern, IsDeep}
 use Rattle.rbg_state.specs.History.{History}
-use Rattle.rbg_search.specs.Flat.{IsFlatPart}
+use Rattle.rbg_pairs.specs.Flat.{IsFlatPart}
 use Rattle.rbg_search.specs.Searching.{Searching}
 use Rattle.rbg_search.specs.Counting.{CountsOpenings, IsOverBudget}
 use Rattle.rbg_search.specs.Passing.{CountsUpTo, IsTooDeep, from_here, somewhere}
 use Rattle.rbg_search.specs.internal.Begun.{IsBegun}
-use Rattle.rbg_search.specs.internal.Closure.{at_vertex, Reached}
+use Rattle.rbg_pairs.specs.Closure.{at_vertex, Reached}
 use Rattle.rbg_search.specs.internal.Asked.{StandsInPattern, CountsAsked, GoesBehind, IsCounted}
-use Rattle.rbg_search.specs.declared.flat.Flat.{Flat}
+use Rattle.rbg_pairs.specs.declared.flat.Flat.{Flat}
 use Rattle.rbg_search.specs.declared.over.Over.{Over}
 use Rattle.rbg_search.specs.declared.over.Over.TheVariants.{Memory}
 use Rattle.rbg_search.proofs.CallerLemmas.{pattern_begins}

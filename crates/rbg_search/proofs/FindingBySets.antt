@@ -11,15 +11,14 @@ use Rattle.rbg_rules.specs.Questions.{reach, pattern}
 use Rattle.rbg_state.specs.History.{History}
 use Rattle.rbg_flat.specs.declared.flat.Flat.{Flat}
 use Rattle.rbg_flat.specs.Found.{HasCandidates}
-use Rattle.rbg_search.specs.Flat.{IsFlatPart}
+use Rattle.rbg_pairs.specs.Flat.{IsFlatPart}
 use Rattle.rbg_search.specs.Forced.{CountsForced}
 use Rattle.rbg_search.specs.Searching.{Searching}
 use Rattle.rbg_search.specs.Taken.{HasPart, CountsPairs, most_pairs_of}
 use Rattle.rbg_search.specs.internal.Asked.{IsCounted}
 use Rattle.rbg_search.specs.internal.BySets.{IsBegunBySets, HasSetsFor, IsWhole, BeginsBySets, AdvancesBySets, IsToBeAsked, TakesBySets, FindsBySets}
-use Rattle.rbg_search.specs.internal.Closure.{at_vertex, Reached}
-use Rattle.rbg_search.specs.internal.Plain.{CountsPart}
-use Rattle.rbg_search.specs.internal.Spent.{IsSpent, IsSpentButOne}
+use Rattle.rbg_pairs.specs.Closure.{at_vertex, Reached}
+use Rattle.rbg_search.specs.internal.Spent.{IsSpent, IsSpentButOne, CountsPart}
 use Rattle.rbg_search.proofs.BySets.{asked_reached, all_asked, not_asked}
 use Rattle.rbg_search.proofs.Counted.{asked_only, onward_search, search_before}
 use Rattle.rbg_search.proofs.CountedSteps.{AskStep, ask_step_at}

@@ -13,9 +13,6 @@ kept_twice h k l first second = second ∙ ap (λ (x : Searching). let y : Searc
 pub kept_since : (h k l : Searching) → k ≡ h → l ≡ record k { opened = l.opened; taken = l.taken } → l ≡ record h { opened = l.opened; taken = l.taken }
 kept_since h k l same kept = kept_twice h k l (kept_same h k same) kept
 
-pub same_game : (h k : Searching) → k ≡ record h { opened = k.opened; taken = k.taken } → k.game ≡ h.game
-same_game h k kept = ap (λ (x : Searching). x.game) kept
-
 pub back_same : (h k : History) → k ≡ h → k ≡ record h { room = k.room }
 back_same h k same = same ∙ ap (λ (x : History). let y : History = record h { room = x.room } in y) (sym same)
 

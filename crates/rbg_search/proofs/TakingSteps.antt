@@ -10,15 +10,15 @@ use Rattle.rbg_rules.specs.Actions.{Applies}
 use Rattle.rbg_rules.specs.Games.{IsGame}
 use Rattle.rbg_rules.specs.Questions.{reach, pattern}
 use Rattle.rbg_state.specs.History.{History}
-use Rattle.rbg_search.specs.Flat.{IsFlatPart}
+use Rattle.rbg_pairs.specs.Flat.{IsFlatPart}
 use Rattle.rbg_search.specs.Passing.{GoesOn}
 use Rattle.rbg_search.specs.Searching.{Searching}
 use Rattle.rbg_search.specs.Taken.{HasPart, CountsPairs, most_pairs_of}
 use Rattle.rbg_search.specs.internal.Asked.{StandsInPattern, GoesBehind}
 use Rattle.rbg_search.specs.internal.Begun.{IsBegun}
-use Rattle.rbg_search.specs.internal.Plain.{HasPlain}
-use Rattle.rbg_search.specs.internal.Closure.{at_vertex, Reached}
-use Rattle.rbg_search.specs.declared.flat.Flat.{Flat}
+use Rattle.rbg_pairs.specs.Plain.{HasPlain}
+use Rattle.rbg_pairs.specs.Closure.{at_vertex, Reached}
+use Rattle.rbg_pairs.specs.declared.flat.Flat.{Flat}
 use Rattle.rbg_search.proofs.Counted.{found_behind, search_before, onward_search}
 use Rattle.rbg_search.proofs.CountedSteps.{taken_reached}
 use Rattle.rbg_search.proofs.Countings.{goes_behind}

@@ -1,6 +1,4 @@
 -- What the contracts of this crate cite beside the meaning of a game.
-pub mod Flat
-pub mod Start
 pub mod Searching
 pub mod Counting
 pub mod Passing

@@ -5,22 +5,21 @@ ghost use Rattle.rbg_rules.specs.Positions.{IsPatternAt};
 ghost use Rattle.rbg_rules.specs.Words.{Start};
 ghost use Rattle.rbg_rules.specs.Actions.{Applies};
 ghost use Rattle.rbg_rules.specs.Games.{IsGame};
-ghost use Rattle.rbg_search.specs.Flat.{IsFlatPart};
-ghost use Rattle.rbg_search.specs.Start.{start_of};
+ghost use Rattle.rbg_pairs.specs.Flat.{IsFlatPart};
+ghost use Rattle.rbg_pairs.specs.Start.{start_of};
 ghost use Rattle.rbg_search.specs.internal.Begun.{IsBegun};
-ghost use Rattle.rbg_search.specs.internal.Closure.{at_vertex, Reached as Meets};
-ghost use Rattle.rbg_search.specs.internal.Part.{HasMarksOf};
-ghost use Rattle.rbg_search.specs.internal.Plain.{CountsPart, HasPlain};
-ghost use Rattle.rbg_search.specs.internal.Spent.{IsSpentButOne};
+ghost use Rattle.rbg_pairs.specs.Closure.{at_vertex, Reached as Meets};
+ghost use Rattle.rbg_pairs.specs.Part.{HasMarksOf};
+ghost use Rattle.rbg_pairs.specs.Plain.{HasPlain};
+ghost use Rattle.rbg_search.specs.internal.Spent.{CountsPart, IsSpentButOne};
 
 use crate::answer::outcome_of;
-use crate::flat::Flat;
-use crate::origin::Origin;
 use crate::over::Over;
 use crate::search::Search;
 use rbg_auto::Steps;
 use rbg_base::{Memory, Position, Vertex};
 use rbg_flat::Modifiers;
+use rbg_pairs::{Flat, Origin};
 use rbg_state::SemiState;
 
 impl<'a, S: Steps> Search<'a, S> {

@@ -15,31 +15,28 @@ ghost use Rattle.rbg_flat.specs.internal.Leading.{AreSizedFor};
 ghost use Rattle.rbg_search.specs.Taken.{CountsPairs, most_pairs_of};
 ghost use Rattle.rbg_search.specs.internal.Taking.{RanBehind};
 ghost use Rattle.rbg_search.specs.internal.Asked.{StandsInPattern, GoesBehind, IsCounted};
-ghost use Rattle.rbg_search.specs.Flat.{IsFlatPart, IsBefore};
-ghost use Rattle.rbg_search.specs.Start.{start_of, IsPositionOf};
+ghost use Rattle.rbg_pairs.specs.Flat.{IsFlatPart, IsBefore};
+ghost use Rattle.rbg_pairs.specs.Start.{start_of, IsPositionOf};
 ghost use Rattle.rbg_state.specs.History.{capacity_of, IsAfter};
 ghost use Rattle.rbg_search.specs.internal.Behind.{IsReady, RunsBehindPair, SomeRunsBehind};
-ghost use Rattle.rbg_search.specs.internal.Closure.{at_vertex, Reached as Meets};
-ghost use Rattle.rbg_search.specs.internal.Nesting.{NestsFrom};
+ghost use Rattle.rbg_pairs.specs.Closure.{at_vertex, Reached as Meets};
+ghost use Rattle.rbg_pairs.specs.Nesting.{NestsFrom};
 ghost use Rattle.rbg_auto.specs.Steps.{AreAllThatFollow};
-ghost use Rattle.rbg_search.specs.internal.Part.{HasMarksOf, IsOutcome};
+ghost use Rattle.rbg_pairs.specs.Part.{HasMarksOf, IsOutcome};
 ghost use Rattle.rbg_search.specs.internal.Spent.{IsSpent, IsSpentButOne};
 ghost use Rattle.rbg_search.specs.internal.Straight.{IsWalked};
 
 use crate::answer::is_valid;
 use crate::fitting::{fitting, fitting_sets};
-use crate::flat::Flat;
-use crate::game_steps::GameSteps;
 use crate::only::only_modifier;
 use crate::order::sort;
-use crate::origin::Origin;
-use crate::outcome::Outcome;
 use crate::over::Over;
 use crate::walk::{Walk, walk_inside};
 use crate::workspace::Workspace;
 use rbg_auto::{Expr, Steps};
 use rbg_base::{Memory, Position, Vertex};
 use rbg_flat::{Flat as SetFlat, Modifiers, Paths};
+use rbg_pairs::{Flat, GameSteps, Origin, Outcome};
 use rbg_rules::Game;
 use rbg_state::SemiState;
 use std::alloc::Global;
@@ -97,7 +94,7 @@ impl<'a, S: Steps> Model for Search<'a, S> {
 
     ghost use Rattle.std.specs.Prelude.{All, ◌<◌, ◌≤◌};
     ghost use Rattle.rbg_flat.specs.internal.Leading.{AreSizedFor};
-    ghost use Rattle.rbg_search.specs.internal.Part.{HasMarksOf};
+    ghost use Rattle.rbg_pairs.specs.Part.{HasMarksOf};
     ghost use Rattle.rbg_search.specs.internal.Spent.{IsSpent};
 
     ghost invariant = { λ s.

@@ -7,10 +7,10 @@ use Rattle.rbg_rules.specs.State.{AbstractGame, AbstractState}
 use Rattle.rbg_rules.specs.Games.{IsGame}
 use Rattle.rbg_rules.specs.Questions.{Question, reach, Item, modifier_at, pattern_at, Opening}
 use Rattle.rbg_flat.specs.Candidates.{MayEnd}
-use Rattle.rbg_search.specs.Flat.{IsNext}
+use Rattle.rbg_pairs.specs.Flat.{IsNext}
 use Rattle.rbg_search.specs.Counting.{CountsOpenings, IsOverBudget}
 use Rattle.rbg_search.specs.Passing.{IsTooDeep}
-use Rattle.rbg_search.specs.internal.Nesting.{StandsIn}
+use Rattle.rbg_pairs.specs.Nesting.{StandsIn}
 
 -- One stands in the inside of a pattern.
 pub record StandsInPattern (rules : Expression) (f : Start) : Type 0 where

@@ -14,7 +14,7 @@ use Rattle.rbg_flat.specs.internal.Sets.{IsMarked, IsOpen, IsDone, WaitsLast, we
 use Rattle.rbg_search.specs.Searching.{Searching}
 use Rattle.rbg_search.specs.Taken.{CountsPairs}
 use Rattle.rbg_search.specs.internal.Asked.{CountsAsked}
-use Rattle.rbg_search.specs.internal.Closure.{at_vertex}
+use Rattle.rbg_pairs.specs.Closure.{at_vertex}
 use Rattle.rbg_search.specs.internal.Spent.{IsSpent}
 use Rattle.rbg_search.specs.internal.Taking.{AsksForced}
 

@@ -13,8 +13,8 @@ use Rattle.rbg_rules.specs.Moves.{AbstractPlace, stand_of, Finished}
 use Rattle.rbg_rules.specs.Questions.{find_move}
 use Rattle.rbg_state.specs.History.{History, IsAfter}
 use Rattle.rbg_state.proofs.Histories.{after_nothing, after_both}
-use Rattle.rbg_search.specs.Flat.{IsFlatPart}
-use Rattle.rbg_search.specs.Start.{start_of, IsPositionOf}
+use Rattle.rbg_pairs.specs.Flat.{IsFlatPart}
+use Rattle.rbg_pairs.specs.Start.{start_of, IsPositionOf}
 use Rattle.rbg_search.specs.Searching.{Searching}
 use Rattle.rbg_search.proofs.Asking.{after_room}
 use Rattle.rbg_search.proofs.CallerLemmas.{find_begins}

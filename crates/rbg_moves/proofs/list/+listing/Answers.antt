@@ -9,7 +9,7 @@ use Rattle.rbg_rules.specs.Laws.{IsStart}
 use Rattle.rbg_rules.specs.Moves.{AbstractPlace, stand_of, IsLegal}
 use Rattle.rbg_rules.specs.Questions.{list_moves}
 use Rattle.rbg_state.specs.History.{History}
-use Rattle.rbg_search.specs.Start.{start_of, IsPositionOf}
+use Rattle.rbg_pairs.specs.Start.{start_of, IsPositionOf}
 use Rattle.rbg_search.specs.Searching.{Searching}
 use Rattle.rbg_search.proofs.CallerLemmas.{list_begins}
 use Rattle.rbg_search.proofs.Kept.{kept_since}

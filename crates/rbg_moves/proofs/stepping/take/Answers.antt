@@ -6,9 +6,9 @@ use Rattle.rbg_rules.specs.Actions.{Applies}
 use Rattle.rbg_rules.specs.Moves.{stand_of}
 use Rattle.rbg_rules.specs.Laws.{IsStart}
 use Rattle.rbg_rules.specs.Questions.{reach}
-use Rattle.rbg_search.specs.Flat.{IsNext, IsFlatPart}
+use Rattle.rbg_pairs.specs.Flat.{IsNext, IsFlatPart}
 use Rattle.rbg_search.specs.Searching.{Searching}
-use Rattle.rbg_search.specs.Start.{start_of, IsPositionOf}
+use Rattle.rbg_pairs.specs.Start.{start_of, IsPositionOf}
 use Rattle.rbg_state.specs.History.{History}
 use Rattle.rbg_moves.specs.internal.Stepping.{standing_at, IsValidAt}
 use Rattle.rbg_moves.proofs.Steps.{place_start, place_after, valid_next, modifier_position, next_from, has_next}

@@ -8,15 +8,15 @@ use Rattle.rbg_rules.specs.Questions.{SomeWordRuns, reach, pattern}
 use Rattle.rbg_rules.specs.Games.{IsGame}
 use Rattle.rbg_rules.specs.Laws.{IsStart}
 use Rattle.rbg_state.specs.History.{History}
-use Rattle.rbg_search.specs.Flat.{IsFlatPart}
-use Rattle.rbg_search.specs.Start.{start_of}
+use Rattle.rbg_pairs.specs.Flat.{IsFlatPart}
+use Rattle.rbg_pairs.specs.Start.{start_of}
 use Rattle.rbg_flat.specs.Paths.{ArePathsOf}
 use Rattle.rbg_search.specs.internal.Begun.{IsBegun}
 use Rattle.rbg_search.specs.internal.BySets.{HasSetsFor, IsWhole, IsToBeAsked, FindsBySets}
 use Rattle.rbg_search.specs.internal.Behind.{IsReady, RunsBehindPair, SomeRunsBehind}
-use Rattle.rbg_search.specs.internal.Closure.{at_vertex, Reached}
-use Rattle.rbg_search.specs.internal.Nesting.{NestsFrom}
-use Rattle.rbg_search.specs.internal.Part.{HasMarksOf}
+use Rattle.rbg_pairs.specs.Closure.{at_vertex, Reached}
+use Rattle.rbg_pairs.specs.Nesting.{NestsFrom}
+use Rattle.rbg_pairs.specs.Part.{HasMarksOf}
 use Rattle.rbg_search.proofs.Asking.{back, mark_within, given_room, room_twice, asked_nests, reached_nests, some_nested, runs_one, runs_here, runs_there}
 use Rattle.rbg_search.proofs.Behinds.{all_ready}
 use Rattle.rbg_search.proofs.Turns.{turn_fewer, turn_moves, turn_after, turn_there, turn_end, turn_none, turn_some, none_of_all, ran_permuted, turn_behind, turn_too_many, turn_forced, turn_takes}

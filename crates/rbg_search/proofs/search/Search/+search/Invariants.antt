@@ -3,7 +3,7 @@ use Rattle.std.proofs.Common.{◌≡◌, ◌+◌, ◌*◌, ◌-◌, ◌^◌, ◌
 use Rattle.std.specs.List.Sorted.{IsPermutation}
 use Rattle.std.specs.Prelude.{All, Bool}
 use Rattle.rbg_rules.specs.Games.{IsGame}
-use Rattle.rbg_search.specs.Start.{start_of}
+use Rattle.rbg_pairs.specs.Start.{start_of}
 use Rattle.rbg_flat.specs.internal.Sets.{weight}
 use Rattle.rbg_search.specs.internal.Begun.{IsBegun}
 use Rattle.rbg_search.specs.internal.BySets.{FindsBySets}

@@ -8,8 +8,8 @@ use Rattle.rbg_rules.specs.State.{AbstractGame, AbstractState}
 use Rattle.rbg_rules.specs.Actions.{Applies}
 use Rattle.rbg_state.specs.History.{History}
 use Rattle.rbg_search.specs.Searching.{Searching}
-use Rattle.rbg_search.specs.internal.Closure.{at_vertex}
-use Rattle.rbg_search.specs.internal.Nesting.{NestsFrom}
+use Rattle.rbg_pairs.specs.Closure.{at_vertex}
+use Rattle.rbg_pairs.specs.Nesting.{NestsFrom}
 use Rattle.rbg_search.proofs.Asking.{room_twice}
 use Rattle.rbg_rules.specs.Questions.{pattern}
 use Rattle.rbg_search.specs.internal.Asked.{IsCounted}

@@ -2,12 +2,12 @@ use Rattle.std.proofs.Common.{◌≢◌, ℕ, List, sym, subst}
 use Rattle.std.specs.Prelude.{All, AllPairs, IsOk, length, ◌<◌}
 use Rattle.rbg_rules.specs.Questions.{reach, IsDeep, IsForcedDeep}
 use Rattle.rbg_search.specs.Counting.{IsOverBudget}
-use Rattle.rbg_search.specs.Flat.{IsFlatPart}
+use Rattle.rbg_pairs.specs.Flat.{IsFlatPart}
 use Rattle.rbg_search.specs.Forced.{CountsAllForced}
 use Rattle.rbg_search.specs.Taken.{CountsPairs}
 use Rattle.rbg_search.proofs.Takings.{takes_as, not_ok, is_answer}
 use Rattle.rbg_search.specs.Searching.{Searching}
-use Rattle.rbg_search.specs.Start.{start_of, IsPositionOf}
+use Rattle.rbg_pairs.specs.Start.{start_of, IsPositionOf}
 use Rattle.rbg_search.proofs.Orders.{flat_permuted, within_permuted}
 use Rattle.rbg_search.specs.declared.over.Over.TheVariants.{Deep, Wide}
 use Rattle.rbg_search.proofs.Counted.{ok_not_err}

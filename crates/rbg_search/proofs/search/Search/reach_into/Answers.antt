@@ -4,8 +4,8 @@ use Rattle.std.specs.Prelude.{Result, Ok, Err, OnOk, IsOk}
 use Rattle.rbg_search.specs.declared.over.Over.{Over}
 use Rattle.rbg_rules.specs.State.{AbstractGame}
 use Rattle.rbg_search.specs.Searching.{Searching}
-use Rattle.rbg_search.specs.Start.{start_of}
-use Rattle.rbg_search.specs.internal.Nesting.{NestsFrom}
+use Rattle.rbg_pairs.specs.Start.{start_of}
+use Rattle.rbg_pairs.specs.Nesting.{NestsFrom}
 use Rattle.rbg_search.proofs.Orders.{positions_within}
 use Rattle.rbg_rules.specs.Questions.{reach}
 use Rattle.rbg_search.specs.declared.over.Over.TheVariants.{Deep, Wide}

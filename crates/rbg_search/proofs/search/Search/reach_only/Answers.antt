@@ -7,10 +7,10 @@ use Rattle.rbg_rules.specs.Questions.{reach}
 use Rattle.rbg_auto.specs.Steps.{AreAllThatFollow}
 use Rattle.rbg_rules.specs.State.{AbstractGame, AbstractState, IsStateOf}
 use Rattle.rbg_state.specs.History.{History}
-use Rattle.rbg_search.specs.Flat.{IsFlatPart}
+use Rattle.rbg_pairs.specs.Flat.{IsFlatPart}
 use Rattle.rbg_search.specs.Searching.{Searching}
-use Rattle.rbg_search.specs.Start.{start_of, IsPositionOf}
-use Rattle.rbg_search.specs.internal.Closure.{Reached}
+use Rattle.rbg_pairs.specs.Start.{start_of, IsPositionOf}
+use Rattle.rbg_pairs.specs.Closure.{Reached}
 use Rattle.rbg_search.proofs.Alone.{only_position, some_pair, alone_whole, alone_met, alone_pairs, alone_quiet}
 use Rattle.rbg_flat.specs.Found.{HasCandidates}
 use Rattle.rbg_search.specs.Taken.{CountsPairs, most_pairs_of}
