@@ -23,7 +23,7 @@ use Rattle.rbg_pairs.proofs.Starts.{follower_position}
 use Rattle.rbg_pairs.proofs.Meetings.{meets_none, meets_one}
 use Rattle.rbg_pairs.proofs.Parts.{begin_part, modifier_part, all_met, whole_part}
 
-none_there : (q : ℕ × ℕ) → ¬ Contains [] q
+pub none_there : (q : ℕ × ℕ) → ¬ Contains [] q
 none_there q (k, under, is) = absurd (omega (arith, under))
 
 plain_modifier : (a : AbstractAction) → is_modifier a ≡ true → is_pattern a ≡ false

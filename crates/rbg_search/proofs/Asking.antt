@@ -1,8 +1,6 @@
 -- What is asked of a pattern that was taken, and of a modifier that is applied.
 use Rattle.std.proofs.Common.{◌≡◌, ℕ, suc, ◌+◌, ◌<◌, ◌≤◌, List, take, length, Bool, true, false, refl, sym, ap, ◌∙◌, subst, inl, inr, arith}
-use Rattle.std.specs.Prelude.{Some, slice_get, Contains, IsTrue, ◌↔◌}
-use Rattle.std.proofs.lemmas.List.Elements.{All-contains}
-use Rattle.std.proofs.lemmas.Option.{slice_get_within, get_or_from_slice_get}
+use Rattle.std.specs.Prelude.{IsTrue, ◌↔◌}
 use Rattle.rbg_rules.specs.Expression.{positive, negative, Expression}
 use Rattle.rbg_rules.specs.Positions.{IsNumbered, IsModifierAt, IsPatternAt, is_modifier, inside, IsLevel}
 use Rattle.rbg_rules.specs.Words.{Start, beginning, after}
@@ -17,7 +15,7 @@ use Rattle.rbg_pairs.specs.Flat.{IsFlatPart}
 use Rattle.rbg_pairs.specs.Closure.{at_vertex, Reached}
 use Rattle.rbg_search.specs.internal.Behind.{IsReady, RunsBehindPair, SomeRunsBehind}
 use Rattle.rbg_pairs.specs.Start.{IsPositionOf}
-use Rattle.rbg_pairs.specs.Part.{IsPart, IsOutcome}
+use Rattle.rbg_pairs.specs.Part.{IsOutcome}
 use Rattle.rbg_pairs.specs.Nesting.{NestsFrom}
 use Rattle.rbg_pairs.specs.declared.outcome.Outcome.TheVariants.{Invalid, LeadsTo}
 use Rattle.rbg_pairs.proofs.Closures.{by_words}
@@ -59,14 +57,6 @@ pub reached_nests : (game : AbstractGame) → IsNumbered game.rules → (s : Abs
 reached_nests game numbered s f n nests v p reached pattern =
     let words = by_words game numbered s f v p reached in
     nests_inside game.rules numbered n f nests words.before p words.follows pattern.inside_it pattern.stands
-
--- .. so in one that was met.
-pub asked_nests : (game : AbstractGame) → IsNumbered game.rules → (s : AbstractState) (f : Start) (n : ℕ) → NestsFrom game.rules n f → (pairs done found : List (ℕ × ℕ)) (ends : Bool) → IsPart game s f pairs done found ends → (k v p : ℕ) → slice_get pairs k ≡ Some (v, p) → IsPatternAt game.rules p → (less : ℕ) × (n ≡ suc less) × NestsFrom game.rules less (beginning (inside p))
-asked_nests game numbered s f n nests pairs done found ends part k v p at pattern =
-    let under = slice_get_within pairs k (v, p) at in
-    let there : Contains pairs (v, p) = (k, under, get_or_from_slice_get pairs k (v, p) (v, p) at) in
-    let reached : Reached game s f v p = All-contains (λ q. Reached game s f q.0 q.1) pairs (v, p) part.sound there in
-    reached_nests game numbered s f n nests v p reached pattern
 
 pub some_nested : (rules : Expression) (n p : ℕ) → ((less : ℕ) × (n ≡ suc less) × NestsFrom rules less (beginning (inside p))) → (0 < n) × ((k : ℕ) → n ≡ suc k → NestsFrom rules k (beginning (inside p)))
 some_nested rules n p (less, is, nests) = (omega (arith, is), (λ k is'. subst (λ (i : ℕ). NestsFrom rules i (beginning (inside p))) (suc_same less k (sym is ∙ is')) nests))

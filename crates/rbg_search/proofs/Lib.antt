@@ -19,6 +19,8 @@ pub mod Straights
 pub mod Walking
 pub mod Takings
 pub mod BySets
+pub mod Asks
+pub mod Finding
 pub mod FindingBySets
 pub mod TakingSteps
 pub mod Turns

@@ -4,4 +4,5 @@ pub mod Counting
 pub mod Passing
 pub mod Forced
 pub mod Taken
+pub mod Answered
 pub mod internal

@@ -4,6 +4,7 @@ pub mod Behind
 pub mod Asked
 pub mod Begun
 pub mod Taking
+pub mod Finding
 pub mod Spent
 pub mod BySets
 pub mod Straight
