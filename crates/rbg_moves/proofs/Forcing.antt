@@ -12,7 +12,7 @@ use Rattle.rbg_rules.specs.Moves.{stay, modify, AbstractPlace, stand_of, Legal, 
 use Rattle.rbg_rules.specs.Limits.{most_openings, most_modifiers}
 use Rattle.rbg_rules.specs.Questions.{Question, try_move, find_move, list_moves, reach, pattern, Item, IsMove, AnswersBehind, GoesTo, IsForcedTo, Forced, at, behind, IsForcedDeep}
 use Rattle.rbg_rules.proofs.MoveLemmas.{Applies_one}
-use Rattle.rbg_search.specs.Flat.{IsNext, IsFlatPart}
+use Rattle.rbg_pairs.specs.Flat.{IsNext, IsFlatPart}
 use Rattle.rbg_search.specs.Forced.{CountsForced, TakesBehind}
 use Rattle.rbg_search.proofs.Forcing.{ForcesOn, all_counted, none_deep, takes_none, takes_more, forced_at_once, forced_behind}
 use Rattle.rbg_moves.specs.Limits.{FitsLimits}

@@ -12,14 +12,14 @@ use Rattle.rbg_rules.specs.Games.{IsGame}
 use Rattle.rbg_rules.specs.Moves.{AbstractPlace, stand_of, IsLegal, Finished}
 use Rattle.rbg_rules.specs.Questions.{Question, find_move, list_moves, try_move, reach, GoesTo, IsDeep}
 use Rattle.rbg_rules.proofs.MoveLemmas.{Applies_one}
-use Rattle.rbg_search.specs.Flat.{IsNext, IsFlatPart}
+use Rattle.rbg_pairs.specs.Flat.{IsNext, IsFlatPart}
 use Rattle.rbg_search.specs.Counting.{CountsOpenings, IsOverBudget}
 use Rattle.rbg_search.specs.Forced.{CountsForced}
 use Rattle.rbg_search.specs.Passing.{Passes, finding, listing, GoesOn, CountsUpTo, IsTooDeep, from_here, somewhere}
 use Rattle.rbg_search.specs.Searching.{Searching}
 use Rattle.rbg_search.specs.Taken.{CountsPairs}
 use Rattle.rbg_search.proofs.CallerLemmas.{no_switch_found, counts_begin, counts_weaker, counts_more, counts_end, over_begin, over_more, deep_begin, deep_more, row_one}
-use Rattle.rbg_search.proofs.Meetings.{met_once}
+use Rattle.rbg_pairs.proofs.Meetings.{met_once}
 use Rattle.rbg_search.proofs.Orders.{flat_permuted}
 use Rattle.rbg_search.proofs.Turns.{turned, turn_under, turn_at, turn_front, turn_rest}
 use Rattle.rbg_moves.specs.internal.Asking.{IsAnswered, IsGivenUp}

@@ -9,8 +9,8 @@ use Rattle.rbg_rules.specs.State.{AbstractGame, AbstractState}
 use Rattle.rbg_rules.specs.Actions.{Applies}
 use Rattle.rbg_rules.specs.Moves.{AbstractPlace, stand_of, Legal, IsLegal}
 use Rattle.rbg_rules.proofs.MoveLemmas.{Applies_one}
-use Rattle.rbg_search.specs.Flat.{IsNext, IsFlatPart}
-use Rattle.rbg_search.proofs.Meetings.{met_once}
+use Rattle.rbg_pairs.specs.Flat.{IsNext, IsFlatPart}
+use Rattle.rbg_pairs.proofs.Meetings.{met_once}
 use Rattle.rbg_search.proofs.Orders.{still_differ}
 use Rattle.rbg_search.proofs.Turns.{turned, turn_under, turn_at, turn_front}
 use Rattle.rbg_moves.specs.internal.Gathering.{Gathers, IsBehind, IsLegalBy, IsSwitchAmong, IsSwitchOr, ListsSwitches}

@@ -20,13 +20,13 @@ use Rattle.rbg_rules.proofs.MoveLemmas.{Applies_one}
 use Rattle.rbg_rules.proofs.TableLemmas.{plain_stands, numbered_action}
 use Rattle.rbg_rules.proofs.PlaceLemmas.{RunPairs_join}
 use Rattle.rbg_rules.proofs.LocalityLemmas.{locality_law}
-use Rattle.rbg_search.specs.Flat.{IsNext, IsFlatPart}
+use Rattle.rbg_pairs.specs.Flat.{IsNext, IsFlatPart}
 use Rattle.rbg_moves.specs.Limits.{IsDeepAt, IsWideAt}
 use Rattle.rbg_moves.specs.internal.Stepping.{standing_at, place_behind, IsStep, IsValidAt, IsTried, IsMadeFrom, made, goes_on}
 use Rattle.rbg_search.specs.Passing.{GoesOn, trying}
-use Rattle.rbg_search.specs.Start.{IsPositionOf}
-use Rattle.rbg_search.proofs.Starts.{action_position}
-use Rattle.rbg_search.proofs.Closures.{quiet_action, quiet_place, ends_at}
+use Rattle.rbg_pairs.specs.Start.{IsPositionOf}
+use Rattle.rbg_pairs.proofs.Starts.{action_position}
+use Rattle.rbg_pairs.proofs.Closures.{quiet_action, quiet_place, ends_at}
 
 -- A switch is a modifier.
 pub switch_modifies : (game : AbstractGame) (p : ℕ) → IsSwitchAt game.rules p → IsModifierAt game.rules p

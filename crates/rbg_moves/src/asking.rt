@@ -6,7 +6,7 @@ ghost use Rattle.rbg_rules.specs.Limits.{most_openings, most_modifiers};
 ghost use Rattle.rbg_rules.specs.Positions.{IsSwitchAt};
 ghost use Rattle.rbg_rules.specs.Moves.{stand_of};
 ghost use Rattle.rbg_flat.specs.Paths.{ArePathsOf};
-ghost use Rattle.rbg_search.specs.Start.{start_of, IsPositionOf};
+ghost use Rattle.rbg_pairs.specs.Start.{start_of, IsPositionOf};
 ghost use Rattle.rbg_moves.specs.internal.Shown.{shows_switch};
 
 use rbg_auto::{Expr, Steps};

@@ -3,7 +3,7 @@ ghost use Rattle.std.specs.Prelude.{◌≡◌, ◌∷◌, All, IfSome, IfNone};
 ghost use Rattle.std.specs.List.Sorted.{IsPermutation};
 ghost use Rattle.rbg_rules.specs.Games.{IsGame};
 ghost use Rattle.rbg_rules.specs.Positions.{IsSwitchAt};
-ghost use Rattle.rbg_search.specs.Start.{IsPositionOf};
+ghost use Rattle.rbg_pairs.specs.Start.{IsPositionOf};
 
 use rbg_base::Pair;
 use rbg_flat::Modifiers;

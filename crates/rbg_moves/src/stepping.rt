@@ -7,11 +7,11 @@ ghost use Rattle.rbg_rules.specs.Places.{IsPlaceOf};
 ghost use Rattle.rbg_rules.specs.Questions.{reach, IsDeep};
 ghost use Rattle.rbg_rules.specs.Games.{IsGame};
 ghost use Rattle.rbg_state.specs.History.{capacity_of, IsAfter};
-ghost use Rattle.rbg_search.specs.Flat.{IsNext};
+ghost use Rattle.rbg_pairs.specs.Flat.{IsNext};
 ghost use Rattle.rbg_search.specs.Counting.{CountsOpenings, IsOverBudget};
 ghost use Rattle.rbg_search.specs.Forced.{CountsForced};
 ghost use Rattle.rbg_search.specs.Taken.{CountsPairs};
-ghost use Rattle.rbg_search.specs.Start.{IsPositionOf};
+ghost use Rattle.rbg_pairs.specs.Start.{IsPositionOf};
 ghost use Rattle.rbg_moves.specs.internal.Stepping.{standing_at, place_behind, IsStep, IsValidAt};
 
 use crate::asking::origin_after;

@@ -9,21 +9,21 @@ use Rattle.rbg_rules.specs.Words.{Start, Ends}
 use Rattle.rbg_rules.specs.State.{AbstractGame, AbstractState}
 use Rattle.rbg_leaps.specs.Leaps.{IsShiftAt}
 use Rattle.rbg_auto.specs.Steps.{AreAllThatFollow}
-use Rattle.rbg_search.specs.Flat.{IsFlatPart}
-use Rattle.rbg_search.specs.Start.{IsPositionOf}
-use Rattle.rbg_search.specs.internal.Closure.{Reached}
-use Rattle.rbg_search.specs.internal.Meeting.{MeetsAll}
-use Rattle.rbg_search.specs.internal.Part.{IsOutcome, IsPart}
-use Rattle.rbg_search.specs.declared.outcome.Outcome.TheVariants.{Modifies}
-use Rattle.rbg_search.proofs.Glances.{no_pattern}
+use Rattle.rbg_pairs.specs.Flat.{IsFlatPart}
+use Rattle.rbg_pairs.specs.Start.{IsPositionOf}
+use Rattle.rbg_pairs.specs.Closure.{Reached}
+use Rattle.rbg_pairs.specs.Meeting.{MeetsAll}
+use Rattle.rbg_pairs.specs.Part.{IsOutcome, IsPart}
+use Rattle.rbg_pairs.specs.declared.outcome.Outcome.TheVariants.{Modifies}
+use Rattle.rbg_pairs.proofs.Glances.{no_pattern}
 use Rattle.rbg_flat.specs.Found.{HasCandidates}
-use Rattle.rbg_search.proofs.Plains.{plain_none, plain_more}
+use Rattle.rbg_pairs.proofs.Plains.{plain_none, plain_more}
 use Rattle.rbg_search.proofs.Takings.{no_modifier_shift, part_pairs}
-use Rattle.rbg_search.proofs.Starts.{follower_position}
-use Rattle.rbg_search.proofs.Meetings.{meets_none, meets_one}
-use Rattle.rbg_search.proofs.Parts.{begin_part, modifier_part, all_met, whole_part}
+use Rattle.rbg_pairs.proofs.Starts.{follower_position}
+use Rattle.rbg_pairs.proofs.Meetings.{meets_none, meets_one}
+use Rattle.rbg_pairs.proofs.Parts.{begin_part, modifier_part, all_met, whole_part}
 
-none_there : (q : ℕ × ℕ) → ¬ Contains [] q
+pub none_there : (q : ℕ × ℕ) → ¬ Contains [] q
 none_there q (k, under, is) = absurd (omega (arith, under))
 
 plain_modifier : (a : AbstractAction) → is_modifier a ≡ true → is_pattern a ≡ false

@@ -1,9 +1,6 @@
 -- What is asked of a pattern that was taken, and of a modifier that is applied.
-use Rattle.std.proofs.Common.{◌≡◌, ℕ, suc, ◌+◌, ◌<◌, ◌≤◌, List, take, length, get_or, Bool, true, false, refl, sym, ap, ◌∙◌, subst, inl, inr, arith}
-use Rattle.std.specs.Prelude.{Some, slice_get, All, Contains, IsTrue, ◌↔◌}
-use Rattle.std.proofs.lemmas.List.Elements.{All-contains, All-more, Contains-get_or}
-use Rattle.std.proofs.lemmas.List.{take_all}
-use Rattle.std.proofs.lemmas.Option.{slice_get_within, get_or_from_slice_get}
+use Rattle.std.proofs.Common.{◌≡◌, ℕ, suc, ◌+◌, ◌<◌, ◌≤◌, List, take, length, Bool, true, false, refl, sym, ap, ◌∙◌, subst, inl, inr, arith}
+use Rattle.std.specs.Prelude.{IsTrue, ◌↔◌}
 use Rattle.rbg_rules.specs.Expression.{positive, negative, Expression}
 use Rattle.rbg_rules.specs.Positions.{IsNumbered, IsModifierAt, IsPatternAt, is_modifier, inside, IsLevel}
 use Rattle.rbg_rules.specs.Words.{Start, beginning, after}
@@ -14,16 +11,16 @@ use Rattle.rbg_rules.proofs.PositionLemmas.{one_stands}
 use Rattle.rbg_rules.proofs.MoveLemmas.{pattern_law}
 use Rattle.rbg_state.specs.History.{History, states_of, capacity_of, IsAfter}
 use Rattle.rbg_state.proofs.Histories.{no_shorter}
-use Rattle.rbg_search.specs.Flat.{IsFlatPart}
-use Rattle.rbg_search.specs.internal.Closure.{at_vertex, Reached}
+use Rattle.rbg_pairs.specs.Flat.{IsFlatPart}
+use Rattle.rbg_pairs.specs.Closure.{at_vertex, Reached}
 use Rattle.rbg_search.specs.internal.Behind.{IsReady, RunsBehindPair, SomeRunsBehind}
-use Rattle.rbg_search.specs.Start.{IsPositionOf}
-use Rattle.rbg_search.specs.internal.Part.{IsPart, IsOutcome}
-use Rattle.rbg_search.specs.internal.Nesting.{NestsFrom}
-use Rattle.rbg_search.specs.declared.outcome.Outcome.TheVariants.{Invalid, LeadsTo}
-use Rattle.rbg_search.proofs.Closures.{by_words}
-use Rattle.rbg_search.proofs.Starts.{action_position}
-use Rattle.rbg_search.proofs.Nesting.{nests_inside}
+use Rattle.rbg_pairs.specs.Start.{IsPositionOf}
+use Rattle.rbg_pairs.specs.Part.{IsOutcome}
+use Rattle.rbg_pairs.specs.Nesting.{NestsFrom}
+use Rattle.rbg_pairs.specs.declared.outcome.Outcome.TheVariants.{Invalid, LeadsTo}
+use Rattle.rbg_pairs.proofs.Closures.{by_words}
+use Rattle.rbg_pairs.proofs.Starts.{action_position}
+use Rattle.rbg_pairs.proofs.Nesting.{nests_inside}
 use Rattle.rbg_search.proofs.Behinds.{runs_at_end, runs_behind, only_behind}
 
 true_not_false : true ≡ false → ⊥
@@ -61,14 +58,6 @@ reached_nests game numbered s f n nests v p reached pattern =
     let words = by_words game numbered s f v p reached in
     nests_inside game.rules numbered n f nests words.before p words.follows pattern.inside_it pattern.stands
 
--- .. so in one that was met.
-pub asked_nests : (game : AbstractGame) → IsNumbered game.rules → (s : AbstractState) (f : Start) (n : ℕ) → NestsFrom game.rules n f → (pairs done found : List (ℕ × ℕ)) (ends : Bool) → IsPart game s f pairs done found ends → (k v p : ℕ) → slice_get pairs k ≡ Some (v, p) → IsPatternAt game.rules p → (less : ℕ) × (n ≡ suc less) × NestsFrom game.rules less (beginning (inside p))
-asked_nests game numbered s f n nests pairs done found ends part k v p at pattern =
-    let under = slice_get_within pairs k (v, p) at in
-    let there : Contains pairs (v, p) = (k, under, get_or_from_slice_get pairs k (v, p) (v, p) at) in
-    let reached : Reached game s f v p = All-contains (λ q. Reached game s f q.0 q.1) pairs (v, p) part.sound there in
-    reached_nests game numbered s f n nests v p reached pattern
-
 pub some_nested : (rules : Expression) (n p : ℕ) → ((less : ℕ) × (n ≡ suc less) × NestsFrom rules less (beginning (inside p))) → (0 < n) × ((k : ℕ) → n ≡ suc k → NestsFrom rules k (beginning (inside p)))
 some_nested rules n p (less, is, nests) = (omega (arith, is), (λ k is'. subst (λ (i : ℕ). NestsFrom rules i (beginning (inside p))) (suc_same less k (sym is ∙ is')) nests))
   where
@@ -104,23 +93,6 @@ pub runs_one : (game : AbstractGame) (s t : AbstractState) (limit v p : ℕ) (ru
 runs_one game s t limit v p runs is only decides = (
   (λ yes. record { later = t; applies = subst (λ (u : AbstractState). Applies game p (at_vertex s v) u) (only is.later is.applies) is.applies; runs = decides.0 yes }),
   (λ behind. decides.1 (subst (λ (u : AbstractState). SomeWordRuns game u (after p)) (only behind.later behind.applies) behind.runs)),
-)
-
--- Behind the pairs so far none runs, and behind one more.
-pub none_more : (game : AbstractGame) (s : AbstractState) (pairs : List (ℕ × ℕ)) (k : ℕ) (d : ℕ × ℕ) (runs : Bool) → k < length pairs → All (λ q. ¬ RunsBehindPair game s q.0 q.1) (take k pairs) → IsTrue runs ↔ RunsBehindPair game s (get_or pairs k d).0 (get_or pairs k d).1 → runs ≡ false → All (λ q. ¬ RunsBehindPair game s q.0 q.1) (take (k + 1) pairs)
-none_more game s pairs k d runs under none decides is =
-    All-more (λ q. ¬ RunsBehindPair game s q.0 q.1) pairs k d under none (λ behind. true_not_false (sym (decides.1 behind) ∙ is))
-
-pub some_behind : (game : AbstractGame) (s : AbstractState) (pairs : List (ℕ × ℕ)) (k : ℕ) (d : ℕ × ℕ) (runs : Bool) → k < length pairs → IsTrue runs ↔ RunsBehindPair game s (get_or pairs k d).0 (get_or pairs k d).1 → runs ≡ true → IsTrue true ↔ SomeRunsBehind game s pairs
-some_behind game s pairs k d runs under decides is = (
-  (λ _. record { vertex = (get_or pairs k d).0; position = (get_or pairs k d).1; there = Contains-get_or pairs k d under; behind = decides.0 is }),
-  (λ _. refl),
-)
-
-pub none_behind : (game : AbstractGame) (s : AbstractState) (pairs : List (ℕ × ℕ)) (k : ℕ) → length pairs ≤ k → All (λ q. ¬ RunsBehindPair game s q.0 q.1) (take k pairs) → IsTrue false ↔ SomeRunsBehind game s pairs
-none_behind game s pairs k over none = (
-  (λ e. absurd (true_not_false (sym e))),
-  (λ some. absurd (All-contains (λ q. ¬ RunsBehindPair game s q.0 q.1) pairs (some.vertex, some.position) (subst (All (λ q. ¬ RunsBehindPair game s q.0 q.1)) (take_all k pairs over) none) some.there some.behind)),
 )
 
 -- Some word runs: in the flat part, or behind its modifiers.

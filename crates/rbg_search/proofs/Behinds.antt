@@ -9,13 +9,13 @@ use Rattle.rbg_rules.specs.Actions.{rest, step, Applies, Run}
 use Rattle.rbg_rules.specs.Questions.{SomeWordRuns}
 use Rattle.rbg_rules.specs.Games.{IsGame}
 use Rattle.rbg_rules.proofs.StateLemmas.{state_law}
-use Rattle.rbg_search.specs.Flat.{IsNext, IsFlatPart}
-use Rattle.rbg_search.specs.internal.Closure.{at_vertex, EndsFlat, RunsBehind}
-use Rattle.rbg_search.specs.internal.Nesting.{NestsFrom}
+use Rattle.rbg_pairs.specs.Flat.{IsNext, IsFlatPart}
+use Rattle.rbg_pairs.specs.Closure.{at_vertex, EndsFlat, RunsBehind}
+use Rattle.rbg_pairs.specs.Nesting.{NestsFrom}
 use Rattle.rbg_search.specs.internal.Behind.{IsReady, SomeRunsBehind}
-use Rattle.rbg_search.proofs.Closures.{next_found, found_next, some_word_runs, end_runs, behind_runs, may_end_flat, flat_may_end, ends_at}
-use Rattle.rbg_search.proofs.Starts.{action_position}
-use Rattle.rbg_search.proofs.Nesting.{nests_onward}
+use Rattle.rbg_pairs.proofs.Closures.{next_found, found_next, some_word_runs, end_runs, behind_runs, may_end_flat, flat_may_end, ends_at}
+use Rattle.rbg_pairs.proofs.Starts.{action_position}
+use Rattle.rbg_pairs.proofs.Nesting.{nests_onward}
 
 -- A run stays in the game.
 run_stays : (game : AbstractGame) → IsGame game → {w : List ℕ} {s t : AbstractState} → Run game w s t → IsStateOf game s → IsStateOf game t

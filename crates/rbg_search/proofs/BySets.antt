@@ -14,11 +14,11 @@ use Rattle.rbg_flat.specs.internal.Begun.{IsBegun}
 use Rattle.rbg_flat.specs.internal.Sets.{IsMarked, IsOpen, IsDone, KeepsDone}
 use Rattle.rbg_flat.proofs.ChainLemmas.{candidate_of, met_of}
 use Rattle.rbg_flat.proofs.Steps.{all_marked}
-use Rattle.rbg_search.specs.Flat.{IsNext, IsFlatPart}
+use Rattle.rbg_pairs.specs.Flat.{IsNext, IsFlatPart}
 use Rattle.rbg_search.specs.internal.BySets.{IsBegunBySets, IsWhole, AreAsked, IsToBeAsked}
-use Rattle.rbg_search.specs.internal.Closure.{at_vertex, Reached}
+use Rattle.rbg_pairs.specs.Closure.{at_vertex, Reached}
 use Rattle.rbg_search.proofs.Asking.{no_modifier}
-use Rattle.rbg_search.proofs.Closures.{found_next, next_found}
+use Rattle.rbg_pairs.proofs.Closures.{found_next, next_found}
 use Rattle.rbg_search.proofs.Takings.{is_candidate, is_reached, no_shift, no_modifier_shift}
 
 nothing_in : (x : ℕ × ℕ) → ¬ Contains [] x

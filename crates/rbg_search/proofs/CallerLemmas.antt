@@ -4,8 +4,8 @@ use Rattle.std.specs.Prelude.{All, AllPairs, Contains}
 use Rattle.std.proofs.lemmas.List.{length-take-le, get_or-take, take_more}
 use Rattle.std.proofs.lemmas.List.Elements.{All-nil, All-cons, All-weaker, All-contains, All-take}
 use Rattle.rbg_rules.specs.Expression.{Expression, switch}
-use Rattle.rbg_rules.specs.Positions.{IsNumbered, HasNoModifier, IsModifierAt, IsSwitchAt, IsPatternAt, inside}
-use Rattle.rbg_rules.specs.Words.{Start, beginning, after}
+use Rattle.rbg_rules.specs.Positions.{IsNumbered, HasNoModifier, IsModifierAt, IsSwitchAt}
+use Rattle.rbg_rules.specs.Words.{Start, after}
 use Rattle.rbg_rules.specs.State.{AbstractGame, AbstractState}
 use Rattle.rbg_rules.specs.Moves.{RunPairs, stay, pass, stand_of}
 use Rattle.rbg_rules.specs.Places.{IsLastOf}
@@ -16,10 +16,10 @@ use Rattle.rbg_rules.proofs.PlaceLemmas.{RunPairs-Runs}
 use Rattle.rbg_rules.proofs.TableLemmas.{numbered_action}
 use Rattle.rbg_rules.proofs.TrimLemmas.{empty_opening_law}
 use Rattle.rbg_flat.specs.Candidates.{MayEnd}
-use Rattle.rbg_search.specs.Flat.{IsNext, IsFlatPart}
+use Rattle.rbg_pairs.specs.Flat.{IsNext, IsFlatPart}
 use Rattle.rbg_search.specs.Counting.{CountsOpenings, IsOverBudget}
 use Rattle.rbg_search.specs.Passing.{GoesOn, CountsUpTo, BeginsAmong, HasRow, IsTooDeep, from_here, somewhere}
-use Rattle.rbg_search.proofs.Closures.{quiet_place}
+use Rattle.rbg_pairs.proofs.Closures.{quiet_place}
 use Rattle.rbg_search.proofs.Openings.{switch_modifies, lifted, reach_opens}
 use Rattle.rbg_search.proofs.Counts.{begin_joined, more_joined, has_counted, begins_more, all_pairs_take}
 
@@ -30,12 +30,9 @@ pub place_start : (rules : Expression) → IsNumbered rules → (last : Option �
 place_start rules numbered None is = (rules, refl)
 place_start rules numbered (Some i) is = numbered_action rules numbered i is.0 is.1
 
--- One stands somewhere behind a modifier, and at the beginning of a pattern.
+-- One stands somewhere behind a modifier.
 pub modifier_start : (rules : Expression) (p : ℕ) → IsModifierAt rules p → IsStart rules (after p)
 modifier_start rules p is = (is.action, is.stands)
-
-pub pattern_start : (rules : Expression) (p : ℕ) → IsPatternAt rules p → IsStart rules (beginning (inside p))
-pattern_start rules p is = (is.inside_it, is.stands)
 
 -- ---- where a question goes
 
@@ -45,15 +42,6 @@ no_prefix (q ∷ qs) more some e = cc
 
 not_nothing : (q : ℕ × ℕ) (qs : List (ℕ × ℕ)) → (q ∷ qs) ≢ []
 not_nothing q qs e = cc
-
--- Every question but that for the move of no pairs goes as far as no modifier.
-pub may_begin : (game : AbstractGame) (s : AbstractState) (f : Start) (question : Question) → question ≢ try_move [] → GoesTo game question s f []
-may_begin game s f (try_move []) other = absurd (other refl)
-may_begin game s f (try_move (q ∷ qs)) other = (q ∷ qs, not_nothing q qs, refl)
-may_begin game s f find_move other = λ qs (more, some, e) answer. no_prefix qs more some e
-may_begin game s f list_moves other = tt
-may_begin game s f reach other = refl
-may_begin game s f pattern other = λ qs (more, some, e) answer. no_prefix qs more some e
 
 pub find_begins : (game : AbstractGame) (s : AbstractState) (f : Start) → GoesTo game find_move s f []
 find_begins game s f = λ qs (more, some, e) answer. no_prefix qs more some e

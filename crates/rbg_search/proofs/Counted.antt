@@ -1,5 +1,5 @@
 -- What each step of a search has counted, and why it gave up.
-use Rattle.std.proofs.Common.{◌≡◌, ◌≢◌, ℕ, suc, ◌+◌, ◌<◌, ◌≤◌, List, [], ◌∷◌, ◌++◌, length, get_or, take, Bool, false, true, refl, sym, ap, ◌∙◌, subst, arith}
+use Rattle.std.proofs.Common.{◌≡◌, ◌≢◌, ℕ, suc, ◌+◌, ◌<◌, ◌≤◌, List, [], ◌∷◌, ◌++◌, length, get_or, take, Bool, false, true, refl, sym, ◌∙◌, subst, arith}
 use Rattle.std.specs.Prelude.{All, Contains, Result, Ok, Err}
 use Rattle.std.proofs.lemmas.List.Elements.{All-weaker, All-contains_itself}
 use Rattle.rbg_rules.specs.Positions.{IsNumbered, IsPatternAt, inside}
@@ -11,15 +11,15 @@ use Rattle.rbg_rules.specs.Questions.{Question, try_move, reach, pattern, Item, 
 use Rattle.rbg_rules.specs.Laws.{IsStart}
 use Rattle.rbg_state.specs.History.{History}
 use Rattle.rbg_search.specs.Searching.{Searching}
-use Rattle.rbg_search.specs.Flat.{IsNext, IsFlatPart}
+use Rattle.rbg_pairs.specs.Flat.{IsNext, IsFlatPart}
 use Rattle.rbg_search.specs.Counting.{CountsOpenings, IsOverBudget}
 use Rattle.rbg_search.specs.Passing.{GoesOn, CountsUpTo, somewhere}
-use Rattle.rbg_search.specs.internal.Closure.{at_vertex, Reached}
+use Rattle.rbg_pairs.specs.Closure.{at_vertex, Reached}
 use Rattle.rbg_search.specs.internal.Asked.{StandsInPattern, CountsAsked, GoesBehind, IsCounted}
 use Rattle.rbg_search.specs.declared.over.Over.{Over}
 use Rattle.rbg_search.specs.declared.over.Over.TheVariants.{Deep, Wide, Memory}
 use Rattle.rbg_search.proofs.Patterns.{inside_onward, inside_start}
-use Rattle.rbg_search.proofs.CallerLemmas.{pattern_begins, counts_begin, counts_taken, counts_end, over_begin, over_taken, deep_begin, deep_more, too_deep}
+use Rattle.rbg_search.proofs.CallerLemmas.{pattern_begins, counts_begin, counts_taken, counts_end, over_taken, deep_more, too_deep}
 use Rattle.rbg_search.proofs.Countings.{empty_opens, asked_more, asked_end, over_asked, deep_asked, goes_behind, one_too_deep}
 
 -- ---- which error it is
@@ -41,9 +41,6 @@ ok_not_err x e is = cc
 
 pub same_error : {X : Type 0} (e e' : Over) → (let r : Result X Over = Err e in r) ≡ Err e' → e ≡ e'
 same_error e e' is = cc
-
-pub error_moved : {X Y : Type 0} (r : Result X Over) (e e' : Over) → r ≡ Err e → (let q : Result Y Over = Err e in q) ≡ Err e' → r ≡ Err e'
-error_moved r e e' was is = was ∙ ap (λ (x : Over). let q = Err x in q) (same_error e e' is)
 
 -- ---- any question
 
@@ -92,14 +89,6 @@ module _ (game : AbstractGame) where
   asked_only s f done a b left openings modifiers D W counts deep wide = counted_only reach s f a b left openings modifiers D W (asked_end game s f done a b counts) deep wide
 
   -- ---- a pattern's question
-
-  -- What the flat part counts is counted by the question.
-  pub reach_counted : IsNumbered game.rules → (s : AbstractState) (f : Start) (a b left most openings : ℕ) (D W : Type 0) → IsCounted game reach s f a b most openings most D W → IsCounted game pattern s f a b left openings most D W
-  reach_counted numbered s f a b left most openings D W counts = record {
-    counted = counts_end game numbered (counts_begin game numbered (pattern_begins game s f) counts.counted);
-    deep = λ d. somewhere (deep_begin game numbered (pattern_begins game s f) (too_deep game numbered (counts.deep d)));
-    wide = λ w. over_begin game numbered (pattern_begins game s f) (counts.wide w);
-  }
 
   -- What is found where no word may end goes behind.
   pub found_behind : IsGame game → (s : AbstractState) (f : Start) (pairs : List (ℕ × ℕ)) (ends : Bool) → StandsInPattern game.rules f → IsFlatPart game s f pairs ends → ends ≡ false → GoesBehind game s f pairs

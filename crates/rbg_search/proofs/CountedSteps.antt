@@ -11,21 +11,21 @@ use Rattle.rbg_rules.specs.Actions.{Applies}
 use Rattle.rbg_rules.specs.Games.{IsGame}
 use Rattle.rbg_rules.specs.Questions.{Question, reach, pattern, IsDeep}
 use Rattle.rbg_state.specs.History.{History}
-use Rattle.rbg_search.specs.Flat.{IsFlatPart}
+use Rattle.rbg_pairs.specs.Flat.{IsFlatPart}
 use Rattle.rbg_search.specs.Searching.{Searching}
 use Rattle.rbg_search.specs.Counting.{CountsOpenings, IsOverBudget}
 use Rattle.rbg_search.specs.Passing.{CountsUpTo, IsTooDeep, from_here, somewhere}
 use Rattle.rbg_search.specs.internal.Begun.{IsBegun}
-use Rattle.rbg_search.specs.internal.Closure.{at_vertex, Reached}
+use Rattle.rbg_pairs.specs.Closure.{at_vertex, Reached}
 use Rattle.rbg_search.specs.internal.Asked.{StandsInPattern, CountsAsked, GoesBehind, IsCounted}
-use Rattle.rbg_search.specs.declared.flat.Flat.{Flat}
+use Rattle.rbg_pairs.specs.declared.flat.Flat.{Flat}
 use Rattle.rbg_search.specs.declared.over.Over.{Over}
 use Rattle.rbg_search.specs.declared.over.Over.TheVariants.{Memory}
 use Rattle.rbg_search.proofs.CallerLemmas.{pattern_begins}
 use Rattle.rbg_search.proofs.Openings.{reach_opens}
 use Rattle.rbg_search.proofs.Counts.{begin_joined, has_counted}
-use Rattle.rbg_search.proofs.Countings.{asked_more, asked_weaker}
-use Rattle.rbg_search.proofs.Counted.{same_error, counted_only, asked_counted, found_behind, found_inside, behind_more, behind_counted, behind_deep, search_before, onward_search}
+use Rattle.rbg_search.proofs.Countings.{asked_more}
+use Rattle.rbg_search.proofs.Counted.{same_error, asked_counted, found_behind, found_inside, behind_more, behind_counted, behind_deep, search_before, onward_search}
 
 -- ---- which error is handed on
 
@@ -63,15 +63,6 @@ ask_step_at h k s u f done v p a b D W kept given lawful met is fresh so_far ask
       gave_up = asked_counted h.game lawful.numbered s.state f v p met is done fresh a k.opened b h.modifiers h.openings D W so_far asked_here;
     }
 
-pub ask_step : (h k : Searching) (s l u : History) (f : Start) (flat flat' : Flat) (v p a b : ℕ) (D W : Type 0) → k ≡ record h { opened = k.opened; taken = k.taken } → l ≡ record s { room = l.room } → u ≡ record s { room = u.room } → IsGame h.game → IsBegun k.game l.state f flat' → slice_get flat'.queue.pairs flat'.taken ≡ Some (v, p) → IsPatternAt k.game.rules p → ((x : ℕ × ℕ) → Contains (take flat.taken flat.queue.pairs) x → Contains (take flat'.taken flat'.queue.pairs) x) → ¬ Contains (take flat'.taken flat'.queue.pairs) (v, p) → CountsAsked h.game s.state f (take flat.taken flat.queue.pairs) a k.opened → IsCounted k.game pattern (at_vertex u.state v) (beginning (inside p)) k.opened b k.modifiers k.openings k.modifiers D W → AskStep h s.state f (take flat'.taken flat'.queue.pairs ++ (v, p) ∷ []) a b D W
-ask_step h k s l u f flat flat' v p a b D W kept given given' lawful begun at is still fresh counts asked =
-    let done : List (ℕ × ℕ) = take flat'.taken flat'.queue.pairs in
-    let here : IsBegun h.game s.state f flat' = search_before (λ y w. IsBegun y.game w f flat') h k s l kept given begun in
-    let met : Reached h.game s.state f v p = taken_reached h.game s.state f flat' v p here at in
-    let is_here : IsPatternAt h.game.rules p = search_before (λ y w. IsPatternAt y.game.rules p) h k s l kept given is in
-    let so_far : CountsAsked h.game s.state f done a k.opened = asked_weaker h.game s.state f (take flat.taken flat.queue.pairs) done a k.opened still counts in
-    ask_step_at h k s u f done v p a b D W kept given' lawful met is_here fresh so_far asked
-
 -- The whole number of modifiers in a row is left, so an opening has it.
 pub deep_is : (game : AbstractGame) (question : Question) (s : AbstractState) (f : Start) (most : ℕ) → IsTooDeep game question s f most most → IsDeep game question s f most
 deep_is game question s f most (from_here has) = record { before = []; row = has.row; later = has.later; opened = has.opened; count = has.count }
@@ -100,12 +91,6 @@ asks_reached game s f a b left most openings D W counts = record {
     asks_wide over =
         let joined = begin_joined game pattern s f a over.added (pattern_begins game s f) over.openings in
         record { added = length joined.openings; more = omega (arith, over.more, joined.sum); openings = has_counted game pattern s f [] a (a + over.added) joined }
-
--- The same, where nothing was given up for what was found.
-pub asks_only : (game : AbstractGame) (s : AbstractState) (f : Start) (a b b' left most openings : ℕ) (D W D' W' : Type 0) → b' ≡ b → IsCounted game reach s f a b most openings most D W → ¬ D' → ¬ W' → IsCounted game pattern s f a b' left openings most D' W'
-asks_only game s f a b b' left most openings D W D' W' same counts deep wide =
-    counted_only game pattern s f a b' left openings most D' W'
-    (subst (λ (x : ℕ). CountsOpenings game pattern s f a x) (sym same) (asks_reached game s f a b left most openings D W counts).counted) deep wide
 
 -- The search went on behind the modifiers that were found.
 pub behind_step : (h k : Searching) (s l : History) (f : Start) (pairs pairs' : List (ℕ × ℕ)) (ends : Bool) (b left : ℕ) (D W : Type 0) → k ≡ record h { opened = k.opened; taken = k.taken } → l ≡ record s { room = l.room } → pairs' ≡ pairs → IsGame h.game → StandsInPattern h.game.rules f → IsFlatPart h.game s.state f pairs ends → ends ≡ false → CountsOpenings h.game reach s.state f h.opened k.opened → ((e : Start) (a : ℕ) → GoesBehind k.game l.state e pairs' → CountsOpenings k.game reach l.state e a k.opened → IsCounted k.game pattern l.state e a b left k.openings k.modifiers D W) → IsCounted h.game pattern s.state f h.opened b left h.openings h.modifiers D W

@@ -12,10 +12,10 @@ use Rattle.rbg_rules.specs.Games.{IsGame}
 use Rattle.rbg_rules.specs.Questions.{Question, try_move, reach, pattern, Item, modifier_at, pattern_at, items_of, Opening, HasOpenings, IsDeep}
 use Rattle.rbg_rules.specs.Laws.{IsStart}
 use Rattle.rbg_rules.proofs.TrimLemmas.{empty_opening_law}
-use Rattle.rbg_search.specs.Flat.{IsNext}
+use Rattle.rbg_pairs.specs.Flat.{IsNext}
 use Rattle.rbg_search.specs.Counting.{CountsOpenings, IsOverBudget}
 use Rattle.rbg_search.specs.Passing.{asking, GoesOn, IsTooDeep, from_here}
-use Rattle.rbg_search.specs.internal.Closure.{at_vertex, Reached}
+use Rattle.rbg_pairs.specs.Closure.{at_vertex, Reached}
 use Rattle.rbg_search.specs.internal.Asked.{StandsInPattern, BeginsAsked, CountsAsked, GoesBehind}
 use Rattle.rbg_search.proofs.Openings.{in_pattern}
 use Rattle.rbg_search.proofs.Counts.{all_pairs_append, differ_behind}
@@ -37,19 +37,6 @@ module _ (game : AbstractGame) where
   -- The empty list is an opening.
   pub empty_opens : IsGame game → (question : Question) → question ≢ try_move [] → (s : AbstractState) (f : Start) → IsStart game.rules f → Opening game question s f []
   empty_opens lawful question other s f start = empty_opening_law game lawful.no_empty_sum f start question other s
-
-  -- One opening more is one.
-  pub one_over : IsGame game → (s : AbstractState) (f : Start) → IsStart game.rules f → (old most : ℕ) → most ≤ old → IsOverBudget game reach s f old most
-  one_over lawful s f start old most under = record {
-    added = 1;
-    more = omega (arith, under);
-    openings = record {
-      openings = [] ∷ [];
-      different = AllPairs-cons (λ o o'. o ≢ o') [] [] (All-nil (λ o'. [] ≢ o')) (λ i j d less within. absurd (omega (arith, within)));
-      opened = All-cons (Opening game reach s f) [] [] (empty_opens lawful reach reach_pairs s f start) (All-nil (Opening game reach s f));
-      count = refl;
-    };
-  }
 
   pub none_counted : (question : Question) (s : AbstractState) (f : Start) (old new : ℕ) → new ≡ old → CountsOpenings game question s f old new
   none_counted question s f old new same = record {

@@ -9,9 +9,9 @@ use Rattle.rbg_rules.specs.Words.{Start, after}
 use Rattle.rbg_rules.specs.State.{AbstractGame, AbstractState}
 use Rattle.rbg_rules.specs.Actions.{Applies}
 use Rattle.rbg_rules.specs.Questions.{Question, reach, Item, modifier_at, pattern_at, items_of, GoesTo, Opening, at, behind, HasOpenings}
-use Rattle.rbg_search.specs.Flat.{IsNext}
+use Rattle.rbg_pairs.specs.Flat.{IsNext}
 use Rattle.rbg_search.specs.Passing.{Passes, BeginsAmong, CountsUpTo}
-use Rattle.rbg_search.specs.internal.Closure.{at_vertex}
+use Rattle.rbg_pairs.specs.Closure.{at_vertex}
 use Rattle.rbg_search.proofs.Openings.{lifted, reach_opens}
 
 module _ {X : Type 0} (R : X → X → Type 0) where

@@ -11,11 +11,11 @@ use Rattle.rbg_rules.specs.Moves.{RunPairs, stay, modify, pass}
 use Rattle.rbg_rules.specs.Questions.{Question, reach, pattern, Item, modifier_at, pattern_at, items_of, RunsOn, SomeWordRuns, GoesTo, IsForcedTo, Forced, at, behind, HasForced, IsForcedDeep}
 use Rattle.rbg_rules.proofs.MoveLemmas.{Applies_one}
 use Rattle.rbg_rules.proofs.LocalityLemmas.{locality_law}
-use Rattle.rbg_search.specs.Flat.{IsNext, IsFlatPart}
+use Rattle.rbg_pairs.specs.Flat.{IsNext, IsFlatPart}
 use Rattle.rbg_search.specs.Forced.{HasFewInRow, CountsForced, TakesBehind}
-use Rattle.rbg_search.specs.internal.Closure.{at_vertex, Reached}
+use Rattle.rbg_pairs.specs.Closure.{at_vertex, Reached}
 use Rattle.rbg_search.specs.internal.Taking.{AsksForced}
-use Rattle.rbg_search.proofs.Closures.{quiet_place, reached, ends_at, next_found, behind_runs}
+use Rattle.rbg_pairs.proofs.Closures.{quiet_place, reached, ends_at, next_found, behind_runs}
 use Rattle.rbg_search.proofs.Openings.{behind_runs_on}
 
 -- ---- a list of different items is no longer than one that has them all

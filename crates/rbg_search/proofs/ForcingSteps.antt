@@ -1,17 +1,16 @@
 -- Each step of a search that takes forced openings up, by what it began with.
-use Rattle.std.proofs.Common.{◌≡◌, ℕ, ◌+◌, ◌-◌, ◌<◌, ◌≤◌, List, ◌∷◌, [], ◌++◌, length, get_or, take, Bool, true, false, refl, subst, arith}
+use Rattle.std.proofs.Common.{◌≡◌, ℕ, ◌+◌, ◌-◌, ◌<◌, ◌≤◌, List, ◌∷◌, [], ◌++◌, length, get_or, take, Bool, true, false, refl, arith}
 use Rattle.std.specs.Prelude.{Contains, IsTrue, ◌↔◌}
-use Rattle.std.proofs.lemmas.List.{take_all}
 use Rattle.rbg_rules.specs.Positions.{IsNumbered, IsPatternAt, inside}
 use Rattle.rbg_rules.specs.Words.{Start, beginning, after}
 use Rattle.rbg_rules.specs.State.{AbstractGame, AbstractState}
 use Rattle.rbg_rules.specs.Actions.{Applies}
 use Rattle.rbg_rules.specs.Questions.{SomeWordRuns, reach, pattern}
 use Rattle.rbg_state.specs.History.{History}
-use Rattle.rbg_search.specs.Flat.{IsFlatPart}
+use Rattle.rbg_pairs.specs.Flat.{IsFlatPart}
 use Rattle.rbg_search.specs.Forced.{CountsForced, TakesBehind}
 use Rattle.rbg_search.specs.Searching.{Searching}
-use Rattle.rbg_search.specs.internal.Closure.{at_vertex, Reached}
+use Rattle.rbg_pairs.specs.Closure.{at_vertex, Reached}
 use Rattle.rbg_search.specs.internal.Taking.{AsksForced, RanBehind}
 use Rattle.rbg_search.proofs.Counted.{onward_search, search_before}
 use Rattle.rbg_search.proofs.Forcing.{asks_more, asks_still, asks_end, takes_on, word_forced, no_word_forced}
@@ -53,12 +52,6 @@ ran_some game s pairs a b left most grows = record { grows = grows; forced = λ 
   where
     true_not_false : true ≡ false → ⊥
     true_not_false e = cc
-
-pub ran_none : (game : AbstractGame) (s : AbstractState) (pairs : List (ℕ × ℕ)) (i a b left most : ℕ) → length pairs ≤ i → a ≤ b → ((cut : Bool) → IsNumbered game.rules → TakesBehind game cut pattern s (take i pairs) a b left most) → RanBehind game s pairs false a b left most
-ran_none game s pairs i a b left most over grows takes = record {
-  grows = grows;
-  forced = λ cut numbered _. subst (λ (done : List (ℕ × ℕ)). TakesBehind game cut pattern s done a b left most) (take_all i pairs over) (takes cut numbered);
-}
 
 -- A pattern's question, where the flat part didn't answer it.
 pub asked_forced : (game : AbstractGame) → IsNumbered game.rules → (s : AbstractState) (f : Start) (pairs : List (ℕ × ℕ)) (ends runs : Bool) (a b c left most : ℕ) (cut : Bool) → IsTrue runs ↔ SomeWordRuns game s f → IsFlatPart game s f pairs ends → CountsForced game cut reach s f a b left most → RanBehind game s pairs runs b c left most → CountsForced game cut pattern s f a c left most

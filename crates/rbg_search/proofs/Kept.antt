@@ -13,12 +13,6 @@ kept_twice h k l first second = second ∙ ap (λ (x : Searching). let y : Searc
 pub kept_since : (h k l : Searching) → k ≡ h → l ≡ record k { opened = l.opened; taken = l.taken } → l ≡ record h { opened = l.opened; taken = l.taken }
 kept_since h k l same kept = kept_twice h k l (kept_same h k same) kept
 
-pub same_game : (h k : Searching) → k ≡ record h { opened = k.opened; taken = k.taken } → k.game ≡ h.game
-same_game h k kept = ap (λ (x : Searching). x.game) kept
-
-pub back_same : (h k : History) → k ≡ h → k ≡ record h { room = k.room }
-back_same h k same = same ∙ ap (λ (x : History). let y : History = record h { room = x.room } in y) (sym same)
-
 -- What holds of the game and of the semi-state goes on, and was so before.
 pub onward : (P : AbstractGame → AbstractState → Type 0) (h k : Searching) (s t : History) → k ≡ record h { opened = k.opened; taken = k.taken } → t ≡ record s { room = t.room } → P h.game s.state → P k.game t.state
 onward P h k s t kept given x = subst (λ (y : Searching). P y.game t.state) (sym kept) (subst (λ (y : History). P h.game y.state) (sym given) x)

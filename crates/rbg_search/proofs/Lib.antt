@@ -1,11 +1,4 @@
 -- Lemmas, by topic.
-pub mod Closures
-pub mod Meetings
-pub mod Starts
-pub mod Parts
-pub mod Modifiers
-pub mod Glances
-pub mod Nesting
 pub mod Behinds
 pub mod Asking
 pub mod Alone
@@ -23,11 +16,11 @@ pub mod Forcing
 pub mod ForcingSteps
 pub mod Fewness
 pub mod Straights
-pub mod Tolds
 pub mod Walking
 pub mod Takings
-pub mod Plains
 pub mod BySets
+pub mod Asks
+pub mod Finding
 pub mod FindingBySets
 pub mod TakingSteps
 pub mod Turns

@@ -14,10 +14,10 @@ use Rattle.rbg_rules.proofs.PlaceLemmas.{SameButVertex_refl, SameButVertex_trans
 use Rattle.rbg_rules.proofs.PositionLemmas.{one_stands}
 use Rattle.rbg_rules.proofs.MoveLemmas.{Applies_one}
 use Rattle.rbg_rules.proofs.LocalityLemmas.{locality_law}
-use Rattle.rbg_search.specs.Flat.{IsNext}
+use Rattle.rbg_pairs.specs.Flat.{IsNext}
 use Rattle.rbg_search.specs.Passing.{Passes, trying, finding, listing, asking}
-use Rattle.rbg_search.specs.internal.Closure.{at_vertex, Reached}
-use Rattle.rbg_search.proofs.Closures.{by_words, next_found}
+use Rattle.rbg_pairs.specs.Closure.{at_vertex, Reached}
+use Rattle.rbg_pairs.proofs.Closures.{by_words, next_found}
 
 -- A switch is a modifier.
 pub switch_modifies : (rules : Expression) (p : ℕ) → IsSwitchAt rules p → IsModifierAt rules p

@@ -13,8 +13,8 @@ use Rattle.std.proofs.lemmas.List.Edits.{Swapped, swapped_from_swap, length-swap
 use Rattle.std.proofs.lemmas.List.Sorted.{IsPermutation-keeps, IsPermutation-sym, Contains-permutation, sorted_far, ranks_by}
 use Rattle.rbg_rules.specs.Words.{Start}
 use Rattle.rbg_rules.specs.State.{AbstractGame, AbstractState, IsStateOf}
-use Rattle.rbg_search.specs.Flat.{IsBefore, IsFlatPart}
-use Rattle.rbg_search.specs.Start.{IsPositionOf}
+use Rattle.rbg_pairs.specs.Flat.{IsBefore, IsFlatPart}
+use Rattle.rbg_pairs.specs.Start.{IsPositionOf}
 use Rattle.rbg_search.specs.internal.Behind.{IsReady}
 
 abbrev pub pair_cmp : ℕ × ℕ → ℕ × ℕ → Ordering

@@ -9,16 +9,16 @@ use Rattle.rbg_rules.specs.Words.{Start, after, Ends}
 use Rattle.rbg_rules.specs.State.{AbstractGame, AbstractState}
 use Rattle.rbg_auto.specs.Steps.{AreAllThatFollow}
 use Rattle.rbg_flat.specs.Found.{HasCandidates}
-use Rattle.rbg_search.specs.internal.Meeting.{MeetsAll}
-use Rattle.rbg_search.specs.internal.Part.{IsOutcome, IsPart}
-use Rattle.rbg_search.specs.internal.Plain.{HasPlain}
+use Rattle.rbg_pairs.specs.Meeting.{MeetsAll}
+use Rattle.rbg_pairs.specs.Part.{IsOutcome, IsPart}
+use Rattle.rbg_pairs.specs.Plain.{HasPlain}
 use Rattle.rbg_search.specs.internal.Straight.{IsWalked, IsWalking}
-use Rattle.rbg_search.specs.declared.outcome.Outcome.{Outcome}
-use Rattle.rbg_search.specs.declared.outcome.Outcome.TheVariants.{Invalid, Modifies, LeadsTo}
-use Rattle.rbg_search.specs.internal.Closure.{at_vertex}
-use Rattle.rbg_search.proofs.Plains.{plain_none}
+use Rattle.rbg_pairs.specs.declared.outcome.Outcome.{Outcome}
+use Rattle.rbg_pairs.specs.declared.outcome.Outcome.TheVariants.{Invalid, Modifies, LeadsTo}
+use Rattle.rbg_pairs.specs.Closure.{at_vertex}
+use Rattle.rbg_pairs.proofs.Plains.{plain_none}
 use Rattle.rbg_search.proofs.Takings.{part_pairs}
-use Rattle.rbg_search.proofs.Parts.{begin_part, invalid_part, leads_part, all_met, whole_part}
+use Rattle.rbg_pairs.proofs.Parts.{begin_part, invalid_part, leads_part, all_met, whole_part}
 
 -- One pair is met.
 meets_one : (xs : List (ℕ × ℕ)) (v p : ℕ) → MeetsAll xs (xs ++ (v, p) ∷ []) v (p ∷ [])

@@ -1,6 +1,6 @@
 -- Each step of a search that counts pairs, by what it began with.
 use Rattle.std.proofs.Common.{◌≡◌, ℕ, ◌+◌, ◌<◌, ◌≤◌, List, length, get_or, take, Bool, false, sym, subst}
-use Rattle.std.specs.Prelude.{Contains, Some, slice_get}
+use Rattle.std.specs.Prelude.{Contains}
 use Rattle.std.proofs.lemmas.List.{get_or_default}
 use Rattle.std.proofs.lemmas.List.Elements.{All-contains, All-contains_itself, All-take}
 use Rattle.rbg_rules.specs.Positions.{IsPatternAt, inside}
@@ -10,17 +10,16 @@ use Rattle.rbg_rules.specs.Actions.{Applies}
 use Rattle.rbg_rules.specs.Games.{IsGame}
 use Rattle.rbg_rules.specs.Questions.{reach, pattern}
 use Rattle.rbg_state.specs.History.{History}
-use Rattle.rbg_search.specs.Flat.{IsFlatPart}
+use Rattle.rbg_pairs.specs.Flat.{IsFlatPart}
 use Rattle.rbg_search.specs.Passing.{GoesOn}
 use Rattle.rbg_search.specs.Searching.{Searching}
 use Rattle.rbg_search.specs.Taken.{HasPart, CountsPairs, most_pairs_of}
 use Rattle.rbg_search.specs.internal.Asked.{StandsInPattern, GoesBehind}
 use Rattle.rbg_search.specs.internal.Begun.{IsBegun}
-use Rattle.rbg_search.specs.internal.Plain.{HasPlain}
-use Rattle.rbg_search.specs.internal.Closure.{at_vertex, Reached}
-use Rattle.rbg_search.specs.declared.flat.Flat.{Flat}
+use Rattle.rbg_pairs.specs.Plain.{HasPlain}
+use Rattle.rbg_pairs.specs.Closure.{at_vertex, Reached}
+use Rattle.rbg_pairs.specs.declared.flat.Flat.{Flat}
 use Rattle.rbg_search.proofs.Counted.{found_behind, search_before, onward_search}
-use Rattle.rbg_search.proofs.CountedSteps.{taken_reached}
 use Rattle.rbg_search.proofs.Countings.{goes_behind}
 use Rattle.rbg_search.proofs.Takings.{is_candidate, no_shift, reached_pairs, own_part, any_part, pattern_part, behind_part, takes_then, takes_part_of}
 
@@ -32,13 +31,6 @@ asked_takes_at h k s u f v p b w A kept given lawful met is so_far asked =
     takes_then h.game reach s.state f (h.opened + 1) k.opened b h.taken k.taken w A so_far
     (takes_part_of h.game reach s.state f pattern (at_vertex s.state v) (beginning (inside p)) k.opened b k.taken w A
     (pattern_part h.game reach s.state f v p (is_candidate h.game lawful.numbered s.state f v p met (no_shift h.game.rules lawful.numbered p is)) is) asked_here)
-
-pub asked_takes : (h k : Searching) (s l u : History) (f : Start) (flat' : Flat) (v p b w : ℕ) (A : Type 0) → k ≡ record h { opened = k.opened; taken = k.taken } → l ≡ record s { room = l.room } → u ≡ record s { room = u.room } → IsGame h.game → IsBegun k.game l.state f flat' → slice_get flat'.queue.pairs flat'.taken ≡ Some (v, p) → IsPatternAt k.game.rules p → CountsPairs h.game reach s.state f (h.opened + 1) k.opened h.taken k.taken (Unit {0}) → CountsPairs k.game pattern (at_vertex u.state v) (beginning (inside p)) k.opened b k.taken w A → CountsPairs h.game reach s.state f (h.opened + 1) b h.taken w A
-asked_takes h k s l u f flat' v p b w A kept given given' lawful begun at is so_far asked =
-    let here : IsBegun h.game s.state f flat' = search_before (λ y z. IsBegun y.game z f flat') h k s l kept given begun in
-    let met : Reached h.game s.state f v p = taken_reached h.game s.state f flat' v p here at in
-    let is_here : IsPatternAt h.game.rules p = search_before (λ y z. IsPatternAt y.game.rules p) h k s l kept given is in
-    asked_takes_at h k s u f v p b w A kept given' lawful met is_here so_far asked
 
 contains_more : (pairs : List (ℕ × ℕ)) (n : ℕ) (q : ℕ × ℕ) → Contains (take n pairs) q → Contains pairs q
 contains_more pairs n q there = All-contains (Contains pairs) (take n pairs) q (All-take (Contains pairs) n pairs (All-contains_itself pairs)) there

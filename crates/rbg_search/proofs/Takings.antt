@@ -17,22 +17,19 @@ use Rattle.rbg_flat.specs.Found.{HasCandidates}
 use Rattle.rbg_search.specs.Passing.{Passes, trying, finding, listing, asking, GoesOn}
 use Rattle.rbg_search.specs.Taken.{ComesTo, begins, by_pattern, by_modifier, HasPart, CountsPairs, most_pairs_of}
 use Rattle.rbg_search.specs.declared.over.Over.{Over}
-use Rattle.rbg_search.specs.internal.Closure.{at_vertex, Reached}
-use Rattle.rbg_search.specs.internal.Part.{IsPart}
-use Rattle.rbg_search.specs.internal.Plain.{HasPlain}
+use Rattle.rbg_pairs.specs.Closure.{at_vertex, Reached}
+use Rattle.rbg_pairs.specs.Part.{IsPart}
+use Rattle.rbg_pairs.specs.Plain.{HasPlain}
 use Rattle.rbg_search.specs.internal.Spent.{IsSpent, IsSpentButOne}
-use Rattle.rbg_search.proofs.Closures.{reached, by_words}
-use Rattle.rbg_search.proofs.Glances.{no_pattern}
-use Rattle.rbg_search.proofs.Parts.{all_met}
+use Rattle.rbg_pairs.proofs.Closures.{reached, by_words}
+use Rattle.rbg_pairs.proofs.Glances.{no_pattern}
+use Rattle.rbg_pairs.proofs.Parts.{all_met}
 
 -- ---- which result is an answer
 
 pub not_ok : {X : Type 0} (r : Result X Over) (e : Over) → IsErrAnd r (λ y. y ≡ e) → ¬ IsOk r
 not_ok (Ok x) e is ok = absurd is
 not_ok (Err y) e is ok = cc
-
-pub no_answer : false ≡ true → ⊥
-no_answer e = cc
 
 pub is_answer : {X E : Type 0} (r : Result X E) (x : X) → r ≡ Ok x → IsOk r
 is_answer (Ok y) x is = refl

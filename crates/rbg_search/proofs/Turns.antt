@@ -12,14 +12,14 @@ use Rattle.rbg_rules.specs.State.{AbstractGame, AbstractState}
 use Rattle.rbg_rules.specs.Actions.{Applies}
 use Rattle.rbg_rules.specs.Questions.{pattern}
 use Rattle.rbg_state.specs.History.{History}
-use Rattle.rbg_search.specs.Flat.{IsNext}
+use Rattle.rbg_pairs.specs.Flat.{IsNext}
 use Rattle.rbg_search.specs.Searching.{Searching}
 use Rattle.rbg_search.specs.Forced.{CountsForced, TakesBehind}
 use Rattle.rbg_search.specs.Passing.{CountsUpTo}
 use Rattle.rbg_search.specs.Taken.{CountsPairs}
 use Rattle.rbg_search.specs.internal.Asked.{GoesBehind, IsCounted}
 use Rattle.rbg_search.specs.internal.Behind.{RunsBehindPair, SomeRunsBehind}
-use Rattle.rbg_search.specs.internal.Closure.{at_vertex}
+use Rattle.rbg_pairs.specs.Closure.{at_vertex}
 use Rattle.rbg_search.proofs.CountedSteps.{BehindStep, one_behind, one_too_many}
 use Rattle.rbg_search.proofs.ForcingSteps.{one_forced}
 use Rattle.rbg_search.proofs.Orders.{still_differ}

@@ -1,9 +1,8 @@
 -- What the contracts of this crate cite beside the meaning of a game.
-pub mod Flat
-pub mod Start
 pub mod Searching
 pub mod Counting
 pub mod Passing
 pub mod Forced
 pub mod Taken
+pub mod Answered
 pub mod internal

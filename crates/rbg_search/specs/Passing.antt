@@ -5,7 +5,7 @@ use Rattle.rbg_rules.specs.Words.{Start}
 use Rattle.rbg_rules.specs.State.{AbstractGame, AbstractState}
 use Rattle.rbg_rules.specs.Actions.{Applies}
 use Rattle.rbg_rules.specs.Questions.{Question, try_move, find_move, list_moves, pattern, Item, modifier_at, pattern_at, items_of, AnswersBehind, Opening, IsDeep}
-use Rattle.rbg_search.specs.Flat.{IsNext}
+use Rattle.rbg_pairs.specs.Flat.{IsNext}
 
 -- The question from s and f asks the second one behind the modifier p at vertex v: `try_move` follows its own pairs,
 -- and `find_move` and `pattern` go on where there is no answer before it.

@@ -6,13 +6,13 @@ ghost use Rattle.rbg_rules.specs.Words.{beginning};
 ghost use Rattle.rbg_rules.specs.Actions.{Applies};
 ghost use Rattle.rbg_rules.specs.Questions.{SomeWordRuns};
 ghost use Rattle.rbg_rules.specs.Games.{IsGame};
-ghost use Rattle.rbg_search.specs.Start.{IsPositionOf};
-ghost use Rattle.rbg_search.specs.internal.Closure.{at_vertex};
-ghost use Rattle.rbg_search.specs.internal.Part.{IsOutcome};
+ghost use Rattle.rbg_pairs.specs.Start.{IsPositionOf};
+ghost use Rattle.rbg_pairs.specs.Closure.{at_vertex};
+ghost use Rattle.rbg_pairs.specs.Part.{IsOutcome};
 ghost use Rattle.rbg_search.specs.internal.Shown.{shows_negative};
 
-use crate::outcome::Outcome;
 use rbg_base::{Position, Vertex};
+use rbg_pairs::Outcome;
 use rbg_rules::{Action, Game};
 
 /// What becomes of a pattern at a vertex where it is valid, or isn't.

@@ -5,22 +5,21 @@ ghost use Rattle.rbg_rules.specs.Positions.{IsPatternAt};
 ghost use Rattle.rbg_rules.specs.Words.{Start};
 ghost use Rattle.rbg_rules.specs.Actions.{Applies};
 ghost use Rattle.rbg_rules.specs.Games.{IsGame};
-ghost use Rattle.rbg_search.specs.Flat.{IsFlatPart};
-ghost use Rattle.rbg_search.specs.Start.{start_of};
+ghost use Rattle.rbg_pairs.specs.Flat.{IsFlatPart};
+ghost use Rattle.rbg_pairs.specs.Start.{start_of};
 ghost use Rattle.rbg_search.specs.internal.Begun.{IsBegun};
-ghost use Rattle.rbg_search.specs.internal.Closure.{at_vertex, Reached as Meets};
-ghost use Rattle.rbg_search.specs.internal.Part.{HasMarksOf};
-ghost use Rattle.rbg_search.specs.internal.Plain.{CountsPart, HasPlain};
-ghost use Rattle.rbg_search.specs.internal.Spent.{IsSpentButOne};
+ghost use Rattle.rbg_pairs.specs.Closure.{at_vertex, Reached as Meets};
+ghost use Rattle.rbg_pairs.specs.Part.{HasMarksOf};
+ghost use Rattle.rbg_pairs.specs.Plain.{HasPlain};
+ghost use Rattle.rbg_search.specs.internal.Spent.{CountsPart, IsSpentButOne};
 
 use crate::answer::outcome_of;
-use crate::flat::Flat;
-use crate::origin::Origin;
 use crate::over::Over;
 use crate::search::Search;
 use rbg_auto::Steps;
 use rbg_base::{Memory, Position, Vertex};
 use rbg_flat::Modifiers;
+use rbg_pairs::{Flat, Origin};
 use rbg_state::SemiState;
 
 impl<'a, S: Steps> Search<'a, S> {
@@ -55,24 +54,22 @@ impl<'a, S: Steps> Search<'a, S> {
     pub(crate) fn advance(
         &self,
         flat: &mut Box<Flat>,
-        state: &mut SemiState,
+        state: &SemiState,
     ) -> Result<Option<(Vertex, Position)>, Memory>
-        requires fits { IsStateOf self.now.game state.old.state }
-        requires room { 2 ≤ state.old.room }
+        requires fits { IsStateOf self.now.game state.now.state }
         requires marks { HasMarksOf self.now.game flat.old.value.queue }
         requires within { flat.old.value.taken ≤ length flat.old.value.queue.pairs }
-        ensures given_back { state.new ≡ state.old }
         ensures begun { OnOk result ((f : Start)
-            → IsBegun self.now.game state.old.state f flat.old.value
-            → IsBegun self.now.game state.old.state f flat.new.value) }
+            → IsBegun self.now.game state.now.state f flat.old.value
+            → IsBegun self.now.game state.now.state f flat.new.value) }
         ensures further { OnOk result (flat.old.value.taken ≤ flat.new.value.taken) }
         ensures asked { IfOk result (λ next. IfSome next (λ pair.
             (slice_get flat.new.value.queue.pairs flat.new.value.taken ≡ Some pair)
             × (pair.0 < length self.now.game.board.first)
             × IsPatternAt self.now.game.rules pair.1)) }
         ensures whole { IfOk result (λ next. IfNone next ((f : Start)
-            → IsBegun self.now.game state.old.state f flat.old.value
-            → IsFlatPart self.now.game state.old.state f flat.new.value.found.items
+            → IsBegun self.now.game state.now.state f flat.old.value
+            → IsFlatPart self.now.game state.now.state f flat.new.value.found.items
             flat.new.value.ends)) }
         ensures marks { HasMarksOf self.now.game flat.new.value.queue }
         ensures still_done { OnOk result ((x : ℕ × ℕ)
@@ -83,8 +80,8 @@ impl<'a, S: Steps> Search<'a, S> {
             → IsPatternAt self.now.game.rules p
             → Contains (take flat.old.value.taken flat.old.value.queue.pairs) (v, p)) }
         ensures met { IfOk result (λ next. IfNone next ((f : Start)
-            → IsBegun self.now.game state.old.state f flat.old.value → (v p : ℕ)
-            → Meets self.now.game state.old.state f v p
+            → IsBegun self.now.game state.now.state f flat.old.value → (v p : ℕ)
+            → Meets self.now.game state.now.state f v p
             → Contains (take flat.new.value.taken flat.new.value.queue.pairs) (v, p))) }
         ensures fresh { IfOk result (λ next. IfSome next (λ pair.
             ¬ Contains (take flat.new.value.taken flat.new.value.queue.pairs) pair)) }

@@ -7,19 +7,18 @@ ghost use Rattle.rbg_leaps.specs.Origin.{start_of as leap_start_of};
 ghost use Rattle.rbg_flat.specs.Found.{HasCandidates};
 ghost use Rattle.rbg_flat.specs.Paths.{ArePathsOf};
 ghost use Rattle.rbg_flat.specs.internal.Leading.{AreSizedFor};
-ghost use Rattle.rbg_search.specs.Flat.{IsFlatPart};
-ghost use Rattle.rbg_search.specs.Start.{start_of};
+ghost use Rattle.rbg_pairs.specs.Flat.{IsFlatPart};
+ghost use Rattle.rbg_pairs.specs.Start.{start_of};
 ghost use Rattle.rbg_search.specs.internal.BySets.{IsBegunBySets, HasSetsFor, IsWhole, BeginsBySets, AdvancesBySets, IsToBeAsked, TakesBySets};
-ghost use Rattle.rbg_search.specs.internal.Plain.{CountsPart};
-ghost use Rattle.rbg_search.specs.internal.Spent.{IsSpentButOne};
+ghost use Rattle.rbg_search.specs.internal.Spent.{CountsPart, IsSpentButOne};
 
-use crate::origin::Origin;
 use crate::over::Over;
 use crate::search::Search;
 use rbg_auto::Steps;
 use rbg_base::{Position, Vertex};
 use rbg_flat::{Flat as SetFlat, Modifiers, Paths};
 use rbg_leaps::Origin as LeapOrigin;
+use rbg_pairs::Origin;
 use rbg_state::SemiState;
 
 /// The same place in the rules, as leaps are asked for it.

@@ -1,10 +1,10 @@
 //! Which flat parts that were left by other searches are of use for a game.
 ghost use Rattle.std.specs.Prelude.{All, IsTrue};
 ghost use Rattle.rbg_flat.specs.internal.Leading.{AreSizedFor};
-ghost use Rattle.rbg_search.specs.internal.Part.{HasMarksOf};
+ghost use Rattle.rbg_pairs.specs.Part.{HasMarksOf};
 
-use crate::flat::Flat;
 use rbg_flat::Flat as SetFlat;
+use rbg_pairs::Flat;
 use rbg_rules::Game;
 use std::alloc::Global;
 

@@ -2,16 +2,13 @@
 ghost use Rattle.std.specs.Prelude.{[], ◌∷◌, IfSome};
 ghost use Rattle.rbg_rules.specs.State.{IsStateOf};
 ghost use Rattle.rbg_auto.specs.Steps.{AreAllThatFollow};
-ghost use Rattle.rbg_search.specs.Start.{start_of};
-ghost use Rattle.rbg_search.specs.internal.Part.{IsOutcome};
+ghost use Rattle.rbg_pairs.specs.Start.{start_of};
+ghost use Rattle.rbg_pairs.specs.Part.{IsOutcome};
 
-use crate::flat::tried;
-use crate::game_steps::GameSteps;
-use crate::origin::Origin;
-use crate::outcome::Outcome;
 use crate::walk::only;
 use rbg_auto::{Glance, Steps};
 use rbg_base::Position;
+use rbg_pairs::{GameSteps, Origin, Outcome, tried};
 use rbg_state::SemiState;
 
 /// The position of the one action that may come next, where there is one alone and it is a modifier that is valid here.

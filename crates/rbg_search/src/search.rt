@@ -1,45 +1,44 @@
 //! A search in a game: what is reached without a modifier, and whether patterns hold, on one budget.
-ghost use Rattle.std.specs.Prelude.{◌≡◌, ◌≢◌, ℕ, ◌+◌, ◌-◌, ◌*◌, ◌^◌, ◌<◌, ◌≤◌, ◌↔◌, suc, length, slice_get, Some, All, AllPairs, IfOk, OnOk, IfSome, IfNone, IsTrue, [], ◌∷◌, ◌++◌, take, Contains, OnErr, IfErr, IsOk, Err, Bool, max, min};
+ghost use Rattle.std.specs.Prelude.{◌≡◌, ℕ, ◌+◌, ◌-◌, ◌*◌, ◌^◌, ◌<◌, ◌≤◌, ◌↔◌, suc, length, Some, All, AllPairs, IfOk, OnOk, IfSome, IsTrue, [], ◌∷◌, take, OnErr, IfErr, IsOk, Err, Bool, max, min};
 ghost use Rattle.rbg_rules.specs.State.{AbstractState, IsStateOf};
 ghost use Rattle.rbg_rules.specs.Positions.{IsModifierAt, IsPatternAt, inside};
 ghost use Rattle.rbg_rules.specs.Words.{Start, beginning, after};
 ghost use Rattle.rbg_rules.specs.Actions.{Applies};
-ghost use Rattle.rbg_rules.specs.Questions.{SomeWordRuns, reach, pattern, IsDeep, IsForcedDeep};
+ghost use Rattle.rbg_rules.specs.Questions.{SomeWordRuns, reach, pattern};
 ghost use Rattle.rbg_rules.specs.Games.{IsGame};
 ghost use Rattle.rbg_rules.specs.Laws.{IsStart};
-ghost use Rattle.rbg_search.specs.Counting.{CountsOpenings, IsOverBudget};
-ghost use Rattle.rbg_search.specs.Forced.{CountsForced, CountsAllForced};
+ghost use Rattle.rbg_search.specs.Counting.{CountsOpenings};
+ghost use Rattle.rbg_search.specs.Forced.{CountsForced};
 ghost use Rattle.rbg_flat.specs.Found.{HasCandidates};
 ghost use Rattle.rbg_flat.specs.Paths.{ArePathsOf};
 ghost use Rattle.rbg_flat.specs.internal.Leading.{AreSizedFor};
 ghost use Rattle.rbg_search.specs.Taken.{CountsPairs, most_pairs_of};
 ghost use Rattle.rbg_search.specs.internal.Taking.{RanBehind};
-ghost use Rattle.rbg_search.specs.internal.Asked.{StandsInPattern, GoesBehind, IsCounted};
-ghost use Rattle.rbg_search.specs.Flat.{IsFlatPart, IsBefore};
-ghost use Rattle.rbg_search.specs.Start.{start_of, IsPositionOf};
+ghost use Rattle.rbg_search.specs.Answered.{IsAnswered, HasReached};
+ghost use Rattle.rbg_search.specs.internal.Asked.{StandsInPattern, GoesBehind, IsCounted, IsAsked};
+ghost use Rattle.rbg_search.specs.internal.Finding.{HasFound};
+ghost use Rattle.rbg_pairs.specs.Flat.{IsBefore};
+ghost use Rattle.rbg_pairs.specs.Start.{start_of, IsPositionOf};
 ghost use Rattle.rbg_state.specs.History.{capacity_of, IsAfter};
 ghost use Rattle.rbg_search.specs.internal.Behind.{IsReady, RunsBehindPair, SomeRunsBehind};
-ghost use Rattle.rbg_search.specs.internal.Closure.{at_vertex, Reached as Meets};
-ghost use Rattle.rbg_search.specs.internal.Nesting.{NestsFrom};
+ghost use Rattle.rbg_pairs.specs.Closure.{at_vertex};
+ghost use Rattle.rbg_pairs.specs.Nesting.{NestsFrom};
 ghost use Rattle.rbg_auto.specs.Steps.{AreAllThatFollow};
-ghost use Rattle.rbg_search.specs.internal.Part.{HasMarksOf, IsOutcome};
+ghost use Rattle.rbg_pairs.specs.Part.{HasMarksOf, IsOutcome};
 ghost use Rattle.rbg_search.specs.internal.Spent.{IsSpent, IsSpentButOne};
 ghost use Rattle.rbg_search.specs.internal.Straight.{IsWalked};
 
 use crate::answer::is_valid;
 use crate::fitting::{fitting, fitting_sets};
-use crate::flat::Flat;
-use crate::game_steps::GameSteps;
 use crate::only::only_modifier;
 use crate::order::sort;
-use crate::origin::Origin;
-use crate::outcome::Outcome;
 use crate::over::Over;
 use crate::walk::{Walk, walk_inside};
 use crate::workspace::Workspace;
 use rbg_auto::{Expr, Steps};
 use rbg_base::{Memory, Position, Vertex};
 use rbg_flat::{Flat as SetFlat, Modifiers, Paths};
+use rbg_pairs::{Flat, GameSteps, Origin, Outcome};
 use rbg_rules::Game;
 use rbg_state::SemiState;
 use std::alloc::Global;
@@ -97,7 +96,7 @@ impl<'a, S: Steps> Model for Search<'a, S> {
 
     ghost use Rattle.std.specs.Prelude.{All, ◌<◌, ◌≤◌};
     ghost use Rattle.rbg_flat.specs.internal.Leading.{AreSizedFor};
-    ghost use Rattle.rbg_search.specs.internal.Part.{HasMarksOf};
+    ghost use Rattle.rbg_pairs.specs.Part.{HasMarksOf};
     ghost use Rattle.rbg_search.specs.internal.Spent.{IsSpent};
 
     ghost invariant = { λ s.
@@ -271,35 +270,11 @@ impl<'a, S: Steps> Search<'a, S> {
     pub fn reach(&mut self, state: &mut SemiState, origin: Origin) -> Result<Reached, Over>
         requires fits { IsStateOf self.old.game state.old.state }
         requires stands { IsStart self.old.game.rules (start_of origin) }
-        ensures kept { self.new ≡ record self.old { opened = self.new.opened; taken = self.new.taken } }
-        ensures given_back { state.new ≡ record state.old { room = state.new.room } }
-        ensures room { state.old.room ≤ state.new.room }
-        ensures enough { OnOk result (2 ≤ state.new.room) }
-        ensures reached { IfOk result (λ reached.
-            IsFlatPart self.old.game state.old.state (start_of origin) reached.pairs.items
-            reached.ends) }
+        ensures answered { IsAnswered self.old self.new state.old state.new reach (start_of origin)
+            result }
+        ensures found { IfOk result (λ reached. HasReached self.old self.new state.old state.new
+            (start_of origin) reached.pairs.items reached.ends) }
         ensures order { IfOk result (λ reached. AllPairs IsBefore reached.pairs.items) }
-        ensures within { IfOk result (λ reached. All (λ pair.
-            (pair.0 < length self.old.game.board.first) × IsPositionOf self.old.game.rules pair.1)
-            reached.pairs.items) }
-        ensures counted { CountsOpenings self.old.game reach state.old.state (start_of origin)
-            self.old.opened self.new.opened }
-        ensures deep { result ≡ Err Over.Deep
-            → IsDeep self.old.game reach state.old.state (start_of origin) self.old.modifiers }
-        ensures wide { result ≡ Err Over.Wide
-            → IsOverBudget self.old.game reach state.old.state (start_of origin) self.old.opened
-            self.old.openings }
-        ensures forced { OnOk result ((cut : Bool) (left : ℕ)
-            → CountsForced self.old.game cut reach state.old.state (start_of origin)
-            self.old.opened self.new.opened left self.old.modifiers) }
-        ensures all_forced { OnOk result ((cut : Bool)
-            → CountsAllForced self.old.game cut reach state.old.state (start_of origin)
-            self.old.opened self.new.opened) }
-        ensures not_deep { OnOk result ((cut : Bool)
-            → ¬ IsForcedDeep self.old.game cut reach state.old.state (start_of origin)
-            self.old.modifiers) }
-        ensures taken { CountsPairs self.old.game reach state.old.state (start_of origin)
-            self.old.opened self.new.opened self.old.taken self.new.taken (IsOk result) }
     {
         let mut found = self.take_list();
         let ends = self.reach_into(state, origin, &mut found)?;
@@ -320,33 +295,10 @@ impl<'a, S: Steps> Search<'a, S> {
     ) -> Result<bool, Over>
         requires fits { IsStateOf self.old.game state.old.state }
         requires stands { IsStart self.old.game.rules (start_of origin) }
-        ensures kept { self.new ≡ record self.old { opened = self.new.opened; taken = self.new.taken } }
-        ensures given_back { state.new ≡ record state.old { room = state.new.room } }
-        ensures room { state.old.room ≤ state.new.room }
-        ensures enough { OnOk result (2 ≤ state.new.room) }
-        ensures reached { IfOk result (λ ends.
-            IsFlatPart self.old.game state.old.state (start_of origin) pairs.new ends) }
-        ensures within { OnOk result (All (λ pair.
-            (pair.0 < length self.old.game.board.first) × IsPositionOf self.old.game.rules pair.1)
-            pairs.new) }
-        ensures counted { CountsOpenings self.old.game reach state.old.state (start_of origin)
-            self.old.opened self.new.opened }
-        ensures deep { result ≡ Err Over.Deep
-            → IsDeep self.old.game reach state.old.state (start_of origin) self.old.modifiers }
-        ensures wide { result ≡ Err Over.Wide
-            → IsOverBudget self.old.game reach state.old.state (start_of origin) self.old.opened
-            self.old.openings }
-        ensures forced { OnOk result ((cut : Bool) (left : ℕ)
-            → CountsForced self.old.game cut reach state.old.state (start_of origin)
-            self.old.opened self.new.opened left self.old.modifiers) }
-        ensures all_forced { OnOk result ((cut : Bool)
-            → CountsAllForced self.old.game cut reach state.old.state (start_of origin)
-            self.old.opened self.new.opened) }
-        ensures not_deep { OnOk result ((cut : Bool)
-            → ¬ IsForcedDeep self.old.game cut reach state.old.state (start_of origin)
-            self.old.modifiers) }
-        ensures taken { CountsPairs self.old.game reach state.old.state (start_of origin)
-            self.old.opened self.new.opened self.old.taken self.new.taken (IsOk result) }
+        ensures answered { IsAnswered self.old self.new state.old state.new reach (start_of origin)
+            result }
+        ensures found { IfOk result (λ ends. HasReached self.old self.new state.old state.new
+            (start_of origin) pairs.new ends) }
     {
         if let Some(position) = only_modifier(&self.rules, state, origin) {
             return self.reach_only(state, origin, position, pairs);
@@ -370,23 +322,10 @@ impl<'a, S: Steps> Search<'a, S> {
         requires only { AreAllThatFollow self.old.game.rules (start_of origin) (position ∷ []) }
         requires modifies { IsOutcome self.old.game state.old.state state.old.state.vertex position
             Outcome.Modifies }
-        ensures kept { self.new ≡ record self.old { opened = self.new.opened; taken = self.new.taken } }
-        ensures given_back { state.new ≡ record state.old { room = state.new.room } }
-        ensures room { state.old.room ≤ state.new.room }
-        ensures enough { OnOk result (2 ≤ state.new.room) }
-        ensures reached { IfOk result (λ ends.
-            IsFlatPart self.old.game state.old.state (start_of origin) pairs.new ends) }
-        ensures within { OnOk result (All (λ pair.
-            (pair.0 < length self.old.game.board.first) × IsPositionOf self.old.game.rules pair.1)
-            pairs.new) }
-        ensures counts { IsCounted self.old.game reach state.old.state (start_of origin)
-            self.old.opened self.new.opened self.old.modifiers self.old.openings self.old.modifiers
-            (result ≡ Err Over.Deep) (result ≡ Err Over.Wide) }
-        ensures forced { OnOk result ((cut : Bool) (left : ℕ)
-            → CountsForced self.old.game cut reach state.old.state (start_of origin)
-            self.old.opened self.new.opened left self.old.modifiers) }
-        ensures taken { CountsPairs self.old.game reach state.old.state (start_of origin)
-            self.old.opened self.new.opened self.old.taken self.new.taken (IsOk result) }
+        ensures asked { IsAsked self.old self.new state.old state.new reach state.old.state
+            (start_of origin) self.old.modifiers result }
+        ensures found { IfOk result (λ ends. HasReached self.old self.new state.old state.new
+            (start_of origin) pairs.new ends) }
     {
         self.enter(state)?;
         let ends = self.rules.may_end(origin);
@@ -400,31 +339,10 @@ impl<'a, S: Steps> Search<'a, S> {
     pub fn pattern(&mut self, state: &mut SemiState, position: Position) -> Result<bool, Over>
         requires fits { IsStateOf self.old.game state.old.state }
         requires there { IsPatternAt self.old.game.rules position }
-        ensures kept { self.new ≡ record self.old { opened = self.new.opened; taken = self.new.taken } }
-        ensures given_back { state.new ≡ record state.old { room = state.new.room } }
-        ensures room { state.old.room ≤ state.new.room }
+        ensures answered { IsAnswered self.old self.new state.old state.new pattern
+            (beginning (inside position)) result }
         ensures valid { IfOk result (λ valid.
             IsTrue valid ↔ Applies self.old.game position state.old.state state.old.state) }
-        ensures counted { CountsOpenings self.old.game pattern state.old.state
-            (beginning (inside position))
-            self.old.opened self.new.opened }
-        ensures deep { result ≡ Err Over.Deep
-            → IsDeep self.old.game pattern state.old.state (beginning (inside position))
-            self.old.modifiers }
-        ensures wide { result ≡ Err Over.Wide
-            → IsOverBudget self.old.game pattern state.old.state (beginning (inside position))
-            self.old.opened self.old.openings }
-        ensures all_forced { OnOk result ((cut : Bool)
-            → CountsAllForced self.old.game cut pattern state.old.state
-            (beginning (inside position))
-            self.old.opened self.new.opened) }
-        ensures not_deep { OnOk result ((cut : Bool)
-            → ¬ IsForcedDeep self.old.game cut pattern state.old.state
-            (beginning (inside position))
-            self.old.modifiers) }
-        ensures taken { CountsPairs self.old.game pattern state.old.state
-            (beginning (inside position))
-            self.old.opened self.new.opened self.old.taken self.new.taken (IsOk result) }
     {
         state.reserve(1)?;
         let nested = self.rules.nesting() + 1;
@@ -543,23 +461,10 @@ impl<'a, S: Steps> Search<'a, S> {
         requires fits { IsStateOf self.old.game state.old.state }
         requires nested { NestsFrom self.old.game.rules nested (start_of origin) }
         requires start { IsStart self.old.game.rules (start_of origin) }
-        ensures kept { self.new ≡ record self.old { opened = self.new.opened; taken = self.new.taken } }
-        ensures given_back { state.new ≡ record state.old { room = state.new.room } }
-        ensures room { state.old.room ≤ state.new.room }
-        ensures enough { OnOk result (2 ≤ state.new.room) }
-        ensures reached { IfOk result (λ ends.
-            IsFlatPart self.old.game state.old.state (start_of origin) pairs.new ends) }
-        ensures ready { OnOk result (All (IsReady self.old.game state.old.state nested)
-            pairs.new) }
-        ensures lawful { IfOk result (λ _. IsGame self.old.game) }
-        ensures counts { IsCounted self.old.game reach state.old.state (start_of origin)
-            self.old.opened self.new.opened self.old.modifiers self.old.openings self.old.modifiers
-            (result ≡ Err Over.Deep) (result ≡ Err Over.Wide) }
-        ensures forced { OnOk result ((cut : Bool) (left : ℕ)
-            → CountsForced self.old.game cut reach state.old.state (start_of origin)
-            self.old.opened self.new.opened left self.old.modifiers) }
-        ensures taken { CountsPairs self.old.game reach state.old.state (start_of origin)
-            self.old.opened self.new.opened self.old.taken self.new.taken (IsOk result) }
+        ensures asked { IsAsked self.old self.new state.old state.new reach state.old.state
+            (start_of origin) self.old.modifiers result }
+        ensures found { IfOk result (λ ends. HasFound self.old self.new state.old state.new
+            (start_of origin) nested pairs.new ends) }
     {
         if let Some(paths) = self.rules.paths() {
             return self.sets_part(state, origin, nested, pairs, paths);
@@ -588,23 +493,10 @@ impl<'a, S: Steps> Search<'a, S> {
         requires nested { NestsFrom self.old.game.rules nested (start_of origin) }
         requires start { IsStart self.old.game.rules (start_of origin) }
         requires paths { ArePathsOf self.old.game paths.now }
-        ensures kept { self.new ≡ record self.old { opened = self.new.opened; taken = self.new.taken } }
-        ensures given_back { state.new ≡ record state.old { room = state.new.room } }
-        ensures room { state.old.room ≤ state.new.room }
-        ensures enough { OnOk result (2 ≤ state.new.room) }
-        ensures reached { IfOk result (λ ends.
-            IsFlatPart self.old.game state.old.state (start_of origin) pairs.new ends) }
-        ensures ready { OnOk result (All (IsReady self.old.game state.old.state nested)
-            pairs.new) }
-        ensures lawful { IfOk result (λ _. IsGame self.old.game) }
-        ensures counts { IsCounted self.old.game reach state.old.state (start_of origin)
-            self.old.opened self.new.opened self.old.modifiers self.old.openings self.old.modifiers
-            (result ≡ Err Over.Deep) (result ≡ Err Over.Wide) }
-        ensures forced { OnOk result ((cut : Bool) (left : ℕ)
-            → CountsForced self.old.game cut reach state.old.state (start_of origin)
-            self.old.opened self.new.opened left self.old.modifiers) }
-        ensures taken { CountsPairs self.old.game reach state.old.state (start_of origin)
-            self.old.opened self.new.opened self.old.taken self.new.taken (IsOk result) }
+        ensures asked { IsAsked self.old self.new state.old state.new reach state.old.state
+            (start_of origin) self.old.modifiers result }
+        ensures found { IfOk result (λ ends. HasFound self.old self.new state.old state.new
+            (start_of origin) nested pairs.new ends) }
     {
         self.enter(state)?;
         let mut flat = self.begun_by_sets(paths, state, origin)?;
@@ -632,21 +524,14 @@ impl<'a, S: Steps> Search<'a, S> {
         requires some { 0 < nested }
         requires nested { (k : ℕ) → nested ≡ suc k
             → NestsFrom self.old.game.rules k (beginning (inside position)) }
-        ensures kept { self.new ≡ record self.old { opened = self.new.opened; taken = self.new.taken } }
-        ensures given_back { state.new ≡ record state.old { room = state.new.room } }
-        ensures room { state.old.room ≤ state.new.room }
+        ensures asked { IsAsked self.old self.new state.old state.new pattern
+            (at_vertex state.old.state vertex) (beginning (inside position))
+            self.old.modifiers result }
         ensures valid { IfOk result (λ valid. IsTrue valid ↔ Applies self.old.game position
             (at_vertex state.old.state vertex) (at_vertex state.old.state vertex)) }
-        ensures counts { IsCounted self.old.game pattern
-            (at_vertex state.old.state vertex) (beginning (inside position))
-            self.old.opened self.new.opened self.old.modifiers self.old.openings self.old.modifiers
-            (result ≡ Err Over.Deep) (result ≡ Err Over.Wide) }
         ensures forced { OnOk result ((cut : Bool) → CountsForced self.old.game cut pattern
             (at_vertex state.old.state vertex) (beginning (inside position))
             self.old.opened self.new.opened self.old.modifiers self.old.modifiers) }
-        ensures taken { CountsPairs self.old.game pattern
-            (at_vertex state.old.state vertex) (beginning (inside position))
-            self.old.opened self.new.opened self.old.taken self.new.taken (IsOk result) }
     {
         if let Some(walk) = self.walk(state, vertex, position) {
             return self.answer(position, walk);
@@ -674,19 +559,13 @@ impl<'a, S: Steps> Search<'a, S> {
         requires fits { IsStateOf self.old.game state.old.state }
         requires nested { NestsFrom self.old.game.rules nested (start_of origin) }
         requires inside { StandsInPattern self.old.game.rules (start_of origin) }
-        ensures kept { self.new ≡ record self.old { opened = self.new.opened; taken = self.new.taken } }
-        ensures given_back { state.new ≡ record state.old { room = state.new.room } }
-        ensures room { state.old.room ≤ state.new.room }
+        ensures asked { IsAsked self.old self.new state.old state.new pattern state.old.state
+            (start_of origin) modifiers result }
         ensures answer { IfOk result (λ runs.
             IsTrue runs ↔ SomeWordRuns self.old.game state.old.state (start_of origin)) }
-        ensures counts { IsCounted self.old.game pattern state.old.state (start_of origin)
-            self.old.opened self.new.opened modifiers self.old.openings self.old.modifiers
-            (result ≡ Err Over.Deep) (result ≡ Err Over.Wide) }
         ensures forced { OnOk result ((cut : Bool)
             → CountsForced self.old.game cut pattern state.old.state (start_of origin)
             self.old.opened self.new.opened modifiers self.old.modifiers) }
-        ensures taken { CountsPairs self.old.game pattern state.old.state (start_of origin)
-            self.old.opened self.new.opened self.old.taken self.new.taken (IsOk result) }
     {
         let mut pairs = self.take_list();
         let ends = self.flat_part(state, origin, nested, &mut pairs)?;

@@ -5,15 +5,12 @@ ghost use Rattle.rbg_rules.specs.Positions.{inside};
 ghost use Rattle.rbg_rules.specs.Words.{beginning};
 ghost use Rattle.rbg_flat.specs.Found.{HasCandidates};
 ghost use Rattle.rbg_search.specs.Taken.{most_pairs_of};
-ghost use Rattle.rbg_search.specs.internal.Closure.{at_vertex};
+ghost use Rattle.rbg_pairs.specs.Closure.{at_vertex};
 ghost use Rattle.rbg_search.specs.internal.Straight.{IsWalked};
 
-use crate::flat::{one_more, tried};
-use crate::game_steps::GameSteps;
-use crate::origin::Origin;
-use crate::outcome::Outcome;
 use rbg_auto::{Expr, Steps};
 use rbg_base::{Position, Vertex};
+use rbg_pairs::{GameSteps, Origin, Outcome, one_more, tried};
 use rbg_state::SemiState;
 
 /// What a walk along a straight line found.

@@ -1,8 +1,8 @@
 //! What searches leave to later ones.
 ghost use Rattle.std.specs.Prelude.{◌≡◌};
 
-use crate::flat::Flat;
 use rbg_flat::{Flat as SetFlat, Modifiers};
+use rbg_pairs::Flat;
 use std::alloc::Global;
 use std::marker::Model;
 

@@ -4,7 +4,7 @@ ghost use Rattle.rbg_flat.specs.Paths.{ArePathsOf};
 ghost use Rattle.rbg_rules.specs.Laws.{IsStart};
 ghost use Rattle.rbg_rules.specs.Places.{IsPlaceOf};
 ghost use Rattle.rbg_rules.specs.Positions.{positions_of, IsPatternAt};
-ghost use Rattle.rbg_search.specs.Start.{start_of};
+ghost use Rattle.rbg_pairs.specs.Start.{start_of};
 
 use crate::asked::Asked;
 use crate::meaning::{Known, Next};

@@ -6,7 +6,7 @@ use Rattle.rbg_rules.specs.Positions.{IsSwitchAt}
 use Rattle.rbg_rules.specs.State.{AbstractGame, AbstractState}
 use Rattle.rbg_rules.specs.Actions.{Applies}
 use Rattle.rbg_rules.specs.Moves.{AbstractPlace, stand_of, IsLegal}
-use Rattle.rbg_search.specs.Flat.{IsFlatPart}
+use Rattle.rbg_pairs.specs.Flat.{IsFlatPart}
 use Rattle.rbg_moves.specs.internal.Stepping.{standing_at, place_behind}
 
 -- A list of pairs that is wanted and not among these.

@@ -5,7 +5,7 @@ use Rattle.rbg_rules.specs.State.{AbstractGame, AbstractState}
 use Rattle.rbg_rules.specs.Actions.{Applies}
 use Rattle.rbg_rules.specs.Moves.{AbstractPlace, Legal, IsLegal}
 use Rattle.rbg_rules.specs.Words.{Start}
-use Rattle.rbg_search.specs.Flat.{IsNext}
+use Rattle.rbg_pairs.specs.Flat.{IsNext}
 
 -- The semi-state with this current vertex.
 abbrev pub standing_at : AbstractState → ℕ → AbstractState

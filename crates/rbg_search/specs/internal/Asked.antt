@@ -1,16 +1,21 @@
 -- What is counted while the patterns of a flat part are asked, and behind its modifiers.
-use Rattle.std.specs.Prelude.{◌≡◌, ◌≢◌, ℕ, ◌+◌, List, [], ◌∷◌, length, All, AllPairs, Contains}
+use Rattle.std.specs.Prelude.{◌≡◌, ◌≢◌, ℕ, ◌+◌, ◌≤◌, List, [], ◌∷◌, length, All, AllPairs, Contains, Result, Err, IsOk}
 use Rattle.rbg_rules.specs.Expression.{Expression}
 use Rattle.rbg_rules.specs.Positions.{IsLevel, inside}
 use Rattle.rbg_rules.specs.Words.{Start}
 use Rattle.rbg_rules.specs.State.{AbstractGame, AbstractState}
 use Rattle.rbg_rules.specs.Games.{IsGame}
 use Rattle.rbg_rules.specs.Questions.{Question, reach, Item, modifier_at, pattern_at, Opening}
+use Rattle.rbg_state.specs.History.{History}
 use Rattle.rbg_flat.specs.Candidates.{MayEnd}
-use Rattle.rbg_search.specs.Flat.{IsNext}
+use Rattle.rbg_pairs.specs.Flat.{IsNext}
 use Rattle.rbg_search.specs.Counting.{CountsOpenings, IsOverBudget}
 use Rattle.rbg_search.specs.Passing.{IsTooDeep}
-use Rattle.rbg_search.specs.internal.Nesting.{StandsIn}
+use Rattle.rbg_search.specs.Searching.{Searching}
+use Rattle.rbg_search.specs.Taken.{CountsPairs}
+use Rattle.rbg_search.specs.declared.over.Over.{Over}
+use Rattle.rbg_search.specs.declared.over.Over.TheVariants.{Deep, Wide}
+use Rattle.rbg_pairs.specs.Nesting.{StandsIn}
 
 -- One stands in the inside of a pattern.
 pub record StandsInPattern (rules : Expression) (f : Start) : Type 0 where
@@ -54,3 +59,18 @@ pub record IsCounted
     pub counted : CountsOpenings game question s f old new
     pub deep : Deep → IsTooDeep game question s f left modifiers
     pub wide : Wide → IsOverBudget game question s f old openings
+
+-- The same of a whole search, which was h and is k, over a semi-state that was s and is l; and all that was opened is
+-- counted in pairs too. The question is asked from the semi-state `here`.
+pub record IsAsked {X : Type 0}
+    (h k : Searching) (s l : History) (question : Question) (here : AbstractState) (f : Start) (left : ℕ)
+    (result : Result X Over)
+    : Type 0
+  where
+    pub kept : k ≡ record h { opened = k.opened; taken = k.taken }
+    pub given_back : l ≡ record s { room = l.room }
+    pub room : s.room ≤ l.room
+    pub counts :
+        IsCounted h.game question here f h.opened k.opened left h.openings h.modifiers (result ≡ Err Deep)
+        (result ≡ Err Wide)
+    pub taken : CountsPairs h.game question here f h.opened k.opened h.taken k.taken (IsOk result)

@@ -2,8 +2,8 @@
 use Rattle.std.specs.Prelude.{◌≤◌, length, take}
 use Rattle.rbg_rules.specs.Words.{Start}
 use Rattle.rbg_rules.specs.State.{AbstractGame, AbstractState}
-use Rattle.rbg_search.specs.internal.Part.{IsPart, HasMarksOf}
-use Rattle.rbg_search.specs.declared.flat.Flat.{Flat}
+use Rattle.rbg_pairs.specs.Part.{IsPart, HasMarksOf}
+use Rattle.rbg_pairs.specs.declared.flat.Flat.{Flat}
 
 -- What was found so far is right, and the queue has marks for the game.
 pub record IsBegun (game : AbstractGame) (s : AbstractState) (f : Start) (flat : Flat) : Type 0 where

@@ -5,9 +5,9 @@ use Rattle.rbg_rules.specs.Words.{after}
 use Rattle.rbg_rules.specs.State.{AbstractGame, AbstractState}
 use Rattle.rbg_rules.specs.Actions.{Applies}
 use Rattle.rbg_rules.specs.Questions.{SomeWordRuns}
-use Rattle.rbg_search.specs.internal.Closure.{at_vertex}
-use Rattle.rbg_search.specs.internal.Nesting.{NestsFrom}
-use Rattle.rbg_search.specs.Start.{IsPositionOf}
+use Rattle.rbg_pairs.specs.Closure.{at_vertex}
+use Rattle.rbg_pairs.specs.Nesting.{NestsFrom}
+use Rattle.rbg_pairs.specs.Start.{IsPositionOf}
 
 -- The pair is a modifier that is valid at its vertex, and behind it patterns nest at most `limit` deep.
 pub record IsReady (game : AbstractGame) (s : AbstractState) (limit : ℕ) (pair : ℕ × ℕ) : Type 0 where

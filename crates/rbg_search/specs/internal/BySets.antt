@@ -1,22 +1,18 @@
 -- A flat part that is being found by sets of vertices.
-use Rattle.std.specs.Prelude.{◌≡◌, ◌↔◌, ℕ, ◌+◌, ◌<◌, ◌≤◌, List, [], ◌∷◌, ◌++◌, length, Bool, Contains, IsTrue}
+use Rattle.std.specs.Prelude.{◌↔◌, ℕ, ◌<◌, ◌≤◌, List, [], ◌∷◌, ◌++◌, length, Bool, Contains, IsTrue}
 use Rattle.rbg_rules.specs.Games.{IsGame}
 use Rattle.rbg_rules.specs.Positions.{IsPatternAt}
 use Rattle.rbg_rules.specs.Words.{Start}
 use Rattle.rbg_rules.specs.State.{AbstractGame, AbstractState}
 use Rattle.rbg_rules.specs.Actions.{Applies}
-use Rattle.rbg_rules.specs.Questions.{reach}
 use Rattle.rbg_state.specs.History.{History}
 use Rattle.rbg_flat.specs.declared.flat.Flat.{Flat}
 use Rattle.rbg_flat.specs.internal.Begun.{IsBegun}
 use Rattle.rbg_flat.specs.internal.Leading.{AreSizedFor, AreOn}
 use Rattle.rbg_flat.specs.internal.Sets.{IsMarked, IsOpen, IsDone, WaitsLast, weight}
 use Rattle.rbg_search.specs.Searching.{Searching}
-use Rattle.rbg_search.specs.Taken.{CountsPairs}
-use Rattle.rbg_search.specs.internal.Asked.{CountsAsked}
-use Rattle.rbg_search.specs.internal.Closure.{at_vertex}
-use Rattle.rbg_search.specs.internal.Spent.{IsSpent}
-use Rattle.rbg_search.specs.internal.Taking.{AsksForced}
+use Rattle.rbg_pairs.specs.Closure.{at_vertex}
+use Rattle.rbg_search.specs.internal.Finding.{Finds}
 
 -- What was found so far is right.
 pub record IsBegunBySets (game : AbstractGame) (s : AbstractState) (f : Start) (flat : Flat) : Type 0 where
@@ -69,22 +65,10 @@ pub record TakesBySets (game : AbstractGame) (s : AbstractState) (old new : Flat
   pub asked : (pairs : List (ℕ × ℕ)) → AreAsked game old pairs → AreAsked game new (pairs ++ (v, p) ∷ [])
   pub lighter : weight new.sets < weight old.sets
 
--- What was counted while the patterns among some pairs were asked.
-pub record CountsBySets (game : AbstractGame) (s : AbstractState) (f : Start) (flat : Flat) (old new most : ℕ) : Type 0 where
-  pub pairs : List (ℕ × ℕ)
-  pub asked : AreAsked game flat pairs
-  pub counted : CountsAsked game s f pairs old new
-  pub forced : (cut : Bool) → AsksForced game cut s pairs old new most
-
--- A search finds a flat part from f by sets: it was h, and the semi-state s, when that was begun.
+-- A search finds a flat part by sets. The pairs are the patterns that were asked.
 pub record FindsBySets (h k : Searching) (s l : History) (f : Start) (flat : Flat) : Type 0 where
-  pub kept : k ≡ record h { opened = k.opened; taken = k.taken }
-  pub given_back : l ≡ record s { room = l.room }
-  pub room : s.room ≤ l.room
-  pub enough : 2 ≤ l.room
-  pub lawful : IsGame h.game
+  pub pairs : List (ℕ × ℕ)
+  pub finds : Finds h k s l f pairs
+  pub asked : AreAsked h.game flat pairs
   pub sets : HasSetsFor h.game flat
   pub begun : IsBegunBySets h.game s.state f flat
-  pub counts : CountsBySets h.game s.state f flat h.opened k.opened h.modifiers
-  pub spent : IsSpent h.game h.opened h.taken
-  pub taken : CountsPairs h.game reach s.state f (h.opened + 1) k.opened h.taken k.taken (Unit {0})

@@ -1,5 +1,5 @@
 -- How many pairs a search has taken at most.
-use Rattle.std.specs.Prelude.{ℕ, ◌+◌, ◌*◌, ◌≤◌}
+use Rattle.std.specs.Prelude.{◌≡◌, ℕ, ◌+◌, ◌*◌, ◌≤◌}
 use Rattle.rbg_rules.specs.State.{AbstractGame}
 use Rattle.rbg_search.specs.Taken.{most_pairs_of}
 
@@ -10,3 +10,10 @@ pub record IsSpent (game : AbstractGame) (opened taken : ℕ) : Type 0 where
 -- .. and one of them was opened and is not counted yet.
 pub record IsSpentButOne (game : AbstractGame) (opened taken : ℕ) : Type 0 where
   pub few : taken + most_pairs_of game ≤ opened * most_pairs_of game
+
+-- The count went up by a number of which something is so, and by no more than a flat part has pairs.
+pub record CountsPart (game : AbstractGame) (Has : ℕ → Type 0) (old new : ℕ) : Type 0 where
+  pub many : ℕ
+  pub has : Has many
+  pub sum : new ≡ old + many
+  pub few : many ≤ most_pairs_of game

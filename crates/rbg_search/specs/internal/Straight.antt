@@ -3,10 +3,10 @@ use Rattle.std.specs.Prelude.{◌≢◌, ℕ, ◌<◌, List, [], ◌∷◌, ◌+
 use Rattle.rbg_rules.specs.Positions.{IsPatternAt}
 use Rattle.rbg_rules.specs.Words.{Start}
 use Rattle.rbg_rules.specs.State.{AbstractGame, AbstractState}
-use Rattle.rbg_search.specs.Flat.{IsFlatPart}
-use Rattle.rbg_search.specs.internal.Closure.{Reached}
-use Rattle.rbg_search.specs.internal.Part.{IsPart}
-use Rattle.rbg_search.specs.internal.Plain.{HasPlain}
+use Rattle.rbg_pairs.specs.Flat.{IsFlatPart}
+use Rattle.rbg_pairs.specs.Closure.{Reached}
+use Rattle.rbg_pairs.specs.Part.{IsPart}
+use Rattle.rbg_pairs.specs.Plain.{HasPlain}
 
 -- The flat part is whole: it has no modifier, no pattern may come in it, and `ends` tells whether a word may end.
 pub record IsWalked (game : AbstractGame) (s : AbstractState) (f : Start) (ends : Bool) : Type 0 where

@@ -5,7 +5,7 @@ use Rattle.rbg_rules.specs.Words.{beginning}
 use Rattle.rbg_rules.specs.State.{AbstractGame, AbstractState}
 use Rattle.rbg_rules.specs.Questions.{pattern, Item, pattern_at, Forced}
 use Rattle.rbg_search.specs.Forced.{HasFewInRow, TakesBehind}
-use Rattle.rbg_search.specs.internal.Closure.{at_vertex}
+use Rattle.rbg_pairs.specs.Closure.{at_vertex}
 
 -- The empty list was taken up, and all that is forced in the patterns among the pairs that are done.
 pub record AsksForced

@@ -13,8 +13,8 @@ use Rattle.rbg_rules.specs.Moves.{AbstractPlace, stand_of, Finished}
 use Rattle.rbg_rules.specs.Questions.{find_move}
 use Rattle.rbg_state.specs.History.{History, IsAfter}
 use Rattle.rbg_state.proofs.Histories.{after_nothing, after_both}
-use Rattle.rbg_search.specs.Flat.{IsFlatPart}
-use Rattle.rbg_search.specs.Start.{start_of, IsPositionOf}
+use Rattle.rbg_pairs.specs.Flat.{IsFlatPart}
+use Rattle.rbg_pairs.specs.Start.{start_of, IsPositionOf}
 use Rattle.rbg_search.specs.Searching.{Searching}
 use Rattle.rbg_search.proofs.Asking.{after_room}
 use Rattle.rbg_search.proofs.CallerLemmas.{find_begins}
@@ -46,7 +46,7 @@ find-returns-in_err-reach_into-clause-given_up g t c =
     let left = most_pairs - length c.args.front.now.items in
     let p = err_from_is_err_and c.from_residual.result c.from_residual.ensures.1 in
     rw (p.1, p.2)
-    (reach_given_up old c.take_list-pairs.new.self find_move place.state (stand_of place.last) (start_of c.origin_after.result) left _ _ numbered (find_begins old.game place.state (stand_of place.last)) c.take_list-pairs.ensures c.origin_after.ensures c.in_err-reach_into.ensures.deep c.in_err-reach_into.ensures.wide)
+    (reach_given_up old c.take_list-pairs.new.self find_move place.state (stand_of place.last) (start_of c.origin_after.result) left _ _ numbered (find_begins old.game place.state (stand_of place.last)) c.take_list-pairs.ensures c.origin_after.ensures c.in_err-reach_into.ensures.answered.deep c.in_err-reach_into.ensures.answered.wide)
 
 pub find-returns-in-Some-clause-found : goal.find-returns-in-Some-clause-found
 find-returns-in-Some-clause-found g t c _ =
@@ -55,7 +55,7 @@ find-returns-in-Some-clause-found g t c _ =
     let place : AbstractPlace = record { state = c.args.state.now.state; last = c.args.after } in
     let pairs : List (ℕ × ℕ) = c.reach_into.new.pairs in
     let ends = c.in_ok-reach_into.field-0 in
-    let part = part_as old c.take_list-pairs.new.self place.state (stand_of place.last) (start_of c.origin_after.result) pairs pairs ends c.take_list-pairs.ensures c.origin_after.ensures refl c.in_ok-reach_into.ensures.reached in
+    let part = part_as old c.take_list-pairs.new.self place.state (stand_of place.last) (start_of c.origin_after.result) pairs pairs ends c.take_list-pairs.ensures c.origin_after.ensures refl c.in_ok-reach_into.ensures.found.reached in
     let last = c.in-Some.last in
     let next = (part.next last.0 last.1).0 (turn_there pairs [] pairs c.take_switch.new.pairs last (IsPermutation-refl pairs) c.in-Some.ensures.permutation) in
     let switches : IsSwitchAt old.game.rules last.1 = subst (λ (h : AbstractGame). IsSwitchAt h.rules last.1) c.game-game.ensures.game c.in-Some.ensures.switches in
@@ -73,7 +73,7 @@ find-returns-in-Some-clause-answered g t c =
     let place : AbstractPlace = record { state = c.args.state.now.state; last = c.args.after } in
     let pairs : List (ℕ × ℕ) = c.reach_into.new.pairs in
     let ends = c.in_ok-reach_into.field-0 in
-    let part = part_as old c.take_list-pairs.new.self place.state (stand_of place.last) (start_of c.origin_after.result) pairs pairs ends c.take_list-pairs.ensures c.origin_after.ensures refl c.in_ok-reach_into.ensures.reached in
+    let part = part_as old c.take_list-pairs.new.self place.state (stand_of place.last) (start_of c.origin_after.result) pairs pairs ends c.take_list-pairs.ensures c.origin_after.ensures refl c.in_ok-reach_into.ensures.found.reached in
     let last = c.in-Some.last in
     let next = (part.next last.0 last.1).0 (turn_there pairs [] pairs c.take_switch.new.pairs last (IsPermutation-refl pairs) c.in-Some.ensures.permutation) in
     let switches : IsSwitchAt old.game.rules last.1 = subst (λ (h : AbstractGame). IsSwitchAt h.rules last.1) c.game-game.ensures.game c.in-Some.ensures.switches in
@@ -82,9 +82,9 @@ find-returns-in-Some-clause-answered g t c =
     let b = c.reach_into.new.self.opened in
     subst (λ (x : Searching). IsAnswered old x false find_move place.state (stand_of place.last) left) (sym c.keep_list.ensures)
     (so_far_answers old c.reach_into.new.self false find_move place.state (stand_of place.last) [] left numbered
-    (so_far_begin old c.take_list-pairs.new.self c.reach_into.new.self find_move place.state (stand_of place.last) (start_of c.origin_after.result) (IsOk c.reach_into.result) numbered (find_begins old.game place.state (stand_of place.last)) c.take_list-pairs.ensures c.origin_after.ensures c.reach_into.ensures.counted c.reach_into.ensures.taken (is_answer c.reach_into.result c.in_ok-reach_into.field-0 c.in_ok-reach_into.was) [])
+    (so_far_begin old c.take_list-pairs.new.self c.reach_into.new.self find_move place.state (stand_of place.last) (start_of c.origin_after.result) (IsOk c.reach_into.result) numbered (find_begins old.game place.state (stand_of place.last)) c.take_list-pairs.ensures c.origin_after.ensures c.reach_into.ensures.answered.counted c.reach_into.ensures.answered.taken (is_answer c.reach_into.result c.in_ok-reach_into.field-0 c.in_ok-reach_into.was) [])
     (found_forced old.game numbered place (last ∷ []) old.opened b b left old.modifiers (place_behind next.later last.1, legal) (omega arith)
-    (forced_begin old c.take_list-pairs.new.self c.reach_into.new.self place.state (stand_of place.last) (start_of c.origin_after.result) left c.take_list-pairs.ensures c.origin_after.ensures (c.in_ok-reach_into.ensures.forced false left))))
+    (forced_begin old c.take_list-pairs.new.self c.reach_into.new.self place.state (stand_of place.last) (start_of c.origin_after.result) left c.take_list-pairs.ensures c.origin_after.ensures (c.in_ok-reach_into.ensures.found.forced false left))))
 
 pub find-returns-in-Some-clause-length : goal.find-returns-in-Some-clause-length
 find-returns-in-Some-clause-length g t c _ =
@@ -101,7 +101,7 @@ find-loop-vertex-init g t c =
     let left = most_pairs - length c.args.front.now.items in
     let pairs : List (ℕ × ℕ) = c.reach_into.new.pairs in
     let ends = c.in_ok-reach_into.field-0 in
-    let part = part_as old c.take_list-pairs.new.self place.state (stand_of place.last) (start_of c.origin_after.result) pairs pairs ends c.take_list-pairs.ensures c.origin_after.ensures refl c.in_ok-reach_into.ensures.reached in
+    let part = part_as old c.take_list-pairs.new.self place.state (stand_of place.last) (start_of c.origin_after.result) pairs pairs ends c.take_list-pairs.ensures c.origin_after.ensures refl c.in_ok-reach_into.ensures.found.reached in
     let others = c.take_switch.new.pairs in
     let kept : pairs ≡ others = sym c.in_default.ensures.kept in
     let plain = subst (λ (h : AbstractGame). All (λ (r : ℕ × ℕ). ¬ IsSwitchAt h.rules r.1) pairs) c.game-game.ensures.game c.in_default.ensures.none in
@@ -109,15 +109,15 @@ find-loop-vertex-init g t c =
       done = [];
       part = record { ends = ends; part = subst (λ (ps : List (ℕ × ℕ)). IsFlatPart old.game place.state (stand_of place.last) ps ends) kept part };
       plain = subst (All (λ (r : ℕ × ℕ). ¬ IsSwitchAt old.game.rules r.1)) kept plain;
-      search = kept_since old c.take_list-pairs.new.self c.reach_into.new.self c.take_list-pairs.ensures c.reach_into.ensures.kept;
-      state = c.reach_into.ensures.given_back;
-      room = c.reach_into.ensures.room;
-      enough = c.in_ok-reach_into.ensures.enough;
+      search = kept_since old c.take_list-pairs.new.self c.reach_into.new.self c.take_list-pairs.ensures c.reach_into.ensures.answered.kept;
+      state = c.reach_into.ensures.answered.given_back;
+      room = c.reach_into.ensures.answered.room;
+      enough = c.in_ok-reach_into.ensures.found.enough;
       front = refl;
       nothing = λ k d below later applied. absurd (omega (arith, below));
-      so_far = so_far_begin old c.take_list-pairs.new.self c.reach_into.new.self find_move place.state (stand_of place.last) (start_of c.origin_after.result) (IsOk c.reach_into.result) numbered (find_begins old.game place.state (stand_of place.last)) c.take_list-pairs.ensures c.origin_after.ensures c.reach_into.ensures.counted c.reach_into.ensures.taken (is_answer c.reach_into.result c.in_ok-reach_into.field-0 c.in_ok-reach_into.was) [];
+      so_far = so_far_begin old c.take_list-pairs.new.self c.reach_into.new.self find_move place.state (stand_of place.last) (start_of c.origin_after.result) (IsOk c.reach_into.result) numbered (find_begins old.game place.state (stand_of place.last)) c.take_list-pairs.ensures c.origin_after.ensures c.reach_into.ensures.answered.counted c.reach_into.ensures.answered.taken (is_answer c.reach_into.result c.in_ok-reach_into.field-0 c.in_ok-reach_into.was) [];
       forced = so_far_none old.game numbered find_move place.state (stand_of place.last) old.opened c.reach_into.new.self.opened left old.modifiers
-          (forced_begin old c.take_list-pairs.new.self c.reach_into.new.self place.state (stand_of place.last) (start_of c.origin_after.result) left c.take_list-pairs.ensures c.origin_after.ensures (c.in_ok-reach_into.ensures.forced false left));
+          (forced_begin old c.take_list-pairs.new.self c.reach_into.new.self place.state (stand_of place.last) (start_of c.origin_after.result) left c.take_list-pairs.ensures c.origin_after.ensures (c.in_ok-reach_into.ensures.found.forced false left));
     }
 
 pub find-returns-then-len-eq-MAX_PAIRS-clause-given_up : goal.find-returns-then-len-eq-MAX_PAIRS-clause-given_up
@@ -285,10 +285,10 @@ after_kept : (h k : History) → k ≡ record h { room = k.room } → IsAfter h 
 after_kept h k kept = after_room h h k (after_nothing h) kept
 
 pub find-returns-in_err-reach_into-clause-after : goal.find-returns-in_err-reach_into-clause-after
-find-returns-in_err-reach_into-clause-after g t c = on_err _ _ (after_kept c.args.state.now c.reach_into.new.state c.reach_into.ensures.given_back)
+find-returns-in_err-reach_into-clause-after g t c = on_err _ _ (after_kept c.args.state.now c.reach_into.new.state c.reach_into.ensures.answered.given_back)
 
 pub find-returns-in_err-join-clause-after : goal.find-returns-in_err-join-clause-after
-find-returns-in_err-join-clause-after g t c = on_err _ _ (after_kept c.args.state.now c.reach_into.new.state c.reach_into.ensures.given_back)
+find-returns-in_err-join-clause-after g t c = on_err _ _ (after_kept c.args.state.now c.reach_into.new.state c.reach_into.ensures.answered.given_back)
 
 pub find-returns-then-len-eq-MAX_PAIRS-clause-after : goal.find-returns-then-len-eq-MAX_PAIRS-clause-after
 find-returns-then-len-eq-MAX_PAIRS-clause-after g t c = after_kept c.args.state.now c.loop-vertex.state c.loop-vertex.invariant.state

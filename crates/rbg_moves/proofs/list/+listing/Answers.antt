@@ -9,7 +9,7 @@ use Rattle.rbg_rules.specs.Laws.{IsStart}
 use Rattle.rbg_rules.specs.Moves.{AbstractPlace, stand_of, IsLegal}
 use Rattle.rbg_rules.specs.Questions.{list_moves}
 use Rattle.rbg_state.specs.History.{History}
-use Rattle.rbg_search.specs.Start.{start_of, IsPositionOf}
+use Rattle.rbg_pairs.specs.Start.{start_of, IsPositionOf}
 use Rattle.rbg_search.specs.Searching.{Searching}
 use Rattle.rbg_search.proofs.CallerLemmas.{list_begins}
 use Rattle.rbg_search.proofs.Kept.{kept_since}
@@ -43,7 +43,7 @@ list-returns-in_err-reach_into-clause-given_up g t c =
     let left = most_pairs - length c.args.front.now.items in
     let p = err_from_is_err_and c.from_residual.result c.from_residual.ensures.1 in
     rw (p.1, p.2)
-    (reach_given_up old c.take_list-pairs.new.self list_moves place.state (stand_of place.last) (start_of c.origin_after.result) left _ _ numbered (list_begins old.game place.state (stand_of place.last)) c.take_list-pairs.ensures c.origin_after.ensures c.in_err-reach_into.ensures.deep c.in_err-reach_into.ensures.wide)
+    (reach_given_up old c.take_list-pairs.new.self list_moves place.state (stand_of place.last) (start_of c.origin_after.result) left _ _ numbered (list_begins old.game place.state (stand_of place.last)) c.take_list-pairs.ensures c.origin_after.ensures c.in_err-reach_into.ensures.answered.deep c.in_err-reach_into.ensures.answered.wide)
 
 pub list-returns-then-branch-clause-gathered : goal.list-returns-then-branch-clause-gathered
 list-returns-then-branch-clause-gathered g t c =
@@ -52,7 +52,7 @@ list-returns-then-branch-clause-gathered g t c =
     let place : AbstractPlace = record { state = c.args.state.now.state; last = c.args.after } in
     let pairs : List (ℕ × ℕ) = c.reach_into.new.pairs in
     let ends = c.in_ok-reach_into.field-0 in
-    let part = part_as old c.take_list-pairs.new.self place.state (stand_of place.last) (start_of c.origin_after.result) pairs pairs ends c.take_list-pairs.ensures c.origin_after.ensures refl c.in_ok-reach_into.ensures.reached in
+    let part = part_as old c.take_list-pairs.new.self place.state (stand_of place.last) (start_of c.origin_after.result) pairs pairs ends c.take_list-pairs.ensures c.origin_after.ensures refl c.in_ok-reach_into.ensures.found.reached in
     let front : List (ℕ × ℕ) = c.args.front.now.items in
     let max = c.args.found.now.max in
     let moves : List (List (ℕ × ℕ)) = c.args.found.now.moves in
@@ -68,9 +68,9 @@ list-returns-then-branch-clause-answered g t c =
     let left = most_pairs - length c.args.front.now.items in
     let b = c.reach_into.new.self.opened in
     so_far_answers old c.reach_into.new.self true list_moves place.state (stand_of place.last) [] left numbered
-    (so_far_begin old c.take_list-pairs.new.self c.reach_into.new.self list_moves place.state (stand_of place.last) (start_of c.origin_after.result) (IsOk c.reach_into.result) numbered (list_begins old.game place.state (stand_of place.last)) c.take_list-pairs.ensures c.origin_after.ensures c.reach_into.ensures.counted c.reach_into.ensures.taken (is_answer c.reach_into.result c.in_ok-reach_into.field-0 c.in_ok-reach_into.was) [])
+    (so_far_begin old c.take_list-pairs.new.self c.reach_into.new.self list_moves place.state (stand_of place.last) (start_of c.origin_after.result) (IsOk c.reach_into.result) numbered (list_begins old.game place.state (stand_of place.last)) c.take_list-pairs.ensures c.origin_after.ensures c.reach_into.ensures.answered.counted c.reach_into.ensures.answered.taken (is_answer c.reach_into.result c.in_ok-reach_into.field-0 c.in_ok-reach_into.was) [])
     (cut_forced old.game numbered place.state (stand_of place.last) old.opened b b left old.modifiers (omega arith)
-    (forced_begin old c.take_list-pairs.new.self c.reach_into.new.self place.state (stand_of place.last) (start_of c.origin_after.result) left c.take_list-pairs.ensures c.origin_after.ensures (c.in_ok-reach_into.ensures.forced false left)))
+    (forced_begin old c.take_list-pairs.new.self c.reach_into.new.self place.state (stand_of place.last) (start_of c.origin_after.result) left c.take_list-pairs.ensures c.origin_after.ensures (c.in_ok-reach_into.ensures.found.forced false left)))
 
 pub list-loop-vertex-init : goal.list-loop-vertex-init
 list-loop-vertex-init g t c =
@@ -80,7 +80,7 @@ list-loop-vertex-init g t c =
     let left = most_pairs - length c.args.front.now.items in
     let pairs : List (ℕ × ℕ) = c.reach_into.new.pairs in
     let ends = c.in_ok-reach_into.field-0 in
-    let part = part_as old c.take_list-pairs.new.self place.state (stand_of place.last) (start_of c.origin_after.result) pairs pairs ends c.take_list-pairs.ensures c.origin_after.ensures refl c.in_ok-reach_into.ensures.reached in
+    let part = part_as old c.take_list-pairs.new.self place.state (stand_of place.last) (start_of c.origin_after.result) pairs pairs ends c.take_list-pairs.ensures c.origin_after.ensures refl c.in_ok-reach_into.ensures.found.reached in
     let front : List (ℕ × ℕ) = c.args.front.now.items in
     let max = c.args.found.now.max in
     let moves : List (List (ℕ × ℕ)) = c.args.found.now.moves in
@@ -92,17 +92,17 @@ list-loop-vertex-init g t c =
       done = others.switches;
       whole = record { ends = ends; part = flat_permuted old.game place.state (stand_of place.last) pairs (others.switches ++ c.add_switches.new.pairs) ends others.moves part };
       plain = others.plain;
-      search = kept_since old c.take_list-pairs.new.self c.reach_into.new.self c.take_list-pairs.ensures c.reach_into.ensures.kept;
-      state = c.reach_into.ensures.given_back;
-      room = c.reach_into.ensures.room;
-      enough = c.in_ok-reach_into.ensures.enough;
+      search = kept_since old c.take_list-pairs.new.self c.reach_into.new.self c.take_list-pairs.ensures c.reach_into.ensures.answered.kept;
+      state = c.reach_into.ensures.answered.given_back;
+      room = c.reach_into.ensures.answered.room;
+      enough = c.in_ok-reach_into.ensures.found.enough;
       front = refl;
       max = c.add_switches.ensures.max;
       few = subst (λ (n : ℕ). length new ≤ n) (sym c.add_switches.ensures.max) gathered.few;
       gathered = gathered;
-      so_far = so_far_begin old c.take_list-pairs.new.self c.reach_into.new.self list_moves place.state (stand_of place.last) (start_of c.origin_after.result) (IsOk c.reach_into.result) numbered (list_begins old.game place.state (stand_of place.last)) c.take_list-pairs.ensures c.origin_after.ensures c.reach_into.ensures.counted c.reach_into.ensures.taken (is_answer c.reach_into.result c.in_ok-reach_into.field-0 c.in_ok-reach_into.was) others.switches;
+      so_far = so_far_begin old c.take_list-pairs.new.self c.reach_into.new.self list_moves place.state (stand_of place.last) (start_of c.origin_after.result) (IsOk c.reach_into.result) numbered (list_begins old.game place.state (stand_of place.last)) c.take_list-pairs.ensures c.origin_after.ensures c.reach_into.ensures.answered.counted c.reach_into.ensures.answered.taken (is_answer c.reach_into.result c.in_ok-reach_into.field-0 c.in_ok-reach_into.was) others.switches;
       forced = so_far_switches old.game numbered list_moves place.state (stand_of place.last) others.switches old.opened c.reach_into.new.self.opened left old.modifiers others.switching
-          (forced_begin old c.take_list-pairs.new.self c.reach_into.new.self place.state (stand_of place.last) (start_of c.origin_after.result) left c.take_list-pairs.ensures c.origin_after.ensures (c.in_ok-reach_into.ensures.forced false left));
+          (forced_begin old c.take_list-pairs.new.self c.reach_into.new.self place.state (stand_of place.last) (start_of c.origin_after.result) left c.take_list-pairs.ensures c.origin_after.ensures (c.in_ok-reach_into.ensures.found.forced false left));
     }
 
 pub list-returns-then-len-eq-MAX_PAIRS-clause-given_up : goal.list-returns-then-len-eq-MAX_PAIRS-clause-given_up

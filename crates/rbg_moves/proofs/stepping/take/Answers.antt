@@ -6,9 +6,9 @@ use Rattle.rbg_rules.specs.Actions.{Applies}
 use Rattle.rbg_rules.specs.Moves.{stand_of}
 use Rattle.rbg_rules.specs.Laws.{IsStart}
 use Rattle.rbg_rules.specs.Questions.{reach}
-use Rattle.rbg_search.specs.Flat.{IsNext, IsFlatPart}
+use Rattle.rbg_pairs.specs.Flat.{IsNext, IsFlatPart}
 use Rattle.rbg_search.specs.Searching.{Searching}
-use Rattle.rbg_search.specs.Start.{start_of, IsPositionOf}
+use Rattle.rbg_pairs.specs.Start.{start_of, IsPositionOf}
 use Rattle.rbg_state.specs.History.{History}
 use Rattle.rbg_moves.specs.internal.Stepping.{standing_at, IsValidAt}
 use Rattle.rbg_moves.proofs.Steps.{place_start, place_after, valid_next, modifier_position, next_from, has_next}
@@ -43,9 +43,9 @@ apply_at-requires-clause-valid g c =
     let q = c.args.pair in
     let items = c.reach_into.new.pairs in
     let has : Contains items q = subst (Contains items) c.pair.view_is (c.contains-comes_next.ensures.0 c.if-comes_next.true) in
-    let next : IsNext game s f q.0 q.1 = next_from game s f _ items items c.in_ok-reach_into.field-0 q (subst (λ (x : Searching). IsFlatPart x.game s (start_of c.origin_after.result) items c.in_ok-reach_into.field-0) c.take_list-pairs.ensures c.in_ok-reach_into.ensures.reached) c.origin_after.ensures refl has in
-    let within = All-contains (λ (r : ℕ × ℕ). (r.0 < length game.board.first) × IsPositionOf game.rules r.1) items q (subst (λ (x : Searching). All (λ r. (r.0 < length x.game.board.first) × IsPositionOf x.game.rules r.1) items) c.take_list-pairs.ensures c.in_ok-reach_into.ensures.within) has in
-    let here : c.reach_into.new.state.state ≡ s = ap (λ (h : History). h.state) c.in_ok-reach_into.ensures.given_back in
+    let next : IsNext game s f q.0 q.1 = next_from game s f _ items items c.in_ok-reach_into.field-0 q (subst (λ (x : Searching). IsFlatPart x.game s (start_of c.origin_after.result) items c.in_ok-reach_into.field-0) c.take_list-pairs.ensures c.in_ok-reach_into.ensures.found.reached) c.origin_after.ensures refl has in
+    let within = All-contains (λ (r : ℕ × ℕ). (r.0 < length game.board.first) × IsPositionOf game.rules r.1) items q (subst (λ (x : Searching). All (λ r. (r.0 < length x.game.board.first) × IsPositionOf x.game.rules r.1) items) c.take_list-pairs.ensures c.in_ok-reach_into.ensures.found.within) has in
+    let here : c.reach_into.new.state.state ≡ s = ap (λ (h : History). h.state) c.in_ok-reach_into.ensures.answered.given_back in
     valid_as game c.game-game.result.now s c.reach_into.new.state.state q.0 q.1 c.game-game.ensures.game here (valid_next game c.game-game.ensures.lawful.numbered s f q.0 q.1 within.0 next)
 
 pub returns-then-comes_next-clause-taken : goal.returns-then-comes_next-clause-taken
@@ -56,8 +56,8 @@ returns-then-comes_next-clause-taken g c _ =
     let q = c.args.pair in
     let items = c.reach_into.new.pairs in
     let has : Contains items q = subst (Contains items) c.pair.view_is (c.contains-comes_next.ensures.0 c.if-comes_next.true) in
-    let next : IsNext game s f q.0 q.1 = next_from game s f _ items items c.in_ok-reach_into.field-0 q (subst (λ (x : Searching). IsFlatPart x.game s (start_of c.origin_after.result) items c.in_ok-reach_into.field-0) c.take_list-pairs.ensures c.in_ok-reach_into.ensures.reached) c.origin_after.ensures refl has in
-    let here : c.reach_into.new.state.state ≡ s = ap (λ (h : History). h.state) c.in_ok-reach_into.ensures.given_back in
+    let next : IsNext game s f q.0 q.1 = next_from game s f _ items items c.in_ok-reach_into.field-0 q (subst (λ (x : Searching). IsFlatPart x.game s (start_of c.origin_after.result) items c.in_ok-reach_into.field-0) c.take_list-pairs.ensures c.in_ok-reach_into.ensures.found.reached) c.origin_after.ensures refl has in
+    let here : c.reach_into.new.state.state ≡ s = ap (λ (h : History). h.state) c.in_ok-reach_into.ensures.answered.given_back in
     record { next = next; applies = applied_as game c.game-game.result.now s c.reach_into.new.state.state c.apply_at.new.state.state q.0 q.1 c.game-game.ensures.game here c.apply_at.ensures.applied }
 
 pub returns-then-comes_next-clause-in_game : goal.returns-then-comes_next-clause-in_game
@@ -68,7 +68,7 @@ returns-then-comes_next-clause-in_game g c _ =
     let q = c.args.pair in
     let items = c.reach_into.new.pairs in
     let has : Contains items q = subst (Contains items) c.pair.view_is (c.contains-comes_next.ensures.0 c.if-comes_next.true) in
-    let next : IsNext game s f q.0 q.1 = next_from game s f _ items items c.in_ok-reach_into.field-0 q (subst (λ (x : Searching). IsFlatPart x.game s (start_of c.origin_after.result) items c.in_ok-reach_into.field-0) c.take_list-pairs.ensures c.in_ok-reach_into.ensures.reached) c.origin_after.ensures refl has in
+    let next : IsNext game s f q.0 q.1 = next_from game s f _ items items c.in_ok-reach_into.field-0 q (subst (λ (x : Searching). IsFlatPart x.game s (start_of c.origin_after.result) items c.in_ok-reach_into.field-0) c.take_list-pairs.ensures c.in_ok-reach_into.ensures.found.reached) c.origin_after.ensures refl has in
     let fits : IsStateOf game c.apply_at.new.state.state = subst (λ (g : AbstractGame). IsStateOf g c.apply_at.new.state.state) c.game-game.ensures.game c.apply_at.ensures.fits in
     place_after game c.game-game.ensures.lawful.numbered c.apply_at.new.state.state q.1 next.modifies fits
 
@@ -80,7 +80,7 @@ returns-then-comes_next-clause-position g c _ =
     let q = c.args.pair in
     let items = c.reach_into.new.pairs in
     let has : Contains items q = subst (Contains items) c.pair.view_is (c.contains-comes_next.ensures.0 c.if-comes_next.true) in
-    let next : IsNext game s f q.0 q.1 = next_from game s f _ items items c.in_ok-reach_into.field-0 q (subst (λ (x : Searching). IsFlatPart x.game s (start_of c.origin_after.result) items c.in_ok-reach_into.field-0) c.take_list-pairs.ensures c.in_ok-reach_into.ensures.reached) c.origin_after.ensures refl has in
+    let next : IsNext game s f q.0 q.1 = next_from game s f _ items items c.in_ok-reach_into.field-0 q (subst (λ (x : Searching). IsFlatPart x.game s (start_of c.origin_after.result) items c.in_ok-reach_into.field-0) c.take_list-pairs.ensures c.in_ok-reach_into.ensures.found.reached) c.origin_after.ensures refl has in
     modifier_position game c.game-game.ensures.lawful.numbered q.1 next.modifies
 
 pub returns-else-comes_next-clause-refused : goal.returns-else-comes_next-clause-refused
@@ -90,15 +90,15 @@ returns-else-comes_next-clause-refused g c _ next =
     let f = stand_of c.args.after in
     let q = c.args.pair in
     let items = c.reach_into.new.pairs in
-    let has = has_next game s f _ items items c.in_ok-reach_into.field-0 q (subst (λ (x : Searching). IsFlatPart x.game s (start_of c.origin_after.result) items c.in_ok-reach_into.field-0) c.take_list-pairs.ensures c.in_ok-reach_into.ensures.reached) c.origin_after.ensures refl next in
+    let has = has_next game s f _ items items c.in_ok-reach_into.field-0 q (subst (λ (x : Searching). IsFlatPart x.game s (start_of c.origin_after.result) items c.in_ok-reach_into.field-0) c.take_list-pairs.ensures c.in_ok-reach_into.ensures.found.reached) c.origin_after.ensures refl next in
     true_not_false (sym (c.contains-comes_next.ensures.1 (subst (Contains items) (sym c.pair.view_is) has)) ∙ c.if-comes_next.false)
 
 pub returns-then-comes_next-clause-paired : goal.returns-then-comes_next-clause-paired
 returns-then-comes_next-clause-paired g c =
     subst (λ (x : Searching). CountsPairs c.args.search.now.game reach c.args.state.now.state (stand_of c.args.after) c.args.search.now.opened x.opened c.args.search.now.taken x.taken (Unit {0})) (sym c.keep_list.ensures)
-    (begin_takes c.args.search.now c.take_list-pairs.new.self c.reach_into.new.self reach c.args.state.now.state (stand_of c.args.after) (start_of c.origin_after.result) (IsOk c.reach_into.result) c.take_list-pairs.ensures c.origin_after.ensures c.reach_into.ensures.taken (is_answer c.reach_into.result c.in_ok-reach_into.field-0 c.in_ok-reach_into.was))
+    (begin_takes c.args.search.now c.take_list-pairs.new.self c.reach_into.new.self reach c.args.state.now.state (stand_of c.args.after) (start_of c.origin_after.result) (IsOk c.reach_into.result) c.take_list-pairs.ensures c.origin_after.ensures c.reach_into.ensures.answered.taken (is_answer c.reach_into.result c.in_ok-reach_into.field-0 c.in_ok-reach_into.was))
 
 pub returns-else-comes_next-clause-paired : goal.returns-else-comes_next-clause-paired
 returns-else-comes_next-clause-paired g c =
     subst (λ (x : Searching). CountsPairs c.args.search.now.game reach c.args.state.now.state (stand_of c.args.after) c.args.search.now.opened x.opened c.args.search.now.taken x.taken (Unit {0})) (sym c.keep_list.ensures)
-    (begin_takes c.args.search.now c.take_list-pairs.new.self c.reach_into.new.self reach c.args.state.now.state (stand_of c.args.after) (start_of c.origin_after.result) (IsOk c.reach_into.result) c.take_list-pairs.ensures c.origin_after.ensures c.reach_into.ensures.taken (is_answer c.reach_into.result c.in_ok-reach_into.field-0 c.in_ok-reach_into.was))
+    (begin_takes c.args.search.now c.take_list-pairs.new.self c.reach_into.new.self reach c.args.state.now.state (stand_of c.args.after) (start_of c.origin_after.result) (IsOk c.reach_into.result) c.take_list-pairs.ensures c.origin_after.ensures c.reach_into.ensures.answered.taken (is_answer c.reach_into.result c.in_ok-reach_into.field-0 c.in_ok-reach_into.was))

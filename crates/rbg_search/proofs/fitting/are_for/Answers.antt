@@ -3,8 +3,8 @@ use Rattle.std.specs.Global.{Global}
 use Rattle.std.specs.Prelude.{All}
 use Rattle.std.proofs.lemmas.List.{take_more, take_all}
 use Rattle.std.proofs.lemmas.List.Elements.{All-push}
-use Rattle.rbg_search.specs.declared.flat.Flat.{Flat}
-use Rattle.rbg_search.specs.internal.Part.{HasMarksOf}
+use Rattle.rbg_pairs.specs.declared.flat.Flat.{Flat}
+use Rattle.rbg_pairs.specs.Part.{HasMarksOf}
 use Rattle.rbg_search.proofs.fitting.are_for.Goals as goal
 
 pub loop-flat-preserved : goal.loop-flat-preserved

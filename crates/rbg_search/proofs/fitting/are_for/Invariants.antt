@@ -1,7 +1,7 @@
 -- The flat parts so far have marks for the game.
 use Rattle.std.proofs.Common.{take}
 use Rattle.std.specs.Prelude.{All}
-use Rattle.rbg_search.specs.internal.Part.{HasMarksOf}
+use Rattle.rbg_pairs.specs.Part.{HasMarksOf}
 use Rattle.rbg_search.proofs.fitting.are_for.Given as goal
 
 abbrev pub invariant-loop-flat : goal.invariant-loop-flat

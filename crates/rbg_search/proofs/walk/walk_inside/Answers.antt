@@ -3,9 +3,9 @@ use Rattle.std.proofs.lemmas.Nat.{mul-le}
 use Rattle.rbg_rules.specs.Positions.{inside, positions_of, IsPatternAt}
 use Rattle.rbg_rules.specs.Words.{beginning}
 use Rattle.rbg_rules.specs.State.{AbstractState}
-use Rattle.rbg_search.specs.Start.{IsPositionOf}
-use Rattle.rbg_search.specs.internal.Closure.{at_vertex}
-use Rattle.rbg_search.specs.internal.Part.{IsOutcome}
+use Rattle.rbg_pairs.specs.Start.{IsPositionOf}
+use Rattle.rbg_pairs.specs.Closure.{at_vertex}
+use Rattle.rbg_pairs.specs.Part.{IsOutcome}
 use Rattle.rbg_search.proofs.Straights.{one_within, is_empty_list, outcome_there, begin_walk, not_done, walked_up_to, walked_through, walked_on, taken_up_to, taken_through}
 use Rattle.rbg_search.proofs.walk.walk_inside.Goals as goal
 

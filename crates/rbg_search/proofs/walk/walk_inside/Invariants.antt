@@ -2,8 +2,8 @@
 use Rattle.std.proofs.Common.{◌<◌, ◌-◌, ◌^◌, length}
 use Rattle.rbg_rules.specs.Positions.{inside}
 use Rattle.rbg_rules.specs.Words.{beginning}
-use Rattle.rbg_search.specs.Start.{IsPositionOf}
-use Rattle.rbg_search.specs.internal.Closure.{at_vertex}
+use Rattle.rbg_pairs.specs.Start.{IsPositionOf}
+use Rattle.rbg_pairs.specs.Closure.{at_vertex}
 use Rattle.rbg_search.specs.internal.Straight.{IsWalking}
 use Rattle.rbg_search.proofs.walk.walk_inside.Given as goal
 

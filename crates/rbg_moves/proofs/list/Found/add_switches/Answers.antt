@@ -5,7 +5,7 @@ use Rattle.std.specs.List.Sorted.{IsPermutation}
 use Rattle.std.proofs.lemmas.List.Elements.{All-nil, All-push}
 use Rattle.std.proofs.lemmas.List.Sorted.{IsPermutation-refl}
 use Rattle.rbg_rules.specs.Positions.{IsSwitchAt}
-use Rattle.rbg_search.specs.Start.{IsPositionOf}
+use Rattle.rbg_pairs.specs.Start.{IsPositionOf}
 use Rattle.rbg_search.proofs.Turns.{turn_moves, turn_after, turn_fewer}
 use Rattle.rbg_moves.specs.internal.Gathering.{ListsSwitches}
 use Rattle.rbg_moves.proofs.Listing.{lists_none, lists_more, lists_cut, lists_all, left_over}

@@ -1,23 +1,20 @@
 -- Each call has fewer patterns or fewer modifiers before it; the semi-state is given back after each.
-use Rattle.std.proofs.Common.{◌≡◌, ◌+◌, ◌*◌, ◌-◌, ◌^◌, ◌≤◌, ◌++◌, take, ℕ, List, length}
+use Rattle.std.proofs.Common.{◌≡◌, ◌+◌, ◌*◌, ◌-◌, ◌^◌, ◌≤◌, ◌++◌, ℕ, List, length}
 use Rattle.std.specs.List.Sorted.{IsPermutation}
 use Rattle.std.specs.Prelude.{All, Bool}
-use Rattle.rbg_rules.specs.Games.{IsGame}
-use Rattle.rbg_search.specs.Start.{start_of}
+use Rattle.rbg_pairs.specs.Start.{start_of}
 use Rattle.rbg_flat.specs.internal.Sets.{weight}
-use Rattle.rbg_search.specs.internal.Begun.{IsBegun}
 use Rattle.rbg_search.specs.internal.BySets.{FindsBySets}
+use Rattle.rbg_search.specs.internal.Finding.{FindsByPairs}
 use Rattle.rbg_search.specs.internal.Behind.{RunsBehindPair}
 use Rattle.rbg_rules.specs.Positions.{IsNumbered}
 use Rattle.rbg_rules.specs.Words.{Start}
 use Rattle.rbg_rules.specs.Questions.{reach, pattern}
 use Rattle.rbg_search.specs.Counting.{CountsOpenings}
 use Rattle.rbg_search.specs.Passing.{CountsUpTo}
-use Rattle.rbg_search.specs.internal.Asked.{CountsAsked, GoesBehind}
-use Rattle.rbg_search.specs.internal.Taking.{AsksForced}
+use Rattle.rbg_search.specs.internal.Asked.{GoesBehind}
 use Rattle.rbg_search.specs.Forced.{TakesBehind}
 use Rattle.rbg_search.specs.Taken.{CountsPairs}
-use Rattle.rbg_search.specs.internal.Spent.{IsSpent}
 use Rattle.rbg_search.proofs.search.Search.+search.Given as goal
 
 abbrev pub decreases-flat_part : goal.decreases-flat_part
@@ -39,20 +36,7 @@ abbrev pub decreases-runs_behind_one : goal.decreases-runs_behind_one
 decreases-runs_behind_one g l = l.nested * 1000000 + l.modifiers * 10 + 3
 
 abbrev pub invariant-flat_part-loop-flat : goal.invariant-flat_part-loop-flat
-invariant-flat_part-loop-flat g l = record {
-  kept : l.self ≡ record l.fn.self { opened = l.self.opened; taken = l.self.taken };
-  given_back : l.state ≡ record l.fn.state { room = l.state.room };
-  room : l.fn.state.room ≤ l.state.room;
-  enough : 2 ≤ l.state.room;
-  begun : IsBegun l.fn.self.game l.fn.state.state (start_of l.fn.origin) l.flat.value;
-  lawful : IsGame l.fn.self.game;
-  counted : CountsAsked l.fn.self.game l.fn.state.state (start_of l.fn.origin) (take l.flat.value.taken l.flat.value.queue.pairs) l.fn.self.opened l.self.opened;
-  forced :
-      (cut : Bool) →
-      AsksForced l.fn.self.game cut l.fn.state.state (take l.flat.value.taken l.flat.value.queue.pairs) l.fn.self.opened l.self.opened l.fn.self.modifiers;
-  spent : IsSpent l.fn.self.game l.fn.self.opened l.fn.self.taken;
-  taken : CountsPairs l.fn.self.game reach l.fn.state.state (start_of l.fn.origin) (l.fn.self.opened + 1) l.self.opened l.fn.self.taken l.self.taken (Unit {0});
-}
+invariant-flat_part-loop-flat g l = FindsByPairs l.fn.self l.self l.fn.state l.state (start_of l.fn.origin) l.flat.value
 
 abbrev pub decreases-flat_part-loop-flat : goal.decreases-flat_part-loop-flat
 decreases-flat_part-loop-flat g l = 2 ^ 64 - l.flat.value.taken

@@ -3,11 +3,11 @@ use Rattle.std.specs.Prelude.{Contains, Option, Some, None, Result, Ok, Err, IfO
 use Rattle.std.proofs.lemmas.List.{take_all}
 use Rattle.rbg_rules.specs.Positions.{IsPatternAt}
 use Rattle.rbg_rules.specs.State.{AbstractGame, AbstractState}
-use Rattle.rbg_search.specs.declared.flat.Flat.{Flat}
+use Rattle.rbg_pairs.specs.declared.flat.Flat.{Flat}
 use Rattle.rbg_search.specs.Searching.{Searching}
-use Rattle.rbg_search.specs.internal.Closure.{Reached}
-use Rattle.rbg_search.specs.internal.Part.{IsPart}
-use Rattle.rbg_search.proofs.Parts.{all_met}
+use Rattle.rbg_pairs.specs.Closure.{Reached}
+use Rattle.rbg_pairs.specs.Part.{IsPart}
+use Rattle.rbg_pairs.proofs.Parts.{all_met}
 use Rattle.rbg_search.proofs.search.Search.advance.Goals as goal
 
 where_none : {X E : Type 0} (r : Result (Option X) E) (A B C : Type 0) → (A → B → C) → IfOk r (λ next. IfNone next A) → OnOk r B → IfOk r (λ next. IfNone next C)

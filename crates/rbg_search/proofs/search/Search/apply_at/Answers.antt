@@ -5,7 +5,7 @@ use Rattle.rbg_rules.specs.Actions.{Applies}
 use Rattle.rbg_rules.specs.Games.{IsGame}
 use Rattle.rbg_state.specs.History.{History}
 use Rattle.rbg_search.specs.Searching.{Searching}
-use Rattle.rbg_search.specs.internal.Closure.{at_vertex}
+use Rattle.rbg_pairs.specs.Closure.{at_vertex}
 use Rattle.rbg_search.proofs.Asking.{no_modifier}
 use Rattle.rbg_search.proofs.search.Search.apply_at.Goals as goal
 

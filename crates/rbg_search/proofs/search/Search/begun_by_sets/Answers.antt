@@ -4,7 +4,7 @@ use Rattle.rbg_rules.specs.State.{AbstractGame}
 use Rattle.rbg_leaps.specs.Origin.{start_of as leap_start_of}
 use Rattle.rbg_flat.specs.declared.flat.Flat.{Flat}
 use Rattle.rbg_search.specs.Searching.{Searching}
-use Rattle.rbg_search.specs.Start.{start_of}
+use Rattle.rbg_pairs.specs.Start.{start_of}
 use Rattle.rbg_search.specs.internal.BySets.{BeginsBySets}
 use Rattle.rbg_search.proofs.BySets.{asked_none, begun_at}
 use Rattle.rbg_search.proofs.search.Search.begun_by_sets.Goals as goal

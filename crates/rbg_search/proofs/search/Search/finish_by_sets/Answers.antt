@@ -5,7 +5,7 @@ use Rattle.rbg_rules.specs.State.{AbstractGame}
 use Rattle.rbg_flat.specs.declared.flat.Flat.{Flat}
 use Rattle.rbg_flat.specs.Candidates.{MayEnd}
 use Rattle.rbg_flat.specs.Found.{AreFound, HasCandidates}
-use Rattle.rbg_search.specs.Flat.{IsFlatPart}
+use Rattle.rbg_pairs.specs.Flat.{IsFlatPart}
 use Rattle.rbg_search.specs.Searching.{Searching}
 use Rattle.rbg_search.specs.Taken.{most_pairs_of}
 use Rattle.rbg_search.specs.internal.BySets.{IsBegunBySets, IsWhole}

@@ -1,10 +1,10 @@
 use Rattle.std.proofs.Common.{◌≡◌, take, sym, ap, subst}
 use Rattle.std.specs.Prelude.{Some, slice_get}
-use Rattle.rbg_search.specs.declared.flat.Flat.{Flat}
+use Rattle.rbg_pairs.specs.declared.flat.Flat.{Flat}
 use Rattle.rbg_rules.specs.State.{AbstractGame}
 use Rattle.rbg_rules.specs.Games.{IsGame}
 use Rattle.rbg_search.specs.Searching.{Searching}
-use Rattle.rbg_search.specs.internal.Part.{IsOutcome, IsPart, HasMarksOf}
+use Rattle.rbg_pairs.specs.Part.{IsOutcome, IsPart, HasMarksOf}
 use Rattle.rbg_search.proofs.search.Search.take.Goals as goal
 
 pub returns-clause-begun : goal.returns-clause-begun

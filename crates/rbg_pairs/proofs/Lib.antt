@@ -1,0 +1,11 @@
+-- Lemmas, by topic.
+pub mod Closures
+pub mod Meetings
+pub mod Starts
+pub mod Parts
+pub mod Modifiers
+pub mod Glances
+pub mod Nesting
+pub mod Fewness
+pub mod Tolds
+pub mod Plains

@@ -1,0 +1,14 @@
+-- Where an action that is no modifier leads.
+use Rattle.std.proofs.Common.{◌≡◌, ℕ, ap}
+use Rattle.rbg_rules.specs.Positions.{IsNumbered, IsModifierAt}
+use Rattle.rbg_rules.specs.State.{AbstractGame, AbstractState}
+use Rattle.rbg_rules.specs.Actions.{Applies}
+use Rattle.rbg_rules.proofs.MoveLemmas.{Applies_one}
+use Rattle.rbg_pairs.specs.Closure.{at_vertex, Leads}
+
+-- An action that is no modifier leads to the one vertex where it ends.
+pub leads_on : (game : AbstractGame) → IsNumbered game.rules → (s : AbstractState) (v q u : ℕ) → ¬ IsModifierAt game.rules q → Applies game q (at_vertex s v) (at_vertex s u) → Leads game s v q u × ((w : ℕ) → Leads game s v q w → w ≡ u)
+leads_on game numbered s v q u quiet applies = (
+  record { quiet = quiet; applies = applies },
+  (λ w leads. ap (λ (t : AbstractState). t.vertex) (Applies_one game numbered q leads.applies applies)),
+)

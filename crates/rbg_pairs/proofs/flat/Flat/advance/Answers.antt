@@ -1,0 +1,52 @@
+use Rattle.std.proofs.Common.{rules, ◌≡◌, ℕ, List, [], ◌∷◌, ◌++◌, take, sym, subst, arith}
+use Rattle.std.specs.Prelude.{Contains}
+use Rattle.std.proofs.lemmas.List.Elements.{Contains-append_left}
+use Rattle.std.proofs.lemmas.List.{take_all}
+use Rattle.rbg_pairs.specs.Part.{IsPart}
+use Rattle.rbg_pairs.proofs.Parts.{whole_part}
+use Rattle.rbg_pairs.proofs.Tolds.{quiet_before}
+use Rattle.rbg_pairs.proofs.flat.Flat.advance.Goals as goal
+
+pub loop-taken-preserved : goal.loop-taken-preserved
+loop-taken-preserved g c =
+    let v = c.pair-vertex.result.0 in
+    let q = c.pair-vertex.result.1 in
+    let told = c.take_told.new.self in
+    let done : List (ℕ × ℕ) = take told.taken told.queue.pairs in
+    let one_more : take c.in_ok-self.field-0 c.take_pair.new.self.queue.pairs ≡ done ++ (v, q) ∷ [] = c.in_ok-self.ensures.done in
+    record {
+      marks = c.take_pair.ensures.marks;
+      part = λ f part. c.in_ok-self.ensures.part c.args.state.now.state f c.in-Some.ensures.outcome (c.take_told.ensures.part f (c.loop-taken.invariant.part f part));
+      within = c.in_ok-self.ensures.within;
+      further = omega (arith, c.in_ok-self.ensures.taken, c.take_told.ensures.further, c.loop-taken.invariant.further);
+      still_done = λ x h.
+          subst (λ (ds : List (ℕ × ℕ)). Contains ds x) (sym one_more) (Contains-append_left done ((v, q) ∷ []) x (c.take_told.ensures.still_done x (c.loop-taken.invariant.still_done x h)));
+      quiet = λ w p there is.
+          let there' : Contains (done ++ (v, q) ∷ []) (w, p) = subst (λ (ds : List (ℕ × ℕ)). Contains ds (w, p)) one_more there in
+          c.loop-taken.invariant.quiet w p (c.take_told.ensures.quiet w p (quiet_before c.args.rules.now.rules done (v, q) c.in-Some.ensures.plain w p there' is) is) is;
+    }
+
+pub returns-then-taken-len-clause-whole : goal.returns-then-taken-len-clause-whole
+returns-then-taken-len-clause-whole g c = λ f part.
+    let told = c.take_told.new.self in
+    let all : take told.taken told.queue.pairs ≡ told.queue.pairs = take_all told.taken told.queue.pairs (omega (arith, c.if-taken-len.true, c.len.ensures.count)) in
+    let here = c.take_told.ensures.part f (c.loop-taken.invariant.part f part) in
+    whole_part c.args.rules.now c.args.state.now.state f c.requires.lawful.numbered told.queue.pairs told.found.items told.ends
+    (subst (λ (ds : List (ℕ × ℕ)). IsPart c.args.rules.now c.args.state.now.state f told.queue.pairs ds told.found.items told.ends) all here)
+
+pub returns-in-Pattern-clause-still_done : goal.returns-in-Pattern-clause-still_done
+returns-in-Pattern-clause-still_done g c = λ x h. c.take_told.ensures.still_done x (c.loop-taken.invariant.still_done x h)
+
+pub returns-in_default-tried : goal.returns-in_default-tried
+returns-in_default-tried g c = record {
+  marks = c.take_told.ensures.marks;
+  part = λ f part. c.take_told.ensures.part f (c.loop-taken.invariant.part f part);
+  within = c.take_told.ensures.within;
+  further = omega (arith, c.take_told.ensures.further, c.loop-taken.invariant.further);
+  still_done = λ x h. c.take_told.ensures.still_done x (c.loop-taken.invariant.still_done x h);
+  quiet = λ w p there is. c.loop-taken.invariant.quiet w p (c.take_told.ensures.quiet w p there is) is;
+  asked = (c.pair-vertex.ensures.pair, omega (arith, c.pair-vertex.ensures.there.vertex, c.take_told.ensures.marks.vertices), c.in_default-tried.ensures.pattern);
+  fresh = c.pair-vertex.ensures.once;
+  done = search rules;
+  whole = search rules;
+}

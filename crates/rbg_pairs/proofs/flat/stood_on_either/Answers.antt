@@ -1,0 +1,21 @@
+use Rattle.std.proofs.Common.{◌≡◌, inl, inr, sym, ◌∙◌}
+use Rattle.std.specs.Prelude.{slice_index}
+use Rattle.std.proofs.lemmas.Option.{get_or_from_slice_get}
+use Rattle.rbg_pairs.proofs.Glances.{either_leads, either_another}
+use Rattle.rbg_pairs.proofs.flat.stood_on_either.Goals as goal
+
+pub returns-then-here-other-clause-outcome : goal.returns-then-here-other-clause-outcome
+returns-then-here-other-clause-outcome c = λ game q numbered here.
+    let s = c.args.state.now.state in
+    let stands : slice_index s.pieces c.args.vertex ≡ c.piece-here.result = get_or_from_slice_get s.pieces c.args.vertex c.piece-here.result 0 c.piece-here.ensures in
+    either_leads game numbered s c.args.vertex q c.args.piece c.args.other here
+    (elim c.if-here-other.either [
+      | inl is ↦ inl (stands ∙ is)
+      | inr is ↦ inr (stands ∙ is.1)
+    ])
+
+pub returns-else-here-other-clause-outcome : goal.returns-else-here-other-clause-outcome
+returns-else-here-other-clause-outcome c = λ game q numbered here.
+    let s = c.args.state.now.state in
+    let stands : slice_index s.pieces c.args.vertex ≡ c.piece-here.result = get_or_from_slice_get s.pieces c.args.vertex c.piece-here.result 0 c.piece-here.ensures in
+    either_another game numbered s c.args.vertex q c.args.piece c.args.other here (λ is. c.if-here-other.false.0 (sym stands ∙ is)) (λ is. c.if-here-other.false.1 (sym stands ∙ is))

@@ -1,0 +1,57 @@
+use Rattle.std.proofs.Common.{◌≡◌, ◌*◌, ◌+◌, ◌/◌, ◌<◌, ℕ, List, length, get_or, set, take, false, sym, ◌∙◌, subst, ap, arith}
+use Rattle.std.specs.Prelude.{All}
+use Rattle.std.proofs.lemmas.List.{take_more, take_all, length-set}
+use Rattle.std.proofs.lemmas.List.Elements.{All-push, All-weaker}
+use Rattle.rbg_pairs.specs.Meeting.{is_marked, mark_at}
+use Rattle.rbg_pairs.proofs.Meetings.{still_marked, still_unmarked, unmarked_here, all_gone, none_marked, word_of_mark, one_column, narrow_mark}
+use Rattle.rbg_pairs.proofs.marks.unmark.Goals as goal
+
+pub overflow_mul-word : goal.overflow_mul-word
+overflow_mul-word c = let small = c.requires.small c.loop-vertex.vertex-index (0, 0) c.loop-vertex-test.true in omega (arith, small)
+
+pub overflow_add-word : goal.overflow_add-word
+overflow_add-word c = let small = c.requires.small c.loop-vertex.vertex-index (0, 0) c.loop-vertex-test.true in omega (arith, small)
+
+pub loop-vertex-preserved : goal.loop-vertex-preserved
+loop-vertex-preserved c =
+    let pairs : List (ℕ × ℕ) = c.args.pairs.now in
+    let n : ℕ = c.args.rows in
+    let q : ℕ × ℕ = get_or pairs c.loop-vertex.vertex-index (0, 0) in
+    let word : ℕ = q.0 / 64 * n + q.1 in
+    let mark : ℕ = mark_at n q in
+    let place : mark / 64 ≡ word = word_of_mark n q.0 q.1 in
+    let words : List ℕ = c.loop-vertex.words in
+    let there : word < length c.args.words.now = c.requires.there c.loop-vertex.vertex-index (0, 0) c.loop-vertex-test.true in
+    let within : word < length words = omega (arith, there, c.loop-vertex.invariant.size) in
+    let below : mark < length words * 64 = omega (arith, within, place) in
+    let after : List ℕ = set words word 0 in
+    record {
+      size = length-set words word 0 ∙ c.loop-vertex.invariant.size;
+      gone =
+          subst (λ (qs : List (ℕ × ℕ)). All (λ r. is_marked after (mark_at n r) ≡ false) qs)
+          (sym (take_more pairs c.loop-vertex.vertex-index (0, 0) c.loop-vertex-test.true))
+          (All-push (λ r. is_marked after (mark_at n r) ≡ false) (take c.loop-vertex.vertex-index pairs) q
+          (All-weaker (λ r. is_marked words (mark_at n r) ≡ false) (λ r. is_marked after (mark_at n r) ≡ false) (λ r is. still_unmarked words word (mark_at n r) within is) (take c.loop-vertex.vertex-index pairs) c.loop-vertex.invariant.gone)
+          (subst (λ (i : ℕ). is_marked (set words i 0) mark ≡ false) place (unmarked_here words mark below)));
+      none_set = λ k is. c.loop-vertex.invariant.none_set k (still_marked words word k within is);
+    }
+
+pub returns-clause-gone : goal.returns-clause-gone
+returns-clause-gone c =
+    subst (λ (qs : List (ℕ × ℕ)). All (λ r. is_marked c.loop-vertex.words (mark_at c.args.rows r) ≡ false) qs)
+    (take_all c.loop-vertex.vertex-index c.args.pairs.now c.loop-vertex-test.false)
+    c.loop-vertex.invariant.gone
+
+pub returns-then-words-pairs-clause-gone : goal.returns-then-words-pairs-clause-gone
+returns-then-words-pairs-clause-gone c =
+    all_gone c.args.rows (length c.args.words.now) c.fill_with_zeros.new.words c.args.pairs.now c.fill_with_zeros.ensures
+
+pub returns-then-words-pairs-clause-none_set : goal.returns-then-words-pairs-clause-none_set
+returns-then-words-pairs-clause-none_set c = λ k is.
+    none_marked (length c.args.words.now) k c.fill_with_zeros.new.words _ c.fill_with_zeros.ensures is
+
+pub returns-then-words-rows-clause-gone : goal.returns-then-words-rows-clause-gone
+returns-then-words-rows-clause-gone c = λ k d below.
+    let q : ℕ × ℕ = get_or c.args.pairs.now k d in
+    let narrow : q.0 < 64 = one_column c.args.rows q.0 q.1 (length c.args.words.now) c.if-words-rows.true (c.requires.there k d below) in
+    ap (is_marked c.unmark_narrow.new.words) (narrow_mark c.args.rows q.0 q.1 narrow) ∙ c.unmark_narrow.ensures.gone k d below

@@ -1,0 +1,12 @@
+-- The marks of the pairs so far are gone, and none was set.
+use Rattle.std.proofs.Common.{◌≡◌, ◌+◌, ◌*◌, ℕ, length, take, true, false}
+use Rattle.std.specs.Prelude.{All}
+use Rattle.rbg_pairs.specs.Meeting.{is_marked}
+use Rattle.rbg_pairs.proofs.marks.unmark_narrow.Given as goal
+
+abbrev pub invariant-loop-position : goal.invariant-loop-position
+invariant-loop-position l = record {
+  size : length l.words ≡ length l.initial.words;
+  gone : All (λ q. is_marked l.words (q.1 * 64 + q.0) ≡ false) (take l.position-index l.pairs);
+  none_set : (k : ℕ) → is_marked l.words k ≡ true → is_marked l.initial.words k ≡ true;
+}

@@ -1,0 +1,49 @@
+-- A flat part that is being found.
+use Rattle.std.specs.Prelude.{◌≡◌, ◌≢◌, ℕ, ◌+◌, ◌*◌, ◌⊎◌, List, [], ◌∷◌, length, All, AllPairs, Contains, Bool, Decides}
+use Rattle.rbg_rules.specs.Positions.{IsModifierAt, positions_of}
+use Rattle.rbg_rules.specs.Words.{Start, after, Follows, Ends}
+use Rattle.rbg_rules.specs.State.{AbstractGame, AbstractState}
+use Rattle.rbg_rules.specs.Actions.{Applies}
+use Rattle.rbg_pairs.specs.Closure.{at_vertex, Leads, Reached, IsFound, LeadsToEnd}
+use Rattle.rbg_pairs.specs.Meeting.{Met}
+use Rattle.rbg_pairs.specs.declared.outcome.Outcome.{Outcome}
+use Rattle.rbg_pairs.specs.declared.outcome.Outcome.TheVariants.{Invalid, Modifies, LeadsTo}
+
+-- What becomes of the action at position q where it is tried at vertex v.
+abbrev pub IsOutcome : AbstractGame → AbstractState → (v q : ℕ) → Outcome → Type 0
+IsOutcome game s v q Invalid = (t : AbstractState) → ¬ Applies game q (at_vertex s v) t
+IsOutcome game s v q Modifies = IsModifierAt game.rules q × ((t : AbstractState) × Applies game q (at_vertex s v) t)
+IsOutcome game s v q (LeadsTo u) = Leads game s v q u × ((w : ℕ) → Leads game s v q w → w ≡ u)
+
+-- One of the pairs leads to the end of a word.
+pub record SomeLeadsToEnd (game : AbstractGame) (s : AbstractState) (pairs : List (ℕ × ℕ)) : Type 0 where
+  pub vertex : ℕ
+  pub position : ℕ
+  pub there : Contains pairs (vertex, position)
+  pub leads : LeadsToEnd game s vertex position
+
+-- The pairs were met, and those that are done were tried.
+--   sound: each pair may come next
+--   begun: those that may come first were met
+--   closed: those that may come after one that is done were met
+--   among, valid, all, different: found are the modifiers that are done and valid, each once
+--   may_end: `ends` tells whether a word may end where one stands, or after a pair that is done
+pub record IsPart
+    (game : AbstractGame) (s : AbstractState) (f : Start) (pairs done found : List (ℕ × ℕ)) (ends : Bool)
+    : Type 0
+  where
+    pub sound : All (λ q. Reached game s f q.0 q.1) pairs
+    pub begun : (p : ℕ) → Follows game.rules f (p ∷ []) → Contains pairs (s.vertex, p)
+    pub closed :
+        (v q u p : ℕ) → Contains done (v, q) → Leads game s v q u → Follows game.rules (after q) (p ∷ []) →
+        Contains pairs (u, p)
+    pub among : All (Contains done) found
+    pub valid : All (λ q. IsFound game s f q.0 q.1) found
+    pub all : (v p : ℕ) → Contains done (v, p) → IsFound game s f v p → Contains found (v, p)
+    pub different : AllPairs (λ a b. a ≢ b) found
+    pub may_end : Decides ends (Ends game.rules f [] ⊎ SomeLeadsToEnd game s done)
+
+-- The queue has marks for the game's vertices and positions.
+pub record HasMarksOf (game : AbstractGame) (met : Met) : Type 0 where
+  pub vertices : met.vertices ≡ length game.board.first
+  pub marks : met.marks ≡ (length (positions_of game.rules) + 1) * met.vertices

@@ -1,0 +1,12 @@
+-- Pairs at positions that are no shifts.
+use Rattle.std.specs.Prelude.{◌≡◌, ◌≢◌, ◌↔◌, ℕ, ◌≤◌, List, length, AllPairs, Contains}
+use Rattle.rbg_rules.specs.Expression.{Expression}
+use Rattle.rbg_leaps.specs.Leaps.{IsShiftAt}
+
+-- So many of the pairs are at positions that are no shifts.
+pub record HasPlain (rules : Expression) (pairs : List (ℕ × ℕ)) (many : ℕ) : Type 0 where
+  pub plain : List (ℕ × ℕ)
+  pub all : (v p : ℕ) → Contains plain (v, p) ↔ (Contains pairs (v, p) × ¬ IsShiftAt rules p)
+  pub different : AllPairs (λ a b. a ≢ b) plain
+  pub count : length plain ≡ many
+  pub few : many ≤ length pairs

@@ -1,0 +1,17 @@
+//! What is found from one place in the rules and one semi-state with no modifier before it, by pairs of a vertex and a
+//! position.
+#![tactic(auto)]
+
+mod flat;
+mod game_steps;
+mod marks;
+mod origin;
+mod outcome;
+mod queue;
+mod tables;
+mod told;
+
+pub use flat::{Flat, one_more, tried};
+pub use game_steps::GameSteps;
+pub use origin::Origin;
+pub use outcome::Outcome;

@@ -1,0 +1,187 @@
+-- A search that finds a flat part, step by step.
+use Rattle.std.proofs.Common.{◌≡◌, ℕ, ◌+◌, ◌≤◌, List, [], ◌∷◌, ◌++◌, Bool, take, sym, ap, ◌∙◌, subst, arith}
+use Rattle.std.specs.Prelude.{Contains, Result, Ok, Err, IsOk, IsErrAnd, Some, slice_get, IsTrue, ◌↔◌}
+use Rattle.rbg_rules.specs.Games.{IsGame}
+use Rattle.rbg_rules.specs.Laws.{IsStart}
+use Rattle.rbg_rules.specs.Positions.{IsPatternAt, inside}
+use Rattle.rbg_rules.specs.Words.{Start, beginning}
+use Rattle.rbg_rules.specs.Actions.{Applies}
+use Rattle.rbg_rules.specs.Questions.{reach, pattern}
+use Rattle.rbg_state.specs.History.{History}
+use Rattle.rbg_pairs.specs.Closure.{at_vertex, Reached}
+use Rattle.rbg_pairs.specs.Plain.{HasPlain}
+use Rattle.rbg_pairs.specs.declared.flat.Flat.{Flat}
+use Rattle.rbg_search.specs.Forced.{CountsForced}
+use Rattle.rbg_search.specs.Searching.{Searching}
+use Rattle.rbg_search.specs.Taken.{HasPart, CountsPairs}
+use Rattle.rbg_search.specs.internal.Asked.{IsCounted, IsAsked}
+use Rattle.rbg_search.specs.internal.Begun.{IsBegun}
+use Rattle.rbg_search.specs.internal.Finding.{Finds, FindsByPairs}
+use Rattle.rbg_search.specs.internal.Spent.{IsSpent, IsSpentButOne, CountsPart}
+use Rattle.rbg_search.specs.declared.over.Over.{Over}
+use Rattle.rbg_search.specs.declared.over.Over.TheVariants.{Deep, Wide, Memory}
+use Rattle.rbg_search.proofs.Asking.{room_twice}
+use Rattle.rbg_search.proofs.Counted.{memory_not_deep, memory_not_wide, counted_as, asked_only, onward_search, search_before}
+use Rattle.rbg_search.proofs.CountedSteps.{AskStep, ask_step_at, given_up, not_memory, taken_reached}
+use Rattle.rbg_search.proofs.Countings.{asked_begin, asked_weaker}
+use Rattle.rbg_search.proofs.Forcing.{asks_begin, asks_end, asks_still}
+use Rattle.rbg_search.proofs.ForcingSteps.{ask_forced}
+use Rattle.rbg_search.proofs.Kept.{kept_same, kept_twice}
+use Rattle.rbg_search.proofs.Takings.{takes_none_yet, takes_own, takes_unfinished, takes_as, room_for_own, not_ok, is_answer}
+use Rattle.rbg_search.proofs.TakingSteps.{asked_takes_at, whole_takes}
+
+-- One opening is taken up, and nothing is done.
+pub finds_none : (h e k : Searching) (s l : History) (f : Start) → IsGame h.game → IsStart h.game.rules f → e ≡ record h { opened = e.opened; taken = e.taken } → k ≡ e → l ≡ record s { room = l.room } → s.room ≤ l.room → 2 ≤ l.room → e.opened ≡ h.opened + 1 → e.taken ≡ h.taken → IsSpent h.game h.opened h.taken → Finds h k s l f []
+finds_none h e k s l f lawful start kept same given more enough one none spent =
+    let opened : k.opened ≡ h.opened + 1 = ap (λ (x : Searching). x.opened) same ∙ one in
+    let taken : k.taken ≡ h.taken = ap (λ (x : Searching). x.taken) same ∙ none in
+    record {
+      kept = kept_twice h e k kept (kept_same e k same);
+      given_back = given;
+      room = more;
+      enough = enough;
+      lawful = lawful;
+      counted = asked_begin h.game lawful s.state f start [] h.opened k.opened opened;
+      forced = λ cut. asks_begin h.game lawful.numbered cut s.state h.opened k.opened h.modifiers opened;
+      spent = spent;
+      taken = takes_none_yet h.game reach s.state f (h.opened + 1) k.opened h.taken k.taken (Unit {0}) (sym opened) taken;
+    }
+
+module _ {h k : Searching} {s l : History} {f : Start} {done : List (ℕ × ℕ)} (is : Finds h k s l f done) where
+  -- More is done, but no pattern.
+  pub finds_quiet : (done' : List (ℕ × ℕ)) → ((x : ℕ × ℕ) → Contains done x → Contains done' x) → ((w q : ℕ) → Contains done' (w, q) → IsPatternAt h.game.rules q → Contains done (w, q)) → Finds h k s l f done'
+  finds_quiet done' still quiet = record {
+    kept = is.kept;
+    given_back = is.given_back;
+    room = is.room;
+    enough = is.enough;
+    lawful = is.lawful;
+    counted = asked_weaker h.game s.state f done done' h.opened k.opened still is.counted;
+    forced = λ cut. asks_still h.game is.lawful.numbered cut s.state done done' h.opened k.opened h.modifiers quiet (is.forced cut);
+    spent = is.spent;
+    taken = is.taken;
+  }
+
+  -- A vertex is asked about a pattern.
+  module _ (v p : ℕ) (reached : Reached h.game s.state f v p) (there : IsPatternAt h.game.rules p) (fresh : ¬ Contains done (v, p)) {X : Type 0} {k' : Searching} {l' : History} {callee : Result X Over} (asked : IsAsked k k' l l' pattern (at_vertex l.state v) (beginning (inside p)) k.modifiers callee) where
+    step : AskStep h s.state f (done ++ (v, p) ∷ []) h.opened k'.opened (callee ≡ Err Deep) (callee ≡ Err Wide)
+    step = ask_step_at h k s l f done v p h.opened k'.opened _ _ is.kept is.given_back is.lawful reached there fresh is.counted asked.counts
+
+    pairs : (A : Type 0) → CountsPairs k.game pattern (at_vertex l.state v) (beginning (inside p)) k.opened k'.opened k.taken k'.taken A → CountsPairs h.game reach s.state f (h.opened + 1) k'.opened h.taken k'.taken A
+    pairs A counts = asked_takes_at h k s l f v p k'.opened k'.taken A is.kept is.given_back is.lawful reached there is.taken counts
+
+    -- .. which gives up.
+    pub finds_failed : {Y : Type 0} (r : Result Y Over) (e : Over) → callee ≡ Err e → IsErrAnd r (λ y. y ≡ e) → IsAsked h k' s l' reach s.state f h.modifiers r
+    finds_failed r e was gives = record {
+      kept = kept_twice h k k' is.kept asked.kept;
+      given_back = room_twice s l l' is.given_back asked.given_back;
+      room = omega (arith, is.room, asked.room);
+      counts = counted_as h.game reach s.state f h.opened k'.opened h.modifiers h.openings h.modifiers _ _ _ _ (given_up callee r e Deep was gives) (given_up callee r e Wide was gives) step.gave_up;
+      taken = takes_unfinished h.game reach s.state f h.opened k'.opened h.taken k'.taken (IsOk callee) (IsOk r) (pairs (IsOk callee) asked.taken) (not_ok r e gives);
+    }
+
+    -- .. or answers.
+    pub finds_more : (x : X) → callee ≡ Ok x → ((cut : Bool) → CountsForced k.game cut pattern (at_vertex l.state v) (beginning (inside p)) k.opened k'.opened k.modifiers k.modifiers) → Finds h k' s l' f (done ++ (v, p) ∷ [])
+    finds_more x was forced = record {
+      kept = kept_twice h k k' is.kept asked.kept;
+      given_back = room_twice s l l' is.given_back asked.given_back;
+      room = omega (arith, is.room, asked.room);
+      enough = omega (arith, is.enough, asked.room);
+      lawful = is.lawful;
+      counted = step.counts;
+      forced = λ cut. ask_forced h k s l done done v p h.opened k'.opened cut is.kept is.given_back is.lawful.numbered (λ w q there _. there) (is.forced cut) (forced cut);
+      spent = is.spent;
+      taken =
+          pairs (Unit {0})
+          (takes_as k.game pattern (at_vertex l.state v) (beginning (inside p)) k.opened k'.opened k.taken k'.taken (IsOk callee) (Unit {0}) asked.taken (λ _. is_answer callee x was));
+    }
+
+  -- All patterns that are reached were asked.
+  pub finds_forced : ((v p : ℕ) → Reached h.game s.state f v p → IsPatternAt h.game.rules p → Contains done (v, p)) → (b : ℕ) → b ≡ k.opened → (cut : Bool) (left : ℕ) → CountsForced h.game cut reach s.state f h.opened b left h.modifiers
+  finds_forced met b same cut left =
+      subst (λ (n : ℕ). CountsForced h.game cut reach s.state f h.opened n left h.modifiers) (sym same)
+      (asks_end h.game is.lawful.numbered cut s.state f done h.opened k.opened left h.modifiers met (is.forced cut))
+
+  pub finds_room : IsSpentButOne k.game k.opened k.taken
+  finds_room =
+      onward_search (λ y z. IsSpentButOne y.game k.opened k.taken) h k s l is.kept is.given_back
+      (room_for_own h.game reach s.state f h.opened k.opened h.taken k.taken (Unit {0}) is.spent is.taken)
+
+  -- No more is asked.
+  module _ (k' : Searching) (kept : k' ≡ record k { opened = k'.opened; taken = k'.taken }) (same : k'.opened ≡ k.opened) where
+    pub finds_asked : {Y : Type 0} (r : Result Y Over) → ¬ (r ≡ Err Deep) → ¬ (r ≡ Err Wide) → CountsPairs h.game reach s.state f h.opened k'.opened h.taken k'.taken (IsOk r) → IsAsked h k' s l reach s.state f h.modifiers r
+    finds_asked r deep wide taken = record {
+      kept = kept_twice h k k' is.kept kept;
+      given_back = is.given_back;
+      room = is.room;
+      counts =
+          subst (λ (n : ℕ). IsCounted h.game reach s.state f h.opened n h.modifiers h.openings h.modifiers (r ≡ Err Deep) (r ≡ Err Wide)) (sym same)
+          (asked_only h.game s.state f done h.opened k.opened h.modifiers h.openings h.modifiers _ _ is.counted deep wide);
+      taken = taken;
+    }
+
+    -- The flat part is counted, or isn't.
+    pub finds_own : (A : Type 0) (many : ℕ) → HasPart h.game reach s.state f many → k'.taken ≡ k.taken + many → CountsPairs h.game reach s.state f h.opened k'.opened h.taken k'.taken A
+    finds_own A many part sum =
+        subst (λ (n : ℕ). CountsPairs h.game reach s.state f h.opened n h.taken k'.taken A) (sym same)
+        (takes_own h.game reach s.state f h.opened k.opened h.taken k.taken k'.taken many A is.taken part sum)
+
+    pub finds_refused : {Y : Type 0} (r : Result Y Over) (e : Over) → IsErrAnd r (λ y. y ≡ e) → e ≡ Memory → k'.taken ≡ k.taken → IsAsked h k' s l reach s.state f h.modifiers r
+    finds_refused r e gives memory none =
+        finds_asked r (not_memory r e Deep gives memory memory_not_deep) (not_memory r e Wide gives memory memory_not_wide)
+        (subst (λ (n : ℕ). CountsPairs h.game reach s.state f h.opened n h.taken k'.taken (IsOk r)) (sym same)
+        (subst (λ (n : ℕ). CountsPairs h.game reach s.state f h.opened k.opened h.taken n (IsOk r)) (sym none)
+        (takes_unfinished h.game reach s.state f h.opened k.opened h.taken k.taken (Unit {0}) (IsOk r) is.taken (not_ok r e gives))))
+
+-- ---- by pairs
+
+-- It is begun.
+pub pairs_begun : {h k : Searching} {s l : History} {f : Start} (flat : Flat) → Finds h k s l f [] → flat.taken ≡ 0 → IsBegun h.game s.state f flat → FindsByPairs h k s l f flat
+pairs_begun {h = h} {k = k} {s = s} {l = l} {f = f} flat is none begun = record { finds = subst (λ (n : ℕ). Finds h k s l f (take n flat.queue.pairs)) (sym none) is; begun = begun }
+
+module _ {h k : Searching} {s l : History} {f : Start} {flat : Flat} (is : FindsByPairs h k s l f flat) (flat' : Flat) where
+  pub begun_now : IsBegun k.game l.state f flat
+  begun_now = onward_search (λ y z. IsBegun y.game z f flat) h k s l is.finds.kept is.finds.given_back is.begun
+
+  -- It goes on, and nothing is asked.
+  pub pairs_on : (IsBegun k.game l.state f flat → IsBegun k.game l.state f flat') → ((x : ℕ × ℕ) → Contains (take flat.taken flat.queue.pairs) x → Contains (take flat'.taken flat'.queue.pairs) x) → ((w q : ℕ) → Contains (take flat'.taken flat'.queue.pairs) (w, q) → IsPatternAt k.game.rules q → Contains (take flat.taken flat.queue.pairs) (w, q)) → FindsByPairs h k s l f flat'
+  pairs_on begun still quiet = record {
+    finds =
+        finds_quiet is.finds (take flat'.taken flat'.queue.pairs) still
+        (search_before (λ y z. (w q : ℕ) → Contains (take flat'.taken flat'.queue.pairs) (w, q) → IsPatternAt y.game.rules q → Contains (take flat.taken flat.queue.pairs) (w, q)) h k s l is.finds.kept is.finds.given_back quiet);
+    begun = search_before (λ y z. IsBegun y.game z f flat') h k s l is.finds.kept is.finds.given_back (begun begun_now);
+  }
+
+-- A vertex is asked about a pattern: the pair that is next.
+module _ {h k : Searching} {s l : History} {f : Start} {flat : Flat} (is : FindsByPairs h k s l f flat) (v p : ℕ) (at : slice_get flat.queue.pairs flat.taken ≡ Some (v, p)) (there : IsPatternAt k.game.rules p) (fresh : ¬ Contains (take flat.taken flat.queue.pairs) (v, p)) {X : Type 0} {k' : Searching} {l' : History} {callee : Result X Over} (asked : IsAsked k k' l l' pattern (at_vertex l.state v) (beginning (inside p)) k.modifiers callee) where
+  there_here : IsPatternAt h.game.rules p
+  there_here = search_before (λ y z. IsPatternAt y.game.rules p) h k s l is.finds.kept is.finds.given_back there
+
+  pub pairs_failed : {Y : Type 0} (r : Result Y Over) (e : Over) → callee ≡ Err e → IsErrAnd r (λ y. y ≡ e) → IsAsked h k' s l' reach s.state f h.modifiers r
+  pairs_failed r e was gives = finds_failed is.finds v p (taken_reached h.game s.state f flat v p is.begun at) there_here fresh asked r e was gives
+
+  module _ (x : X) (was : callee ≡ Ok x) (forced : (cut : Bool) → CountsForced k.game cut pattern (at_vertex l.state v) (beginning (inside p)) k.opened k'.opened k.modifiers k.modifiers) where
+    pub pairs_asked : Finds h k' s l' f (take flat.taken flat.queue.pairs ++ (v, p) ∷ [])
+    pairs_asked = finds_more is.finds v p (taken_reached h.game s.state f flat v p is.begun at) there_here fresh asked x was forced
+
+    pub pairs_more : (flat' : Flat) (valid : Bool) → IsTrue valid ↔ Applies k.game p (at_vertex l.state v) (at_vertex l.state v) → take flat'.taken flat'.queue.pairs ≡ take flat.taken flat.queue.pairs ++ (v, p) ∷ [] → (IsTrue valid ↔ Applies k'.game p (at_vertex l.state v) (at_vertex l.state v) → IsBegun k'.game l.state f flat → IsBegun k'.game l.state f flat') → FindsByPairs h k' s l' f flat'
+    pairs_more flat' valid decides done begun =
+        let kept = kept_twice h k k' is.finds.kept asked.kept in
+        let decides_now = subst (λ (y : Searching). IsTrue valid ↔ Applies y.game p (at_vertex l.state v) (at_vertex l.state v)) (sym asked.kept) decides in
+        let begun_then : IsBegun k'.game l.state f flat = onward_search (λ y z. IsBegun y.game z f flat) h k' s l kept is.finds.given_back is.begun in
+        record {
+          finds = subst (λ (ds : List (ℕ × ℕ)). Finds h k' s l' f ds) (sym done) pairs_asked;
+          begun = search_before (λ y z. IsBegun y.game z f flat') h k' s l kept is.finds.given_back (begun decides_now begun_then);
+        }
+
+-- Nothing is left.
+module _ {h k : Searching} {s l : History} {f : Start} {flat : Flat} (is : FindsByPairs h k s l f flat) (met : (v p : ℕ) → Reached k.game l.state f v p → Contains (take flat.taken flat.queue.pairs) (v, p)) where
+  pub pairs_forced : (b : ℕ) → b ≡ k.opened → (cut : Bool) (left : ℕ) → CountsForced h.game cut reach s.state f h.opened b left h.modifiers
+  pairs_forced =
+      finds_forced is.finds
+      (λ v p reached _. search_before (λ y z. (v p : ℕ) → Reached y.game z f v p → Contains (take flat.taken flat.queue.pairs) (v, p)) h k s l is.finds.kept is.finds.given_back met v p reached)
+
+  pub pairs_own : (k' : Searching) → k' ≡ record k { opened = k'.opened; taken = k'.taken } → k'.opened ≡ k.opened → (A : Type 0) → CountsPart k.game (HasPlain k.game.rules flat.queue.pairs) k.taken k'.taken → CountsPairs h.game reach s.state f h.opened k'.opened h.taken k'.taken A
+  pairs_own k' kept same A counts =
+      finds_own is.finds k' kept same A counts.many
+      (whole_takes h k s l f flat counts.many is.finds.kept is.finds.given_back is.finds.lawful (onward_search (λ y z. IsBegun y.game z f flat) h k s l is.finds.kept is.finds.given_back is.begun) met counts.has counts.few) counts.sum
