@@ -1,5 +1,5 @@
 -- A flat part that went on, and went on again.
-use Rattle.std.proofs.Common.{◌≡◌, ℕ, ◌≤◌, Bool, refl, ◌∙◌, arith}
+use Rattle.std.proofs.Common.{Bool, refl, ◌∙◌, arith}
 use Rattle.rbg_rules.specs.State.{AbstractGame, AbstractState}
 use Rattle.rbg_flat.specs.internal.Going.{Advances}
 use Rattle.rbg_flat.specs.internal.Leading.{AreSizedFor, AreOn}

@@ -1,7 +1,6 @@
 -- What targets tell of leaps.
-use Rattle.std.proofs.Common.{◌≡◌, ℕ, ◌+◌, ◌/◌, ◌%◌, ◌<◌, ◌≤◌, ◌⊎◌, inl, inr, List, [], ◌∷◌, ◌++◌, true, length, get_or, map, sym, subst, ◌∙◌}
-use Rattle.std.specs.Prelude.{Contains, All, ◌↔◌}
-use Rattle.std.specs.Int.{bit_at}
+use Rattle.std.proofs.Common.{◌≡◌, ℕ, ◌<◌, ◌≤◌, ◌⊎◌, inl, inr, List, [], ◌∷◌, ◌++◌, length, get_or, sym, subst, ◌∙◌}
+use Rattle.std.specs.Prelude.{Contains, All}
 use Rattle.std.proofs.lemmas.List.Elements.{Contains-get_or}
 use Rattle.rbg_rules.specs.Positions.{IsNumbered, positions_of}
 use Rattle.rbg_rules.specs.State.{AbstractGame}
@@ -13,7 +12,7 @@ use Rattle.rbg_board.specs.Graph.{IsClosed}
 use Rattle.rbg_rules.specs.Games.{IsGame}
 use Rattle.rbg_leaps.specs.Leaps.{IsLeap, Leads, stay, go}
 use Rattle.rbg_leaps.proofs.ShiftLemmas.{follower_stands, action_within}
-use Rattle.rbg_flat.specs.internal.Sets.{SetsOfVertices, HasBitAt, IsInWord, IsMarked, IsOpen, Meets, ClosesWord}
+use Rattle.rbg_flat.specs.internal.Sets.{SetsOfVertices, HasBitAt, IsMarked, IsOpen, Meets, ClosesWord}
 use Rattle.rbg_leaps.specs.Limits.{row_words}
 use Rattle.rbg_flat.specs.internal.Leading.{IsAmong, IsTargetFor, IsPositionIn, AreOn, AreSizedFor}
 

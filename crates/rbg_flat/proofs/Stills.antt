@@ -8,7 +8,7 @@ use Rattle.std.proofs.lemmas.List.{take_more, length_push, get_or_push}
 use Rattle.std.proofs.lemmas.List.Elements.{Contains-push, Contains-push_cases, Contains-append_left, Contains-get_or, All-contains}
 use Rattle.rbg_rules.specs.Expression.{AbstractAction, shift, on, off, assignment, comparison, switch, positive, negative, Expression}
 use Rattle.rbg_rules.specs.Games.{IsGame}
-use Rattle.rbg_rules.specs.Positions.{IsNumbered, HasAction, IsModifierAt, positions_of}
+use Rattle.rbg_rules.specs.Positions.{IsNumbered, HasAction, positions_of}
 use Rattle.rbg_rules.specs.State.{AbstractGame}
 use Rattle.rbg_rules.specs.Table.{Stands}
 use Rattle.rbg_rules.specs.Words.{after, Follows, Ends}

@@ -1,8 +1,8 @@
 -- What is to be looked at where it is met.
-use Rattle.std.proofs.Common.{◌≡◌, ℕ, ◌+◌, ◌*◌, ◌<◌, ◌⊎◌, inl, inr, List, [], ◌∷◌, true, false, length, get_or, refl, sym, ap, subst, ◌∙◌}
-use Rattle.std.specs.Prelude.{◌↔◌, Contains}
+use Rattle.std.proofs.Common.{◌≡◌, ℕ, ◌<◌, inl, inr, List, true, false, length, sym, ap, subst, ◌∙◌}
+use Rattle.std.specs.Prelude.{◌↔◌}
 use Rattle.rbg_board.specs.Graph.{IsClosed}
-use Rattle.rbg_rules.specs.Expression.{AbstractAction, on, positive, negative, Expression}
+use Rattle.rbg_rules.specs.Expression.{on, positive, negative, Expression}
 use Rattle.rbg_rules.specs.Games.{IsGame}
 use Rattle.rbg_rules.specs.Positions.{HasAction, IsModifierAt, IsNumbered, IsPatternAt, is_modifier, is_pattern}
 use Rattle.rbg_rules.specs.State.{AbstractGame, AbstractState, IsStateOf}

@@ -1,5 +1,5 @@
 -- The leaps of a game, and what flat parts need to know of its positions.
-use Rattle.std.specs.Prelude.{◌≡◌, ◌+◌, ◌<◌, ℕ, List, [], ◌∷◌, length, slice_get, Some, IsTrue}
+use Rattle.std.specs.Prelude.{◌≡◌, ◌+◌, ℕ, List, [], ◌∷◌, length, slice_get, Some, IsTrue}
 use Rattle.rbg_rules.specs.Expression.{Expression, on}
 use Rattle.rbg_rules.specs.Positions.{HasAction, IsModifierAt, IsPatternAt, positions_of}
 use Rattle.rbg_rules.specs.State.{AbstractGame}

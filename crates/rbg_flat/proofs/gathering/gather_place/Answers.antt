@@ -1,4 +1,4 @@
-use Rattle.std.proofs.Common.{◌≡◌, ℕ, ◌+◌, ◌*◌, ◌%◌, ◌<◌, ◌≤◌, sym, ap, subst, refl, ◌∙◌}
+use Rattle.std.proofs.Common.{◌≡◌, ℕ, ◌+◌, ◌*◌, ◌%◌, ◌≤◌, sym, ap, subst, refl, ◌∙◌}
 use Rattle.std.specs.Prelude.{count_ones}
 use Rattle.rbg_flat.specs.internal.Gathering.{IsBitOf, Gathers}
 use Rattle.rbg_flat.specs.internal.Places.{IsMetAt}

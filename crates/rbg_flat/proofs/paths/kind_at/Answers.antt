@@ -1,4 +1,4 @@
-use Rattle.std.proofs.Common.{◌≡◌, ℕ, sym, subst}
+use Rattle.std.proofs.Common.{ℕ, sym, subst}
 use Rattle.rbg_flat.specs.Paths.{IsKind}
 use Rattle.rbg_flat.specs.declared.paths.Kind.TheVariants.{Plain}
 use Rattle.rbg_flat.proofs.ModifierLemmas.{kind_stands, zero_kind}

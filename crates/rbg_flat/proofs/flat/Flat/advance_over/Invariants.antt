@@ -1,5 +1,4 @@
 -- What was found so far is right.
-use Rattle.std.proofs.Common.{ℕ}
 use Rattle.rbg_flat.specs.internal.Going.{Advances}
 use Rattle.rbg_flat.specs.internal.Sets.{weight}
 use Rattle.rbg_flat.proofs.flat.Flat.advance_over.Given as goal

@@ -1,4 +1,3 @@
-use Rattle.std.proofs.Common.{◌∙◌}
 use Rattle.rbg_flat.specs.internal.Passing.{IsToTry}
 use Rattle.rbg_flat.proofs.Leaping.{same_size}
 use Rattle.rbg_flat.proofs.Wordwise.{meets_bit, ends_bit, meets_all, ends_all}

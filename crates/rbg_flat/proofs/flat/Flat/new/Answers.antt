@@ -1,4 +1,4 @@
-use Rattle.std.proofs.Common.{◌≡◌, ℕ, ◌+◌, ◌/◌, ◌≤◌, length, sym, subst, ◌∙◌, rules}
+use Rattle.std.proofs.Common.{ℕ, ◌≤◌, sym, subst, rules}
 use Rattle.std.proofs.Math.Pow.{pow_mono}
 use Rattle.rbg_leaps.specs.Limits.{row_words}
 use Rattle.rbg_flat.proofs.flat.Flat.new.Goals as goal

@@ -1,4 +1,4 @@
-use Rattle.std.proofs.Common.{◌≡◌, ℕ}
+use Rattle.std.proofs.Common.{◌≡◌}
 use Rattle.rbg_flat.specs.internal.Leading.{LeadsFrom}
 use Rattle.rbg_flat.specs.internal.Passing.{IsToTry}
 use Rattle.rbg_flat.proofs.Leaping.{same_on}
