@@ -6,12 +6,12 @@ use Rattle.rbg_rules.specs.Words.{Start}
 use Rattle.rbg_rules.specs.Questions.{Question, reach, pattern}
 use Rattle.rbg_state.specs.History.{History}
 use Rattle.rbg_search.specs.Answered.{IsAnswered, HasReached}
-use Rattle.rbg_search.specs.Counting.{CountsOpenings}
 use Rattle.rbg_search.specs.Forced.{CountsForced}
 use Rattle.rbg_search.specs.Searching.{Searching}
 use Rattle.rbg_search.specs.Taken.{CountsPairs}
-use Rattle.rbg_search.specs.internal.Asked.{StandsInPattern, GoesBehind, IsCounted, IsAsked}
+use Rattle.rbg_search.specs.internal.Asked.{StandsInPattern, IsCounted, IsAsked}
 use Rattle.rbg_search.specs.internal.Finding.{HasFound}
+use Rattle.rbg_search.specs.internal.Trying.{IsAskedBehind}
 use Rattle.rbg_search.specs.declared.over.Over.{Over}
 use Rattle.rbg_search.specs.declared.over.Over.TheVariants.{Deep, Wide, Memory}
 use Rattle.rbg_search.proofs.Counted.{memory_not_deep, memory_not_wide, counted_as, ok_not_err}
@@ -64,15 +64,15 @@ asked_there {h = h} {k = k} {t = t} {f = f} {n = n} {r = r} is s' l' here n' sam
 }
 
 -- The question goes on behind the modifiers that were found.
-pub asked_behind : {X : Type 0} {h k k' : Searching} {s l l' : History} {f : Start} {nested left : ℕ} {pairs : List (ℕ × ℕ)} {ends : Bool} {first : Result Bool Over} {r : Result X Over} → IsAsked h k s l reach s.state f h.modifiers first → first ≡ Ok ends → HasFound h k s l f nested pairs ends → StandsInPattern h.game.rules f → ends ≡ false → k' ≡ record k { opened = k'.opened; taken = k'.taken } → l' ≡ record l { room = l'.room } → l.room ≤ l'.room → ((e : Start) (a : ℕ) → GoesBehind k.game l.state e pairs → CountsOpenings k.game reach l.state e a k.opened → IsCounted k.game pattern l.state e a k'.opened left k.openings k.modifiers (r ≡ Err Deep) (r ≡ Err Wide)) → ((e : Start) → GoesBehind k.game l.state e pairs → CountsPairs k.game pattern l.state e k.opened k'.opened k.taken k'.taken (IsOk r)) → IsAsked h k' s l' pattern s.state f left r
-asked_behind {h = h} {k = k} {k' = k'} {s = s} {l = l} {l' = l'} {f = f} {left = left} {pairs = pairs} {ends = ends} {first = first} {r = r} is was found inside not_here kept given more counts taken = record {
-  kept = kept_twice h k k' is.kept kept;
-  given_back = room_twice s l l' is.given_back given;
-  room = omega (arith, is.room, more);
-  counts = behind_step h k s l f pairs pairs ends k'.opened left _ _ is.kept is.given_back refl found.lawful inside found.reaches.reached not_here is.counts.counted counts;
+pub asked_behind : {X : Type 0} {h k k' : Searching} {s l l' : History} {f : Start} {nested left : ℕ} {pairs : List (ℕ × ℕ)} {ends : Bool} {first : Result Bool Over} {r : Result X Over} → IsAsked h k s l reach s.state f h.modifiers first → first ≡ Ok ends → HasFound h k s l f nested pairs ends → StandsInPattern h.game.rules f → ends ≡ false → IsAskedBehind k k' l l' pairs left r → IsAsked h k' s l' pattern s.state f left r
+asked_behind {h = h} {k = k} {k' = k'} {s = s} {l = l} {l' = l'} {f = f} {left = left} {pairs = pairs} {ends = ends} {first = first} {r = r} is was found inside not_here behind = record {
+  kept = kept_twice h k k' is.kept behind.kept;
+  given_back = room_twice s l l' is.given_back behind.given_back;
+  room = omega (arith, is.room, behind.room);
+  counts = behind_step h k s l f pairs pairs ends k'.opened left _ _ is.kept is.given_back refl found.lawful inside found.reaches.reached not_here is.counts.counted behind.counts;
   taken =
       behind_takes h k s l f pairs pairs ends k'.opened k'.taken (IsOk r) is.kept is.given_back refl found.lawful inside found.reaches.reached not_here
-      (takes_as h.game reach s.state f h.opened k.opened h.taken k.taken (IsOk first) (Unit {0}) is.taken (λ _. is_answer first ends was)) taken;
+      (takes_as h.game reach s.state f h.opened k.opened h.taken k.taken (IsOk first) (Unit {0}) is.taken (λ _. is_answer first ends was)) behind.taken;
 }
 
 -- No opening was taken up, so the question isn't asked.

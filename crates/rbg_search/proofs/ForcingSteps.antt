@@ -10,10 +10,10 @@ use Rattle.rbg_state.specs.History.{History}
 use Rattle.rbg_pairs.specs.Flat.{IsFlatPart}
 use Rattle.rbg_search.specs.Forced.{CountsForced, TakesBehind}
 use Rattle.rbg_search.specs.Searching.{Searching}
-use Rattle.rbg_pairs.specs.Closure.{at_vertex, Reached}
+use Rattle.rbg_pairs.specs.Closure.{at_vertex}
 use Rattle.rbg_search.specs.internal.Taking.{AsksForced, RanBehind}
 use Rattle.rbg_search.proofs.Counted.{onward_search, search_before}
-use Rattle.rbg_search.proofs.Forcing.{asks_more, asks_still, asks_end, takes_on, word_forced, no_word_forced}
+use Rattle.rbg_search.proofs.Forcing.{asks_more, takes_on, word_forced, no_word_forced}
 
 -- A pattern was asked in a flat part.
 pub ask_forced : (h k : Searching) (s u : History) (done done' : List (ℕ × ℕ)) (v p a b : ℕ) (cut : Bool) → k ≡ record h { opened = k.opened; taken = k.taken } → u ≡ record s { room = u.room } → IsNumbered h.game.rules → ((w q : ℕ) → Contains done' (w, q) → IsPatternAt k.game.rules q → Contains done (w, q)) → AsksForced h.game cut s.state done a k.opened h.modifiers → CountsForced k.game cut pattern (at_vertex u.state v) (beginning (inside p)) k.opened b k.modifiers k.modifiers → AsksForced h.game cut s.state (done' ++ (v, p) ∷ []) a b h.modifiers
@@ -21,14 +21,6 @@ ask_forced h k s u done done' v p a b cut kept given numbered quiet asks more =
     asks_more h.game numbered cut s.state done done' v p a k.opened b h.modifiers
     (search_before (λ y w. (x q : ℕ) → Contains done' (x, q) → IsPatternAt y.game.rules q → Contains done (x, q)) h k s u kept given quiet) asks
     (search_before (λ y w. CountsForced y.game cut pattern (at_vertex w v) (beginning (inside p)) k.opened b y.modifiers y.modifiers) h k s u kept given more)
-
--- Each pattern was asked.
-pub flat_forced : (h k : Searching) (s l : History) (f : Start) (done done' : List (ℕ × ℕ)) (a left : ℕ) (cut : Bool) → k ≡ record h { opened = k.opened; taken = k.taken } → l ≡ record s { room = l.room } → IsNumbered h.game.rules → ((w q : ℕ) → Contains done' (w, q) → IsPatternAt k.game.rules q → Contains done (w, q)) → ((v p : ℕ) → Reached k.game l.state f v p → IsPatternAt k.game.rules p → Contains done' (v, p)) → AsksForced h.game cut s.state done a k.opened h.modifiers → CountsForced h.game cut reach s.state f a k.opened left h.modifiers
-flat_forced h k s l f done done' a left cut kept given numbered quiet met asks =
-    asks_end h.game numbered cut s.state f done' a k.opened left h.modifiers
-    (search_before (λ y w. (v p : ℕ) → Reached y.game w f v p → IsPatternAt y.game.rules p → Contains done' (v, p)) h k s l kept given met)
-    (asks_still h.game numbered cut s.state done done' a k.opened h.modifiers
-    (search_before (λ y w. (x q : ℕ) → Contains done' (x, q) → IsPatternAt y.game.rules q → Contains done (x, q)) h k s l kept given quiet) asks)
 
 -- The question was asked behind one more of the pairs.
 pub record BehindForced (h : Searching) (s : AbstractState) (pairs : List (ℕ × ℕ)) (i a b c left : ℕ) : Type 0 where

@@ -24,3 +24,4 @@ pub mod Finding
 pub mod FindingBySets
 pub mod TakingSteps
 pub mod Turns
+pub mod Trying

@@ -5,6 +5,7 @@ pub mod Asked
 pub mod Begun
 pub mod Taking
 pub mod Finding
+pub mod Trying
 pub mod Spent
 pub mod BySets
 pub mod Straight

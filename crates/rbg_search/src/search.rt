@@ -1,5 +1,5 @@
 //! A search in a game: what is reached without a modifier, and whether patterns hold, on one budget.
-ghost use Rattle.std.specs.Prelude.{◌≡◌, ℕ, ◌+◌, ◌-◌, ◌*◌, ◌^◌, ◌<◌, ◌≤◌, ◌↔◌, suc, length, Some, All, AllPairs, IfOk, OnOk, IfSome, IsTrue, [], ◌∷◌, take, OnErr, IfErr, IsOk, Err, Bool, max, min};
+ghost use Rattle.std.specs.Prelude.{◌≡◌, ℕ, ◌+◌, ◌-◌, ◌*◌, ◌^◌, ◌<◌, ◌≤◌, ◌↔◌, suc, length, Some, All, AllPairs, IfOk, OnOk, IfSome, IsTrue, [], ◌∷◌, take, OnErr, IfErr, Err, Bool, max, min};
 ghost use Rattle.rbg_rules.specs.State.{AbstractState, IsStateOf};
 ghost use Rattle.rbg_rules.specs.Positions.{IsModifierAt, IsPatternAt, inside};
 ghost use Rattle.rbg_rules.specs.Words.{Start, beginning, after};
@@ -7,16 +7,16 @@ ghost use Rattle.rbg_rules.specs.Actions.{Applies};
 ghost use Rattle.rbg_rules.specs.Questions.{SomeWordRuns, reach, pattern};
 ghost use Rattle.rbg_rules.specs.Games.{IsGame};
 ghost use Rattle.rbg_rules.specs.Laws.{IsStart};
-ghost use Rattle.rbg_search.specs.Counting.{CountsOpenings};
 ghost use Rattle.rbg_search.specs.Forced.{CountsForced};
 ghost use Rattle.rbg_flat.specs.Found.{HasCandidates};
 ghost use Rattle.rbg_flat.specs.Paths.{ArePathsOf};
 ghost use Rattle.rbg_flat.specs.internal.Leading.{AreSizedFor};
-ghost use Rattle.rbg_search.specs.Taken.{CountsPairs, most_pairs_of};
+ghost use Rattle.rbg_search.specs.Taken.{most_pairs_of};
 ghost use Rattle.rbg_search.specs.internal.Taking.{RanBehind};
 ghost use Rattle.rbg_search.specs.Answered.{IsAnswered, HasReached};
-ghost use Rattle.rbg_search.specs.internal.Asked.{StandsInPattern, GoesBehind, IsCounted, IsAsked};
+ghost use Rattle.rbg_search.specs.internal.Asked.{StandsInPattern, IsCounted, IsAsked};
 ghost use Rattle.rbg_search.specs.internal.Finding.{HasFound};
+ghost use Rattle.rbg_search.specs.internal.Trying.{IsAskedBehind};
 ghost use Rattle.rbg_pairs.specs.Flat.{IsBefore};
 ghost use Rattle.rbg_pairs.specs.Start.{start_of, IsPositionOf};
 ghost use Rattle.rbg_state.specs.History.{capacity_of, IsAfter};
@@ -592,21 +592,11 @@ impl<'a, S: Steps> Search<'a, S> {
         requires room { 2 ≤ state.old.room }
         requires ready { All (IsReady self.old.game state.old.state nested) pairs.old }
         requires inside { All (λ q. StandsInPattern self.old.game.rules (after q.1)) pairs.old }
-        ensures kept { self.new ≡ record self.old { opened = self.new.opened; taken = self.new.taken } }
-        ensures given_back { state.new ≡ record state.old { room = state.new.room } }
-        ensures room { state.old.room ≤ state.new.room }
+        ensures asked { IsAskedBehind self.old self.new state.old state.new pairs.old modifiers result }
         ensures answer { IfOk result (λ runs.
             IsTrue runs ↔ SomeRunsBehind self.old.game state.old.state pairs.old) }
-        ensures counts { (f : Start) (a : ℕ) → GoesBehind self.old.game state.old.state f pairs.old
-            → CountsOpenings self.old.game reach state.old.state f a self.old.opened
-            → IsCounted self.old.game pattern state.old.state f
-            a self.new.opened modifiers self.old.openings self.old.modifiers
-            (result ≡ Err Over.Deep) (result ≡ Err Over.Wide) }
         ensures forced { IfOk result (λ runs. RanBehind self.old.game state.old.state pairs.old runs
             self.old.opened self.new.opened modifiers self.old.modifiers) }
-        ensures taken { (f : Start) → GoesBehind self.old.game state.old.state f pairs.old
-            → CountsPairs self.old.game pattern state.old.state f
-            self.old.opened self.new.opened self.old.taken self.new.taken (IsOk result) }
     {
         // which questions are above the limits doesn't depend on how the modifiers were met
         while let Some((vertex, position)) = pairs.take_least() {
@@ -635,25 +625,16 @@ impl<'a, S: Steps> Search<'a, S> {
         requires ready { IsReady self.old.game state.old.state nested (vertex, position) }
         requires inside { StandsInPattern self.old.game.rules (after position) }
         requires some { 0 < modifiers }
-        ensures kept { self.new ≡ record self.old { opened = self.new.opened; taken = self.new.taken } }
-        ensures given_back { state.new ≡ record state.old { room = state.new.room } }
-        ensures room { state.old.room ≤ state.new.room }
+        ensures asked { (later : AbstractState)
+            → Applies self.old.game position (at_vertex state.old.state vertex) later
+            → IsAsked self.old self.new state.old state.new pattern later (after position)
+            (modifiers - 1) result }
         ensures answer { IfOk result (λ runs.
             IsTrue runs ↔ RunsBehindPair self.old.game state.old.state vertex position) }
-        ensures counts { (later : AbstractState) (left : ℕ)
-            → Applies self.old.game position (at_vertex state.old.state vertex) later
-            → modifiers ≡ suc left
-            → IsCounted self.old.game pattern later (after position)
-            self.old.opened self.new.opened left self.old.openings self.old.modifiers
-            (result ≡ Err Over.Deep) (result ≡ Err Over.Wide) }
         ensures forced { OnOk result ((cut : Bool) (later : AbstractState)
             → Applies self.old.game position (at_vertex state.old.state vertex) later
             → CountsForced self.old.game cut pattern later (after position)
             self.old.opened self.new.opened (modifiers - 1) self.old.modifiers) }
-        ensures taken { (later : AbstractState)
-            → Applies self.old.game position (at_vertex state.old.state vertex) later
-            → CountsPairs self.old.game pattern later (after position)
-            self.old.opened self.new.opened self.old.taken self.new.taken (IsOk result) }
     {
         let mark = state.mark();
         self.apply_at(state, vertex, position);

@@ -1,5 +1,5 @@
 use Rattle.std.proofs.Common.{rules, ◌≡◌, ℕ, suc, ◌^◌, ◌<◌, ◌≤◌, List, length, take, Bool, sym, ap, ◌∙◌, subst, arith, [], ◌∷◌, ◌++◌, ◌-◌, refl, false, true}
-use Rattle.std.specs.Prelude.{IsTrue, IsOk, ◌↔◌, All, Some, slice_get, Contains}
+use Rattle.std.specs.Prelude.{IsTrue, ◌↔◌, All, Some, slice_get, Contains}
 use Rattle.rbg_rules.specs.Positions.{inside, IsPatternAt}
 use Rattle.rbg_rules.specs.Words.{Start, beginning, after}
 use Rattle.rbg_rules.specs.State.{AbstractState, IsStateOf}
@@ -17,30 +17,29 @@ use Rattle.rbg_search.specs.internal.Behind.{IsReady, RunsBehindPair, SomeRunsBe
 use Rattle.rbg_pairs.specs.Closure.{at_vertex, Reached}
 use Rattle.rbg_pairs.specs.Nesting.{NestsFrom}
 use Rattle.rbg_pairs.specs.Part.{HasMarksOf}
-use Rattle.rbg_search.proofs.Asking.{back, mark_within, given_room, room_twice, reached_nests, some_nested, runs_one, runs_here, runs_there}
+use Rattle.rbg_search.proofs.Asking.{back, mark_within, given_room, reached_nests, some_nested, runs_one, runs_here, runs_there}
 use Rattle.rbg_search.proofs.Behinds.{all_ready}
-use Rattle.rbg_search.proofs.Turns.{turn_fewer, turn_moves, turn_after, turn_there, turn_end, turn_none, turn_some, none_of_all, ran_permuted, turn_behind, turn_too_many, turn_forced, turn_takes}
+use Rattle.rbg_search.proofs.Turns.{turn_fewer, turn_moves, turn_after, turn_there, turn_end, turn_some, none_of_all, ran_permuted}
 use Rattle.std.proofs.lemmas.List.Sorted.{IsPermutation-refl}
 use Rattle.std.proofs.lemmas.List.Elements.{All-contains}
-use Rattle.rbg_search.proofs.Kept.{kept_twice, onward, before, onward_rules, rules_before, further_on}
+use Rattle.rbg_search.proofs.Kept.{onward, before, onward_rules, rules_before, further_on}
 use Rattle.rbg_search.specs.internal.Asked.{StandsInPattern, IsAsked}
 use Rattle.rbg_search.specs.Forced.{CountsForced}
 use Rattle.rbg_search.specs.internal.Taking.{RanBehind}
 use Rattle.rbg_search.proofs.Behinds.{runs_at_end}
 use Rattle.rbg_search.proofs.Counted.{search_before}
-use Rattle.rbg_search.proofs.Forcing.{takes_none, word_forced}
+use Rattle.rbg_search.proofs.Forcing.{word_forced}
 use Rattle.rbg_search.proofs.ForcingSteps.{ran_some, asked_forced}
 use Rattle.rbg_search.specs.declared.over.Over.TheVariants.{Deep, Wide, Memory}
 use Rattle.rbg_search.proofs.Patterns.{pattern_inside, inside_start}
-use Rattle.rbg_search.proofs.Counted.{memory_not_deep, memory_not_wide, deep_not_wide, ok_not_err, same_error, counted_as, behind_begin, behind_only}
-use Rattle.rbg_search.proofs.CountedSteps.{given_up, not_memory, taken_reached, inside_pairs, counted_there}
+use Rattle.rbg_search.proofs.Counted.{memory_not_deep, memory_not_wide, ok_not_err}
+use Rattle.rbg_search.proofs.CountedSteps.{not_memory, taken_reached, inside_pairs}
 use Rattle.rbg_search.specs.Searching.{Searching}
-use Rattle.rbg_search.specs.Taken.{CountsPairs}
-use Rattle.rbg_search.proofs.Takings.{not_ok, is_answer, takes_none_yet, takes_as}
 use Rattle.rbg_search.proofs.Asks.{handed_on, answered_on, not_entered, as_pattern, asked_there, asked_behind, asked_same}
 use Rattle.rbg_search.proofs.Finding.{finds_none, finds_room, finds_asked, finds_refused, pairs_begun, begun_now, pairs_on, pairs_failed, pairs_asked, pairs_more, pairs_forced, pairs_own}
 use Rattle.rbg_search.proofs.FindingBySets.{sets_begun, sets_on, sets_now, reached_here, sets_failed, sets_more, sets_forced, sets_part, sets_own}
 use Rattle.rbg_search.proofs.Orders.{positions_within}
+use Rattle.rbg_search.proofs.Trying.{tries_none, tries_end, tries_deep, tries_failed, tries_yes, tries_grow, tries_more}
 use Rattle.rbg_search.proofs.search.Search.+search.Goals as goal
 
 pub ask-undo_to-requires : goal.ask-undo_to-requires
@@ -520,7 +519,7 @@ word_runs-returns-in_err-runs-clause-asked g t c =
     let found : HasFound c.args.self.now c.flat_part.new.self c.args.state.now c.flat_part.new.state (start_of c.args.origin) c.args.nested c.flat_part.new.pairs c.in_ok-ends.ends =
     subst (λ (x : Searching). HasFound x c.flat_part.new.self c.args.state.now c.flat_part.new.state (start_of c.args.origin) c.args.nested c.flat_part.new.pairs c.in_ok-ends.ends) here c.in_ok-ends.ensures.found in
     handed_on
-    (asked_behind first c.in_ok-ends.was found c.requires.inside c.if-ends.false c.runs_behind.ensures.kept c.runs_behind.ensures.given_back c.runs_behind.ensures.room c.runs_behind.ensures.counts c.runs_behind.ensures.taken)
+    (asked_behind first c.in_ok-ends.was found c.requires.inside c.if-ends.false c.runs_behind.ensures.asked)
     c.from_residual-in_err-runs.result c.in_err-runs.field-0.0 c.in_err-runs.was c.from_residual-in_err-runs.ensures.1
 
 pub word_runs-returns-clause-asked : goal.word_runs-returns-clause-asked
@@ -532,7 +531,7 @@ word_runs-returns-clause-asked g t c =
     subst (λ (x : Searching). HasFound x c.flat_part.new.self c.args.state.now c.flat_part.new.state (start_of c.args.origin) c.args.nested c.flat_part.new.pairs c.in_ok-ends.ends) here c.in_ok-ends.ensures.found in
     asked_same
     (answered_on
-    (asked_behind first c.in_ok-ends.was found c.requires.inside c.if-ends.false c.runs_behind.ensures.kept c.runs_behind.ensures.given_back c.runs_behind.ensures.room c.runs_behind.ensures.counts c.runs_behind.ensures.taken)
+    (asked_behind first c.in_ok-ends.was found c.requires.inside c.if-ends.false c.runs_behind.ensures.asked)
     c.in_ok-runs.runs c.in_ok-runs.runs c.in_ok-runs.was)
     c.keep_list-2.new.self c.keep_list-2.ensures
 
@@ -577,250 +576,158 @@ word_runs-returns-clause-forced g t c = λ cut.
 
 -- ---- whether one runs behind modifiers
 
+pub runs_behind-loop-vertex-init : goal.runs_behind-loop-vertex-init
+runs_behind-loop-vertex-init g t c = record {
+  done = [];
+  whole = IsPermutation-refl c.args.pairs.now;
+  tries = tries_none c.args.self.now c.args.state.now c.args.pairs.now c.args.modifiers;
+}
+
+pub runs_behind-returns-then-modifiers-le1-clause-asked : goal.runs_behind-returns-then-modifiers-le1-clause-asked
+runs_behind-returns-then-modifiers-le1-clause-asked g t c =
+    let h = c.args.self.now in
+    let k = c.loop-vertex.self in
+    let s = c.args.state.now in
+    let l = c.loop-vertex.state in
+    let is = c.loop-vertex.invariant in
+    let q : ℕ × ℕ = (c.in-Some.vertex, c.in-Some.position) in
+    let there = turn_there c.args.pairs.now is.done c.loop-vertex.pairs c.take_least.new.self q is.whole c.in-Some.ensures.permutation in
+    let ready : IsReady h.game s.state c.args.nested q = All-contains (IsReady h.game s.state c.args.nested) c.args.pairs.now q c.requires.ready there in
+    let moves = turn_moves c.args.pairs.now is.done c.loop-vertex.pairs c.take_least.new.self q is.whole c.in-Some.ensures.permutation in
+    tries_deep is.tries c.take_least.new.self q moves ready.later ready.applies c.if-modifiers-le1.true
+
 pub runs_behind-runs_behind_one-requires : goal.runs_behind-runs_behind_one-requires
 runs_behind-runs_behind_one-requires g t c κs within =
-    let fits : IsStateOf c.loop-vertex.self.game c.loop-vertex.state.state = onward IsStateOf c.args.self.now c.loop-vertex.self c.args.state.now c.loop-vertex.state c.loop-vertex.invariant.kept c.loop-vertex.invariant.given_back c.requires.fits in
-    let room : 2 ≤ c.loop-vertex.state.room = omega (arith, c.requires.room, c.loop-vertex.invariant.room) in
-    let some : 0 < c.args.modifiers = omega (arith, c.if-modifiers-le1.false) in
+    let h = c.args.self.now in
+    let k = c.loop-vertex.self in
+    let s = c.args.state.now in
+    let l = c.loop-vertex.state in
+    let is = c.loop-vertex.invariant in
     let q : ℕ × ℕ = (c.in-Some.vertex, c.in-Some.position) in
-    let there = turn_there c.args.pairs.now c.loop-vertex.invariant.done c.loop-vertex.pairs c.take_least.new.self q c.loop-vertex.invariant.whole c.in-Some.ensures.permutation in
-    let ready = onward (λ x s. IsReady x s c.args.nested q) c.args.self.now c.loop-vertex.self c.args.state.now c.loop-vertex.state c.loop-vertex.invariant.kept c.loop-vertex.invariant.given_back (All-contains (IsReady c.args.self.now.game c.args.state.now.state c.args.nested) c.args.pairs.now q c.requires.ready there) in
-    let inside = onward (λ x s. StandsInPattern x.rules (after q.1)) c.args.self.now c.loop-vertex.self c.args.state.now c.loop-vertex.state c.loop-vertex.invariant.kept c.loop-vertex.invariant.given_back (All-contains (λ r. StandsInPattern c.args.self.now.game.rules (after r.1)) c.args.pairs.now q c.requires.inside there) in
+    let there = turn_there c.args.pairs.now is.done c.loop-vertex.pairs c.take_least.new.self q is.whole c.in-Some.ensures.permutation in
+    let fits : IsStateOf k.game l.state = onward IsStateOf h k s l is.tries.kept is.tries.given_back c.requires.fits in
+    let room : 2 ≤ l.room = omega (arith, c.requires.room, is.tries.room) in
+    let some : 0 < c.args.modifiers = omega (arith, c.if-modifiers-le1.false) in
+    let ready = onward (λ x u. IsReady x u c.args.nested q) h k s l is.tries.kept is.tries.given_back (All-contains (IsReady h.game s.state c.args.nested) c.args.pairs.now q c.requires.ready there) in
+    let inside = onward (λ x u. StandsInPattern x.rules (after q.1)) h k s l is.tries.kept is.tries.given_back (All-contains (λ r. StandsInPattern h.game.rules (after r.1)) c.args.pairs.now q c.requires.inside there) in
     (search rules, (within, (fits, (room, (ready, (inside, some))))))
 
-pub runs_behind-returns-in_err-runs_behind_one-clause-kept : goal.runs_behind-returns-in_err-runs_behind_one-clause-kept
-runs_behind-returns-in_err-runs_behind_one-clause-kept g t c = kept_twice c.args.self.now c.loop-vertex.self c.runs_behind_one.new.self c.loop-vertex.invariant.kept c.runs_behind_one.ensures.kept
+pub runs_behind-returns-in_err-runs_behind_one-clause-asked : goal.runs_behind-returns-in_err-runs_behind_one-clause-asked
+runs_behind-returns-in_err-runs_behind_one-clause-asked g t c =
+    let h = c.args.self.now in
+    let k = c.loop-vertex.self in
+    let s = c.args.state.now in
+    let l = c.loop-vertex.state in
+    let is = c.loop-vertex.invariant in
+    let q : ℕ × ℕ = (c.in-Some.vertex, c.in-Some.position) in
+    let there = turn_there c.args.pairs.now is.done c.loop-vertex.pairs c.take_least.new.self q is.whole c.in-Some.ensures.permutation in
+    let ready : IsReady h.game s.state c.args.nested q = All-contains (IsReady h.game s.state c.args.nested) c.args.pairs.now q c.requires.ready there in
+    let moves = turn_moves c.args.pairs.now is.done c.loop-vertex.pairs c.take_least.new.self q is.whole c.in-Some.ensures.permutation in
+    tries_failed is.tries c.take_least.new.self q moves ready.later ready.applies (omega (arith, c.if-modifiers-le1.false)) c.runs_behind_one.ensures.asked c.from_residual.result c.in_err-runs_behind_one.field-0.0 c.in_err-runs_behind_one.was c.from_residual.ensures.1
 
-pub runs_behind-returns-in_err-runs_behind_one-clause-given_back : goal.runs_behind-returns-in_err-runs_behind_one-clause-given_back
-runs_behind-returns-in_err-runs_behind_one-clause-given_back g t c = room_twice c.args.state.now c.loop-vertex.state c.runs_behind_one.new.state c.loop-vertex.invariant.given_back c.runs_behind_one.ensures.given_back
-
-pub runs_behind-returns-then-branch-clause-kept : goal.runs_behind-returns-then-branch-clause-kept
-runs_behind-returns-then-branch-clause-kept g t c = kept_twice c.args.self.now c.loop-vertex.self c.runs_behind_one.new.self c.loop-vertex.invariant.kept c.runs_behind_one.ensures.kept
-
-pub runs_behind-returns-then-branch-clause-given_back : goal.runs_behind-returns-then-branch-clause-given_back
-runs_behind-returns-then-branch-clause-given_back g t c = room_twice c.args.state.now c.loop-vertex.state c.runs_behind_one.new.state c.loop-vertex.invariant.given_back c.runs_behind_one.ensures.given_back
+pub runs_behind-returns-then-branch-clause-asked : goal.runs_behind-returns-then-branch-clause-asked
+runs_behind-returns-then-branch-clause-asked g t c =
+    let h = c.args.self.now in
+    let k = c.loop-vertex.self in
+    let s = c.args.state.now in
+    let l = c.loop-vertex.state in
+    let is = c.loop-vertex.invariant in
+    let q : ℕ × ℕ = (c.in-Some.vertex, c.in-Some.position) in
+    let there = turn_there c.args.pairs.now is.done c.loop-vertex.pairs c.take_least.new.self q is.whole c.in-Some.ensures.permutation in
+    let ready : IsReady h.game s.state c.args.nested q = All-contains (IsReady h.game s.state c.args.nested) c.args.pairs.now q c.requires.ready there in
+    let moves = turn_moves c.args.pairs.now is.done c.loop-vertex.pairs c.take_least.new.self q is.whole c.in-Some.ensures.permutation in
+    tries_yes is.tries c.take_least.new.self q moves ready.later ready.applies (omega (arith, c.if-modifiers-le1.false)) c.runs_behind_one.ensures.asked c.in_ok-runs_behind_one.field-0 c.in_ok-runs_behind_one.was true
 
 pub runs_behind-returns-then-branch-clause-answer : goal.runs_behind-returns-then-branch-clause-answer
 runs_behind-returns-then-branch-clause-answer g t c =
+    let h = c.args.self.now in
+    let k = c.loop-vertex.self in
+    let s = c.args.state.now in
+    let l = c.loop-vertex.state in
+    let is = c.loop-vertex.invariant in
     let q : ℕ × ℕ = (c.in-Some.vertex, c.in-Some.position) in
-    let there = turn_there c.args.pairs.now c.loop-vertex.invariant.done c.loop-vertex.pairs c.take_least.new.self q c.loop-vertex.invariant.whole c.in-Some.ensures.permutation in
-    let decides = before (λ x s. IsTrue c.in_ok-runs_behind_one.field-0 ↔ RunsBehindPair x s q.0 q.1) c.args.self.now c.loop-vertex.self c.args.state.now c.loop-vertex.state c.loop-vertex.invariant.kept c.loop-vertex.invariant.given_back c.in_ok-runs_behind_one.ensures.answer in
-    turn_some c.args.self.now.game c.args.state.now.state c.args.pairs.now q c.in_ok-runs_behind_one.field-0 there decides c.if-branch.true
+    let there = turn_there c.args.pairs.now is.done c.loop-vertex.pairs c.take_least.new.self q is.whole c.in-Some.ensures.permutation in
+    let decides = before (λ x u. IsTrue c.in_ok-runs_behind_one.field-0 ↔ RunsBehindPair x u q.0 q.1) h k s l is.tries.kept is.tries.given_back c.in_ok-runs_behind_one.ensures.answer in
+    turn_some h.game s.state c.args.pairs.now q c.in_ok-runs_behind_one.field-0 there decides c.if-branch.true
+
+pub runs_behind-returns-then-branch-clause-forced : goal.runs_behind-returns-then-branch-clause-forced
+runs_behind-returns-then-branch-clause-forced g t c =
+    let h = c.args.self.now in
+    let k = c.loop-vertex.self in
+    let s = c.args.state.now in
+    let l = c.loop-vertex.state in
+    let is = c.loop-vertex.invariant in
+    let q : ℕ × ℕ = (c.in-Some.vertex, c.in-Some.position) in
+    let there = turn_there c.args.pairs.now is.done c.loop-vertex.pairs c.take_least.new.self q is.whole c.in-Some.ensures.permutation in
+    let ready : IsReady h.game s.state c.args.nested q = All-contains (IsReady h.game s.state c.args.nested) c.args.pairs.now q c.requires.ready there in
+    let moves = turn_moves c.args.pairs.now is.done c.loop-vertex.pairs c.take_least.new.self q is.whole c.in-Some.ensures.permutation in
+    ran_some h.game s.state c.args.pairs.now h.opened c.runs_behind_one.new.self.opened c.args.modifiers h.modifiers
+    (tries_grow is.tries c.take_least.new.self q moves ready.later ready.applies (omega (arith, c.if-modifiers-le1.false)) c.runs_behind_one.ensures.asked c.in_ok-runs_behind_one.field-0 c.in_ok-runs_behind_one.was c.in_ok-runs_behind_one.ensures.forced)
 
 pub runs_behind-loop-vertex-preserved : goal.runs_behind-loop-vertex-preserved
 runs_behind-loop-vertex-preserved g t c =
+    let h = c.args.self.now in
+    let k = c.loop-vertex.self in
+    let s = c.args.state.now in
+    let l = c.loop-vertex.state in
     let is = c.loop-vertex.invariant in
-    let done : List (ℕ × ℕ) = is.done in
-    let left : List (ℕ × ℕ) = c.take_least.new.self in
     let q : ℕ × ℕ = (c.in-Some.vertex, c.in-Some.position) in
-    let taken = c.in-Some.ensures.permutation in
-    let moves = turn_moves c.args.pairs.now done c.loop-vertex.pairs left q is.whole taken in
-    let there = turn_there c.args.pairs.now done c.loop-vertex.pairs left q is.whole taken in
-    let ready : IsReady c.args.self.now.game c.args.state.now.state c.args.nested q = All-contains (IsReady c.args.self.now.game c.args.state.now.state c.args.nested) c.args.pairs.now q c.requires.ready there in
-    let decides = before (λ x s. IsTrue c.in_ok-runs_behind_one.field-0 ↔ RunsBehindPair x s q.0 q.1) c.args.self.now c.loop-vertex.self c.args.state.now c.loop-vertex.state is.kept is.given_back c.in_ok-runs_behind_one.ensures.answer in
-    let forced = turn_forced c.args.self.now c.loop-vertex.self c.args.state.now c.loop-vertex.state done left q c.args.self.now.opened c.runs_behind_one.new.self.opened c.args.modifiers ready.later is.kept is.given_back ready.applies (omega (arith, c.if-modifiers-le1.false)) c.in_ok-runs_behind_one.ensures.forced in
+    let there = turn_there c.args.pairs.now is.done c.loop-vertex.pairs c.take_least.new.self q is.whole c.in-Some.ensures.permutation in
+    let ready : IsReady h.game s.state c.args.nested q = All-contains (IsReady h.game s.state c.args.nested) c.args.pairs.now q c.requires.ready there in
+    let moves = turn_moves c.args.pairs.now is.done c.loop-vertex.pairs c.take_least.new.self q is.whole c.in-Some.ensures.permutation in
     record {
-      done = done ++ q ∷ [];
-      whole = turn_after c.args.pairs.now done c.loop-vertex.pairs left q is.whole taken;
-      kept = kept_twice c.args.self.now c.loop-vertex.self c.runs_behind_one.new.self is.kept c.runs_behind_one.ensures.kept;
-      given_back = room_twice c.args.state.now c.loop-vertex.state c.runs_behind_one.new.state is.given_back c.runs_behind_one.ensures.given_back;
-      room = omega (arith, c.loop-vertex.invariant.room, c.runs_behind_one.ensures.room);
-      none = turn_none c.args.self.now.game c.args.state.now.state done q c.in_ok-runs_behind_one.field-0 is.none decides c.if-branch.false;
-      counted = λ f a goes counts.
-          (turn_behind c.args.self.now c.loop-vertex.self c.args.state.now c.loop-vertex.state done left q f c.args.pairs.now a c.runs_behind_one.new.self.opened c.args.modifiers ready.later _ _ is.kept is.given_back moves goes ready.applies (omega (arith, c.if-modifiers-le1.false)) (is.counted f a goes counts) c.runs_behind_one.ensures.counts).counts;
-      grows = omega (arith, c.loop-vertex.invariant.grows, forced.grows);
-      forced = λ cut numbered. forced.forced cut numbered (is.forced cut numbered);
-      taken = λ f goes.
-          turn_takes c.args.self.now c.loop-vertex.self c.args.state.now c.loop-vertex.state done left q f c.args.pairs.now c.runs_behind_one.new.self.opened c.runs_behind_one.new.self.taken ready.later (Unit {0}) is.kept is.given_back moves goes ready.applies (is.taken f goes)
-          (λ later applies. takes_as c.loop-vertex.self.game pattern later (after q.1) c.loop-vertex.self.opened c.runs_behind_one.new.self.opened c.loop-vertex.self.taken c.runs_behind_one.new.self.taken (IsOk c.runs_behind_one.result) (Unit {0}) (c.runs_behind_one.ensures.taken later applies) (λ _. is_answer c.runs_behind_one.result c.in_ok-runs_behind_one.field-0 c.in_ok-runs_behind_one.was));
+      done = is.done ++ q ∷ [];
+      whole = turn_after c.args.pairs.now is.done c.loop-vertex.pairs c.take_least.new.self q is.whole c.in-Some.ensures.permutation;
+      tries = tries_more is.tries c.take_least.new.self q moves ready.later ready.applies (omega (arith, c.if-modifiers-le1.false)) c.runs_behind_one.ensures.asked c.in_ok-runs_behind_one.field-0 c.in_ok-runs_behind_one.was c.in_ok-runs_behind_one.ensures.forced c.in_ok-runs_behind_one.ensures.answer c.if-branch.false;
     }
 
 pub runs_behind-loop-vertex-smaller : goal.runs_behind-loop-vertex-smaller
 runs_behind-loop-vertex-smaller g t c = turn_fewer c.loop-vertex.pairs c.take_least.new.self (c.in-Some.vertex, c.in-Some.position) c.in-Some.ensures.permutation
 
+pub runs_behind-returns-clause-asked : goal.runs_behind-returns-clause-asked
+runs_behind-returns-clause-asked g t c = tries_end c.loop-vertex.invariant.tries false
+
 pub runs_behind-returns-clause-answer : goal.runs_behind-returns-clause-answer
 runs_behind-returns-clause-answer g t c =
-    none_of_all c.args.self.now.game c.args.state.now.state c.args.pairs.now c.loop-vertex.invariant.done (turn_end c.args.pairs.now c.loop-vertex.invariant.done c.loop-vertex.pairs c.loop-vertex.invariant.whole c.in_default.ensures.none) c.loop-vertex.invariant.none
-
-pub runs_behind-loop-vertex-init : goal.runs_behind-loop-vertex-init
-runs_behind-loop-vertex-init g t c = record {
-  done = [];
-  whole = IsPermutation-refl c.args.pairs.now;
-  kept = refl;
-  given_back = refl;
-  room = omega arith;
-  none = λ k d within. absurd (omega (arith, within));
-  counted = λ f a goes counts. behind_begin c.args.self.now.game goes.lawful.numbered c.args.state.now.state f a c.args.self.now.opened counts;
-  grows = omega arith;
-  forced = λ cut numbered. takes_none c.args.self.now.game numbered cut pattern c.args.state.now.state c.args.self.now.opened c.args.self.now.opened c.args.modifiers c.args.self.now.modifiers (omega arith);
-  taken = λ f goes. takes_none_yet c.args.self.now.game pattern c.args.state.now.state f c.args.self.now.opened c.args.self.now.opened c.args.self.now.taken c.args.self.now.taken (Unit {0}) refl refl;
-}
-
-pub runs_behind-returns-then-modifiers-le1-clause-counts :
-    goal.runs_behind-returns-then-modifiers-le1-clause-counts
-runs_behind-returns-then-modifiers-le1-clause-counts g t c = λ f a goes counts.
-    let is = c.loop-vertex.invariant in
-    let done : List (ℕ × ℕ) = is.done in
-    let left : List (ℕ × ℕ) = c.take_least.new.self in
-    let q : ℕ × ℕ = (c.in-Some.vertex, c.in-Some.position) in
-    let taken = c.in-Some.ensures.permutation in
-    let moves = turn_moves c.args.pairs.now done c.loop-vertex.pairs left q is.whole taken in
-    let there = turn_there c.args.pairs.now done c.loop-vertex.pairs left q is.whole taken in
-    let ready : IsReady c.args.self.now.game c.args.state.now.state c.args.nested q = All-contains (IsReady c.args.self.now.game c.args.state.now.state c.args.nested) c.args.pairs.now q c.requires.ready there in
-    turn_too_many c.args.self.now c.loop-vertex.self c.args.state.now c.loop-vertex.state done left q f c.args.pairs.now a c.loop-vertex.self.opened c.args.modifiers ready.later _ _ moves goes ready.applies c.if-modifiers-le1.true (is.counted f a goes counts)
-    (λ w. deep_not_wide (same_error {X = Bool} Deep Wide w))
-
-pub runs_behind-returns-in_err-runs_behind_one-clause-counts :
-    goal.runs_behind-returns-in_err-runs_behind_one-clause-counts
-runs_behind-returns-in_err-runs_behind_one-clause-counts g t c = λ f a goes counts.
-    let is = c.loop-vertex.invariant in
-    let done : List (ℕ × ℕ) = is.done in
-    let left : List (ℕ × ℕ) = c.take_least.new.self in
-    let q : ℕ × ℕ = (c.in-Some.vertex, c.in-Some.position) in
-    let taken = c.in-Some.ensures.permutation in
-    let moves = turn_moves c.args.pairs.now done c.loop-vertex.pairs left q is.whole taken in
-    let there = turn_there c.args.pairs.now done c.loop-vertex.pairs left q is.whole taken in
-    let ready : IsReady c.args.self.now.game c.args.state.now.state c.args.nested q = All-contains (IsReady c.args.self.now.game c.args.state.now.state c.args.nested) c.args.pairs.now q c.requires.ready there in
-    counted_as c.args.self.now.game pattern c.args.state.now.state f a c.runs_behind_one.new.self.opened c.args.modifiers c.args.self.now.openings c.args.self.now.modifiers _ _ _ _
-    (given_up c.runs_behind_one.result c.from_residual.result c.in_err-runs_behind_one.field-0.0 Deep c.in_err-runs_behind_one.was c.from_residual.ensures.1)
-    (given_up c.runs_behind_one.result c.from_residual.result c.in_err-runs_behind_one.field-0.0 Wide c.in_err-runs_behind_one.was c.from_residual.ensures.1)
-    (turn_behind c.args.self.now c.loop-vertex.self c.args.state.now c.loop-vertex.state done left q f c.args.pairs.now a c.runs_behind_one.new.self.opened c.args.modifiers ready.later _ _ is.kept is.given_back moves goes ready.applies (omega (arith, c.if-modifiers-le1.false)) (is.counted f a goes counts) c.runs_behind_one.ensures.counts).gave_up
-
-pub runs_behind-returns-then-branch-clause-counts :
-    goal.runs_behind-returns-then-branch-clause-counts
-runs_behind-returns-then-branch-clause-counts g t c = λ f a goes counts.
-    let is = c.loop-vertex.invariant in
-    let done : List (ℕ × ℕ) = is.done in
-    let left : List (ℕ × ℕ) = c.take_least.new.self in
-    let q : ℕ × ℕ = (c.in-Some.vertex, c.in-Some.position) in
-    let taken = c.in-Some.ensures.permutation in
-    let moves = turn_moves c.args.pairs.now done c.loop-vertex.pairs left q is.whole taken in
-    let there = turn_there c.args.pairs.now done c.loop-vertex.pairs left q is.whole taken in
-    let ready : IsReady c.args.self.now.game c.args.state.now.state c.args.nested q = All-contains (IsReady c.args.self.now.game c.args.state.now.state c.args.nested) c.args.pairs.now q c.requires.ready there in
-    behind_only c.args.self.now.game goes.lawful.numbered c.args.state.now.state f (done ++ q ∷ []) a c.runs_behind_one.new.self.opened c.args.modifiers c.args.self.now.openings c.args.self.now.modifiers _ _
-    (turn_behind c.args.self.now c.loop-vertex.self c.args.state.now c.loop-vertex.state done left q f c.args.pairs.now a c.runs_behind_one.new.self.opened c.args.modifiers ready.later _ _ is.kept is.given_back moves goes ready.applies (omega (arith, c.if-modifiers-le1.false)) (is.counted f a goes counts) c.runs_behind_one.ensures.counts).counts
-    (ok_not_err true Deep) (ok_not_err true Wide)
-
-pub runs_behind-returns-clause-counts : goal.runs_behind-returns-clause-counts
-runs_behind-returns-clause-counts g t c = λ f a goes counts.
-    behind_only c.args.self.now.game goes.lawful.numbered c.args.state.now.state f c.loop-vertex.invariant.done a c.loop-vertex.self.opened c.args.modifiers c.args.self.now.openings c.args.self.now.modifiers _ _
-    (c.loop-vertex.invariant.counted f a goes counts) (ok_not_err false Deep) (ok_not_err false Wide)
-
-pub runs_behind-returns-then-branch-clause-forced : goal.runs_behind-returns-then-branch-clause-forced
-runs_behind-returns-then-branch-clause-forced g t c =
-    let is = c.loop-vertex.invariant in
-    let done : List (ℕ × ℕ) = is.done in
-    let left : List (ℕ × ℕ) = c.take_least.new.self in
-    let q : ℕ × ℕ = (c.in-Some.vertex, c.in-Some.position) in
-    let taken = c.in-Some.ensures.permutation in
-    let there = turn_there c.args.pairs.now done c.loop-vertex.pairs left q is.whole taken in
-    let ready : IsReady c.args.self.now.game c.args.state.now.state c.args.nested q = All-contains (IsReady c.args.self.now.game c.args.state.now.state c.args.nested) c.args.pairs.now q c.requires.ready there in
-    let forced = turn_forced c.args.self.now c.loop-vertex.self c.args.state.now c.loop-vertex.state done left q c.args.self.now.opened c.runs_behind_one.new.self.opened c.args.modifiers ready.later is.kept is.given_back ready.applies (omega (arith, c.if-modifiers-le1.false)) c.in_ok-runs_behind_one.ensures.forced in
-    ran_some c.args.self.now.game c.args.state.now.state c.args.pairs.now c.args.self.now.opened c.runs_behind_one.new.self.opened c.args.modifiers c.args.self.now.modifiers (omega (arith, c.loop-vertex.invariant.grows, forced.grows))
+    none_of_all c.args.self.now.game c.args.state.now.state c.args.pairs.now c.loop-vertex.invariant.done (turn_end c.args.pairs.now c.loop-vertex.invariant.done c.loop-vertex.pairs c.loop-vertex.invariant.whole c.in_default.ensures.none) c.loop-vertex.invariant.tries.none
 
 pub runs_behind-returns-clause-forced : goal.runs_behind-returns-clause-forced
 runs_behind-returns-clause-forced g t c =
     let is = c.loop-vertex.invariant in
     let moves = turn_end c.args.pairs.now is.done c.loop-vertex.pairs is.whole c.in_default.ensures.none in
     record {
-      grows = is.grows;
-      forced = λ cut numbered _. ran_permuted c.args.self.now.game cut c.args.state.now.state c.args.pairs.now is.done c.args.self.now.opened c.loop-vertex.self.opened c.args.modifiers c.args.self.now.modifiers moves (is.forced cut numbered);
+      grows = is.tries.grows;
+      forced = λ cut numbered _. ran_permuted c.args.self.now.game cut c.args.state.now.state c.args.pairs.now is.done c.args.self.now.opened c.loop-vertex.self.opened c.args.modifiers c.args.self.now.modifiers moves (is.tries.forced cut numbered);
     }
-
-pub runs_behind-returns-then-modifiers-le1-clause-taken :
-    goal.runs_behind-returns-then-modifiers-le1-clause-taken
-runs_behind-returns-then-modifiers-le1-clause-taken g t c = λ f goes.
-    takes_as c.args.self.now.game pattern c.args.state.now.state f c.args.self.now.opened c.loop-vertex.self.opened c.args.self.now.taken c.loop-vertex.self.taken (Unit {0}) _ (c.loop-vertex.invariant.taken f goes) (λ _. tt)
-
-pub runs_behind-returns-in_err-runs_behind_one-clause-taken :
-    goal.runs_behind-returns-in_err-runs_behind_one-clause-taken
-runs_behind-returns-in_err-runs_behind_one-clause-taken g t c = λ f goes.
-    let is = c.loop-vertex.invariant in
-    let done : List (ℕ × ℕ) = is.done in
-    let left : List (ℕ × ℕ) = c.take_least.new.self in
-    let q : ℕ × ℕ = (c.in-Some.vertex, c.in-Some.position) in
-    let taken = c.in-Some.ensures.permutation in
-    let moves = turn_moves c.args.pairs.now done c.loop-vertex.pairs left q is.whole taken in
-    let there = turn_there c.args.pairs.now done c.loop-vertex.pairs left q is.whole taken in
-    let ready : IsReady c.args.self.now.game c.args.state.now.state c.args.nested q = All-contains (IsReady c.args.self.now.game c.args.state.now.state c.args.nested) c.args.pairs.now q c.requires.ready there in
-    turn_takes c.args.self.now c.loop-vertex.self c.args.state.now c.loop-vertex.state done left q f c.args.pairs.now c.runs_behind_one.new.self.opened c.runs_behind_one.new.self.taken ready.later _ is.kept is.given_back moves goes ready.applies (is.taken f goes)
-    (λ later applies. takes_as c.loop-vertex.self.game pattern later (after q.1) c.loop-vertex.self.opened c.runs_behind_one.new.self.opened c.loop-vertex.self.taken c.runs_behind_one.new.self.taken (IsOk c.runs_behind_one.result) _ (c.runs_behind_one.ensures.taken later applies) (λ ok. absurd (not_ok c.from_residual.result c.in_err-runs_behind_one.field-0.0 c.from_residual.ensures.1 ok)))
-
-pub runs_behind-returns-then-branch-clause-taken :
-    goal.runs_behind-returns-then-branch-clause-taken
-runs_behind-returns-then-branch-clause-taken g t c = λ f goes.
-    let is = c.loop-vertex.invariant in
-    let done : List (ℕ × ℕ) = is.done in
-    let left : List (ℕ × ℕ) = c.take_least.new.self in
-    let q : ℕ × ℕ = (c.in-Some.vertex, c.in-Some.position) in
-    let taken = c.in-Some.ensures.permutation in
-    let moves = turn_moves c.args.pairs.now done c.loop-vertex.pairs left q is.whole taken in
-    let there = turn_there c.args.pairs.now done c.loop-vertex.pairs left q is.whole taken in
-    let ready : IsReady c.args.self.now.game c.args.state.now.state c.args.nested q = All-contains (IsReady c.args.self.now.game c.args.state.now.state c.args.nested) c.args.pairs.now q c.requires.ready there in
-    turn_takes c.args.self.now c.loop-vertex.self c.args.state.now c.loop-vertex.state done left q f c.args.pairs.now c.runs_behind_one.new.self.opened c.runs_behind_one.new.self.taken ready.later _ is.kept is.given_back moves goes ready.applies (is.taken f goes)
-    (λ later applies. takes_as c.loop-vertex.self.game pattern later (after q.1) c.loop-vertex.self.opened c.runs_behind_one.new.self.opened c.loop-vertex.self.taken c.runs_behind_one.new.self.taken (IsOk c.runs_behind_one.result) _ (c.runs_behind_one.ensures.taken later applies) (λ _. is_answer c.runs_behind_one.result c.in_ok-runs_behind_one.field-0 c.in_ok-runs_behind_one.was))
-
-pub runs_behind-returns-clause-taken : goal.runs_behind-returns-clause-taken
-runs_behind-returns-clause-taken g t c = λ f goes.
-    takes_as c.args.self.now.game pattern c.args.state.now.state f c.args.self.now.opened c.loop-vertex.self.opened c.args.self.now.taken c.loop-vertex.self.taken (Unit {0}) _ (c.loop-vertex.invariant.taken f goes) (λ _. tt)
 
 pub runs_behind_one-undo_to-requires : goal.runs_behind_one-undo_to-requires
 runs_behind_one-undo_to-requires g t c =
     mark_within c.args.state.now c.apply_at.new.state c.word_runs-runs.new.state c.mark-mark.result c.mark-mark.ensures c.apply_at.ensures.after c.word_runs-runs.ensures.asked.given_back
 
-pub runs_behind_one-returns-in_err-runs-clause-given_back : goal.runs_behind_one-returns-in_err-runs-clause-given_back
-runs_behind_one-returns-in_err-runs-clause-given_back g t c =
-    back c.args.state.now c.apply_at.new.state c.word_runs-runs.new.state c.undo_to.new.self c.mark-mark.result c.mark-mark.ensures c.apply_at.ensures.after c.word_runs-runs.ensures.asked.given_back c.undo_to.ensures.given_back
+pub runs_behind_one-word_runs-runs-requires : goal.runs_behind_one-word_runs-runs-requires
+runs_behind_one-word_runs-runs-requires g t c κs within =
+    (search rules, (within, (c.apply_at.ensures.fits, (c.requires.ready.nests, c.requires.inside))))
 
-pub runs_behind_one-returns-in_err-runs-clause-room : goal.runs_behind_one-returns-in_err-runs-clause-room
-runs_behind_one-returns-in_err-runs-clause-room g t c =
-    given_room c.args.state.now c.apply_at.new.state c.word_runs-runs.new.state c.undo_to.new.self c.apply_at.ensures.capacity c.word_runs-runs.ensures.asked.given_back c.word_runs-runs.ensures.asked.room c.undo_to.ensures.capacity
-    (back c.args.state.now c.apply_at.new.state c.word_runs-runs.new.state c.undo_to.new.self c.mark-mark.result c.mark-mark.ensures c.apply_at.ensures.after c.word_runs-runs.ensures.asked.given_back c.undo_to.ensures.given_back)
+pub runs_behind_one-returns-in_err-runs-clause-asked : goal.runs_behind_one-returns-in_err-runs-clause-asked
+runs_behind_one-returns-in_err-runs-clause-asked g t c = λ later applies.
+    let given = back c.args.state.now c.apply_at.new.state c.word_runs-runs.new.state c.undo_to.new.self c.mark-mark.result c.mark-mark.ensures c.apply_at.ensures.after c.word_runs-runs.ensures.asked.given_back c.undo_to.ensures.given_back in
+    let there =
+    asked_there c.word_runs-runs.ensures.asked c.args.state.now c.undo_to.new.self later (c.args.modifiers - 1) (c.apply_at.ensures.only later applies) refl given
+    (given_room c.args.state.now c.apply_at.new.state c.word_runs-runs.new.state c.undo_to.new.self c.apply_at.ensures.capacity c.word_runs-runs.ensures.asked.given_back c.word_runs-runs.ensures.asked.room c.undo_to.ensures.capacity given) in
+    handed_on there c.from_residual.result c.in_err-runs.field-0.0 c.in_err-runs.was c.from_residual.ensures.1
 
-pub runs_behind_one-returns-clause-given_back : goal.runs_behind_one-returns-clause-given_back
-runs_behind_one-returns-clause-given_back g t c =
-    back c.args.state.now c.apply_at.new.state c.word_runs-runs.new.state c.undo_to.new.self c.mark-mark.result c.mark-mark.ensures c.apply_at.ensures.after c.word_runs-runs.ensures.asked.given_back c.undo_to.ensures.given_back
-
-pub runs_behind_one-returns-clause-room : goal.runs_behind_one-returns-clause-room
-runs_behind_one-returns-clause-room g t c =
-    given_room c.args.state.now c.apply_at.new.state c.word_runs-runs.new.state c.undo_to.new.self c.apply_at.ensures.capacity c.word_runs-runs.ensures.asked.given_back c.word_runs-runs.ensures.asked.room c.undo_to.ensures.capacity
-    (back c.args.state.now c.apply_at.new.state c.word_runs-runs.new.state c.undo_to.new.self c.mark-mark.result c.mark-mark.ensures c.apply_at.ensures.after c.word_runs-runs.ensures.asked.given_back c.undo_to.ensures.given_back)
+pub runs_behind_one-returns-clause-asked : goal.runs_behind_one-returns-clause-asked
+runs_behind_one-returns-clause-asked g t c = λ later applies.
+    let given = back c.args.state.now c.apply_at.new.state c.word_runs-runs.new.state c.undo_to.new.self c.mark-mark.result c.mark-mark.ensures c.apply_at.ensures.after c.word_runs-runs.ensures.asked.given_back c.undo_to.ensures.given_back in
+    let there =
+    asked_there c.word_runs-runs.ensures.asked c.args.state.now c.undo_to.new.self later (c.args.modifiers - 1) (c.apply_at.ensures.only later applies) refl given
+    (given_room c.args.state.now c.apply_at.new.state c.word_runs-runs.new.state c.undo_to.new.self c.apply_at.ensures.capacity c.word_runs-runs.ensures.asked.given_back c.word_runs-runs.ensures.asked.room c.undo_to.ensures.capacity given) in
+    answered_on there c.in_ok-runs.field-0 c.in_ok-runs.field-0 c.in_ok-runs.was
 
 pub runs_behind_one-returns-clause-answer : goal.runs_behind_one-returns-clause-answer
 runs_behind_one-returns-clause-answer g t c =
     runs_one c.args.self.now.game c.args.state.now.state c.apply_at.new.state.state c.args.nested c.args.vertex c.args.position c.in_ok-runs.field-0 c.requires.ready c.apply_at.ensures.only c.in_ok-runs.ensures.answer
 
-pub runs_behind_one-word_runs-runs-requires : goal.runs_behind_one-word_runs-runs-requires
-runs_behind_one-word_runs-runs-requires g t c κs within =
-    (search rules, (within, (c.apply_at.ensures.fits, (c.requires.ready.nests, c.requires.inside))))
-
-pub runs_behind_one-returns-in_err-runs-clause-counts : goal.runs_behind_one-returns-in_err-runs-clause-counts
-runs_behind_one-returns-in_err-runs-clause-counts g t c = λ later left applies is.
-    counted_there c.args.self.now later c.apply_at.new.state.state (after c.args.position) c.args.self.now.opened c.word_runs-runs.new.self.opened (c.args.modifiers - 1) left _ _ _ _
-    (c.apply_at.ensures.only later applies) (omega (arith, is))
-    (given_up c.word_runs-runs.result c.from_residual.result c.in_err-runs.field-0.0 Deep c.in_err-runs.was c.from_residual.ensures.1)
-    (given_up c.word_runs-runs.result c.from_residual.result c.in_err-runs.field-0.0 Wide c.in_err-runs.was c.from_residual.ensures.1)
-    c.word_runs-runs.ensures.asked.counts
-
-pub runs_behind_one-returns-clause-counts : goal.runs_behind_one-returns-clause-counts
-runs_behind_one-returns-clause-counts g t c = λ later left applies is.
-    counted_there c.args.self.now later c.apply_at.new.state.state (after c.args.position) c.args.self.now.opened c.word_runs-runs.new.self.opened (c.args.modifiers - 1) left _ _ _ _
-    (c.apply_at.ensures.only later applies) (omega (arith, is))
-    (λ d. absurd (ok_not_err c.in_ok-runs.field-0 Deep d)) (λ w. absurd (ok_not_err c.in_ok-runs.field-0 Wide w))
-    c.word_runs-runs.ensures.asked.counts
-
 pub runs_behind_one-returns-clause-forced : goal.runs_behind_one-returns-clause-forced
 runs_behind_one-returns-clause-forced g t c = λ cut later applies.
     subst (λ (u : AbstractState). CountsForced c.args.self.now.game cut pattern u (after c.args.position) c.args.self.now.opened c.word_runs-runs.new.self.opened (c.args.modifiers - 1) c.args.self.now.modifiers) (sym (c.apply_at.ensures.only later applies)) (c.in_ok-runs.ensures.forced cut)
-
-pub runs_behind_one-returns-in_err-runs-clause-taken : goal.runs_behind_one-returns-in_err-runs-clause-taken
-runs_behind_one-returns-in_err-runs-clause-taken g t c = λ later applies.
-    takes_as c.args.self.now.game pattern later (after c.args.position) c.args.self.now.opened c.word_runs-runs.new.self.opened c.args.self.now.taken c.word_runs-runs.new.self.taken (IsOk c.word_runs-runs.result) _
-    (subst (λ (u : AbstractState). CountsPairs c.args.self.now.game pattern u (after c.args.position) c.args.self.now.opened c.word_runs-runs.new.self.opened c.args.self.now.taken c.word_runs-runs.new.self.taken (IsOk c.word_runs-runs.result)) (sym (c.apply_at.ensures.only later applies)) c.word_runs-runs.ensures.asked.taken)
-    (λ ok. absurd (not_ok c.from_residual.result c.in_err-runs.field-0.0 c.from_residual.ensures.1 ok))
-
-pub runs_behind_one-returns-clause-taken : goal.runs_behind_one-returns-clause-taken
-runs_behind_one-returns-clause-taken g t c = λ later applies.
-    takes_as c.args.self.now.game pattern later (after c.args.position) c.args.self.now.opened c.word_runs-runs.new.self.opened c.args.self.now.taken c.word_runs-runs.new.self.taken (IsOk c.word_runs-runs.result) _
-    (subst (λ (u : AbstractState). CountsPairs c.args.self.now.game pattern u (after c.args.position) c.args.self.now.opened c.word_runs-runs.new.self.opened c.args.self.now.taken c.word_runs-runs.new.self.taken (IsOk c.word_runs-runs.result)) (sym (c.apply_at.ensures.only later applies)) c.word_runs-runs.ensures.asked.taken)
-    (λ _. is_answer c.word_runs-runs.result c.in_ok-runs.field-0 c.in_ok-runs.was)

@@ -1,20 +1,11 @@
 -- Each call has fewer patterns or fewer modifiers before it; the semi-state is given back after each.
-use Rattle.std.proofs.Common.{◌≡◌, ◌+◌, ◌*◌, ◌-◌, ◌^◌, ◌≤◌, ◌++◌, ℕ, List, length}
+use Rattle.std.proofs.Common.{◌+◌, ◌*◌, ◌-◌, ◌^◌, ◌++◌, ℕ, List, length}
 use Rattle.std.specs.List.Sorted.{IsPermutation}
-use Rattle.std.specs.Prelude.{All, Bool}
 use Rattle.rbg_pairs.specs.Start.{start_of}
 use Rattle.rbg_flat.specs.internal.Sets.{weight}
 use Rattle.rbg_search.specs.internal.BySets.{FindsBySets}
 use Rattle.rbg_search.specs.internal.Finding.{FindsByPairs}
-use Rattle.rbg_search.specs.internal.Behind.{RunsBehindPair}
-use Rattle.rbg_rules.specs.Positions.{IsNumbered}
-use Rattle.rbg_rules.specs.Words.{Start}
-use Rattle.rbg_rules.specs.Questions.{reach, pattern}
-use Rattle.rbg_search.specs.Counting.{CountsOpenings}
-use Rattle.rbg_search.specs.Passing.{CountsUpTo}
-use Rattle.rbg_search.specs.internal.Asked.{GoesBehind}
-use Rattle.rbg_search.specs.Forced.{TakesBehind}
-use Rattle.rbg_search.specs.Taken.{CountsPairs}
+use Rattle.rbg_search.specs.internal.Trying.{TriesBehind}
 use Rattle.rbg_search.proofs.search.Search.+search.Given as goal
 
 abbrev pub decreases-flat_part : goal.decreases-flat_part
@@ -51,24 +42,7 @@ abbrev pub invariant-runs_behind-loop-vertex : goal.invariant-runs_behind-loop-v
 invariant-runs_behind-loop-vertex g l = record {
   done : List (ℕ × ℕ);
   whole : IsPermutation l.fn.pairs (done ++ l.pairs);
-  kept : l.self ≡ record l.fn.self { opened = l.self.opened; taken = l.self.taken };
-  given_back : l.state ≡ record l.fn.state { room = l.state.room };
-  room : l.fn.state.room ≤ l.state.room;
-  none : All (λ q. ¬ RunsBehindPair l.fn.self.game l.fn.state.state q.0 q.1) done;
-  counted :
-      (f : Start) (a : ℕ) →
-      GoesBehind l.fn.self.game l.fn.state.state f l.fn.pairs →
-      CountsOpenings l.fn.self.game reach l.fn.state.state f a l.fn.self.opened →
-      CountsUpTo l.fn.self.game pattern l.fn.state.state f done a l.self.opened;
-  grows : l.fn.self.opened ≤ l.self.opened;
-  forced :
-      (cut : Bool) →
-      IsNumbered l.fn.self.game.rules →
-      TakesBehind l.fn.self.game cut pattern l.fn.state.state done l.fn.self.opened l.self.opened l.fn.modifiers l.fn.self.modifiers;
-  taken :
-      (f : Start) →
-      GoesBehind l.fn.self.game l.fn.state.state f l.fn.pairs →
-      CountsPairs l.fn.self.game pattern l.fn.state.state f l.fn.self.opened l.self.opened l.fn.self.taken l.self.taken (Unit {0});
+  tries : TriesBehind l.fn.self l.self l.fn.state l.state l.fn.pairs done l.fn.modifiers;
 }
 
 abbrev pub decreases-runs_behind-loop-vertex : goal.decreases-runs_behind-loop-vertex
