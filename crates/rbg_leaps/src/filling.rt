@@ -34,7 +34,8 @@ fn fill_one(
     Ok(())
 }
 
-/// The entry of a node and a vertex with what is told behind a shift of its list.
+/// The entry of a node and a vertex with what is told behind a shift of its list. What doesn't depend on the vertex is
+/// handed in.
 #[inline(always)]
 fn entry_behind(
     table: &Table,
@@ -43,8 +44,12 @@ fn entry_behind(
     node: usize,
     vertex: Vertex,
     position: Position,
+    after: usize,
+    may_end: bool,
 ) -> Entry
     requires right { IsRightSoFar ground.now lists.now table.now }
+    requires after { after ≡ slice_index_or lists.now.afters.items position 0 }
+    requires may_end { may_end ≡ may_end_at lists.now.shelf node }
     requires vertex { vertex < length ground.now.board.first }
     requires listed { Contains (list_at lists.now.shelf node) position }
     requires shift { IsShiftAt ground.now.rules position }
@@ -53,7 +58,6 @@ fn entry_behind(
     ensures told { IsToldAt ground.now lists.now table.now result vertex position }
     ensures ends { IsTrue (may_end_at lists.now.shelf node) → IsTrue result.ends }
 {
-    let may_end = lists.shelf.may_end(node);
     let Some(to) = ground.to(vertex, position) else {
         return Entry {
             start: 0,
@@ -61,7 +65,7 @@ fn entry_behind(
             ends: may_end,
         };
     };
-    let behind = table.entry(lists.after(position), to);
+    let behind = table.entry(after, to);
     let ends = behind.ends || may_end;
     Entry {
         start: behind.start,
@@ -79,15 +83,19 @@ fn share_one(
     node: usize,
     vertex: Vertex,
     position: Position,
+    after: usize,
+    may_end: bool,
 )
     requires right { IsRightSoFar ground.now lists.now table.old }
     requires node { node < length lists.now.shelf.nodes.items }
     requires vertex { vertex < length ground.now.board.first }
     requires only { IsOnly (list_at lists.now.shelf node) position }
     requires shift { IsShiftAt ground.now.rules position }
+    requires after { after ≡ slice_index_or lists.now.afters.items position 0 }
+    requires may_end { may_end ≡ may_end_at lists.now.shelf node }
     ensures { FillsOne ground.now lists.now table.old table.new node vertex }
 {
-    let entry = entry_behind(table, lists, ground, node, vertex, position);
+    let entry = entry_behind(table, lists, ground, node, vertex, position, after, may_end);
     table.share(node, vertex, entry);
 }
 
@@ -113,8 +121,19 @@ fn share_node(
     requires shift { IsShiftAt ground.now.rules position }
     ensures { FillsUpTo ground.now lists.now table.old table.new node (length ground.now.board.first) }
 {
+    let after = lists.after(position);
+    let may_end = lists.shelf.may_end(node);
     for vertex in 0..ground.vertices() {
-        share_one(table, lists, ground, node, vertex as Vertex, position);
+        share_one(
+            table,
+            lists,
+            ground,
+            node,
+            vertex as Vertex,
+            position,
+            after,
+            may_end,
+        );
     }
 }
 
@@ -127,17 +146,19 @@ fn place_one(
     node: usize,
     vertex: Vertex,
     position: Position,
+    may_end: bool,
 ) -> Result<(), Memory>
     requires right { IsRightSoFar ground.now lists.now table.old }
     requires node { node < length lists.now.shelf.nodes.items }
     requires vertex { vertex < length ground.now.board.first }
     requires only { IsOnly (list_at lists.now.shelf node) position }
     requires plain { ¬ IsShiftAt ground.now.rules position }
+    requires may_end { may_end ≡ may_end_at lists.now.shelf node }
     ensures { OnOk result (FillsOne ground.now lists.now table.old table.new node vertex) }
 {
     let row = table.unit(vertex);
     let target = RowTarget { position, row };
-    table.put(node, vertex, &[target], lists.shelf.may_end(node))?;
+    table.put(node, vertex, &[target], may_end)?;
     Ok(())
 }
 
@@ -155,8 +176,17 @@ fn place_node(
     requires plain { ¬ IsShiftAt ground.now.rules position }
     ensures { OnOk result (FillsUpTo ground.now lists.now table.old table.new node (length ground.now.board.first)) }
 {
+    let may_end = lists.shelf.may_end(node);
     for vertex in 0..ground.vertices() {
-        place_one(table, lists, ground, node, vertex as Vertex, position)?;
+        place_one(
+            table,
+            lists,
+            ground,
+            node,
+            vertex as Vertex,
+            position,
+            may_end,
+        )?;
     }
     Ok(())
 }
