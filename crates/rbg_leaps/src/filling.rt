@@ -1,11 +1,11 @@
 //! A first pass over all nodes, each after those to which its shifts lead.
-ghost use Rattle.std.specs.Prelude.{◌≡◌, ◌≢◌, ◌<◌, length, false, Contains, IfOk, OnOk, IfSome, IsTrue, slice_index_or};
+ghost use Rattle.std.specs.Prelude.{◌≡◌, ◌≢◌, ℕ, ◌<◌, ◌≤◌, length, true, false, Contains, IfOk, OnOk, IfSome, IsTrue, slice_index_or};
 ghost use Rattle.rbg_rules.specs.Games.{IsGame};
 ghost use Rattle.rbg_leaps.specs.Entries.{IsWithin};
 ghost use Rattle.rbg_leaps.specs.Leaps.{IsShiftAt};
 ghost use Rattle.rbg_leaps.specs.internal.Shelves.{AreListsOf, list_at, may_end_at};
-ghost use Rattle.rbg_leaps.specs.internal.Steps.{IsOnly};
-ghost use Rattle.rbg_leaps.specs.internal.Tables.{IsSoundEntry, IsRightSoFar, IsToldAt, FillsOne, FillsUpTo, FillsRightly, LeadsAway, LeadsToMarked, IsMarked, AreFilled};
+ghost use Rattle.rbg_leaps.specs.internal.Steps.{Comes, IsOnly};
+ghost use Rattle.rbg_leaps.specs.internal.Tables.{IsSoundEntry, IsRightSoFar, IsToldAt, FillsOne, FillsUpTo, FillsRightly, FillsDownTo, StepsBack, StepsForth, LeadsAway, LeadsBack, LeadsForth, LeadsOneWay, LeadsToMarked, IsMarked, AreClosedAt, AreFilled};
 
 use crate::gathering::gather;
 use crate::ground::Ground;
@@ -209,7 +209,8 @@ fn fill_forwards(
     Ok(())
 }
 
-/// Fills the entries of a node backwards over the vertices.
+/// Fills the entries of a node backwards over the vertices: that is enough where shifts lead from it to later vertices of
+/// its own alone.
 fn fill_backwards(
     table: &mut Table,
     parts: &mut Vec<RowTarget>,
@@ -219,7 +220,7 @@ fn fill_backwards(
 ) -> Result<(), Memory>
     requires right { IsRightSoFar ground.now lists.now table.old }
     requires node { node < length lists.now.shelf.nodes.items }
-    ensures { OnOk result (FillsRightly ground.now lists.now table.old table.new node) }
+    ensures { OnOk result (FillsDownTo ground.now lists.now table.old table.new node (length ground.now.board.first)) }
 {
     let vertices = ground.vertices();
     for index in 0..vertices {
@@ -252,26 +253,61 @@ fn fill_once(
     Ok(())
 }
 
+/// Whether a position's shift leads from a vertex to a later one, or to an earlier one.
+#[inline(always)]
+fn steps(ground: &Ground<'_>, vertex: Vertex, position: Position, later: bool) -> bool
+    requires { vertex < length ground.now.board.first }
+    ensures back { later ≡ true → result ≡ false → (w : ℕ) → Comes ground.now vertex position w → w ≤ vertex }
+    ensures forth { later ≡ false → result ≡ false → (w : ℕ) → Comes ground.now vertex position w → vertex ≤ w }
+    ensures none { later ≡ false → ((w : ℕ) → Comes ground.now vertex position w → vertex ≤ w) → result ≡ false }
+{
+    match ground.to(vertex, position) {
+        Some(to) => { if later { vertex < to } else { to < vertex } }
+        None => false,
+    }
+}
+
 /// Whether a position's shift leads from some vertex to a later one, or to an earlier one.
-fn leads(ground: &Ground<'_>, position: Position, later: bool) -> bool {
+fn leads(ground: &Ground<'_>, position: Position, later: bool) -> bool
+    ensures back { later ≡ true → result ≡ false → StepsBack ground.now position }
+    ensures forth { later ≡ false → result ≡ false → StepsForth ground.now position }
+    ensures none { later ≡ false → StepsForth ground.now position → result ≡ false }
+{
     for index in 0..ground.vertices() {
-        let vertex = index as Vertex;
-        if let Some(to) = ground.to(vertex, position) {
-            if to != vertex && (vertex < to) == later {
-                return true;
-            }
+        if steps(ground, index as Vertex, position, later) {
+            return true;
         }
     }
     false
 }
 
+/// Whether a position is a shift that leads to a node, from some vertex to a later one, or to an earlier one.
+#[inline(always)]
+fn repeats_by(
+    lists: &Lists,
+    ground: &Ground<'_>,
+    node: usize,
+    position: Position,
+    later: bool,
+) -> bool
+    ensures back { later ≡ true → result ≡ false → IsShiftAt ground.now.rules position
+        → slice_index_or lists.now.afters.items position 0 ≡ node → StepsBack ground.now position }
+    ensures forth { later ≡ false → result ≡ false → IsShiftAt ground.now.rules position
+        → slice_index_or lists.now.afters.items position 0 ≡ node → StepsForth ground.now position }
+    ensures none { later ≡ false → (IsShiftAt ground.now.rules position
+        → slice_index_or lists.now.afters.items position 0 ≡ node → StepsForth ground.now position) → result ≡ false }
+{
+    ground.is_shift(position) && lists.after(position) == node && leads(ground, position, later)
+}
+
 /// Whether a shift of a node's list leads to the same node again, from some vertex to a later one, or to an earlier one.
-fn repeats(lists: &Lists, ground: &Ground<'_>, node: usize, later: bool) -> bool {
+pub(crate) fn repeats(lists: &Lists, ground: &Ground<'_>, node: usize, later: bool) -> bool
+    ensures back { later ≡ true → result ≡ false → LeadsBack ground.now lists.now node }
+    ensures forth { later ≡ false → result ≡ false → LeadsForth ground.now lists.now node }
+    ensures none { later ≡ false → LeadsForth ground.now lists.now node → result ≡ false }
+{
     for listed in lists.shelf.list(node) {
-        if ground.is_shift(*listed)
-            && lists.after(*listed) == node
-            && leads(ground, *listed, later)
-        {
+        if repeats_by(lists, ground, node, *listed, later) {
             return true;
         }
     }
@@ -279,7 +315,7 @@ fn repeats(lists: &Lists, ground: &Ground<'_>, node: usize, later: bool) -> bool
 }
 
 /// Fills the entries of a node: forwards over the vertices where shifts lead from it to earlier vertices of its own, and
-/// backwards where they lead to later ones.
+/// backwards where they lead to later ones. Where they lead one way, nothing is missing then.
 pub(crate) fn fill_again(
     table: &mut Table,
     parts: &mut Vec<RowTarget>,
@@ -289,13 +325,15 @@ pub(crate) fn fill_again(
 ) -> Result<(), Memory>
     requires right { IsRightSoFar ground.now lists.now table.old }
     requires node { node < length lists.now.shelf.nodes.items }
-    ensures { OnOk result (FillsRightly ground.now lists.now table.old table.new node) }
+    ensures fills { OnOk result (FillsRightly ground.now lists.now table.old table.new node) }
+    ensures closed { OnOk result (LeadsOneWay ground.now lists.now node → AreClosedAt ground.now lists.now table.new node) }
 {
-    let back = repeats(lists, ground, node, true);
-    if back {
-        fill_backwards(table, parts, lists, ground, node)?;
+    if !repeats(lists, ground, node, true) {
+        fill_forwards(table, parts, lists, ground, node)?;
+        return Ok(());
     }
-    if !back || repeats(lists, ground, node, false) {
+    fill_backwards(table, parts, lists, ground, node)?;
+    if repeats(lists, ground, node, false) {
         fill_forwards(table, parts, lists, ground, node)?;
     }
     Ok(())
@@ -309,7 +347,7 @@ pub(crate) fn is_marked(marks: &[bool], node: usize) -> bool
 }
 
 /// Whether no shift of a node's list leads to the node again.
-pub(crate) fn leads_away(lists: &Lists, ground: &Ground<'_>, node: usize) -> bool
+fn leads_away(lists: &Lists, ground: &Ground<'_>, node: usize) -> bool
     ensures away { IsTrue result → LeadsAway ground.now lists.now node }
     ensures again { LeadsAway ground.now lists.now node → IsTrue result }
 {
@@ -350,7 +388,8 @@ fn fill_node(
 ) -> Result<(), Memory>
     requires right { IsRightSoFar ground.now lists.now table.old }
     requires node { node < length lists.now.shelf.nodes.items }
-    ensures { OnOk result (FillsUpTo ground.now lists.now table.old table.new node (length ground.now.board.first)) }
+    ensures fills { OnOk result (FillsRightly ground.now lists.now table.old table.new node) }
+    ensures closed { OnOk result (LeadsOneWay ground.now lists.now node → AreClosedAt ground.now lists.now table.new node) }
 {
     if leads_away(lists, ground, node) {
         fill_once(table, parts, lists, ground, node)?;
