@@ -22,14 +22,16 @@ fn fill_one(
     lists: &Lists,
     ground: &Ground<'_>,
     node: usize,
+    list: &[Position],
     vertex: Vertex,
 ) -> Result<(), Memory>
     requires right { IsRightSoFar ground.now lists.now table.old }
     requires node { node < length lists.now.shelf.nodes.items }
+    requires list { list.now ≡ list_at lists.now.shelf node }
     requires vertex { vertex < length ground.now.board.first }
     ensures { OnOk result (FillsOne ground.now lists.now table.old table.new node vertex) }
 {
-    let ends = gather(table, parts, lists, ground, node, vertex)?;
+    let ends = gather(table, parts, lists, ground, node, list, vertex)?;
     table.put(node, vertex, parts, ends)?;
     Ok(())
 }
@@ -65,7 +67,7 @@ fn entry_behind(
             ends: may_end,
         };
     };
-    let behind = table.entry(after, to);
+    let behind = table.entry_there(after, to);
     let ends = behind.ends || may_end;
     Entry {
         start: behind.start,
@@ -203,8 +205,9 @@ fn fill_forwards(
     requires node { node < length lists.now.shelf.nodes.items }
     ensures { OnOk result (FillsUpTo ground.now lists.now table.old table.new node (length ground.now.board.first)) }
 {
+    let list = lists.shelf.list(node);
     for vertex in 0..ground.vertices() {
-        fill_one(table, parts, lists, ground, node, vertex as Vertex)?;
+        fill_one(table, parts, lists, ground, node, list, vertex as Vertex)?;
     }
     Ok(())
 }
@@ -222,10 +225,11 @@ fn fill_backwards(
     requires node { node < length lists.now.shelf.nodes.items }
     ensures { OnOk result (FillsDownTo ground.now lists.now table.old table.new node (length ground.now.board.first)) }
 {
+    let list = lists.shelf.list(node);
     let vertices = ground.vertices();
     for index in 0..vertices {
         let vertex = (vertices - 1 - index) as Vertex;
-        fill_one(table, parts, lists, ground, node, vertex)?;
+        fill_one(table, parts, lists, ground, node, list, vertex)?;
     }
     Ok(())
 }

@@ -121,6 +121,16 @@ impl Table {
         }
     }
 
+    /// The entry of a node and a vertex, which is there.
+    #[inline(always)]
+    pub(crate) fn entry_there(&self, node: usize, vertex: Vertex) -> Entry
+        requires { node * self.now.vertices + vertex < length self.now.entries.items }
+        ensures entry { result ≡ entry_at self.now node vertex }
+        ensures within { IsWithin (length self.now.targets.items) result }
+    {
+        self.entries[node * self.vertices + vertex as usize]
+    }
+
     /// Puts the entry of a node and a vertex in its place, with targets of its own. Memory is said to be out where an entry
     /// can't name them: behind 4,294,967,295 targets, which take 32 gigabytes, and where they are more than 65,535, while a
     /// game has at most 20,000 positions.

@@ -1,4 +1,5 @@
-use Rattle.std.proofs.Common.{arith}
+use Rattle.std.proofs.Common.{◌≡◌, ℕ, length, subst, arith}
+use Rattle.rbg_leaps.specs.internal.Tables.{FillsDownTo}
 use Rattle.rbg_leaps.proofs.Fillings.{down_none, one_vertex_before}
 use Rattle.rbg_leaps.proofs.filling.fill_backwards.Goals as goal
 
@@ -9,3 +10,9 @@ pub loop-index-preserved : goal.loop-index-preserved
 loop-index-preserved c =
     let count = c.vertices-vertices.ensures.count in
     one_vertex_before c.args.ground.now c.args.lists.now c.args.table.now c.loop-index.table c.fill_one.new.table c.args.node c.loop-index.index _ (omega (arith, count, c.loop-index-test.true)) c.loop-index.invariant c.in_ok-fill_one.ensures
+
+pub returns : goal.returns
+returns c =
+    let count = c.vertices-vertices.ensures.count in
+    let all : c.loop-index.index ≡ length c.args.ground.now.board.first = omega (arith, count, c.loop-index-test.false, c.loop-index.auto.index-end) in
+    subst (λ (many : ℕ). FillsDownTo c.args.ground.now c.args.lists.now c.args.table.now c.loop-index.table c.args.node many) all c.loop-index.invariant
