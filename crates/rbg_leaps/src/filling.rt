@@ -23,15 +23,17 @@ fn fill_one(
     ground: &Ground<'_>,
     node: usize,
     list: &[Position],
+    may_end: bool,
     vertex: Vertex,
 ) -> Result<(), Memory>
     requires right { IsRightSoFar ground.now lists.now table.old }
     requires node { node < length lists.now.shelf.nodes.items }
     requires list { list.now ≡ list_at lists.now.shelf node }
+    requires may_end { may_end ≡ may_end_at lists.now.shelf node }
     requires vertex { vertex < length ground.now.board.first }
     ensures { OnOk result (FillsOne ground.now lists.now table.old table.new node vertex) }
 {
-    let ends = gather(table, parts, lists, ground, node, list, vertex)?;
+    let ends = gather(table, parts, lists, ground, node, list, may_end, vertex)?;
     table.put(node, vertex, parts, ends)?;
     Ok(())
 }
@@ -206,8 +208,18 @@ fn fill_forwards(
     ensures { OnOk result (FillsUpTo ground.now lists.now table.old table.new node (length ground.now.board.first)) }
 {
     let list = lists.shelf.list(node);
+    let may_end = lists.shelf.may_end(node);
     for vertex in 0..ground.vertices() {
-        fill_one(table, parts, lists, ground, node, list, vertex as Vertex)?;
+        fill_one(
+            table,
+            parts,
+            lists,
+            ground,
+            node,
+            list,
+            may_end,
+            vertex as Vertex,
+        )?;
     }
     Ok(())
 }
@@ -226,10 +238,11 @@ fn fill_backwards(
     ensures { OnOk result (FillsDownTo ground.now lists.now table.old table.new node (length ground.now.board.first)) }
 {
     let list = lists.shelf.list(node);
+    let may_end = lists.shelf.may_end(node);
     let vertices = ground.vertices();
     for index in 0..vertices {
         let vertex = (vertices - 1 - index) as Vertex;
-        fill_one(table, parts, lists, ground, node, list, vertex)?;
+        fill_one(table, parts, lists, ground, node, list, may_end, vertex)?;
     }
     Ok(())
 }

@@ -110,11 +110,13 @@ pub(crate) fn gather(
     ground: &Ground<'_>,
     node: usize,
     list: &[Position],
+    may_end: bool,
     vertex: Vertex,
 ) -> Result<bool, Memory>
     requires right { IsRightSoFar ground.now lists.now table.old }
     requires node { node < length lists.now.shelf.nodes.items }
     requires list { list.now ≡ list_at lists.now.shelf node }
+    requires may_end { may_end ≡ may_end_at lists.now.shelf node }
     requires vertex { vertex < length ground.now.board.first }
     ensures grows { OnOk result (Grows table.old table.new) }
     ensures gathered { OnOk result (IsGathered ground.now lists.now table.new node vertex parts.new.items) }
@@ -122,7 +124,7 @@ pub(crate) fn gather(
     ensures whole { IfOk result (λ ends. IsWhole ground.now lists.now table.new node vertex parts.new.items ends) }
 {
     parts.clear();
-    let mut ends = lists.shelf.may_end(node);
+    let mut ends = may_end;
     for listed in list {
         let then = gather_one(table, parts, lists, ground, node, vertex, *listed)?;
         ends = ends || then;

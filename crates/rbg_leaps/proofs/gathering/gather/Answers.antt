@@ -23,9 +23,9 @@ loop-listed-init c =
       sound = c.requires.right.sound;
       grows = grows_none c.args.table.now;
       gathered = sound_none (IsLeapBy game (list_at shelf c.args.node) (may_end_at shelf c.args.node) c.args.vertex) c.args.table.now.columns c.args.table.now.words.items;
-      ends_told = λ is. subst IsTrue (sym c.may_end-ends.ensures) is;
+      ends_told = λ is. subst IsTrue (sym c.requires.may_end) is;
       told = none_told _ c.args.list.now;
-      ends = λ is. ends_here game (list_at shelf c.args.node) (may_end_at shelf c.args.node) c.args.vertex (subst IsTrue c.may_end-ends.ensures is);
+      ends = λ is. ends_here game (list_at shelf c.args.node) (may_end_at shelf c.args.node) c.args.vertex (subst IsTrue c.requires.may_end is);
     })
 
 pub loop-listed-preserved : goal.loop-listed-preserved
