@@ -16,7 +16,7 @@ use Rattle.rbg_leaps.specs.Made.{no_entry}
 use Rattle.rbg_leaps.specs.internal.Rows.{has_bit}
 use Rattle.rbg_leaps.specs.internal.Shelves.{Extends, list_at, may_end_at}
 use Rattle.rbg_leaps.specs.internal.Steps.{Comes, IsLeapBy, IsOnly}
-use Rattle.rbg_leaps.specs.internal.Tables.{entry_at, no_target, Tells, targets_of, TellsAt, IsSoundTable, IsUnder, IsToldBy, IsToldAt, IsWhole, IsClosed, IsRowOf, AddsRow, Grows, Puts, Shares, Keeps, AddsAll, LeadsAway, Fills, FillsOne, FillsUpTo, FillsRightly, IsMarked, LeadsToMarked, AreFilled}
+use Rattle.rbg_leaps.specs.internal.Tables.{entry_at, no_target, Tells, targets_of, TellsAt, IsSoundTable, IsUnder, IsToldBy, IsToldAt, IsWhole, IsClosed, IsRowOf, AddsRow, Grows, Puts, Shares, Keeps, AddsAll, LeadsBack, LeadsForth, LeadsOneWay, Fills, FillsOne, FillsUpTo, FillsDownTo, FillsRightly, IsMarked, LeadsToMarked, AreFilled}
 use Rattle.rbg_leaps.specs.internal.Words.{IsUnit}
 use Rattle.rbg_leaps.proofs.RowLemmas.{below_or_not, same_or_not, one_place, same_item, extends_none, extends_more, extends_by, part_extended, row_extended, LastPlace, before, last, last_place}
 use Rattle.rbg_leaps.proofs.Steppings.{ends_here}
@@ -75,11 +75,11 @@ tells_back old new columns targets words e within j u told =
     (subst (λ (ts : List RowTarget). Tells new.columns new.words.items ts j u) (part_extended old.targets.items new.targets.items targets e.start (end_of e) within.ends) told))
 
 -- What one step leads to is told still where no less is told, and no more where a shift leads.
-pub told_on : (game : AbstractGame) (lists : Lists) (old new : Table) (first behind : List RowTarget) (one two : Bool) (v p : ℕ) → new.vertices ≡ old.vertices → new.columns ≡ old.columns → Extends old.targets.items new.targets.items → Extends old.words.items new.words.items → ((j u : ℕ) → Tells old.columns old.words.items first j u → Tells new.columns new.words.items behind j u) → (IsTrue one → IsTrue two) → ((w : ℕ) → IsShiftAt game.rules p → w < old.vertices → entry_at new (get_or lists.afters.items p 0) w ≡ entry_at old (get_or lists.afters.items p 0) w) → IsToldBy game lists old first one v p → IsToldBy game lists new behind two v p
+pub told_on : (game : AbstractGame) (lists : Lists) (old new : Table) (first behind : List RowTarget) (one two : Bool) (v p : ℕ) → new.vertices ≡ old.vertices → new.columns ≡ old.columns → Extends old.targets.items new.targets.items → Extends old.words.items new.words.items → ((j u : ℕ) → Tells old.columns old.words.items first j u → Tells new.columns new.words.items behind j u) → (IsTrue one → IsTrue two) → ((w : ℕ) → IsShiftAt game.rules p → Comes game v p w → w < old.vertices → (entry_at new (get_or lists.afters.items p 0) w ≡ entry_at old (get_or lists.afters.items p 0) w) ⊎ IsUnder new (entry_at new (get_or lists.afters.items p 0) w) behind two) → IsToldBy game lists old first one v p → IsToldBy game lists new behind two v p
 told_on game lists old new first behind one two v p vertices columns targets words keeps more same is = record {
   plain = λ other. keeps p v (is.plain other);
   is_vertex = λ w s comes. subst (λ (k : ℕ). w < k) (sym vertices) (is.is_vertex w s comes);
-  shift = λ w s comes. subst (λ (x : Entry). IsUnder new x behind two) (sym (same w s (is.is_vertex w s comes))) (under w (is.shift w s comes));
+  shift = λ w s comes. still w (is.shift w s comes) (same w s comes (is.is_vertex w s comes));
 }
   where
     k : ℕ
@@ -91,16 +91,20 @@ told_on game lists old new first behind one two v p vertices columns targets wor
       ends = λ t. more (is_under.ends t);
     }
 
+    still : (w : ℕ) → IsUnder old (entry_at old k w) first one → (entry_at new k w ≡ entry_at old k w) ⊎ IsUnder new (entry_at new k w) behind two → IsUnder new (entry_at new k w) behind two
+    still w was (inl e) = subst (λ (x : Entry). IsUnder new x behind two) (sym e) (under w was)
+    still w was (inr now) = now
+
 -- .. at each position of a list.
 pub all_told_on : (game : AbstractGame) (lists : Lists) (old new : Table) (first behind : List RowTarget) (one two : Bool) (v : ℕ) (list : List ℕ) → ((p : ℕ) → Contains list p → IsToldBy game lists old first one v p → IsToldBy game lists new behind two v p) → All (IsToldBy game lists old first one v) list → All (IsToldBy game lists new behind two v) list
 all_told_on game lists old new first behind one two v list step all = λ k d below. step (get_or list k d) (k, below, same_item list k (get_or list k d) below ∙ sym (same_item list k d below)) (all k d below)
 
 -- Where nothing was missing, nothing is missing once other entries were filled.
-pub closed_on : (game : AbstractGame) (lists : Lists) (old new : Table) (n v : ℕ) → new.vertices ≡ old.vertices → new.columns ≡ old.columns → Extends old.targets.items new.targets.items → Extends old.words.items new.words.items → entry_at new n v ≡ entry_at old n v → ((p w : ℕ) → Contains (list_at lists.shelf n) p → IsShiftAt game.rules p → w < old.vertices → entry_at new (get_or lists.afters.items p 0) w ≡ entry_at old (get_or lists.afters.items p 0) w) → IsClosed game lists old n v → IsClosed game lists new n v
+pub closed_on : (game : AbstractGame) (lists : Lists) (old new : Table) (n v : ℕ) → new.vertices ≡ old.vertices → new.columns ≡ old.columns → Extends old.targets.items new.targets.items → Extends old.words.items new.words.items → entry_at new n v ≡ entry_at old n v → ((p w : ℕ) → Contains (list_at lists.shelf n) p → IsShiftAt game.rules p → Comes game v p w → w < old.vertices → entry_at new (get_or lists.afters.items p 0) w ≡ entry_at old (get_or lists.afters.items p 0) w) → IsClosed game lists old n v → IsClosed game lists new n v
 closed_on game lists old new n v vertices columns targets words here same is =
     subst (λ (e : Entry). IsWhole game lists new n v (targets_of new e) e.ends) (sym here) (record {
       ends = is.ends;
-      told = all_told_on game lists old new (targets_of old e) (targets_of new e) e.ends e.ends v (list_at lists.shelf n) (λ p there. told_on game lists old new (targets_of old e) (targets_of new e) e.ends e.ends v p vertices columns targets words (tells_forth old new columns targets words e (within_at old n v)) (λ t. t) (λ w s. same p w there s)) is.told;
+      told = all_told_on game lists old new (targets_of old e) (targets_of new e) e.ends e.ends v (list_at lists.shelf n) (λ p there. told_on game lists old new (targets_of old e) (targets_of new e) e.ends e.ends v p vertices columns targets words (tells_forth old new columns targets words e (within_at old n v)) (λ t. t) (λ w s comes small. inl (same p w there s comes small))) is.told;
     })
   where
     e : Entry
@@ -108,7 +112,7 @@ closed_on game lists old new n v vertices columns targets words here same is =
 
 pub closed_beside : (game : AbstractGame) (lists : Lists) (old new : Table) (m n v : ℕ) → Fills old new m → n ≢ m → v < old.vertices → ((p : ℕ) → Contains (list_at lists.shelf n) p → IsShiftAt game.rules p → get_or lists.afters.items p 0 ≢ m) → IsClosed game lists old n v → IsClosed game lists new n v
 closed_beside game lists old new m n v fills differ below apart is =
-    closed_on game lists old new n v fills.vertices fills.columns fills.targets fills.words (fills.others n v differ below) (λ p w there s small. fills.others (get_or lists.afters.items p 0) w (apart p there s) small) is
+    closed_on game lists old new n v fills.vertices fills.columns fills.targets fills.words (fills.others n v differ below) (λ p w there s comes small. fills.others (get_or lists.afters.items p 0) w (apart p there s) small) is
 
 -- Entries that are filled one after the other.
 pub fills_none : (t : Table) (n : ℕ) → Fills t t n
@@ -124,30 +128,75 @@ fills_more a b c n first second = record {
 }
 
 pub no_vertex : (game : AbstractGame) (lists : Lists) (t : Table) (n : ℕ) → IsSoundTable game lists t → FillsUpTo game lists t t n 0
-no_vertex game lists t n sound = record { sound = sound; fills = fills_none t n; closed = λ away v below. absurd (omega (arith, below)) }
+no_vertex game lists t n sound = record { sound = sound; fills = fills_none t n; closed = λ back v below. absurd (omega (arith, below)) }
+
+-- A vertex that was filled stays so where another one of its node is filled, if no shift leads there.
+closed_still : (game : AbstractGame) (lists : Lists) (b c : Table) (n v u : ℕ) → FillsOne game lists b c n u → v ≢ u → v < b.vertices → ((p w : ℕ) → Contains (list_at lists.shelf n) p → IsShiftAt game.rules p → get_or lists.afters.items p 0 ≡ n → Comes game v p w → w ≢ u) → IsClosed game lists b n v → IsClosed game lists c n v
+closed_still game lists b c n v u now differ small elsewhere was =
+    closed_on game lists b c n v now.fills.vertices now.fills.columns now.fills.targets now.fills.words (now.beside v differ small)
+    (λ p w there s comes below. same p w there s comes below (same_or_not (get_or lists.afters.items p 0) n)) was
+  where
+    same : (p w : ℕ) → Contains (list_at lists.shelf n) p → IsShiftAt game.rules p → Comes game v p w → w < b.vertices → (get_or lists.afters.items p 0 ≡ n) ⊎ (get_or lists.afters.items p 0 ≢ n) → entry_at c (get_or lists.afters.items p 0) w ≡ entry_at b (get_or lists.afters.items p 0) w
+    same p w there s comes below (inl e) = subst (λ (k : ℕ). entry_at c k w ≡ entry_at b k w) (sym e) (now.beside w (elsewhere p w there s e comes) below)
+    same p w there s comes below (inr other) = now.fills.others (get_or lists.afters.items p 0) w other below
 
 pub one_more_vertex : (game : AbstractGame) (lists : Lists) (a b c : Table) (n many : ℕ) → many < length game.board.first → FillsUpTo game lists a b n many → FillsOne game lists b c n many → FillsUpTo game lists a c n (many + 1)
 one_more_vertex game lists a b c n many inside so_far now = record {
   sound = now.sound;
   fills = fills_more a b c n so_far.fills now.fills;
-  closed = λ away v below. at away v (last_place many v below);
+  closed = λ back v below. at back v (last_place many v below);
 }
   where
     small : (v : ℕ) → v < many → v < b.vertices
     small v below = let vertices = so_far.sound.laid_out.vertices in omega (arith, below, inside, vertices)
 
-    earlier : (v : ℕ) → v < many → v ≢ many
-    earlier v below same = absurd (omega (arith, below, same))
+    earlier : (v w : ℕ) → v < many → w ≤ v → w ≢ many
+    earlier v w below less same = absurd (omega (arith, below, less, same))
 
-    at : LeadsAway game lists n → (v : ℕ) → LastPlace many v → IsClosed game lists c n v
-    at away v (last e) = subst (IsClosed game lists c n) (sym e) (now.closed away)
-    at away v (before below) =
-        closed_on game lists b c n v now.fills.vertices now.fills.columns now.fills.targets now.fills.words (now.beside v (earlier v below) (small v below))
-        (λ p w there s below_all. now.fills.others (get_or lists.afters.items p 0) w (away p there s) below_all) (so_far.closed away v below)
+    at : LeadsBack game lists n → (v : ℕ) → LastPlace many v → IsClosed game lists c n v
+    at back v (last e) = subst (IsClosed game lists c n) (sym e) now.closed
+    at back v (before below) =
+        closed_still game lists b c n v many now (earlier v v below (omega arith)) (small v below)
+        (λ p w there s again comes. earlier v w below (back p there s again v w (omega (arith, below, inside)) comes)) (so_far.closed back v below)
+
+pub down_none : (game : AbstractGame) (lists : Lists) (t : Table) (n : ℕ) → IsSoundTable game lists t → FillsDownTo game lists t t n 0
+down_none game lists t n sound = record { sound = sound; fills = fills_none t n; closed = λ forth v below from. absurd (omega (arith, below, from)) }
+
+pub one_vertex_before : (game : AbstractGame) (lists : Lists) (a b c : Table) (n many u : ℕ) → u + many + 1 ≡ length game.board.first → FillsDownTo game lists a b n many → FillsOne game lists b c n u → FillsDownTo game lists a c n (many + 1)
+one_vertex_before game lists a b c n many u here so_far now = record {
+  sound = now.sound;
+  fills = fills_more a b c n so_far.fills now.fills;
+  closed = λ forth v below from. at forth v below from (same_or_not v u);
+}
+  where
+    small : (v : ℕ) → v < length game.board.first → v < b.vertices
+    small v below = subst (λ (k : ℕ). v < k) (sym so_far.sound.laid_out.vertices) below
+
+    later : (v w : ℕ) → length game.board.first ≤ v + many → v ≤ w → w ≢ u
+    later v w from more same = absurd (omega (arith, from, more, same, here))
+
+    beyond : (v : ℕ) → length game.board.first ≤ v + (many + 1) → v ≢ u → (u < v) ⊎ (v ≤ u) → length game.board.first ≤ v + many
+    beyond v from differ (inl more) = omega (arith, more, here)
+    beyond v from differ (inr less) = absurd (differ (omega (arith, less, from, here)))
+
+    at : LeadsForth game lists n → (v : ℕ) → v < length game.board.first → length game.board.first ≤ v + (many + 1) → (v ≡ u) ⊎ (v ≢ u) → IsClosed game lists c n v
+    at forth v below from (inl e) = subst (IsClosed game lists c n) (sym e) now.closed
+    at forth v below from (inr differ) =
+        let behind : length game.board.first ≤ v + many = beyond v from differ (below_or_not u v) in
+        closed_still game lists b c n v u now differ (small v below)
+        (λ p w there s again comes. later v w behind (forth p there s again v w below comes)) (so_far.closed forth v below behind)
 
 -- An entry that was put into a table of which words were appended.
 entry_apart : (old new : Table) (n v m w : ℕ) → new.vertices ≡ old.vertices → ((i : ℕ) → i ≢ n * old.vertices + v → get_or new.entries.items i no_entry ≡ get_or old.entries.items i no_entry) → m * old.vertices + w ≢ n * old.vertices + v → entry_at new m w ≡ entry_at old m w
 entry_apart old new n v m w vertices others differ = ap (λ (k : ℕ). get_or new.entries.items (m * k + w) no_entry) vertices ∙ others (m * old.vertices + w) differ
+
+entry_here : (old new : Table) (n v m w : ℕ) → new.vertices ≡ old.vertices → m * old.vertices + w ≡ n * old.vertices + v → entry_at new m w ≡ entry_at new n v
+entry_here old new n v m w vertices same =
+    ap (λ (i : ℕ). get_or new.entries.items i no_entry)
+    (subst (λ (k : ℕ). m * k + w ≡ n * k + v) (sym vertices) same)
+
+under_itself : (t : Table) (e : Entry) → IsUnder t e (targets_of t e) e.ends
+under_itself t e = record { tells = λ j u told. told; ends = λ is. is }
 
 other_node : (vertices n v m w : ℕ) → v < vertices → w < vertices → m ≢ n → m * vertices + w ≢ n * vertices + v
 other_node vertices n v m w below small differ same = differ (one_place vertices w v m n small below same).0
@@ -163,7 +212,7 @@ entry_grown_same old new grows n v =
 -- What one step leads to is told still where words were appended.
 pub told_grown : (game : AbstractGame) (lists : Lists) (old new : Table) (first behind : List RowTarget) (one two : Bool) (v p : ℕ) → Grows old new → Keeps old new first behind → (IsTrue one → IsTrue two) → IsToldBy game lists old first one v p → IsToldBy game lists new behind two v p
 told_grown game lists old new first behind one two v p grows kept more is =
-    told_on game lists old new first behind one two v p grows.vertices grows.columns grows.targets grows.words kept.keeps more (λ w s small. entry_grown_same old new grows (get_or lists.afters.items p 0) w) is
+    told_on game lists old new first behind one two v p grows.vertices grows.columns grows.targets grows.words kept.keeps more (λ w s comes small. inl (entry_grown_same old new grows (get_or lists.afters.items p 0) w)) is
 
 pub raise_end : (game : AbstractGame) (lists : Lists) (t : Table) (ts : List RowTarget) (one two : Bool) (v p : ℕ) → (IsTrue one → IsTrue two) → IsToldBy game lists t ts one v p → IsToldBy game lists t ts two v p
 raise_end game lists t ts one two v p more is = record {
@@ -216,12 +265,12 @@ one_put game lists old middle new n v ts may_end below grows puts sound whole = 
     others = λ m w differ small. beside m w (other_node middle.vertices n v m w (inside v below) (inside w small) differ) ∙ entry_grown_same old middle grows m w;
   };
   beside = λ w differ small. beside n w (other_vertex middle.vertices n v w differ) ∙ entry_grown_same old middle grows n w;
-  closed = λ away.
+  closed =
       subst (λ (e : Entry). IsWhole game lists new n v (targets_of new e) e.ends) (sym puts.here)
       (subst (λ (xs : List RowTarget). IsWhole game lists new n v xs may_end) (sym (part_put middle new n v ts may_end puts)) (record {
         ends = whole.ends;
         told = all_told_on game lists middle new ts ts may_end may_end v (list_at lists.shelf n) (λ p there. told_on game lists middle new ts ts may_end may_end v p puts.vertices puts.columns targets words keeps (λ t. t)
-            (λ w s small. beside (get_or lists.afters.items p 0) w (other_node middle.vertices n v (get_or lists.afters.items p 0) w (inside v below) small (away p there s)))) whole.told;
+            (λ w s comes small. either (get_or lists.afters.items p 0) w (same_or_not (get_or lists.afters.items p 0 * middle.vertices + w) (n * middle.vertices + v)))) whole.told;
       }));
 }
   where
@@ -236,6 +285,12 @@ one_put game lists old middle new n v ts may_end below grows puts sound whole = 
 
     beside : (m w : ℕ) → m * middle.vertices + w ≢ n * middle.vertices + v → entry_at new m w ≡ entry_at middle m w
     beside m w differ = entry_apart middle new n v m w puts.vertices puts.others differ
+
+    either : (m w : ℕ) → (m * middle.vertices + w ≡ n * middle.vertices + v) ⊎ (m * middle.vertices + w ≢ n * middle.vertices + v) → (entry_at new m w ≡ entry_at middle m w) ⊎ IsUnder new (entry_at new m w) ts may_end
+    either m w (inl e) =
+        inr (subst (λ (x : Entry). IsUnder new x ts may_end) (sym (entry_here middle new n v m w puts.vertices e ∙ puts.here))
+        (subst (λ (xs : List RowTarget). IsUnder new (record { start = length middle.targets.items; many = length ts; ends = may_end }) xs may_end) (part_put middle new n v ts may_end puts) (under_itself new _)))
+    either m w (inr differ) = inl (beside m w differ)
 
     keeps : (j u : ℕ) → Tells middle.columns middle.words.items ts j u → Tells new.columns new.words.items ts j u
     keeps j u told =
@@ -260,11 +315,12 @@ one_shared game lists old new n v p e below shares sound within only shift ends 
     others = λ m w differ small. beside m w (other_node old.vertices n v m w below small differ);
   };
   beside = λ w differ small. beside n w (other_vertex old.vertices n v w differ);
-  closed = λ away.
+  closed =
       subst (λ (x : Entry). IsWhole game lists new n v (targets_of new x) x.ends) (sym shares.here) (record {
         ends = ends;
         told = λ k d there. subst (IsToldAt game lists new e v) (sym (is_only k d there)) (told_on game lists old new (targets_of old e) (targets_of new e) e.ends e.ends v p shares.vertices shares.columns targets words (tells_forth old new shares.columns targets words e within) (λ t. t)
-            (λ w s small. beside (get_or lists.afters.items p 0) w (other_node old.vertices n v (get_or lists.afters.items p 0) w below small (away p (0, zero_below, only.listed) s))) told);
+            (λ w s comes small. either (get_or lists.afters.items p 0) w (same_or_not (get_or lists.afters.items p 0 * old.vertices + w) (n * old.vertices + v)))
+            told);
       });
 }
   where
@@ -277,6 +333,10 @@ one_shared game lists old new n v p e below shares sound within only shift ends 
     beside : (m w : ℕ) → m * old.vertices + w ≢ n * old.vertices + v → entry_at new m w ≡ entry_at old m w
     beside m w differ = entry_apart old new n v m w shares.vertices shares.others differ
 
+    either : (m w : ℕ) → (m * old.vertices + w ≡ n * old.vertices + v) ⊎ (m * old.vertices + w ≢ n * old.vertices + v) → (entry_at new m w ≡ entry_at old m w) ⊎ IsUnder new (entry_at new m w) (targets_of new e) e.ends
+    either m w (inl here) = inr (subst (λ (x : Entry). IsUnder new x (targets_of new e) e.ends) (sym (entry_here old new n v m w shares.vertices here ∙ shares.here)) (under_itself new e))
+    either m w (inr differ) = inl (beside m w differ)
+
     zero_below : 0 < length (list_at lists.shelf n)
     zero_below = let one = only.one in omega (arith, one)
 
@@ -288,17 +348,24 @@ pub filled_on : (game : AbstractGame) (lists : Lists) (old new : Table) (marks :
 filled_on game lists old new marks m unmarked right are = record {
   sound = right.sound;
   next = are.next;
-  closed = λ n v marked away below.
-      closed_beside game lists old new m n v right.fills (λ e. unmarked (subst (IsMarked marks) e marked)) (subst (λ (k : ℕ). v < k) (sym are.sound.laid_out.vertices) below)
-      (λ p there s e. unmarked (subst (IsMarked marks) e (are.next n marked p there s (away p there s)))) (are.closed n v marked away below);
+  closed = λ n v marked one_way below.
+      closed_beside game lists old new m n v right.fills (other n marked) (subst (λ (k : ℕ). v < k) (sym are.sound.laid_out.vertices) below)
+      (λ p there s. apart n p marked there s (same_or_not (get_or lists.afters.items p 0) n)) (are.closed n v marked one_way below);
 }
+  where
+    other : (n : ℕ) → IsMarked marks n → n ≢ m
+    other n marked e = unmarked (subst (IsMarked marks) e marked)
+
+    apart : (n p : ℕ) → IsMarked marks n → Contains (list_at lists.shelf n) p → IsShiftAt game.rules p → (get_or lists.afters.items p 0 ≡ n) ⊎ (get_or lists.afters.items p 0 ≢ n) → get_or lists.afters.items p 0 ≢ m
+    apart n p marked there s (inl e) is = other n marked (sym e ∙ is)
+    apart n p marked there s (inr differ) is = other (get_or lists.afters.items p 0) (are.next n marked p there s differ) is
 
 -- .. and one more is marked.
-pub one_marked : (game : AbstractGame) (lists : Lists) (old new : Table) (marks : List Bool) (m : ℕ) → m < length marks → ¬ IsMarked marks m → LeadsToMarked game lists marks m → FillsRightly game lists old new m → (LeadsAway game lists m → (v : ℕ) → v < length game.board.first → IsClosed game lists new m v) → AreFilled game lists old marks → AreFilled game lists new (set marks m true)
+pub one_marked : (game : AbstractGame) (lists : Lists) (old new : Table) (marks : List Bool) (m : ℕ) → m < length marks → ¬ IsMarked marks m → LeadsToMarked game lists marks m → FillsRightly game lists old new m → (LeadsOneWay game lists m → (v : ℕ) → v < length game.board.first → IsClosed game lists new m v) → AreFilled game lists old marks → AreFilled game lists new (set marks m true)
 one_marked game lists old new marks m there unmarked leads right closed are = record {
   sound = right.sound;
   next = λ n marked p listed s differ. still (get_or lists.afters.items p 0) (next_by n p (same_or_not n m) marked listed s differ);
-  closed = λ n v marked away below. closed_by n v (same_or_not n m) marked away below;
+  closed = λ n v marked one_way below. closed_by n v (same_or_not n m) marked one_way below;
 }
   where
     kept : AreFilled game lists new marks
@@ -318,9 +385,14 @@ one_marked game lists old new marks m there unmarked leads right closed are = re
     next_by n p (inl e) marked listed s differ = subst (λ (k : ℕ). LeadsToMarked game lists marks k) (sym e) leads p listed s differ
     next_by n p (inr other) marked listed s differ = are.next n (before_it n other marked) p listed s differ
 
-    closed_by : (n v : ℕ) → (n ≡ m) ⊎ (n ≢ m) → IsMarked (set marks m true) n → LeadsAway game lists n → v < length game.board.first → IsClosed game lists new n v
-    closed_by n v (inl e) marked away below = subst (λ (k : ℕ). IsClosed game lists new k v) (sym e) (closed (subst (LeadsAway game lists) e away) v below)
-    closed_by n v (inr other) marked away below = kept.closed n v (before_it n other marked) away below
+    closed_by : (n v : ℕ) → (n ≡ m) ⊎ (n ≢ m) → IsMarked (set marks m true) n → LeadsOneWay game lists n → v < length game.board.first → IsClosed game lists new n v
+    closed_by n v (inl e) marked one_way below = subst (λ (k : ℕ). IsClosed game lists new k v) (sym e) (closed (subst (LeadsOneWay game lists) e one_way) v below)
+    closed_by n v (inr other) marked one_way below = kept.closed n v (before_it n other marked) one_way below
+
+-- Shifts that lead one way, and not forth, lead back.
+pub if_back : (game : AbstractGame) (lists : Lists) (n : ℕ) → LeadsOneWay game lists n → (LeadsForth game lists n → ⊥) → LeadsBack game lists n
+if_back game lists n (inl back) other = back
+if_back game lists n (inr forth) other = absurd (other forth)
 
 -- One fill after another, and none at all.
 pub rightly_none : (game : AbstractGame) (lists : Lists) (t : Table) (n : ℕ) → IsSoundTable game lists t → FillsRightly game lists t t n
@@ -350,6 +422,10 @@ none_marked game lists t many sound = record {
 
     not_marked : (n : ℕ) → IsMarked (replicate many false) n → ⊥
     not_marked n marked = not_both marked (all_false many n)
+
+-- A list contains its items.
+pub is_listed : (xs : List ℕ) (i : ℕ) → i < length xs → Contains xs (get_or xs i 0)
+is_listed xs i below = (i, below, same_item xs i (get_or xs i 0) below)
 
 -- What is so of each item is so of what the list contains.
 pub each_listed : (P : ℕ → Type 0) (xs : List ℕ) → ((i : ℕ) → i < length xs → P (get_or xs i 0)) → (p : ℕ) → Contains xs p → P p

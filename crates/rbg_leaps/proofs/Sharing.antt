@@ -1,5 +1,5 @@
 -- An entry that shares what is told behind a shift.
-use Rattle.std.proofs.Common.{◌≡◌, ◌<◌, ◌∙◌, ◌⊎◌, ℕ, length, get_or, sym, ap, subst}
+use Rattle.std.proofs.Common.{◌≡◌, ◌+◌, ◌*◌, ◌<◌, ◌∙◌, ◌⊎◌, ℕ, length, get_or, sym, ap, subst}
 use Rattle.std.specs.Prelude.{Bool, Contains, IsTrue}
 use Rattle.rbg_rules.specs.Positions.{IsNumbered}
 use Rattle.rbg_rules.specs.State.{AbstractGame}
@@ -13,7 +13,7 @@ use Rattle.rbg_leaps.specs.internal.Shelves.{list_at, may_end_at, IsNodeOf, AreL
 use Rattle.rbg_leaps.specs.internal.Steps.{Comes}
 use Rattle.rbg_leaps.proofs.Fillings.{told_behind}
 use Rattle.rbg_leaps.proofs.ShiftLemmas.{shift_within}
-use Rattle.rbg_leaps.proofs.Tabling.{entry_on}
+use Rattle.rbg_leaps.proofs.Tabling.{place_there, entry_on}
 
 -- The entry behind a shift is that of a node, and is right there.
 pub record IsRightBehind (game : AbstractGame) (lists : Lists) (table : Table) (p w : ℕ) (e : Entry) : Type 0 where
@@ -38,6 +38,14 @@ right_behind game numbered lists are table right p w k e is below behind at = re
 
     same : e ≡ entry_at table m w
     same = at ∙ ap (λ (i : ℕ). entry_at table i w) behind
+
+-- .. and that entry is there.
+pub behind_there : (game : AbstractGame) → IsNumbered game.rules → (lists : Lists) → AreListsOf game.rules lists → (table : Table) → IsSoundTable game lists table → (p w k : ℕ) → IsShiftAt game.rules p → w < length game.board.first → k ≡ get_or lists.afters.items p 0 → k * table.vertices + w < length table.entries.items
+behind_there game numbered lists are table right p w k is below behind =
+    let node : IsNodeOf game.rules lists.shelf (after p) (get_or lists.afters.items p 0) = are.after_each p (shift_within game.rules numbered p is) in
+    let there : k < length lists.shelf.nodes.items = subst (λ (n : ℕ). n < length lists.shelf.nodes.items) (sym behind) node.there in
+    let on_board : w < table.vertices = subst (λ (many : ℕ). w < many) (sym right.laid_out.vertices) below in
+    subst (λ (n : ℕ). k * table.vertices + w < n) (sym right.laid_out.size) (place_there (length lists.shelf.nodes.items) k table.vertices w there on_board)
 
 pub entry_step : (game : AbstractGame) → IsNumbered game.rules → (lists : Lists) → AreListsOf game.rules lists → (table : Table) → IsSoundTable game lists table → (n v p w k : ℕ) (e : Entry) → Contains (list_at lists.shelf n) p → IsShiftAt game.rules p → Comes game v p w → w < length game.board.first → k ≡ get_or lists.afters.items p 0 → e ≡ entry_at table k w → (ends : Bool) → (IsTrue ends → IsTrue e.ends ⊎ IsTrue (may_end_at lists.shelf n)) → IsSoundEntry game (list_at lists.shelf n) (may_end_at lists.shelf n) v table (record { start = e.start; many = e.many; ends = ends })
 entry_step game numbered lists are table right n v p w k e there is comes below behind at ends either =

@@ -1,4 +1,5 @@
 -- Definitions that the crate's own proofs use.
+pub mod Appending
 pub mod Spans
 pub mod Steps
 pub mod Shelves

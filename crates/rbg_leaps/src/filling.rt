@@ -1,11 +1,11 @@
 //! A first pass over all nodes, each after those to which its shifts lead.
-ghost use Rattle.std.specs.Prelude.{◌≡◌, ◌≢◌, ◌<◌, length, false, Contains, IfOk, OnOk, IfSome, IsTrue, slice_index_or};
+ghost use Rattle.std.specs.Prelude.{◌≡◌, ◌≢◌, ℕ, ◌<◌, ◌≤◌, length, true, false, Contains, IfOk, OnOk, IfSome, IsTrue, slice_index_or};
 ghost use Rattle.rbg_rules.specs.Games.{IsGame};
 ghost use Rattle.rbg_leaps.specs.Entries.{IsWithin};
 ghost use Rattle.rbg_leaps.specs.Leaps.{IsShiftAt};
 ghost use Rattle.rbg_leaps.specs.internal.Shelves.{AreListsOf, list_at, may_end_at};
-ghost use Rattle.rbg_leaps.specs.internal.Steps.{IsOnly};
-ghost use Rattle.rbg_leaps.specs.internal.Tables.{IsSoundEntry, IsRightSoFar, IsToldAt, FillsOne, FillsUpTo, FillsRightly, LeadsAway, LeadsToMarked, IsMarked, AreFilled};
+ghost use Rattle.rbg_leaps.specs.internal.Steps.{Comes, IsOnly};
+ghost use Rattle.rbg_leaps.specs.internal.Tables.{IsSoundEntry, IsRightSoFar, IsToldAt, FillsOne, FillsUpTo, FillsRightly, FillsDownTo, StepsBack, StepsForth, LeadsAway, LeadsBack, LeadsForth, LeadsOneWay, LeadsToMarked, IsMarked, AreClosedAt, AreFilled};
 
 use crate::gathering::gather;
 use crate::ground::Ground;
@@ -22,19 +22,24 @@ fn fill_one(
     lists: &Lists,
     ground: &Ground<'_>,
     node: usize,
+    list: &[Position],
+    may_end: bool,
     vertex: Vertex,
 ) -> Result<(), Memory>
     requires right { IsRightSoFar ground.now lists.now table.old }
     requires node { node < length lists.now.shelf.nodes.items }
+    requires list { list.now ≡ list_at lists.now.shelf node }
+    requires may_end { may_end ≡ may_end_at lists.now.shelf node }
     requires vertex { vertex < length ground.now.board.first }
     ensures { OnOk result (FillsOne ground.now lists.now table.old table.new node vertex) }
 {
-    let ends = gather(table, parts, lists, ground, node, vertex)?;
+    let ends = gather(table, parts, lists, ground, node, list, may_end, vertex)?;
     table.put(node, vertex, parts, ends)?;
     Ok(())
 }
 
-/// The entry of a node and a vertex with what is told behind a shift of its list.
+/// The entry of a node and a vertex with what is told behind a shift of its list. What doesn't depend on the vertex is
+/// handed in.
 #[inline(always)]
 fn entry_behind(
     table: &Table,
@@ -43,8 +48,12 @@ fn entry_behind(
     node: usize,
     vertex: Vertex,
     position: Position,
+    after: usize,
+    may_end: bool,
 ) -> Entry
     requires right { IsRightSoFar ground.now lists.now table.now }
+    requires after { after ≡ slice_index_or lists.now.afters.items position 0 }
+    requires may_end { may_end ≡ may_end_at lists.now.shelf node }
     requires vertex { vertex < length ground.now.board.first }
     requires listed { Contains (list_at lists.now.shelf node) position }
     requires shift { IsShiftAt ground.now.rules position }
@@ -53,7 +62,6 @@ fn entry_behind(
     ensures told { IsToldAt ground.now lists.now table.now result vertex position }
     ensures ends { IsTrue (may_end_at lists.now.shelf node) → IsTrue result.ends }
 {
-    let may_end = lists.shelf.may_end(node);
     let Some(to) = ground.to(vertex, position) else {
         return Entry {
             start: 0,
@@ -61,7 +69,7 @@ fn entry_behind(
             ends: may_end,
         };
     };
-    let behind = table.entry(lists.after(position), to);
+    let behind = table.entry_there(after, to);
     let ends = behind.ends || may_end;
     Entry {
         start: behind.start,
@@ -79,15 +87,19 @@ fn share_one(
     node: usize,
     vertex: Vertex,
     position: Position,
+    after: usize,
+    may_end: bool,
 )
     requires right { IsRightSoFar ground.now lists.now table.old }
     requires node { node < length lists.now.shelf.nodes.items }
     requires vertex { vertex < length ground.now.board.first }
     requires only { IsOnly (list_at lists.now.shelf node) position }
     requires shift { IsShiftAt ground.now.rules position }
+    requires after { after ≡ slice_index_or lists.now.afters.items position 0 }
+    requires may_end { may_end ≡ may_end_at lists.now.shelf node }
     ensures { FillsOne ground.now lists.now table.old table.new node vertex }
 {
-    let entry = entry_behind(table, lists, ground, node, vertex, position);
+    let entry = entry_behind(table, lists, ground, node, vertex, position, after, may_end);
     table.share(node, vertex, entry);
 }
 
@@ -113,8 +125,19 @@ fn share_node(
     requires shift { IsShiftAt ground.now.rules position }
     ensures { FillsUpTo ground.now lists.now table.old table.new node (length ground.now.board.first) }
 {
+    let after = lists.after(position);
+    let may_end = lists.shelf.may_end(node);
     for vertex in 0..ground.vertices() {
-        share_one(table, lists, ground, node, vertex as Vertex, position);
+        share_one(
+            table,
+            lists,
+            ground,
+            node,
+            vertex as Vertex,
+            position,
+            after,
+            may_end,
+        );
     }
 }
 
@@ -127,17 +150,19 @@ fn place_one(
     node: usize,
     vertex: Vertex,
     position: Position,
+    may_end: bool,
 ) -> Result<(), Memory>
     requires right { IsRightSoFar ground.now lists.now table.old }
     requires node { node < length lists.now.shelf.nodes.items }
     requires vertex { vertex < length ground.now.board.first }
     requires only { IsOnly (list_at lists.now.shelf node) position }
     requires plain { ¬ IsShiftAt ground.now.rules position }
+    requires may_end { may_end ≡ may_end_at lists.now.shelf node }
     ensures { OnOk result (FillsOne ground.now lists.now table.old table.new node vertex) }
 {
     let row = table.unit(vertex);
     let target = RowTarget { position, row };
-    table.put(node, vertex, &[target], lists.shelf.may_end(node))?;
+    table.put(node, vertex, &[target], may_end)?;
     Ok(())
 }
 
@@ -155,8 +180,17 @@ fn place_node(
     requires plain { ¬ IsShiftAt ground.now.rules position }
     ensures { OnOk result (FillsUpTo ground.now lists.now table.old table.new node (length ground.now.board.first)) }
 {
+    let may_end = lists.shelf.may_end(node);
     for vertex in 0..ground.vertices() {
-        place_one(table, lists, ground, node, vertex as Vertex, position)?;
+        place_one(
+            table,
+            lists,
+            ground,
+            node,
+            vertex as Vertex,
+            position,
+            may_end,
+        )?;
     }
     Ok(())
 }
@@ -173,13 +207,25 @@ fn fill_forwards(
     requires node { node < length lists.now.shelf.nodes.items }
     ensures { OnOk result (FillsUpTo ground.now lists.now table.old table.new node (length ground.now.board.first)) }
 {
+    let list = lists.shelf.list(node);
+    let may_end = lists.shelf.may_end(node);
     for vertex in 0..ground.vertices() {
-        fill_one(table, parts, lists, ground, node, vertex as Vertex)?;
+        fill_one(
+            table,
+            parts,
+            lists,
+            ground,
+            node,
+            list,
+            may_end,
+            vertex as Vertex,
+        )?;
     }
     Ok(())
 }
 
-/// Fills the entries of a node backwards over the vertices.
+/// Fills the entries of a node backwards over the vertices: that is enough where shifts lead from it to later vertices of
+/// its own alone.
 fn fill_backwards(
     table: &mut Table,
     parts: &mut Vec<RowTarget>,
@@ -189,12 +235,14 @@ fn fill_backwards(
 ) -> Result<(), Memory>
     requires right { IsRightSoFar ground.now lists.now table.old }
     requires node { node < length lists.now.shelf.nodes.items }
-    ensures { OnOk result (FillsRightly ground.now lists.now table.old table.new node) }
+    ensures { OnOk result (FillsDownTo ground.now lists.now table.old table.new node (length ground.now.board.first)) }
 {
+    let list = lists.shelf.list(node);
+    let may_end = lists.shelf.may_end(node);
     let vertices = ground.vertices();
     for index in 0..vertices {
         let vertex = (vertices - 1 - index) as Vertex;
-        fill_one(table, parts, lists, ground, node, vertex)?;
+        fill_one(table, parts, lists, ground, node, list, may_end, vertex)?;
     }
     Ok(())
 }
@@ -222,26 +270,61 @@ fn fill_once(
     Ok(())
 }
 
+/// Whether a position's shift leads from a vertex to a later one, or to an earlier one.
+#[inline(always)]
+fn steps(ground: &Ground<'_>, vertex: Vertex, position: Position, later: bool) -> bool
+    requires { vertex < length ground.now.board.first }
+    ensures back { later ≡ true → result ≡ false → (w : ℕ) → Comes ground.now vertex position w → w ≤ vertex }
+    ensures forth { later ≡ false → result ≡ false → (w : ℕ) → Comes ground.now vertex position w → vertex ≤ w }
+    ensures none { later ≡ false → ((w : ℕ) → Comes ground.now vertex position w → vertex ≤ w) → result ≡ false }
+{
+    match ground.to(vertex, position) {
+        Some(to) => { if later { vertex < to } else { to < vertex } }
+        None => false,
+    }
+}
+
 /// Whether a position's shift leads from some vertex to a later one, or to an earlier one.
-fn leads(ground: &Ground<'_>, position: Position, later: bool) -> bool {
+fn leads(ground: &Ground<'_>, position: Position, later: bool) -> bool
+    ensures back { later ≡ true → result ≡ false → StepsBack ground.now position }
+    ensures forth { later ≡ false → result ≡ false → StepsForth ground.now position }
+    ensures none { later ≡ false → StepsForth ground.now position → result ≡ false }
+{
     for index in 0..ground.vertices() {
-        let vertex = index as Vertex;
-        if let Some(to) = ground.to(vertex, position) {
-            if to != vertex && (vertex < to) == later {
-                return true;
-            }
+        if steps(ground, index as Vertex, position, later) {
+            return true;
         }
     }
     false
 }
 
+/// Whether a position is a shift that leads to a node, from some vertex to a later one, or to an earlier one.
+#[inline(always)]
+fn repeats_by(
+    lists: &Lists,
+    ground: &Ground<'_>,
+    node: usize,
+    position: Position,
+    later: bool,
+) -> bool
+    ensures back { later ≡ true → result ≡ false → IsShiftAt ground.now.rules position
+        → slice_index_or lists.now.afters.items position 0 ≡ node → StepsBack ground.now position }
+    ensures forth { later ≡ false → result ≡ false → IsShiftAt ground.now.rules position
+        → slice_index_or lists.now.afters.items position 0 ≡ node → StepsForth ground.now position }
+    ensures none { later ≡ false → (IsShiftAt ground.now.rules position
+        → slice_index_or lists.now.afters.items position 0 ≡ node → StepsForth ground.now position) → result ≡ false }
+{
+    ground.is_shift(position) && lists.after(position) == node && leads(ground, position, later)
+}
+
 /// Whether a shift of a node's list leads to the same node again, from some vertex to a later one, or to an earlier one.
-fn repeats(lists: &Lists, ground: &Ground<'_>, node: usize, later: bool) -> bool {
+pub(crate) fn repeats(lists: &Lists, ground: &Ground<'_>, node: usize, later: bool) -> bool
+    ensures back { later ≡ true → result ≡ false → LeadsBack ground.now lists.now node }
+    ensures forth { later ≡ false → result ≡ false → LeadsForth ground.now lists.now node }
+    ensures none { later ≡ false → LeadsForth ground.now lists.now node → result ≡ false }
+{
     for listed in lists.shelf.list(node) {
-        if ground.is_shift(*listed)
-            && lists.after(*listed) == node
-            && leads(ground, *listed, later)
-        {
+        if repeats_by(lists, ground, node, *listed, later) {
             return true;
         }
     }
@@ -249,7 +332,7 @@ fn repeats(lists: &Lists, ground: &Ground<'_>, node: usize, later: bool) -> bool
 }
 
 /// Fills the entries of a node: forwards over the vertices where shifts lead from it to earlier vertices of its own, and
-/// backwards where they lead to later ones.
+/// backwards where they lead to later ones. Where they lead one way, nothing is missing then.
 pub(crate) fn fill_again(
     table: &mut Table,
     parts: &mut Vec<RowTarget>,
@@ -259,13 +342,15 @@ pub(crate) fn fill_again(
 ) -> Result<(), Memory>
     requires right { IsRightSoFar ground.now lists.now table.old }
     requires node { node < length lists.now.shelf.nodes.items }
-    ensures { OnOk result (FillsRightly ground.now lists.now table.old table.new node) }
+    ensures fills { OnOk result (FillsRightly ground.now lists.now table.old table.new node) }
+    ensures closed { OnOk result (LeadsOneWay ground.now lists.now node → AreClosedAt ground.now lists.now table.new node) }
 {
-    let back = repeats(lists, ground, node, true);
-    if back {
-        fill_backwards(table, parts, lists, ground, node)?;
+    if !repeats(lists, ground, node, true) {
+        fill_forwards(table, parts, lists, ground, node)?;
+        return Ok(());
     }
-    if !back || repeats(lists, ground, node, false) {
+    fill_backwards(table, parts, lists, ground, node)?;
+    if repeats(lists, ground, node, false) {
         fill_forwards(table, parts, lists, ground, node)?;
     }
     Ok(())
@@ -279,7 +364,7 @@ pub(crate) fn is_marked(marks: &[bool], node: usize) -> bool
 }
 
 /// Whether no shift of a node's list leads to the node again.
-pub(crate) fn leads_away(lists: &Lists, ground: &Ground<'_>, node: usize) -> bool
+fn leads_away(lists: &Lists, ground: &Ground<'_>, node: usize) -> bool
     ensures away { IsTrue result → LeadsAway ground.now lists.now node }
     ensures again { LeadsAway ground.now lists.now node → IsTrue result }
 {
@@ -320,7 +405,8 @@ fn fill_node(
 ) -> Result<(), Memory>
     requires right { IsRightSoFar ground.now lists.now table.old }
     requires node { node < length lists.now.shelf.nodes.items }
-    ensures { OnOk result (FillsUpTo ground.now lists.now table.old table.new node (length ground.now.board.first)) }
+    ensures fills { OnOk result (FillsRightly ground.now lists.now table.old table.new node) }
+    ensures closed { OnOk result (LeadsOneWay ground.now lists.now node → AreClosedAt ground.now lists.now table.new node) }
 {
     if leads_away(lists, ground, node) {
         fill_once(table, parts, lists, ground, node)?;

@@ -7,7 +7,7 @@ ghost use Rattle.rbg_leaps.specs.internal.Tables.{no_target, AddsRow, AddsAll, I
 
 use crate::ground::Ground;
 use crate::lists::Lists;
-use crate::rows::{is_under, push_union};
+use crate::rows::push_union;
 use crate::table::{Entry, RowTarget, Table};
 use rbg_base::{Memory, Position, Vertex};
 
@@ -46,10 +46,8 @@ pub(crate) fn add(
         return Ok(());
     };
     let before = parts[index].row;
-    if !is_under(words, columns, row as usize, before as usize) {
-        let row = push_union(words, columns, before as usize, row as usize)?;
-        parts[index] = RowTarget { position, row };
-    }
+    let row = push_union(words, columns, before as usize, row as usize)?;
+    parts[index] = RowTarget { position, row };
     Ok(())
 }
 
@@ -98,12 +96,12 @@ fn gather_one(
     let Some(to) = ground.to(vertex, position) else {
         return Ok(false);
     };
-    let entry = table.entry(lists.after(position), to);
+    let entry = table.entry_there(lists.after(position), to);
     add_all(table, parts, entry)?;
     Ok(entry.ends)
 }
 
-/// Gathers what one step leads to. Returns whether a word may end at once or then.
+/// Gathers what one step leads to, by the list of a node. Returns whether a word may end at once or then.
 #[inline(always)]
 pub(crate) fn gather(
     table: &mut Table,
@@ -111,10 +109,14 @@ pub(crate) fn gather(
     lists: &Lists,
     ground: &Ground<'_>,
     node: usize,
+    list: &[Position],
+    may_end: bool,
     vertex: Vertex,
 ) -> Result<bool, Memory>
     requires right { IsRightSoFar ground.now lists.now table.old }
     requires node { node < length lists.now.shelf.nodes.items }
+    requires list { list.now ≡ list_at lists.now.shelf node }
+    requires may_end { may_end ≡ may_end_at lists.now.shelf node }
     requires vertex { vertex < length ground.now.board.first }
     ensures grows { OnOk result (Grows table.old table.new) }
     ensures gathered { OnOk result (IsGathered ground.now lists.now table.new node vertex parts.new.items) }
@@ -122,8 +124,8 @@ pub(crate) fn gather(
     ensures whole { IfOk result (λ ends. IsWhole ground.now lists.now table.new node vertex parts.new.items ends) }
 {
     parts.clear();
-    let mut ends = lists.shelf.may_end(node);
-    for listed in lists.shelf.list(node) {
+    let mut ends = may_end;
+    for listed in list {
         let then = gather_one(table, parts, lists, ground, node, vertex, *listed)?;
         ends = ends || then;
     }

@@ -63,15 +63,15 @@ fn pack_row(
 }
 
 /// The words of all rows. Memory is said to be out where an entry can't name them: behind 4,294,967,295, which take 64
-/// gigabytes.
+/// gigabytes. Its loop needs the registers for itself, so it stays a function of its own.
+#[inline(never)]
 fn pack_rows(alloc: Global, table: &Table) -> Result<Rows, Memory>
     requires { table.now.columns < 2 ^ 32 }
     ensures { IfOk result (λ rows. ArePackedBy table.now.columns (length table.now.targets.items) table.now.words.items table.now.targets.items rows.targets.items rows.before.items) }
 {
     let rows = table.targets.len();
     let mut targets = Vec::with_capacity(alloc, rows)?;
-    let mut before = Vec::with_capacity(alloc, rows + 1)?;
-    before.push(0)?;
+    let mut before = vec![in alloc; 0; rows + 1]?;
     for index in 0..rows {
         pack_row(
             &mut targets,
@@ -82,7 +82,7 @@ fn pack_rows(alloc: Global, table: &Table) -> Result<Rows, Memory>
         if targets.len() > u32::MAX as usize {
             return Err(AllocError);
         }
-        before.push(targets.len() as u32)?;
+        before[index + 1] = targets.len() as u32;
     }
     Ok(Rows { targets, before })
 }
@@ -109,6 +109,7 @@ fn pack_entry(entry: Entry, before: &[u32]) -> Result<Entry, Memory>
 }
 
 /// Each entry with the words of its rows.
+#[inline(never)]
 fn pack_entries(entries: &mut Vec<Entry>, before: &[u32]) -> Result<(), Memory>
     requires there { All (λ e. end_of e < length before.now) entries.old.items }
     requires rising { (i j : ℕ) → i ≤ j → j < length before.now → before_in before.now i ≤ before_in before.now j }

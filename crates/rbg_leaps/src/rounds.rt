@@ -2,10 +2,10 @@
 ghost use Rattle.std.specs.Prelude.{◌≡◌, ◌<◌, length, false, IfOk, OnOk, IsTrue};
 ghost use Rattle.rbg_rules.specs.Games.{IsGame};
 ghost use Rattle.rbg_leaps.specs.internal.Shelves.{AreListsOf};
-ghost use Rattle.rbg_leaps.specs.internal.Tables.{IsSoundTable, IsRightSoFar, StaysClosed, AreClosedAt, AreAllClosed, IsFilled, FillsRightly, AreFilled};
+ghost use Rattle.rbg_leaps.specs.internal.Tables.{IsSoundTable, IsRightSoFar, StaysClosed, AreClosedAt, AreAllClosed, LeadsOneWay, IsFilled, FillsRightly, AreFilled};
 
 use crate::closing::is_closed;
-use crate::filling::{fill_again, fill_in_order, is_marked, leads_away};
+use crate::filling::{fill_again, fill_in_order, is_marked, repeats};
 use crate::ground::Ground;
 use crate::lists::Lists;
 use crate::rows::units;
@@ -120,12 +120,20 @@ fn mend_until_still(
     Ok(())
 }
 
-/// Whether nothing is missing in a node. A node that is filled is looked at only where shifts lead from it to itself.
+/// Whether shifts lead from a node to no later vertex of its own, or to no earlier one.
+fn leads_one_way(lists: &Lists, ground: &Ground<'_>, node: usize) -> bool
+    ensures { IsTrue result → LeadsOneWay ground.now lists.now node }
+{
+    !repeats(lists, ground, node, true) || !repeats(lists, ground, node, false)
+}
+
+/// Whether nothing is missing in a node. A node that is filled is looked at only where shifts lead from it to earlier and
+/// to later vertices of its own.
 fn is_done(table: &Table, lists: &Lists, ground: &Ground<'_>, filled: &[bool], node: usize) -> bool
     requires filled { AreFilled ground.now lists.now table.now filled.now }
     ensures { IsTrue result → AreClosedAt ground.now lists.now table.now node }
 {
-    (is_marked(filled, node) && leads_away(lists, ground, node))
+    (is_marked(filled, node) && leads_one_way(lists, ground, node))
         || is_closed(table, lists, ground, node)
 }
 

@@ -1,6 +1,7 @@
 //! The table of leaps: for each node and each vertex an entry, with its targets and their rows.
-ghost use Rattle.std.specs.Prelude.{◌+◌, ◌≤◌, All, length};
+ghost use Rattle.std.specs.Prelude.{◌≡◌, ◌+◌, ◌≤◌, ◌++◌, All, length, OnOk};
 ghost use Rattle.rbg_leaps.specs.Entries.{IsWithin};
+ghost use Rattle.rbg_leaps.specs.internal.Appending.{AppendsSome};
 
 use crate::entries::entry_in_place;
 use crate::gathering::add;
@@ -38,6 +39,18 @@ pub(crate) struct Table {
     pub(crate) words: Vec<u64>,
     ghost within: { All (IsWithin (length targets.items)) entries.items },
     ghost rows: { All (λ t. t.row + columns ≤ length words.items) targets.items },
+}
+
+/// Appends targets. They are few, so to push each takes fewer instructions than to copy all at once.
+#[inline(always)]
+fn append(all: &mut Vec<RowTarget>, targets: &[RowTarget]) -> Result<(), Memory>
+    ensures some { AppendsSome all.old.items all.new.items targets.now }
+    ensures all { OnOk result (all.new.items ≡ all.old.items ++ targets.now) }
+{
+    for target in targets {
+        all.push(*target)?;
+    }
+    Ok(())
 }
 
 impl Entry {
@@ -121,6 +134,16 @@ impl Table {
         }
     }
 
+    /// The entry of a node and a vertex, which is there.
+    #[inline(always)]
+    pub(crate) fn entry_there(&self, node: usize, vertex: Vertex) -> Entry
+        requires { node * self.now.vertices + vertex < length self.now.entries.items }
+        ensures entry { result ≡ entry_at self.now node vertex }
+        ensures within { IsWithin (length self.now.targets.items) result }
+    {
+        self.entries[node * self.vertices + vertex as usize]
+    }
+
     /// Puts the entry of a node and a vertex in its place, with targets of its own. Memory is said to be out where an entry
     /// can't name them: behind 4,294,967,295 targets, which take 32 gigabytes, and where they are more than 65,535, while a
     /// game has at most 20,000 positions.
@@ -140,7 +163,7 @@ impl Table {
         if start > u32::MAX as usize || targets.len() > u16::MAX as usize {
             return Err(AllocError);
         }
-        self.targets.extend_from_slice(targets)?;
+        append(&mut self.targets, targets)?;
         let place = node * self.vertices + vertex as usize;
         self.entries[place] = Entry {
             start: start as u32,

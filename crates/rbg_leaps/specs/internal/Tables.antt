@@ -1,5 +1,5 @@
 -- What a table that is being made tells, whether it is right so far, and whether anything is missing.
-use Rattle.std.specs.Prelude.{◌≡◌, ◌≢◌, ℕ, ◌+◌, ◌*◌, ◌<◌, ◌≤◌, ◌↔◌, List, ◌++◌, length, slice_range, slice_index_or, Bool, true, false, IsTrue, All, AllPairs, Contains}
+use Rattle.std.specs.Prelude.{◌≡◌, ◌≢◌, ℕ, ◌+◌, ◌*◌, ◌<◌, ◌≤◌, ◌↔◌, ◌⊎◌, List, ◌++◌, length, slice_range, slice_index_or, Bool, true, false, IsTrue, All, AllPairs, Contains}
 use Rattle.rbg_rules.specs.Games.{IsGame}
 use Rattle.rbg_rules.specs.State.{AbstractGame}
 use Rattle.rbg_rules.specs.Words.{Start}
@@ -189,6 +189,30 @@ abbrev pub LeadsAway : AbstractGame → Lists → (n : ℕ) → Type 0
 LeadsAway game lists n =
     (p : ℕ) → Contains (list_at lists.shelf n) p → IsShiftAt game.rules p → slice_index_or lists.afters.items p 0 ≢ n
 
+-- By position p one comes from no vertex to a later one.
+abbrev pub StepsBack : AbstractGame → (p : ℕ) → Type 0
+StepsBack game p = (v w : ℕ) → v < length game.board.first → Comes game v p w → w ≤ v
+
+-- .. to an earlier one.
+abbrev pub StepsForth : AbstractGame → (p : ℕ) → Type 0
+StepsForth game p = (v w : ℕ) → v < length game.board.first → Comes game v p w → v ≤ w
+
+-- Where a shift of the node's list leads to the node again, it leads to no later vertex.
+abbrev pub LeadsBack : AbstractGame → Lists → (n : ℕ) → Type 0
+LeadsBack game lists n =
+    (p : ℕ) → Contains (list_at lists.shelf n) p → IsShiftAt game.rules p →
+    slice_index_or lists.afters.items p 0 ≡ n → StepsBack game p
+
+-- .. to no earlier one.
+abbrev pub LeadsForth : AbstractGame → Lists → (n : ℕ) → Type 0
+LeadsForth game lists n =
+    (p : ℕ) → Contains (list_at lists.shelf n) p → IsShiftAt game.rules p →
+    slice_index_or lists.afters.items p 0 ≡ n → StepsForth game p
+
+-- One pass over the vertices is enough.
+abbrev pub LeadsOneWay : AbstractGame → Lists → (n : ℕ) → Type 0
+LeadsOneWay game lists n = LeadsBack game lists n ⊎ LeadsForth game lists n
+
 -- Entries were filled; those of the other nodes stay.
 pub record Fills (old new : Table) (n : ℕ) : Type 0 where
   pub vertices : new.vertices ≡ old.vertices
@@ -202,13 +226,21 @@ pub record FillsOne (game : AbstractGame) (lists : Lists) (old new : Table) (n v
   pub sound : IsSoundTable game lists new
   pub fills : Fills old new n
   pub beside : (w : ℕ) → w ≢ v → w < old.vertices → entry_at new n w ≡ entry_at old n w
-  pub closed : LeadsAway game lists n → IsClosed game lists new n v
+  pub closed : IsClosed game lists new n v
 
 -- The entries of a node were filled at the first vertices.
 pub record FillsUpTo (game : AbstractGame) (lists : Lists) (old new : Table) (n many : ℕ) : Type 0 where
   pub sound : IsSoundTable game lists new
   pub fills : Fills old new n
-  pub closed : LeadsAway game lists n → (v : ℕ) → v < many → IsClosed game lists new n v
+  pub closed : LeadsBack game lists n → (v : ℕ) → v < many → IsClosed game lists new n v
+
+-- .. at the last vertices.
+pub record FillsDownTo (game : AbstractGame) (lists : Lists) (old new : Table) (n many : ℕ) : Type 0 where
+  pub sound : IsSoundTable game lists new
+  pub fills : Fills old new n
+  pub closed :
+      LeadsForth game lists n → (v : ℕ) → v < length game.board.first → length game.board.first ≤ v + many →
+      IsClosed game lists new n v
 
 -- The entries of a node were filled, and nothing wrong is told.
 pub record FillsRightly (game : AbstractGame) (lists : Lists) (old new : Table) (n : ℕ) : Type 0 where
@@ -225,12 +257,12 @@ LeadsToMarked game lists marks n =
     (p : ℕ) → Contains (list_at lists.shelf n) p → IsShiftAt game.rules p →
     slice_index_or lists.afters.items p 0 ≢ n → IsMarked marks (slice_index_or lists.afters.items p 0)
 
--- From marked nodes shifts lead to marked ones, and nothing is missing in those from which none leads to the node again.
+-- From marked nodes shifts lead to marked ones, and nothing is missing in those for which one pass is enough.
 pub record AreFilled (game : AbstractGame) (lists : Lists) (table : Table) (marks : List Bool) : Type 0 where
   pub sound : IsSoundTable game lists table
   pub next : (n : ℕ) → IsMarked marks n → LeadsToMarked game lists marks n
   pub closed :
-      (n v : ℕ) → IsMarked marks n → LeadsAway game lists n → v < length game.board.first →
+      (n v : ℕ) → IsMarked marks n → LeadsOneWay game lists n → v < length game.board.first →
       IsClosed game lists table n v
 
 -- The entries of a node tell of what one step by position p leads to, at each vertex.

@@ -11,8 +11,8 @@ returns-in_default-clause-adds c =
     subst (λ (ts : List RowTarget). (i : ℕ) → i < length ts → (get_or ts i no_target).position ≢ c.args.position) c.deref.ensures.value c.in_default.ensures.none in
     rw c.in_ok-push.ensures.items (adds_new c.args.columns c.args.words.now.items c.args.parts.now.items c.args.position c.args.row c.requires.row c.requires.rows none)
 
-pub returns-in_ok-row-clause-adds : goal.returns-in_ok-row-clause-adds
-returns-in_ok-row-clause-adds c =
+pub returns-clause-adds : goal.returns-clause-adds
+returns-clause-adds c =
     let ts : List RowTarget = c.args.parts.now.items in
     let k : ℕ = c.in-Some.index in
     let there : k < length ts = subst (λ (xs : List RowTarget). k < length xs) c.deref.ensures.value c.in-Some.ensures.there in

@@ -23,9 +23,9 @@ loop-listed-init c =
       sound = c.requires.right.sound;
       grows = grows_none c.args.table.now;
       gathered = sound_none (IsLeapBy game (list_at shelf c.args.node) (may_end_at shelf c.args.node) c.args.vertex) c.args.table.now.columns c.args.table.now.words.items;
-      ends_told = λ is. subst IsTrue (sym c.may_end-ends.ensures) is;
-      told = none_told _ c.list-listed-items.result.now;
-      ends = λ is. ends_here game (list_at shelf c.args.node) (may_end_at shelf c.args.node) c.args.vertex (subst IsTrue c.may_end-ends.ensures is);
+      ends_told = λ is. subst IsTrue (sym c.requires.may_end) is;
+      told = none_told _ c.args.list.now;
+      ends = λ is. ends_here game (list_at shelf c.args.node) (may_end_at shelf c.args.node) c.args.vertex (subst IsTrue c.requires.may_end is);
     })
 
 pub loop-listed-preserved : goal.loop-listed-preserved
@@ -35,7 +35,7 @@ loop-listed-preserved c =
     let game = c.args.ground.now in
     let lists = c.args.lists.now in
     let new = c.gather_one.new.table in
-    let xs : List ℕ = c.list-listed-items.result.now in
+    let xs : List ℕ = c.args.list.now in
     let k : ℕ = c.loop-listed.listed-index in
     let v : ℕ = c.args.vertex in
     let kept : (one two : Bool) → (IsTrue one → IsTrue two) → All (IsToldBy game lists c.loop-listed.table c.loop-listed.parts.items one v) (take k xs) → All (IsToldBy game lists new c.gather_one.new.parts.items two v) (take k xs) =
@@ -68,10 +68,10 @@ pub returns-clause-whole : goal.returns-clause-whole
 returns-clause-whole c =
     let game = c.args.ground.now in
     let lists = c.args.lists.now in
-    let xs : List ℕ = c.list-listed-items.result.now in
+    let xs : List ℕ = c.args.list.now in
     record {
       ends = c.loop-listed.invariant.ends_told;
       told =
-          subst (λ (ys : List ℕ). All (IsToldBy game lists c.loop-listed.table c.loop-listed.parts.items c.loop-listed.ends c.args.vertex) ys) c.list-listed-items.ensures
+          subst (λ (ys : List ℕ). All (IsToldBy game lists c.loop-listed.table c.loop-listed.parts.items c.loop-listed.ends c.args.vertex) ys) c.requires.list
           (subst (λ (ys : List ℕ). All (IsToldBy game lists c.loop-listed.table c.loop-listed.parts.items c.loop-listed.ends c.args.vertex) ys) (take_all c.loop-listed.listed-index xs c.loop-listed-test.false) c.loop-listed.invariant.told);
     }

@@ -12,6 +12,6 @@ invariant-loop-listed l = record {
   grows : Grows l.fn.table l.table;
   gathered : IsGathered l.ground l.lists l.table l.node l.vertex l.parts.items;
   ends_told : IsTrue (may_end_at l.lists.shelf l.node) → IsTrue l.ends;
-  told : All (IsToldBy l.ground l.lists l.table l.parts.items l.ends l.vertex) (take l.listed-index l.listed-items);
+  told : All (IsToldBy l.ground l.lists l.table l.parts.items l.ends l.vertex) (take l.listed-index l.list);
   ends : IsTrue l.ends → EndsBy l.ground (list_at l.lists.shelf l.node) (may_end_at l.lists.shelf l.node) l.vertex;
 }

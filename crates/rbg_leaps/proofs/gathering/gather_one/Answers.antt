@@ -7,7 +7,7 @@ use Rattle.rbg_leaps.specs.internal.Steps.{IsLeapBy}
 use Rattle.rbg_leaps.specs.internal.Words.{IsUnit}
 use Rattle.rbg_leaps.proofs.Cases.{not_both, no_some, some_same}
 use Rattle.rbg_leaps.proofs.Fillings.{entry_grown_same, told_plain, told_nowhere, told_behind, added_under}
-use Rattle.rbg_leaps.proofs.Sharing.{IsRightBehind, right_behind}
+use Rattle.rbg_leaps.proofs.Sharing.{IsRightBehind, right_behind, behind_there}
 use Rattle.rbg_leaps.proofs.Tabling.{unit_row, sound_on, sound_ends_on}
 use Rattle.rbg_leaps.proofs.gathering.gather_one.Goals as goal
 
@@ -21,22 +21,27 @@ returns-then-not-is_shift-clause-gathered c =
     (unit_row c.args.ground.now list may_end c.args.table.now.columns c.args.table.now.words.items c.args.vertex c.args.position c.unit-row.result
     (subst (IsUnit c.args.table.now.columns c.args.table.now.words.items c.args.vertex) (sym c.unit-row.ensures) (c.requires.right.sound.laid_out.units c.args.vertex on_board)) c.requires.listed (λ is. not_both (c.is_shift.ensures.1 is) c.if-not-is_shift.true)))
 
+pub entry_there-entry-requires : goal.entry_there-entry-requires
+entry_there-entry-requires c =
+    behind_there c.args.ground.now c.requires.right.lawful.numbered c.args.lists.now c.requires.right.nodes c.args.table.now c.requires.right.sound c.args.position c.in-Some.to c.after.result
+    (c.is_shift.ensures.0 c.if-not-is_shift.false) c.in-Some.ensures.is_vertex c.after.ensures
+
 -- What is told behind the shift.
-behind : (c : goal.In_ok-add_all) → IsRightBehind c.args.ground.now c.args.lists.now c.args.table.now c.args.position c.in-Some.to c.entry-entry.result
+behind : (c : goal.In_ok-add_all) → IsRightBehind c.args.ground.now c.args.lists.now c.args.table.now c.args.position c.in-Some.to c.entry_there-entry.result
 behind c =
-    right_behind c.args.ground.now c.requires.right.lawful.numbered c.args.lists.now c.requires.right.nodes c.args.table.now c.requires.right.sound c.args.position c.in-Some.to c.after.result c.entry-entry.result
-    (c.is_shift.ensures.0 c.if-not-is_shift.false) c.in-Some.ensures.is_vertex c.after.ensures c.entry-entry.ensures.entry
+    right_behind c.args.ground.now c.requires.right.lawful.numbered c.args.lists.now c.requires.right.nodes c.args.table.now c.requires.right.sound c.args.position c.in-Some.to c.after.result c.entry_there-entry.result
+    (c.is_shift.ensures.0 c.if-not-is_shift.false) c.in-Some.ensures.is_vertex c.after.ensures c.entry_there-entry.ensures.entry
 
 pub returns-clause-gathered : goal.returns-clause-gathered
 returns-clause-gathered c =
     let shelf = c.args.lists.now.shelf in
     c.in_ok-add_all.ensures.sound c.args.ground.now (list_at shelf c.args.node) (may_end_at shelf c.args.node) c.args.vertex c.requires.gathered
-    (sound_on c.args.ground.now c.requires.right.lawful.numbered c.args.lists.now c.args.table.now c.args.node c.args.vertex c.args.position c.in-Some.to (get_or c.args.lists.now.afters.items c.args.position 0) c.entry-entry.result
+    (sound_on c.args.ground.now c.requires.right.lawful.numbered c.args.lists.now c.args.table.now c.args.node c.args.vertex c.args.position c.in-Some.to (get_or c.args.lists.now.afters.items c.args.position 0) c.entry_there-entry.result
     c.requires.listed (c.is_shift.ensures.0 c.if-not-is_shift.false) ((c.to.ensures.comes c.in-Some.to).0 c.in-Some.is) (behind c).node (behind c).sound)
 
 pub returns-clause-ends : goal.returns-clause-ends
 returns-clause-ends c =
-    sound_ends_on c.args.ground.now c.requires.right.lawful.numbered c.args.lists.now c.args.table.now c.args.node c.args.vertex c.args.position c.in-Some.to (get_or c.args.lists.now.afters.items c.args.position 0) c.entry-entry.result
+    sound_ends_on c.args.ground.now c.requires.right.lawful.numbered c.args.lists.now c.args.table.now c.args.node c.args.vertex c.args.position c.in-Some.to (get_or c.args.lists.now.afters.items c.args.position 0) c.entry_there-entry.result
     c.requires.listed (c.is_shift.ensures.0 c.if-not-is_shift.false) ((c.to.ensures.comes c.in-Some.to).0 c.in-Some.is) (behind c).node (behind c).sound
 
 pub returns-then-not-is_shift-clause-keeps : goal.returns-then-not-is_shift-clause-keeps
@@ -67,9 +72,9 @@ returns-clause-told c =
     let m : ℕ = get_or c.args.lists.now.afters.items c.args.position 0 in
     let grows = c.in_ok-add_all.ensures.grows in
     let on_board : c.in-Some.to < c.add_all.new.table.vertices = subst (λ (n : ℕ). c.in-Some.to < n) (sym (grows.vertices ∙ c.requires.right.sound.laid_out.vertices)) c.in-Some.ensures.is_vertex in
-    let same : c.entry-entry.result ≡ entry_at c.add_all.new.table m c.in-Some.to =
-    c.entry-entry.ensures.entry ∙ ap (λ (k : ℕ). entry_at c.args.table.now k c.in-Some.to) c.after.ensures ∙ sym (entry_grown_same c.args.table.now c.add_all.new.table grows m c.in-Some.to) in
-    told_behind c.args.ground.now c.args.lists.now c.add_all.new.table c.add_all.new.parts.items c.entry-entry.result.ends c.args.vertex c.args.position c.in-Some.to (c.is_shift.ensures.0 c.if-not-is_shift.false)
+    let same : c.entry_there-entry.result ≡ entry_at c.add_all.new.table m c.in-Some.to =
+    c.entry_there-entry.ensures.entry ∙ ap (λ (k : ℕ). entry_at c.args.table.now k c.in-Some.to) c.after.ensures ∙ sym (entry_grown_same c.args.table.now c.add_all.new.table grows m c.in-Some.to) in
+    told_behind c.args.ground.now c.args.lists.now c.add_all.new.table c.add_all.new.parts.items c.entry_there-entry.result.ends c.args.vertex c.args.position c.in-Some.to (c.is_shift.ensures.0 c.if-not-is_shift.false)
     (λ w comes. some_same (sym c.in-Some.is ∙ (c.to.ensures.comes w).1 comes)) on_board
-    (subst (λ (e : Entry). IsUnder c.add_all.new.table e c.add_all.new.parts.items c.entry-entry.result.ends) same
-    (added_under c.args.table.now c.add_all.new.table c.args.parts.now.items c.add_all.new.parts.items c.entry-entry.result c.entry-entry.ensures.within c.in_ok-add_all.ensures))
+    (subst (λ (e : Entry). IsUnder c.add_all.new.table e c.add_all.new.parts.items c.entry_there-entry.result.ends) same
+    (added_under c.args.table.now c.add_all.new.table c.args.parts.now.items c.add_all.new.parts.items c.entry_there-entry.result c.entry_there-entry.ensures.within c.in_ok-add_all.ensures))
