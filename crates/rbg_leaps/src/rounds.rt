@@ -160,7 +160,7 @@ fn blank(alloc: Global, lists: &Lists, ground: &Ground<'_>) -> Result<Table, Mem
     let Some(places) = nodes.checked_mul(vertices) else {
         return Err(AllocError);
     };
-    let words = units(alloc, vertices, columns)?;
+    let words = units(alloc, vertices, columns, places)?;
     let table = Table::new(alloc, nodes, vertices, places, columns, words)?;
     Ok(table)
 }

@@ -74,12 +74,17 @@ fn push_unit(words: &mut Vec<u64>, columns: usize, vertex: usize) -> Result<(), 
     Ok(())
 }
 
-/// For each vertex the row that has it alone, one after another.
-pub(crate) fn units(alloc: Global, vertices: usize, columns: usize) -> Result<Vec<u64>, Memory>
+/// For each vertex the row that has it alone, one after another, with room for so many words.
+pub(crate) fn units(
+    alloc: Global,
+    vertices: usize,
+    columns: usize,
+    room: usize,
+) -> Result<Vec<u64>, Memory>
     requires { vertices ≤ columns * 64 }
     ensures { IfOk result (λ words. AreUnits columns vertices words.items) }
 {
-    let mut words = Vec::new(alloc);
+    let mut words = Vec::with_capacity(alloc, room)?;
     for vertex in 0..vertices {
         push_unit(&mut words, columns, vertex)?;
     }

@@ -86,7 +86,8 @@ impl Table {
         Ok(entries)
     }
 
-    /// With nothing told at so many places, one for each node and each vertex.
+    /// With nothing told at so many places, one for each node and each vertex. Most places have one target or two, so there
+    /// is room for one each: to grow from nothing would copy them again and again.
     pub(crate) fn new(
         alloc: Global,
         nodes: usize,
@@ -105,7 +106,7 @@ impl Table {
             vertices,
             columns,
             entries: Table::empty_entries(alloc, nodes, vertices, places)?,
-            targets: Vec::new(alloc),
+            targets: Vec::with_capacity(alloc, places)?,
             words,
         })
     }
