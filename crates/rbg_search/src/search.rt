@@ -29,7 +29,7 @@ ghost use Rattle.rbg_search.specs.internal.Spent.{IsSpent, IsSpentButOne};
 ghost use Rattle.rbg_search.specs.internal.Straight.{IsWalked};
 
 use crate::answer::is_valid;
-use crate::fitting::{fitting, fitting_sets};
+use crate::fitting::{fitting_sets, flats_for, keep_flats};
 use crate::only::only_modifier;
 use crate::order::sort;
 use crate::over::Over;
@@ -217,8 +217,7 @@ impl<'a, S: Steps> Search<'a, S> {
         ensures taken { result.taken ≡ 0 }
         ensures tally { workspace.new ≡ workspace.old }
     {
-        let flats = replace(&mut workspace.flats, Vec::new(alloc));
-        let flats = fitting(alloc, game, flats);
+        let flats = flats_for(alloc, game, paths, workspace);
         let sets = replace(&mut workspace.sets, Vec::new(alloc));
         let sets = fitting_sets(alloc, game, sets);
         let lists = replace(&mut workspace.lists, Vec::new(alloc));
@@ -235,7 +234,7 @@ impl<'a, S: Steps> Search<'a, S> {
     {
         workspace.openings = workspace.openings.saturating_add(u64::from(self.opened));
         workspace.pairs = workspace.pairs.saturating_add(self.taken);
-        workspace.flats = self.flats;
+        keep_flats(workspace, self.flats);
         workspace.sets = self.sets;
         workspace.lists = self.lists;
     }
