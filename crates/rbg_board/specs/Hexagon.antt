@@ -2,7 +2,8 @@
 use Rattle.std.specs.Prelude.{◌≡◌, ℕ, zero, suc, ◌+◌, ◌<◌, ◌≤◌, ◌⊎◌, List, length, slice_index}
 use Rattle.std.specs.List.{concat}
 use Rattle.rbg_board.specs.Graph.{Graph, IsGraphOf}
-use Rattle.rbg_board.specs.Cells.{Rows, cells_in, IsCell, number_along, HasTwice, AreDifferent}
+use Rattle.rbg_board.specs.Cells.{Rows, cells_in, number_along, HasTwice, AreDifferent}
+use Rattle.rbg_board.specs.Steps.{IsStep}
 use Rattle.rbg_board.specs.declared.error.BoardError.{BoardError}
 use Rattle.rbg_board.specs.declared.error.BoardError.TheVariants.{NoCell, RowLength, TooManyVertices, SameDirection, UnknownVertex, SameVertex, Memory}
 use Rattle.rbg_board.specs.Limits.{most_vertices}
@@ -59,16 +60,8 @@ CompassStep rows SouthWest r c r' c' = SouthWestStep rows r c r' c'
 CompassStep rows West r c r' c' = (r' ≡ r) × (c ≡ c' + 1)
 
 -- the vertex u is that of the next cell, that way, from the cell of the vertex v
-pub record IsNextCell (rows : Rows) (way : Compass) (v u : ℕ) : Type 0 where
-  pub row : ℕ
-  pub cell : ℕ
-  pub to_row : ℕ
-  pub to_cell : ℕ
-  pub step : CompassStep rows way row cell to_row to_cell
-  pub is_cell : IsCell rows row cell
-  pub is_to_cell : IsCell rows to_row to_cell
-  pub number : v ≡ number_along rows row cell
-  pub to_number : u ≡ number_along rows to_row to_cell
+abbrev pub IsNextCell : Rows → Compass → ℕ → ℕ → Type 0
+IsNextCell rows way = IsStep rows (CompassStep rows way) (number_along rows)
 
 -- the edges of a hexagon: the direction d leads from the vertex v to the vertex u
 pub record HexagonEdge (directions : List ℕ) (rows : Rows) (v d u : ℕ) : Type 0 where

@@ -9,19 +9,19 @@ use Rattle.rbg_board.specs.Written.{Written, WrittenEdge, MakesGraph}
 abbrev pub LeadsOneWay : (ℕ → ℕ → ℕ → Type 0) → Type 0
 LeadsOneWay Edge = (v d u w : ℕ) → Edge v d u → Edge v d w → u ≡ w
 
-abbrev pub RectanglesLeadOneWay : Type 0
-RectanglesLeadOneWay =
+-- the same of boards of rows with so many directions
+abbrev pub RowsLeadOneWay : ℕ → (List ℕ → Rows → Type 0) → (List ℕ → Rows → ℕ → ℕ → ℕ → Type 0) → Type 0
+RowsLeadOneWay count Makes Edge =
     (directions : List ℕ) (rows : Rows)
-    → length directions ≡ 4
-    → MakesRectangle directions rows
-    → LeadsOneWay (RectangleEdge directions rows)
+    → length directions ≡ count
+    → Makes directions rows
+    → LeadsOneWay (Edge directions rows)
+
+abbrev pub RectanglesLeadOneWay : Type 0
+RectanglesLeadOneWay = RowsLeadOneWay 4 MakesRectangle RectangleEdge
 
 abbrev pub HexagonsLeadOneWay : Type 0
-HexagonsLeadOneWay =
-    (directions : List ℕ) (rows : Rows)
-    → length directions ≡ 6
-    → MakesHexagon directions rows
-    → LeadsOneWay (HexagonEdge directions rows)
+HexagonsLeadOneWay = RowsLeadOneWay 6 MakesHexagon HexagonEdge
 
 abbrev pub GraphsLeadOneWay : Type 0
 GraphsLeadOneWay = (vertices : List Written) → MakesGraph vertices → LeadsOneWay (WrittenEdge vertices)

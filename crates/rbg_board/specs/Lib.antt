@@ -3,6 +3,7 @@ pub mod Limits
 pub mod Graph
 pub mod Table
 pub mod Cells
+pub mod Steps
 pub mod Sites
 pub mod Shapes
 pub mod Rectangle

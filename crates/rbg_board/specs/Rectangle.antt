@@ -3,6 +3,7 @@ use Rattle.std.specs.Prelude.{◌≡◌, ◌≢◌, ℕ, ◌+◌, ◌*◌, ◌<�
 use Rattle.std.specs.List.{concat}
 use Rattle.rbg_board.specs.Graph.{Graph, IsGraphOf}
 use Rattle.rbg_board.specs.Cells.{Rows, cells_in, IsCell, HasTwice, AreDifferent}
+use Rattle.rbg_board.specs.Steps.{IsStep}
 use Rattle.rbg_board.specs.declared.error.BoardError.{BoardError}
 use Rattle.rbg_board.specs.declared.error.BoardError.TheVariants.{NoCell, RowLength, TooManyVertices, SameDirection, UnknownVertex, SameVertex, Memory}
 use Rattle.rbg_board.specs.Limits.{most_vertices}
@@ -35,16 +36,8 @@ SideStep Left r c r' c' = (r' ≡ r) × (c ≡ c' + 1)
 SideStep Right r c r' c' = (r' ≡ r) × (c' ≡ c + 1)
 
 -- the vertex u is that of the cell beside the cell of the vertex v, on that side
-pub record IsBeside (rows : Rows) (side : RectangleSide) (v u : ℕ) : Type 0 where
-  pub row : ℕ
-  pub cell : ℕ
-  pub to_row : ℕ
-  pub to_cell : ℕ
-  pub step : SideStep side row cell to_row to_cell
-  pub is_cell : IsCell rows row cell
-  pub is_to_cell : IsCell rows to_row to_cell
-  pub number : v ≡ row * cells_in rows 0 + cell
-  pub to_number : u ≡ to_row * cells_in rows 0 + to_cell
+abbrev pub IsBeside : Rows → RectangleSide → ℕ → ℕ → Type 0
+IsBeside rows side = IsStep rows (SideStep side) (λ r c. r * cells_in rows 0 + c)
 
 -- the edges of a rectangle: the direction d leads from the vertex v to the vertex u
 pub record RectangleEdge (directions : List ℕ) (rows : Rows) (v d u : ℕ) : Type 0 where

@@ -17,10 +17,10 @@ pub returns-clause-board : goal.returns-clause-board
 returns-clause-board c =
     let six : length c.args.directions ≡ 6 = search rules in
     let makes : MakesHexagon c.args.directions (rows_of c.args.rows.now) = search rules in
-    hexagon_board c.args.directions (rows_of c.args.rows.now) c.table_width.result c.in_ok-board.board makes six c.table_width.ensures.covers c.in_ok-board.ensures.board
+    hexagon_board c.args.directions (rows_of c.args.rows.now) makes six c.table_width.result c.in_ok-board.board c.table_width.ensures.covers c.in_ok-board.ensures.board
 
 pub returns-clause-directions : goal.returns-clause-directions
 returns-clause-directions c =
     let six : length c.args.directions ≡ 6 = search rules in
     let makes : MakesHexagon c.args.directions (rows_of c.args.rows.now) = search rules in
-    hexagon_uses c.args.directions (rows_of c.args.rows.now) c.table_width.result c.in_ok-board.board makes six c.table_width.ensures.covers c.in_ok-board.ensures.board
+    hexagon_uses c.args.directions (rows_of c.args.rows.now) makes six c.table_width.result c.in_ok-board.board c.table_width.ensures.covers c.in_ok-board.ensures.board

@@ -9,10 +9,10 @@ pub returns-clause-board : goal.returns-clause-board
 returns-clause-board c =
     let four : length c.args.directions ≡ 4 = search rules in
     let makes : MakesRectangle c.args.directions (rows_of c.args.rows.now) = search rules in
-    rectangle_board c.args.directions (rows_of c.args.rows.now) c.table_width.result c.in_ok-board.board makes four c.table_width.ensures.covers c.in_ok-board.ensures.board
+    rectangle_board c.args.directions (rows_of c.args.rows.now) makes four c.table_width.result c.in_ok-board.board c.table_width.ensures.covers c.in_ok-board.ensures.board
 
 pub returns-clause-directions : goal.returns-clause-directions
 returns-clause-directions c =
     let four : length c.args.directions ≡ 4 = search rules in
     let makes : MakesRectangle c.args.directions (rows_of c.args.rows.now) = search rules in
-    rectangle_uses c.args.directions (rows_of c.args.rows.now) c.table_width.result c.in_ok-board.board makes four c.table_width.ensures.covers c.in_ok-board.ensures.board
+    rectangle_uses c.args.directions (rows_of c.args.rows.now) makes four c.table_width.result c.in_ok-board.board c.table_width.ensures.covers c.in_ok-board.ensures.board
