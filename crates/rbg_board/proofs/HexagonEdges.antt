@@ -50,12 +50,7 @@ way_at (suc (suc (suc (suc zero)))) = SouthWest
 way_at (suc (suc (suc (suc (suc n))))) = West
 
 pub way_at_place : (way : Compass) → way_at (way_place way) ≡ way
-way_at_place NorthWest = refl
-way_at_place NorthEast = refl
-way_at_place East = refl
-way_at_place SouthEast = refl
-way_at_place SouthWest = refl
-way_at_place West = refl
+way_at_place way = elim way as (λ w. way_at (way_place w) ≡ w) [ NorthWest ↦ refl | NorthEast ↦ refl | East ↦ refl | SouthEast ↦ refl | SouthWest ↦ refl | West ↦ refl ]
 
 pub way_place_at : (k : ℕ) → k < 6 → way_place (way_at k) ≡ k
 way_place_at zero within = refl
@@ -67,20 +62,10 @@ way_place_at (suc (suc (suc (suc (suc zero))))) within = refl
 way_place_at (suc (suc (suc (suc (suc (suc k)))))) within = absurd (omega arith)
 
 pub way_place_below : (way : Compass) → way_place way < 6
-way_place_below NorthWest = omega arith
-way_place_below NorthEast = omega arith
-way_place_below East = omega arith
-way_place_below SouthEast = omega arith
-way_place_below SouthWest = omega arith
-way_place_below West = omega arith
+way_place_below way = elim way as (λ w. way_place w < 6) [ NorthWest ↦ omega arith | NorthEast ↦ omega arith | East ↦ omega arith | SouthEast ↦ omega arith | SouthWest ↦ omega arith | West ↦ omega arith ]
 
 pub way_direction_at : (directions : List ℕ) (way : Compass) → compass_direction directions way ≡ get_or directions (way_place way) 0
-way_direction_at directions NorthWest = refl
-way_direction_at directions NorthEast = refl
-way_direction_at directions East = refl
-way_direction_at directions SouthEast = refl
-way_direction_at directions SouthWest = refl
-way_direction_at directions West = refl
+way_direction_at directions way = elim way as (λ w. compass_direction directions w ≡ get_or directions (way_place w) 0) [ NorthWest ↦ refl | NorthEast ↦ refl | East ↦ refl | SouthEast ↦ refl | SouthWest ↦ refl | West ↦ refl ]
 
 abbrev pub points : AreWays Compass 6 compass_direction
 points = record { place = way_place; at = way_at; at_place = way_at_place; place_at = way_place_at; below = way_place_below; direction_at = way_direction_at }

@@ -27,10 +27,7 @@ side_at (suc (suc zero)) = Left
 side_at (suc (suc (suc n))) = Right
 
 pub side_at_place : (side : RectangleSide) → side_at (side_place side) ≡ side
-side_at_place Up = refl
-side_at_place Down = refl
-side_at_place Left = refl
-side_at_place Right = refl
+side_at_place side = elim side as (λ s. side_at (side_place s) ≡ s) [ Up ↦ refl | Down ↦ refl | Left ↦ refl | Right ↦ refl ]
 
 pub side_place_at : (k : ℕ) → k < 4 → side_place (side_at k) ≡ k
 side_place_at zero within = refl
@@ -40,16 +37,10 @@ side_place_at (suc (suc (suc zero))) within = refl
 side_place_at (suc (suc (suc (suc k)))) within = absurd (omega arith)
 
 pub side_place_below : (side : RectangleSide) → side_place side < 4
-side_place_below Up = omega arith
-side_place_below Down = omega arith
-side_place_below Left = omega arith
-side_place_below Right = omega arith
+side_place_below side = elim side as (λ s. side_place s < 4) [ Up ↦ omega arith | Down ↦ omega arith | Left ↦ omega arith | Right ↦ omega arith ]
 
 pub side_direction_at : (directions : List ℕ) (side : RectangleSide) → side_direction directions side ≡ get_or directions (side_place side) 0
-side_direction_at directions Up = refl
-side_direction_at directions Down = refl
-side_direction_at directions Left = refl
-side_direction_at directions Right = refl
+side_direction_at directions side = elim side as (λ s. side_direction directions s ≡ get_or directions (side_place s) 0) [ Up ↦ refl | Down ↦ refl | Left ↦ refl | Right ↦ refl ]
 
 abbrev pub sides : AreWays RectangleSide 4 side_direction
 sides = record { place = side_place; at = side_at; at_place = side_at_place; place_at = side_place_at; below = side_place_below; direction_at = side_direction_at }

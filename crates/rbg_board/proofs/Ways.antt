@@ -98,16 +98,18 @@ step_left rows r c u some =
     let found = here_some rows r c previous.0 u previous.2 in
     record { to_row = r; to_cell = previous.0; step = (refl, cell_before_some c previous.0 previous.1); is_to_cell = found.0; to_number = found.1 }
 
--- a step back
-pub step_back : (rows : Rows) (Step Back : ℕ → ℕ → ℕ → ℕ → Type 0) (number : ℕ → ℕ → ℕ) (v u : ℕ) → ((r c r' c' : ℕ) → Step r c r' c' → Back r' c' r c) → IsStep rows Step number v u → IsStep rows Back number u v
-step_back rows Step Back number v u back there = record {
-  row = there.to_row;
-  cell = there.to_cell;
-  to_row = there.row;
-  to_cell = there.cell;
-  step = back there.row there.cell there.to_row there.to_cell there.step;
-  is_cell = there.is_to_cell;
-  is_to_cell = there.is_cell;
-  from_number = there.to_number;
-  to_number = there.from_number;
-}
+-- a step back is one in the opposite way
+pub way_back : {Way : Type 0} (opposite : Way → Way) (Step : Way → ℕ → ℕ → ℕ → ℕ → Type 0) → ((way : Way) (r c r' c' : ℕ) → Step way r c r' c' → Step (opposite way) r' c' r c)
+    → (rows : Rows) (number : ℕ → ℕ → ℕ) (there way : Way) (v u : ℕ) → there ≡ way → IsStep rows (Step there) number v u → IsStep rows (Step (opposite way)) number u v
+way_back opposite Step back rows number there way v u same step =
+    subst (λ w. IsStep rows (Step (opposite w)) number u v) same (record {
+      row = step.to_row;
+      cell = step.to_cell;
+      to_row = step.row;
+      to_cell = step.cell;
+      step = back there step.row step.cell step.to_row step.to_cell step.step;
+      is_cell = step.is_to_cell;
+      is_to_cell = step.is_cell;
+      from_number = step.to_number;
+      to_number = step.from_number;
+    })
