@@ -251,7 +251,7 @@ module _ (directions : List ℕ) (rows : Rows) (makes : MakesHexagon directions 
   unfolding hexagon_leads
   edge_of_leads r c d u is_cell leads =
       let way = way_of_direction Compass 6 compass_direction points directions six (first_six directions) (is_first_six directions six) (hexagon_vertices (site_at rows r c)) d u leads in
-      let to = way_cell rows makes.grows_then_shrinks r c is_cell way.way u way.vertex in
+      let to = way_cell rows makes.lawful r c is_cell way.way u way.vertex in
       record {
         way = way.way;
         direction = way.is_direction;

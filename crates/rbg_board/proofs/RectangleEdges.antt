@@ -86,11 +86,11 @@ module _ (directions : List ℕ) (rows : Rows) (makes : MakesRectangle direction
         row = beside.row;
         cell = beside.cell;
         is_cell = beside.is_cell;
-        number = beside.from_number ∙ sym (even_number rows beside.row beside.cell makes.even beside.is_cell);
+        number = beside.from_number ∙ sym (even_number rows beside.row beside.cell makes.lawful beside.is_cell);
         led = ap (rectangle_leads directions site) edge.direction
             ∙ leads_that_way RectangleSide 4 side_direction sides directions four (first_four directions) (is_first_four directions four) (rectangle_vertices site) refl makes.different edge.side
             ∙ cell_side rows edge.side beside.row beside.cell beside.to_row beside.to_cell beside.step beside.is_to_cell
-            ∙ ap Some (even_number rows beside.to_row beside.to_cell makes.even beside.is_to_cell ∙ sym beside.to_number);
+            ∙ ap Some (even_number rows beside.to_row beside.to_cell makes.lawful beside.is_to_cell ∙ sym beside.to_number);
       }
 
   -- and the code where an edge does
@@ -110,8 +110,8 @@ module _ (directions : List ℕ) (rows : Rows) (makes : MakesRectangle direction
           step = to.step;
           is_cell = is_cell;
           is_to_cell = to.is_to_cell;
-          from_number = even_number rows r c makes.even is_cell;
-          to_number = to.to_number ∙ even_number rows to.to_row to.to_cell makes.even to.is_to_cell;
+          from_number = even_number rows r c makes.lawful is_cell;
+          to_number = to.to_number ∙ even_number rows to.to_row to.to_cell makes.lawful to.is_to_cell;
         };
       }
 

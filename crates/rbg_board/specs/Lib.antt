@@ -6,6 +6,7 @@ pub mod Cells
 pub mod Steps
 pub mod Sites
 pub mod Shapes
+pub mod RowLaws
 pub mod Rectangle
 pub mod Hexagon
 pub mod Written
