@@ -17,6 +17,10 @@ after_at-taken s read (t ∷ ts) e = rw e
 abbrev pub prepend : {A : Type 0} → List A → Reading (List A) → Reading (List A)
 prepend xs r = r >>= λ m. Ok (xs ++ m.0, m.1)
 
+-- Of tokens a first part and so many turns are read where these were read before, and the rest from these tokens on.
+abbrev pub ReadsOn : {A : Type 0} → A → (TokenKind → Bool) → (List Lexeme → Reading A) → List Lexeme → List A → List Lexeme → Type 0
+ReadsOn first test read from before rest = further_at first test read from ≡ prepend before (repeated_at test read rest)
+
 prepend-cons : {A : Type 0} (xs : List A) (x : A) (r : Reading (List A)) → prepend xs (r >>= λ m. Ok (x ∷ m.0, m.1)) ≡ prepend (xs ++ x ∷ []) r
 prepend-cons xs x (Ok m) = ap (λ l. Ok (l, m.1)) (sym (append_assoc xs (x ∷ []) m.0))
 prepend-cons xs x (Err e) = refl
