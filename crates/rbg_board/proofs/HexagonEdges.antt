@@ -32,6 +32,22 @@ module _ (site : Site) (cells : ℕ) where
   unfolding cell_right
   right_shorter shorter = cond-false (nat_lt site.here cells) (site.cell + 1) site.cell (le-ltb site.here cells shorter)
 
+  -- the vertex at such a cell
+  left_some : (vertex : ℕ → Option ℕ) (u : ℕ) → at_cell vertex (cell_left site cells) ≡ Some u
+      → ((site.here < cells) × (vertex site.cell ≡ Some u)) ⊎ ((cells ≤ site.here) × ((to : ℕ) × (site.cell ≡ to + 1) × (vertex to ≡ Some u)))
+  left_some vertex u some = elim (cases_lt site.here cells) [
+    | inl longer ↦ inl (longer, sym (ap (at_cell vertex) (left_longer longer)) ∙ some)
+    | inr shorter ↦
+        let (to, before, here) = at_cell_some vertex (cell_before site.cell) u (sym (ap (at_cell vertex) (left_shorter shorter)) ∙ some) in
+        inr (shorter, (to, cell_before_some site.cell to before, here))
+  ]
+
+  right_some : (vertex : ℕ → Option ℕ) (u : ℕ) → vertex (cell_right site cells) ≡ Some u → ((site.here < cells) × (vertex (site.cell + 1) ≡ Some u)) ⊎ ((cells ≤ site.here) × (vertex site.cell ≡ Some u))
+  right_some vertex u some = elim (cases_lt site.here cells) [
+    | inl longer ↦ inl (longer, sym (ap vertex (right_longer longer)) ∙ some)
+    | inr shorter ↦ inr (shorter, sym (ap vertex (right_shorter shorter)) ∙ some)
+  ]
+
 -- the place of a way's direction, and the way of a place
 abbrev way_place : Compass → ℕ
 way_place NorthWest = 0
@@ -97,34 +113,23 @@ module _ (rows : Rows) (lawful : GrowsThenShrinks rows) where
   shrinks r c is_cell shorter = elim (grows_or_shrinks r c is_cell) [ inl grown ↦ absurd (omega arith) | inr shrunk ↦ shrunk ]
 
   module _ (r c : ℕ) (is_cell : IsCell rows r c) where
+    -- a vertex in the row below is that of a cell there
+    in_row_below : (Step : ℕ → Type 0) (to u : ℕ) → vertex_below (site_at rows r c) to ≡ Some u → (IsCell rows (r + 1) to → Step to) → IsStepped rows (λ r' c'. (r' ≡ r + 1) × Step c') u
+    in_row_below Step to u some step =
+        let found = below_some rows r c to u some in
+        record { to_row = r + 1; to_cell = to; step = (refl, step found.0); is_to_cell = found.0; to_number = found.1 }
+
     south_west : (u : ℕ) → way_vertex SouthWest (site_at rows r c) ≡ Some u → IsWayCell rows SouthWest r c u
-    south_west u some =
-        let vertex = vertex_below (site_at rows r c) in
-        elim (cases_lt (cells_in rows r) (cells_in rows (r + 1))) [
-          | inl longer ↦
-              let left = left_longer (site_at rows r c) (cells_in rows (r + 1)) longer in
-              let found = below_some rows r c c u (sym (ap (at_cell vertex) left) ∙ some) in
-              record { to_row = r + 1; to_cell = c; step = (refl, inl (grows r c found.0 longer, refl)); is_to_cell = found.0; to_number = found.1 }
-          | inr shorter ↦
-              let left = left_shorter (site_at rows r c) (cells_in rows (r + 1)) shorter in
-              let previous = at_cell_some vertex (cell_before c) u (sym (ap (at_cell vertex) left) ∙ some) in
-              let found = below_some rows r c previous.0 u previous.2 in
-              record { to_row = r + 1; to_cell = previous.0; step = (refl, inr (shrinks r previous.0 found.0 shorter, cell_before_some c previous.0 previous.1)); is_to_cell = found.0; to_number = found.1 }
-        ]
+    south_west u some = elim (left_some (site_at rows r c) (cells_in rows (r + 1)) (vertex_below (site_at rows r c)) u some) [
+      | inl (longer, here) ↦ in_row_below _ c u here (λ there. inl (grows r c there longer, refl))
+      | inr (shorter, (to, before, here)) ↦ in_row_below _ to u here (λ there. inr (shrinks r to there shorter, before))
+    ]
 
     south_east : (u : ℕ) → way_vertex SouthEast (site_at rows r c) ≡ Some u → IsWayCell rows SouthEast r c u
-    south_east u some =
-        let vertex = vertex_below (site_at rows r c) in
-        elim (cases_lt (cells_in rows r) (cells_in rows (r + 1))) [
-          | inl longer ↦
-              let right = right_longer (site_at rows r c) (cells_in rows (r + 1)) longer in
-              let found = below_some rows r c (c + 1) u (sym (ap vertex right) ∙ some) in
-              record { to_row = r + 1; to_cell = c + 1; step = (refl, inl (grows r (c + 1) found.0 longer, refl)); is_to_cell = found.0; to_number = found.1 }
-          | inr shorter ↦
-              let right = right_shorter (site_at rows r c) (cells_in rows (r + 1)) shorter in
-              let found = below_some rows r c c u (sym (ap vertex right) ∙ some) in
-              record { to_row = r + 1; to_cell = c; step = (refl, inr (shrinks r c found.0 shorter, refl)); is_to_cell = found.0; to_number = found.1 }
-        ]
+    south_east u some = elim (right_some (site_at rows r c) (cells_in rows (r + 1)) (vertex_below (site_at rows r c)) u some) [
+      | inl (longer, here) ↦ in_row_below _ (c + 1) u here (λ there. inl (grows r (c + 1) there longer, refl))
+      | inr (shorter, here) ↦ in_row_below _ c u here (λ there. inr (shrinks r c there shorter, refl))
+    ]
 
     -- the cell itself lies in the row after the one above
     cell_below_above : (k : ℕ) → r ≡ k + 1 → IsCell rows (k + 1) c
@@ -142,34 +147,23 @@ module _ (rows : Rows) (lawful : GrowsThenShrinks rows) where
       | inr shrunk ↦ shrunk
     ]
 
+    -- a vertex in the row above is that of a cell there
+    in_row_above : (Step : ℕ → ℕ → Type 0) (to u : ℕ) → vertex_above (site_at rows r c) to ≡ Some u → ((k : ℕ) → r ≡ k + 1 → Step k to) → IsStepped rows (λ r' c'. (r ≡ r' + 1) × Step r' c') u
+    in_row_above Step to u some step =
+        let (k, next, is_to_cell, number) = above_some rows r c to u some in
+        record { to_row = k; to_cell = to; step = (next, step k next); is_to_cell = is_to_cell; to_number = number }
+
     north_west : (u : ℕ) → way_vertex NorthWest (site_at rows r c) ≡ Some u → IsWayCell rows NorthWest r c u
-    north_west u some =
-        let vertex = vertex_above (site_at rows r c) in
-        elim (cases_lt (cells_in rows r) (cells_above rows r)) [
-          | inl longer ↦
-              let left = left_longer (site_at rows r c) (cells_above rows r) longer in
-              let found = above_some rows r c c u (sym (ap (at_cell vertex) left) ∙ some) in
-              record { to_row = found.0; to_cell = c; step = (found.1, inr (shrinks_above found.0 found.1 longer, refl)); is_to_cell = found.2; to_number = found.3 }
-          | inr shorter ↦
-              let left = left_shorter (site_at rows r c) (cells_above rows r) shorter in
-              let previous = at_cell_some vertex (cell_before c) u (sym (ap (at_cell vertex) left) ∙ some) in
-              let found = above_some rows r c previous.0 u previous.2 in
-              record { to_row = found.0; to_cell = previous.0; step = (found.1, inl (grows_above found.0 found.1 shorter, cell_before_some c previous.0 previous.1)); is_to_cell = found.2; to_number = found.3 }
-        ]
+    north_west u some = elim (left_some (site_at rows r c) (cells_above rows r) (vertex_above (site_at rows r c)) u some) [
+      | inl (longer, here) ↦ in_row_above _ c u here (λ k next. inr (shrinks_above k next longer, refl))
+      | inr (shorter, (to, before, here)) ↦ in_row_above _ to u here (λ k next. inl (grows_above k next shorter, before))
+    ]
 
     north_east : (u : ℕ) → way_vertex NorthEast (site_at rows r c) ≡ Some u → IsWayCell rows NorthEast r c u
-    north_east u some =
-        let vertex = vertex_above (site_at rows r c) in
-        elim (cases_lt (cells_in rows r) (cells_above rows r)) [
-          | inl longer ↦
-              let right = right_longer (site_at rows r c) (cells_above rows r) longer in
-              let found = above_some rows r c (c + 1) u (sym (ap vertex right) ∙ some) in
-              record { to_row = found.0; to_cell = c + 1; step = (found.1, inr (shrinks_above found.0 found.1 longer, refl)); is_to_cell = found.2; to_number = found.3 }
-          | inr shorter ↦
-              let right = right_shorter (site_at rows r c) (cells_above rows r) shorter in
-              let found = above_some rows r c c u (sym (ap vertex right) ∙ some) in
-              record { to_row = found.0; to_cell = c; step = (found.1, inl (grows_above found.0 found.1 shorter, refl)); is_to_cell = found.2; to_number = found.3 }
-        ]
+    north_east u some = elim (right_some (site_at rows r c) (cells_above rows r) (vertex_above (site_at rows r c)) u some) [
+      | inl (longer, here) ↦ in_row_above _ (c + 1) u here (λ k next. inr (shrinks_above k next longer, refl))
+      | inr (shorter, here) ↦ in_row_above _ c u here (λ k next. inl (grows_above k next shorter, refl))
+    ]
 
     -- a vertex that way is that of the next cell that way
     way_cell : (way : Compass) (u : ℕ) → way_vertex way (site_at rows r c) ≡ Some u → IsWayCell rows way r c u
@@ -199,26 +193,24 @@ module _ (rows : Rows) (r c r' c' : ℕ) (is_to_cell : IsCell rows r' c') where
         | inr shrunk ↦ ap vertex (right_shorter (site_at rows r c) (cells_in rows (r + 1)) (omega (arith, shrunk.0))) ∙ ap vertex (sym shrunk.1) ∙ at_below rows r c r' c' is_to_cell step.0
       ]
 
+  -- the row above is not longer where it grows, and longer where it shrinks
+  not_longer : r ≡ r' + 1 → Grows rows r' → cells_above rows r ≤ cells_in rows r
+  not_longer next grown = omega (arith, above_is rows r r' next, ap (cells_in rows) next, grown)
+
+  longer : r ≡ r' + 1 → Shrinks rows r' → cells_in rows r < cells_above rows r
+  longer next shrunk = omega (arith, above_is rows r r' next, ap (cells_in rows) next, shrunk)
+
   to_north_west : SouthEastStep rows r' c' r c → way_vertex NorthWest (site_at rows r c) ≡ Some (number_along rows r' c')
-  to_north_west step =
-      let vertex = vertex_above (site_at rows r c) in
-      let above = above_is rows r r' step.0 in
-      let here = ap (cells_in rows) step.0 in
-      elim step.1 [
-        | inl grown ↦
-            ap (at_cell vertex) (left_shorter (site_at rows r c) (cells_above rows r) (omega (arith, above, here, grown.0))) ∙ ap (at_cell vertex) (some_cell_before c c' grown.1) ∙ at_above rows r c r' c' is_to_cell step.0
-        | inr shrunk ↦ ap (at_cell vertex) (left_longer (site_at rows r c) (cells_above rows r) (omega (arith, above, here, shrunk.0))) ∙ ap vertex shrunk.1 ∙ at_above rows r c r' c' is_to_cell step.0
-      ]
+  to_north_west step = elim step.1 [
+    | inl grown ↦ ap (at_cell (vertex_above (site_at rows r c))) (left_shorter (site_at rows r c) (cells_above rows r) (not_longer step.0 grown.0) ∙ some_cell_before c c' grown.1) ∙ at_above rows r c r' c' is_to_cell step.0
+    | inr shrunk ↦ ap (at_cell (vertex_above (site_at rows r c))) (left_longer (site_at rows r c) (cells_above rows r) (longer step.0 shrunk.0) ∙ ap Some shrunk.1) ∙ at_above rows r c r' c' is_to_cell step.0
+  ]
 
   to_north_east : SouthWestStep rows r' c' r c → way_vertex NorthEast (site_at rows r c) ≡ Some (number_along rows r' c')
-  to_north_east step =
-      let vertex = vertex_above (site_at rows r c) in
-      let above = above_is rows r r' step.0 in
-      let here = ap (cells_in rows) step.0 in
-      elim step.1 [
-        | inl grown ↦ ap vertex (right_shorter (site_at rows r c) (cells_above rows r) (omega (arith, above, here, grown.0))) ∙ ap vertex grown.1 ∙ at_above rows r c r' c' is_to_cell step.0
-        | inr shrunk ↦ ap vertex (right_longer (site_at rows r c) (cells_above rows r) (omega (arith, above, here, shrunk.0))) ∙ ap vertex (sym shrunk.1) ∙ at_above rows r c r' c' is_to_cell step.0
-      ]
+  to_north_east step = elim step.1 [
+    | inl grown ↦ ap (vertex_above (site_at rows r c)) (right_shorter (site_at rows r c) (cells_above rows r) (not_longer step.0 grown.0) ∙ grown.1) ∙ at_above rows r c r' c' is_to_cell step.0
+    | inr shrunk ↦ ap (vertex_above (site_at rows r c)) (right_longer (site_at rows r c) (cells_above rows r) (longer step.0 shrunk.0) ∙ sym shrunk.1) ∙ at_above rows r c r' c' is_to_cell step.0
+  ]
 
   cell_way : (way : Compass) → CompassStep rows way r c r' c' → way_vertex way (site_at rows r c) ≡ Some (number_along rows r' c')
   cell_way NorthWest step = to_north_west step
