@@ -1,5 +1,5 @@
 -- Boards of rows by the numbers of their names: the board, and what is wrong with it.
-use Rattle.std.proofs.Common.{◌≡◌, ◌≢◌, ◌↔◌, ℕ, ◌<◌, ◌≤◌, List, [], ◌∷◌, Some, length, get_or, slice_get, slice_index, All, sym, ap, ◌∙◌, subst, arith}
+use Rattle.std.proofs.Common.{◌≡◌, ◌≢◌, ◌↔◌, ℕ, ◌<◌, ◌≤◌, List, [], Some, length, get_or, slice_get, slice_index, All, sym, ap, ◌∙◌, subst, arith}
 use Rattle.std.specs.List.{AllZip, concat, range_with_len}
 use Rattle.std.proofs.lemmas.List.{length-map, get_or-map}
 use Rattle.std.proofs.lemmas.Option.{slice_get-get_or}

@@ -4,7 +4,7 @@ use Rattle.std.specs.Prelude.{Contains}
 use Rattle.std.specs.List.{AllZip}
 use Rattle.std.proofs.lemmas.List.{length-append}
 use Rattle.rbg_grammar.specs.Tree.{SpeltName, SpeltExpression, SpeltTerms, no_terms, SpeltFactors, no_factors, SpeltRule, SpeltRules, no_rules, more_rules, SpeltAction}
-use Rattle.rbg_rules.specs.Expression.{AbstractArithmetic, AbstractAction, switch, positive, negative, Expression, act, skip, sequence, fail, choice, star}
+use Rattle.rbg_rules.specs.Expression.{AbstractArithmetic, AbstractAction, switch, positive, negative, Expression, act, sequence, choice, star}
 use Rattle.rbg_rules.specs.Games.{NestsWithin, InsideNestsWithin}
 use Rattle.rbg_rules.specs.Positions.{HasAction, HasInside, positions_of, positions_inside, IsPatternOf, IsLevel, inside as level_of}
 use Rattle.rbg_rules.specs.Limits.{most_positions, most_nested_patterns}

@@ -10,7 +10,6 @@ use Rattle.rbg_syntax.specs.declared.error.SyntaxError.{SyntaxError}
 use Rattle.rbg_syntax.specs.declared.error.SyntaxError.TheVariants as errors
 use Rattle.rbg_grammar.specs.Grammar.{AreVariables}
 use Rattle.rbg_grammar.specs.Sections.{sections_of, count_of}
-use Rattle.rbg_syntax.specs.Faults.{IsTwice}
 use Rattle.rbg_grammar.specs.Spells.{HasSection, IsSection, MayHaveVariables, Spells, IsSpelt}
 use Rattle.rbg_syntax.specs.Faults.{HasFault, IsAnswer}
 use Rattle.rbg_grammar.specs.Tree.{SpeltBounded, SpeltDescription}

@@ -1,5 +1,5 @@
 -- One number after the other.
-use Rattle.std.proofs.Common.{◌≡◌, ◌+◌, arith}
+use Rattle.std.proofs.Common.{arith}
 use Rattle.rbg_warnings.specs.declared.warning.Warning.TheVariants.{Unused}
 use Rattle.rbg_warnings.specs.internal.Kinds.{thing_of}
 use Rattle.rbg_warnings.proofs.Sifting.{sifts_all, sifts_none, sifts_more}
