@@ -5,6 +5,7 @@ pub mod Vectors
 pub mod Layouts
 pub mod Choices
 pub mod Neighbours
+pub mod Ways
 pub mod RectangleEdges
 pub mod HexagonEdges
 pub mod CellReads

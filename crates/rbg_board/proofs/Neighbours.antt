@@ -1,5 +1,5 @@
 -- Which vertex lies at a cell of a site's own row, of the row above and of the row below.
-use Rattle.std.proofs.Common.{◌≡◌, ℕ, zero, suc, ◌+◌, ◌-◌, ◌<◌, Option, Some, None, if◌then◌else◌, nat_lt, refl, sym, ap, ◌∙◌, inl, inr, arith, add-one}
+use Rattle.std.proofs.Common.{◌≡◌, ℕ, zero, suc, ◌+◌, ◌-◌, ◌<◌, Option, Some, None, if◌then◌else◌, nat_lt, refl, sym, ap, ◌∙◌, subst, inl, inr, arith, add-one}
 use Rattle.std.proofs.lemmas.Bool.{cases_lt, lt-ltb, le-ltb, cond-true, cond-false}
 use Rattle.std.proofs.lemmas.Option.{same_Some}
 use Rattle.rbg_board.specs.Cells.{Rows, cells_in, IsCell, number_along}
@@ -73,3 +73,20 @@ some_above rows zero place k c below is_cell = absurd (omega arith)
 some_above rows (suc r) place k c below is_cell =
     let same : r ≡ k = omega arith in
     some_within c (cells_in rows r) (start_of rows (suc r) - cells_in rows r) (rw same is_cell) ∙ ap (λ n. Some (n + c)) (start_above rows r) ∙ ap (λ m. Some (start_of rows m + c)) same
+
+-- and the vertex of a cell that is known to lie below, beside or above
+module _ (rows : Rows) (r c r' c' : ℕ) (is_to_cell : IsCell rows r' c') where
+  pub at_below : r' ≡ r + 1 → vertex_below (site_at rows r c) c' ≡ Some (number_along rows r' c')
+  at_below next = some_below rows r c c' (subst (λ m. IsCell rows m c') next is_to_cell) ∙ ap (λ m. Some (number_along rows m c')) (sym next)
+
+  pub at_here : r' ≡ r → vertex_here (site_at rows r c) c' ≡ Some (number_along rows r' c')
+  at_here same = some_here rows r c c' (subst (λ m. IsCell rows m c') same is_to_cell) ∙ ap (λ m. Some (number_along rows m c')) (sym same)
+
+  pub at_above : r ≡ r' + 1 → vertex_above (site_at rows r c) c' ≡ Some (number_along rows r' c')
+  at_above next = some_above rows r c r' c' next is_to_cell
+
+  pub at_left : r' ≡ r → c ≡ c' + 1 → at_cell (vertex_here (site_at rows r c)) (cell_before c) ≡ Some (number_along rows r' c')
+  at_left same before = ap (at_cell (vertex_here (site_at rows r c))) (some_cell_before c c' before) ∙ at_here same
+
+  pub at_right : r' ≡ r → c' ≡ c + 1 → vertex_here (site_at rows r c) (c + 1) ≡ Some (number_along rows r' c')
+  at_right same after = ap (vertex_here (site_at rows r c)) (sym after) ∙ at_here same

@@ -2,10 +2,10 @@
 use Rattle.std.specs.Prelude.{◌≡◌, ℕ, zero, suc, ◌+◌, ◌<◌, ◌≤◌, ◌⊎◌, List, length, slice_index}
 use Rattle.std.specs.List.{concat}
 use Rattle.rbg_board.specs.Graph.{Graph, IsGraphOf}
-use Rattle.rbg_board.specs.Cells.{Rows, cells_in, IsCell, number_along, HasTwice, AreDifferent}
+use Rattle.rbg_board.specs.Cells.{Rows, cells_in, number_along}
+use Rattle.rbg_board.specs.Steps.{IsStep}
 use Rattle.rbg_board.specs.declared.error.BoardError.{BoardError}
-use Rattle.rbg_board.specs.declared.error.BoardError.TheVariants.{NoCell, RowLength, TooManyVertices, SameDirection, UnknownVertex, SameVertex, Memory}
-use Rattle.rbg_board.specs.Limits.{most_vertices}
+use Rattle.rbg_board.specs.RowLaws.{MakesRows, RowsRefusal}
 
 -- the points of the compass, in the order in which their directions are written
 pub data Compass : Type 0 where
@@ -59,16 +59,8 @@ CompassStep rows SouthWest r c r' c' = SouthWestStep rows r c r' c'
 CompassStep rows West r c r' c' = (r' ≡ r) × (c ≡ c' + 1)
 
 -- the vertex u is that of the next cell, that way, from the cell of the vertex v
-pub record IsNextCell (rows : Rows) (way : Compass) (v u : ℕ) : Type 0 where
-  pub row : ℕ
-  pub cell : ℕ
-  pub to_row : ℕ
-  pub to_cell : ℕ
-  pub step : CompassStep rows way row cell to_row to_cell
-  pub is_cell : IsCell rows row cell
-  pub is_to_cell : IsCell rows to_row to_cell
-  pub number : v ≡ number_along rows row cell
-  pub to_number : u ≡ number_along rows to_row to_cell
+abbrev pub IsNextCell : Rows → Compass → ℕ → ℕ → Type 0
+IsNextCell rows way = IsStep rows (CompassStep rows way) (number_along rows)
 
 -- the edges of a hexagon: the direction d leads from the vertex v to the vertex u
 pub record HexagonEdge (directions : List ℕ) (rows : Rows) (v d u : ℕ) : Type 0 where
@@ -110,26 +102,9 @@ pub record IsFirstMisfit (rows : Rows) (r : ℕ) : Type 0 where
   pub fits_before : (k : ℕ) → k < r → FitsAbove rows k
 
 -- rows of a hexagon, and six directions, without a fault
-pub record MakesHexagon (directions : List ℕ) (rows : Rows) : Type 0 where
-  pub cells : HasCells rows
-  pub grows_then_shrinks : GrowsThenShrinks rows
-  pub fits : length (concat rows) ≤ most_vertices
-  pub different : AreDifferent directions
+abbrev pub MakesHexagon : List ℕ → Rows → Type 0
+MakesHexagon = MakesRows HasCells GrowsThenShrinks
 
--- What a refusal says of the arguments: they have the fault that it names, and no fault that is looked for earlier.
--- `Memory` is returned only for arguments without a fault.
-unfoldable pub HexagonRefusal : List ℕ → Rows → BoardError → Type 0
-HexagonRefusal directions rows NoCell = LacksCell rows
-HexagonRefusal directions rows (RowLength row) = HasCells rows × IsFirstMisfit rows row
-HexagonRefusal directions rows TooManyVertices =
-    HasCells rows
-    × GrowsThenShrinks rows
-    × (most_vertices < length (concat rows))
-HexagonRefusal directions rows SameDirection =
-    HasCells rows
-    × GrowsThenShrinks rows
-    × (length (concat rows) ≤ most_vertices)
-    × HasTwice directions
-HexagonRefusal directions rows UnknownVertex = ⊥
-HexagonRefusal directions rows SameVertex = ⊥
-HexagonRefusal directions rows Memory = MakesHexagon directions rows
+-- what a refusal says of the arguments
+abbrev pub HexagonRefusal : List ℕ → Rows → BoardError → Type 0
+HexagonRefusal = RowsRefusal HasCells LacksCell GrowsThenShrinks IsFirstMisfit

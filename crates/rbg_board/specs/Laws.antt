@@ -9,37 +9,34 @@ use Rattle.rbg_board.specs.Written.{Written, WrittenEdge, MakesGraph}
 abbrev pub LeadsOneWay : (ℕ → ℕ → ℕ → Type 0) → Type 0
 LeadsOneWay Edge = (v d u w : ℕ) → Edge v d u → Edge v d w → u ≡ w
 
-abbrev pub RectanglesLeadOneWay : Type 0
-RectanglesLeadOneWay =
+-- the same of boards of rows with so many directions
+abbrev pub RowsLeadOneWay : ℕ → (List ℕ → Rows → Type 0) → (List ℕ → Rows → ℕ → ℕ → ℕ → Type 0) → Type 0
+RowsLeadOneWay count Makes Edge =
     (directions : List ℕ) (rows : Rows)
-    → length directions ≡ 4
-    → MakesRectangle directions rows
-    → LeadsOneWay (RectangleEdge directions rows)
+    → length directions ≡ count
+    → Makes directions rows
+    → LeadsOneWay (Edge directions rows)
+
+abbrev pub RectanglesLeadOneWay : Type 0
+RectanglesLeadOneWay = RowsLeadOneWay 4 MakesRectangle RectangleEdge
 
 abbrev pub HexagonsLeadOneWay : Type 0
-HexagonsLeadOneWay =
-    (directions : List ℕ) (rows : Rows)
-    → length directions ≡ 6
-    → MakesHexagon directions rows
-    → LeadsOneWay (HexagonEdge directions rows)
+HexagonsLeadOneWay = RowsLeadOneWay 6 MakesHexagon HexagonEdge
 
 abbrev pub GraphsLeadOneWay : Type 0
 GraphsLeadOneWay = (vertices : List Written) → MakesGraph vertices → LeadsOneWay (WrittenEdge vertices)
 
--- every edge of a rectangle has its way back: the direction of the opposite side
-abbrev pub RectanglesLeadBack : Type 0
-RectanglesLeadBack =
-    (directions : List ℕ) (rows : Rows) (side : RectangleSide) (v u : ℕ)
-    → length directions ≡ 4
+-- every edge of a board of rows has its way back: the direction of the opposite way
+abbrev pub RowsLeadBack : (Way : Type 0) → ℕ → (List ℕ → Way → ℕ) → (Way → Way) → (List ℕ → Rows → ℕ → ℕ → ℕ → Type 0) → Type 0
+RowsLeadBack Way count direction opposite Edge =
+    (directions : List ℕ) (rows : Rows) (way : Way) (v u : ℕ)
+    → length directions ≡ count
     → AreDifferent directions
-    → RectangleEdge directions rows v (side_direction directions side) u
-    → RectangleEdge directions rows u (side_direction directions (side_opposite side)) v
+    → Edge directions rows v (direction directions way) u
+    → Edge directions rows u (direction directions (opposite way)) v
 
--- every edge of a hexagon has its way back: the direction of the opposite way
+abbrev pub RectanglesLeadBack : Type 0
+RectanglesLeadBack = RowsLeadBack RectangleSide 4 side_direction side_opposite RectangleEdge
+
 abbrev pub HexagonsLeadBack : Type 0
-HexagonsLeadBack =
-    (directions : List ℕ) (rows : Rows) (way : Compass) (v u : ℕ)
-    → length directions ≡ 6
-    → AreDifferent directions
-    → HexagonEdge directions rows v (compass_direction directions way) u
-    → HexagonEdge directions rows u (compass_direction directions (compass_opposite way)) v
+HexagonsLeadBack = RowsLeadBack Compass 6 compass_direction compass_opposite HexagonEdge

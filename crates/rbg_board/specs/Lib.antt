@@ -3,8 +3,10 @@ pub mod Limits
 pub mod Graph
 pub mod Table
 pub mod Cells
+pub mod Steps
 pub mod Sites
 pub mod Shapes
+pub mod RowLaws
 pub mod Rectangle
 pub mod Hexagon
 pub mod Written

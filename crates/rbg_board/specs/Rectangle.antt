@@ -1,11 +1,11 @@
 -- Rectangles: rows of cells, all of one length n. The cell c of the row r is the vertex r * n + c.
-use Rattle.std.specs.Prelude.{◌≡◌, ◌≢◌, ℕ, ◌+◌, ◌*◌, ◌<◌, ◌≤◌, List, length, slice_index}
+use Rattle.std.specs.Prelude.{◌≡◌, ◌≢◌, ℕ, ◌+◌, ◌*◌, ◌<◌, List, length, slice_index}
 use Rattle.std.specs.List.{concat}
 use Rattle.rbg_board.specs.Graph.{Graph, IsGraphOf}
-use Rattle.rbg_board.specs.Cells.{Rows, cells_in, IsCell, HasTwice, AreDifferent}
+use Rattle.rbg_board.specs.Cells.{Rows, cells_in, IsCell}
+use Rattle.rbg_board.specs.Steps.{IsStep}
 use Rattle.rbg_board.specs.declared.error.BoardError.{BoardError}
-use Rattle.rbg_board.specs.declared.error.BoardError.TheVariants.{NoCell, RowLength, TooManyVertices, SameDirection, UnknownVertex, SameVertex, Memory}
-use Rattle.rbg_board.specs.Limits.{most_vertices}
+use Rattle.rbg_board.specs.RowLaws.{MakesRows, RowsRefusal}
 
 -- the sides of a cell, in the order in which their directions are written
 pub data RectangleSide : Type 0 where
@@ -35,16 +35,8 @@ SideStep Left r c r' c' = (r' ≡ r) × (c ≡ c' + 1)
 SideStep Right r c r' c' = (r' ≡ r) × (c' ≡ c + 1)
 
 -- the vertex u is that of the cell beside the cell of the vertex v, on that side
-pub record IsBeside (rows : Rows) (side : RectangleSide) (v u : ℕ) : Type 0 where
-  pub row : ℕ
-  pub cell : ℕ
-  pub to_row : ℕ
-  pub to_cell : ℕ
-  pub step : SideStep side row cell to_row to_cell
-  pub is_cell : IsCell rows row cell
-  pub is_to_cell : IsCell rows to_row to_cell
-  pub number : v ≡ row * cells_in rows 0 + cell
-  pub to_number : u ≡ to_row * cells_in rows 0 + to_cell
+abbrev pub IsBeside : Rows → RectangleSide → ℕ → ℕ → Type 0
+IsBeside rows side = IsStep rows (SideStep side) (λ r c. r * cells_in rows 0 + c)
 
 -- the edges of a rectangle: the direction d leads from the vertex v to the vertex u
 pub record RectangleEdge (directions : List ℕ) (rows : Rows) (v d u : ℕ) : Type 0 where
@@ -75,26 +67,9 @@ abbrev pub LacksFirstCell : Rows → Type 0
 LacksFirstCell rows = cells_in rows 0 ≡ 0
 
 -- rows of a rectangle, and four directions, without a fault
-pub record MakesRectangle (directions : List ℕ) (rows : Rows) : Type 0 where
-  pub first_cell : HasFirstCell rows
-  pub even : IsEven rows
-  pub fits : length (concat rows) ≤ most_vertices
-  pub different : AreDifferent directions
+abbrev pub MakesRectangle : List ℕ → Rows → Type 0
+MakesRectangle = MakesRows HasFirstCell IsEven
 
--- What a refusal says of the arguments: they have the fault that it names, and no fault that is looked for earlier.
--- `Memory` is returned only for arguments without a fault.
-unfoldable pub RectangleRefusal : List ℕ → Rows → BoardError → Type 0
-RectangleRefusal directions rows NoCell = LacksFirstCell rows
-RectangleRefusal directions rows (RowLength row) = HasFirstCell rows × IsFirstUneven rows row
-RectangleRefusal directions rows TooManyVertices =
-    HasFirstCell rows
-    × IsEven rows
-    × (most_vertices < length (concat rows))
-RectangleRefusal directions rows SameDirection =
-    HasFirstCell rows
-    × IsEven rows
-    × (length (concat rows) ≤ most_vertices)
-    × HasTwice directions
-RectangleRefusal directions rows UnknownVertex = ⊥
-RectangleRefusal directions rows SameVertex = ⊥
-RectangleRefusal directions rows Memory = MakesRectangle directions rows
+-- what a refusal says of the arguments
+abbrev pub RectangleRefusal : List ℕ → Rows → BoardError → Type 0
+RectangleRefusal = RowsRefusal HasFirstCell LacksFirstCell IsEven IsFirstUneven

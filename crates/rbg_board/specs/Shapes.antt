@@ -144,17 +144,16 @@ module _ (site : Site) (limit : ℕ) (row : IsRow site limit) where
     ),
   )
 
--- no direction leads past the limit
-pub rectangle_leads_within : (directions : List ℕ) (site : Site) (d limit : ℕ)
-    → IsSite site limit
-    → IfSome (rectangle_leads directions site d) (λ u. u < limit)
+-- no direction leads past a limit
+abbrev pub LeadsWithin : (Site → ℕ → Option ℕ) → Type 0
+LeadsWithin leads = (site : Site) (d limit : ℕ) → IsSite site limit → IfSome (leads site d) (λ u. u < limit)
+
+pub rectangle_leads_within : (directions : List ℕ) → LeadsWithin (rectangle_leads directions)
 unfolding rectangle_leads
 rectangle_leads_within directions site d limit is_site =
     choose_below limit (first_four directions) (rectangle_vertices site) d (rectangle_below site limit is_site.row)
 
-pub hexagon_leads_within : (directions : List ℕ) (site : Site) (d limit : ℕ)
-    → IsSite site limit
-    → IfSome (hexagon_leads directions site d) (λ u. u < limit)
+pub hexagon_leads_within : (directions : List ℕ) → LeadsWithin (hexagon_leads directions)
 unfolding hexagon_leads
 hexagon_leads_within directions site d limit is_site =
     choose_below limit (first_six directions) (hexagon_vertices site) d (hexagon_below site limit is_site.row)

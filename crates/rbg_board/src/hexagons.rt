@@ -111,7 +111,7 @@ fn first_misfit(rows: &[Vec<Piece>]) -> Option<usize>
 /// north-west, north-east, east, south-east, south-west and west.
 ///
 /// It looks for the faults in this order: `NoCell`, `RowLength`, `TooManyVertices`, `SameDirection`.
-#[tactic(auto, unfolding(crate::specs::Hexagon::HexagonRefusal))]
+#[tactic(auto, unfolding(crate::specs::RowLaws::RowsRefusal))]
 pub fn hexagon(
     alloc: Global,
     directions: [Direction; 6],

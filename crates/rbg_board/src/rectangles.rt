@@ -56,7 +56,7 @@ fn first_uneven(rows: &[Vec<Piece>]) -> Option<usize>
 /// The board of a rectangle: rows from top to bottom, all of one length, with the directions up, down, left and right.
 ///
 /// It looks for the faults in this order: `NoCell`, `RowLength`, `TooManyVertices`, `SameDirection`.
-#[tactic(auto, unfolding(crate::specs::Rectangle::RectangleRefusal))]
+#[tactic(auto, unfolding(crate::specs::RowLaws::RowsRefusal))]
 pub fn rectangle(
     alloc: Global,
     directions: [Direction; 4],

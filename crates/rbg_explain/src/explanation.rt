@@ -6,7 +6,7 @@ use crate::exact::find_place;
 use crate::joined::{joined_text, push_joins};
 use crate::message::{Found, Message};
 use crate::origin::faulty_call;
-use crate::output::push_made;
+use crate::output::{line_and_column, push_made};
 use crate::spot::{Spot, head_name};
 use rbg_console::Refusal;
 use rbg_game::LoadError;
@@ -155,7 +155,7 @@ fn push_definition(
     text: &[u8],
     head: Token<'_>,
 ) -> Result<(), AllocError> {
-    let number = TextLine::of(text, head.at.min(text.len())).number;
+    let (number, _) = line_and_column(text, head.at);
     let name = Found(Some(head));
     push_made(
         output,
@@ -176,10 +176,7 @@ fn push_call(
         let lines = called_lines(alloc, text, tokens, name)?;
         return push_calls(alloc, output, lines.as_slice());
     };
-    let at = call.min(text.len());
-    let line = TextLine::of(text, at);
-    let number = line.number;
-    let column = (at - line.start).saturating_add(1);
+    let (number, column) = line_and_column(text, call);
     push_made(output, format!(in alloc; "called at {number}:{column}\n"))
 }
 
@@ -190,10 +187,7 @@ fn push_bracket(
     text: &[u8],
     bracket: &Token<'_>,
 ) -> Result<(), AllocError> {
-    let at = bracket.at.min(text.len());
-    let line = TextLine::of(text, at);
-    let number = line.number;
-    let column = (at - line.start).saturating_add(1);
+    let (number, column) = line_and_column(text, bracket.at);
     push_made(
         output,
         format!(in alloc; "the bracket opened at {number}:{column} isn't closed\n"),

@@ -1,10 +1,10 @@
 //! Names and numbers that `~` has joined: the whole text of a refused one, and the `~` that joined it.
 
-use crate::output::push_made;
+use crate::output::{line_and_column, push_made};
 use crate::sections::{cut, expanded};
 use rbg_game::{GameError, LoadError};
 use rbg_macro::{Section, SectionKind, Source};
-use rbg_tokens::{Symbol, TextLine, Token, Tokens};
+use rbg_tokens::{Symbol, Token, Tokens};
 use std::alloc::{AllocError, Global};
 
 /// The most `~` that are tried.
@@ -156,10 +156,7 @@ fn push_join(
     } else {
         " and"
     };
-    let at = at.min(text.len());
-    let line = TextLine::of(text, at);
-    let number = line.number;
-    let column = (at - line.start).saturating_add(1);
+    let (number, column) = line_and_column(text, at);
     push_made(output, format!(in alloc; "{word} {number}:{column}"))
 }
 

@@ -1,11 +1,11 @@
 //! What a game's positions and vertices are: a line for each.
 
-use crate::output::push_made;
+use crate::output::{line_and_column, push_made};
 use crate::sections::{cut, expanded, section_tokens};
 use rbg_game::Layout;
 use rbg_macro::SectionKind;
 use rbg_passages::{actions, push_action};
-use rbg_tokens::{TextLine, Token, Tokens};
+use rbg_tokens::{Token, Tokens};
 use std::alloc::{AllocError, Global};
 
 /// Adds a line for each position of the rules: its number, the line and the column of its action, and the action.
@@ -51,10 +51,8 @@ fn push_position(
     position: usize,
     action: &[Token<'_>],
 ) -> Result<(), AllocError> {
-    let at = action.first().map_or(0, |token| token.at).min(text.len());
-    let line = TextLine::of(text, at);
-    let number = line.number;
-    let column = (at - line.start).saturating_add(1);
+    let at = action.first().map_or(0, |token| token.at);
+    let (number, column) = line_and_column(text, at);
     push_made(
         output,
         format!(in alloc; "position {position} {number}:{column} "),

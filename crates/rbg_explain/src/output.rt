@@ -1,5 +1,6 @@
-//! Text that is added to what an author is told.
+//! Text that is added to what an author is told, and places in words of lines and columns.
 
+use rbg_tokens::TextLine;
 use std::alloc::AllocError;
 
 /// Adds a text, where there was memory to make it.
@@ -9,4 +10,11 @@ pub(crate) fn push_made(
 ) -> Result<(), AllocError> {
     let text = made?;
     output.extend_from_slice(text.as_bytes())
+}
+
+/// The line and the column of an offset of a text, both counted from 1. Where the text ends before, those of its end.
+pub(crate) fn line_and_column(text: &[u8], at: usize) -> (usize, usize) {
+    let at = at.min(text.len());
+    let line = TextLine::of(text, at);
+    (line.number, (at - line.start).saturating_add(1))
 }

@@ -2,13 +2,13 @@
 
 use crate::boards::nth_direction;
 use crate::calls::called_lines;
-use crate::output::push_made;
+use crate::output::{line_and_column, push_made};
 use crate::sections::{cut, expanded, nth_name, section_tokens};
 use crate::spot::is_section;
 use rbg_game::Game;
 use rbg_macro::{SectionKind, Source};
 use rbg_passages::actions;
-use rbg_tokens::{Symbol, TextLine, Token, Tokens};
+use rbg_tokens::{Symbol, Token, Tokens};
 use rbg_warnings::{Thing, Warning, warnings};
 use std::alloc::{AllocError, Global};
 use std::str;
@@ -19,25 +19,13 @@ pub fn warn(alloc: Global, file: &str, text: &[u8], game: &Game) -> Result<Vec<u
     let mut output = Vec::new(alloc);
     if let Some(tokens) = cut(alloc, text)? {
         let place = Place { file, text };
-        push_lines(alloc, &mut output, place, &tokens, game)?;
+        push_warnings(alloc, &mut output, place, &tokens, game)?;
+        push_uncalled(alloc, &mut output, place, tokens.as_slice())?;
     }
     if output.is_empty() {
         output.extend_from_slice(b"no warnings\n")?;
     }
     Ok(output)
-}
-
-fn push_lines(
-    alloc: Global,
-    output: &mut Vec<u8>,
-    place: Place<'_>,
-    tokens: &Tokens<'_>,
-    game: &Game,
-) -> Result<(), AllocError> {
-    if let Some(source) = expanded(alloc, tokens)? {
-        push_warnings(alloc, output, place, &source, game)?;
-    }
-    push_uncalled(alloc, output, place, tokens.as_slice())
 }
 
 /// A file and its text.
@@ -55,10 +43,7 @@ fn push_line(
     token: Token<'_>,
     words: [&str; 2],
 ) -> Result<(), AllocError> {
-    let at = token.at.min(place.text.len());
-    let line = TextLine::of(place.text, at);
-    let number = line.number;
-    let column = (at - line.start).saturating_add(1);
+    let (number, column) = line_and_column(place.text, token.at);
     let file = place.file;
     let [before, behind] = words;
     let name = str::from_utf8(token.text).unwrap_or("");
@@ -68,15 +53,19 @@ fn push_line(
     )
 }
 
+/// Adds a line for each warning of the game, where the macros of the text are expanded.
 fn push_warnings(
     alloc: Global,
     output: &mut Vec<u8>,
     place: Place<'_>,
-    source: &Source<'_>,
+    tokens: &Tokens<'_>,
     game: &Game,
 ) -> Result<(), AllocError> {
+    let Some(source) = expanded(alloc, tokens)? else {
+        return Ok(());
+    };
     let found = warnings(alloc, game)?;
-    let rules = section_tokens(alloc, source, SectionKind::Rules)?;
+    let rules = section_tokens(alloc, &source, SectionKind::Rules)?;
     let actions = actions(alloc, &rules)?;
     for warning in &found {
         match warning {
@@ -91,7 +80,7 @@ fn push_warnings(
                 }
             }
             Warning::Unused { thing } => {
-                push_unused(alloc, output, place, source, game.players(), *thing)?;
+                push_unused(alloc, output, place, &source, game.players(), *thing)?;
             }
         }
     }

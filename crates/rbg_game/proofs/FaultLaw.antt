@@ -5,9 +5,10 @@ use Rattle.std.specs.Prelude.{slice_get, slice_index, Contains, All}
 use Rattle.std.proofs.lemmas.List.{length-map, map-append}
 use Rattle.std.proofs.lemmas.Option.{slice_get-get_or}
 use Rattle.std.proofs.lemmas.List.Elements.{All-contains}
-use Rattle.rbg_board.specs.Cells.{HasTwice}
-use Rattle.rbg_board.specs.Rectangle.{MakesRectangle, RectangleRefusal}
-use Rattle.rbg_board.specs.Hexagon.{MakesHexagon, HexagonRefusal}
+use Rattle.rbg_board.specs.Cells.{Rows, HasTwice}
+use Rattle.rbg_board.specs.RowLaws.{MakesRows, RowsRefusal}
+use Rattle.rbg_board.specs.Rectangle.{RectangleEdge, HasFirstCell, LacksFirstCell, IsEven, IsFirstUneven, RectangleRefusal}
+use Rattle.rbg_board.specs.Hexagon.{HexagonEdge, HasCells, LacksCell, GrowsThenShrinks, IsFirstMisfit, HexagonRefusal}
 use Rattle.rbg_board.specs.declared.error.BoardError.{BoardError}
 use Rattle.rbg_board.specs.declared.error.BoardError.TheVariants as board_errors
 use Rattle.rbg_grammar.specs.Tree.{SpeltName, SpeltBounded, SpeltEdge, SpeltVertex, SpeltBoard, rectangle, hexagon, graph}
@@ -20,7 +21,7 @@ use Rattle.rbg_game.specs.GameErrors.{game_error_of}
 use Rattle.rbg_game.specs.declared.game_error.GameError.TheVariants.{Memory}
 use Rattle.rbg_numbering.specs.Names.{texts_of}
 use Rattle.rbg_game.specs.Descriptions.{names_in}
-use Rattle.rbg_game.specs.Descriptions.{NamedBoard, board_in, IsRectangleBoard, IsHexagonBoard, IsGraphBoard, VertexIs, BoardIs, directions_named}
+use Rattle.rbg_game.specs.Descriptions.{NamedBoard, board_in, IsRowsBoard, IsRectangleBoard, IsHexagonBoard, IsGraphBoard, VertexIs, BoardIs, directions_named}
 use Rattle.rbg_game.specs.Descriptions.{holder_names, holders_of, AreBounds, IsGameOf}
 use Rattle.rbg_game.specs.Faults.{StandsAgain, HasGreatBound, HaveOneName, HasRowsFault, HasBoardFault, unknown_piece, many_directions, no_rectangle, no_hexagon, no_graph, board_memory}
 use Rattle.rbg_numbering.specs.Faults.{Purpose, as_direction, as_piece, as_player, as_variable, names_for}
@@ -87,43 +88,35 @@ twice_fails names numbers long numbered t differ =
     let one = differ.one_number t.earlier t.later (get_or names t.later none).text (same ∙ at) at in
     omega (arith, one, t.apart)
 
--- what rows by numbers are refused for, no board by these names has
-module _ (names : List SpeltName) (numbers : List ℕ) (cells : List (List ℕ)) (long : length numbers ≡ length names)
-    (numbered : (i j : ℕ) → i < length names → j < length names → (slice_index numbers i ≡ slice_index numbers j) ↔ HaveOneName names i j) where
-  rectangle_refusal_fails : (error : BoardError) → RectangleRefusal numbers cells error → error ≢ board_errors.Memory → MakesRectangle (0 ∷ 1 ∷ 2 ∷ 3 ∷ []) cells → ¬ AreDifferentNames (texts_of names)
-  unfolding RectangleRefusal
-  rectangle_refusal_fails board_errors.NoCell lacks is_fault makes differ = omega (arith, makes.first_cell)
-  rectangle_refusal_fails (board_errors.RowLength row) uneven is_fault makes differ = uneven.1.uneven (makes.even row uneven.1.is_row)
-  rectangle_refusal_fails board_errors.TooManyVertices many is_fault makes differ = omega (arith, many.2, makes.fits)
-  rectangle_refusal_fails board_errors.SameDirection twice is_fault makes differ = twice_fails names numbers long numbered twice.3 differ
-  rectangle_refusal_fails board_errors.UnknownVertex none is_fault makes differ = none
-  rectangle_refusal_fails board_errors.SameVertex none is_fault makes differ = none
-  rectangle_refusal_fails board_errors.Memory refused is_fault makes differ = is_fault refl
-
-  hexagon_refusal_fails : (error : BoardError) → HexagonRefusal numbers cells error → error ≢ board_errors.Memory → MakesHexagon (0 ∷ 1 ∷ 2 ∷ 3 ∷ 4 ∷ 5 ∷ []) cells → ¬ AreDifferentNames (texts_of names)
-  unfolding HexagonRefusal
-  hexagon_refusal_fails board_errors.NoCell lacks is_fault makes differ = elim lacks [
-    | inl no_row ↦ omega (arith, no_row, makes.cells.some_row)
-    | inr empty ↦ omega (arith, empty.2, makes.cells.each_row empty.0 empty.1)
-  ]
-  hexagon_refusal_fails (board_errors.RowLength row) misfit is_fault makes differ = misfit.1.misfits (makes.grows_then_shrinks row misfit.1.is_row)
-  hexagon_refusal_fails board_errors.TooManyVertices many is_fault makes differ = omega (arith, many.2, makes.fits)
-  hexagon_refusal_fails board_errors.SameDirection twice is_fault makes differ = twice_fails names numbers long numbered twice.3 differ
-  hexagon_refusal_fails board_errors.UnknownVertex none is_fault makes differ = none
-  hexagon_refusal_fails board_errors.SameVertex none is_fault makes differ = none
-  hexagon_refusal_fails board_errors.Memory refused is_fault makes differ = is_fault refl
+-- What rows by numbers are refused for, no board by these names has, where rows that lack cells have none, and one that
+-- doesn't fit is not lawful.
+rows_fail : (Cells Lacks Lawful : Rows → Type 0) (IsMisfit : Rows → ℕ → Type 0) → ((cells : Rows) → Lacks cells → ¬ Cells cells) → ((cells : Rows) (row : ℕ) → IsMisfit cells row → ¬ Lawful cells)
+    → (Edge : List ℕ → Rows → ℕ → ℕ → ℕ → Type 0) (numbers : List ℕ) (b : NamedBoard) (names : List SpeltName) (rows : List (List SpeltName)) (error : BoardError) → AreDifferentNames b.pieces
+    → HasRowsFault (RowsRefusal Cells Lacks Lawful IsMisfit) b.pieces names rows error → ¬ IsRowsBoard (MakesRows Cells Lawful) Edge numbers b names rows
+unfolding RowsRefusal
+rows_fail Cells Lacks Lawful IsMisfit no_cells unlawful Edge numbers b names rows error differ h is =
+    let same : is.cells ≡ h.cells = rows_once b.pieces differ rows is.cells h.cells is.named h.named in
+    fails error h.refused h.is_fault (subst (MakesRows Cells Lawful numbers) same is.makes)
+  where
+    fails : (e : BoardError) → RowsRefusal Cells Lacks Lawful IsMisfit h.directions h.cells e → e ≢ board_errors.Memory → ¬ MakesRows Cells Lawful numbers h.cells
+    fails board_errors.NoCell lacks is_fault makes = no_cells h.cells lacks makes.cells
+    fails (board_errors.RowLength row) misfit is_fault makes = unlawful h.cells row misfit.1 makes.lawful
+    fails board_errors.TooManyVertices many is_fault makes = omega (arith, many.2, makes.fits)
+    fails board_errors.SameDirection twice is_fault makes = twice_fails names h.directions h.one_each h.numbered twice.3 (subst AreDifferentNames is.directions is.differ)
+    fails board_errors.UnknownVertex none is_fault makes = none
+    fails board_errors.SameVertex none is_fault makes = none
+    fails board_errors.Memory refused is_fault makes = is_fault refl
 
 rectangle_fails : (b : NamedBoard) (names : List SpeltName) (rows : List (List SpeltName)) (error : BoardError) → AreDifferentNames b.pieces → HasRowsFault RectangleRefusal b.pieces names rows error → ¬ IsRectangleBoard b names rows
-rectangle_fails b names rows error differ h is =
-    let same_cells : is.cells ≡ h.cells = rows_once b.pieces differ rows is.cells h.cells is.named h.named in
-    let makes : MakesRectangle (0 ∷ 1 ∷ 2 ∷ 3 ∷ []) h.cells = subst (MakesRectangle (0 ∷ 1 ∷ 2 ∷ 3 ∷ [])) same_cells is.makes in
-    rectangle_refusal_fails names h.directions h.cells h.one_each h.numbered error h.refused h.is_fault makes (subst AreDifferentNames is.directions is.differ)
+rectangle_fails =
+    rows_fail HasFirstCell LacksFirstCell IsEven IsFirstUneven (λ cells lacks has. omega (arith, lacks, has)) (λ cells row uneven even. uneven.uneven (even row uneven.is_row)) RectangleEdge (0 ∷ 1 ∷ 2 ∷ 3 ∷ [])
+
+no_cells : (cells : Rows) → LacksCell cells → ¬ HasCells cells
+no_cells cells (inl no_row) has = omega (arith, no_row, has.some_row)
+no_cells cells (inr (row, is_row, empty)) has = omega (arith, empty, has.each_row row is_row)
 
 hexagon_fails : (b : NamedBoard) (names : List SpeltName) (rows : List (List SpeltName)) (error : BoardError) → AreDifferentNames b.pieces → HasRowsFault HexagonRefusal b.pieces names rows error → ¬ IsHexagonBoard b names rows
-hexagon_fails b names rows error differ h is =
-    let same_cells : is.cells ≡ h.cells = rows_once b.pieces differ rows is.cells h.cells is.named h.named in
-    let makes : MakesHexagon (0 ∷ 1 ∷ 2 ∷ 3 ∷ 4 ∷ 5 ∷ []) h.cells = subst (MakesHexagon (0 ∷ 1 ∷ 2 ∷ 3 ∷ 4 ∷ 5 ∷ [])) same_cells is.makes in
-    hexagon_refusal_fails names h.directions h.cells h.one_each h.numbered error h.refused h.is_fault makes (subst AreDifferentNames is.directions is.differ)
+hexagon_fails = rows_fail HasCells LacksCell GrowsThenShrinks IsFirstMisfit no_cells (λ cells row misfit lawful. misfit.misfits (lawful row misfit.is_row)) HexagonEdge (0 ∷ 1 ∷ 2 ∷ 3 ∷ 4 ∷ 5 ∷ [])
 
 board_fault_fails : (b : NamedBoard) (board : SpeltBoard) (error : GameError) → HasBoardFault b.pieces board error → error ≢ Memory → AreDifferentNames b.pieces → length b.directions ≤ most_directions → ¬ BoardIs b board
 board_fault_fails b board _ (unknown_piece h) other differ few is = unknown_piece_fails b board h.name h.stands h.unknown is

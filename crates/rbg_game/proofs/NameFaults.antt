@@ -1,11 +1,13 @@
 -- Faults of names that are added after others, as faults of whole lists and of the description.
-use Rattle.std.proofs.Common.{◌≡◌, ℕ, ◌+◌, ◌<◌, ◌≤◌, List, [], ◌∷◌, ◌++◌, inl, inr, Some, length, take, map, append-nil}
+use Rattle.std.proofs.Common.{◌≡◌, ℕ, ◌+◌, ◌<◌, ◌≤◌, List, [], ◌∷◌, ◌++◌, inl, inr, Some, length, get_or, take, map, append-nil}
 use Rattle.std.proofs.Common.{refl, sym, ap, ◌∙◌, subst, append_assoc, arith}
 use Rattle.std.specs.Prelude.{slice_get, Contains}
 use Rattle.std.proofs.lemmas.List.{take-map, map-append}
 use Rattle.std.proofs.lemmas.List.Elements.{All-append, Contains-append_left, Contains-append_right, Contains-append_cases}
 use Rattle.std.proofs.lemmas.Option.{slice_get_within}
 use Rattle.rbg_grammar.specs.Tree.{SpeltName, SpeltBounded, SpeltDescription}
+use Rattle.rbg_grammar.specs.Views.{bounded_of}
+use Rattle.rbg_grammar.specs.declared.description.Bounded.{Bounded}
 use Rattle.rbg_rules.specs.Limits.{greatest_bound}
 use Rattle.rbg_game.specs.declared.game_error.GameError.{GameError}
 use Rattle.rbg_numbering.specs.declared.error.NumberingError.{NumberingError}
@@ -19,7 +21,7 @@ use Rattle.rbg_game.specs.internal.Holders.{HasHolderFault, by_name, by_bound}
 use Rattle.rbg_numbering.proofs.LookUps.{name_fault_at}
 use Rattle.rbg_game.specs.internal.Things.{AddsBounds}
 use Rattle.rbg_base.proofs.CallerLemmas.{slice_get-map_at, Contains-from_get, get_from-Contains, slice_get-append_left, slice_get-append_right, AllZip-append}
-use Rattle.rbg_numbering.proofs.Lists.{Contains-one, map_entry, entry_of_front}
+use Rattle.rbg_numbering.proofs.Lists.{Contains-one, map_entry, entry_of_front, slice_get-map_read}
 
 -- Names that are added.
 
@@ -36,11 +38,18 @@ names_before earlier table holders k before =
     before ∙ ap (λ l. earlier ++ l) (sym (ap texts_of (take-map (λ (h : SpeltBounded). h.name) k holders) ∙ texts_of-names (take k holders)))
 
 -- The same of players and variables.
-pub holder_fault_at : (earlier table : List (List ℕ)) (holders : List SpeltBounded) (k : ℕ) (holder : SpeltBounded) (error : GameError) → slice_get holders k ≡ Some holder → table ≡ earlier ++ holder_names (take k holders) → HasHolderFault table (holder ∷ []) error → HasHolderFault earlier holders error
+holder_fault_at : (earlier table : List (List ℕ)) (holders : List SpeltBounded) (k : ℕ) (holder : SpeltBounded) (error : GameError) → slice_get holders k ≡ Some holder → table ≡ earlier ++ holder_names (take k holders) → HasHolderFault table (holder ∷ []) error → HasHolderFault earlier holders error
 holder_fault_at earlier table holders k holder _ there before (by_name {error = error} h) =
     by_name (name_fault_at earlier table (names_in_list holders) k holder.name error (slice_get-map_at (λ (h : SpeltBounded). h.name) holders k holder there) (names_before earlier table holders k before) h)
 holder_fault_at earlier table holders k holder _ there before (by_bound h) =
     by_bound (record { holder = h.holder; stands = subst (Contains holders) (Contains-one holder h.holder h.stands) (Contains-from_get holders k holder there); too_great = h.too_great; place = h.place })
+
+-- the same in a loop over the holders
+pub holder_fault_in_loop : (earlier table : List (List ℕ)) (holders : List Bounded) (k : ℕ) (holder : Bounded) (error : GameError) → k < length holders → holder ≡ get_or holders k holder
+    → table ≡ earlier ++ holder_names (map bounded_of (take k holders)) → HasHolderFault table (bounded_of holder ∷ []) error → HasHolderFault earlier (map bounded_of holders) error
+holder_fault_in_loop earlier table holders k holder error within is before =
+    let same = ap (λ (l : List SpeltBounded). earlier ++ holder_names l) (sym (take-map bounded_of k holders)) in
+    holder_fault_at earlier table (map bounded_of holders) k (bounded_of holder) error (slice_get-map_read bounded_of holders k holder within is) (before ∙ same)
 
 -- Names that stand again after others stand twice in the whole list.
 pub again_in_all : (before names after : List SpeltName) (at : ℕ) → StandsBehind (texts_of before) names at → StandsAgain ((before ++ names) ++ after) at

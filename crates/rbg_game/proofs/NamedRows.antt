@@ -1,18 +1,19 @@
 -- Boards of rows by the numbers of their names: the board, and what is wrong with it.
-use Rattle.std.proofs.Common.{◌≡◌, ◌≢◌, ◌↔◌, ℕ, ◌<◌, List, [], ◌∷◌, Some, length, get_or, slice_get, slice_index, All, sym, ap, ◌∙◌, subst, arith}
-use Rattle.std.specs.List.{AllZip, range_with_len}
+use Rattle.std.proofs.Common.{◌≡◌, ◌≢◌, ◌↔◌, ℕ, ◌<◌, ◌≤◌, List, [], Some, length, get_or, slice_get, slice_index, All, sym, ap, ◌∙◌, subst, arith}
+use Rattle.std.specs.List.{AllZip, concat, range_with_len}
 use Rattle.std.proofs.lemmas.List.{length-map, get_or-map}
 use Rattle.std.proofs.lemmas.Option.{slice_get-get_or}
 use Rattle.std.proofs.lemmas.Slice.Zip.{AllZip-long}
-use Rattle.rbg_grammar.specs.Tree.{SpeltName, SpeltBoard, rectangle, hexagon}
-use Rattle.rbg_board.specs.Graph.{Graph, HasWidth}
+use Rattle.rbg_grammar.specs.Tree.{SpeltName, SpeltBoard}
+use Rattle.rbg_board.specs.Graph.{Graph, HasWidth, IsGraphOf}
 use Rattle.rbg_board.specs.Cells.{Rows, width_of}
-use Rattle.rbg_board.specs.Rectangle.{IsRectangle, MakesRectangle}
-use Rattle.rbg_board.specs.Hexagon.{IsHexagon, MakesHexagon}
+use Rattle.rbg_board.specs.RowLaws.{MakesRows}
 use Rattle.rbg_board.specs.declared.error.BoardError.{BoardError}
 use Rattle.rbg_board.specs.declared.error.BoardError.TheVariants as board_errors
+use Rattle.rbg_rules.specs.Limits.{most_directions}
 use Rattle.rbg_rules.specs.LawfulNames.{AreDifferentNames, AreLawfulNames}
 use Rattle.rbg_numbering.specs.declared.error.NumberingError.{NumberingError}
+use Rattle.rbg_game.specs.Descriptions.{IsRowsBoard, BoardIs}
 use Rattle.rbg_game.specs.GameErrors.{game_error_of}
 use Rattle.rbg_game.specs.declared.game_error.GameError.TheVariants as errors
 use Rattle.rbg_numbering.specs.Names.{IsNumberOf, texts_of}
@@ -48,44 +49,27 @@ in_turn names numbers count long is = is ∙ ap (range_with_len 0) long
 
 module _ (pieces : List (List ℕ)) (names : List SpeltName) (rows : List (List SpeltName)) (cells : List (List ℕ)) (numbers : List ℕ) (table : List (List ℕ)) (board : Graph)
     (named : AllZip (AllZip (IsNumberOf pieces)) rows cells) (numbered : NumbersDirections names numbers table) (lawful : AreLawfulNames table) (vertices : HasVertices board) where
-  pub rectangle_made : length names ≡ 4 → MakesRectangle numbers cells → IsRectangle numbers cells board → HasWidth (width_of numbers) board → MakesBoard pieces (rectangle names rows) table board
-  rectangle_made four makes is wide =
+  -- by the generator, whose cells are the same
+  pub rows_made : (Cells Lawful : Rows → Type 0) (Edge : List ℕ → Rows → ℕ → ℕ → ℕ → Type 0) (count : ℕ) (spelt : SpeltBoard)
+      → (IsRowsBoard (MakesRows Cells Lawful) Edge (range_with_len 0 count) (record { directions = table; pieces = pieces; board = board }) names rows → BoardIs (record { directions = table; pieces = pieces; board = board }) spelt)
+      → length names ≡ count → count ≤ most_directions → (given : Rows) → given ≡ cells → MakesRows Cells Lawful numbers given → IsGraphOf board (concat given) (Edge numbers given) → HasWidth (width_of numbers) board → MakesBoard pieces spelt table board
+  rows_made Cells Lawful Edge count spelt is_spelt long few given same makes is wide =
       let in_order = numbered.in_order makes.different in
-      let first : numbers ≡ 0 ∷ 1 ∷ 2 ∷ 3 ∷ [] = in_turn names numbers 4 four in_order.0 in
+      let first : numbers ≡ range_with_len 0 count = in_turn names numbers count long in_order.0 in
       record {
-        is_board = record {
-          cells = cells;
-          named = named;
+        is_board = is_spelt (record {
+          cells = given;
+          named = subst (AllZip (AllZip (IsNumberOf pieces)) rows) (sym same) named;
           directions = in_order.1;
           differ = lawful.differ;
-          makes = subst (λ ds. MakesRectangle ds cells) first makes;
-          board = subst (λ ds. IsRectangle ds cells board) first is;
+          makes = subst (λ ds. MakesRows Cells Lawful ds given) first makes;
+          board = subst (λ ds. IsGraphOf board (concat given) (Edge ds given)) first is;
           width = subst (λ ds. HasWidth (width_of ds) board) first wide;
-        };
+        });
         names = lawful;
-        few = omega (arith, numbered.few, four);
+        few = omega (arith, numbered.few, long);
         vertices = vertices;
-        first_pieces = subst (All (λ x. x < length pieces)) (sym is.first_pieces) (rows_below pieces rows cells named);
-      }
-
-  pub hexagon_made : length names ≡ 6 → MakesHexagon numbers cells → IsHexagon numbers cells board → HasWidth (width_of numbers) board → MakesBoard pieces (hexagon names rows) table board
-  hexagon_made six makes is wide =
-      let in_order = numbered.in_order makes.different in
-      let first : numbers ≡ 0 ∷ 1 ∷ 2 ∷ 3 ∷ 4 ∷ 5 ∷ [] = in_turn names numbers 6 six in_order.0 in
-      record {
-        is_board = record {
-          cells = cells;
-          named = named;
-          directions = in_order.1;
-          differ = lawful.differ;
-          makes = subst (λ ds. MakesHexagon ds cells) first makes;
-          board = subst (λ ds. IsHexagon ds cells board) first is;
-          width = subst (λ ds. HasWidth (width_of ds) board) first wide;
-        };
-        names = lawful;
-        few = omega (arith, numbered.few, six);
-        vertices = vertices;
-        first_pieces = subst (All (λ x. x < length pieces)) (sym is.first_pieces) (rows_below pieces rows cells named);
+        first_pieces = subst (All (λ x. x < length pieces)) (sym (is.first_pieces ∙ ap concat same)) (rows_below pieces rows cells named);
       }
 
 -- Faults.

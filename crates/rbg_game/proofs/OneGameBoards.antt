@@ -1,16 +1,16 @@
 -- What is spelt as a board is at most one.
 use Rattle.std.proofs.Common.{◌≡◌, ℕ, List, [], ◌∷◌, map, sym, ◌∙◌, subst}
 use Rattle.std.specs.List.{AllZip, concat}
-use Rattle.rbg_board.specs.Cells.{width_of}
+use Rattle.rbg_board.specs.Cells.{Rows, width_of}
 use Rattle.rbg_board.specs.Graph.{HasWidth, IsGraphOf}
-use Rattle.rbg_board.specs.Rectangle.{RectangleEdge}
-use Rattle.rbg_board.specs.Hexagon.{HexagonEdge}
+use Rattle.rbg_board.specs.Rectangle.{RectangleEdge, MakesRectangle}
+use Rattle.rbg_board.specs.Hexagon.{HexagonEdge, MakesHexagon}
 use Rattle.rbg_board.specs.Written.{Written, pieces_of, directions_of, WrittenEdge}
 use Rattle.rbg_board.proofs.CallerLemmas.{one_graph}
 use Rattle.rbg_grammar.specs.Tree.{SpeltName, SpeltEdge, SpeltVertex, SpeltBoard, rectangle, hexagon, graph}
 use Rattle.rbg_rules.specs.LawfulNames.{AreDifferentNames}
 use Rattle.rbg_numbering.specs.Names.{IsNumberOf}
-use Rattle.rbg_game.specs.Descriptions.{NamedBoard, IsRectangleBoard, IsHexagonBoard, EdgeIs, VertexIs, directions_named, IsGraphBoard, BoardIs}
+use Rattle.rbg_game.specs.Descriptions.{NamedBoard, IsRowsBoard, EdgeIs, VertexIs, directions_named, IsGraphBoard, BoardIs}
 use Rattle.rbg_game.proofs.BoardNames.{rows_once}
 use Rattle.rbg_numbering.proofs.Lists.{AllZip-once}
 use Rattle.rbg_game.proofs.OneGameLists.{first_use_once}
@@ -20,27 +20,16 @@ pub record IsSameBoard (a b : NamedBoard) : Type 0 where
   pub directions : a.directions ≡ b.directions
   pub board : a.board ≡ b.board
 
-cells_once : (a b : NamedBoard) (rows : List (List SpeltName)) (left right : List (List ℕ)) → AreDifferentNames a.pieces → a.pieces ≡ b.pieces → AllZip (AllZip (IsNumberOf a.pieces)) rows left → AllZip (AllZip (IsNumberOf b.pieces)) rows right → left ≡ right
-cells_once a b rows left right differ same is_left is_right = rows_once a.pieces differ rows left right is_left (subst (λ pieces. AllZip (AllZip (IsNumberOf pieces)) rows right) (sym same) is_right)
-
-rectangle_once : (a b : NamedBoard) (names : List SpeltName) (rows : List (List SpeltName)) → AreDifferentNames a.pieces → a.pieces ≡ b.pieces → IsRectangleBoard a names rows → IsRectangleBoard b names rows → IsSameBoard a b
-rectangle_once a b names rows differ same left right =
-    let cells : left.cells ≡ right.cells = cells_once a b rows left.cells right.cells differ same left.named right.named in
+rows_board_once : (Makes : List ℕ → Rows → Type 0) (Edge : List ℕ → Rows → ℕ → ℕ → ℕ → Type 0) (numbers : List ℕ) (a b : NamedBoard) (names : List SpeltName) (rows : List (List SpeltName)) → AreDifferentNames a.pieces → a.pieces ≡ b.pieces
+    → IsRowsBoard Makes Edge numbers a names rows → IsRowsBoard Makes Edge numbers b names rows → IsSameBoard a b
+rows_board_once Makes Edge numbers a b names rows differ same left right =
+    let named = subst (λ pieces. AllZip (AllZip (IsNumberOf pieces)) rows right.cells) (sym same) right.named in
+    let cells : left.cells ≡ right.cells = rows_once a.pieces differ rows left.cells right.cells left.named named in
     record {
       directions = left.directions ∙ sym right.directions;
       board =
-          one_graph a.board b.board 4 (concat left.cells) (RectangleEdge (0 ∷ 1 ∷ 2 ∷ 3 ∷ []) left.cells) left.width right.width left.board
-          (subst (λ rows. IsGraphOf b.board (concat rows) (RectangleEdge (0 ∷ 1 ∷ 2 ∷ 3 ∷ []) rows)) (sym cells) right.board);
-    }
-
-hexagon_once : (a b : NamedBoard) (names : List SpeltName) (rows : List (List SpeltName)) → AreDifferentNames a.pieces → a.pieces ≡ b.pieces → IsHexagonBoard a names rows → IsHexagonBoard b names rows → IsSameBoard a b
-hexagon_once a b names rows differ same left right =
-    let cells : left.cells ≡ right.cells = cells_once a b rows left.cells right.cells differ same left.named right.named in
-    record {
-      directions = left.directions ∙ sym right.directions;
-      board =
-          one_graph a.board b.board 6 (concat left.cells) (HexagonEdge (0 ∷ 1 ∷ 2 ∷ 3 ∷ 4 ∷ 5 ∷ []) left.cells) left.width right.width left.board
-          (subst (λ rows. IsGraphOf b.board (concat rows) (HexagonEdge (0 ∷ 1 ∷ 2 ∷ 3 ∷ 4 ∷ 5 ∷ []) rows)) (sym cells) right.board);
+          one_graph a.board b.board (width_of numbers) (concat left.cells) (Edge numbers left.cells) left.width right.width left.board
+          (subst (λ rows. IsGraphOf b.board (concat rows) (Edge numbers rows)) (sym cells) right.board);
     }
 
 -- different names give a name one number, also in two lists that are one
@@ -85,8 +74,8 @@ graph_once a b vertices differ same left right =
 
 -- At most one board is spelt, where the pieces have different names.
 pub board_once : (board : SpeltBoard) (a b : NamedBoard) → AreDifferentNames a.pieces → a.pieces ≡ b.pieces → BoardIs a board → BoardIs b board → IsSameBoard a b
-board_once (rectangle names rows) a b differ same left right = rectangle_once a b names rows differ same left right
-board_once (hexagon names rows) a b differ same left right = hexagon_once a b names rows differ same left right
+board_once (rectangle names rows) a b differ same left right = rows_board_once MakesRectangle RectangleEdge (0 ∷ 1 ∷ 2 ∷ 3 ∷ []) a b names rows differ same left right
+board_once (hexagon names rows) a b differ same left right = rows_board_once MakesHexagon HexagonEdge (0 ∷ 1 ∷ 2 ∷ 3 ∷ 4 ∷ 5 ∷ []) a b names rows differ same left right
 board_once (graph vertices) a b differ same left right = graph_once a b vertices differ same left right
 
 -- The directions of a board have different names.

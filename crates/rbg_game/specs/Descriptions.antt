@@ -2,7 +2,7 @@
 use Rattle.std.specs.Prelude.{◌≡◌, ℕ, ◌<◌, List, [], ◌∷◌, ◌++◌, Some}
 use Rattle.std.specs.Prelude.{map, slice_get, Contains, flat_map}
 use Rattle.std.specs.List.{AllZip, concat}
-use Rattle.rbg_board.specs.Cells.{width_of}
+use Rattle.rbg_board.specs.Cells.{Rows, width_of}
 use Rattle.rbg_board.specs.Graph.{Graph, HasWidth, IsGraphOf}
 use Rattle.rbg_board.specs.Rectangle.{RectangleEdge, MakesRectangle}
 use Rattle.rbg_board.specs.Hexagon.{HexagonEdge, MakesHexagon}
@@ -31,26 +31,31 @@ pub record NamedBoard : Type 0 where
 abbrev pub board_in : AbstractGame → NamedBoard
 board_in game = record { directions = game.directions; pieces = game.pieces; board = game.board }
 
--- The board is the rectangle of these rows: its directions are the four names in order, all different, and its cells
--- the pieces named. It keeps a way, or none, for each of its vertices and each direction.
-pub record IsRectangleBoard (b : NamedBoard) (names : List SpeltName) (rows : List (List SpeltName)) : Type 0 where
-  pub cells : List (List ℕ)
+-- The board is that of these rows: its directions are the names in order, all different, which have these numbers, and
+-- its cells the pieces named. It keeps a way, or none, for each of its vertices and each direction. `Makes` says that
+-- directions and cells have no fault, and `Edge` where the directions lead.
+pub record IsRowsBoard
+    (Makes : List ℕ → Rows → Type 0)
+    (Edge : List ℕ → Rows → ℕ → ℕ → ℕ → Type 0)
+    (numbers : List ℕ)
+    (b : NamedBoard)
+    (names : List SpeltName)
+    (rows : List (List SpeltName))
+    : Type 0 where
+  pub cells : Rows
   pub named : AllZip (AllZip (IsNumberOf b.pieces)) rows cells
   pub directions : b.directions ≡ texts_of names
   pub differ : AreDifferentNames b.directions
-  pub makes : MakesRectangle (0 ∷ 1 ∷ 2 ∷ 3 ∷ []) cells
-  pub board : IsGraphOf b.board (concat cells) (RectangleEdge (0 ∷ 1 ∷ 2 ∷ 3 ∷ []) cells)
-  pub width : HasWidth 4 b.board
+  pub makes : Makes numbers cells
+  pub board : IsGraphOf b.board (concat cells) (Edge numbers cells)
+  pub width : HasWidth (width_of numbers) b.board
 
--- The same of a hexagon and its six names.
-pub record IsHexagonBoard (b : NamedBoard) (names : List SpeltName) (rows : List (List SpeltName)) : Type 0 where
-  pub cells : List (List ℕ)
-  pub named : AllZip (AllZip (IsNumberOf b.pieces)) rows cells
-  pub directions : b.directions ≡ texts_of names
-  pub differ : AreDifferentNames b.directions
-  pub makes : MakesHexagon (0 ∷ 1 ∷ 2 ∷ 3 ∷ 4 ∷ 5 ∷ []) cells
-  pub board : IsGraphOf b.board (concat cells) (HexagonEdge (0 ∷ 1 ∷ 2 ∷ 3 ∷ 4 ∷ 5 ∷ []) cells)
-  pub width : HasWidth 6 b.board
+-- the rectangle of these rows and four names, and the hexagon of these rows and six names
+abbrev pub IsRectangleBoard : NamedBoard → List SpeltName → List (List SpeltName) → Type 0
+IsRectangleBoard = IsRowsBoard MakesRectangle RectangleEdge (0 ∷ 1 ∷ 2 ∷ 3 ∷ [])
+
+abbrev pub IsHexagonBoard : NamedBoard → List SpeltName → List (List SpeltName) → Type 0
+IsHexagonBoard = IsRowsBoard MakesHexagon HexagonEdge (0 ∷ 1 ∷ 2 ∷ 3 ∷ 4 ∷ 5 ∷ [])
 
 -- an edge by numbers: its direction's, and that of the vertex to which it leads
 abbrev pub EdgeIs : NamedBoard → (vertices : List (List ℕ)) → SpeltEdge → ℕ × ℕ → Type 0

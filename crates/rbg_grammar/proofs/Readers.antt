@@ -55,13 +55,17 @@ kind_of-is_symbol s (kinds.Symbol x) e = ap kinds.Symbol (same_true the_type tt 
 pub ok_one : {A : Type 0} (x y : A) → ◌≡◌ {A = Result A Fault} (Ok x) (Ok y) → x ≡ y
 ok_one x y e = cc
 
+-- a phrase of one token, by its kind
+token_sound : {A : Type 0} (P : List Lexeme → A → List Lexeme → Type 0) (test : TokenKind → Bool) (make : Lexeme → A) → ((t : Lexeme) (rest : List Lexeme) → test t.kind ≡ true → P (t ∷ rest) (make t) rest)
+    → (ts : List Lexeme) (x : A) (rest : List Lexeme) → (◌>>=◌ {B = A × List Lexeme} (token_at test ts) (λ (t : Lexeme × List Lexeme). Ok (make t.0, t.1))) ≡ Ok (x, rest) → P ts x rest
+token_sound {A} P test make spells ts x rest e =
+    let (t, taken, given) = bind_ok (token_at test ts) (λ (t : Lexeme × List Lexeme). Ok (make t.0, t.1)) (x, rest) e in
+    let (here, is) = token_at_ok test ts t.0 t.1 taken in
+    subst (λ (q : A × List Lexeme). P ts q.0 q.1) (ok_one (make t.0, t.1) (x, rest) given) (subst (λ us. P us (make t.0) t.1) (sym here) (spells t.0 t.1 is))
+
 symbol_sound : (s : Symbol) (ts : List Lexeme) (at : ℕ) (rest : List Lexeme) → symbol_at s ts ≡ Ok (at, rest) → IsSymbol s ts at rest
 unfolding symbol_at
-symbol_sound s ts at rest e =
-    let (t, taken, given) = bind_ok (token_at (is_symbol s) ts) (λ (t : Lexeme × List Lexeme). Ok (t.0.at, t.1)) (at, rest) e in
-    let (here, is) = token_at_ok (is_symbol s) ts t.0 t.1 taken in
-    let k : IsSymbol s (t.0 ∷ t.1) t.0.at t.1 = symbol (kind_of-is_symbol s t.0.kind is) in
-    subst (λ (q : ℕ × List Lexeme). IsSymbol s ts q.0 q.1) (ok_one (t.0.at, t.1) (at, rest) given) (subst (λ us. IsSymbol s us t.0.at t.1) (sym here) k)
+symbol_sound s = token_sound (IsSymbol s) (is_symbol s) (λ t. t.at) (λ t rest is. symbol (kind_of-is_symbol s t.kind is))
 
 pub symbol_complete : {s : Symbol} {ts rest : List Lexeme} {at : ℕ} → IsSymbol s ts at rest → symbol_at s ts ≡ Ok (at, rest)
 unfolding symbol_at
@@ -79,11 +83,7 @@ symbol_read s = record {
 
 name_sound : (ts : List Lexeme) (n : SpeltName) (rest : List Lexeme) → name_at ts ≡ Ok (n, rest) → IsName ts n rest
 unfolding name_at
-name_sound ts n rest e =
-    let (t, taken, given) = bind_ok (token_at is_name ts) (λ (t : Lexeme × List Lexeme). Ok (record { text = t.0.text; at = t.0.at }, t.1)) (n, rest) e in
-    let (here, is) = token_at_ok is_name ts t.0 t.1 taken in
-    let k : IsName (t.0 ∷ t.1) (record { text = t.0.text; at = t.0.at }) t.1 = name (kind_of-is_name t.0.kind is) in
-    subst (λ (q : SpeltName × List Lexeme). IsName ts q.0 q.1) (ok_one _ (n, rest) given) (subst (λ us. IsName us (record { text = t.0.text; at = t.0.at }) t.1) (sym here) k)
+name_sound = token_sound IsName is_name (λ t. record { text = t.text; at = t.at }) (λ t rest is. name (kind_of-is_name t.kind is))
 
 pub name_complete : {ts rest : List Lexeme} {n : SpeltName} → IsName ts n rest → name_at ts ≡ Ok (n, rest)
 unfolding name_at
@@ -97,11 +97,7 @@ name_read = record { sound = name_sound; complete = λ ts x rest d f. name_compl
 
 number_sound : (ts : List Lexeme) (n : SpeltNumber) (rest : List Lexeme) → number_at ts ≡ Ok (n, rest) → IsNumber ts n rest
 unfolding number_at
-number_sound ts n rest e =
-    let (t, taken, given) = bind_ok (token_at is_number ts) (λ (t : Lexeme × List Lexeme). Ok (record { value = number_of_digits t.0.text; at = t.0.at }, t.1)) (n, rest) e in
-    let (here, is) = token_at_ok is_number ts t.0 t.1 taken in
-    let k : IsNumber (t.0 ∷ t.1) (record { value = number_of_digits t.0.text; at = t.0.at }) t.1 = number (kind_of-is_number t.0.kind is) in
-    subst (λ (q : SpeltNumber × List Lexeme). IsNumber ts q.0 q.1) (ok_one _ (n, rest) given) (subst (λ us. IsNumber us (record { value = number_of_digits t.0.text; at = t.0.at }) t.1) (sym here) k)
+number_sound = token_sound IsNumber is_number (λ t. record { value = number_of_digits t.text; at = t.at }) (λ t rest is. number (kind_of-is_number t.kind is))
 
 pub number_complete : {ts rest : List Lexeme} {n : SpeltNumber} → IsNumber ts n rest → number_at ts ≡ Ok (n, rest)
 unfolding number_at

@@ -105,19 +105,21 @@ module _ (Rules : List Lexeme → SpeltRule → List Lexeme → Type 0) (rules' 
       bracket_outcome OpenParenthesis CloseParenthesis refl refl refl Rules (IsBracketAtom Rules Sum) (λ (at : ℕ) (r : SpeltRule). r)
       (λ ts at first x last end rest d e f. groups (within d e f)) n rules' more_rules' rules_reads
 
-  compare_outcome : (ts : List Lexeme) → Outcome (IsBracketAtom Rules Sum) (suc n) ts (within_at OpenBrace CloseBrace (after_at Dollar (comparison_at sum')) ts) (within_at OpenBrace CloseBrace (after_at Dollar (comparison_at more)) ts)
+  -- a `$` and a phrase in brackets
+  dollar_outcome : (o c : Symbol) → opens (kinds.Symbol o) ≡ true → opens (kinds.Symbol c) ≡ false → closes (kinds.Symbol c) ≡ true
+      → (P : List Lexeme → SpeltRule → List Lexeme → Type 0) (read read' : List Lexeme → Reading SpeltRule) → ((ts : List Lexeme) → Outcome P n ts (read ts) (read' ts))
+      → ((ts : List Lexeme) (x : SpeltRule) (rest : List Lexeme) → Within o c (After Dollar P) ts x rest → IsBracketAtom Rules Sum ts x rest)
+      → (ts : List Lexeme) → Outcome (IsBracketAtom Rules Sum) (suc n) ts (within_at o c (after_at Dollar read) ts) (within_at o c (after_at Dollar read') ts)
   unfolding within_at
-  compare_outcome =
-      bracket_outcome OpenBrace CloseBrace refl refl refl (After Dollar (IsComparison Sum)) (IsBracketAtom Rules Sum) (λ (at : ℕ) (r : SpeltRule). r)
-      (λ ts at first x last end rest d e f. compares (within d e f)) n (after_at Dollar (comparison_at sum')) (after_at Dollar (comparison_at more))
-      (after_outcome (IsComparison Sum) n (comparison_at sum') (comparison_at more) (comparison_outcome Sum n sum' more reads named) Dollar refl refl)
+  dollar_outcome o c opening no_opening closing P read read' outcome see =
+      bracket_outcome o c opening no_opening closing (After Dollar P) (IsBracketAtom Rules Sum) (λ (at : ℕ) (r : SpeltRule). r) (λ ts at first x last end rest d e f. see ts x rest (within d e f)) n
+      (after_at Dollar read) (after_at Dollar read') (after_outcome P n read read' outcome Dollar refl refl)
+
+  compare_outcome : (ts : List Lexeme) → Outcome (IsBracketAtom Rules Sum) (suc n) ts (within_at OpenBrace CloseBrace (after_at Dollar (comparison_at sum')) ts) (within_at OpenBrace CloseBrace (after_at Dollar (comparison_at more)) ts)
+  compare_outcome = dollar_outcome OpenBrace CloseBrace refl refl refl (IsComparison Sum) (comparison_at sum') (comparison_at more) (comparison_outcome Sum n sum' more reads named) (λ ts x rest d. compares d)
 
   assign_outcome : (ts : List Lexeme) → Outcome (IsBracketAtom Rules Sum) (suc n) ts (within_at OpenBracket CloseBracket (after_at Dollar (assignments_at sum')) ts) (within_at OpenBracket CloseBracket (after_at Dollar (assignments_at more)) ts)
-  unfolding within_at
-  assign_outcome =
-      bracket_outcome OpenBracket CloseBracket refl refl refl (After Dollar (AreAssignments Sum)) (IsBracketAtom Rules Sum) (λ (at : ℕ) (r : SpeltRule). r)
-      (λ ts at first x last end rest d e f. assigns (within d e f)) n (after_at Dollar (assignments_at sum')) (after_at Dollar (assignments_at more))
-      (after_outcome (AreAssignments Sum) n (assignments_at sum') (assignments_at more) (assignments_outcome Sum n sum' more reads named) Dollar refl refl)
+  assign_outcome = dollar_outcome OpenBracket CloseBracket refl refl refl (AreAssignments Sum) (assignments_at sum') (assignments_at more) (assignments_outcome Sum n sum' more reads named) (λ ts x rest d. assigns d)
 
   inside_outcome : (s : Symbol) → opens (kinds.Symbol s) ≡ false → closes (kinds.Symbol s) ≡ false → (ts : List Lexeme) → Outcome (After s Rules) n ts (after_at s rules' ts) (after_at s more_rules' ts)
   inside_outcome s no_opening no_closing = after_outcome Rules n rules' more_rules' rules_reads s no_opening no_closing

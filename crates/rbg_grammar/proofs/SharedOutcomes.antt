@@ -84,23 +84,20 @@ pub number_never : (ts : List Lexeme) (at : ℕ) → number_at ts ≡ Err (too_d
 unfolding number_at
 number_never ts at e = never_bound (token_at is_number ts) (λ (t : Lexeme × List Lexeme). (record { value = number_of_digits t.0.text; at = t.0.at }, t.1)) at (token_never is_number ts at) e
 
-pub name_piece : (n : ℕ) {ts rest : List Lexeme} {x : SpeltName} → IsName ts x rest → Piece IsName n ts x rest
-name_piece n (name {t = t} k) = record {
+token_piece : {A : Type 0} (P : List Lexeme → A → List Lexeme → Type 0) (n : ℕ) (t : Lexeme) (rest : List Lexeme) (x : A) → opens t.kind ≡ false → closes t.kind ≡ false → ((tail : List Lexeme) → P (t ∷ tail) x tail) → Piece P n (t ∷ rest) x rest
+token_piece P n t rest x no_opening no_closing again = record {
   used = t ∷ [];
   whole = refl;
-  again = λ tail. name k;
-  balanced = λ j. passed j t.kind (ap opens k) (ap closes k);
-  fits = λ j. plain_fits (j + n) j t (ap opens k);
+  again = again;
+  balanced = λ j. passed j t.kind no_opening no_closing;
+  fits = λ j. plain_fits (j + n) j t no_opening;
 }
 
+pub name_piece : (n : ℕ) {ts rest : List Lexeme} {x : SpeltName} → IsName ts x rest → Piece IsName n ts x rest
+name_piece n (name {t = t} k) = token_piece IsName n t _ _ (ap opens k) (ap closes k) (λ tail. name k)
+
 pub number_piece : (n : ℕ) {ts rest : List Lexeme} {x : SpeltNumber} → IsNumber ts x rest → Piece IsNumber n ts x rest
-number_piece n (number {t = t} k) = record {
-  used = t ∷ [];
-  whole = refl;
-  again = λ tail. number k;
-  balanced = λ j. passed j t.kind (ap opens k) (ap closes k);
-  fits = λ j. plain_fits (j + n) j t (ap opens k);
-}
+number_piece n (number {t = t} k) = token_piece IsNumber n t _ _ (ap opens k) (ap closes k) (λ tail. number k)
 
 alone : {A : Type 0} (P : List Lexeme → A → List Lexeme → Type 0) (n : ℕ) (ts : List Lexeme) (r : Reading A)
     → ((x : A) (rest : List Lexeme) → r ≡ Ok (x, rest) → Piece P n ts x rest) → ((at : ℕ) → r ≡ Err (too_deep at) → ⊥) → Outcome P n ts r r

@@ -1,6 +1,5 @@
 -- The turns of a reader's loop.
-use Rattle.std.proofs.Common.{◌≡◌, ◌≤◌, ◌<◌, ℕ, zero, suc, List, [], ◌∷◌, ◌++◌, length, drop, map, Bool, true, false, cond, Option, Result, Ok, Err, refl, sym, ap, ◌∙◌, arith, append_assoc, append-nil}
-use Rattle.std.specs.Prelude.{IsErrAnd}
+use Rattle.std.proofs.Common.{◌≡◌, ◌≤◌, ◌<◌, ℕ, zero, suc, List, [], ◌∷◌, ◌++◌, length, drop, map, Bool, true, false, cond, Ok, Err, refl, sym, ap, ◌∙◌, arith, append_assoc, append-nil}
 use Rattle.std.proofs.lemmas.List.{map-append}
 use Rattle.rbg_tokens.specs.Token.{Lexeme}
 use Rattle.rbg_tokens.specs.declared.token.Symbol.{Symbol}
@@ -16,6 +15,10 @@ after_at-taken s read (t ∷ ts) e = rw e
 -- what is read, behind what was read before
 abbrev pub prepend : {A : Type 0} → List A → Reading (List A) → Reading (List A)
 prepend xs r = r >>= λ m. Ok (xs ++ m.0, m.1)
+
+-- Of tokens a first part and so many turns are read where these were read before, and the rest from these tokens on.
+abbrev pub ReadsOn : {A : Type 0} → A → (TokenKind → Bool) → (List Lexeme → Reading A) → List Lexeme → List A → List Lexeme → Type 0
+ReadsOn first test read from before rest = further_at first test read from ≡ prepend before (repeated_at test read rest)
 
 prepend-cons : {A : Type 0} (xs : List A) (x : A) (r : Reading (List A)) → prepend xs (r >>= λ m. Ok (x ∷ m.0, m.1)) ≡ prepend (xs ++ x ∷ []) r
 prepend-cons xs x (Ok m) = ap (λ l. Ok (l, m.1)) (sym (append_assoc xs (x ∷ []) m.0))

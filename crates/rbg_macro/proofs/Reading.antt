@@ -1,5 +1,7 @@
 -- How far a joined list was read.
 use Rattle.std.proofs.Common.{ℕ, ◌≡◌, ◌+◌, ◌<◌, ◌≤◌, List, [], ◌∷◌, ◌++◌, length, get_or, drop, map, refl, sym, ap, ◌∙◌, arith, append_assoc, length-append, length-drop, drop-cons, add-one}
+use Rattle.std.specs.Prelude.{Vec, vec_len}
+use Rattle.std.specs.Global.{Global}
 use Rattle.std.proofs.Math.ListN.{drop_of_length-le}
 use Rattle.std.proofs.lemmas.List.{append-nil, drop-map, drop-drop, length-map}
 use Rattle.rbg_macro.specs.declared.error.MacroError.{MacroError}
@@ -24,6 +26,10 @@ pub record HasRead (macros : List Macro) (d : ℕ) (tokens : List ReadToken) (at
   pub read : now.read ≡ old.read + spent
   pub reads : (us : List Lexeme) (m : ℕ) → Reads macros d (map read_lexeme (drop at tokens)) us m → Reads macros d (map read_lexeme tokens) (added ++ us) (spent + m)
   pub fails : (e : MacroError) → FailsReading macros d now.read (length now.kept) (map read_lexeme (drop at tokens)) e → FailsReading macros d old.read (length old.kept) (map read_lexeme tokens) e
+
+-- as many tokens are counted as a list of them has
+pub counted_all : (tokens : Vec ReadToken Global) (ls : List Lexeme) (count : ℕ) (old new : ExpandedTokens) → count ≡ vec_len tokens → map read_lexeme tokens.items ≡ ls → new ≡ record old { read = old.read + count } → new ≡ record old { read = old.read + length ls }
+counted_all tokens ls count old new size are counted = counted ∙ ap (λ (n : ℕ). record old { read = old.read + n }) (size ∙ tokens.ok.0 ∙ sym (length-map tokens.items read_lexeme) ∙ ap length are)
 
 pub nothing_read : (macros : List Macro) (d : ℕ) (tokens : List ReadToken) (now : ExpandedTokens) → IsWithinLimits now → HasRead macros d tokens 0 now now
 nothing_read macros d tokens now limits = record {

@@ -31,19 +31,10 @@ pub(crate) enum JoinedToken<'t, 'j> {
 }
 
 /// A joined list, with the texts of its joined tokens.
+#[derive(Drop)]
 pub(crate) struct JoinedList<'t, 'j> {
     texts: Vec<u8>,
     tokens: Vec<JoinedToken<'t, 'j>>,
-}
-
-/// Written out, so that letting a list go is one call in the proofs of those who hold one, not a step for each part.
-impl Drop for JoinedList<'_, '_> {
-    fn drop(self) {
-        let JoinedList {
-            texts: _,
-            tokens: _,
-        } = self;
-    }
 }
 
 impl<'t, 'j> Model for JoinedList<'t, 'j> {

@@ -25,19 +25,10 @@ pub(crate) enum BodyItem<'t> {
 }
 
 /// How many parameters a macro has, and its body.
+#[derive(Drop)]
 pub(crate) struct Template<'t> {
     pub(crate) parameters: usize,
     pub(crate) body: Vec<BodyItem<'t>>,
-}
-
-/// Written out, so that letting a template go is one call in the proofs of those who hold one, not a step for each part.
-impl Drop for Template<'_> {
-    fn drop(self) {
-        let Template {
-            parameters: _,
-            body: _,
-        } = self;
-    }
 }
 
 /// The macros by name, in order of the text.

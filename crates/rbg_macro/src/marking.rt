@@ -15,19 +15,10 @@ use std::alloc::Global;
 use std::marker::Model;
 
 /// The macros, with the tokens of their bodies marked.
+#[derive(Drop)]
 pub(crate) struct MarkedMacros<'t> {
     macros: Macros<'t>,
     templates: Vec<Template<'t>>,
-}
-
-/// Written out, so that letting the macros go is one call in the proofs of those who hold them, not a step for each part.
-impl Drop for MarkedMacros<'_> {
-    fn drop(self) {
-        let MarkedMacros {
-            macros: _,
-            templates: _,
-        } = self;
-    }
 }
 
 impl<'t> Model for MarkedMacros<'t> {

@@ -7,6 +7,7 @@ pub mod ActionLemmas
 pub mod StepLemmas
 pub mod StepFaults
 pub mod RuleNumbering
+pub mod Reaching
 pub mod RuleLaws
 pub mod RuleFaults
 pub mod OneNumbering

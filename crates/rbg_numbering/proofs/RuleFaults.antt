@@ -4,7 +4,7 @@ use Rattle.std.specs.Prelude.{Contains}
 use Rattle.std.specs.List.{AllZip}
 use Rattle.std.proofs.lemmas.List.{length-append}
 use Rattle.rbg_grammar.specs.Tree.{SpeltName, SpeltExpression, SpeltTerms, no_terms, SpeltFactors, no_factors, SpeltRule, SpeltRules, no_rules, more_rules, SpeltAction}
-use Rattle.rbg_rules.specs.Expression.{AbstractArithmetic, AbstractAction, switch, positive, negative, Expression, act, skip, sequence, fail, choice, star}
+use Rattle.rbg_rules.specs.Expression.{AbstractArithmetic, AbstractAction, switch, positive, negative, Expression, act, sequence, choice, star}
 use Rattle.rbg_rules.specs.Games.{NestsWithin, InsideNestsWithin}
 use Rattle.rbg_rules.specs.Positions.{HasAction, HasInside, positions_of, positions_inside, IsPatternOf, IsLevel, inside as level_of}
 use Rattle.rbg_rules.specs.Limits.{most_positions, most_nested_patterns}
@@ -21,6 +21,7 @@ use Rattle.rbg_numbering.specs.Faults.{HasRuleFault, unknown_use, in_arithmetic,
 use Rattle.rbg_numbering.specs.Numbered.{HasNoSwitchInPattern}
 use Rattle.rbg_base.proofs.CallerLemmas.{Contains-from_get}
 use Rattle.rbg_numbering.proofs.Lists.{Contains-one, AllZip-at}
+use Rattle.rbg_numbering.proofs.Reaching.{reaches}
 
 -- a list with an unknown name has no numbers
 pub unnumbered : (known : List (List ℕ)) (names : List SpeltName) (name : SpeltName) (numbers : List ℕ) → Contains names name → ¬ Contains known name.text → ¬ AllZip (IsNumberOf known) names numbers
@@ -186,27 +187,8 @@ switch_is : (names : Names) (at : ℕ) (player : Option SpeltName) (b : Abstract
 switch_is names at None b e = (0, e)
 switch_is names at (Some name) b (k, is, e) = (k + 1, e)
 
-mutual
-  -- where an action stands, fewer patterns may be opened, or as many
-  nests_at : (limit p : ℕ) (x : Expression) (b : AbstractAction) → NestsWithin limit x → HasAction x p b → (below : ℕ) × (below ≤ limit) × InsideNestsWithin below b
-  nests_at limit p (act q c) b nests (inl (at, same)) = (limit, omega arith, subst (InsideNestsWithin limit) (sym same) nests)
-  nests_at limit p (act q c) b nests (inr has) = nests_inside limit p c b nests has
-  nests_at limit p skip b nests has = absurd has
-  nests_at limit p (sequence x y) b nests (inl has) = nests_at limit p x b nests.0 has
-  nests_at limit p (sequence x y) b nests (inr has) = nests_at limit p y b nests.1 has
-  nests_at limit p fail b nests has = absurd has
-  nests_at limit p (choice x y) b nests (inl has) = nests_at limit p x b nests.0 has
-  nests_at limit p (choice x y) b nests (inr has) = nests_at limit p y b nests.1 has
-  nests_at limit p (star x) b nests has = nests_at limit p x b nests has
-
-  nests_inside : (limit p : ℕ) (c b : AbstractAction) → InsideNestsWithin limit c → HasInside c p b → (below : ℕ) × (below ≤ limit) × InsideNestsWithin below b
-  nests_inside limit p (positive x) b (m, more, nests) has =
-      let (below, few, within) = nests_at m p x b nests has in
-      (below, omega arith, within)
-  nests_inside limit p (negative x) b (m, more, nests) has =
-      let (below, few, within) = nests_at m p x b nests has in
-      (below, omega arith, within)
-  nests_inside limit p _ b nests has = absurd has
+nests_at : (limit p : ℕ) (x : Expression) (b : AbstractAction) → NestsWithin limit x → HasAction x p b → (below : ℕ) × (below ≤ limit) × InsideNestsWithin below b
+nests_at = reaches NestsWithin InsideNestsWithin (λ left p a h. h) (λ left x y h. h) (λ left x y h. h) (λ left x h. h) (λ left x h. h) (λ left x h. h)
 
 pattern_nests : (limit : ℕ) (b : AbstractAction) (y : Expression) → IsPatternOf b y → InsideNestsWithin limit b → (below : ℕ) × (limit ≡ suc below) × NestsWithin below y
 pattern_nests limit b y (inl e) nests = subst (InsideNestsWithin limit) e nests

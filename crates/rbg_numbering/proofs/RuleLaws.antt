@@ -25,6 +25,7 @@ use Rattle.rbg_numbering.specs.Rules.{added, multiplied, ArithmeticIs, SumIs, Pr
 use Rattle.rbg_numbering.specs.Faults.{actions_in}
 use Rattle.rbg_numbering.specs.Numbered.{HasAsMany, HasNoSwitchInPattern, IsRuleByNumbers}
 use Rattle.rbg_numbering.specs.internal.Steps.{IsLawful, IsLawfulAction, AddsRule}
+use Rattle.rbg_numbering.proofs.Reaching.{reaches}
 
 -- No sum is empty.
 mutual
@@ -181,26 +182,8 @@ mutual
   nests_action left (comparison e r f) h = tt
   nests_action left (switch n) h = tt
 
-mutual
-  lawful_at : (left p : ℕ) (x : Expression) (a : AbstractAction) → IsLawful left x → HasAction x p a → (below : ℕ) × (below ≤ left) × IsLawfulAction below a
-  lawful_at left p (act q c) a h (inl (at, same)) = (left, omega arith, subst (IsLawfulAction left) (sym same) h)
-  lawful_at left p (act q c) a h (inr has) = lawful_inside left p c a h has
-  lawful_at left p skip a h has = absurd has
-  lawful_at left p (sequence x y) a h (inl has) = lawful_at left p x a h.0 has
-  lawful_at left p (sequence x y) a h (inr has) = lawful_at left p y a h.1 has
-  lawful_at left p fail a h has = absurd has
-  lawful_at left p (choice x y) a h (inl has) = lawful_at left p x a h.0 has
-  lawful_at left p (choice x y) a h (inr has) = lawful_at left p y a h.1 has
-  lawful_at left p (star x) a h has = lawful_at left p x a h has
-
-  lawful_inside : (left p : ℕ) (c a : AbstractAction) → IsLawfulAction left c → HasInside c p a → (below : ℕ) × (below ≤ left) × IsLawfulAction below a
-  lawful_inside left p (positive x) a (m, few, h) has =
-      let (below, fewer, lawful) = lawful_at m p x a h has in
-      (below, omega arith, lawful)
-  lawful_inside left p (negative x) a (m, few, h) has =
-      let (below, fewer, lawful) = lawful_at m p x a h has in
-      (below, omega arith, lawful)
-  lawful_inside left p _ a h has = absurd has
+lawful_at : (left p : ℕ) (x : Expression) (a : AbstractAction) → IsLawful left x → HasAction x p a → (below : ℕ) × (below ≤ left) × IsLawfulAction below a
+lawful_at = reaches IsLawful IsLawfulAction (λ left p a h. h) (λ left x y h. h) (λ left x y h. h) (λ left x h. h) (λ left x h. h) (λ left x h. h)
 
 no_switch : (left : ℕ) (x : Expression) → left < most_nested_patterns → IsLawful left x → (q n : ℕ) → ¬ HasAction x q (switch n)
 no_switch left x fewer h q n has =

@@ -131,33 +131,34 @@ module _ (names : Names) (left : ℕ) (make : Expression → Expression → Expr
       let f : 0 + actions_in_list rs ≡ actions_in_all (rules_after no_rules rs) = omega arith in
       subst (λ n. Numbers (Is (rules_after no_rules rs)) left before n (fold make y xs)) f (put_together no_rules rs before 0 y xs none (subst (λ n. AreNumbered names left rs n xs) e all))
 
+  -- the parts, where the tree of the whole is made from `none`, the value of no parts
+  parts_added : (none : Expression) → ((before : ℕ) → Numbers (Is no_rules) left before 0 none) → (rs : List SpeltRule) (old new : List Action) (xs : List Rule) → AddsParts names left rs old new xs → (r : SpeltRule) (x : Rule)
+      → actions_in r ≡ actions_in_all (rules_after no_rules rs) → IsWithin (length new) x → expression_of new x ≡ fold make none (map (expression_of new) xs) → ((e : Expression) → Is (rules_after no_rules rs) e → RuleIs names r e) → AddsRule names left r old new x
+  parts_added none begun rs old new xs h r x size within tree means =
+      let total = count_after no_rules rs in
+      let numbers = joined rs (length old) none (map (expression_of new) xs) (begun (length old)) h.numbers in
+      record {
+        made = h.made;
+        added = h.added;
+        count = omega (arith, h.count, size);
+        few = h.few;
+        within = within;
+        numbers = record {
+          means = subst (RuleIs names r) (sym tree) (means (fold make none (map (expression_of new) xs)) numbers.means);
+          positions = ap positions_of tree ∙ numbers.positions ∙ ap (range_with_len (length old + 1)) (sym size);
+          lawful = subst (IsLawful left) (sym tree) numbers.lawful;
+        };
+      }
+
 pub sequence_added : (names : Names) (left : ℕ) (rs : List SpeltRule) (old new : List Action) (xs : Vec Rule Global) → AddsParts names left rs old new xs.items → AddsRule names left (SpeltRule.sequence (rules_after no_rules rs)) old new (Then xs)
 sequence_added names left rs old new xs h =
-    let total = count_after no_rules rs in
-    record {
-      made = h.made;
-      added = h.added;
-      count = omega (arith, h.count);
-      few = h.few;
-      within = within_Then (length new) xs h.within;
-      numbers =
-          subst (λ x. Numbers (SequenceIs names (rules_after no_rules rs)) left (length old) (actions_in_all (rules_after no_rules rs)) x) (sym (expression_of-Then new xs))
-          (joined names left sequence (SequenceIs names) (λ first r y z is_first is_rule. (y, z, is_first, is_rule, refl)) (λ y z. refl) (λ y z one two. (one, two)) rs (length old) skip (map (expression_of new) xs.items) (record { means = refl; positions = refl; lawful = tt }) h.numbers);
-    }
+    parts_added names left sequence (SequenceIs names) (λ first r y z is_first is_rule. (y, z, is_first, is_rule, refl)) (λ y z. refl) (λ y z one two. (one, two)) skip (λ before. record { means = refl; positions = refl; lawful = tt })
+    rs old new xs.items h (SpeltRule.sequence (rules_after no_rules rs)) (Then xs) refl (within_Then (length new) xs h.within) (expression_of-Then new xs) (λ e is. is)
 
 pub choice_added : (names : Names) (left : ℕ) (rs : List SpeltRule) (old new : List Action) (xs : Vec Rule Global) → AddsParts names left rs old new xs.items → AddsRule names left (SpeltRule.choice (rules_after no_rules rs)) old new (Or xs)
 choice_added names left rs old new xs h =
-    let total = count_after no_rules rs in
-    record {
-      made = h.made;
-      added = h.added;
-      count = omega (arith, h.count);
-      few = h.few;
-      within = within_Or (length new) xs h.within;
-      numbers =
-          subst (λ x. Numbers (ChoiceIs names (rules_after no_rules rs)) left (length old) (actions_in_all (rules_after no_rules rs)) x) (sym (expression_of-Or new xs))
-          (joined names left choice (ChoiceIs names) (λ first r y z is_first is_rule. (y, z, is_first, is_rule, refl)) (λ y z. refl) (λ y z one two. (one, two)) rs (length old) fail (map (expression_of new) xs.items) (record { means = refl; positions = refl; lawful = tt }) h.numbers);
-    }
+    parts_added names left choice (ChoiceIs names) (λ first r y z is_first is_rule. (y, z, is_first, is_rule, refl)) (λ y z. refl) (λ y z one two. (one, two)) fail (λ before. record { means = refl; positions = refl; lawful = tt })
+    rs old new xs.items h (SpeltRule.choice (rules_after no_rules rs)) (Or xs) refl (within_Or (length new) xs h.within) (expression_of-Or new xs) (λ e is. is)
 
 pub star_added : (names : Names) (left : ℕ) (r : SpeltRule) (old new : List Action) (x : Rule) (box : Box Rule Global) → box.value ≡ x → AddsRule names left r old new x → AddsRule names left (SpeltRule.star r) old new (Star box)
 star_added names left r old new x box holds h =

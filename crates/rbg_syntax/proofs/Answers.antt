@@ -1,20 +1,11 @@
 -- What is answered for one section, from what was read of its tokens.
-use Rattle.std.proofs.Common.{◌≡◌, ℕ, List, [], ◌∷◌, Result, Ok, Err, refl, sym, ◌∙◌}
+use Rattle.std.proofs.Common.{◌≡◌, ℕ, List, [], ◌∷◌, Result, Ok, Err, refl, ◌∙◌}
 use Rattle.rbg_tokens.specs.Token.{Lexeme}
 use Rattle.rbg_syntax.specs.declared.error.ReadError.{ReadError}
-use Rattle.rbg_syntax.specs.declared.error.ReadError.TheVariants as errors
-use Rattle.rbg_grammar.specs.Reading.{Fault, misfit, Reading, ended_at, whole_at}
-use Rattle.rbg_syntax.specs.internal.Giving.{Gives, Fails, FailsWithin}
-use Rattle.rbg_grammar.proofs.Readers.{IsReadBy, bind_ok, ok_one}
+use Rattle.rbg_grammar.specs.Reading.{Fault, Reading, ended_at, whole_at}
+use Rattle.rbg_syntax.specs.internal.Giving.{Fails, FailsWithin}
+use Rattle.rbg_grammar.proofs.Readers.{IsReadBy, bind_ok}
 use Rattle.rbg_syntax.proofs.Exits.{Fails-from, FailsWithin-shallow}
-
--- What is returned for one section: the only value that its tokens spell, or that they spell none, unless memory ran
--- out.
-abbrev pub Reads : {A B : Type 0} → (List Lexeme → B → List Lexeme → Type 0) → (A → B) → List Lexeme → Result A ReadError → Type 0
-Reads {A} {B} P view ts (Ok x) = P ts (view x) [] × ((y : B) → P ts y [] → y ≡ view x)
-Reads {A} {B} P view ts (Err (errors.Misfit at what)) = (y : B) → P ts y [] → ⊥
-Reads P view ts (Err (errors.TooDeep at)) = ⊥
-Reads P view ts (Err errors.Memory) = Unit {0}
 
 pub ok_value : {A : Type 0} (x y : A) → ◌≡◌ {A = Result A Fault} (Ok x) (Ok y) → x ≡ y
 ok_value x y e = cc
@@ -43,9 +34,6 @@ pub ruleset endings = (ended_at-ok, Fails-ended_at, FailsWithin-ended_at)
 same_pair : {A : Type 0} (q : A × List Lexeme) (x : A) → q.0 ≡ x → q.1 ≡ [] → ◌≡◌ {A = Reading A} (Ok q) (Ok (x, []))
 same_pair q x e f = λ i. Ok (e i, f i)
 
-err_no_ok : {A : Type 0} (r : Result A Fault) (f : Fault) (x : A) → r ≡ Err f → r ≡ Ok x → ⊥
-err_no_ok r f x e g = cc
-
 module _ {B : Type 0} (least : ℕ) (P : List Lexeme → B → List Lexeme → Type 0) (Follow : List Lexeme → Type 0) (read : List Lexeme → Reading B) (reads : IsReadBy least P Follow read) (follows : Follow []) (ts : List Lexeme) where
   pub whole_complete : (y : B) → P ts y [] → whole_at read ts ≡ Ok y
   unfolding whole_at
@@ -57,10 +45,3 @@ module _ {B : Type 0} (least : ℕ) (P : List Lexeme → B → List Lexeme → T
       let (q, first, last) = bind_ok _ _ _ e in
       let (value, none) = ended q.0 y q.1 last in
       reads.sound ts y [] (first ∙ same_pair q y value none)
-
-  -- what was read answers for the section
-  pub Reads-from_gives : {A : Type 0} (view : A → B) (r : Result A ReadError) → Gives view r (whole_at read ts) → Reads P view ts r
-  Reads-from_gives view (Ok x) e = (whole_sound (view x) e, λ y d. ok_one y (view x) (sym (whole_complete y d) ∙ e))
-  Reads-from_gives view (Err (errors.Misfit at what)) e = λ y d. err_no_ok (whole_at read ts) (misfit at) y e (whole_complete y d)
-  Reads-from_gives view (Err (errors.TooDeep at)) e = e
-  Reads-from_gives view (Err errors.Memory) e = tt

@@ -16,18 +16,18 @@ use Rattle.rbg_grammar.specs.Reading.{Fault, misfit, Reading, is_name, is_symbol
 use Rattle.rbg_syntax.specs.internal.Giving.{Gives, GivesWithin, GivesAt, Fails, FailsWithin, error_in, placed, start_of}
 use Rattle.rbg_grammar.specs.RuleReading.{rules_at}
 use Rattle.rbg_grammar.specs.Sections.{sections_of, AreDifferent}
-use Rattle.rbg_grammar.specs.Spells.{HasSection, MayHaveVariables, IsSpelt}
+use Rattle.rbg_grammar.specs.Spells.{HasSection, IsSection, MayHaveVariables, IsSpelt}
 use Rattle.rbg_syntax.specs.Faults.{HasFault}
-use Rattle.rbg_grammar.proofs.Readers.{Always}
+use Rattle.rbg_grammar.proofs.Readers.{IsReadBy, Always}
 use Rattle.rbg_grammar.proofs.Combinators.{EndsList, Stops}
 use Rattle.rbg_grammar.proofs.SectionReaders.{players_read, names_read, board_read}
-use Rattle.rbg_syntax.proofs.Answers.{Reads, Reads-from_gives, ok_value, whole_sound, whole_complete}
+use Rattle.rbg_syntax.proofs.Answers.{ok_value, whole_sound, whole_complete}
 use Rattle.rbg_grammar.proofs.Depths.{spells_nothing, too_deep_here}
 use Rattle.rbg_grammar.proofs.Misfits.{Judges}
-use Rattle.rbg_syntax.proofs.Places.{misspelt, one_error, placed_ok}
+use Rattle.rbg_syntax.proofs.Places.{misspelt, one_error, placed_ok, placed_within}
 use Rattle.rbg_grammar.proofs.RuleMisfits.{rules_judged}
 use Rattle.rbg_grammar.proofs.SectionMisfits.{players_judged, pieces_judged, variables_judged, board_judged}
-use Rattle.rbg_grammar.proofs.OneDescription.{one_variables, variables_read}
+use Rattle.rbg_grammar.proofs.OneDescription.{variables_read}
 use Rattle.rbg_grammar.proofs.RuleReaders.{EndsRules, nothing_ends_rules, rules_read}
 
 -- a section of a kind is the only one where none stands twice
@@ -36,7 +36,7 @@ only_one [] s h e = cc
 only_one (x ∷ []) s h e = let same : x ≡ s = cc in rw same
 only_one (x ∷ y ∷ xs) s h e = absurd (omega arith)
 
-pub has_section : (all : List SectionTokens) (kind : SectionKind) (s : SectionTokens) → AreDifferent all → slice_get (sections_of kind all) 0 ≡ Some s → HasSection all kind s.tokens
+has_section : (all : List SectionTokens) (kind : SectionKind) (s : SectionTokens) → AreDifferent all → slice_get (sections_of kind all) 0 ≡ Some s → HasSection all kind s.tokens
 has_section all kind s different e = record { section = s; only = only_one (sections_of kind all) s (different kind) e; tokens = refl }
 
 -- a section that isn't read
@@ -72,18 +72,33 @@ variables_refuted ts place e s =
 rules_refuted : (ts : List Lexeme) (place : Option ℕ) → whole_at (rules_at 128) ts ≡ Err (misfit place) → IsSpelt Rules ts → ⊥
 rules_refuted ts place e s = spells_nothing 128 s.0 ts s.1.0 place e s.1.1
 
--- the answers for the sections
-pub players_reads : {A : Type 0} (view : A → List SpeltBounded) (ts : List Lexeme) (r : Result A ReadError) → Gives view r (whole_at (separated_at Comma bounded_at) ts) → Reads ArePlayers view ts r
-players_reads view ts r = Reads-from_gives 1 ArePlayers (Stops Always (is_symbol Comma)) (separated_at Comma bounded_at) players_read (record { ends = refl; follows = tt }) ts view r
+-- a section that is read
+module _ {A B : Type 0} (least : ℕ) (P : List Lexeme → B → List Lexeme → Type 0) (Follow : List Lexeme → Type 0) (read : List Lexeme → Reading B) (reads : IsReadBy least P Follow read) (follows : Follow []) (kind : SectionKind)
+    (all : List SectionTokens) (view : A → B) (s : SectionTokens) (r : Result A ReadError) (x : A) (different : AreDifferent all) (first : slice_get (sections_of kind all) 0 ≡ Some s) (there : placed s.at r ≡ Ok x) where
+  spelt_by : whole_at read s.tokens ≡ Ok (view x) → IsSection all kind P (view x)
+  spelt_by is = record { ts = s.tokens; has = has_section all kind s different first; spells = whole_sound least P Follow read reads follows s.tokens (view x) is }
 
-pub pieces_reads : {A : Type 0} (view : A → List SpeltName) (ts : List Lexeme) (r : Result A ReadError) → Gives view r (whole_at (separated_at Comma name_at) ts) → Reads ArePieces view ts r
-pieces_reads view ts r = Reads-from_gives 1 ArePieces (Stops Always (is_symbol Comma)) (separated_at Comma name_at) names_read (record { ends = refl; follows = tt }) ts view r
+  spelt : Gives view r (whole_at read s.tokens) → IsSection all kind P (view x)
+  spelt gives = spelt_by (placed_ok view (whole_at read s.tokens) s.at r x there gives)
 
-pub board_reads : {A : Type 0} (view : A → SpeltBoard) (ts : List Lexeme) (r : Result A ReadError) → Gives view r (whole_at board_at ts) → Reads IsBoard view ts r
-board_reads view ts r = Reads-from_gives 1 IsBoard Always board_at board_read tt ts view r
+  spelt_within : GivesWithin view r (whole_at read s.tokens) → IsSection all kind P (view x)
+  spelt_within gives = spelt_by (placed_within view (whole_at read s.tokens) s.at r x there gives)
 
-listed_reads : {A : Type 0} (view : A → List SpeltBounded) (ts : List Lexeme) (r : Result A ReadError) → Gives view r (whole_at (listed_at is_name bounded_at) ts) → Reads AreVariables view ts r
-listed_reads view ts r = Reads-from_gives 0 AreVariables (EndsList Always is_name) (listed_at is_name bounded_at) variables_read (record { no_part = refl; no_comma = record { ends = refl; follows = tt } }) ts view r
+pub players_spelt : {A : Type 0} (all : List SectionTokens) (view : A → List SpeltBounded) (s : SectionTokens) (r : Result A ReadError) (x : A) → AreDifferent all → slice_get (sections_of Players all) 0 ≡ Some s → placed s.at r ≡ Ok x
+    → Gives view r (whole_at (separated_at Comma bounded_at) s.tokens) → IsSection all Players ArePlayers (view x)
+players_spelt = spelt 1 ArePlayers (Stops Always (is_symbol Comma)) (separated_at Comma bounded_at) players_read (record { ends = refl; follows = tt }) Players
+
+pub pieces_spelt : {A : Type 0} (all : List SectionTokens) (view : A → List SpeltName) (s : SectionTokens) (r : Result A ReadError) (x : A) → AreDifferent all → slice_get (sections_of Pieces all) 0 ≡ Some s → placed s.at r ≡ Ok x
+    → Gives view r (whole_at (separated_at Comma name_at) s.tokens) → IsSection all Pieces ArePieces (view x)
+pieces_spelt = spelt 1 ArePieces (Stops Always (is_symbol Comma)) (separated_at Comma name_at) names_read (record { ends = refl; follows = tt }) Pieces
+
+pub board_spelt : {A : Type 0} (all : List SectionTokens) (view : A → SpeltBoard) (s : SectionTokens) (r : Result A ReadError) (x : A) → AreDifferent all → slice_get (sections_of Board all) 0 ≡ Some s → placed s.at r ≡ Ok x
+    → Gives view r (whole_at board_at s.tokens) → IsSection all Board IsBoard (view x)
+board_spelt = spelt 1 IsBoard Always board_at board_read tt Board
+
+pub rules_spelt : {A : Type 0} (all : List SectionTokens) (view : A → SpeltRule) (s : SectionTokens) (r : Result A ReadError) (x : A) → AreDifferent all → slice_get (sections_of Rules all) 0 ≡ Some s → placed s.at r ≡ Ok x
+    → GivesWithin view r (whole_at (rules_at 128) s.tokens) → IsSection all Rules (AreRules 128) (view x)
+rules_spelt = spelt_within 1 (AreRules 128) EndsRules (rules_at 128) (rules_read 128) nothing_ends_rules Rules
 
 -- their faults
 pub players_fault : {A : Type 0} (all : List SectionTokens) (view : A → List SpeltBounded) (s : SectionTokens) (r : Result A ReadError) (e : SyntaxError) → AreDifferent all → slice_get (sections_of Players all) 0 ≡ Some s
@@ -98,13 +113,7 @@ pub board_fault : {A : Type 0} (all : List SectionTokens) (view : A → SpeltBoa
     → Gives view r (whole_at board_at s.tokens) → placed s.at r ≡ Err e → HasFault all e
 board_fault all view s r e different first = fault_of IsBoard board_at board_judged Board (λ ts x d. (x, d)) board_refuted all view s (only_one (sections_of Board all) s (different Board) first) r e
 
--- rules: their only value, or that they spell none at any depth, or that a bracket is one too many
-pub rules_spelt : {A : Type 0} (view : A → SpeltRule) (ts : List Lexeme) (x : A) → GivesWithin view (Ok x) (whole_at (rules_at 128) ts) → AreRules 128 ts (view x) []
-rules_spelt view ts x h = whole_sound 1 (AreRules 128) EndsRules (rules_at 128) (rules_read 128) nothing_ends_rules ts (view x) h
-
-pub rules_only : {A : Type 0} (view : A → SpeltRule) (ts : List Lexeme) (x : A) → GivesWithin view (Ok x) (whole_at (rules_at 128) ts) → (r : SpeltRule) → AreRules 128 ts r [] → view x ≡ r
-rules_only view ts x h r d = ok_value (view x) r (sym h ∙ whole_complete 1 (AreRules 128) EndsRules (rules_at 128) (rules_read 128) nothing_ends_rules ts r d)
-
+-- rules: that they spell none at any depth, or that a bracket is one too many
 rules_fault_in : (all : List SectionTokens) (s : SectionTokens) (only : sections_of Rules all ≡ s ∷ []) (d : ReadError) → FailsWithin d (whole_at (rules_at 128) s.tokens) → HasFault all (error_in s.at d)
 rules_fault_in all s only (faults.Misfit place what) h = misspelt (AreRules 128) (rules_at 128) (rules_judged 128) Rules (λ ts x d. (128, (x, d))) rules_refuted all s only place what h
 rules_fault_in all s only (faults.TooDeep at) h = record { ts = s.tokens; has = record { section = s; only = only; tokens = refl }; deep = too_deep_here at s.tokens h }
@@ -132,15 +141,11 @@ spelt_variables {A} all view x different h = go (sections_of Variables all) refl
   where
     go : (xs : List SectionTokens) → sections_of Variables all ≡ xs → Gives view (Ok x) (variables_at xs) → MayHaveVariables all (view x)
     go [] is h = inl (is, sym (ok_value [] (view x) h))
-    go (s ∷ ss) is h = inr (record { ts = s.tokens; has = record { section = s; only = only_variables all s ss different is; tokens = refl }; spells = (listed_reads view s.tokens (Ok x) h).0 })
+    go (s ∷ ss) is h = inr (record { ts = s.tokens; has = record { section = s; only = only_variables all s ss different is; tokens = refl }; spells = whole_sound 0 AreVariables (EndsList Always is_name) (listed_at is_name bounded_at) variables_read (record { no_part = refl; no_comma = record { ends = refl; follows = tt } }) s.tokens (view x) h })
 
 pub variables_spelt : {A : Type 0} (all : List SectionTokens) (view : A → List SpeltBounded) (x : A) → AreDifferent all
     → GivesAt (start_of (sections_of Variables all)) view (Ok x) (variables_at (sections_of Variables all)) → MayHaveVariables all (view x)
 variables_spelt all view x different h = spelt_variables all view x different (placed_ok view (variables_at (sections_of Variables all)) (start_of (sections_of Variables all)) h.0 x (sym h.1) h.2)
-
-pub variables_only : {A : Type 0} (all : List SectionTokens) (view : A → List SpeltBounded) (x : A) → AreDifferent all
-    → GivesAt (start_of (sections_of Variables all)) view (Ok x) (variables_at (sections_of Variables all)) → (vs : List SpeltBounded) → MayHaveVariables all vs → view x ≡ vs
-variables_only all view x different h vs may = one_variables (variables_spelt all view x different h) may
 
 -- where there is no section of variables, nothing is refused but by want of memory
 none_refused : {A : Type 0} (all : List SectionTokens) (view : A → List SpeltBounded) (r : Result A ReadError) (e : SyntaxError) → Gives view r (Ok []) → placed 0 r ≡ Err e → HasFault all e

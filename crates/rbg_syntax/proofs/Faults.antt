@@ -10,7 +10,6 @@ use Rattle.rbg_syntax.specs.declared.error.SyntaxError.{SyntaxError}
 use Rattle.rbg_syntax.specs.declared.error.SyntaxError.TheVariants as errors
 use Rattle.rbg_grammar.specs.Grammar.{AreVariables}
 use Rattle.rbg_grammar.specs.Sections.{sections_of, count_of}
-use Rattle.rbg_syntax.specs.Faults.{IsTwice}
 use Rattle.rbg_grammar.specs.Spells.{HasSection, IsSection, MayHaveVariables, Spells, IsSpelt}
 use Rattle.rbg_syntax.specs.Faults.{HasFault, IsAnswer}
 use Rattle.rbg_grammar.specs.Tree.{SpeltBounded, SpeltDescription}
@@ -59,14 +58,6 @@ fault sections d (errors.SectionTwice which) s h = absurd (omega (arith, twice_c
 fault sections d (errors.TooDeep at) s h = absurd (too_deep_spells_nothing h.ts at d.rules h.deep (spelt_here h.has s.rules))
 fault sections d errors.Memory s h = refl
 
--- no section stands twice where a description is spelt
-pub not_twice : (sections : List SectionTokens) (d : SpeltDescription) (e : SyntaxError) → Spells sections d → IsTwice sections e → ⊥
-not_twice sections d (errors.Expected at what) s h = h
-not_twice sections d (errors.MissingSection which) s h = h
-not_twice sections d (errors.SectionTwice which) s h = omega (arith, twice_counted sections which h, one_section sections d s which)
-not_twice sections d (errors.TooDeep at) s h = h
-not_twice sections d errors.Memory s h = h
-
 -- beside a description, what returns an error that stands is out of memory
 answer_err : (d : SpeltDescription) (r : Result Description SyntaxError) (e : SyntaxError) → IsErrAnd r (λ f. f ≡ e) → e ≡ errors.Memory → IsAnswer d r
 answer_err d (Ok x) e is h = absurd is
@@ -75,6 +66,6 @@ answer_err d (Err f) e is h = is ∙ h
 pub fault_only : (sections : List SectionTokens) (r : Result Description SyntaxError) (e : SyntaxError) → IsErrAnd r (λ f. f ≡ e) → HasFault sections e → (d : SpeltDescription) → Spells sections d → IsAnswer d r
 fault_only sections r e is h d s = answer_err d r e is (fault sections d e s h)
 
-pub fault_err : (sections : List SectionTokens) (r : Result Description SyntaxError) (e : SyntaxError) → IsErrAnd r (λ f. f ≡ e) → HasFault sections e → IfErr r (HasFault sections)
+pub fault_err : {A : Type 0} (sections : List SectionTokens) (r : Result A SyntaxError) (e : SyntaxError) → IsErrAnd r (λ f. f ≡ e) → HasFault sections e → IfErr r (HasFault sections)
 fault_err sections (Ok x) e is h = absurd is
 fault_err sections (Err f) e is h = rw is h

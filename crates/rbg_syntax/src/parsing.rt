@@ -2,7 +2,7 @@
 ghost use Rattle.std.specs.Prelude.{◌≡◌, slice_get, IfErr, IfOk};
 ghost use Rattle.rbg_macro.specs.declared.source.SectionKind.TheVariants.{Variables};
 ghost use Rattle.rbg_tokens.specs.declared.token.Symbol.TheVariants.{Comma};
-ghost use Rattle.rbg_grammar.specs.Descriptions.{description_of};
+ghost use Rattle.rbg_grammar.specs.Descriptions.{description_of, description_of_parts};
 ghost use Rattle.rbg_syntax.specs.internal.Giving.{Gives, GivesAt, GivesWithin, placed, start_of};
 ghost use Rattle.rbg_grammar.specs.Reading.{board_at, bounded_at, is_name, listed_at, name_at, separated_at, variables_at, whole_at};
 ghost use Rattle.rbg_grammar.specs.RuleReading.{rules_at};
@@ -36,6 +36,18 @@ pub fn parse<'a>(alloc: Global, source: &'a Source<'_>) -> Result<Description<'a
     // An error names a fault that the sections have.
     ensures fault { IfErr result (HasFault source.now) }
 {
+    let parts = read_parts(alloc, source)?;
+    Ok(Description::new(parts))
+}
+
+/// The parts of the description, read section by section.
+fn read_parts<'a>(
+    alloc: Global,
+    source: &'a Source<'_>,
+) -> Result<DescriptionParts<'a>, SyntaxError>
+    ensures found { IfOk result (λ p. Spells source.now (description_of_parts p)) }
+    ensures fault { IfErr result (HasFault source.now) }
+{
     refuse_twice(source)?;
     let players = needed(source, SectionKind::Players)?;
     let pieces = needed(source, SectionKind::Pieces)?;
@@ -46,13 +58,13 @@ pub fn parse<'a>(alloc: Global, source: &'a Source<'_>) -> Result<Description<'a
     let variables = variables_of(alloc, source)?;
     let board = placed(board.at(), read_board(alloc, board))?;
     let rules = placed(rules.at(), read_rules(alloc, rules))?;
-    Ok(Description::new(DescriptionParts {
+    Ok(DescriptionParts {
         players,
         variables,
         pieces,
         board,
         rules,
-    }))
+    })
 }
 
 /// What was read of a section whose `#` is at this offset.

@@ -1,2 +1,3 @@
 -- Definitions that proofs use.
 pub mod Walking
+pub mod Kinds

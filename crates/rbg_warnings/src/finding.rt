@@ -1,5 +1,6 @@
 //! The warnings of a game.
-ghost use Rattle.std.specs.Prelude.{◌≡◌, ◌↔◌, ◌<◌, ◌≤◌, [], ◌∷◌, length, Contains, IfOk, OnOk, IsTrue};
+ghost use Rattle.std.specs.Prelude.{◌≡◌, ◌↔◌, ◌+◌, ◌<◌, ◌≤◌, ◌^◌, [], ◌∷◌, length, map, Contains, IfOk, OnOk, IsTrue};
+ghost use Rattle.std.specs.List.{range_with_len};
 ghost use Rattle.rbg_rules.specs.Positions.{positions_of};
 ghost use Rattle.rbg_warnings.specs.declared.warning.Warning.TheVariants.{TooGreat as TooGreatWarning, Unused as UnusedWarning};
 ghost use Rattle.rbg_warnings.specs.Sifting.{Keeps};
@@ -9,19 +10,16 @@ ghost use Rattle.rbg_warnings.specs.Warnings.{
   IsUnused as IsThingUnused,
   IsWarned,
   IsWritten,
-  directions_warned,
-  pieces_warned,
-  players_warned,
   positions_warned,
   possible_warnings,
-  variables_warned,
 };
+ghost use Rattle.rbg_warnings.specs.internal.Kinds.{thing_of};
 ghost use Rattle.rbg_warnings.specs.internal.Walking.{Sifts};
 
 use crate::actions::{assigns_too_much, uses};
-use crate::thing::Thing;
+use crate::thing::{Kind, Thing, thing_of};
 use crate::warning::Warning;
-use rbg_base::{Direction, Memory, Piece, Player, Position, Variable, Vertex};
+use rbg_base::{Memory, Piece, Position, Vertex};
 use rbg_rules::Game;
 use std::alloc::Global;
 
@@ -32,10 +30,12 @@ pub fn warnings(alloc: Global, game: &Game) -> Result<Vec<Warning>, Memory>
 {
     let mut found = Vec::new(alloc);
     sift_positions(game, &mut found)?;
-    sift_players(game, &mut found)?;
-    sift_pieces(game, &mut found)?;
-    sift_variables(game, &mut found)?;
-    sift_directions(game, &mut found)?;
+    let players = game.players();
+    let others = game.variables().saturating_sub(players);
+    sift_things(game, Kind::Players, 1, players, &mut found)?;
+    sift_things(game, Kind::Pieces, 0, game.pieces(), &mut found)?;
+    sift_things(game, Kind::Variables, players, others, &mut found)?;
+    sift_things(game, Kind::Directions, 0, game.directions(), &mut found)?;
     Ok(found)
 }
 
@@ -48,43 +48,21 @@ fn sift_positions(game: &Game, found: &mut Vec<Warning>) -> Result<(), Memory>
     Ok(())
 }
 
-fn sift_players(game: &Game, found: &mut Vec<Warning>) -> Result<(), Memory>
-    ensures { OnOk result (Sifts game.now (players_warned game.now) found.old.items found.new.items) }
+/// Adds the warnings of things of a kind, so many from the first number on.
+fn sift_things(
+    game: &Game,
+    kind: Kind,
+    first: usize,
+    count: usize,
+    found: &mut Vec<Warning>,
+) -> Result<(), Memory>
+    requires { first + count ≤ 2 ^ 16 }
+    ensures { OnOk result (Sifts game.now
+        (map (λ n. UnusedWarning (thing_of kind n)) (range_with_len first count))
+        found.old.items found.new.items) }
 {
-    for index in 0..game.players() {
-        let player = index as Player + 1;
-        sift_thing(game, Thing::Player { player }, found)?;
-    }
-    Ok(())
-}
-
-fn sift_pieces(game: &Game, found: &mut Vec<Warning>) -> Result<(), Memory>
-    ensures { OnOk result (Sifts game.now (pieces_warned game.now) found.old.items found.new.items) }
-{
-    for index in 0..game.pieces() {
-        let piece = index as Piece;
-        sift_thing(game, Thing::Piece { piece }, found)?;
-    }
-    Ok(())
-}
-
-fn sift_variables(game: &Game, found: &mut Vec<Warning>) -> Result<(), Memory>
-    ensures { OnOk result (Sifts game.now (variables_warned game.now) found.old.items found.new.items) }
-{
-    let players = game.players();
-    for index in 0..game.variables().saturating_sub(players) {
-        let variable = (players + index) as Variable;
-        sift_thing(game, Thing::Variable { variable }, found)?;
-    }
-    Ok(())
-}
-
-fn sift_directions(game: &Game, found: &mut Vec<Warning>) -> Result<(), Memory>
-    ensures { OnOk result (Sifts game.now (directions_warned game.now) found.old.items found.new.items) }
-{
-    for index in 0..game.directions() {
-        let direction = index as Direction;
-        sift_thing(game, Thing::Direction { direction }, found)?;
+    for index in 0..count {
+        sift_thing(game, thing_of(kind, (first + index) as u16), found)?;
     }
     Ok(())
 }

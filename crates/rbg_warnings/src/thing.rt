@@ -1,4 +1,6 @@
 //! The things of a game that its rules may use.
+ghost use Rattle.std.specs.Prelude.{◌≡◌};
+ghost use Rattle.rbg_warnings.specs.internal.Kinds.{thing_of};
 
 use rbg_base::{Direction, Piece, Player, Variable};
 
@@ -9,4 +11,25 @@ pub enum Thing {
     Piece { piece: Piece },
     Variable { variable: Variable },
     Direction { direction: Direction },
+}
+
+/// A kind of things. The things of a kind are told apart by numbers.
+#[derive(Clone, Copy)]
+pub(crate) enum Kind {
+    Players,
+    Pieces,
+    Variables,
+    Directions,
+}
+
+/// The thing of a kind with a number.
+pub(crate) fn thing_of(kind: Kind, number: u16) -> Thing
+    ensures { result ≡ thing_of kind number }
+{
+    match kind {
+        Kind::Players => Thing::Player { player: number },
+        Kind::Pieces => Thing::Piece { piece: number },
+        Kind::Variables => Thing::Variable { variable: number },
+        Kind::Directions => Thing::Direction { direction: number },
+    }
 }

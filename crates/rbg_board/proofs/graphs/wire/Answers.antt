@@ -18,19 +18,13 @@ use Rattle.rbg_board.proofs.graphs.wire.Goals as goal
 
 pub push_edges-requires-clause-covers : goal.push_edges-requires-clause-covers
 push_edges-requires-clause-covers c =
-    let cells = c.args.cells.now in
-    let i = c.loop-cell.cell-index in
-    let cell = c.cell-item.result in
-    let edges_are = edges_read cells i cell c.loop-cell-test.true c.cell-item.is c.deref.result.now (written cell) c.deref.ensures.value in
-    subst (λ (edges : List (ℕ × ℕ)). All (λ edge. edge.0 < c.cells_width-width.result) edges) edges_are (c.cells_width-width.ensures.covers i (written cell) (omega (arith, length-written cells)))
+    let is = edges_read c.args.cells.now c.loop-cell.cell-index c.cell-item.result c.loop-cell-test.true c.cell-item.is c.deref.result.now (written c.cell-item.result) c.deref.ensures.value in
+    subst (λ (edges : List (ℕ × ℕ)). All (λ edge. edge.0 < c.cells_width-width.result) edges) is (c.cells_width-width.ensures.covers c.loop-cell.cell-index (written c.cell-item.result) (omega (arith, length-written c.args.cells.now)))
 
 pub push_edges-requires-clause-different : goal.push_edges-requires-clause-different
 push_edges-requires-clause-different c =
-    let cells = c.args.cells.now in
-    let i = c.loop-cell.cell-index in
-    let cell = c.cell-item.result in
-    let edges_are = edges_read cells i cell c.loop-cell-test.true c.cell-item.is c.deref.result.now (written cell) c.deref.ensures.value in
-    subst (λ (edges : List (ℕ × ℕ)). AreDifferent (map (λ edge. edge.0) edges)) edges_are (c.requires.differ i (written cell) (omega (arith, length-written cells)))
+    let is = edges_read c.args.cells.now c.loop-cell.cell-index c.cell-item.result c.loop-cell-test.true c.cell-item.is c.deref.result.now (written c.cell-item.result) c.deref.ensures.value in
+    subst (λ (edges : List (ℕ × ℕ)). AreDifferent (map (λ edge. edge.0) edges)) is (c.requires.differ c.loop-cell.cell-index (written c.cell-item.result) (omega (arith, length-written c.args.cells.now)))
 
 pub returns-in_err-push_edges-clause-refusal : goal.returns-in_err-push_edges-clause-refusal
 returns-in_err-push_edges-clause-refusal c =

@@ -1,7 +1,7 @@
 -- The board that is laid out is the hexagon.
-use Rattle.std.proofs.Common.{◌≡◌, length, rules, arith}
+use Rattle.std.proofs.Common.{arith, rules}
 use Rattle.rbg_board.specs.Cells.{rows_of}
-use Rattle.rbg_board.specs.Hexagon.{MakesHexagon, HasCells}
+use Rattle.rbg_board.specs.Hexagon.{HasCells}
 use Rattle.rbg_board.proofs.Numbering.{start-suc, start-le-all}
 use Rattle.rbg_board.proofs.HexagonEdges.{hexagon_board, hexagon_uses}
 use Rattle.rbg_board.proofs.hexagons.hexagon.Goals as goal
@@ -14,13 +14,7 @@ lay_out-requires-clause-some c =
     omega (arith, c.in_ok-vertices.ensures.count, cells.each_row 0 cells.some_row, start-suc rows 0, start-le-all rows 1)
 
 pub returns-clause-board : goal.returns-clause-board
-returns-clause-board c =
-    let six : length c.args.directions ≡ 6 = search rules in
-    let makes : MakesHexagon c.args.directions (rows_of c.args.rows.now) = search rules in
-    hexagon_board c.args.directions (rows_of c.args.rows.now) c.table_width.result c.in_ok-board.board makes six c.table_width.ensures.covers c.in_ok-board.ensures.board
+returns-clause-board c = hexagon_board c.args.directions (rows_of c.args.rows.now) (search rules) (search rules) c.table_width.result c.in_ok-board.board c.table_width.ensures.covers c.in_ok-board.ensures.board
 
 pub returns-clause-directions : goal.returns-clause-directions
-returns-clause-directions c =
-    let six : length c.args.directions ≡ 6 = search rules in
-    let makes : MakesHexagon c.args.directions (rows_of c.args.rows.now) = search rules in
-    hexagon_uses c.args.directions (rows_of c.args.rows.now) c.table_width.result c.in_ok-board.board makes six c.table_width.ensures.covers c.in_ok-board.ensures.board
+returns-clause-directions c = hexagon_uses c.args.directions (rows_of c.args.rows.now) (search rules) (search rules) c.table_width.result c.in_ok-board.board c.table_width.ensures.covers c.in_ok-board.ensures.board

@@ -24,18 +24,10 @@ returns-in_err-check_with_layout-clause-refused c = λ text cut.
 
 pub returns-clause-game : goal.returns-clause-game
 returns-clause-game c = λ text cut.
-    let sections = sections_of_text text _ _ cut c.in_ok-source.ensures.sections in
-    record {
-      description = _;
-      describes = described text _ _ sections c.in_ok-description.ensures.found;
-      game_of = c.in_ok-check_with_layout.ensures.game;
-    }
+    let found = described text _ _ (sections_of_text text _ _ cut c.in_ok-source.ensures.sections) c.in_ok-description.ensures.found in
+    record { description = _; describes = found; game_of = c.in_ok-check_with_layout.ensures.game }
 
 pub returns-clause-layout : goal.returns-clause-layout
 returns-clause-layout c = λ text cut.
-    let sections = sections_of_text text _ _ cut c.in_ok-source.ensures.sections in
-    record {
-      description = _;
-      describes = described text _ _ sections c.in_ok-description.ensures.found;
-      layout_of = c.in_ok-check_with_layout.ensures.layout;
-    }
+    let found = described text _ _ (sections_of_text text _ _ cut c.in_ok-source.ensures.sections) c.in_ok-description.ensures.found in
+    record { description = _; describes = found; layout_of = c.in_ok-check_with_layout.ensures.layout }

@@ -1,6 +1,6 @@
 -- A joined list is read token by token.
-use Rattle.std.proofs.Common.{ℕ, ◌≡◌, ◌+◌, ◌≤◌, length, map, arith, sym, ap, ◌∙◌}
-use Rattle.std.proofs.lemmas.List.{length-map, take_rest}
+use Rattle.std.proofs.Common.{◌+◌, length, map, arith, sym, refl, ◌∙◌}
+use Rattle.std.proofs.lemmas.List.{take_rest}
 use Rattle.std.proofs.lemmas.Result.{err_from_is_err_and, IfErr-weaker, on_ok_weaker}
 use Rattle.rbg_macro.specs.Expansion.{FailsReading}
 use Rattle.rbg_macro.specs.Errors.{UnlessMemory}
@@ -9,7 +9,7 @@ use Rattle.rbg_macro.specs.internal.ReadTokens.{read_lexeme}
 use Rattle.rbg_macro.proofs.Exits.{unless_weaker}
 use Rattle.rbg_macro.proofs.JoinedLists.{joined_already}
 use Rattle.rbg_macro.proofs.Marks.{lexemes_of_words, marks_of_words}
-use Rattle.rbg_macro.proofs.Reading.{nothing_read, token_kept, call_read, call_fails, token_too_many, all_read}
+use Rattle.rbg_macro.proofs.Reading.{counted_all, nothing_read, token_kept, call_read, call_fails, token_too_many, all_read}
 use Rattle.rbg_macro.proofs.expansion.+expansion.Goals as goal
 
 pub read_joined-loop-at-init : goal.read_joined-loop-at-init
@@ -19,7 +19,6 @@ pub read_joined-returns-in_err-keep-in-None-clause-err :
     goal.read_joined-returns-in_err-keep-in-None-clause-err
 read_joined-returns-in_err-keep-in-None-clause-err t c =
     let p = err_from_is_err_and c.from_residual-in_err-keep-in-None.result c.from_residual-in_err-keep-in-None.ensures.1 in
-    let within : c.loop-at.at + 1 ≤ length c.args.list.now = omega arith in
     let met = rw c.in-None.is at c.in_ok-body_of_call.ensures.ok in
     rw (p.1, p.2) (unless_weaker _ (FailsReading c.args.macros.now c.args.level c.args.expanded.now.read (length c.args.expanded.now.kept) (map read_lexeme c.args.list.now))
     (λ f many. token_too_many c.args.macros.now c.args.level c.args.list.now _ c.loop-at.at _ c.args.expanded.now c.loop-at.expanded f c.loop-at.invariant c.loop-at-test.true
@@ -28,7 +27,6 @@ read_joined-returns-in_err-keep-in-None-clause-err t c =
 
 pub read_joined-loop-at-preserved-in-None : goal.read_joined-loop-at-preserved-in-None
 read_joined-loop-at-preserved-in-None t c =
-    let within : c.loop-at.at + 1 ≤ length c.args.list.now = omega arith in
     let met = rw c.in-None.is at c.in_ok-body_of_call.ensures.ok in
     token_kept c.args.macros.now c.args.level c.args.list.now _ c.loop-at.at _ c.args.expanded.now c.loop-at.expanded c.keep.new.self c.loop-at.invariant c.loop-at-test.true
     (take_rest c.args.list.now (c.loop-at.at + 1)) met c.in_ok-keep-in-None.ensures.ok c.in_ok-keep-in-None.ensures.fits
@@ -37,11 +35,8 @@ pub read_joined-returns-in_err-read_list-in-Some-clause-err :
     goal.read_joined-returns-in_err-read_list-in-Some-clause-err
 read_joined-returns-in_err-read_list-in-Some-clause-err t c =
     let p = err_from_is_err_and c.from_residual-in_err-read_list-in-Some.result c.from_residual-in_err-read_list-in-Some.ensures.1 in
-    let within : c.loop-at.at + 1 ≤ length c.args.list.now = omega arith in
     let way = rw c.in-Some.is at c.in_ok-body_of_call.ensures.ok in
-    let counted : c.count.new.self ≡ record c.loop-at.expanded { read = c.loop-at.expanded.read + length (map read_lexeme c.in-Some.body.items) } =
-    c.count.ensures ∙ ap (λ (n : ℕ). record c.loop-at.expanded { read = c.loop-at.expanded.read + n })
-    (c.len.ensures ∙ c.in-Some.body.ok.0 ∙ sym (length-map c.in-Some.body.items read_lexeme)) in
+    let counted = counted_all c.in-Some.body (map read_lexeme c.in-Some.body.items) c.len.result c.loop-at.expanded c.count.new.self c.len.ensures refl c.count.ensures in
     rw (p.1, p.2) (unless_weaker _ (FailsReading c.args.macros.now c.args.level c.args.expanded.now.read (length c.args.expanded.now.kept) (map read_lexeme c.args.list.now))
     (λ f fails. call_fails c.args.macros.now c.args.level c.args.list.now _ c.loop-at.at c.in-Some.len _ (map read_lexeme c.in-Some.body.items) c.args.expanded.now c.loop-at.expanded
     c.count.new.self f c.loop-at.invariant c.loop-at-test.true (take_rest c.args.list.now (c.loop-at.at + 1)) way counted fails)
@@ -49,11 +44,8 @@ read_joined-returns-in_err-read_list-in-Some-clause-err t c =
 
 pub read_joined-loop-at-preserved : goal.read_joined-loop-at-preserved
 read_joined-loop-at-preserved t c =
-    let within : c.loop-at.at + 1 ≤ length c.args.list.now = omega arith in
     let way = rw c.in-Some.is at c.in_ok-body_of_call.ensures.ok in
-    let counted : c.count.new.self ≡ record c.loop-at.expanded { read = c.loop-at.expanded.read + length (map read_lexeme c.in-Some.body.items) } =
-    c.count.ensures ∙ ap (λ (n : ℕ). record c.loop-at.expanded { read = c.loop-at.expanded.read + n })
-    (c.len.ensures ∙ c.in-Some.body.ok.0 ∙ sym (length-map c.in-Some.body.items read_lexeme)) in
+    let counted = counted_all c.in-Some.body (map read_lexeme c.in-Some.body.items) c.len.result c.loop-at.expanded c.count.new.self c.len.ensures refl c.count.ensures in
     call_read c.args.macros.now c.args.level c.args.list.now _ c.loop-at.at c.in-Some.len _ (map read_lexeme c.in-Some.body.items) c.args.expanded.now c.loop-at.expanded
     c.count.new.self c.read_list.new.expanded c.loop-at.invariant c.loop-at-test.true (take_rest c.args.list.now (c.loop-at.at + 1)) way counted (rw c.deref.ensures.value at c.in_ok-read_list-in-Some.ensures.ok)
 

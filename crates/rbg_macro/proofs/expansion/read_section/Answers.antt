@@ -1,12 +1,12 @@
 -- A section's list is counted and read.
-use Rattle.std.proofs.Common.{ℕ, ◌≡◌, ◌+◌, length, ap, sym, refl, ◌∙◌, arith}
+use Rattle.std.proofs.Common.{length, refl, arith}
 use Rattle.std.proofs.lemmas.List.{length-map}
 use Rattle.std.proofs.lemmas.Result.{err_from_is_err_and}
 use Rattle.rbg_macro.specs.internal.Defines.{section_of}
 use Rattle.rbg_macro.specs.Expansion.{Fails}
-use Rattle.rbg_macro.specs.internal.ReadTokens.{read_lexeme}
 use Rattle.rbg_tokens.specs.Token.{lexeme_of}
 use Rattle.rbg_macro.proofs.Exits.{unless_weaker}
+use Rattle.rbg_macro.proofs.Reading.{counted_all}
 use Rattle.rbg_macro.proofs.Sections.{section_too_long, section_read, section_fails}
 use Rattle.rbg_macro.proofs.expansion.read_section.Goals as goal
 
@@ -17,10 +17,7 @@ returns-then-section-expanded-clause-err c =
 pub returns-in_err-read_list-clause-err : goal.returns-in_err-read_list-clause-err
 returns-in_err-read_list-clause-err c =
     let p = err_from_is_err_and c.from_residual-in_err-read_list.result c.from_residual-in_err-read_list.ensures.1 in
-    let size : c.len.result ≡ length (section_of c.args.section.now).tokens =
-    c.len.ensures ∙ c.in_ok-tokens.tokens.ok.0 ∙ sym (length-map c.in_ok-tokens.tokens.items read_lexeme) ∙ ap length c.in_ok-tokens.ensures.tokens in
-    let counted : c.count.new.self ≡ record c.args.expanded.now { read = c.args.expanded.now.read + length (section_of c.args.section.now).tokens } =
-    c.count.ensures ∙ ap (λ (n : ℕ). record c.args.expanded.now { read = c.args.expanded.now.read + n }) size in
+    let counted = counted_all c.in_ok-tokens.tokens (section_of c.args.section.now).tokens c.len.result c.args.expanded.now c.count.new.self c.len.ensures c.in_ok-tokens.ensures.tokens c.count.ensures in
     let seen = rw c.deref.ensures.value at c.in_err-read_list.ensures.err in
     let same = rw c.in_ok-tokens.ensures.tokens at seen in
     rw (p.1, p.2) (unless_weaker _ (Fails c.args.macros.now 0 c.args.expanded.now.read (length c.args.expanded.now.kept) (section_of c.args.section.now).tokens)
@@ -29,10 +26,7 @@ returns-in_err-read_list-clause-err c =
 
 pub returns-clause-ok : goal.returns-clause-ok
 returns-clause-ok c =
-    let size : c.len.result ≡ length (section_of c.args.section.now).tokens =
-    c.len.ensures ∙ c.in_ok-tokens.tokens.ok.0 ∙ sym (length-map c.in_ok-tokens.tokens.items read_lexeme) ∙ ap length c.in_ok-tokens.ensures.tokens in
-    let counted : c.count.new.self ≡ record c.args.expanded.now { read = c.args.expanded.now.read + length (section_of c.args.section.now).tokens } =
-    c.count.ensures ∙ ap (λ (n : ℕ). record c.args.expanded.now { read = c.args.expanded.now.read + n }) size in
+    let counted = counted_all c.in_ok-tokens.tokens (section_of c.args.section.now).tokens c.len.result c.args.expanded.now c.count.new.self c.len.ensures c.in_ok-tokens.ensures.tokens c.count.ensures in
     let seen = rw c.deref.ensures.value at c.in_ok-read_list.ensures.ok in
     let same = rw c.in_ok-tokens.ensures.tokens at seen in
     section_read c.args.macros.now (section_of c.args.section.now) c.args.expanded.now c.count.new.self _ _ counted same (rw (c.len-start.ensures, c.len-2.ensures) refl)

@@ -1,7 +1,6 @@
 -- One number after the other.
-use Rattle.std.proofs.Common.{◌≡◌, ◌+◌, ◌-◌, length, arith}
-use Rattle.rbg_warnings.specs.declared.thing.Thing.TheVariants.{Player, Piece, Variable, Direction}
-use Rattle.rbg_warnings.specs.declared.warning.Warning.TheVariants.{TooGreat, Unused}
+use Rattle.std.proofs.Common.{◌-◌, length, arith}
+use Rattle.rbg_warnings.specs.declared.warning.Warning.TheVariants.{TooGreat}
 use Rattle.rbg_rules.specs.Positions.{positions_of}
 use Rattle.rbg_warnings.specs.Warnings.{positions_warned}
 use Rattle.rbg_warnings.proofs.Sifting.{sifts_all, sifts_none, sifts_more}

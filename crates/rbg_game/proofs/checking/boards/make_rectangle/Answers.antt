@@ -1,39 +1,35 @@
-use Rattle.std.proofs.Common.{◌≡◌, length, map, subst, sym, arith}
+use Rattle.std.proofs.Common.{map, subst, sym, ap, arith}
 use Rattle.std.proofs.lemmas.List.{length-map}
 use Rattle.rbg_board.specs.Cells.{rows_of}
-use Rattle.rbg_board.specs.Rectangle.{IsRectangle, MakesRectangle, RectangleRefusal}
+use Rattle.rbg_board.specs.Rectangle.{RectangleEdge, HasFirstCell, IsEven, RectangleRefusal}
 use Rattle.rbg_grammar.specs.Views.{name_of, names_of}
 use Rattle.rbg_grammar.specs.Tree.{rectangle}
 use Rattle.rbg_game.specs.GameErrors.{game_error_of}
-use Rattle.rbg_game.specs.declared.game_error.GameError.{GameError}
 use Rattle.rbg_numbering.proofs.LookUps.{passed_on}
 use Rattle.rbg_game.specs.Faults.{HasBoardFault, no_rectangle, board_memory}
-use Rattle.rbg_game.proofs.NamedRows.{cells_fault, rectangle_made, by_refusal, rows_fault}
+use Rattle.rbg_game.proofs.NamedRows.{cells_fault, rows_made, by_refusal, rows_fault}
 use Rattle.rbg_game.proofs.checking.boards.make_rectangle.Goals as goal
 
 pub returns-in_err-cells-clause-fault : goal.returns-in_err-cells-clause-fault
 returns-in_err-cells-clause-fault c =
-    let P : GameError → Type 0 = λ e. HasBoardFault c.args.pieces.now (rectangle (map name_of c.args.names.now) (map names_of c.args.rows.now)) e in
-    passed_on c.from_residual.result (game_error_of c.in_err-cells.field-0.0) P c.from_residual.ensures.1
-    (cells_fault c.args.pieces.now (rectangle (map name_of c.args.names.now) (map names_of c.args.rows.now)) c.in_err-cells.field-0.0 c.in_err-cells.ensures.fault)
+    let spelt = rectangle (map name_of c.args.names.now) (map names_of c.args.rows.now) in
+    let error = c.in_err-cells.field-0.0 in
+    passed_on c.from_residual.result (game_error_of error) (HasBoardFault c.args.pieces.now spelt) c.from_residual.ensures.1 (cells_fault c.args.pieces.now spelt error c.in_err-cells.ensures.fault)
 
 pub returns-in_err-directions-clause-fault : goal.returns-in_err-directions-clause-fault
 returns-in_err-directions-clause-fault c =
-    let P : GameError → Type 0 = λ e. HasBoardFault c.args.pieces.now (rectangle (map name_of c.args.names.now) (map names_of c.args.rows.now)) e in
-    passed_on c.from_residual-in_err-directions.result (game_error_of c.in_err-directions.field-0.0) P c.from_residual-in_err-directions.ensures.1
-    (subst (λ e. P (game_error_of e)) (sym c.in_err-directions.ensures.memory) board_memory)
+    let spelt = rectangle (map name_of c.args.names.now) (map names_of c.args.rows.now) in
+    let error = c.in_err-directions.field-0.0 in
+    passed_on c.from_residual-in_err-directions.result (game_error_of error) (HasBoardFault c.args.pieces.now spelt) c.from_residual-in_err-directions.ensures.1
+    (subst (λ e. HasBoardFault c.args.pieces.now spelt (game_error_of e)) (sym c.in_err-directions.ensures.memory) board_memory)
 
 pub returns-in-Ok-clause-board : goal.returns-in-Ok-clause-board
 returns-in-Ok-clause-board c =
     let names = map name_of c.args.names.now in
     let rows = map names_of c.args.rows.now in
-    let numbers = c.number_directions.new.numbers in
-    let board = c.in-Ok.board in
-    let four : length (map name_of c.args.names.now) ≡ 4 = omega (arith, length-map c.args.names.now name_of) in
-    let makes = subst (λ cells. MakesRectangle numbers (rows_of cells)) c.deref.ensures.value c.in-Ok.ensures.lawful in
-    let is = subst (λ cells. IsRectangle numbers (rows_of cells) board) c.deref.ensures.value c.in-Ok.ensures.board in
     rw (c.name_board.ensures.directions, c.name_board.ensures.board)
-    (rectangle_made c.args.pieces.now names rows (rows_of c.in_ok-cells.cells.items) numbers c.in_ok-directions.directions board c.in_ok-cells.ensures.numbers c.in_ok-directions.ensures.numbers c.name_board.ensures.names c.name_board.ensures.vertices four makes is c.in-Ok.ensures.width)
+    (rows_made c.args.pieces.now names rows (rows_of c.in_ok-cells.cells.items) c.number_directions.new.numbers c.in_ok-directions.directions c.in-Ok.board c.in_ok-cells.ensures.numbers c.in_ok-directions.ensures.numbers c.name_board.ensures.names c.name_board.ensures.vertices
+    HasFirstCell IsEven RectangleEdge 4 (rectangle names rows) (λ is. is) (omega (arith, length-map c.args.names.now name_of)) (omega arith) (rows_of c.deref.result.now) (ap rows_of c.deref.ensures.value) c.in-Ok.ensures.lawful c.in-Ok.ensures.board c.in-Ok.ensures.width)
 
 pub returns-clause-fault : goal.returns-clause-fault
 returns-clause-fault c =

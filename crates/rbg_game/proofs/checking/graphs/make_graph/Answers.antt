@@ -50,35 +50,32 @@ returns-in_err-cells-clause-fault c =
     let P : GameError → Type 0 = λ e. HasBoardFault c.args.pieces.now (graph (map vertex_of c.args.vertices.now)) e in
     passed_on c.from_residual-in_err-cells.result (game_error_of c.in_err-cells.field-0.0) P c.from_residual-in_err-cells.ensures.1 (subst (λ e. P (game_error_of e)) (sym c.in_err-cells.ensures.memory) board_memory)
 
--- the cells are numbered by the names of the vertices
-numbered_cells : (pieces directions names : List (List ℕ)) (vertices : List SpeltVertex) (written : List Written) → names ≡ vertex_names vertices → AllZip (IsCell pieces directions names) vertices written → AllZip (IsCell pieces directions (vertex_names vertices)) vertices written
-numbered_cells pieces directions names vertices written are all = subst (λ ns. AllZip (IsCell pieces directions ns) vertices written) are all
+-- the vertices have different names, and the cells are numbered by these
+cells_numbered : (pieces directions names : List (List ℕ)) (vertices : List SpeltVertex) (written : List Written) (first given : List ℕ) → AreDifferentNames names → names ≡ vertex_names vertices → given ≡ first
+    → AllZip (IsNumberOf pieces) (board_pieces (graph vertices)) first → ((table : List (List ℕ)) → AllZip (IsNumberOf table) (board_pieces (graph vertices)) given → AllZip (IsCell table directions names) vertices written)
+    → AreDifferentNames (vertex_names vertices) × AllZip (IsCell pieces directions (vertex_names vertices)) vertices written
+cells_numbered pieces directions names vertices written first given differ are same named all = (
+  subst AreDifferentNames are differ,
+  subst (λ ns. AllZip (IsCell pieces directions ns) vertices written) are (all pieces (subst (AllZip (IsNumberOf pieces) (board_pieces (graph vertices))) (sym same) named)),
+)
 
 pub returns-in-Ok-clause-board : goal.returns-in-Ok-clause-board
 returns-in-Ok-clause-board c =
-    let pieces = c.args.pieces.now in
     let vertices = map vertex_of c.args.vertices.now in
-    let directions = c.in_ok-directions.directions in
-    let written = written_of c.in_ok-cells.cells.items in
-    let board = c.in-Ok.board in
-    let differ : AreDifferentNames (vertex_names vertices) = subst AreDifferentNames c.in_ok-names.ensures.names c.in_ok-names.ensures.differ in
-    let named = subst (λ (ns : List ℕ). AllZip (IsNumberOf pieces) (board_pieces (graph vertices)) ns) (sym c.deref.ensures.value) c.in_ok-first.ensures.numbers in
-    let cells = numbered_cells pieces directions c.in_ok-names.names vertices written c.in_ok-names.ensures.names (c.in_ok-cells.ensures.cells pieces named) in
+    let (differ, cells) =
+    cells_numbered c.args.pieces.now c.in_ok-directions.directions c.in_ok-names.names vertices (written_of c.in_ok-cells.cells.items) c.in_ok-first.first.items c.deref.result.now c.in_ok-names.ensures.differ c.in_ok-names.ensures.names c.deref.ensures.value c.in_ok-first.ensures.numbers c.in_ok-cells.ensures.cells in
     let makes = subst (λ (cs : List Cell). MakesGraph (written_of cs)) c.deref-2.ensures.value c.in-Ok.ensures.lawful in
-    let is = subst (λ (cs : List Cell). IsWritten (written_of cs) board) c.deref-2.ensures.value c.in-Ok.ensures.board in
-    let wide = subst (λ (cs : List Cell). HasWidth (width_of (directions_of (written_of cs))) board) c.deref-2.ensures.value c.in-Ok.ensures.width in
+    let is = subst (λ (cs : List Cell). IsWritten (written_of cs) c.in-Ok.board) c.deref-2.ensures.value c.in-Ok.ensures.board in
+    let wide = subst (λ (cs : List Cell). HasWidth (width_of (directions_of (written_of cs))) c.in-Ok.board) c.deref-2.ensures.value c.in-Ok.ensures.width in
     rw (c.name_board.ensures.directions, c.name_board.ensures.board)
-    (graph_made pieces directions vertices written differ cells board c.in_ok-directions.ensures.order c.name_board.ensures.names (omega (arith, c.if-len-gt-MAX_DIRECTIONS.false, c.len.ensures.count)) c.name_board.ensures.vertices makes is wide)
+    (graph_made c.args.pieces.now c.in_ok-directions.directions vertices (written_of c.in_ok-cells.cells.items) differ cells c.in-Ok.board c.in_ok-directions.ensures.order c.name_board.ensures.names (omega (arith, c.if-len-gt-MAX_DIRECTIONS.false, c.len.ensures.count)) c.name_board.ensures.vertices makes is wide)
 
 pub returns-clause-fault : goal.returns-clause-fault
 returns-clause-fault c =
-    let pieces = c.args.pieces.now in
     let vertices = map vertex_of c.args.vertices.now in
-    let directions = c.in_ok-directions.directions in
-    let written = written_of c.in_ok-cells.cells.items in
+    let (differ, cells) =
+    cells_numbered c.args.pieces.now c.in_ok-directions.directions c.in_ok-names.names vertices (written_of c.in_ok-cells.cells.items) c.in_ok-first.first.items c.deref.result.now c.in_ok-names.ensures.differ c.in_ok-names.ensures.names c.deref.ensures.value c.in_ok-first.ensures.numbers c.in_ok-cells.ensures.cells in
     let error = c.in-Err.error in
-    let differ : AreDifferentNames (vertex_names vertices) = subst AreDifferentNames c.in_ok-names.ensures.names c.in_ok-names.ensures.differ in
-    let named = subst (λ (ns : List ℕ). AllZip (IsNumberOf pieces) (board_pieces (graph vertices)) ns) (sym c.deref.ensures.value) c.in_ok-first.ensures.numbers in
-    let cells = numbered_cells pieces directions c.in_ok-names.names vertices written c.in_ok-names.ensures.names (c.in_ok-cells.ensures.cells pieces named) in
     let refused = subst (λ (cs : List Cell). GraphRefusal (written_of cs) error) c.deref-2.ensures.value c.in-Err.ensures.refusal in
-    rw c.refusal_of.ensures (by_refusal pieces (graph vertices) error (λ is_fault. no_graph (graph_fault pieces directions vertices written differ cells error refused is_fault)))
+    rw c.refusal_of.ensures
+    (by_refusal c.args.pieces.now (graph vertices) error (λ is_fault. no_graph (graph_fault c.args.pieces.now c.in_ok-directions.directions vertices (written_of c.in_ok-cells.cells.items) differ cells error refused is_fault)))

@@ -1,26 +1,18 @@
 use Rattle.std.proofs.Common.{◌≡◌, ◌+◌, List, ◌++◌, ◌∷◌, [], ℕ, map, take, ap, sym, ◌∙◌, subst, append_assoc}
-use Rattle.std.proofs.lemmas.List.{take-map, map_more, map-append}
+use Rattle.std.proofs.lemmas.List.{map_more, map-append}
 use Rattle.rbg_grammar.specs.Views.{bounded_of}
 use Rattle.rbg_grammar.specs.Tree.{SpeltBounded}
 use Rattle.rbg_game.specs.Descriptions.{holder_names}
 use Rattle.rbg_game.specs.internal.Holders.{HasHolderFault}
 use Rattle.rbg_game.specs.internal.Things.{AddsBounds}
-use Rattle.rbg_numbering.proofs.Lists.{slice_get-map_read}
 use Rattle.rbg_numbering.proofs.LookUps.{passed_on}
-use Rattle.rbg_game.proofs.NameFaults.{holder_fault_at, AddsBounds-append}
+use Rattle.rbg_game.proofs.NameFaults.{holder_fault_in_loop, AddsBounds-append}
 use Rattle.rbg_game.proofs.checking.names.add_holders.Goals as goal
 
 pub returns-in_err-add_holder-clause-fault : goal.returns-in_err-add_holder-clause-fault
 returns-in_err-add_holder-clause-fault c =
-    let holders = c.args.holders.now in
-    let i = c.loop-holder.holder-index in
-    let holder = c.holder-item.result in
-    let error = c.in_err-add_holder.field-0.0 in
-    let before : c.loop-holder.table ≡ c.args.table.now ++ holder_names (take i (map bounded_of holders)) =
-    c.loop-holder.invariant.0 ∙ ap (λ (l : List SpeltBounded). c.args.table.now ++ holder_names l) (sym (take-map bounded_of i holders)) in
-    passed_on c.from_residual.result error (HasHolderFault c.args.table.now (map bounded_of holders)) c.from_residual.ensures.1
-    (holder_fault_at c.args.table.now c.loop-holder.table (map bounded_of holders) i (bounded_of holder) error
-    (slice_get-map_read bounded_of holders i holder c.loop-holder-test.true c.holder-item.is) before c.in_err-add_holder.ensures.fault)
+    passed_on c.from_residual.result c.in_err-add_holder.field-0.0 (HasHolderFault c.args.table.now (map bounded_of c.args.holders.now)) c.from_residual.ensures.1
+    (holder_fault_in_loop c.args.table.now c.loop-holder.table c.args.holders.now c.loop-holder.holder-index c.holder-item.result c.in_err-add_holder.field-0.0 c.loop-holder-test.true c.holder-item.is c.loop-holder.invariant.0 c.in_err-add_holder.ensures.fault)
 
 pub loop-holder-preserved : goal.loop-holder-preserved
 loop-holder-preserved c =

@@ -1,10 +1,10 @@
 -- Each atom in brackets has one bracket less to open. What a loop has read stands before what it will read.
-use Rattle.std.proofs.Common.{◌≡◌, ◌+◌, ◌*◌, length, map}
+use Rattle.std.proofs.Common.{◌+◌, ◌*◌, length, map}
 use Rattle.rbg_tokens.specs.declared.token.Symbol.TheVariants as symbols
-use Rattle.rbg_grammar.specs.Reading.{after_at, further_at, is_symbol, repeated_at}
+use Rattle.rbg_grammar.specs.Reading.{after_at, is_symbol}
 use Rattle.rbg_grammar.specs.RuleReading.{atom_at, begins_atom, item_at, sequence_at}
 use Rattle.rbg_grammar.specs.Views.{rule_of}
-use Rattle.rbg_grammar.proofs.Turns.{prepend}
+use Rattle.rbg_grammar.proofs.Turns.{ReadsOn}
 use Rattle.rbg_syntax.proofs.parser.Parser.+rules.Given as goal
 
 abbrev pub decreases-atom : goal.decreases-atom
@@ -36,16 +36,14 @@ decreases-bracket_atom l = 10 * l.brackets + 8
 
 abbrev pub invariant-further_items-loop-alloc : goal.invariant-further_items-loop-alloc
 invariant-further_items-loop-alloc l =
-    further_at (rule_of l.fn.first) begins_atom (item_at (atom_at l.brackets)) l.fn.self
-    ≡ prepend (map rule_of l.parts.items) (repeated_at begins_atom (item_at (atom_at l.brackets)) l.self)
+    ReadsOn (rule_of l.fn.first) begins_atom (item_at (atom_at l.brackets)) l.fn.self (map rule_of l.parts.items) l.self
 
 abbrev pub decreases-further_items-loop-alloc : goal.decreases-further_items-loop-alloc
 decreases-further_items-loop-alloc l = length l.self
 
 abbrev pub invariant-further_sequences-loop-alloc : goal.invariant-further_sequences-loop-alloc
 invariant-further_sequences-loop-alloc l =
-    further_at (rule_of l.fn.first) (is_symbol symbols.Plus) (after_at symbols.Plus (sequence_at (atom_at l.brackets))) l.fn.self
-    ≡ prepend (map rule_of l.parts.items) (repeated_at (is_symbol symbols.Plus) (after_at symbols.Plus (sequence_at (atom_at l.brackets))) l.self)
+    ReadsOn (rule_of l.fn.first) (is_symbol symbols.Plus) (after_at symbols.Plus (sequence_at (atom_at l.brackets))) l.fn.self (map rule_of l.parts.items) l.self
 
 abbrev pub decreases-further_sequences-loop-alloc : goal.decreases-further_sequences-loop-alloc
 decreases-further_sequences-loop-alloc l = length l.self
