@@ -75,8 +75,7 @@ impl Flat {
     {
         self.sets.clear();
         self.ends = false;
-        let narrow = self.sets.is_narrow();
-        self.lead(game, paths, state, origin, state.vertex(), narrow);
+        self.lead_first(game, paths, state, origin, state.vertex());
     }
 
     /// Goes on up to the next vertex that is to be asked about a pattern, and returns it with the pattern's position;
@@ -271,6 +270,36 @@ impl Flat {
 
     /// Leads on from a place in the rules and a vertex: meets where leaps lead from there.
     #[inline(always)]
+    fn lead_first(
+        &mut self,
+        game: &Game,
+        paths: &Paths,
+        state: &SemiState,
+        origin: Origin,
+        vertex: Vertex,
+    )
+        requires lawful { IsGame game.now }
+        requires paths { ArePathsOf game.now paths.now }
+        requires fits { IsStateOf game.now state.now.state }
+        requires sized { AreSizedFor game.now self.old.sets }
+        requires vertex { vertex < length game.now.board.first }
+        requires stands { IsStart game.now.rules (start_of origin) }
+        ensures met { Meets self.old.sets self.new.sets
+            (λ v p. IsLeap game.now (start_of origin) vertex p v)
+            (IsToTry game.now state.now.state) }
+        ensures ends { LearnsEnd self.old.ends self.new.ends
+            (EndsAcross game.now (start_of origin) vertex) }
+        ensures on { AreOn game.now self.old.sets → AreOn game.now self.new.sets }
+    {
+        if self.sets.is_narrow() {
+            self.lead(game, paths, state, origin, vertex, true);
+        } else {
+            self.lead(game, paths, state, origin, vertex, false);
+        }
+    }
+
+    /// The same, over rows of one word or of however many, which is told here.
+    #[inline(always)]
     fn lead(
         &mut self,
         game: &Game,
@@ -397,6 +426,41 @@ impl Flat {
     /// Leads on from a position at each vertex of a word: at all of them at once where no shift comes next.
     #[inline(always)]
     fn lead_word(
+        &mut self,
+        game: &Game,
+        paths: &Paths,
+        state: &SemiState,
+        position: Position,
+        column: usize,
+        word: u64,
+        narrow: bool,
+    )
+        requires lawful { IsGame game.now }
+        requires paths { ArePathsOf game.now paths.now }
+        requires fits { IsStateOf game.now state.now.state }
+        requires sized { AreSizedFor game.now self.old.sets }
+        requires narrow { IsTrue narrow → self.old.sets.columns ≡ 1 }
+        requires board { IsOnBoard game.now column word }
+        requires column { column < self.old.sets.columns }
+        requires from_one { 0 < position }
+        requires there { position ≤ length (positions_of game.now.rules) }
+        ensures sized { AreSizedFor game.now self.new.sets }
+        ensures met { Meets self.old.sets self.new.sets (LeadsFrom game.now position column word)
+            (IsToTry game.now state.now.state) }
+        ensures ends { LearnsEnd self.old.ends self.new.ends
+            (EndsFrom game.now position column word) }
+        ensures on { AreOn game.now self.old.sets → AreOn game.now self.new.sets }
+    {
+        if narrow {
+            self.lead_over(game, paths, state, position, column, word, true);
+        } else {
+            self.lead_over(game, paths, state, position, column, word, false);
+        }
+    }
+
+    /// The same, over rows of one word or of however many, which is told here.
+    #[inline(always)]
+    fn lead_over(
         &mut self,
         game: &Game,
         paths: &Paths,

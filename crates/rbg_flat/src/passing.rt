@@ -45,14 +45,36 @@ pub(crate) fn to_try(
     if let Kind::OnEither(piece, other) = kind {
         return either_standing(state, piece, other, column);
     }
-    if let Kind::OnAny = kind {
-        return on_to_try(game, state, position, column);
+    any_to_try(game, paths, state, position, column)
+}
+
+/// The same for an action of any kind. The kind is read again, since to hand it over would cost each word that is met.
+#[inline(never)]
+fn any_to_try(
+    game: &Game,
+    paths: &Paths,
+    state: &SemiState,
+    position: Position,
+    column: usize,
+) -> u64
+    requires lawful { IsGame game.now }
+    requires paths { ArePathsOf game.now paths.now }
+    requires fits { IsStateOf game.now state.now.state }
+    requires position { IsPositionIn game.now position }
+    requires column { column < row_words game.now }
+    ensures { (b : ℕ) → b < 64 → (bit_at result b ≡ 1)
+        ↔ IsToTry game.now state.now.state (column * 64 + b) position }
+{
+    match paths.kind(game, position) {
+        Kind::Modifier => 0,
+        Kind::Pattern | Kind::Plain => full_word(),
+        Kind::On(piece) => standing(state, piece, column),
+        Kind::OnEither(piece, other) => either_standing(state, piece, other, column),
+        Kind::OnAny => on_to_try(game, state, position, column),
     }
-    full_word()
 }
 
 /// The bits of a column on whose vertices one of the pieces of the on at a position stands.
-#[inline(never)]
 fn on_to_try(game: &Game, state: &SemiState, position: Position, column: usize) -> u64
     requires lawful { IsGame game.now }
     requires position { IsPositionIn game.now position }
