@@ -49,12 +49,14 @@ pub(crate) fn lists_of<S: Steps>(alloc: Global, game: &Game, steps: &S) -> Resul
     let rules = shelf.keep(steps.first(Expr::Rules), steps.may_be_empty(Expr::Rules))?;
     let mut afters = Vec::with_capacity(alloc, positions + 1)?;
     let mut insides = Vec::with_capacity(alloc, positions + 1)?;
+    // (most positions have nothing inside, as the one before)
+    let mut inside = rules;
     for index in 0..positions + 1 {
         let position = index as Position;
         let after = shelf.keep(steps.next(position), steps.may_end(position))?;
         afters.push(after)?;
         let expr = Expr::Inside(position);
-        let inside = shelf.keep(steps.first(expr), steps.may_be_empty(expr))?;
+        inside = shelf.keep_as(inside, steps.first(expr), steps.may_be_empty(expr))?;
         insides.push(inside)?;
     }
     Ok(Lists {

@@ -99,6 +99,22 @@ impl Shelf {
         Ok(node)
     }
 
+    /// As `keep`, but looks at one node first.
+    pub(crate) fn keep_as(
+        &mut self,
+        node: usize,
+        positions: &[Position],
+        may_end: bool,
+    ) -> Result<usize, Memory>
+        ensures extends { OnOk result (ExtendsShelf self.old self.new) }
+        ensures kept { IfOk result (IsKept self.new positions.now may_end) }
+    {
+        if node >= self.nodes.len() || !self.holds(node, positions, may_end) {
+            return self.keep(positions, may_end);
+        }
+        Ok(node)
+    }
+
     /// The node with that hash, if it has this list.
     fn find(&self, hash: u64, positions: &[Position], may_end: bool) -> Option<usize>
         ensures { IfSome result (IsKept self.now positions.now may_end) }
