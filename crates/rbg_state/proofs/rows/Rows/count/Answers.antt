@@ -13,9 +13,9 @@ loop-column-preserved c =
     let column : ℕ = c.loop-column.column in
     let near : column < columns = c.loop-column-test.true in
     let within : c.args.piece * columns + column < length words =
-        let whole = c.if-start-self.false in
-        let long : c.len.result ≡ length words = c.len.ensures ∙ c.args.self.now.words.ok.0 in
-        omega (arith, near, whole, long) in
+    let whole = c.if-start-self.false in
+    let long : c.len.result ≡ length words = c.len.ensures ∙ c.args.self.now.words.ok.0 in
+    omega (arith, near, whole, long) in
     let read = get_or_read words (c.args.piece * columns + column) c.index.result.now within c.index.ensures 0 in
     let ones = c.count_bits-many.ensures.ones in
     record {
