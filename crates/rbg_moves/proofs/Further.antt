@@ -22,7 +22,7 @@ use Rattle.rbg_search.proofs.CallerLemmas.{no_switch_found, counts_begin, counts
 use Rattle.rbg_pairs.proofs.Meetings.{met_once}
 use Rattle.rbg_search.proofs.Orders.{flat_permuted}
 use Rattle.rbg_search.proofs.Turns.{turned, turn_under, turn_at, turn_front, turn_rest}
-use Rattle.rbg_moves.specs.internal.Asking.{IsAnswered, IsGivenUp}
+use Rattle.rbg_moves.specs.internal.Asking.{CountsAnswer, IsGivenUp}
 use Rattle.rbg_moves.specs.internal.Gathering.{Gathers, IsBehind, IsLegalBy, IsSwitchOr, ListsSwitches, GathersBehind}
 use Rattle.rbg_moves.specs.internal.Stepping.{standing_at, place_behind, Behind, IsValidAt, GoesOnByMove, GoesOnBehind}
 use Rattle.rbg_moves.proofs.Steps.{next_applies, next_there, valid_next}
@@ -53,7 +53,7 @@ forced_begin old lent now s f f' left same start forced =
     subst (λ (h : Start). CountsForced old.game false reach s h old.opened now.opened left old.modifiers) start
     (subst (λ (x : Searching). CountsForced x.game false reach s f' x.opened now.opened left x.modifiers) same forced)
 
-pub so_far_answers : (old now : Searching) (cut : Bool) (question : Question) (s : AbstractState) (f : Start) (done : List (ℕ × ℕ)) (left : ℕ) → IsNumbered old.game.rules → IsSoFar old now question s f done → CountsForced old.game cut question s f old.opened now.opened left old.modifiers → IsAnswered old now cut question s f left
+pub so_far_answers : (old now : Searching) (cut : Bool) (question : Question) (s : AbstractState) (f : Start) (done : List (ℕ × ℕ)) (left : ℕ) → IsNumbered old.game.rules → IsSoFar old now question s f done → CountsForced old.game cut question s f old.opened now.opened left old.modifiers → CountsAnswer old now cut question s f left
 so_far_answers old now cut question s f done left numbered so_far forced = record {
   counted = counts_end old.game numbered so_far.counted;
   paired = so_far.paired;
@@ -172,20 +172,20 @@ module _ {question : Question} {old now : Searching} {place : AbstractPlace} {s'
       let valid : IsValidAt old.game place.state q.0 q.1 = valid_next old.game turn.lawful.numbered place.state f q.0 q.1 (next_there old.game turn.lawful place.state f q.0 q.1 fits turn_next) turn_next in
       subst (λ (g : AbstractGame). IsValidAt g s' q.0 q.1) (sym same) (subst (λ (s : AbstractState). IsValidAt old.game s q.0 q.1) (sym turn.there) valid)
 
-  pub turn_so_far : (new : Searching) (cut : Bool) (left : ℕ) → IsSoFar old now question place.state (stand_of place.last) done → Behind now.game s' q (λ later. IsAnswered now new cut question later (after q.1) left) → IsSoFar old new question place.state (stand_of place.last) (done ++ q ∷ [])
+  pub turn_so_far : (new : Searching) (cut : Bool) (left : ℕ) → IsSoFar old now question place.state (stand_of place.last) done → Behind now.game s' q (λ later. CountsAnswer now new cut question later (after q.1) left) → IsSoFar old new question place.state (stand_of place.last) (done ++ q ∷ [])
   turn_so_far new cut left so_far behind =
-      let more = at_later (λ x later. IsAnswered x new cut question later (after q.1) left) behind in
+      let more = at_later (λ x later. CountsAnswer x new cut question later (after q.1) left) behind in
       record {
         counted = counts_more old.game turn.lawful.numbered so_far.counted fresh goes_on more.counted;
         paired = more_takes old.game old.game question question place.state turn_next.later (stand_of place.last) q.0 q.1 old.opened now.opened new.opened old.taken now.taken new.taken refl goes_on so_far.paired more.paired;
       }
 
-  pub turn_grows : (new : Searching) (cut : Bool) (left : ℕ) → Behind now.game s' q (λ later. IsAnswered now new cut question later (after q.1) left) → now.opened ≤ new.opened
-  turn_grows new cut left behind = let more = at_later (λ x later. IsAnswered x new cut question later (after q.1) left) behind in omega (arith, more.forced.fits)
+  pub turn_grows : (new : Searching) (cut : Bool) (left : ℕ) → Behind now.game s' q (λ later. CountsAnswer now new cut question later (after q.1) left) → now.opened ≤ new.opened
+  turn_grows new cut left behind = let more = at_later (λ x later. CountsAnswer x new cut question later (after q.1) left) behind in omega (arith, more.forced.fits)
 
-  pub turn_forced : (new : Searching) (cut : Bool) (left less : ℕ) → cut ≡ false → less ≡ left - 1 → 1 < left → TakenSoFar old.game question place.state (stand_of place.last) done old.opened now.opened left old.modifiers → Behind now.game s' q (λ later. IsAnswered now new cut question later (after q.1) less) → TakenSoFar old.game question place.state (stand_of place.last) (done ++ q ∷ []) old.opened new.opened left old.modifiers
+  pub turn_forced : (new : Searching) (cut : Bool) (left less : ℕ) → cut ≡ false → less ≡ left - 1 → 1 < left → TakenSoFar old.game question place.state (stand_of place.last) done old.opened now.opened left old.modifiers → Behind now.game s' q (λ later. CountsAnswer now new cut question later (after q.1) less) → TakenSoFar old.game question place.state (stand_of place.last) (done ++ q ∷ []) old.opened new.opened left old.modifiers
   turn_forced new cut left less uncut fewer more_left so_far behind =
-      let more = at_later (λ x later. IsAnswered x new cut question later (after q.1) less) behind in
+      let more = at_later (λ x later. CountsAnswer x new cut question later (after q.1) less) behind in
       so_far_one old.game turn.lawful.numbered question place.state (stand_of place.last) done q turn_next.later old.opened now.opened new.opened left old.modifiers goes_on.applies more_left so_far
       (subst (λ (n : ℕ). CountsForced old.game false question turn_next.later (after q.1) now.opened new.opened n old.modifiers) fewer
       (subst (λ (b : Bool). CountsForced old.game b question turn_next.later (after q.1) now.opened new.opened less old.modifiers) uncut more.forced))
@@ -246,10 +246,10 @@ made Is game game' numbered s here q p same same_position applied holds later ap
     let here' : Applies game q.1 (standing_at s q.0) here = subst (λ (g : AbstractGame). Applies g q.1 (standing_at s q.0) here) same applied in
     subst (λ (x : AbstractState). Is x q.1) (Applies_one game numbered q.1 here' applied') (subst (λ (n : ℕ). Is here n) same_position holds)
 
-pub made_answered : (old new : Searching) (cut : Bool) (question : Question) (game' : AbstractGame) (s here : AbstractState) (q : ℕ × ℕ) (p left less : ℕ) → IsNumbered old.game.rules → game' ≡ old.game → p ≡ q.1 → less ≡ left → Applies game' q.1 (standing_at s q.0) here → IsAnswered old new cut question here (after p) less → Behind old.game s q (λ later. IsAnswered old new cut question later (after q.1) left)
+pub made_answered : (old new : Searching) (cut : Bool) (question : Question) (game' : AbstractGame) (s here : AbstractState) (q : ℕ × ℕ) (p left less : ℕ) → IsNumbered old.game.rules → game' ≡ old.game → p ≡ q.1 → less ≡ left → Applies game' q.1 (standing_at s q.0) here → CountsAnswer old new cut question here (after p) less → Behind old.game s q (λ later. CountsAnswer old new cut question later (after q.1) left)
 made_answered old new cut question game' s here q p left less numbered same same_position same_left applied answered =
-    made (λ t n. IsAnswered old new cut question t (after n) left) old.game game' numbered s here q p same same_position applied
-    (subst (λ (n : ℕ). IsAnswered old new cut question here (after p) n) same_left answered)
+    made (λ t n. CountsAnswer old new cut question t (after n) left) old.game game' numbered s here q p same same_position applied
+    (subst (λ (n : ℕ). CountsAnswer old new cut question here (after p) n) same_left answered)
 
 pub made_given_up : (old : Searching) (question : Question) (game' : AbstractGame) (s here : AbstractState) (q : ℕ × ℕ) (p left less : ℕ) (D W : Type 0) → IsNumbered old.game.rules → game' ≡ old.game → p ≡ q.1 → less ≡ left → Applies game' q.1 (standing_at s q.0) here → IsGivenUp old question here (after p) less D W → Behind old.game s q (λ later. IsGivenUp old question later (after q.1) left D W)
 made_given_up old question game' s here q p left less D W numbered same same_position same_left applied given_up =

@@ -14,7 +14,7 @@ ghost use Rattle.rbg_pairs.specs.Start.{IsPositionOf};
 ghost use Rattle.rbg_state.specs.History.{IsAfter};
 ghost use Rattle.rbg_moves.specs.Limits.{IsDeepAt, IsWideAt, FitsLimits};
 ghost use Rattle.rbg_moves.specs.Tallying.{IsTallied};
-ghost use Rattle.rbg_moves.specs.internal.Asking.{IsAnswered, IsGivenUp};
+ghost use Rattle.rbg_moves.specs.internal.Asking.{CountsAnswer, IsGivenUp};
 ghost use Rattle.rbg_moves.specs.internal.Stepping.{place_behind, Behind, IsValidAt, GoesOnByMove, GoesOnBehind};
 
 use crate::asking::{budget_is_kept, game_is_accepted, join, move_of, origin_after, search_in};
@@ -266,7 +266,7 @@ fn find<S: Steps>(
     ensures length { IfOk result (λ found. IsTrue found → IsMoveLength (length whole.new.items)) }
     ensures none { IfOk result (λ found. IsTrue (not found) → Finished search.old.game
         (record { state = state.old.state; last = after })) }
-    ensures answered { OnOk result (IsAnswered search.old search.new false find_move
+    ensures answered { OnOk result (CountsAnswer search.old search.new false find_move
         state.old.state (stand_of after) (most_pairs - length front.old.items)) }
     ensures given_up { IsGivenUp search.old find_move state.old.state (stand_of after)
         (most_pairs - length front.old.items) (result ≡ Err Over.Deep) (result ≡ Err Over.Wide) }
@@ -319,7 +319,7 @@ fn find_behind<S: Steps>(
         → Behind search.old.game state.old.state pair (λ later.
         Finished search.old.game (place_behind later pair.1))) }
     ensures answered { OnOk result (Behind search.old.game state.old.state pair (λ later.
-        IsAnswered search.old search.new false find_move later (after pair.1)
+        CountsAnswer search.old search.new false find_move later (after pair.1)
         (most_pairs - (length front.old.items + 1)))) }
     ensures given_up { Behind search.old.game state.old.state pair (λ later.
         IsGivenUp search.old find_move later (after pair.1)

@@ -14,7 +14,7 @@ ghost use Rattle.rbg_pairs.specs.Start.{IsPositionOf};
 ghost use Rattle.rbg_moves.specs.Limits.{IsDeepAt, IsWideAt, FitsLimits};
 ghost use Rattle.rbg_moves.specs.Listing.{IsGathered, IsListed, IsMoveBefore};
 ghost use Rattle.rbg_moves.specs.Tallying.{IsTallied};
-ghost use Rattle.rbg_moves.specs.internal.Asking.{IsAnswered, IsGivenUp};
+ghost use Rattle.rbg_moves.specs.internal.Asking.{CountsAnswer, IsGivenUp};
 ghost use Rattle.rbg_moves.specs.internal.Gathering.{Gathers, GathersBehind, ListsSwitches, LeavesOthers};
 ghost use Rattle.rbg_moves.specs.internal.Stepping.{Behind, IsValidAt};
 
@@ -228,7 +228,7 @@ fn list<S: Steps>(
     ensures gathered { IfOk result (λ cut.
         Gathers (IsLegal search.old.game (record { state = state.old.state; last = after }))
         front.old.items found.old.max found.old.moves found.new.moves cut) }
-    ensures answered { IfOk result (λ cut. IsAnswered search.old search.new cut listing_moves
+    ensures answered { IfOk result (λ cut. CountsAnswer search.old search.new cut listing_moves
         state.old.state (stand_of after) (most_pairs - length front.old.items)) }
     ensures given_up { IsGivenUp search.old listing_moves state.old.state (stand_of after)
         (most_pairs - length front.old.items) (result ≡ Err Over.Deep) (result ≡ Err Over.Wide) }
@@ -274,7 +274,7 @@ fn list_behind<S: Steps>(
         front.old.items found.old.max found.old.moves found.new.moves cut) }
     ensures few { OnOk result (length found.new.moves ≤ found.old.max) }
     ensures answered { IfOk result (λ cut. Behind search.old.game state.old.state pair (λ later.
-        IsAnswered search.old search.new cut listing_moves later (after pair.1)
+        CountsAnswer search.old search.new cut listing_moves later (after pair.1)
         (most_pairs - (length front.old.items + 1)))) }
     ensures given_up { Behind search.old.game state.old.state pair (λ later.
         IsGivenUp search.old listing_moves later (after pair.1)

@@ -11,7 +11,7 @@ use Rattle.rbg_search.specs.Taken.{CountsPairs}
 
 -- The question was answered: the openings and pairs that were counted meanwhile are its own, and all openings that are
 -- forced were taken up. Each of these has few modifiers in a row, fewer than `left` at its beginning.
-pub record IsAnswered
+pub record CountsAnswer
     (old new : Searching) (cut : Bool) (question : Question) (s : AbstractState) (f : Start) (left : ℕ)
     : Type 0
   where

@@ -21,7 +21,7 @@ use Rattle.rbg_search.proofs.CallerLemmas.{find_begins}
 use Rattle.rbg_search.proofs.Kept.{kept_since}
 use Rattle.rbg_search.proofs.Takings.{is_answer}
 use Rattle.rbg_search.proofs.Turns.{turn_fewer, turn_there, none_left}
-use Rattle.rbg_moves.specs.internal.Asking.{IsAnswered}
+use Rattle.rbg_moves.specs.internal.Asking.{CountsAnswer}
 use Rattle.rbg_moves.specs.internal.Stepping.{place_behind, Behind}
 use Rattle.rbg_moves.proofs.Steps.{place_start, next_applies, legal_end, none_found, modifier_position}
 use Rattle.rbg_moves.proofs.Further.{so_far_begin, forced_begin, so_far_answers, reach_given_up, find_turn, turn_plain, turn_whole, turn_fits, turn_valid, turn_so_far, turn_grows, turn_forced, turn_given_up, turn_too_many, turn_found, turn_finished, part_as, made, made_answered, made_given_up}
@@ -80,7 +80,7 @@ find-returns-in-Some-clause-answered g t c =
     let legal = legal_end old.game numbered place last.0 last.1 next.later next switches (next_applies old.game numbered place.state (stand_of place.last) last.0 last.1 next) in
     let left = most_pairs - length c.args.front.now.items in
     let b = c.reach_into.new.self.opened in
-    subst (λ (x : Searching). IsAnswered old x false find_move place.state (stand_of place.last) left) (sym c.keep_list.ensures)
+    subst (λ (x : Searching). CountsAnswer old x false find_move place.state (stand_of place.last) left) (sym c.keep_list.ensures)
     (so_far_answers old c.reach_into.new.self false find_move place.state (stand_of place.last) [] left numbered
     (so_far_begin old c.take_list-pairs.new.self c.reach_into.new.self find_move place.state (stand_of place.last) (start_of c.origin_after.result) (IsOk c.reach_into.result) numbered (find_begins old.game place.state (stand_of place.last)) c.take_list-pairs.ensures c.origin_after.ensures c.reach_into.ensures.answered.counted c.reach_into.ensures.answered.taken (is_answer c.reach_into.result c.in_ok-reach_into.field-0 c.in_ok-reach_into.was) [])
     (found_forced old.game numbered place (last ∷ []) old.opened b b left old.modifiers (place_behind next.later last.1, legal) (omega arith)
@@ -186,7 +186,7 @@ find-returns-then-found-clause-answered g t c =
     let then = c.find_behind.new.search in
     let behind = c.in_ok-found.ensures.answered in
     let found = turn_found turn c.args.front.now.items now.front.items c.find_behind.new.whole.items inv.front (c.in_ok-found.ensures.found c.if-found.true) in
-    subst (λ (x : Searching). IsAnswered old x false find_move place.state (stand_of place.last) left) (sym c.keep_list-then-found.ensures)
+    subst (λ (x : Searching). CountsAnswer old x false find_move place.state (stand_of place.last) left) (sym c.keep_list-then-found.ensures)
     (so_far_answers old then false find_move place.state (stand_of place.last) (inv.done ++ q ∷ []) left numbered (turn_so_far turn then false _ inv.so_far behind)
     (found_so_far old.game numbered place found.pairs inv.done old.opened now.search.opened then.opened left old.modifiers found.legal inv.forced (turn_grows turn then false _ behind)))
 
@@ -246,7 +246,7 @@ find-returns-clause-answered g t c =
     let finished = none_found old.game numbered place (stand_of place.last) (inv.done ++ now.pairs) inv.part.ends inv.part.part refl inv.plain all in
     let left = most_pairs - length c.args.front.now.items in
     let taken = subst (λ (ds : List (ℕ × ℕ)). TakenSoFar old.game find_move place.state (stand_of place.last) ds old.opened now.search.opened left old.modifiers) all_taken inv.forced in
-    subst (λ (x : Searching). IsAnswered old x false find_move place.state (stand_of place.last) left) (sym c.keep_list-2.ensures)
+    subst (λ (x : Searching). CountsAnswer old x false find_move place.state (stand_of place.last) left) (sym c.keep_list-2.ensures)
     (so_far_answers old now.search false find_move place.state (stand_of place.last) inv.done left numbered inv.so_far
     (finished_forced old.game numbered place (inv.done ++ now.pairs) inv.part.ends old.opened now.search.opened left old.modifiers finished inv.part.part taken))
 

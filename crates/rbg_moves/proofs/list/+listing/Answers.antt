@@ -16,7 +16,7 @@ use Rattle.rbg_search.proofs.Kept.{kept_since}
 use Rattle.rbg_search.proofs.Orders.{flat_permuted}
 use Rattle.rbg_search.proofs.Takings.{is_answer}
 use Rattle.rbg_search.proofs.Turns.{turn_fewer, none_left}
-use Rattle.rbg_moves.specs.internal.Asking.{IsAnswered}
+use Rattle.rbg_moves.specs.internal.Asking.{CountsAnswer}
 use Rattle.rbg_moves.specs.internal.Gathering.{Gathers, IsLegalBy, IsSwitchOr, LeavesOthers}
 use Rattle.rbg_moves.specs.internal.Stepping.{place_behind}
 use Rattle.rbg_moves.proofs.Steps.{place_start, modifier_position}
@@ -234,7 +234,7 @@ list-returns-clause-answered g t c =
     let left = most_pairs - length c.args.front.now.items in
     let all : inv.done ≡ inv.done ++ now.pairs = none_left inv.done now.pairs c.in_default.ensures.none in
     let taken = subst (λ (ds : List (ℕ × ℕ)). TakenSoFar old.game list_moves place.state (stand_of place.last) ds old.opened now.search.opened left old.modifiers) all inv.forced in
-    subst (λ (x : Searching). IsAnswered old x false list_moves place.state (stand_of place.last) left) (sym c.keep_list.ensures)
+    subst (λ (x : Searching). CountsAnswer old x false list_moves place.state (stand_of place.last) left) (sym c.keep_list.ensures)
     (so_far_answers old now.search false list_moves place.state (stand_of place.last) inv.done left numbered inv.so_far
     (listed_forced old.game numbered place.state (stand_of place.last) (inv.done ++ now.pairs) inv.whole.ends old.opened now.search.opened left old.modifiers inv.whole.part taken))
 
