@@ -24,4 +24,3 @@ pub mod Having
 pub mod Gatherings
 pub mod Finishings
 pub mod Stills
-pub mod Advancing

@@ -8,4 +8,3 @@ pub mod Leading
 pub mod Passing
 pub mod Gathering
 pub mod Bits
-pub mod Going

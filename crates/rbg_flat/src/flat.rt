@@ -1,5 +1,5 @@
 //! A flat part that is being found, by sets of vertices.
-ghost use Rattle.std.specs.Prelude.{◌≡◌, ℕ, ◌+◌, ◌*◌, ◌/◌, ◌<◌, ◌≤◌, ◌↔◌, ◌⊎◌, ◌^◌, [], length, IfOk, IfSome, IfNone, OnOk, IsTrue, false};
+ghost use Rattle.std.specs.Prelude.{◌≡◌, ℕ, ◌+◌, ◌*◌, ◌/◌, ◌<◌, ◌≤◌, ◌↔◌, ◌⊎◌, ◌^◌, length, IfOk, IfSome, IfNone, OnOk, IsTrue, false};
 ghost use Rattle.rbg_rules.specs.Games.{IsGame};
 ghost use Rattle.rbg_rules.specs.Laws.{IsStart};
 ghost use Rattle.rbg_rules.specs.Positions.{IsNumbered, IsPatternAt, positions_of};
@@ -12,7 +12,6 @@ ghost use Rattle.rbg_flat.specs.Chains.{Holds};
 ghost use Rattle.rbg_flat.specs.Paths.{ArePathsOf, IsStill};
 ghost use Rattle.rbg_flat.specs.Found.{AreFound, HasCandidates, most_candidates};
 ghost use Rattle.rbg_flat.specs.internal.Begun.{IsBegun};
-ghost use Rattle.rbg_flat.specs.internal.Going.{Advances, IsAskedNext, AreGathered};
 ghost use Rattle.rbg_flat.specs.internal.Passing.{IsToTry, Passes};
 ghost use Rattle.rbg_flat.specs.internal.Sets.{Meets, IsInWord, IsMarked, IsOpen, IsLastOf, IsDone, KeepsDone, WaitsLast, weight};
 ghost use Rattle.std.specs.Int.{bit_at};
@@ -75,7 +74,7 @@ impl Flat {
     {
         self.sets.clear();
         self.ends = false;
-        self.lead_first(game, paths, state, origin, state.vertex());
+        self.lead(game, paths, state, origin, state.vertex());
     }
 
     /// Goes on up to the next vertex that is to be asked about a pattern, and returns it with the pattern's position;
@@ -107,42 +106,14 @@ impl Flat {
         ensures done { IfNone result ((v p : ℕ) → ¬ IsOpen self.new.sets v p) }
         ensures lighter { weight self.new.sets ≤ weight self.old.sets }
     {
-        // most boards have one word for each row, which is asked once
-        if self.sets.is_narrow() {
-            self.advance_over(game, paths, state, true)
-        } else {
-            self.advance_over(game, paths, state, false)
-        }
-    }
-
-    /// Goes on as `advance` does, over rows of one word, or of however many.
-    #[inline(always)]
-    fn advance_over(
-        &mut self,
-        game: &Game,
-        paths: &Paths,
-        state: &SemiState,
-        narrow: bool,
-    ) -> Option<(Vertex, Position)>
-        requires lawful { IsGame game.now }
-        requires paths { ArePathsOf game.now paths.now }
-        requires fits { IsStateOf game.now state.now.state }
-        requires sized { AreSizedFor game.now self.old.sets }
-        requires narrow { IsTrue narrow → self.old.sets.columns ≡ 1 }
-        requires on { AreOn game.now self.old.sets }
-        ensures advances { Advances game.now state.now.state self.old.sets self.new.sets
-            self.old.ends self.new.ends }
-        ensures asked { IfSome result (λ pair. IsAskedNext game.now self.new.sets pair.0 pair.1) }
-        ensures done { IfNone result ((v p : ℕ) → ¬ IsOpen self.new.sets v p) }
-    {
         while let Some(place) = self.sets.waiting() {
-            let position = self.sets.position_at(place, narrow);
-            let vertex = self.sets.first_open(place, narrow);
+            let position = self.sets.position_at(place);
+            let vertex = self.sets.first_open(place);
             if is_pattern(game, paths, &self.sets, vertex, position) {
                 return Some((vertex, position));
             }
-            let column = self.sets.column_at(place, narrow);
-            self.try_word(game, paths, state, place, position, column, vertex, narrow);
+            let column = self.sets.column_at(place);
+            self.try_word(game, paths, state, place, position, column, vertex);
         }
         None
     }
@@ -184,11 +155,8 @@ impl Flat {
         let column = vertex as usize / 64;
         let word = unit_word(vertex % 64);
         let held = if valid { word } else { 0 };
-        let narrow = self.sets.is_narrow();
-        let place = self.sets.place(position, column, narrow);
-        self.take_word(
-            game, paths, state, place, position, column, word, held, narrow,
-        );
+        let place = self.sets.place(position, column);
+        self.take_word(game, paths, state, place, position, column, word, held);
     }
 
     /// Whether a word may end with no modifier more, once nothing is left to be looked at.
@@ -228,77 +196,17 @@ impl Flat {
         ensures few { IfOk result (λ many. many ≤ most_candidates game.now) }
     {
         found.clear();
-        if self.sets.is_narrow() {
-            self.gather_all(game, paths, state, found, true)
-        } else {
-            self.gather_all(game, paths, state, found, false)
-        }
-    }
-
-    /// Gathers what was found as `finish` does, over rows of one word, or of however many, and forgets it.
-    #[inline(always)]
-    fn gather_all(
-        &mut self,
-        game: &Game,
-        paths: &Paths,
-        state: &SemiState,
-        found: &mut Modifiers,
-        narrow: bool,
-    ) -> Result<usize, Memory>
-        requires lawful { IsGame game.now }
-        requires paths { ArePathsOf game.now paths.now }
-        requires fits { IsStateOf game.now state.now.state }
-        requires sized { AreSizedFor game.now self.old.sets }
-        requires narrow { IsTrue narrow → self.old.sets.columns ≡ 1 }
-        requires on { AreOn game.now self.old.sets }
-        requires done { (v p : ℕ) → ¬ IsOpen self.old.sets v p }
-        requires none { found.old ≡ [] }
-        ensures sized { AreSizedFor game.now self.new.sets }
-        ensures ends { self.new.ends ≡ self.old.ends }
-        ensures gathered { IfOk result (λ many. AreGathered game.now state.now.state self.old.sets
-            self.old.ends found.new many) }
-    {
         let mut many = 0;
         while let Some(place) = self.sets.last_touched() {
-            let position = self.sets.position_at(place, narrow);
+            let position = self.sets.position_at(place);
             let keeps = keeps(game, paths, state, position);
-            many += gather_place(found, &self.sets, place, position, keeps, narrow)?;
+            many += gather_place(found, &self.sets, place, position, keeps)?;
             self.sets.forget(place);
         }
         Ok(many)
     }
 
     /// Leads on from a place in the rules and a vertex: meets where leaps lead from there.
-    #[inline(always)]
-    fn lead_first(
-        &mut self,
-        game: &Game,
-        paths: &Paths,
-        state: &SemiState,
-        origin: Origin,
-        vertex: Vertex,
-    )
-        requires lawful { IsGame game.now }
-        requires paths { ArePathsOf game.now paths.now }
-        requires fits { IsStateOf game.now state.now.state }
-        requires sized { AreSizedFor game.now self.old.sets }
-        requires vertex { vertex < length game.now.board.first }
-        requires stands { IsStart game.now.rules (start_of origin) }
-        ensures met { Meets self.old.sets self.new.sets
-            (λ v p. IsLeap game.now (start_of origin) vertex p v)
-            (IsToTry game.now state.now.state) }
-        ensures ends { LearnsEnd self.old.ends self.new.ends
-            (EndsAcross game.now (start_of origin) vertex) }
-        ensures on { AreOn game.now self.old.sets → AreOn game.now self.new.sets }
-    {
-        if self.sets.is_narrow() {
-            self.lead(game, paths, state, origin, vertex, true);
-        } else {
-            self.lead(game, paths, state, origin, vertex, false);
-        }
-    }
-
-    /// The same, over rows of one word or of however many, which is told here.
     #[inline(always)]
     fn lead(
         &mut self,
@@ -307,13 +215,11 @@ impl Flat {
         state: &SemiState,
         origin: Origin,
         vertex: Vertex,
-        narrow: bool,
     )
         requires lawful { IsGame game.now }
         requires paths { ArePathsOf game.now paths.now }
         requires fits { IsStateOf game.now state.now.state }
         requires sized { AreSizedFor game.now self.old.sets }
-        requires narrow { IsTrue narrow → self.old.sets.columns ≡ 1 }
         requires vertex { vertex < length game.now.board.first }
         requires stands { IsStart game.now.rules (start_of origin) }
         ensures met { Meets self.old.sets self.new.sets
@@ -324,7 +230,7 @@ impl Flat {
         ensures on { AreOn game.now self.old.sets → AreOn game.now self.new.sets }
     {
         let (targets, ends) = paths.leaps.leads(origin, vertex);
-        meet_targets(&mut self.sets, game, paths, state, targets, narrow);
+        meet_targets(&mut self.sets, game, paths, state, targets);
         self.ends |= ends;
     }
 
@@ -340,13 +246,11 @@ impl Flat {
         position: Position,
         column: usize,
         vertex: Vertex,
-        narrow: bool,
     )
         requires lawful { IsGame game.now }
         requires paths { ArePathsOf game.now paths.now }
         requires fits { IsStateOf game.now state.now.state }
         requires sized { AreSizedFor game.now self.old.sets }
-        requires narrow { IsTrue narrow → self.old.sets.columns ≡ 1 }
         requires on { AreOn game.now self.old.sets }
         requires place { place < length self.old.sets.marks }
         requires last { IsLastOf self.old.sets.waiting place }
@@ -356,15 +260,21 @@ impl Flat {
         requires open { IsOpen self.old.sets vertex position }
         requires marked { IsMarked self.old.sets vertex position }
         requires plain { ¬ IsPatternAt game.now.rules position }
-        ensures advances { Advances game.now state.now.state self.old.sets self.new.sets
-            self.old.ends self.new.ends }
+        ensures sized { AreSizedFor game.now self.new.sets }
+        ensures begun { (f : Start)
+            → IsBegun game.now state.now.state f (IsMarked self.old.sets) (IsOpen self.old.sets)
+            self.old.ends
+            → IsBegun game.now state.now.state f (IsMarked self.new.sets) (IsOpen self.new.sets)
+            self.new.ends }
+        ensures on { AreOn game.now self.new.sets }
+        ensures done { KeepsDone self.old.sets self.new.sets }
+        ensures quiet { (v p : ℕ) → IsPatternAt game.now.rules p → IsDone self.new.sets v p
+            → IsDone self.old.sets v p }
         ensures less { weight self.new.sets < weight self.old.sets }
     {
         let word = self.sets.open_at(place, position, column);
         let held = held(game, paths, state, position, column, word);
-        self.take_word(
-            game, paths, state, place, position, column, word, held, narrow,
-        );
+        self.take_word(game, paths, state, place, position, column, word, held);
     }
 
     /// Takes the bits of a word off what is open at the latest waiting place, and leads on from those at which the
@@ -380,13 +290,11 @@ impl Flat {
         column: usize,
         word: u64,
         held: u64,
-        narrow: bool,
     )
         requires lawful { IsGame game.now }
         requires paths { ArePathsOf game.now paths.now }
         requires fits { IsStateOf game.now state.now.state }
         requires sized { AreSizedFor game.now self.old.sets }
-        requires narrow { IsTrue narrow → self.old.sets.columns ≡ 1 }
         requires place { place < length self.old.sets.marks }
         requires last { IsLastOf self.old.sets.waiting place }
         requires at { place ≡ position * self.old.sets.columns + column }
@@ -405,7 +313,6 @@ impl Flat {
             self.old.ends
             → IsBegun game.now state.now.state f (IsMarked self.new.sets) (IsOpen self.new.sets)
             self.new.ends }
-        ensures columns { self.new.sets.columns ≡ self.old.sets.columns }
         ensures on { AreOn game.now self.old.sets → AreOn game.now self.new.sets }
         ensures still_done { KeepsDone self.old.sets self.new.sets }
         ensures done { (v : ℕ) → IsInWord position column word v position
@@ -419,7 +326,7 @@ impl Flat {
     {
         self.sets.close_word(place, position, column, word);
         if held != 0 {
-            self.lead_word(game, paths, state, position, column, held, narrow);
+            self.lead_word(game, paths, state, position, column, held);
         }
     }
 
@@ -433,48 +340,11 @@ impl Flat {
         position: Position,
         column: usize,
         word: u64,
-        narrow: bool,
     )
         requires lawful { IsGame game.now }
         requires paths { ArePathsOf game.now paths.now }
         requires fits { IsStateOf game.now state.now.state }
         requires sized { AreSizedFor game.now self.old.sets }
-        requires narrow { IsTrue narrow → self.old.sets.columns ≡ 1 }
-        requires board { IsOnBoard game.now column word }
-        requires column { column < self.old.sets.columns }
-        requires from_one { 0 < position }
-        requires there { position ≤ length (positions_of game.now.rules) }
-        ensures sized { AreSizedFor game.now self.new.sets }
-        ensures met { Meets self.old.sets self.new.sets (LeadsFrom game.now position column word)
-            (IsToTry game.now state.now.state) }
-        ensures ends { LearnsEnd self.old.ends self.new.ends
-            (EndsFrom game.now position column word) }
-        ensures on { AreOn game.now self.old.sets → AreOn game.now self.new.sets }
-    {
-        if narrow {
-            self.lead_over(game, paths, state, position, column, word, true);
-        } else {
-            self.lead_over(game, paths, state, position, column, word, false);
-        }
-    }
-
-    /// The same, over rows of one word or of however many, which is told here.
-    #[inline(always)]
-    fn lead_over(
-        &mut self,
-        game: &Game,
-        paths: &Paths,
-        state: &SemiState,
-        position: Position,
-        column: usize,
-        word: u64,
-        narrow: bool,
-    )
-        requires lawful { IsGame game.now }
-        requires paths { ArePathsOf game.now paths.now }
-        requires fits { IsStateOf game.now state.now.state }
-        requires sized { AreSizedFor game.now self.old.sets }
-        requires narrow { IsTrue narrow → self.old.sets.columns ≡ 1 }
         requires board { IsOnBoard game.now column word }
         requires column { column < self.old.sets.columns }
         requires from_one { 0 < position }
@@ -487,10 +357,8 @@ impl Flat {
         ensures on { AreOn game.now self.old.sets → AreOn game.now self.new.sets }
     {
         match first_still(game, paths, position, column, word) {
-            Some(vertex) => self.lead_still(
-                game, paths, state, position, vertex, column, word, narrow,
-            ),
-            None => self.lead_each(game, paths, state, position, column, word, narrow),
+            Some(vertex) => self.lead_still(game, paths, state, position, vertex, column, word),
+            None => self.lead_each(game, paths, state, position, column, word),
         }
     }
 
@@ -505,13 +373,11 @@ impl Flat {
         vertex: Vertex,
         column: usize,
         word: u64,
-        narrow: bool,
     )
         requires lawful { IsGame game.now }
         requires paths { ArePathsOf game.now paths.now }
         requires fits { IsStateOf game.now state.now.state }
         requires sized { AreSizedFor game.now self.old.sets }
-        requires narrow { IsTrue narrow → self.old.sets.columns ≡ 1 }
         requires board { IsOnBoard game.now column word }
         requires column { column < self.old.sets.columns }
         requires from_one { 0 < position }
@@ -529,16 +395,7 @@ impl Flat {
         let _action = game.action(position);
         let origin = Origin::After(position);
         let (targets, may_end) = paths.leaps.leads(origin, vertex);
-        meet_bits(
-            &mut self.sets,
-            game,
-            paths,
-            state,
-            targets,
-            column,
-            word,
-            narrow,
-        );
+        meet_bits(&mut self.sets, game, paths, state, targets, column, word);
         self.ends |= may_end;
     }
 
@@ -552,13 +409,11 @@ impl Flat {
         position: Position,
         column: usize,
         word: u64,
-        narrow: bool,
     )
         requires lawful { IsGame game.now }
         requires paths { ArePathsOf game.now paths.now }
         requires fits { IsStateOf game.now state.now.state }
         requires sized { AreSizedFor game.now self.old.sets }
-        requires narrow { IsTrue narrow → self.old.sets.columns ≡ 1 }
         requires board { IsOnBoard game.now column word }
         requires from_one { 0 < position }
         requires there { position ≤ length (positions_of game.now.rules) }
@@ -575,7 +430,7 @@ impl Flat {
         while rest != 0 {
             let bit = lowest(rest);
             let vertex = column as Vertex * 64 + bit;
-            self.lead(game, paths, state, Origin::After(position), vertex, narrow);
+            self.lead(game, paths, state, Origin::After(position), vertex);
             rest = without(rest, bit);
         }
     }

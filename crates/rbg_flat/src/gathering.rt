@@ -71,10 +71,8 @@ pub(crate) fn gather_place(
     place: usize,
     position: Position,
     keeps: bool,
-    narrow: bool,
 ) -> Result<usize, Memory>
     requires place { place < length sets.now.marks }
-    requires width { IsTrue narrow → sets.now.columns ≡ 1 }
     requires position { position ≡ place / sets.now.columns }
     requires narrow { sets.now.columns < 2 ^ 16 }
     ensures { IfOk result (λ many. Gathers (IsMetAt sets.now place position)
@@ -82,7 +80,7 @@ pub(crate) fn gather_place(
 {
     let word = sets.met_at(place);
     if keeps {
-        found.push_word(position, sets.column_at(place, narrow), word)?;
+        found.push_word(position, sets.column_at(place), word)?;
         Ok(count(word))
     } else {
         Ok(count(word))

@@ -1,5 +1,5 @@
 //! How sets are led on by leaps.
-ghost use Rattle.std.specs.Prelude.{◌≡◌, ◌+◌, ◌*◌, ◌<◌, ◌≤◌, ℕ, length, All, IsTrue};
+ghost use Rattle.std.specs.Prelude.{◌≡◌, ◌+◌, ◌*◌, ◌<◌, ◌≤◌, ℕ, length, All};
 ghost use Rattle.rbg_rules.specs.Games.{IsGame};
 ghost use Rattle.rbg_rules.specs.State.{IsStateOf};
 ghost use Rattle.rbg_leaps.specs.Limits.{row_words};
@@ -49,26 +49,18 @@ fn meet_at(
 
 /// Meets the vertices of a target.
 #[inline(always)]
-fn meet_target(
-    sets: &mut Sets,
-    game: &Game,
-    paths: &Paths,
-    state: &SemiState,
-    target: &Target,
-    narrow: bool,
-)
+fn meet_target(sets: &mut Sets, game: &Game, paths: &Paths, state: &SemiState, target: &Target)
     requires lawful { IsGame game.now }
     requires paths { ArePathsOf game.now paths.now }
     requires fits { IsStateOf game.now state.now.state }
     requires sized { AreSizedFor game.now sets.old }
-    requires narrow { IsTrue narrow → sets.old.columns ≡ 1 }
     requires target { IsTargetFor game.now target.now }
     ensures { Meets sets.old sets.new
         (IsInWord target.now.position target.now.column target.now.word)
         (IsToTry game.now state.now.state) }
 {
-    let column = column_of(sets, game, target, narrow);
-    let place = sets.place(target.position, column, narrow);
+    let column = target.column as usize;
+    let place = sets.place(target.position, column);
     meet_at(
         sets,
         game,
@@ -81,18 +73,70 @@ fn meet_target(
     );
 }
 
-/// The column of a target: the first one where each row has one word.
+/// The same where each row has one word: the place is the position.
 #[inline(always)]
-fn column_of(sets: &Sets, game: &Game, target: &Target, narrow: bool) -> usize
-    requires sized { AreSizedFor game.now sets.now }
-    requires narrow { IsTrue narrow → sets.now.columns ≡ 1 }
+fn meet_narrow(sets: &mut Sets, game: &Game, paths: &Paths, state: &SemiState, target: &Target)
+    requires lawful { IsGame game.now }
+    requires paths { ArePathsOf game.now paths.now }
+    requires fits { IsStateOf game.now state.now.state }
+    requires sized { AreSizedFor game.now sets.old }
+    requires one { sets.old.columns ≡ 1 }
     requires target { IsTargetFor game.now target.now }
-    ensures { result ≡ target.now.column }
+    ensures { Meets sets.old sets.new
+        (IsInWord target.now.position target.now.column target.now.word)
+        (IsToTry game.now state.now.state) }
 {
-    if narrow { 0 } else { target.column as usize }
+    let place = sets.narrow_place(target.position);
+    meet_at(
+        sets,
+        game,
+        paths,
+        state,
+        place,
+        target.position,
+        0,
+        target.word,
+    );
 }
 
-/// Meets the vertices of targets.
+/// Meets the vertices of targets, however many words a row has.
+#[inline(always)]
+fn meet_all(sets: &mut Sets, game: &Game, paths: &Paths, state: &SemiState, targets: &[Target])
+    requires lawful { IsGame game.now }
+    requires paths { ArePathsOf game.now paths.now }
+    requires fits { IsStateOf game.now state.now.state }
+    requires sized { AreSizedFor game.now sets.old }
+    requires targets { All (IsTargetFor game.now) targets.now }
+    ensures { Meets sets.old sets.new (IsAmong targets.now) (IsToTry game.now state.now.state) }
+{
+    for target in targets {
+        meet_target(sets, game, paths, state, target);
+    }
+}
+
+/// The same where each row has one word.
+#[inline(always)]
+fn meet_all_narrow(
+    sets: &mut Sets,
+    game: &Game,
+    paths: &Paths,
+    state: &SemiState,
+    targets: &[Target],
+)
+    requires lawful { IsGame game.now }
+    requires paths { ArePathsOf game.now paths.now }
+    requires fits { IsStateOf game.now state.now.state }
+    requires sized { AreSizedFor game.now sets.old }
+    requires one { sets.old.columns ≡ 1 }
+    requires targets { All (IsTargetFor game.now) targets.now }
+    ensures { Meets sets.old sets.new (IsAmong targets.now) (IsToTry game.now state.now.state) }
+{
+    for target in targets {
+        meet_narrow(sets, game, paths, state, target);
+    }
+}
+
+/// Meets the vertices of targets. Most boards have one word for each row, which is asked once.
 #[inline(always)]
 pub(crate) fn meet_targets(
     sets: &mut Sets,
@@ -100,18 +144,18 @@ pub(crate) fn meet_targets(
     paths: &Paths,
     state: &SemiState,
     targets: &[Target],
-    narrow: bool,
 )
     requires lawful { IsGame game.now }
     requires paths { ArePathsOf game.now paths.now }
     requires fits { IsStateOf game.now state.now.state }
     requires sized { AreSizedFor game.now sets.old }
-    requires narrow { IsTrue narrow → sets.old.columns ≡ 1 }
     requires targets { All (IsTargetFor game.now) targets.now }
     ensures { Meets sets.old sets.new (IsAmong targets.now) (IsToTry game.now state.now.state) }
 {
-    for target in targets {
-        meet_target(sets, game, paths, state, target, narrow);
+    if sets.columns() == 1 {
+        meet_all_narrow(sets, game, paths, state, targets);
+    } else {
+        meet_all(sets, game, paths, state, targets);
     }
 }
 
@@ -125,20 +169,18 @@ pub(crate) fn meet_bits(
     targets: &[Target],
     column: usize,
     word: u64,
-    narrow: bool,
 )
     requires lawful { IsGame game.now }
     requires paths { ArePathsOf game.now paths.now }
     requires fits { IsStateOf game.now state.now.state }
     requires sized { AreSizedFor game.now sets.old }
-    requires narrow { IsTrue narrow → sets.old.columns ≡ 1 }
     requires column { column < row_words game.now }
     requires targets { All (λ t. IsPositionIn game.now t.position) targets.now }
     ensures { Meets sets.old sets.new (IsAmongBits targets.now column word)
         (IsToTry game.now state.now.state) }
 {
     for target in targets {
-        let place = sets.place(target.position, column, narrow);
+        let place = sets.place(target.position, column);
         meet_at(
             sets,
             game,

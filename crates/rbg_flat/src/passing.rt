@@ -42,6 +42,9 @@ pub(crate) fn to_try(
     if let Kind::Modifier = kind {
         return 0;
     }
+    if paths.is_everywhere(game, position) {
+        return full_word();
+    }
     if let Kind::OnEither(piece, other) = kind {
         return either_standing(state, piece, other, column);
     }

@@ -106,43 +106,25 @@ impl Sets {
         self.columns
     }
 
-    /// Whether each row has one word.
+    /// The position of a place.
     #[inline(always)]
-    pub(crate) fn is_narrow(&self) -> bool
-        ensures { IsTrue result → self.now.columns ≡ 1 }
-    {
-        self.columns == 1
-    }
-
-    /// The position of a place. Where each row has one word, which `narrow` may tell, it is the place.
-    #[inline(always)]
-    pub(crate) fn position_at(&self, place: usize, narrow: bool) -> Position
+    pub(crate) fn position_at(&self, place: usize) -> Position
         requires place { place < length self.now.marks }
         requires small { self.now.size ≤ 2 ^ 32 }
-        requires narrow { IsTrue narrow → self.now.columns ≡ 1 }
         ensures is { result ≡ place / self.now.columns }
         ensures below { result < self.now.size }
     {
-        if narrow {
-            place as Position
-        } else {
-            (place >> self.shift) as Position
-        }
+        (place >> self.shift) as Position
     }
 
     /// The column of a place.
     #[inline(always)]
-    pub(crate) fn column_at(&self, place: usize, narrow: bool) -> usize
+    pub(crate) fn column_at(&self, place: usize) -> usize
         requires place { place < length self.now.marks }
-        requires narrow { IsTrue narrow → self.now.columns ≡ 1 }
         ensures is { result ≡ place % self.now.columns }
         ensures below { result < self.now.columns }
     {
-        if narrow {
-            0
-        } else {
-            place & (self.columns - 1)
-        }
+        place & (self.columns - 1)
     }
 
     /// What was met in the word at a place.
@@ -165,21 +147,29 @@ impl Sets {
         self.marks.last()
     }
 
-    /// Where a word of the row of a position is. Where each row has one word, which `narrow` may tell, it is at the position.
+    /// Where a word of the row of a position is.
     #[inline(always)]
-    pub(crate) fn place(&self, position: Position, column: usize, narrow: bool) -> usize
+    pub(crate) fn place(&self, position: Position, column: usize) -> usize
         requires position { position < self.now.size }
         requires column { column < self.now.columns }
-        requires narrow { IsTrue narrow → self.now.columns ≡ 1 }
         ensures place { result ≡ position * self.now.columns + column }
         ensures marks { result < length self.now.marks }
         ensures pending { result < length self.now.pending }
     {
-        if narrow {
-            position as usize
-        } else {
-            ((position as usize) << self.shift) + column
-        }
+        ((position as usize) << self.shift) + column
+    }
+
+    /// Where the row of a position is, where each row has one word.
+    #[inline(always)]
+    pub(crate) fn narrow_place(&self, position: Position) -> usize
+        requires position { position < self.now.size }
+        requires one { self.now.columns ≡ 1 }
+        ensures place { result ≡ position * self.now.columns + 0 }
+        ensures marks { result < length self.now.marks }
+    {
+        // there are as many words as positions
+        let _columns = self.columns;
+        position as usize
     }
 
     /// Whether all bits of a word of the row of a position, which is at a place, were met before.
@@ -249,9 +239,8 @@ impl Sets {
 
     /// The first vertex that is open at a place.
     #[inline(always)]
-    pub(crate) fn first_open(&self, place: usize, narrow: bool) -> Vertex
+    pub(crate) fn first_open(&self, place: usize) -> Vertex
         requires place { place < length self.now.marks }
-        requires width { IsTrue narrow → self.now.columns ≡ 1 }
         requires some { slice_index self.now.pending place ≢ 0 }
         requires narrow { self.now.columns < 2 ^ 16 }
         ensures open { IsOpen self.now result (place / self.now.columns) }
@@ -259,7 +248,7 @@ impl Sets {
         ensures column { result / 64 ≡ place % self.now.columns }
         ensures at { place ≡ place / self.now.columns * self.now.columns + result / 64 }
     {
-        self.column_at(place, narrow) as Vertex * 64 + lowest(self.pending.word(place))
+        self.column_at(place) as Vertex * 64 + lowest(self.pending.word(place))
     }
 
     /// The latest place at which something is open.

@@ -123,28 +123,6 @@ impl Parts {
         self.values[variable as usize]
     }
 
-    /// Makes a change, of which the one that takes it back isn't asked for. Most are of the vertex, and take no call.
-    #[inline(always)]
-    pub(crate) fn put_back(&mut self, change: Change)
-        requires { IsChangeWithin (length self.old.pieces) (length self.old.values) change }
-        ensures set { self.new ≡ set change self.old }
-    {
-        if let Change::Vertex(vertex) = change {
-            self.vertex = vertex;
-        } else {
-            self.put_back_other(change);
-        }
-    }
-
-    /// The same for any change.
-    #[inline(never)]
-    fn put_back_other(&mut self, change: Change)
-        requires { IsChangeWithin (length self.old.pieces) (length self.old.values) change }
-        ensures set { self.new ≡ set change self.old }
-    {
-        self.set(change);
-    }
-
     /// Makes a change, and returns the change that takes it back.
     #[inline(always)]
     pub(crate) fn set(&mut self, change: Change) -> Change

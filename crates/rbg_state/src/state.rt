@@ -183,7 +183,6 @@ impl SemiState {
 
     /// Takes back every change since a mark. The mark is one of this semi-state that was not undone
     /// since.
-    #[inline(always)]
     pub fn undo_to(&mut self, mark: Mark)
         requires { mark ≤ length self.old.past }
         ensures state { slice_get (states_of self.old) mark ≡ Some self.new.state }
@@ -207,7 +206,7 @@ impl SemiState {
         ensures capacity { capacity_of self.new ≡ capacity_of self.old }
     {
         let change = self.changes.take_last();
-        self.parts.put_back(change);
+        self.parts.set(change);
     }
 
     /// Makes a change, and writes it to the list.

@@ -1,4 +1,4 @@
-use Rattle.std.proofs.Common.{◌≡◌, ℕ, ◌+◌, ◌*◌, List, sym, subst}
+use Rattle.std.proofs.Common.{◌≡◌, ℕ, ◌+◌, ◌*◌, List, subst}
 use Rattle.std.specs.Prelude.{◌↔◌}
 use Rattle.std.specs.Int.{bit_at}
 use Rattle.rbg_rules.specs.Positions.{HasAction}

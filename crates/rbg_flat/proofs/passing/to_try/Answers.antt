@@ -1,5 +1,4 @@
-use Rattle.std.proofs.Common.{◌≡◌, ℕ, ◌+◌, ◌*◌, ◌⊎◌, inl, inr, List, [], ◌∷◌, refl, subst}
-use Rattle.std.specs.Prelude.{◌↔◌, bit_or, slice_get, Some}
+use Rattle.std.proofs.Common.{◌≡◌, ℕ, ◌+◌, ◌*◌, [], ◌∷◌, subst}
 use Rattle.std.specs.Int.{bit_at}
 use Rattle.rbg_rules.specs.Expression.{on}
 use Rattle.rbg_rules.specs.Positions.{HasAction}
@@ -8,6 +7,10 @@ use Rattle.rbg_flat.specs.declared.paths.Kind.{Kind}
 use Rattle.rbg_flat.proofs.Passings.{one_piece}
 use Rattle.rbg_flat.proofs.ToTry.{on_to_try}
 use Rattle.rbg_flat.proofs.passing.to_try.Goals as goal
+
+pub returns-then-is_everywhere : goal.returns-then-is_everywhere
+returns-then-is_everywhere c = λ b small.
+    (λ _. c.is_everywhere.ensures c.if-is_everywhere.true c.args.state.now.state (c.args.column * 64 + b), λ _. c.full_word.ensures b small)
 
 pub returns-in-On : goal.returns-in-On
 returns-in-On c = λ b small.

@@ -1,4 +1,4 @@
-use Rattle.std.proofs.Common.{ℕ, ◌+◌, ◌*◌, subst, arith}
+use Rattle.std.proofs.Common.{ℕ, ◌+◌, ◌*◌, subst}
 use Rattle.rbg_rules.specs.Positions.{IsPatternAt}
 use Rattle.rbg_flat.specs.internal.Sets.{IsInWord}
 use Rattle.rbg_flat.proofs.Trying.{board_bits, in_open}
@@ -22,20 +22,16 @@ take_word-requires-clause-there c = c.requires.on.there c.args.vertex c.args.pos
 pub take_word-requires-clause-board : goal.take_word-requires-clause-board
 take_word-requires-clause-board c = board_bits c.args.game.now c.args.self.now.sets c.args.position c.args.column c.open_at-word.result c.requires.on c.open_at-word.ensures.there
 
-pub returns-clause-advances : goal.returns-clause-advances
-returns-clause-advances c = record {
-  sized = c.take_word.ensures.sized;
-  columns = c.take_word.ensures.columns;
-  on = c.take_word.ensures.on c.requires.on;
-  begun = λ f is. c.take_word.ensures.begun f (λ b small set. c.held-held.ensures.told b small set (is.to_try (c.args.column * 64 + b) c.args.position (c.open_at-word.ensures.open b set))) is;
-  still_done = c.take_word.ensures.still_done;
-  quiet = λ v p pattern done.
-      let apart : ¬ IsInWord c.args.position c.args.column c.open_at-word.result v p = λ there. c.requires.plain (subst (λ (k : ℕ). IsPatternAt c.args.game.now.rules k) there.position pattern) in
-      c.take_word.ensures.quiet v p pattern apart done;
-  lighter =
-      let less = c.take_word.ensures.less c.args.vertex c.requires.open (in_open c.args.self.now.sets c.args.place c.args.position c.args.column c.open_at-word.result c.args.vertex c.requires.at c.requires.column c.open_at-word.ensures.is c.requires.open) in
-      omega (arith, less);
-}
+pub returns-clause-begun : goal.returns-clause-begun
+returns-clause-begun c = λ f is. c.take_word.ensures.begun f (λ b small set. c.held-held.ensures.told b small set (is.to_try (c.args.column * 64 + b) c.args.position (c.open_at-word.ensures.open b set))) is
+
+pub returns-clause-on : goal.returns-clause-on
+returns-clause-on c = c.take_word.ensures.on c.requires.on
+
+pub returns-clause-quiet : goal.returns-clause-quiet
+returns-clause-quiet c = λ v p pattern done.
+    let apart : ¬ IsInWord c.args.position c.args.column c.open_at-word.result v p = λ there. c.requires.plain (subst (λ (k : ℕ). IsPatternAt c.args.game.now.rules k) there.position pattern) in
+    c.take_word.ensures.quiet v p pattern apart done
 
 pub returns-clause-less : goal.returns-clause-less
 returns-clause-less c = c.take_word.ensures.less c.args.vertex c.requires.open (in_open c.args.self.now.sets c.args.place c.args.position c.args.column c.open_at-word.result c.args.vertex c.requires.at c.requires.column c.open_at-word.ensures.is c.requires.open)

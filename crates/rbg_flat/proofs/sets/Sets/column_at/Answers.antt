@@ -3,5 +3,5 @@ use Rattle.std.specs.Prelude.{bit_and}
 use Rattle.std.proofs.lemmas.Nat.{and_mask}
 use Rattle.rbg_flat.proofs.sets.Sets.column_at.Goals as goal
 
-pub returns-else-narrow-clause-is : goal.returns-else-narrow-clause-is
-returns-else-narrow-clause-is c = rw (← c.self.view_is) (subst (λ (k : ℕ). bit_and c.args.place (k - 1) ≡ c.args.place % k) (sym c.self.inside.doubled) (and_mask c.args.place c.self.inside.shift))
+pub returns-clause-is : goal.returns-clause-is
+returns-clause-is c = rw (← c.self.view_is) (subst (λ (k : ℕ). bit_and c.args.place (k - 1) ≡ c.args.place % k) (sym c.self.inside.doubled) (and_mask c.args.place c.self.inside.shift))

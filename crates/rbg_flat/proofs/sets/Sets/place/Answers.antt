@@ -27,8 +27,8 @@ overflow_add-result c =
     let base = moved size columns c.self.inside.shift q column c.self.inside.doubled first second c.self.invariant.small in
     record { fits = subst (λ (k : ℕ). k + column < 2 ^ 64) (sym base) (small_place size columns q column first second c.self.invariant.small) }
 
-pub returns-else-narrow-clause-place : goal.returns-else-narrow-clause-place
-returns-else-narrow-clause-place c =
+pub returns-clause-place : goal.returns-clause-place
+returns-clause-place c =
     let size : ℕ = c.self.inside.size in
     let columns : ℕ = c.self.inside.columns in
     let q : ℕ = c.args.position in

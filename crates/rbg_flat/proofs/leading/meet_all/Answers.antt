@@ -5,7 +5,7 @@ use Rattle.rbg_flat.specs.internal.Passing.{IsToTry}
 use Rattle.rbg_flat.specs.internal.Sets.{Meets}
 use Rattle.rbg_flat.specs.internal.Leading.{IsAmong}
 use Rattle.rbg_flat.proofs.Leadings.{meets_target_more}
-use Rattle.rbg_flat.proofs.leading.meet_targets.Goals as goal
+use Rattle.rbg_flat.proofs.leading.meet_all.Goals as goal
 
 pub meet_target-requires-clause-target : goal.meet_target-requires-clause-target
 meet_target-requires-clause-target c = c.requires.targets c.loop-target.target-index (record { position = 0; column = 0; word = 0 }) c.loop-target-test.true

@@ -1,5 +1,5 @@
 use Rattle.rbg_flat.proofs.Stills.{ends_still}
-use Rattle.rbg_flat.proofs.flat.Flat.lead_over.Goals as goal
+use Rattle.rbg_flat.proofs.flat.Flat.lead_word.Goals as goal
 
 pub returns-in-Some-clause-ends : goal.returns-in-Some-clause-ends
 returns-in-Some-clause-ends c =

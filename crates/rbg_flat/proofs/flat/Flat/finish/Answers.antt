@@ -1,19 +1,18 @@
-use Rattle.std.proofs.Common.{◌∙◌, ℕ, List, refl, sym, subst}
+use Rattle.std.proofs.Common.{ℕ, List, refl, sym, subst}
 use Rattle.rbg_flat.specs.internal.Gathering.{Gathered}
 use Rattle.rbg_flat.specs.internal.Sets.{HasBitAt}
 use Rattle.rbg_flat.proofs.Leaping.{same_size}
 use Rattle.rbg_flat.proofs.Finishings.{gathered_none, gathered_more, count_fits, are_found, has_candidates, few_gathered}
-use Rattle.rbg_flat.proofs.flat.Flat.gather_all.Goals as goal
+use Rattle.rbg_flat.proofs.flat.Flat.finish.Goals as goal
 
 pub loop-place-init : goal.loop-place-init
 loop-place-init c =
     let sets = c.args.self.now.sets in
     record {
       sized = c.requires.sized;
-      columns = refl;
       ends = refl;
       closed = c.requires.done;
-      gathered = subst (λ (found : List (ℕ × ℕ)). Gathered c.args.game.now c.args.state.now.state sets sets found 0) (sym c.requires.none) (gathered_none c.args.game.now c.requires.lawful c.args.state.now.state sets c.requires.on);
+      gathered = subst (λ (found : List (ℕ × ℕ)). Gathered c.args.game.now c.args.state.now.state sets sets found 0) (sym c.clear.ensures) (gathered_none c.args.game.now c.requires.lawful c.args.state.now.state sets c.requires.on);
     }
 
 pub overflow_add-many : goal.overflow_add-many
@@ -26,7 +25,6 @@ loop-place-preserved c =
     let is = c.loop-place.invariant in
     record {
       sized = same_size c.args.game.now c.loop-place.self.sets c.forget.new.self c.forget.ensures.size c.forget.ensures.columns is.sized;
-      columns = c.forget.ensures.columns ∙ is.columns;
       ends = is.ends;
       closed = λ v p has. is.closed v p (subst (λ (k : ℕ). HasBitAt k c.loop-place.self.sets.pending v p) c.forget.ensures.columns (subst (λ (words : List ℕ). HasBitAt c.forget.new.self.columns words v p) c.forget.ensures.pending has));
       gathered = gathered_more c.args.game.now c.requires.lawful c.args.state.now.state c.args.self.now.sets c.requires.on
@@ -34,9 +32,13 @@ loop-place-preserved c =
           c.position_at-position.ensures.is is.gathered c.in_ok-many.ensures c.forget.ensures.forgets (λ _. c.keeps-keeps.ensures);
     }
 
-pub returns-clause-gathered : goal.returns-clause-gathered
-returns-clause-gathered c = record {
-  modifiers = λ f is. are_found c.args.game.now c.requires.lawful c.args.state.now.state c.args.self.now.sets c.requires.on f c.args.self.now.ends c.loop-place.self.sets c.loop-place.found c.loop-place.many is c.requires.done c.in_default.ensures.none c.loop-place.invariant.gathered;
-  candidates = λ f is. has_candidates c.args.game.now c.requires.lawful c.args.state.now.state c.args.self.now.sets c.requires.on f c.args.self.now.ends c.loop-place.self.sets c.loop-place.found c.loop-place.many is c.requires.done c.in_default.ensures.none c.loop-place.invariant.gathered;
-  few = few_gathered c.args.game.now c.requires.lawful c.args.state.now.state c.args.self.now.sets c.requires.on c.loop-place.self.sets c.loop-place.found c.loop-place.many c.loop-place.invariant.gathered;
-}
+pub returns-clause-found : goal.returns-clause-found
+returns-clause-found c = λ f is.
+    are_found c.args.game.now c.requires.lawful c.args.state.now.state c.args.self.now.sets c.requires.on f c.args.self.now.ends c.loop-place.self.sets c.loop-place.found c.loop-place.many is c.requires.done c.in_default.ensures.none c.loop-place.invariant.gathered
+
+pub returns-clause-count : goal.returns-clause-count
+returns-clause-count c = λ f is.
+    has_candidates c.args.game.now c.requires.lawful c.args.state.now.state c.args.self.now.sets c.requires.on f c.args.self.now.ends c.loop-place.self.sets c.loop-place.found c.loop-place.many is c.requires.done c.in_default.ensures.none c.loop-place.invariant.gathered
+
+pub returns-clause-few : goal.returns-clause-few
+returns-clause-few c = few_gathered c.args.game.now c.requires.lawful c.args.state.now.state c.args.self.now.sets c.requires.on c.loop-place.self.sets c.loop-place.found c.loop-place.many c.loop-place.invariant.gathered

@@ -3,12 +3,11 @@ use Rattle.std.proofs.Common.{◌≡◌, ℕ, length}
 use Rattle.rbg_flat.specs.internal.Gathering.{Gathered}
 use Rattle.rbg_flat.specs.internal.Leading.{AreSizedFor}
 use Rattle.rbg_flat.specs.internal.Sets.{IsOpen}
-use Rattle.rbg_flat.proofs.flat.Flat.gather_all.Given as goal
+use Rattle.rbg_flat.proofs.flat.Flat.finish.Given as goal
 
 abbrev pub invariant-loop-place : goal.invariant-loop-place
 invariant-loop-place l = record {
   sized : AreSizedFor l.game l.self.sets;
-  columns : l.self.sets.columns ≡ l.fn.self.sets.columns;
   ends : l.self.ends ≡ l.fn.self.ends;
   closed : (v p : ℕ) → ¬ IsOpen l.self.sets v p;
   gathered : Gathered l.game l.state.state l.fn.self.sets l.self.sets l.found l.many;
