@@ -1,5 +1,6 @@
--- What a board of rows asks of its rows and directions, and what it refuses them for. `Cells` says that there are
--- cells, `Lacks` that there are none, `Lawful` how long the rows are, and `IsMisfit` which row is the first that isn't.
+-- What a board of rows asks of its rows and directions, and what it refuses them for. `Cells` says that no cell is
+-- missing that has to be there, `Lacks` that one is. `Lawful` says that the lengths of the rows are right, and `IsMisfit`
+-- which row is the first whose length isn't.
 use Rattle.std.specs.Prelude.{◌<◌, ◌≤◌, ℕ, List, length}
 use Rattle.std.specs.List.{concat}
 use Rattle.rbg_board.specs.Cells.{Rows, HasTwice, AreDifferent}

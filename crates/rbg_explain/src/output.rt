@@ -1,4 +1,4 @@
-//! Text that is added to what an author is told, and places in words of lines and columns.
+//! Text that is added to what an author is told, and the line and the column of a place.
 
 use rbg_tokens::TextLine;
 use std::alloc::AllocError;

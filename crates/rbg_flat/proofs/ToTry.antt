@@ -9,7 +9,7 @@ use Rattle.rbg_rules.specs.State.{AbstractGame, AbstractState, IsStateOf}
 use Rattle.rbg_rules.specs.Words.{Start}
 use Rattle.rbg_rules.proofs.PositionLemmas.{one_stands}
 use Rattle.rbg_flat.specs.Chains.{Holds, IsMet, first, then}
-use Rattle.rbg_flat.specs.Paths.{IsKind}
+use Rattle.rbg_flat.specs.Paths.{IsKind, IsEverywhere}
 use Rattle.rbg_flat.specs.declared.paths.Kind.{Kind}
 use Rattle.rbg_flat.specs.declared.paths.Kind.TheVariants.{Pattern, Plain}
 use Rattle.rbg_flat.specs.internal.Passing.{Passes, IsOneOf, IsToTry}
@@ -70,9 +70,11 @@ holds_to_try game lawful s fits f v p met holds = record {
       passes_on game lawful.numbered s p wanted stands v below (record { to = v; quiet = holds.quiet; applies = holds.applies });
 }
 
--- what is a pattern or plain is looked at everywhere
-pub everywhere : (game : AbstractGame) → IsNumbered game.rules → (s : AbstractState) (p : ℕ) (kind : Kind) → (kind ≡ Pattern) ⊎ (kind ≡ Plain) → IsKind game.rules p kind → (v : ℕ) → IsToTry game s v p
-everywhere game numbered s p kind (inl is) told = pattern_to_try game numbered s p (subst (λ (k : Kind). IsKind game.rules p k) is told)
-everywhere game numbered s p kind (inr is) told =
-    let plain = subst (λ (k : Kind). IsKind game.rules p k) is told in
-    other_to_try game numbered s p plain.0 plain.2
+-- No modifier and no on is a pattern or plain.
+pub everywhere : (rules : Expression) → IsNumbered rules → (p : ℕ) (kind : Kind) → (kind ≡ Pattern) ⊎ (kind ≡ Plain) → IsKind rules p kind → IsEverywhere rules p
+everywhere rules numbered p kind (inl is) told =
+    let pattern = subst (λ (k : Kind). IsKind rules p k) is told in
+    (pattern_opens rules numbered p pattern, no_on rules numbered p pattern)
+everywhere rules numbered p kind (inr is) told =
+    let plain = subst (λ (k : Kind). IsKind rules p k) is told in
+    (plain.0, plain.2)

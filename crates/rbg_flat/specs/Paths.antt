@@ -2,12 +2,11 @@
 use Rattle.std.specs.Prelude.{◌≡◌, ◌+◌, ℕ, List, [], ◌∷◌, length, slice_get, Some, IsTrue}
 use Rattle.rbg_rules.specs.Expression.{Expression, on}
 use Rattle.rbg_rules.specs.Positions.{HasAction, IsModifierAt, IsPatternAt, positions_of}
-use Rattle.rbg_rules.specs.State.{AbstractGame, AbstractState}
+use Rattle.rbg_rules.specs.State.{AbstractGame}
 use Rattle.rbg_rules.specs.Words.{after, Follows}
 use Rattle.rbg_leaps.specs.Leaps.{IsShiftAt}
 use Rattle.rbg_leaps.specs.Made.{AreLeapsOf}
 use Rattle.rbg_flat.specs.declared.paths.Facts.{Facts}
-use Rattle.rbg_flat.specs.internal.Passing.{IsToTry}
 use Rattle.rbg_flat.specs.declared.paths.Kind.{Kind}
 use Rattle.rbg_flat.specs.declared.paths.Kind.TheVariants.{Modifier, Pattern, On, OnEither, OnAny, Plain}
 use Rattle.rbg_flat.specs.declared.paths.Paths.{Paths}
@@ -25,13 +24,13 @@ IsKind rules p (OnEither x y) = HasAction rules p (on (x ∷ y ∷ []))
 IsKind rules p OnAny = (wanted : List ℕ) × HasAction rules p (on wanted)
 IsKind rules p Plain = (¬ IsModifierAt rules p) × (¬ IsPatternAt rules p) × ((wanted : List ℕ) → ¬ HasAction rules p (on wanted))
 
--- What is met at the position is to be looked at, wherever the pieces stand.
-abbrev pub IsEverywhere : AbstractGame → ℕ → Type 0
-IsEverywhere game p = (s : AbstractState) (v : ℕ) → IsToTry game s v p
+-- Neither a modifier nor an on stands at the position: what is met there is looked at wherever the pieces stand.
+abbrev pub IsEverywhere : Expression → ℕ → Type 0
+IsEverywhere rules p = (¬ IsModifierAt rules p) × ((wanted : List ℕ) → ¬ HasAction rules p (on wanted))
 
 -- What is told of the position is so.
 pub record AreFacts (game : AbstractGame) (p : ℕ) (told : Facts) : Type 0 where
-  pub everywhere : IsTrue told.everywhere → IsEverywhere game p
+  pub everywhere : IsTrue told.everywhere → IsEverywhere game.rules p
   pub still : IsTrue told.still → IsStill game.rules p
   pub kind : IsKind game.rules p told.kind
 

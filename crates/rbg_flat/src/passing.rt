@@ -42,6 +42,7 @@ pub(crate) fn to_try(
     if let Kind::Modifier = kind {
         return 0;
     }
+    // told beside the kind, since a fourth test of one byte becomes a jump table
     if paths.is_everywhere(game, position) {
         return full_word();
     }

@@ -95,7 +95,7 @@ impl Paths {
     pub(crate) fn is_everywhere(&self, game: &Game, position: Position) -> bool
         requires paths { ArePathsOf game.now self.now }
         requires there { position ≤ length (positions_of game.now.rules) }
-        ensures { IsTrue result → IsEverywhere game.now position }
+        ensures { IsTrue result → IsEverywhere game.now.rules position }
     {
         self.facts(position).everywhere
     }
@@ -134,7 +134,7 @@ fn facts_at(game: &Game, position: Position, next: &[Position]) -> Facts
     requires there { position ≤ length (positions_of game.now.rules) }
     requires within { All (IsPositionIn game.now) next.now }
     ensures still { IsTrue result.still → All (λ q. ¬ IsShiftAt game.now.rules q) next.now }
-    ensures everywhere { IsTrue result.everywhere → IsEverywhere game.now position }
+    ensures everywhere { IsTrue result.everywhere → IsEverywhere game.now.rules position }
     ensures kind { IsKind game.now.rules position result.kind }
 {
     let kind = kind_at(game, position);
@@ -149,7 +149,7 @@ fn facts_at(game: &Game, position: Position, next: &[Position]) -> Facts
 fn stands_everywhere(game: &Game, position: Position, kind: Kind) -> bool
     requires lawful { IsGame game.now }
     requires kind { IsKind game.now.rules position kind }
-    ensures { IsTrue result → IsEverywhere game.now position }
+    ensures { IsTrue result → IsEverywhere game.now.rules position }
 {
     matches!(kind, Kind::Pattern | Kind::Plain)
 }

@@ -88,8 +88,8 @@ twice_fails names numbers long numbered t differ =
     let one = differ.one_number t.earlier t.later (get_or names t.later none).text (same ∙ at) at in
     omega (arith, one, t.apart)
 
--- What rows by numbers are refused for, no board by these names has, where rows that lack cells have none, and one that
--- doesn't fit is not lawful.
+-- Where rows by numbers are refused, there is no board by these names: rows that lack cells don't have them all, and rows
+-- of which one doesn't fit aren't lawful.
 rows_fail : (Cells Lacks Lawful : Rows → Type 0) (IsMisfit : Rows → ℕ → Type 0) → ((cells : Rows) → Lacks cells → ¬ Cells cells) → ((cells : Rows) (row : ℕ) → IsMisfit cells row → ¬ Lawful cells)
     → (Edge : List ℕ → Rows → ℕ → ℕ → ℕ → Type 0) (numbers : List ℕ) (b : NamedBoard) (names : List SpeltName) (rows : List (List SpeltName)) (error : BoardError) → AreDifferentNames b.pieces
     → HasRowsFault (RowsRefusal Cells Lacks Lawful IsMisfit) b.pieces names rows error → ¬ IsRowsBoard (MakesRows Cells Lawful) Edge numbers b names rows

@@ -49,7 +49,7 @@ pub(crate) fn lists_of<S: Steps>(alloc: Global, game: &Game, steps: &S) -> Resul
     let rules = shelf.keep(steps.first(Expr::Rules), steps.may_be_empty(Expr::Rules))?;
     let mut afters = Vec::with_capacity(alloc, positions + 1)?;
     let mut insides = Vec::with_capacity(alloc, positions + 1)?;
-    // (most positions have nothing inside, as the one before)
+    // (most positions have nothing inside, so their node is that of the one before)
     let mut inside = rules;
     for index in 0..positions + 1 {
         let position = index as Position;

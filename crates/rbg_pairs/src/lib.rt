@@ -1,5 +1,5 @@
 //! What is found from one place in the rules and one semi-state with no modifier before it, by pairs of a vertex and a
-//! position.
+//! position. It is made for rbg_search: contracts speak of what a `Flat` holds, and its fields can be read.
 #![tactic(auto)]
 
 mod flat;

@@ -15,7 +15,7 @@ use Rattle.rbg_search.specs.declared.over.Over.TheVariants.{Deep, Wide}
 -- The question was asked from a semi-state and f. The search was h and is k, the semi-state was s and is l.
 --   kept, given_back, room: only the counts are new, and the semi-state has as much room at least
 --   counted, taken: the openings and the pairs were counted
---   deep, wide: where it was given up so, it is so
+--   deep, wide: where it was given up as too deep or too wide, it is
 --   all_forced, not_deep: where it was answered, the forced openings are counted, and none is too deep
 pub record IsAnswered {X : Type 0}
     (h k : Searching) (s l : History) (question : Question) (f : Start) (result : Result X Over)

@@ -67,7 +67,7 @@ impl Occupancy {
             self.rows.copy_over(&other.rows);
             return Ok(());
         }
-        // No rows are right, also where memory is refused below.
+        // With no rows nothing is wrong, also where memory is refused below.
         self.rows.clear_for(&other.rows);
         refill(&mut self.pieces, &other.pieces)?;
         self.rows.fill(&other.rows)

@@ -139,7 +139,7 @@ impl SemiState {
         self.parts.count(piece)
     }
 
-    /// The vertices of a column of 64 on which a piece stands, a bit for each. A piece of the game has such words.
+    /// A word of a piece's row: on which of the 64 vertices of a column it stands. None for what is no piece of the game.
     #[inline(always)]
     pub fn row_word(&self, piece: Piece, column: usize) -> Option<u64>
         requires { column * 64 < length self.now.state.pieces }

@@ -193,7 +193,7 @@ LeadsAway game lists n =
 abbrev pub StepsBack : AbstractGame → (p : ℕ) → Type 0
 StepsBack game p = (v w : ℕ) → v < length game.board.first → Comes game v p w → w ≤ v
 
--- .. to an earlier one.
+-- By position p one comes from no vertex to an earlier one.
 abbrev pub StepsForth : AbstractGame → (p : ℕ) → Type 0
 StepsForth game p = (v w : ℕ) → v < length game.board.first → Comes game v p w → v ≤ w
 
@@ -203,13 +203,13 @@ LeadsBack game lists n =
     (p : ℕ) → Contains (list_at lists.shelf n) p → IsShiftAt game.rules p →
     slice_index_or lists.afters.items p 0 ≡ n → StepsBack game p
 
--- .. to no earlier one.
+-- Where a shift of the node's list leads to the node again, it leads to no earlier vertex.
 abbrev pub LeadsForth : AbstractGame → Lists → (n : ℕ) → Type 0
 LeadsForth game lists n =
     (p : ℕ) → Contains (list_at lists.shelf n) p → IsShiftAt game.rules p →
     slice_index_or lists.afters.items p 0 ≡ n → StepsForth game p
 
--- One pass over the vertices is enough.
+-- Shifts lead from the node to no later vertex of its own, or to no earlier one: one pass over the vertices is enough.
 abbrev pub LeadsOneWay : AbstractGame → Lists → (n : ℕ) → Type 0
 LeadsOneWay game lists n = LeadsBack game lists n ⊎ LeadsForth game lists n
 
@@ -234,7 +234,7 @@ pub record FillsUpTo (game : AbstractGame) (lists : Lists) (old new : Table) (n 
   pub fills : Fills old new n
   pub closed : LeadsBack game lists n → (v : ℕ) → v < many → IsClosed game lists new n v
 
--- .. at the last vertices.
+-- The same at the last vertices, from one on.
 pub record FillsDownTo (game : AbstractGame) (lists : Lists) (old new : Table) (n many : ℕ) : Type 0 where
   pub sound : IsSoundTable game lists new
   pub fills : Fills old new n

@@ -14,7 +14,7 @@ use Rattle.rbg_search.specs.internal.Behind.{IsReady}
 use Rattle.rbg_search.specs.internal.Spent.{IsSpent}
 use Rattle.rbg_search.specs.internal.Taking.{AsksForced}
 
--- A search finds a flat part from f: it was h, and the semi-state s, when that was begun, and they are k and l. The
+-- A search finds a flat part from f: it was h, and the semi-state s, when that was begun, and now they are k and l. The
 -- patterns among the pairs that are done were asked.
 pub record Finds (h k : Searching) (s l : History) (f : Start) (done : List (ℕ × ℕ)) : Type 0 where
   pub kept : k ≡ record h { opened = k.opened; taken = k.taken }

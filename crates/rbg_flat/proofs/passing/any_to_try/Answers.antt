@@ -5,12 +5,13 @@ use Rattle.rbg_rules.specs.Positions.{HasAction}
 use Rattle.rbg_flat.specs.Paths.{IsKind}
 use Rattle.rbg_flat.specs.declared.paths.Kind.{Kind}
 use Rattle.rbg_flat.proofs.Passings.{one_piece}
-use Rattle.rbg_flat.proofs.ToTry.{on_to_try, everywhere}
+use Rattle.rbg_flat.proofs.ToTry.{on_to_try, other_to_try, everywhere}
 use Rattle.rbg_flat.proofs.passing.any_to_try.Goals as goal
 
 pub returns-in-Pattern : goal.returns-in-Pattern
 returns-in-Pattern c = λ b small.
-    (λ _. everywhere c.args.game.now c.requires.lawful.numbered c.args.state.now.state c.args.position c.kind.result c.in-Pattern.is c.kind.ensures (c.args.column * 64 + b), λ _. c.full_word.ensures b small)
+    let free = everywhere c.args.game.now.rules c.requires.lawful.numbered c.args.position c.kind.result c.in-Pattern.is c.kind.ensures in
+    (λ _. other_to_try c.args.game.now c.requires.lawful.numbered c.args.state.now.state c.args.position free.0 free.1 (c.args.column * 64 + b), λ _. c.full_word.ensures b small)
 
 pub returns-in-On : goal.returns-in-On
 returns-in-On c = λ b small.

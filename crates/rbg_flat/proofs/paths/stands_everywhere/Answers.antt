@@ -2,4 +2,4 @@ use Rattle.rbg_flat.proofs.ToTry.{everywhere}
 use Rattle.rbg_flat.proofs.paths.stands_everywhere.Goals as goal
 
 pub returns-in-Pattern : goal.returns-in-Pattern
-returns-in-Pattern c = λ _ s v. everywhere c.args.game.now c.requires.lawful.numbered s c.args.position c.args.kind c.in-Pattern.is c.requires.kind v
+returns-in-Pattern c = λ _. everywhere c.args.game.now.rules c.requires.lawful.numbered c.args.position c.args.kind c.in-Pattern.is c.requires.kind
