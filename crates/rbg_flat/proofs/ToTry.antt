@@ -1,5 +1,5 @@
 -- What is to be looked at where it is met.
-use Rattle.std.proofs.Common.{◌≡◌, ℕ, ◌<◌, ◌⊎◌, inl, inr, List, true, false, length, sym, ap, subst, ◌∙◌}
+use Rattle.std.proofs.Common.{◌≡◌, ℕ, ◌<◌, inl, inr, List, true, false, length, sym, ap, subst, ◌∙◌}
 use Rattle.std.specs.Prelude.{◌↔◌}
 use Rattle.rbg_board.specs.Graph.{IsClosed}
 use Rattle.rbg_rules.specs.Expression.{on, positive, negative, Expression}
@@ -9,9 +9,6 @@ use Rattle.rbg_rules.specs.State.{AbstractGame, AbstractState, IsStateOf}
 use Rattle.rbg_rules.specs.Words.{Start}
 use Rattle.rbg_rules.proofs.PositionLemmas.{one_stands}
 use Rattle.rbg_flat.specs.Chains.{Holds, IsMet, first, then}
-use Rattle.rbg_flat.specs.Paths.{IsKind, IsEverywhere}
-use Rattle.rbg_flat.specs.declared.paths.Kind.{Kind}
-use Rattle.rbg_flat.specs.declared.paths.Kind.TheVariants.{Pattern, Plain}
 use Rattle.rbg_flat.specs.internal.Passing.{Passes, IsOneOf, IsToTry}
 use Rattle.rbg_flat.proofs.Leaping.{leads_on_board}
 use Rattle.rbg_flat.proofs.ModifierLemmas.{pattern_opens}
@@ -69,12 +66,3 @@ holds_to_try game lawful s fits f v p met holds = record {
       let below : v < length s.pieces = subst (λ (k : ℕ). v < k) (sym fits.vertices) (met_on_board game lawful.board s f here v p met) in
       passes_on game lawful.numbered s p wanted stands v below (record { to = v; quiet = holds.quiet; applies = holds.applies });
 }
-
--- No modifier and no on is a pattern or plain.
-pub everywhere : (rules : Expression) → IsNumbered rules → (p : ℕ) (kind : Kind) → (kind ≡ Pattern) ⊎ (kind ≡ Plain) → IsKind rules p kind → IsEverywhere rules p
-everywhere rules numbered p kind (inl is) told =
-    let pattern = subst (λ (k : Kind). IsKind rules p k) is told in
-    (pattern_opens rules numbered p pattern, no_on rules numbered p pattern)
-everywhere rules numbered p kind (inr is) told =
-    let plain = subst (λ (k : Kind). IsKind rules p k) is told in
-    (plain.0, plain.2)

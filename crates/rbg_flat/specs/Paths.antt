@@ -24,13 +24,8 @@ IsKind rules p (OnEither x y) = HasAction rules p (on (x ∷ y ∷ []))
 IsKind rules p OnAny = (wanted : List ℕ) × HasAction rules p (on wanted)
 IsKind rules p Plain = (¬ IsModifierAt rules p) × (¬ IsPatternAt rules p) × ((wanted : List ℕ) → ¬ HasAction rules p (on wanted))
 
--- Neither a modifier nor an on stands at the position: what is met there is looked at wherever the pieces stand.
-abbrev pub IsEverywhere : Expression → ℕ → Type 0
-IsEverywhere rules p = (¬ IsModifierAt rules p) × ((wanted : List ℕ) → ¬ HasAction rules p (on wanted))
-
 -- What is told of the position is so.
 pub record AreFacts (game : AbstractGame) (p : ℕ) (told : Facts) : Type 0 where
-  pub everywhere : IsTrue told.everywhere → IsEverywhere game.rules p
   pub still : IsTrue told.still → IsStill game.rules p
   pub kind : IsKind game.rules p told.kind
 

@@ -34,17 +34,13 @@ pub(crate) fn to_try(
     ensures { (b : ℕ) → b < 64 → (bit_at result b ≡ 1)
         ↔ IsToTry game.now state.now.state (column * 64 + b) position }
 {
-    // most of what is met are ons of one piece or of two, and modifiers
+    // most of what is met are ons of one piece or of two, and modifiers; a fourth test here would become a jump table
     let kind = paths.kind(game, position);
     if let Kind::On(piece) = kind {
         return standing(state, piece, column);
     }
     if let Kind::Modifier = kind {
         return 0;
-    }
-    // told beside the kind, since a fourth test of one byte becomes a jump table
-    if paths.is_everywhere(game, position) {
-        return full_word();
     }
     if let Kind::OnEither(piece, other) = kind {
         return either_standing(state, piece, other, column);

@@ -5,7 +5,7 @@ ghost use Rattle.rbg_rules.specs.Positions.{positions_of};
 ghost use Rattle.rbg_rules.specs.State.{AbstractGame};
 ghost use Rattle.rbg_leaps.specs.Leaps.{IsShiftAt};
 ghost use Rattle.rbg_leaps.specs.Limits.{IsTooLarge};
-ghost use Rattle.rbg_flat.specs.Paths.{AreFacts, ArePathsOf, IsEverywhere, IsKind, IsStill};
+ghost use Rattle.rbg_flat.specs.Paths.{AreFacts, ArePathsOf, IsKind, IsStill};
 ghost use Rattle.rbg_flat.specs.internal.Leading.{IsPositionIn};
 ghost use Rattle.rbg_flat.specs.internal.Shown.{ShowsKind, IsOnKind, shows_shift};
 
@@ -37,9 +37,6 @@ pub(crate) enum Kind {
 pub(crate) struct Facts {
     /// Whether no shift comes next behind it.
     pub(crate) still: bool,
-    /// Whether what stands at it is looked at everywhere: a pattern, or what is plain. It is told beside the kind, so that
-    /// no jump table is made of the kinds where words are met.
-    pub(crate) everywhere: bool,
     pub(crate) kind: Kind,
 }
 
@@ -90,16 +87,6 @@ impl Paths {
         self.facts(position).still
     }
 
-    /// Whether what is met at a position is to be looked at everywhere, as far as that is told.
-    #[inline(always)]
-    pub(crate) fn is_everywhere(&self, game: &Game, position: Position) -> bool
-        requires paths { ArePathsOf game.now self.now }
-        requires there { position ≤ length (positions_of game.now.rules) }
-        ensures { IsTrue result → IsEverywhere game.now.rules position }
-    {
-        self.facts(position).everywhere
-    }
-
     /// The kind of the action at a position.
     #[inline(always)]
     pub(crate) fn kind(&self, game: &Game, position: Position) -> Kind
@@ -134,24 +121,12 @@ fn facts_at(game: &Game, position: Position, next: &[Position]) -> Facts
     requires there { position ≤ length (positions_of game.now.rules) }
     requires within { All (IsPositionIn game.now) next.now }
     ensures still { IsTrue result.still → All (λ q. ¬ IsShiftAt game.now.rules q) next.now }
-    ensures everywhere { IsTrue result.everywhere → IsEverywhere game.now.rules position }
     ensures kind { IsKind game.now.rules position result.kind }
 {
-    let kind = kind_at(game, position);
     Facts {
         still: no_shift(game, next),
-        everywhere: stands_everywhere(game, position, kind),
-        kind,
+        kind: kind_at(game, position),
     }
-}
-
-/// Whether what is of this kind is looked at everywhere.
-fn stands_everywhere(game: &Game, position: Position, kind: Kind) -> bool
-    requires lawful { IsGame game.now }
-    requires kind { IsKind game.now.rules position kind }
-    ensures { IsTrue result → IsEverywhere game.now.rules position }
-{
-    matches!(kind, Kind::Pattern | Kind::Plain)
 }
 
 /// Whether no shift stands at these positions.

@@ -1,17 +1,25 @@
-use Rattle.std.proofs.Common.{◌≡◌, ℕ, ◌+◌, ◌*◌, [], ◌∷◌, subst}
+use Rattle.std.proofs.Common.{◌≡◌, ℕ, ◌+◌, ◌*◌, ◌⊎◌, inl, inr, [], ◌∷◌, subst}
 use Rattle.std.specs.Int.{bit_at}
 use Rattle.rbg_rules.specs.Expression.{on}
-use Rattle.rbg_rules.specs.Positions.{HasAction}
+use Rattle.rbg_rules.specs.Positions.{HasAction, IsNumbered}
 use Rattle.rbg_flat.specs.Paths.{IsKind}
 use Rattle.rbg_flat.specs.declared.paths.Kind.{Kind}
+use Rattle.rbg_flat.specs.declared.paths.Kind.TheVariants.{Pattern, Plain}
+use Rattle.rbg_rules.specs.State.{AbstractGame, AbstractState}
+use Rattle.rbg_flat.specs.internal.Passing.{IsToTry}
 use Rattle.rbg_flat.proofs.Passings.{one_piece}
-use Rattle.rbg_flat.proofs.ToTry.{on_to_try, other_to_try, everywhere}
+use Rattle.rbg_flat.proofs.ToTry.{on_to_try, pattern_to_try, other_to_try}
 use Rattle.rbg_flat.proofs.passing.any_to_try.Goals as goal
+
+everywhere : (game : AbstractGame) → IsNumbered game.rules → (s : AbstractState) (p : ℕ) (kind : Kind) → (kind ≡ Pattern) ⊎ (kind ≡ Plain) → IsKind game.rules p kind → (v : ℕ) → IsToTry game s v p
+everywhere game numbered s p kind (inl is) told = pattern_to_try game numbered s p (subst (λ (k : Kind). IsKind game.rules p k) is told)
+everywhere game numbered s p kind (inr is) told =
+    let plain = subst (λ (k : Kind). IsKind game.rules p k) is told in
+    other_to_try game numbered s p plain.0 plain.2
 
 pub returns-in-Pattern : goal.returns-in-Pattern
 returns-in-Pattern c = λ b small.
-    let free = everywhere c.args.game.now.rules c.requires.lawful.numbered c.args.position c.kind.result c.in-Pattern.is c.kind.ensures in
-    (λ _. other_to_try c.args.game.now c.requires.lawful.numbered c.args.state.now.state c.args.position free.0 free.1 (c.args.column * 64 + b), λ _. c.full_word.ensures b small)
+    (λ _. everywhere c.args.game.now c.requires.lawful.numbered c.args.state.now.state c.args.position c.kind.result c.in-Pattern.is c.kind.ensures (c.args.column * 64 + b), λ _. c.full_word.ensures b small)
 
 pub returns-in-On : goal.returns-in-On
 returns-in-On c = λ b small.

@@ -5,13 +5,8 @@ use Rattle.rbg_rules.specs.Positions.{HasAction}
 use Rattle.rbg_flat.specs.Paths.{IsKind}
 use Rattle.rbg_flat.specs.declared.paths.Kind.{Kind}
 use Rattle.rbg_flat.proofs.Passings.{one_piece}
-use Rattle.rbg_flat.proofs.ToTry.{on_to_try, other_to_try}
+use Rattle.rbg_flat.proofs.ToTry.{on_to_try}
 use Rattle.rbg_flat.proofs.passing.to_try.Goals as goal
-
-pub returns-then-is_everywhere : goal.returns-then-is_everywhere
-returns-then-is_everywhere c = λ b small.
-    let free = c.is_everywhere.ensures c.if-is_everywhere.true in
-    (λ _. other_to_try c.args.game.now c.requires.lawful.numbered c.args.state.now.state c.args.position free.0 free.1 (c.args.column * 64 + b), λ _. c.full_word.ensures b small)
 
 pub returns-in-On : goal.returns-in-On
 returns-in-On c = λ b small.
