@@ -1,5 +1,5 @@
 -- What the steps of laying a tree make of places.
-use Rattle.std.proofs.Common.{◌≡◌, ℕ, zero, suc, ◌+◌, ◌<◌, ◌≤◌, List, [], ◌∷◌, ◌++◌, length, get_or, refl, sym, ap, ◌∙◌, Bool, true, false, arith, length-append}
+use Rattle.std.proofs.Common.{◌≡◌, ℕ, zero, suc, ◌+◌, ◌-◌, ◌<◌, ◌≤◌, List, [], ◌∷◌, ◌++◌, length, get_or, refl, sym, ap, ◌∙◌, subst, Bool, true, false, arith, length-append}
 use Rattle.std.specs.Prelude.{Box, Vec, Some}
 use Rattle.std.specs.Global.{Global}
 use Rattle.std.proofs.lemmas.Option.{slice_get-get_or, slice_get_past}
@@ -105,6 +105,16 @@ module _ (old : List Place) (parts : List Rule) (k : List ℕ) (end : Bool) wher
 
   pub owes_places_none : (now : List Place) (m : List ℕ) (may_end : Bool) → OwesPlaces old now parts 0 k end m may_end → FillsSequence old now parts k end
   owes_places_none now m may_end one = record { size = one.size; fills = sequence_owed_none (length old) (placed old) parts k end (placed now) m may_end one.owes }
+
+-- one part fewer is owed, and then none
+pub part_filled : {old now new : List Place} {parts : List Rule} {left : ℕ} {part : Rule} {k m m' : List ℕ} {end may_end may_end' : Bool} → 0 < left → left - 1 < length parts → part ≡ get_or parts (left - 1) part → OwesPlaces old now parts left k end m may_end → FillsTree now new part m may_end → IsBefore part m may_end m' may_end' → OwesPlaces old new parts (left - 1) k end m' may_end'
+part_filled {old} {now} {new} {parts} {left} {part} {k} {m} {m'} {end} {may_end} {may_end'} some below is one other before =
+    let number : left ≡ left - 1 + 1 = omega (arith, some) in
+    owes_places_fewer old parts k end now new (left - 1) part m may_end m' may_end' below is (subst (λ (n : ℕ). OwesPlaces old now parts n k end m may_end) number one) other before
+
+pub sequence_filled : {old now : List Place} {parts : List Rule} {left : ℕ} {k m : List ℕ} {end may_end : Bool} → left ≡ 0 → OwesPlaces old now parts left k end m may_end → FillsSequence old now parts k end
+sequence_filled {old} {now} {parts} {left} {k} {m} {end} {may_end} none one =
+    owes_places_none old parts k end now m may_end (subst (λ (n : ℕ). OwesPlaces old now parts n k end m may_end) none one)
 
 -- The places of a game's rules have their steps.
 pub plain_steps : (actions : List Action) (tree : Rule) (positions : ℕ) → IsNumbered (expression_of actions tree) → HasNoEmptySum (expression_of actions tree) → positions ≡ length (positions_of (expression_of actions tree)) → (old new : List Place) (first : List ℕ) (empty : Bool) → AreBlank old (positions + 1) → FillsTree old new tree [] true → GivesFirsts tree [] first empty → AreStepsOf (expression_of actions tree) (first_at first (placed new)) (λ i. (placed new i).next) (λ i. (placed new i).may_end) (empty_at empty (placed new))

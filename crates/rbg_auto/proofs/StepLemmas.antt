@@ -6,14 +6,15 @@ use Rattle.rbg_rules.specs.Expression.{AbstractAction, Expression, act, skip, se
 use Rattle.rbg_rules.specs.Positions.{positions_of, HasOwnAction}
 use Rattle.rbg_rules.specs.Games.{HasNoEmptySum}
 use Rattle.rbg_rules.specs.Words.{Word, Repeats, done, again}
-use Rattle.rbg_rules.proofs.PositionLemmas.{Among, Among_right, has_position}
-use Rattle.rbg_rules.proofs.PatternLemmas.{own_stands, word_own}
+use Rattle.rbg_rules.proofs.CutLemmas.{Cut, in_first, in_second, cut_at, single, word_position}
+use Rattle.rbg_rules.proofs.PositionLemmas.{Among, has_position}
+use Rattle.rbg_rules.proofs.PatternLemmas.{own_stands}
 use Rattle.rbg_rules.proofs.StateLemmas.{word_law}
 use Rattle.rbg_auto.specs.internal.Orders.{Ascends, IsUnion}
 use Rattle.rbg_auto.specs.internal.Firsts.{may_be_empty, past, firsts}
 use Rattle.rbg_auto.specs.internal.Laying.{Laid, IsLaid}
 use Rattle.rbg_auto.proofs.OrderLemmas.{Ascends_left, Ascends_right, Ascends_apart}
-use Rattle.rbg_auto.proofs.CutLemmas.{Cut, in_first, in_second, cut_at, single, Through, through}
+use Rattle.rbg_auto.proofs.CutLemmas.{Through, through}
 use Rattle.rbg_auto.proofs.FirstLemmas.{Begins, empty_word, may_be_empty_by, past_member, member_past, star_begins, begins_among, among_begins, Ascends-firsts, Ascends-past, both, left_of, right_of}
 
 -- j comes directly after i in some word, and some word ends with i.
@@ -37,12 +38,6 @@ pub record IsRight (laid : Laid) (x : Expression) (k : List ℕ) (end : Bool) (i
 
 own_among : (x : Expression) (i : ℕ) (a : AbstractAction) → HasOwnAction x i a → Among i (positions_of x)
 own_among x i a own = has_position x i a (own_stands x i a own)
-
--- A position in a word of an expression is among the expression's positions.
-word_position : (x : Expression) (u : List ℕ) (j : ℕ) (v : List ℕ) → Word x (u ++ j ∷ v) → Among j (positions_of x)
-word_position x u j v word =
-    let (a, own) = word_own x (u ++ j ∷ v) word j (Among_right j u (j ∷ v) (inl refl)) in
-    own_among x j a own
 
 no_neighbours : (u : List ℕ) (i j : ℕ) (v : List ℕ) (q : ℕ) → ¬ (u ++ i ∷ j ∷ v ≡ q ∷ [])
 no_neighbours u i j v q e = let (_, none, _) = single u i (j ∷ v) q e in absurd (cc none)
@@ -196,49 +191,37 @@ right_right laid x y k end i none apart right = record {
     down j (inl pair) = inl (neighbours_of_right x y i apart j pair)
     down j (inr (ends_both, there)) = inr (ends_of_right x y i apart ends_both, there)
 
-right_one : (laid : Laid) (x y : Expression) (k : List ℕ) (end : Bool) (i : ℕ) → ¬ Among i (positions_of y) → IsRight laid x k end i → IsRight laid (choice x y) k end i
-right_one laid x y k end i apart right = record {
+-- What is right for a part is right for the whole, where the words through a position are those of the part.
+right_of_part : (laid : Laid) (whole part : Expression) (k : List ℕ) (end : Bool) (i : ℕ) → ((w : List ℕ) → Word part w → Word whole w) → ((u v : List ℕ) → Word whole (u ++ i ∷ v) → Word part (u ++ i ∷ v)) → IsRight laid part k end i → IsRight laid whole k end i
+right_of_part laid whole part k end i into back right = record {
   order = right.order;
   to = λ j h. up j (right.to j h);
   from = λ j h. right.from j (down j h);
-  ends = λ e. let ((u, word), may) = right.ends e in ((u, inl word), may);
-  ended = λ ends_both e. right.ended (ends_down ends_both) e;
+  ends = λ e. let ((u, word), may) = right.ends e in ((u, into (u ++ i ∷ []) word), may);
+  ended = λ (u, word) e. right.ended (u, back u [] word) e;
 }
   where
-    up : (j : ℕ) → ComesAfter x k i j → ComesAfter (choice x y) k i j
-    up j (inl (u, v, word)) = inl (u, v, inl word)
-    up j (inr ((u, word), there)) = inr ((u, inl word), there)
+    up : (j : ℕ) → ComesAfter part k i j → ComesAfter whole k i j
+    up j (inl (u, v, word)) = inl (u, v, into (u ++ i ∷ j ∷ v) word)
+    up j (inr ((u, word), there)) = inr ((u, into (u ++ i ∷ []) word), there)
 
-    ends_down : EndsWith (choice x y) i → EndsWith x i
-    ends_down (u, inl word) = (u, word)
-    ends_down (u, inr word) = absurd (apart (word_position y u i [] word))
+    down : (j : ℕ) → ComesAfter whole k i j → ComesAfter part k i j
+    down j (inl (u, v, word)) = inl (u, v, back u (j ∷ v) word)
+    down j (inr ((u, word), there)) = inr ((u, back u [] word), there)
 
-    down : (j : ℕ) → ComesAfter (choice x y) k i j → ComesAfter x k i j
-    down j (inl (u, v, inl word)) = inl (u, v, word)
-    down j (inl (u, v, inr word)) = absurd (apart (word_position y u i (j ∷ v) word))
-    down j (inr (ends_both, there)) = inr (ends_down ends_both, there)
+right_one : (laid : Laid) (x y : Expression) (k : List ℕ) (end : Bool) (i : ℕ) → ¬ Among i (positions_of y) → IsRight laid x k end i → IsRight laid (choice x y) k end i
+right_one laid x y k end i apart = right_of_part laid (choice x y) x k end i (λ w word. inl word) back
+  where
+    back : (u v : List ℕ) → Word (choice x y) (u ++ i ∷ v) → Word x (u ++ i ∷ v)
+    back u v (inl word) = word
+    back u v (inr word) = absurd (apart (word_position y u i v word))
 
 right_other : (laid : Laid) (x y : Expression) (k : List ℕ) (end : Bool) (i : ℕ) → ¬ Among i (positions_of x) → IsRight laid y k end i → IsRight laid (choice x y) k end i
-right_other laid x y k end i apart right = record {
-  order = right.order;
-  to = λ j h. up j (right.to j h);
-  from = λ j h. right.from j (down j h);
-  ends = λ e. let ((u, word), may) = right.ends e in ((u, inr word), may);
-  ended = λ ends_both e. right.ended (ends_down ends_both) e;
-}
+right_other laid x y k end i apart = right_of_part laid (choice x y) y k end i (λ w word. inr word) back
   where
-    up : (j : ℕ) → ComesAfter y k i j → ComesAfter (choice x y) k i j
-    up j (inl (u, v, word)) = inl (u, v, inr word)
-    up j (inr ((u, word), there)) = inr ((u, inr word), there)
-
-    ends_down : EndsWith (choice x y) i → EndsWith y i
-    ends_down (u, inr word) = (u, word)
-    ends_down (u, inl word) = absurd (apart (word_position x u i [] word))
-
-    down : (j : ℕ) → ComesAfter (choice x y) k i j → ComesAfter y k i j
-    down j (inl (u, v, inr word)) = inl (u, v, word)
-    down j (inl (u, v, inl word)) = absurd (apart (word_position x u i (j ∷ v) word))
-    down j (inr (ends_both, there)) = inr (ends_down ends_both, there)
+    back : (u v : List ℕ) → Word (choice x y) (u ++ i ∷ v) → Word y (u ++ i ∷ v)
+    back u v (inr word) = word
+    back u v (inl word) = absurd (apart (word_position x u i v word))
 
 right_star : (laid : Laid) (x : Expression) (k m : List ℕ) (end : Bool) (i : ℕ) → HasNoEmptySum x → IsUnion (firsts x) k m → IsRight laid x m end i → IsRight laid (star x) k end i
 right_star laid x k m end i none union right = record {

@@ -187,6 +187,16 @@ sequence_owes_fewer old now new parts i part k end m may_end m' may_end' below i
 pub sequence_ends : (old now : Table) (parts : List Rule) (k : List ℕ) (end : Bool) (m : List ℕ) (may_end : Bool) → SequenceOwes old now parts 0 k end m may_end → LaysSequence old now parts k end
 sequence_ends old now parts k end m may_end one = record { extends = one.extends; lays = sequence_owed_none (length old.nodes.items) (laid_in old) parts k end (laid_in now) m may_end one.owes }
 
+-- one part fewer is owed, and then none
+pub part_laid : {old now new : Table} {parts : List Rule} {left : ℕ} {part : Rule} {k m m' : List ℕ} {end may_end may_end' : Bool} → 0 < left → left - 1 < length parts → part ≡ get_or parts (left - 1) part → SequenceOwes old now parts left k end m may_end → LaysTree now new part m may_end → IsBefore part m may_end m' may_end' → SequenceOwes old new parts (left - 1) k end m' may_end'
+part_laid {old} {now} {new} {parts} {left} {part} {k} {m} {m'} {end} {may_end} {may_end'} some below is one other before =
+    let number : left ≡ left - 1 + 1 = omega (arith, some) in
+    sequence_owes_fewer old now new parts (left - 1) part k end m may_end m' may_end' below is (subst (λ (n : ℕ). SequenceOwes old now parts n k end m may_end) number one) other before
+
+pub sequence_laid : {old now : Table} {parts : List Rule} {left : ℕ} {k m : List ℕ} {end may_end : Bool} → left ≡ 0 → SequenceOwes old now parts left k end m may_end → LaysSequence old now parts k end
+sequence_laid {old} {now} {parts} {left} {k} {m} {end} {may_end} none one =
+    sequence_ends old now parts k end m may_end (subst (λ (n : ℕ). SequenceOwes old now parts n k end m may_end) none one)
+
 pub sequence_nothing : (t : Table) (parts : List Rule) (k : List ℕ) (end : Bool) → length parts ≡ 0 → LaysSequence t t parts k end
 sequence_nothing t parts k end none = sequence_ends t t parts k end k end (sequence_begins t parts 0 k end (omega (arith, none)))
 

@@ -1,3 +1,4 @@
 -- Lemmas for the examples.
 pub mod ExampleLemmas
 pub mod WithoutEnd
+pub mod Offs

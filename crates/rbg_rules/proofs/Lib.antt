@@ -14,4 +14,5 @@ pub mod TableLemmas
 pub mod NameLemmas
 pub mod TrimLemmas
 pub mod AnswerLemmas
+pub mod CutLemmas
 pub mod LocalityLemmas

@@ -4,44 +4,10 @@ use Rattle.rbg_rules.specs.Expression.{AbstractAction, positive, negative, Expre
 use Rattle.rbg_rules.specs.Positions.{HasAction, HasInside, positions_of, positions_inside, IsNumbered, Level, outermost, inside, IsLevel}
 use Rattle.rbg_rules.specs.Words.{Word, WordOf, Repeats, done, again, beginning, after, Follows, Ends}
 use Rattle.rbg_rules.specs.Laws.{LocalityLaw}
-use Rattle.rbg_rules.proofs.PositionLemmas.{Among, Among_right, AllDifferent, AllDifferent_left, AllDifferent_right, AllDifferent_apart, has_position, numbered_once}
-use Rattle.rbg_rules.proofs.PatternLemmas.{own_stands, word_own}
+use Rattle.rbg_rules.proofs.PositionLemmas.{Among, Among_right, AllDifferent, AllDifferent_left, AllDifferent_right, AllDifferent_apart, numbered_once}
+use Rattle.rbg_rules.proofs.PatternLemmas.{word_own}
+use Rattle.rbg_rules.proofs.CutLemmas.{Cut, in_first, in_second, cut_at, not_empty, single, word_position}
 use Rattle.rbg_rules.proofs.LevelLemmas.{one_level_law}
-
--- A position of a joined list is in its first part or in its second.
-data Cut (a b u : List ℕ) (j : ℕ) (v : List ℕ) : Type 0 where
-  in_first : (rest : List ℕ) → a ≡ u ++ j ∷ rest → v ≡ rest ++ b → Cut a b u j v
-  in_second : (front : List ℕ) → u ≡ a ++ front → b ≡ front ++ j ∷ v → Cut a b u j v
-
-cut_at : (a b u : List ℕ) (j : ℕ) (v : List ℕ) → a ++ b ≡ u ++ j ∷ v → Cut a b u j v
-cut_at [] b u j v e = in_second u refl e
-cut_at (x ∷ a) b [] j v e =
-    let head : x ≡ j = cc in
-    let tail : v ≡ a ++ b = cc in
-    in_first a (ap (λ (y : ℕ). y ∷ a) head) tail
-cut_at (x ∷ a) b (y ∷ u) j v e =
-    let head : x ≡ y = cc in
-    let tail : a ++ b ≡ u ++ j ∷ v = cc in
-    further head (cut_at a b u j v tail)
-  where
-    further : x ≡ y → Cut a b u j v → Cut (x ∷ a) b (y ∷ u) j v
-    further head (in_first rest is later) = in_first rest (cc (head, is)) later
-    further head (in_second front is later) = in_second front (cc (head, is)) later
-
-single : (u : List ℕ) (j : ℕ) (v : List ℕ) (q : ℕ) → u ++ j ∷ v ≡ q ∷ [] → (u ≡ []) × (v ≡ []) × (j ≡ q)
-single [] j v q e = (refl, cc, cc)
-single (x ∷ []) j v q e = absurd (cc e)
-single (x ∷ y ∷ u) j v q e = absurd (cc e)
-
-not_empty : (u : List ℕ) (j : ℕ) (v : List ℕ) → ¬ (u ++ j ∷ v ≡ [])
-not_empty [] j v e = cc
-not_empty (x ∷ u) j v e = cc
-
--- A position in a word of an expression is among the expression's positions.
-word_position : (x : Expression) (u : List ℕ) (j : ℕ) (v : List ℕ) → Word x (u ++ j ∷ v) → Among j (positions_of x)
-word_position x u j v word =
-    let (a, own) = word_own x (u ++ j ∷ v) word j (Among_right j u (j ∷ v) (inl refl)) in
-    has_position x j a (own_stands x j a own)
 
 -- A word of a star that goes through a position: words before, one word through the position, words after.
 record Through (x : Expression) (u : List ℕ) (j : ℕ) (v : List ℕ) : Type 0 where

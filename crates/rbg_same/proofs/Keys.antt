@@ -6,7 +6,8 @@ use Rattle.rbg_base.specs.declared.relation.Relation.TheVariants.{Equal, NotEqua
 use Rattle.rbg_rules.specs.Expression.{AbstractArithmetic, number, variable, piece_count, negated, sum, difference, product, quotient, AbstractAction, shift, on, off, assignment, comparison, switch, positive, negative, Expression, act, skip, sequence, fail, choice, star}
 use Rattle.rbg_same.specs.declared.kind.Kind.{Kind}
 use Rattle.rbg_same.specs.declared.kind.Kind.TheVariants.{Number, Variable, PieceCount, Negated, Sum, Difference, Product, Quotient, Shift, On, OnPiece, Off, Assign, Compare, Switch, Positive, Negative, Act, Skip, Then, Fail, Or, Star}
-use Rattle.rbg_same.specs.internal.Marks.{kind_code, relation_code, mark, arithmetic_key, on_key, action_key, rules_key}
+use Rattle.rbg_rules.specs.Codes.{relation_code}
+use Rattle.rbg_same.specs.internal.Marks.{kind_code, mark, arithmetic_key, on_key, action_key, rules_key}
 
 -- what the machine has read
 data Item : Type 0 where

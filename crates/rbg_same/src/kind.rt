@@ -1,6 +1,7 @@
 //! The marks of which the key of rules is made: a kind and a number each.
 ghost use Rattle.std.specs.Prelude.{◌≡◌, ◌++◌, OnOk};
-ghost use Rattle.rbg_same.specs.internal.Marks.{kind_code, mark, relation_code};
+ghost use Rattle.rbg_rules.specs.Codes.{relation_code};
+ghost use Rattle.rbg_same.specs.internal.Marks.{kind_code, mark};
 
 use rbg_base::{Memory, Relation};
 

@@ -122,27 +122,49 @@ no_empty_message text none message h =
     let counted : length text ≡ length parts.1 + 1 = ap length (h.is ∙ parts.2) ∙ omega arith in
     absurd (omega arith)
 
+-- A message whose text has the letter of a kind is one of that kind.
+only_who : (rest : List ℕ) (P : AbstractMessage → Type 0) → ((player : ℕ) (name : List ℕ) → SpellsWho rest player name → P (who_message player name)) → (message : AbstractMessage) → SpellsMessage (87 ∷ rest) message → P message
+only_who rest P who = message_cases P 87 rest (λ player name e h. who player name h) (λ text e l h. absurd (omega arith)) (λ t r e h. absurd (omega arith)) (λ ps e h. absurd (omega arith)) (λ r e h. absurd (omega arith)) (λ o e h. absurd (omega arith)) (λ t e l h. absurd (omega arith))
+
+only_game : (rest : List ℕ) (P : AbstractMessage → Type 0) → ((text : List ℕ) → LacksByte 0 text → rest ≡ text → P (game_message text)) → (message : AbstractMessage) → SpellsMessage (71 ∷ rest) message → P message
+only_game rest P game = message_cases P 71 rest (λ player name e h. absurd (omega arith)) (λ text e l h. game text l h) (λ t r e h. absurd (omega arith)) (λ ps e h. absurd (omega arith)) (λ r e h. absurd (omega arith)) (λ o e h. absurd (omega arith)) (λ t e l h. absurd (omega arith))
+
+only_limits : (rest : List ℕ) (P : AbstractMessage → Type 0) → ((turn_ms refusals : ℕ) → SpellsLimits rest turn_ms refusals → P (limits_message turn_ms refusals)) → (message : AbstractMessage) → SpellsMessage (76 ∷ rest) message → P message
+only_limits rest P limits = message_cases P 76 rest (λ player name e h. absurd (omega arith)) (λ text e l h. absurd (omega arith)) (λ t r e h. limits t r h) (λ ps e h. absurd (omega arith)) (λ r e h. absurd (omega arith)) (λ o e h. absurd (omega arith)) (λ t e l h. absurd (omega arith))
+
+only_move : (rest : List ℕ) (P : AbstractMessage → Type 0) → ((pairs : List (ℕ × ℕ)) → SpellsPairs rest pairs → P (move_message pairs)) → (message : AbstractMessage) → SpellsMessage (77 ∷ rest) message → P message
+only_move rest P move = message_cases P 77 rest (λ player name e h. absurd (omega arith)) (λ text e l h. absurd (omega arith)) (λ t r e h. absurd (omega arith)) (λ ps e h. move ps h) (λ r e h. absurd (omega arith)) (λ o e h. absurd (omega arith)) (λ t e l h. absurd (omega arith))
+
+only_refusal : (rest : List ℕ) (P : AbstractMessage → Type 0) → ((reason : Reason) → rest ≡ decimal (reason_number reason) → P (refusal_message reason)) → (message : AbstractMessage) → SpellsMessage (82 ∷ rest) message → P message
+only_refusal rest P refusal = message_cases P 82 rest (λ player name e h. absurd (omega arith)) (λ text e l h. absurd (omega arith)) (λ t r e h. absurd (omega arith)) (λ ps e h. absurd (omega arith)) (λ r e h. refusal r h) (λ o e h. absurd (omega arith)) (λ t e l h. absurd (omega arith))
+
+only_end : (rest : List ℕ) (P : AbstractMessage → Type 0) → ((outcome : Outcome) → SpellsOutcome (69 ∷ rest) outcome → P (end_message outcome)) → (message : AbstractMessage) → SpellsMessage (69 ∷ rest) message → P message
+only_end rest P end = message_cases P 69 rest (λ player name e h. absurd (omega arith)) (λ text e l h. absurd (omega arith)) (λ t r e h. absurd (omega arith)) (λ ps e h. absurd (omega arith)) (λ r e h. absurd (omega arith)) (λ o e h. end o h) (λ t e l h. absurd (omega arith))
+
+only_join : (rest : List ℕ) (P : AbstractMessage → Type 0) → ((table : ℕ) → table < 2 ^ 64 → rest ≡ decimal table → P (join_message table)) → (message : AbstractMessage) → SpellsMessage (72 ∷ rest) message → P message
+only_join rest P join = message_cases P 72 rest (λ player name e h. absurd (omega arith)) (λ text e l h. absurd (omega arith)) (λ t r e h. absurd (omega arith)) (λ ps e h. absurd (omega arith)) (λ r e h. absurd (omega arith)) (λ o e h. absurd (omega arith)) (λ t e l h. join t l h)
+
 -- A text with the letter of a kind has the fields of that kind, or is the text of no message.
 pub no_who : (rest : List ℕ) → ((player : ℕ) (name : List ℕ) → SpellsWho rest player name → ⊥) → (message : AbstractMessage) → SpellsMessage (87 ∷ rest) message → ⊥
-no_who rest none = message_cases (λ _. ⊥) 87 rest (λ player name e h. none player name h) (λ text e l h. absurd (omega arith)) (λ t r e h. absurd (omega arith)) (λ ps e h. absurd (omega arith)) (λ r e h. absurd (omega arith)) (λ o e h. absurd (omega arith)) (λ t e l h. absurd (omega arith))
+no_who rest none = only_who rest (λ _. ⊥) none
 
 pub no_game : (rest : List ℕ) → (LacksByte 0 rest → ⊥) → (message : AbstractMessage) → SpellsMessage (71 ∷ rest) message → ⊥
-no_game rest none = message_cases (λ _. ⊥) 71 rest (λ player name e h. absurd (omega arith)) (λ text e l h. none (subst (LacksByte 0) (sym h) l)) (λ t r e h. absurd (omega arith)) (λ ps e h. absurd (omega arith)) (λ r e h. absurd (omega arith)) (λ o e h. absurd (omega arith)) (λ t e l h. absurd (omega arith))
+no_game rest none = only_game rest (λ _. ⊥) (λ text l h. none (subst (LacksByte 0) (sym h) l))
 
 pub no_limits : (rest : List ℕ) → ((turn_ms refusals : ℕ) → SpellsLimits rest turn_ms refusals → ⊥) → (message : AbstractMessage) → SpellsMessage (76 ∷ rest) message → ⊥
-no_limits rest none = message_cases (λ _. ⊥) 76 rest (λ player name e h. absurd (omega arith)) (λ text e l h. absurd (omega arith)) (λ t r e h. none t r h) (λ ps e h. absurd (omega arith)) (λ r e h. absurd (omega arith)) (λ o e h. absurd (omega arith)) (λ t e l h. absurd (omega arith))
+no_limits rest none = only_limits rest (λ _. ⊥) none
 
 pub no_move : (rest : List ℕ) → ((pairs : List (ℕ × ℕ)) → SpellsPairs rest pairs → ⊥) → (message : AbstractMessage) → SpellsMessage (77 ∷ rest) message → ⊥
-no_move rest none = message_cases (λ _. ⊥) 77 rest (λ player name e h. absurd (omega arith)) (λ text e l h. absurd (omega arith)) (λ t r e h. absurd (omega arith)) (λ ps e h. none ps h) (λ r e h. absurd (omega arith)) (λ o e h. absurd (omega arith)) (λ t e l h. absurd (omega arith))
+no_move rest none = only_move rest (λ _. ⊥) none
 
 pub no_refusal : (rest : List ℕ) → ((reason : Reason) → rest ≡ decimal (reason_number reason) → ⊥) → (message : AbstractMessage) → SpellsMessage (82 ∷ rest) message → ⊥
-no_refusal rest none = message_cases (λ _. ⊥) 82 rest (λ player name e h. absurd (omega arith)) (λ text e l h. absurd (omega arith)) (λ t r e h. absurd (omega arith)) (λ ps e h. absurd (omega arith)) (λ r e h. none r h) (λ o e h. absurd (omega arith)) (λ t e l h. absurd (omega arith))
+no_refusal rest none = only_refusal rest (λ _. ⊥) none
 
 pub no_end : (rest : List ℕ) → ((outcome : Outcome) → SpellsOutcome (69 ∷ rest) outcome → ⊥) → (message : AbstractMessage) → SpellsMessage (69 ∷ rest) message → ⊥
-no_end rest none = message_cases (λ _. ⊥) 69 rest (λ player name e h. absurd (omega arith)) (λ text e l h. absurd (omega arith)) (λ t r e h. absurd (omega arith)) (λ ps e h. absurd (omega arith)) (λ r e h. absurd (omega arith)) (λ o e h. none o h) (λ t e l h. absurd (omega arith))
+no_end rest none = only_end rest (λ _. ⊥) none
 
 pub no_join : (rest : List ℕ) → ((table : ℕ) → table < 2 ^ 64 → rest ≡ decimal table → ⊥) → (message : AbstractMessage) → SpellsMessage (72 ∷ rest) message → ⊥
-no_join rest none = message_cases (λ _. ⊥) 72 rest (λ player name e h. absurd (omega arith)) (λ text e l h. absurd (omega arith)) (λ t r e h. absurd (omega arith)) (λ ps e h. absurd (omega arith)) (λ r e h. absurd (omega arith)) (λ o e h. absurd (omega arith)) (λ t e l h. none t l h)
+no_join rest none = only_join rest (λ _. ⊥) none
 
 pub no_letter : (letter : ℕ) (rest : List ℕ) → letter ≢ 87 → letter ≢ 71 → letter ≢ 76 → letter ≢ 77 → letter ≢ 82 → letter ≢ 69 → letter ≢ 72 → (message : AbstractMessage) → SpellsMessage (letter ∷ rest) message → ⊥
 no_letter letter rest who game limits move refusal end join = message_cases (λ _. ⊥) letter rest (λ player name e h. who e) (λ text e l h. game e) (λ t r e h. limits e) (λ ps e h. move e) (λ r e h. refusal e) (λ o e h. end e) (λ t e l h. join e)
@@ -226,70 +248,17 @@ same_refusal rest a b h k =
 
 one_message_after : (letter : ℕ) (rest : List ℕ) (a b : AbstractMessage) → SpellsMessage (letter ∷ rest) a → SpellsMessage (letter ∷ rest) b → a ≡ b
 one_message_after letter rest a b h k = message_cases (λ m. m ≡ b) letter rest
-    (λ p m is first. message_cases (λ o. who_message p m ≡ o) letter rest
-    (λ q n e second. same_who rest p q m n first second)
-    (λ text e l h. absurd (omega arith))
-    (λ t r e h. absurd (omega arith))
-    (λ ps e h. absurd (omega arith))
-    (λ r e h. absurd (omega arith))
-    (λ o e h. absurd (omega arith))
-    (λ t e l h. absurd (omega arith))
-    b k)
-    (λ t is lacks first. message_cases (λ o. game_message t ≡ o) letter rest
-    (λ player name e h. absurd (omega arith))
-    (λ u e l second. ap game_message (sym first ∙ second))
-    (λ t r e h. absurd (omega arith))
-    (λ ps e h. absurd (omega arith))
-    (λ r e h. absurd (omega arith))
-    (λ o e h. absurd (omega arith))
-    (λ t e l h. absurd (omega arith))
-    b k)
-    (λ x y is first. message_cases (λ o. limits_message x y ≡ o) letter rest
-    (λ player name e h. absurd (omega arith))
-    (λ text e l h. absurd (omega arith))
-    (λ v w e second. same_limits rest x y v w first second)
-    (λ ps e h. absurd (omega arith))
-    (λ r e h. absurd (omega arith))
-    (λ o e h. absurd (omega arith))
-    (λ t e l h. absurd (omega arith))
-    b k)
-    (λ qs is first. message_cases (λ o. move_message qs ≡ o) letter rest
-    (λ player name e h. absurd (omega arith))
-    (λ text e l h. absurd (omega arith))
-    (λ t r e h. absurd (omega arith))
-    (λ rs e second. ap move_message (one_spelled rest qs rs first second))
-    (λ r e h. absurd (omega arith))
-    (λ o e h. absurd (omega arith))
-    (λ t e l h. absurd (omega arith))
-    b k)
-    (λ x is first. message_cases (λ o. refusal_message x ≡ o) letter rest
-    (λ player name e h. absurd (omega arith))
-    (λ text e l h. absurd (omega arith))
-    (λ t r e h. absurd (omega arith))
-    (λ ps e h. absurd (omega arith))
-    (λ y e second. same_refusal rest x y first second)
-    (λ o e h. absurd (omega arith))
-    (λ t e l h. absurd (omega arith))
-    b k)
-    (λ x is first. message_cases (λ o. end_message x ≡ o) letter rest
-    (λ player name e h. absurd (omega arith))
-    (λ text e l h. absurd (omega arith))
-    (λ t r e h. absurd (omega arith))
-    (λ ps e h. absurd (omega arith))
-    (λ r e h. absurd (omega arith))
-    (λ y e second. ap end_message (one_outcome (69 ∷ rest) x y first second))
-    (λ t e l h. absurd (omega arith))
-    b k)
-    (λ x is small first. message_cases (λ o. join_message x ≡ o) letter rest
-    (λ player name e h. absurd (omega arith))
-    (λ text e l h. absurd (omega arith))
-    (λ t r e h. absurd (omega arith))
-    (λ ps e h. absurd (omega arith))
-    (λ r e h. absurd (omega arith))
-    (λ o e h. absurd (omega arith))
-    (λ y e low second. ap join_message (decimal_injective x y small low (sym first ∙ second)))
-    b k)
+    (λ p m is first. only_who rest (λ o. who_message p m ≡ o) (λ q n second. same_who rest p q m n first second) b (at is))
+    (λ t is lacks first. only_game rest (λ o. game_message t ≡ o) (λ u l second. ap game_message (sym first ∙ second)) b (at is))
+    (λ x y is first. only_limits rest (λ o. limits_message x y ≡ o) (λ v w second. same_limits rest x y v w first second) b (at is))
+    (λ qs is first. only_move rest (λ o. move_message qs ≡ o) (λ rs second. ap move_message (one_spelled rest qs rs first second)) b (at is))
+    (λ x is first. only_refusal rest (λ o. refusal_message x ≡ o) (λ y second. same_refusal rest x y first second) b (at is))
+    (λ x is first. only_end rest (λ o. end_message x ≡ o) (λ y second. ap end_message (one_outcome (69 ∷ rest) x y first second)) b (at is))
+    (λ x is small first. only_join rest (λ o. join_message x ≡ o) (λ y low second. ap join_message (decimal_injective x y small low (sym first ∙ second))) b (at is))
     a h
+  where
+    at : {other : ℕ} → letter ≡ other → SpellsMessage (other ∷ rest) b
+    at is = subst (λ (one : ℕ). SpellsMessage (one ∷ rest) b) is k
 
 -- A text is that of one message.
 pub one_message : (text : List ℕ) (a b : AbstractMessage) → SpellsMessage text a → SpellsMessage text b → a ≡ b

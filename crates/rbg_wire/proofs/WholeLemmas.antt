@@ -7,9 +7,9 @@ use Rattle.std.proofs.lemmas.List.{length-replicate}
 use Rattle.std.proofs.lemmas.List.Elements.{All-nil, All-cons, All-append, All-replicate}
 use Rattle.rbg_wire.specs.Bytes.{LacksByte}
 use Rattle.rbg_wire.specs.Laws.{item_for}
-use Rattle.rbg_wire.specs.Streams.{Item, complete, too_long, Rest, incomplete, dropping, after_items, cut, IsRest, next_byte}
-use Rattle.rbg_wire.specs.Whole.{filler, whole_item, IsCutAlone, ItemsAreCutAgain}
-use Rattle.rbg_wire.proofs.CutLemmas.{cut-none, next_kept, next_too_long, next_dropped}
+use Rattle.rbg_wire.specs.Streams.{complete, too_long, Rest, incomplete, dropping, after_items, cut, IsRest, next_byte}
+use Rattle.rbg_wire.specs.Whole.{filler, IsCutAlone, ItemsAreCutAgain}
+use Rattle.rbg_wire.proofs.CutLemmas.{cut-none, next_kept, next_too_long}
 use Rattle.rbg_wire.proofs.LawLemmas.{one_item, rest_more}
 
 -- the piece of one text

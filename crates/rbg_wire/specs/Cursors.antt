@@ -1,10 +1,10 @@
 -- How much of the buffer of a stream is read.
-use Rattle.std.specs.Prelude.{◌≡◌, ℕ, ◌+◌, ◌<◌, ◌≤◌, cond, List, [], ◌∷◌, ◌++◌, length, drop, slice_range}
+use Rattle.std.specs.Prelude.{◌≡◌, ℕ, ◌+◌, ◌<◌, ◌≤◌, cond, List, [], ◌∷◌, ◌++◌, length, drop, slice_range, Option, IfSome, IfNone}
 use Rattle.rbg_wire.specs.declared.cursor.Cursor.{Cursor}
 use Rattle.rbg_wire.specs.declared.cursor.Found.{Found}
 use Rattle.rbg_wire.specs.declared.cursor.Found.TheVariants.{Message, TooLong}
 use Rattle.rbg_wire.specs.Bytes.{LacksByte}
-use Rattle.rbg_wire.specs.Streams.{Item, complete, too_long, incomplete, dropping, Cut, cut}
+use Rattle.rbg_wire.specs.Streams.{Item, complete, too_long, incomplete, dropping, Cut, cut, after_items}
 
 -- the cursor is one of this buffer: the bytes that it has looked at are not zero
 pub record IsCursorOf (cursor : Cursor) (bytes : List ℕ) : Type 0 where
@@ -32,3 +32,13 @@ found_item bytes TooLong = too_long
 abbrev pub IsWithin : List ℕ → Found → Type 0
 IsWithin bytes (Message from to) = (from ≤ to) × (to ≤ length bytes)
 IsWithin bytes TooLong = Unit {0}
+
+-- What a cursor finds in the buffer.
+--   cursor: it is still one of this buffer
+--   found, within: the first of the items that are complete, and the cursor is behind it
+--   none: no item is complete, and as many bytes are unread as before
+pub record FindsNext (limit : ℕ) (bytes : List ℕ) (old new : Cursor) (result : Option Found) : Type 0 where
+  pub cursor : IsCursorOf new bytes
+  pub found : IfSome result (λ one. unread limit old bytes ≡ after_items (found_item bytes one ∷ []) (unread limit new bytes))
+  pub within : IfSome result (λ one. IsWithin bytes one)
+  pub none : IfNone result ((unread limit new bytes ≡ unread limit old bytes) × ((unread limit old bytes).items ≡ []))

@@ -1,6 +1,6 @@
 -- An item as a piece of its own.
 use Rattle.std.specs.Prelude.{◌≡◌, ℕ, ◌+◌, List, [], ◌∷◌, ◌++◌, All, replicate}
-use Rattle.rbg_wire.specs.Streams.{Item, complete, too_long, Rest, incomplete, Cut, cut, IsRest}
+use Rattle.rbg_wire.specs.Streams.{Item, complete, too_long, Rest, incomplete, cut, IsRest}
 
 -- the byte of `x`, of which the piece of a message that is too long is made
 abbrev pub filler : ℕ

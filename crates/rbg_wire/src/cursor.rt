@@ -1,9 +1,8 @@
 //! How much of the buffer of a stream is read.
-ghost use Rattle.std.specs.Prelude.{◌≡◌, ℕ, ◌+◌, ◌<◌, ◌≤◌, not, true, false, [], ◌∷◌, ◌++◌, length, drop, vec_len, IfSome, IfNone};
+ghost use Rattle.std.specs.Prelude.{◌≡◌, ℕ, ◌≤◌, not, true, false, [], length, drop, vec_len, IfSome, IfNone};
 ghost use Rattle.std.specs.Bool.{OnFalse};
 ghost use Rattle.rbg_wire.specs.Bytes.{LacksByte};
-ghost use Rattle.rbg_wire.specs.Streams.{after_items};
-ghost use Rattle.rbg_wire.specs.Cursors.{IsCursorOf, IsEnd, IsWithin, unread, found_item};
+ghost use Rattle.rbg_wire.specs.Cursors.{FindsNext, IsCursorOf, IsEnd, unread};
 
 use crate::bytes::first_place;
 
@@ -45,14 +44,7 @@ impl Cursor {
     /// The next item of the buffer, if one is complete. The cursor moves past it.
     pub(crate) fn next(&mut self, bytes: &[u8], limit: usize) -> Option<Found>
         requires { IsCursorOf self.old bytes.now }
-        ensures cursor { IsCursorOf self.new bytes.now }
-        ensures found { IfSome result (λ found.
-            unread limit self.old bytes.now
-            ≡ after_items (found_item bytes.now found ∷ []) (unread limit self.new bytes.now)) }
-        ensures within { IfSome result (λ found. IsWithin bytes.now found) }
-        ensures none { IfNone result (
-            (unread limit self.new bytes.now ≡ unread limit self.old bytes.now)
-            × ((unread limit self.old bytes.now).items ≡ [])) }
+        ensures { FindsNext limit bytes.now self.old self.new result }
     {
         if self.dropping && !self.skip(bytes) {
             return None;
@@ -64,14 +56,7 @@ impl Cursor {
     fn next_item(&mut self, bytes: &[u8], limit: usize) -> Option<Found>
         requires cursor { IsCursorOf self.old bytes.now }
         requires kept { self.old.dropping ≡ false }
-        ensures cursor { IsCursorOf self.new bytes.now }
-        ensures found { IfSome result (λ found.
-            unread limit self.old bytes.now
-            ≡ after_items (found_item bytes.now found ∷ []) (unread limit self.new bytes.now)) }
-        ensures within { IfSome result (λ found. IsWithin bytes.now found) }
-        ensures none { IfNone result (
-            (unread limit self.new bytes.now ≡ unread limit self.old bytes.now)
-            × ((unread limit self.old bytes.now).items ≡ [])) }
+        ensures { FindsNext limit bytes.now self.old self.new result }
     {
         let end = self.look(bytes);
         if self.looked - self.start > limit {

@@ -1,8 +1,7 @@
 -- The key of rules: a list of numbers in which nothing of them is lost.
 use Rattle.std.specs.Prelude.{ℕ, List, [], ◌∷◌, ◌++◌}
 use Rattle.std.specs.List.{flat_map}
-use Rattle.rbg_base.specs.declared.relation.Relation.{Relation}
-use Rattle.rbg_base.specs.declared.relation.Relation.TheVariants.{Equal, NotEqual, Less, LessOrEqual, Greater, GreaterOrEqual}
+use Rattle.rbg_rules.specs.Codes.{relation_code}
 use Rattle.rbg_rules.specs.Expression.{AbstractArithmetic, number, variable, piece_count, negated, sum, difference, product, quotient, AbstractAction, shift, on, off, assignment, comparison, switch, positive, negative, Expression, act, skip, sequence, fail, choice, star}
 use Rattle.rbg_same.specs.declared.kind.Kind.{Kind}
 use Rattle.rbg_same.specs.declared.kind.Kind.TheVariants.{Number, Variable, PieceCount, Negated, Sum, Difference, Product, Quotient, Shift, On, OnPiece, Off, Assign, Compare, Switch, Positive, Negative, Act, Skip, Then, Fail, Or, Star}
@@ -31,14 +30,6 @@ kind_code Then = 19
 kind_code Fail = 20
 kind_code Or = 21
 kind_code Star = 22
-
-abbrev pub relation_code : Relation → ℕ
-relation_code Equal = 0
-relation_code NotEqual = 1
-relation_code Less = 2
-relation_code LessOrEqual = 3
-relation_code Greater = 4
-relation_code GreaterOrEqual = 5
 
 -- a mark: its kind and its number
 unfoldable pub mark : Kind → ℕ → List ℕ

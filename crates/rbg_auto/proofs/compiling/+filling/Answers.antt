@@ -6,7 +6,7 @@ use Rattle.rbg_rules.specs.declared.rule.Rule.{Rule}
 use Rattle.rbg_rules.specs.declared.rule.Rule.TheVariants.{Then, Or, Star}
 use Rattle.rbg_auto.specs.internal.Trees.{GivesFirsts, IsAgain}
 use Rattle.rbg_auto.specs.internal.Places.{FillsTree, FillsSequence, FillsSum}
-use Rattle.rbg_auto.proofs.PlaceLemmas.{fills_act, fills_pattern, fills_then, fills_or, fills_star, OwesPlaces, filled_more, owes_places_all, owes_places_fewer, owes_places_none}
+use Rattle.rbg_auto.proofs.PlaceLemmas.{fills_act, fills_pattern, fills_then, fills_or, fills_star, OwesPlaces, filled_more, owes_places_all, part_filled, sequence_filled}
 use Rattle.rbg_auto.proofs.compiling.+filling.Goals as goal
 
 pub fill-returns-in_ok-clone-in-Act : goal.fill-returns-in_ok-clone-in-Act
@@ -32,23 +32,13 @@ fill-returns-in_ok-clone-in-Pattern t c =
 
 pub fill-returns-in-Then : goal.fill-returns-in-Then
 fill-returns-in-Then t c =
-    let old = c.args.places.now in
-    let new = c.fill_sequence.new.places in
-    let k = c.args.rest.now.positions.items in
-    let end = c.args.rest.now.may_end in
-    let parts = c.in-Then.parts in
-    rw c.in-Then.is (IfOk-weaker c.fill_sequence.result (λ _. FillsSequence old new c.as_slice.result.now k end) (λ _. FillsTree old new (Then parts) k end)
-    (λ _ one. fills_then old new k end parts (subst (λ (rs : List Rule). FillsSequence old new rs k end) c.as_slice.ensures.value one)) c.fill_sequence.ensures)
+    rw c.in-Then.is (IfOk-weaker c.fill_sequence.result _ _
+    (λ _ one. fills_then _ _ _ _ c.in-Then.parts (subst (λ (rs : List Rule). FillsSequence c.args.places.now c.fill_sequence.new.places rs c.args.rest.now.positions.items c.args.rest.now.may_end) c.as_slice.ensures.value one)) c.fill_sequence.ensures)
 
 pub fill-returns-in-Or : goal.fill-returns-in-Or
 fill-returns-in-Or t c =
-    let old = c.args.places.now in
-    let new = c.fill_sum.new.places in
-    let k = c.args.rest.now.positions.items in
-    let end = c.args.rest.now.may_end in
-    let parts = c.in-Or.parts in
-    rw c.in-Or.is (IfOk-weaker c.fill_sum.result (λ _. FillsSum old new c.as_slice-in-Or.result.now k end) (λ _. FillsTree old new (Or parts) k end)
-    (λ _ one. fills_or old new k end parts (subst (λ (rs : List Rule). FillsSum old new rs k end) c.as_slice-in-Or.ensures.value one)) c.fill_sum.ensures)
+    rw c.in-Or.is (IfOk-weaker c.fill_sum.result _ _
+    (λ _ one. fills_or _ _ _ _ c.in-Or.parts (subst (λ (rs : List Rule). FillsSum c.args.places.now c.fill_sum.new.places rs c.args.rest.now.positions.items c.args.rest.now.may_end) c.as_slice-in-Or.ensures.value one)) c.fill_sum.ensures)
 
 pub fill-returns-in_ok-again-in-Star : goal.fill-returns-in_ok-again-in-Star
 fill-returns-in_ok-again-in-Star t c =
@@ -77,36 +67,17 @@ fill_sequence-loop-left-init t c =
 
 pub fill_sequence-loop-left-preserved : goal.fill_sequence-loop-left-preserved
 fill_sequence-loop-left-preserved t c =
-    let old = c.args.places.now in
-    let now = c.loop-left.places in
-    let parts = c.args.parts.now in
-    let k = c.args.rest.now.positions.items in
-    let end = c.args.rest.now.may_end in
-    let m = c.loop-left.later.positions.items in
-    let may_end = c.loop-left.later.may_end in
-    let i = c.loop-left.left - 1 in
     let some : 0 < c.loop-left.left = c.loop-left-test.true in
     let was = c.loop-left.invariant.below in
-    let here : i < length parts = omega (arith, some, was) in
-    let one : c.loop-left.left ≡ i + 1 = omega (arith, some) in
-    let owed : OwesPlaces old now parts (i + 1) k end m may_end = subst (λ (n : ℕ). OwesPlaces old now parts n k end m may_end) one c.loop-left.invariant.owes in
     record {
-      owes = owes_places_fewer old parts k end now c.fill.new.places i c.index-parts-left.result m may_end c.in_ok-later.later.positions.items c.in_ok-later.later.may_end here c.index-parts-left.is owed c.in_ok-fill.ensures c.in_ok-later.ensures;
+      owes = part_filled some (omega (arith, some, was)) c.index-parts-left.is c.loop-left.invariant.owes c.in_ok-fill.ensures c.in_ok-later.ensures;
       below = omega (arith, was);
     }
 
 pub fill_sequence-returns : goal.fill_sequence-returns
 fill_sequence-returns t c =
-    let old = c.args.places.now in
-    let now = c.loop-left.places in
-    let parts = c.args.parts.now in
-    let k = c.args.rest.now.positions.items in
-    let end = c.args.rest.now.may_end in
-    let m = c.loop-left.later.positions.items in
-    let may_end = c.loop-left.later.may_end in
     let test = c.loop-left-test.false in
-    let none : c.loop-left.left ≡ 0 = omega (arith, test) in
-    owes_places_none old parts k end now m may_end (subst (λ (n : ℕ). OwesPlaces old now parts n k end m may_end) none c.loop-left.invariant.owes)
+    sequence_filled (omega (arith, test)) c.loop-left.invariant.owes
 
 pub fill_sum-loop-part-preserved : goal.fill_sum-loop-part-preserved
 fill_sum-loop-part-preserved t c = filled_more c.args.places.now c.args.parts.now c.args.rest.now.positions.items c.args.rest.now.may_end c.loop-part.places c.fill.new.places c.loop-part.part-index c.part-item.result (omega arith) c.part-item.is c.loop-part.invariant c.in_ok-fill.ensures

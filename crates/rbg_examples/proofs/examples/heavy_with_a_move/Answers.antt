@@ -1,11 +1,11 @@
 -- The proof of `examples::heavy_with_a_move`.
-use Rattle.std.proofs.Common.{◌≡◌, ℕ, zero, suc, List, [], ◌∷◌, ◌++◌, length, refl, inl, inr, sym, ap, ◌∙◌, subst, ◌⊎◌, true, false, append_assoc, arith}
+use Rattle.std.proofs.Common.{◌≡◌, ℕ, zero, suc, List, [], ◌∷◌, ◌++◌, refl, inl, inr, sym, ap, ◌∙◌, subst, ◌⊎◌, true, false, append_assoc, arith}
 use Rattle.std.specs.Prelude.{Some}
 use Rattle.std.proofs.lemmas.List.{append-nil}
 use Rattle.std.proofs.lemmas.List.Elements.{All-cons, All-nil}
 use Rattle.rbg_rules.specs.Expression.{AbstractAction, off, on, switch, act, star, choice_of, sequence_of, Expression}
-use Rattle.rbg_rules.specs.Positions.{HasAction, IsNumbered, IsSwitchAt, HasNoSwitch, HasOwnAction, outermost, is_modifier}
-use Rattle.rbg_rules.specs.Words.{after, Repeats, done, again, Word, Follows}
+use Rattle.rbg_rules.specs.Positions.{HasAction, IsNumbered, IsSwitchAt, HasOwnAction, outermost, is_modifier}
+use Rattle.rbg_rules.specs.Words.{after, Word, Follows}
 use Rattle.rbg_rules.specs.State.{AbstractState}
 use Rattle.rbg_rules.specs.Actions.{Applies}
 use Rattle.rbg_rules.specs.Moves.{RunPairs, stay, modify, pass}
@@ -16,6 +16,7 @@ use Rattle.rbg_rules.proofs.PositionLemmas.{Among, Among_left, Among_right, Amon
 use Rattle.rbg_rules.proofs.PatternLemmas.{only_one, own_stands, word_own}
 use Rattle.rbg_rules.proofs.MoveLemmas.{applied_acts}
 use Rattle.rbg_examples.proofs.ExampleLemmas.{not_equal, no_switch_at, goes_on, begins_with, join_word, at_front, PairAmong, pair_first, pair_later, split}
+use Rattle.rbg_examples.proofs.Offs.{offs, pairs, length-pairs, word, no_switch}
 use Rattle.rbg_examples.proofs.examples.heavy_with_a_move.Goals as goal
 
 abbrev start : AbstractState
@@ -72,32 +73,8 @@ returns-clause-legal c = (
   },
 )
 
--- so many offs, and their pairs
-offs : ℕ → List ℕ
-offs zero = []
-offs (suc n) = 2 ∷ offs n
-
-pairs : ℕ → List (ℕ × ℕ)
-pairs zero = []
-pairs (suc n) = (0, 2) ∷ pairs n
-
-length-pairs : (n : ℕ) → length (pairs n) ≡ n
-unfolding pairs
-length-pairs zero = refl
-length-pairs (suc n) = ap suc (length-pairs n)
-
-word : (n : ℕ) → Repeats (Word (act 2 (off 0))) (offs n)
-unfolding offs
-word zero = done
-word (suc n) = again refl (word n)
-
-no_switch : (n : ℕ) → HasNoSwitch heavy_choice.rules (offs n)
-unfolding offs
-no_switch zero = All-nil (λ p. ¬ IsSwitchAt heavy_choice.rules p)
-no_switch (suc n) = All-cons (λ p. ¬ IsSwitchAt heavy_choice.rules p) 2 (offs n) not_two (no_switch n)
-
 branch : (n : ℕ) → Word either (offs n ++ 3 ∷ [])
-branch n = inl (inr (offs n, 3 ∷ [], ([], offs n, refl, word n, refl), refl, refl))
+branch n = inl (inr (offs n, 3 ∷ [], ([], offs n, refl, word 0 n, refl), refl, refl))
 
 follows : (n : ℕ) → Follows heavy_choice.rules (after 1) (offs n)
 follows n = (
@@ -205,7 +182,7 @@ no_answer n qs (more, some, is) (m, t, q, runs_on, follows_on, switches) =
         ]
 
 opened : (n : ℕ) → Opening heavy_choice find_move start (after 1) (items_of (pairs n))
-opened n = at (record { no_switch = no_switch n; follows = follows n; runs = runs n }) (λ qs prefix. no_answer n qs prefix)
+opened n = at (record { no_switch = no_switch heavy_choice.rules not_two n; follows = follows n; runs = runs n }) (λ qs prefix. no_answer n qs prefix)
 
 deep : (n : ℕ) → IsDeep heavy_choice find_move start (after 1) n
 deep n = record {

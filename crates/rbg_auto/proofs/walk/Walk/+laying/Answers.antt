@@ -1,12 +1,12 @@
 -- The proofs of the walk.
-use Rattle.std.proofs.Common.{rules, ◌≡◌, ◌<◌, List, [], length, ℕ, ◌+◌, ◌-◌, Bool, true, subst, arith}
+use Rattle.std.proofs.Common.{rules, ◌<◌, List, [], length, ℕ, ◌+◌, ◌-◌, Bool, true, subst, arith}
 use Rattle.std.proofs.lemmas.Result.{IfOk-weaker}
 use Rattle.rbg_rules.specs.declared.rule.Rule.{Rule}
-use Rattle.rbg_rules.specs.declared.rule.Rule.TheVariants.{Then, Or, Star}
+use Rattle.rbg_rules.specs.declared.rule.Rule.TheVariants.{Star}
 use Rattle.rbg_auto.specs.internal.Trees.{GivesFirsts, IsAgain}
 use Rattle.rbg_auto.specs.internal.Tables.{Keeps, IsKept}
 use Rattle.rbg_auto.specs.internal.Walks.{LaysTree, LaysSequence, LaysSum, LaysLevel}
-use Rattle.rbg_auto.proofs.WalkLemmas.{IsKept-grows, lays_act, lays_pattern, lays_then, lays_or, lays_star_tree, lays_level_by, SequenceOwes, sequence_begins, sequence_owes_fewer, sequence_ends, sum_goes_on}
+use Rattle.rbg_auto.proofs.WalkLemmas.{IsKept-grows, lays_act, lays_pattern, lays_then, lays_or, lays_star_tree, lays_level_by, sequence_begins, sequence_owes_fewer, part_laid, sequence_laid, sum_goes_on}
 use Rattle.rbg_auto.proofs.walk.Walk.+laying.Goals as goal
 
 pub lay-keep-requires-in-Pattern : goal.lay-keep-requires-in-Pattern
@@ -35,23 +35,13 @@ lay-returns-in_ok-next-in-Pattern-clause-kept t c = IsKept-grows c.keep-in-Patte
 
 pub lay-returns-in-Then-clause-lays : goal.lay-returns-in-Then-clause-lays
 lay-returns-in-Then-clause-lays t c =
-    let old = c.args.self.now.table in
-    let new = c.lay_sequence.new.self.table in
-    let k = c.args.rest.now.positions.items in
-    let end = c.args.rest.now.may_end in
-    let parts = c.in-Then.parts in
-    rw c.in-Then.is (IfOk-weaker c.lay_sequence.result (λ _. LaysSequence old new c.as_slice.result.now k end) (λ _. LaysTree old new (Then parts) k end)
-    (λ _ one. lays_then parts old new k end (subst (λ (rs : List Rule). LaysSequence old new rs k end) c.as_slice.ensures.value one)) c.lay_sequence.ensures.lays)
+    rw c.in-Then.is (IfOk-weaker c.lay_sequence.result _ _
+    (λ _ one. lays_then c.in-Then.parts _ _ _ _ (subst (λ (rs : List Rule). LaysSequence c.args.self.now.table c.lay_sequence.new.self.table rs c.args.rest.now.positions.items c.args.rest.now.may_end) c.as_slice.ensures.value one)) c.lay_sequence.ensures.lays)
 
 pub lay-returns-in-Or-clause-lays : goal.lay-returns-in-Or-clause-lays
 lay-returns-in-Or-clause-lays t c =
-    let old = c.args.self.now.table in
-    let new = c.lay_sum.new.self.table in
-    let k = c.args.rest.now.positions.items in
-    let end = c.args.rest.now.may_end in
-    let parts = c.in-Or.parts in
-    rw c.in-Or.is (IfOk-weaker c.lay_sum.result (λ _. LaysSum old new c.as_slice-in-Or.result.now k end) (λ _. LaysTree old new (Or parts) k end)
-    (λ _ one. lays_or parts old new k end (subst (λ (rs : List Rule). LaysSum old new rs k end) c.as_slice-in-Or.ensures.value one)) c.lay_sum.ensures.lays)
+    rw c.in-Or.is (IfOk-weaker c.lay_sum.result _ _
+    (λ _ one. lays_or c.in-Or.parts _ _ _ _ (subst (λ (rs : List Rule). LaysSum c.args.self.now.table c.lay_sum.new.self.table rs c.args.rest.now.positions.items c.args.rest.now.may_end) c.as_slice-in-Or.ensures.value one)) c.lay_sum.ensures.lays)
 
 pub lay-returns-in_ok-again-in-Star-clause-lays : goal.lay-returns-in_ok-again-in-Star-clause-lays
 lay-returns-in_ok-again-in-Star-clause-lays t c =
@@ -105,39 +95,20 @@ lay_sequence-loop-left-init t c =
 
 pub lay_sequence-loop-left-preserved : goal.lay_sequence-loop-left-preserved
 lay_sequence-loop-left-preserved t c =
-    let old = c.args.self.now.table in
-    let now = c.loop-left.self.table in
-    let new = c.lay_part-in-loop-left.new.self.table in
-    let parts = c.args.parts.now in
-    let k = c.args.rest.now.positions.items in
-    let end = c.args.rest.now.may_end in
-    let m = c.loop-left.before.positions.items in
-    let may_end = c.loop-left.before.may_end in
-    let i = c.loop-left.left - 1 in
     let some : 0 < c.loop-left.left = c.loop-left-test.true in
-    let was : c.loop-left.left < length parts = c.loop-left.invariant.below in
-    let here : i < length parts = omega (arith, was) in
-    let one : c.loop-left.left ≡ i + 1 = omega (arith, some) in
-    let owed : SequenceOwes old now parts (i + 1) k end m may_end = subst (λ (n : ℕ). SequenceOwes old now parts n k end m may_end) one c.loop-left.invariant.owes in
-    let lays : LaysTree now new c.index-parts-left-in-loop-left.result m may_end = c.in_ok-before-2.ensures.lays in
+    let was : c.loop-left.left < length c.args.parts.now = c.loop-left.invariant.below in
+    let here : c.loop-left.left - 1 < length c.args.parts.now = omega (arith, was) in
+    let lays : LaysTree c.loop-left.self.table c.lay_part-in-loop-left.new.self.table c.index-parts-left-in-loop-left.result c.loop-left.before.positions.items c.loop-left.before.may_end = c.in_ok-before-2.ensures.lays in
     record {
-      owes = sequence_owes_fewer old now new parts i c.index-parts-left-in-loop-left.result k end m may_end c.in_ok-before-2.before.positions.items c.in_ok-before-2.before.may_end here c.index-parts-left-in-loop-left.is owed lays c.in_ok-before-2.ensures.before;
-      kept = IsKept-grows now.entries.items new.entries.items c.lay_part.new.kept k lays.extends.entries c.loop-left.invariant.kept;
+      owes = part_laid some here c.index-parts-left-in-loop-left.is c.loop-left.invariant.owes lays c.in_ok-before-2.ensures.before;
+      kept = IsKept-grows c.loop-left.self.table.entries.items c.lay_part-in-loop-left.new.self.table.entries.items c.lay_part.new.kept c.args.rest.now.positions.items lays.extends.entries c.loop-left.invariant.kept;
       below = here;
     }
 
 pub lay_sequence-returns-clause-lays : goal.lay_sequence-returns-clause-lays
 lay_sequence-returns-clause-lays t c =
-    let old = c.args.self.now.table in
-    let now = c.loop-left.self.table in
-    let parts = c.args.parts.now in
-    let k = c.args.rest.now.positions.items in
-    let end = c.args.rest.now.may_end in
-    let m = c.loop-left.before.positions.items in
-    let may_end = c.loop-left.before.may_end in
     let test = c.loop-left-test.false in
-    let none : c.loop-left.left ≡ 0 = omega (arith, test) in
-    sequence_ends old now parts k end m may_end (subst (λ (n : ℕ). SequenceOwes old now parts n k end m may_end) none c.loop-left.invariant.owes)
+    sequence_laid (omega (arith, test)) c.loop-left.invariant.owes
 
 pub lay_sum-loop-part-preserved : goal.lay_sum-loop-part-preserved
 lay_sum-loop-part-preserved t c =
