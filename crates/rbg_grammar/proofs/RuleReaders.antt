@@ -8,13 +8,13 @@ use Rattle.rbg_tokens.specs.declared.token.TokenKind.TheVariants as kinds
 use Rattle.rbg_base.specs.declared.relation.Relation.{Relation}
 use Rattle.rbg_grammar.specs.declared.expression.Rank.{Rank}
 use Rattle.rbg_grammar.specs.declared.expression.Rank.TheVariants as ranks
-use Rattle.rbg_grammar.specs.Tree.{SpeltName, SpeltExpression, SpeltRule, SpeltAction, act, positive, negative, star}
-use Rattle.rbg_grammar.specs.Phrase.{IsSymbol, symbol, IsName, After, Separated, separated, Listed, nothing, listed, Within, within}
+use Rattle.rbg_grammar.specs.Tree.{SpeltName, SpeltExpression, SpeltRule, SpeltAction, act, assign, positive, negative, star, sequence_of}
+use Rattle.rbg_grammar.specs.Phrase.{IsSymbol, symbol, IsName, Repeated, After, Separated, separated, Listed, nothing, listed, Within, within}
 use Rattle.rbg_grammar.specs.Grammar.{relation_of, IsRelation, IsSum, IsOpenAtom, IsComparison, comparison, IsAssignment, assignment, AreAssignments, assignments, IsBracketAtom, groups, stands_on, puts, compares, assigns, holds, fails, IsItem, once, starred, IsSequence, in_turn, AreRulesOver, either, IsAtom, AreRules}
-use Rattle.rbg_grammar.specs.Reading.{Reading, ◌>>=◌, next_is, is_symbol, is_in, symbol_at, after_at, separated_at, within_at, open_atom_at, on_at, off_at, in_sequence}
+use Rattle.rbg_grammar.specs.Reading.{Reading, ◌>>=◌, next_is, is_symbol, is_in, symbol_at, name_at, repeated_at, after_at, separated_at, within_at, open_atom_at, on_at, off_at, in_sequence}
 use Rattle.rbg_grammar.specs.RuleReading.{too_deep_at, is_operator, comparison_at, assignment_at, assignments_at, in_choice, positive_at, negative_at, in_braces_at, in_brackets_at, is_opening, bracket_atom_at, item_at, begins_atom, sequence_at, rules_over_at, atom_at, rules_at, sum_at}
 use Rattle.rbg_grammar.proofs.Readers.{bind_ok, ok_one, IsReadBy, Always, symbol_read, symbol_next, name_read, one_of_complete, one_of_read, one_of_test, next_test-symbol}
-use Rattle.rbg_grammar.proofs.Combinators.{Begins, Stops, after_read, within_read, separated_read, repeated_sound, repeated_complete, repeated_shorter, may_follow}
+use Rattle.rbg_grammar.proofs.Combinators.{FirstThen, first_then, both_read, repeated_read, Begins, Stops, after_read, within_read, separated_read, may_follow}
 use Rattle.rbg_grammar.proofs.SectionReaders.{piece_read}
 use Rattle.rbg_grammar.proofs.SumReaders.{symbol_test, name_test, after_test, within_test, after_here, within_here, EndsSum, ends_sum, symbol_ends_sum, sum_read}
 use Rattle.rbg_grammar.proofs.AtomReaders.{open_atom_read, open_atom_begins, set_read}
@@ -67,23 +67,14 @@ module _ (Sum : List Lexeme → SpeltExpression → List Lexeme → Type 0) (sum
   value_read : IsReadBy 1 (After Equals Sum) EndsSum (after_at Equals sum)
   value_read = after_read 1 Sum EndsSum sum reads Equals
 
-  assignment_sound : (ts : List Lexeme) (x : SpeltRule) (rest : List Lexeme) → assignment_at sum ts ≡ Ok (x, rest) → IsAssignment Sum ts x rest
-  unfolding assignment_at
-  assignment_sound ts x rest e =
-      let (n, first, further) = bind_ok _ _ _ e in
-      let (f, last, given) = bind_ok _ _ _ further in
-      subst (λ (q : SpeltRule × List Lexeme). IsAssignment Sum ts q.0 q.1) (ok_one _ (x, rest) given)
-      (assignment (name_read.sound ts n.0 n.1 first) (value_read.sound n.1 f.0 f.1 last))
-
-  assignment_complete : {ts rest : List Lexeme} {x : SpeltRule} → IsAssignment Sum ts x rest → EndsSum rest → assignment_at sum ts ≡ Ok (x, rest)
-  unfolding assignment_at
-  assignment_complete {ts} {rest} (assignment {mid = mid} {n = n} {e = e} named d) stop = rw (name_read.complete ts n mid named tt, value_read.complete mid e rest d stop)
-
-  assignment_shorter : {ts rest : List Lexeme} {x : SpeltRule} → IsAssignment Sum ts x rest → 1 + length rest ≤ length ts
-  assignment_shorter {ts} {rest} (assignment {mid = mid} {n = n} {e = e} named d) = omega (arith, name_read.shorter ts n mid named, value_read.shorter mid e rest d)
+  assignment_parts : (ts : List Lexeme) (x : SpeltRule) (rest : List Lexeme) → IsAssignment Sum ts x rest → FirstThen IsName (After Equals Sum) (λ (n : SpeltName) (e : SpeltExpression). act (assign n e)) ts x rest
+  assignment_parts ts _ rest (assignment d e) = first_then d e
 
   pub assignment_read : IsReadBy 1 (IsAssignment Sum) EndsSum (assignment_at sum)
-  assignment_read = record { sound = assignment_sound; complete = λ ts x rest d stop. assignment_complete d stop; shorter = λ ts x rest d. assignment_shorter d }
+  unfolding assignment_at
+  assignment_read =
+      both_read IsName Always name_at name_read 1 (After Equals Sum) EndsSum (after_at Equals sum) value_read (λ mid e rest d stop. tt)
+      (IsAssignment Sum) (λ (n : SpeltName) (e : SpeltExpression). act (assign n e)) (λ ts x mid y rest d e. assignment d e) assignment_parts
 
   pub assignment_list_read : IsReadBy 1 (Separated Comma (IsAssignment Sum)) (Stops EndsSum (is_symbol Comma)) (separated_at Comma (assignment_at sum))
   assignment_list_read = separated_read (IsAssignment Sum) EndsSum (assignment_at sum) assignment_read Comma (symbol_ends_sum Comma refl refl)
@@ -350,25 +341,16 @@ module _ (Atom : List Lexeme → SpeltRule → List Lexeme → Type 0) (atom : L
   pub items_begin : Begins (IsItem Atom) EndsItem begins_atom
   items_begin = record { starts = λ ts x rest d. item_next d; goes_on = atom_ends_item }
 
-  sequence_sound : (ts : List Lexeme) (x : SpeltRule) (rest : List Lexeme) → sequence_at atom ts ≡ Ok (x, rest) → IsSequence Atom ts x rest
-  unfolding sequence_at
-  sequence_sound ts x rest e =
-      let (r, first, further) = bind_ok _ _ _ e in
-      let (rs, more, given) = bind_ok _ _ _ further in
-      subst (λ (q : SpeltRule × List Lexeme). IsSequence Atom ts q.0 q.1) (ok_one _ (x, rest) given)
-      (in_turn (item_sound ts r.0 r.1 first) (repeated_sound (IsItem Atom) EndsItem (item_at atom) begins_atom item_read items_begin r.1 rs.0 rs.1 more))
-
-  sequence_complete : {ts rest : List Lexeme} {x : SpeltRule} → IsSequence Atom ts x rest → EndsSequence rest → sequence_at atom ts ≡ Ok (x, rest)
-  unfolding sequence_at
-  sequence_complete (in_turn d more) stop =
-      let follows = may_follow (IsItem Atom) EndsItem (item_at atom) begins_atom item_read items_begin more stop in
-      rw (item_complete d follows, repeated_complete (IsItem Atom) EndsItem (item_at atom) begins_atom item_read items_begin more stop)
-
-  sequence_shorter : {ts rest : List Lexeme} {x : SpeltRule} → IsSequence Atom ts x rest → 1 + length rest ≤ length ts
-  sequence_shorter (in_turn d more) = omega (arith, item_shorter d, repeated_shorter (IsItem Atom) EndsItem (item_at atom) begins_atom item_read items_begin more)
+  sequence_parts : (ts : List Lexeme) (x : SpeltRule) (rest : List Lexeme) → IsSequence Atom ts x rest → FirstThen (IsItem Atom) (Repeated (IsItem Atom)) sequence_of ts x rest
+  sequence_parts ts _ rest (in_turn d more) = first_then d more
 
   pub sequence_read : IsReadBy 1 (IsSequence Atom) EndsSequence (sequence_at atom)
-  sequence_read = record { sound = sequence_sound; complete = λ ts x rest d stop. sequence_complete d stop; shorter = λ ts x rest d. sequence_shorter d }
+  unfolding sequence_at
+  sequence_read =
+      both_read (IsItem Atom) EndsItem (item_at atom) item_read 0 (Repeated (IsItem Atom)) EndsSequence (repeated_at begins_atom (item_at atom))
+      (repeated_read (IsItem Atom) EndsItem (item_at atom) begins_atom item_read items_begin)
+      (λ mid rs rest more stop. may_follow (IsItem Atom) EndsItem (item_at atom) begins_atom item_read items_begin more stop)
+      (IsSequence Atom) sequence_of (λ ts x mid y rest d e. in_turn d e) sequence_parts
 
   plus_ends_sequence : (ts : List Lexeme) → next_is (is_symbol Plus) ts ≡ true → EndsSequence ts
   plus_ends_sequence ts e = record { ends = next_test-symbol Plus begins_atom ts e; follows = next_test-symbol Plus (is_symbol Star) ts e }

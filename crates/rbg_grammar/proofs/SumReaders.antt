@@ -5,15 +5,16 @@ use Rattle.rbg_tokens.specs.declared.token.Symbol.{Symbol}
 use Rattle.rbg_tokens.specs.declared.token.Symbol.TheVariants.{Plus, Minus, OpenParenthesis, CloseParenthesis}
 use Rattle.rbg_tokens.specs.declared.token.TokenKind.{TokenKind}
 use Rattle.rbg_tokens.specs.declared.token.TokenKind.TheVariants as kinds
+use Rattle.rbg_grammar.specs.declared.expression.Operator.{Operator}
 use Rattle.rbg_grammar.specs.declared.expression.Rank.{Rank}
 use Rattle.rbg_grammar.specs.declared.expression.Rank.TheVariants as ranks
-use Rattle.rbg_grammar.specs.Tree.{SpeltName, SpeltNumber, SpeltExpression, SpeltOperand}
-use Rattle.rbg_grammar.specs.Phrase.{IsSymbol, symbol, IsName, name, IsNumber, number, After, after, Within, within}
-use Rattle.rbg_grammar.specs.Grammar.{operator_of, IsFurtherOperand, further_operand, IsChain, chained, IsFactor, plain, minus, IsTerm, IsSumOver, IsNumberOrName, number as a_number, name as a_name, IsPrimary, IsSum}
-use Rattle.rbg_grammar.specs.Reading.{misfit, Reading, TakesSome, ◌>>=◌, next_is, is_name, is_number, is_symbol, name_at, number_at, place_of, after_at, within_at}
+use Rattle.rbg_grammar.specs.Tree.{SpeltName, SpeltNumber, SpeltExpression, SpeltOperand, first_of, in_chain}
+use Rattle.rbg_grammar.specs.Phrase.{IsSymbol, symbol, IsName, name, IsNumber, number, Repeated, After, after, Within, within}
+use Rattle.rbg_grammar.specs.Grammar.{operator_of, IsOperator, IsFurtherOperand, further_operand, IsChain, chained, IsFactor, plain, minus, IsTerm, IsSumOver, IsNumberOrName, number as a_number, name as a_name, IsPrimary, IsSum}
+use Rattle.rbg_grammar.specs.Reading.{misfit, Reading, TakesSome, ◌>>=◌, next_is, is_name, is_number, is_symbol, name_at, number_at, one_of_at, repeated_at, place_of, after_at, within_at}
 use Rattle.rbg_grammar.specs.RuleReading.{too_deep_at, is_operator, number_or_name_at, factor_at, further_operand_at, chain_at, operand_at, sum_over_at, primary_at, sum_at}
-use Rattle.rbg_grammar.proofs.Readers.{bind_ok, ok_one, IsReadBy, Always, symbol_next, name_read, number_read, one_of_complete, one_of_read, one_of_next, next_test-symbol}
-use Rattle.rbg_grammar.proofs.Combinators.{Begins, Stops, after_read, within_read, repeated_sound, repeated_complete, repeated_shorter, may_follow}
+use Rattle.rbg_grammar.proofs.Readers.{bind_ok, ok_one, IsReadBy, Always, symbol_next, name_read, number_read, one_of_read, one_of_next, next_test-symbol}
+use Rattle.rbg_grammar.proofs.Combinators.{FirstThen, first_then, both_read, repeated_read, Begins, Stops, after_read, within_read, may_follow}
 
 -- what any test says of the first token of a phrase
 pub symbol_test : {s : Symbol} {ts rest : List Lexeme} {at : ℕ} → IsSymbol s ts at rest → (test : TokenKind → Bool) → next_is test ts ≡ test (kinds.Symbol s)
@@ -64,50 +65,31 @@ sum_operator_ends_product (t ∷ ts) e = record { ends = sum_operator-product_op
 -- a sum or a product, by its operands
 module _ (rank : Rank) (Operand : List Lexeme → SpeltExpression → List Lexeme → Type 0) (Follow : List Lexeme → Type 0) (operand : List Lexeme → Reading SpeltExpression)
     (reads : IsReadBy 1 Operand Follow operand) (goes_on : (ts : List Lexeme) → next_is (is_operator rank) ts ≡ true → Follow ts) where
-  further_sound : (ts : List Lexeme) (x : SpeltOperand) (rest : List Lexeme) → further_operand_at rank operand ts ≡ Ok (x, rest) → IsFurtherOperand rank Operand ts x rest
-  unfolding further_operand_at
-  further_sound ts x rest e =
-      let (o, operator, further) = bind_ok _ _ _ e in
-      let (f, read, given) = bind_ok _ _ _ further in
-      subst (λ (q : SpeltOperand × List Lexeme). IsFurtherOperand rank Operand ts q.0 q.1) (ok_one _ (x, rest) given)
-      (further_operand ((one_of_read (operator_of rank)).sound ts o.0 o.1 operator) (reads.sound o.1 f.0 f.1 read))
+  further_parts : (ts : List Lexeme) (x : SpeltOperand) (rest : List Lexeme) → IsFurtherOperand rank Operand ts x rest → FirstThen (IsOperator rank) Operand (λ (o : Operator) (e : SpeltExpression). (o, e)) ts x rest
+  further_parts ts _ rest (further_operand o d) = first_then o d
 
-  further_complete : {ts rest : List Lexeme} {x : SpeltOperand} → IsFurtherOperand rank Operand ts x rest → Follow rest → further_operand_at rank operand ts ≡ Ok (x, rest)
+  pub further_read : IsReadBy 1 (IsFurtherOperand rank Operand) Follow (further_operand_at rank operand)
   unfolding further_operand_at
-  further_complete {rest = rest} (further_operand {mid = mid} {e = e} o d) stop = rw (one_of_complete (operator_of rank) o, reads.complete mid e rest d stop)
-
-  further_shorter : {ts rest : List Lexeme} {x : SpeltOperand} → IsFurtherOperand rank Operand ts x rest → 1 + length rest ≤ length ts
-  further_shorter {ts} {rest} (further_operand {mid = mid} {o = o} {e = e} operator d) = omega (arith, (one_of_read (operator_of rank)).shorter ts o mid operator, reads.shorter mid e rest d)
+  further_read =
+      both_read (IsOperator rank) Always (one_of_at (operator_of rank)) (one_of_read (operator_of rank)) 1 Operand Follow operand reads (λ mid e rest d stop. tt)
+      (IsFurtherOperand rank Operand) (λ (o : Operator) (e : SpeltExpression). (o, e)) (λ ts x mid y rest d e. further_operand d e) further_parts
 
   further_next : {ts rest : List Lexeme} {x : SpeltOperand} → IsFurtherOperand rank Operand ts x rest → next_is (is_operator rank) ts ≡ true
   further_next (further_operand o d) = one_of_next (operator_of rank) o
 
-  pub further_read : IsReadBy 1 (IsFurtherOperand rank Operand) Follow (further_operand_at rank operand)
-  further_read = record { sound = further_sound; complete = λ ts x rest d stop. further_complete d stop; shorter = λ ts x rest d. further_shorter d }
-
   further_begins : Begins (IsFurtherOperand rank Operand) Follow (is_operator rank)
   further_begins = record { starts = λ ts x rest d. further_next d; goes_on = goes_on }
 
-  chain_sound : (ts : List Lexeme) (x : SpeltExpression) (rest : List Lexeme) → chain_at rank operand ts ≡ Ok (x, rest) → IsChain rank Operand ts x rest
-  unfolding chain_at
-  chain_sound ts x rest e =
-      let (f, first, further) = bind_ok _ _ _ e in
-      let (os, more, given) = bind_ok _ _ _ further in
-      subst (λ (q : SpeltExpression × List Lexeme). IsChain rank Operand ts q.0 q.1) (ok_one _ (x, rest) given)
-      (chained (reads.sound ts f.0 f.1 first) (repeated_sound (IsFurtherOperand rank Operand) Follow (further_operand_at rank operand) (is_operator rank) further_read further_begins f.1 os.0 os.1 more))
-
-  chain_complete : {ts rest : List Lexeme} {x : SpeltExpression} → IsChain rank Operand ts x rest → Stops Follow (is_operator rank) rest → chain_at rank operand ts ≡ Ok (x, rest)
-  unfolding chain_at
-  chain_complete {ts} (chained {mid = mid} {e = e} d more) stop =
-      let follows = may_follow (IsFurtherOperand rank Operand) Follow (further_operand_at rank operand) (is_operator rank) further_read further_begins more stop in
-      rw (reads.complete ts e mid d follows, repeated_complete (IsFurtherOperand rank Operand) Follow (further_operand_at rank operand) (is_operator rank) further_read further_begins more stop)
-
-  chain_shorter : {ts rest : List Lexeme} {x : SpeltExpression} → IsChain rank Operand ts x rest → 1 + length rest ≤ length ts
-  chain_shorter {ts} (chained {mid = mid} {e = e} d more) =
-      omega (arith, reads.shorter ts e mid d, repeated_shorter (IsFurtherOperand rank Operand) Follow (further_operand_at rank operand) (is_operator rank) further_read further_begins more)
+  chain_parts : (ts : List Lexeme) (x : SpeltExpression) (rest : List Lexeme) → IsChain rank Operand ts x rest → FirstThen Operand (Repeated (IsFurtherOperand rank Operand)) (λ (e : SpeltExpression) (os : List SpeltOperand). in_chain ((first_of rank, e) ∷ os)) ts x rest
+  chain_parts ts _ rest (chained d more) = first_then d more
 
   pub chain_read : IsReadBy 1 (IsChain rank Operand) (Stops Follow (is_operator rank)) (chain_at rank operand)
-  chain_read = record { sound = chain_sound; complete = λ ts x rest d stop. chain_complete d stop; shorter = λ ts x rest d. chain_shorter d }
+  unfolding chain_at
+  chain_read =
+      both_read Operand Follow operand reads 0 (Repeated (IsFurtherOperand rank Operand)) (Stops Follow (is_operator rank)) (repeated_at (is_operator rank) (further_operand_at rank operand))
+      (repeated_read (IsFurtherOperand rank Operand) Follow (further_operand_at rank operand) (is_operator rank) further_read further_begins)
+      (λ mid os rest more stop. may_follow (IsFurtherOperand rank Operand) Follow (further_operand_at rank operand) (is_operator rank) further_read further_begins more stop)
+      (IsChain rank Operand) (λ (e : SpeltExpression) (os : List SpeltOperand). in_chain ((first_of rank, e) ∷ os)) (λ ts x mid y rest d e. chained d e) chain_parts
 
 module _ (Primary : List Lexeme → SpeltExpression → List Lexeme → Type 0) (primary : List Lexeme → Reading SpeltExpression) (reads : IsReadBy 1 Primary Always primary)
     (no_minus : (ts : List Lexeme) (e : SpeltExpression) (rest : List Lexeme) → Primary ts e rest → next_is (is_symbol Minus) ts ≡ false) where
